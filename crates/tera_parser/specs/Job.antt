@@ -1,0 +1,8 @@
+-- What a parser is given.
+use Rattle.std.specs.Prelude.{ℕ, List}
+use Rattle.tera_parser.specs.Marks.{Marks}
+
+pub record Job : Type 0 where
+  pub filename : List ℕ
+  pub source : List ℕ
+  pub marks : Marks

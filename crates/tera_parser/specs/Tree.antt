@@ -1,0 +1,45 @@
+-- The tree of a template, without where it lies in memory.
+use Rattle.std.specs.Prelude.{ℕ, ℤ, List, map, string_bytes}
+use Rattle.tera_parser.specs.Spanned.{node_of, span_of}
+use Rattle.tera_parser.specs.declared.tera_base.utils.Span.{Span}
+use Rattle.tera_parser.specs.declared.tera_base.value.Value.{Value}
+use Rattle.tera_parser.specs.declared.tera_base.value.Value.TheVariants as values
+use Rattle.tera_parser.specs.declared.tera_tree.ast.Expression.{Expression}
+use Rattle.tera_parser.specs.declared.tera_tree.ast.Expression.TheVariants as expressions
+use Rattle.tera_parser.specs.declared.tera_tree.ast.Node.{Node}
+use Rattle.tera_parser.specs.declared.tera_tree.ast.Node.TheVariants as nodes
+use Rattle.tera_parser.specs.declared.parsing.ParserOutput.{ParserOutput}
+
+-- a whole number, or a text
+pub data Val : Type 0 where
+  Integer : ℤ → Val
+  Text : List ℕ → Val
+
+-- a constant or a variable, with where it stands
+pub data Expr : Type 0 where
+  Const : Val → Span → Expr
+  Var : List ℕ → Span → Expr
+
+-- a text, or an expression that is shown
+pub data Stmt : Type 0 where
+  Content : List ℕ → Stmt
+  Shown : Expr → Stmt
+
+-- what a template is read as
+pub record Output : Type 0 where
+  pub nodes : List Stmt
+
+abbrev pub value_view : Value → Val
+value_view (values.I64 n) = Integer n
+value_view (values.String s) = Text (string_bytes s)
+
+abbrev pub expression_view : Expression → Expr
+expression_view (expressions.Const s) = Const (value_view (node_of s)) (span_of s)
+expression_view (expressions.Var s) = Var (string_bytes (node_of s).name) (span_of s)
+
+abbrev pub node_view : Node → Stmt
+node_view (nodes.Content s) = Content (string_bytes s)
+node_view (nodes.Expression e) = Shown (expression_view e)
+
+abbrev pub output_view : ParserOutput → Output
+output_view o = record { nodes = map node_view o.nodes.items }

@@ -1,0 +1,194 @@
+//! From a source to its tree.
+
+ghost use Rattle.std.specs.Prelude.{◌≡◌, ◌≢◌, ◌⊎◌, [], IfOk, IfErr, IsOk, MatchResult};
+ghost use Rattle.tera_parser.specs.Place.{IsWithin};
+ghost use Rattle.tera_parser.specs.Marks.{marks_of, IsValid};
+ghost use Rattle.tera_parser.specs.Refusal.{IsMemory, Refuses};
+ghost use Rattle.tera_parser.specs.Template.{Derives};
+ghost use Rattle.tera_parser.specs.Tokens.{Ended};
+ghost use Rattle.tera_parser.specs.Gives.{GivesEnd, GivesTag, GivesElement, ReadsBody, IsNoBody, IsLater, RefusesFrom, RefusesIn, TellsAt, source_of, left};
+
+use crate::tera_base::errors::Error;
+use crate::tera_base::utils::Span;
+use crate::tera_expr::expression;
+use crate::tera_lexer::cursor::Cursor;
+use crate::tera_lexer::delimiters::Delimiters;
+use crate::tera_lexer::lexer::Lexer;
+use crate::tera_lexer::tokens::Token;
+use crate::tera_tree::ast::{Expression, Node};
+use crate::tera_tree::build;
+use std::alloc::Global;
+use std::marker::Model;
+
+/// What a template is read as.
+#[derive(Debug, Drop)]
+pub struct ParserOutput {
+    /// The nodes of the template, in order.
+    pub nodes: Vec<Node>,
+}
+
+/// A template that is to be parsed.
+#[derive(Drop)]
+pub struct Parser<'a> {
+    alloc: Global,
+    filename: &'a str,
+    source: &'a str,
+    delimiters: Delimiters,
+}
+
+impl<'a> Model for Parser<'a> {
+    ghost use Rattle.tera_parser.specs.Job.{Job};
+
+    ghost Value = { Job };
+
+    ghost use Rattle.tera_parser.specs.JobView.{job_of, HasValidMarks};
+
+    ghost view = { job_of };
+
+    ghost invariant = { HasValidMarks };
+}
+
+impl<'a> Parser<'a> {
+    ghost use Rattle.tera_parser.specs.Tree.{Output, output_view};
+
+    /// A parser of the source, which stands in a file of this name. The name is shown in notes alone.
+    pub fn new(
+        alloc: Global,
+        filename: &'a str,
+        source: &'a str,
+        delimiters: Delimiters,
+    ) -> Parser<'a>
+        requires { IsValid (marks_of delimiters) }
+        ensures { result ≡ record { filename = filename.now; source = source.now; marks = marks_of delimiters } }
+    {
+        Parser {
+            alloc,
+            filename,
+            source,
+            delimiters,
+        }
+    }
+
+    /// The tree of the source.
+    ///
+    /// It is read from left to right, and the first fault that is met is told. The one other refusal is
+    /// `Memory`.
+    pub fn parse(self) -> Result<ParserOutput, Error>
+        ensures sound { IfOk result (λ o. Derives self.entry.marks self.entry.source (output_view o)) }
+        ensures complete { (output : Output) → Derives self.entry.marks self.entry.source output →
+            MatchResult result (λ o. output_view o ≡ output) IsMemory }
+        ensures refusal { IfErr result (Refuses self.entry.marks self.entry.source) }
+        ensures empty { self.entry.source ≡ [] → IsOk result }
+    {
+        let lexer = Lexer::new(self.alloc, self.source, self.delimiters);
+        let mut cursor = Cursor::new(self.alloc, lexer);
+        let nodes = body(self.alloc, &mut cursor)?;
+        Ok(ParserOutput { nodes })
+    }
+}
+
+// The nodes of a body that lasts to the end of the tokens.
+fn body(alloc: Global, cursor: &mut Cursor<'_>) -> Result<Vec<Node>, Error>
+    ensures ok { IfOk result (λ v. ReadsBody (left cursor.old) v.items) }
+    ensures err { IfErr result (λ e. IsMemory e ⊎ IsNoBody (left cursor.old)) }
+    ensures refusal { IfErr result (RefusesIn (source_of cursor.old) (left cursor.old)) }
+    ensures empty { IfErr result (λ e. left cursor.old ≢ Ended) }
+{
+    let mut nodes = Vec::new(alloc);
+    while let Some(node) = element(alloc, cursor)? {
+        nodes.push(node)?;
+    }
+    Ok(nodes)
+}
+
+// The next element of a body, where the tokens go on.
+fn element(alloc: Global, cursor: &mut Cursor<'_>) -> Result<Option<Node>, Error>
+    ensures gives { GivesElement cursor.old result cursor.new }
+    ensures refusal { IfErr result (RefusesIn (source_of cursor.old) (left cursor.old)) }
+    ensures source { IfOk result (λ _. source_of cursor.new ≡ source_of cursor.old) }
+    ensures empty { IfErr result (λ e. left cursor.old ≢ Ended) }
+{
+    let Some((token, span)) = cursor.next()? else {
+        return Ok(None);
+    };
+    match token {
+        Token::Content(text) => Ok(Some(build::content(alloc, text)?)),
+        Token::VariableStart(false) => Ok(Some(Node::Expression(variable_tag(alloc, cursor)?))),
+        _ => Err(Error::syntax_error(alloc, "Not read yet", &span)),
+    }
+}
+
+// The expression of a variable tag, behind its start.
+fn variable_tag(alloc: Global, cursor: &mut Cursor<'_>) -> Result<Expression, Error>
+    requires { IsWithin (source_of cursor.old) cursor.old.current_span }
+    ensures gives { GivesTag cursor.old result cursor.new }
+    ensures refusal { IfErr result (RefusesFrom cursor.old) }
+    ensures later { IfOk result (λ _. IsLater cursor.old cursor.new) }
+{
+    let shown = expression(alloc, cursor)?;
+    end_of_tag(alloc, cursor)?;
+    Ok(shown)
+}
+
+// The end of a variable tag.
+fn end_of_tag(alloc: Global, cursor: &mut Cursor<'_>) -> Result<(), Error>
+    requires { IsWithin (source_of cursor.old) cursor.old.current_span }
+    ensures gives { GivesEnd cursor.old result cursor.new }
+    ensures refusal { IfErr result (RefusesFrom cursor.old) }
+    ensures later { IfOk result (λ _. IsLater cursor.old cursor.new) }
+{
+    let (token, span) = cursor.next_or_eoi()?;
+    match token {
+        Token::VariableEnd(false) => Ok(()),
+        _ => Err(no_end(alloc, token, &span)),
+    }
+}
+
+// The fault of a token behind an expression that is no end of a variable tag.
+fn no_end(alloc: Global, token: Token<'_>, span: &Span) -> Error
+    ensures { TellsAt span.now result }
+{
+    if goes_on(token) {
+        return Error::syntax_error(alloc, "Not read yet", span);
+    }
+    match format!(in alloc; "Found {token} but expected }}}}.") {
+        Ok(message) => Error::reported(alloc, message, span),
+        Err(error) => Error::from(error),
+    }
+}
+
+// Whether the language has an expression that goes on with the token, or an end of a tag with a dash.
+fn goes_on(token: Token<'_>) -> bool {
+    match token {
+        Token::VariableEnd(dash) => dash,
+        Token::Ident(word) => {
+            word == "and"
+                || word == "or"
+                || word == "not"
+                || word == "in"
+                || word == "is"
+                || word == "if"
+        }
+        Token::Mul
+        | Token::Div
+        | Token::FloorDiv
+        | Token::Mod
+        | Token::Plus
+        | Token::Minus
+        | Token::Power
+        | Token::LessThan
+        | Token::GreaterThan
+        | Token::LessThanOrEqual
+        | Token::GreaterThanOrEqual
+        | Token::Equal
+        | Token::NotEqual
+        | Token::Tilde
+        | Token::Pipe
+        | Token::Dot
+        | Token::QuestionMarkDot
+        | Token::QuestionMarkLeftBracket
+        | Token::LeftBracket
+        | Token::LeftParen => true,
+        _ => false,
+    }
+}

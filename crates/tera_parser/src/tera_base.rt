@@ -1,0 +1,5 @@
+//! What every layer stands on: spans, errors and values.
+
+pub mod errors;
+pub mod utils;
+pub mod value;

@@ -1,0 +1,4 @@
+//! The tree of a template.
+
+pub mod ast;
+pub mod build;

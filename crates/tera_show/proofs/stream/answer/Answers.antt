@@ -1,0 +1,40 @@
+use Rattle.std.proofs.Common.{◌≡◌, ◌∙◌, sym, subst, ap, List, ℕ, string_bytes}
+use Rattle.tera_parser.specs.Marks.{Marks, default_marks}
+use Rattle.tera_parser.specs.Job.{Job}
+use Rattle.tera_parser.specs.Template.{Derives}
+use Rattle.tera_parser.specs.Tree.{Output, output_view}
+use Rattle.tera_parser.specs.Refusal.{IsMemoryKind, Refuses}
+use Rattle.tera_show.specs.Shown.{fault_line}
+use Rattle.tera_show.proofs.stream.answer.Goals as goal
+
+-- what a parser with these marks and this source is given
+job : (name : List ℕ) (a b : Marks) (s t : List ℕ) (j : Job) → (j ≡ record { filename = name; source = s; marks = a }) → a ≡ b → s ≡ t
+    → (P : Marks → List ℕ → Type 0) → (P j.marks j.source → P b t) × (P b t → P j.marks j.source)
+job name a b s t j is marks source P =
+    let first : j.marks ≡ b = ap (λ (k : Job). k.marks) is ∙ marks in
+    let second : j.source ≡ t = ap (λ (k : Job). k.source) is ∙ source in (
+      λ p. subst (λ m. P m t) first (subst (λ x. P j.marks x) second p),
+      λ p. subst (λ m. P m j.source) (sym first) (subst (λ x. P b x) (sym second) p),
+    )
+
+pub returns-in-Ok-tree_text-clause-ok : goal.returns-in-Ok-tree_text-clause-ok
+returns-in-Ok-tree_text-clause-ok c =
+    let text = c.in-Ok.ensures.cases in
+    let same = job _ _ default_marks _ c.args.input.now c.new.result c.new.ensures c.default.ensures.0 text.0 in
+    (text.1, (output_view c.in-Ok-parse.output, (same (λ m s. Derives m s (output_view c.in-Ok-parse.output))).0 c.in-Ok-parse.ensures.sound, c.in-Ok-tree_text.ensures.ok))
+
+pub returns-in-SyntaxError-clause-ok : goal.returns-in-SyntaxError-clause-ok
+returns-in-SyntaxError-clause-ok c =
+    let text = c.in-Ok.ensures.cases in
+    let same = job _ _ default_marks _ c.args.input.now c.new.result c.new.ensures c.default.ensures.0 text.0 in
+    let none : (output : Output) → Derives default_marks c.args.input.now output → IsMemoryKind c.in-Err.error.kind =
+    λ output d. c.in-Err.ensures.complete output ((same (λ m s. Derives m s output)).1 d) in
+    let told : Refuses default_marks c.args.input.now c.in-Err.error = (same (λ m s. Refuses m s c.in-Err.error)).0 c.in-Err.ensures.refusal in
+    let tells = rw c.in-SyntaxError.is at told in
+    let seen : c.deref.result.now ≡ c.in-SyntaxError.report.value = c.deref.ensures ∙ (λ i. (c.in-SyntaxError.report-is i).value) in
+    let seen_span : c.deref-in-SyntaxError.result.now ≡ c.in-SyntaxError.report.value = c.deref-in-SyntaxError.ensures ∙ (λ i. (c.in-SyntaxError.report-is i).value) in
+    let message : c.as_str.result.now ≡ string_bytes c.in-SyntaxError.report.value.message = c.as_str.ensures.value ∙ (λ i. string_bytes (seen i).message) in (
+      text.1,
+      (λ output d. rw c.in-SyntaxError.is at (none output d)),
+      (_, c.in-SyntaxError.report.value.span, c.in_ok-line-in-SyntaxError.ensures ∙ (λ i. fault_line (message i) (seen_span i).span), tells.0, tells.1),
+    )

@@ -1,0 +1,48 @@
+-- What is shown.
+use Rattle.std.specs.Prelude.{◌≡◌, ◌<◌, ℕ, List, [], ◌∷◌, ◌++◌, length, take, codes, Option, IfSome, Result, Ok, Err, IsUtf8}
+use Rattle.std.specs.Fmt.{decimal}
+use Rattle.std.specs.Io.KnownBytes.{Keeps, Appends}
+use Rattle.tera_parser.specs.Marks.{default_marks}
+use Rattle.tera_parser.specs.Place.{IsWithin}
+use Rattle.tera_parser.specs.Tokens.{Items, AreTokensOf}
+use Rattle.tera_parser.specs.Refusal.{Faults}
+use Rattle.tera_parser.specs.Tree.{Output}
+use Rattle.tera_parser.specs.Template.{Derives}
+use Rattle.tera_parser.specs.declared.tera_base.utils.Span.{Span}
+use Rattle.tera_show.specs.Text.{text_of}
+use Rattle.tera_show.specs.declared.stream.Outcome.{Outcome}
+use Rattle.tera_show.specs.declared.stream.Outcome.TheVariants.{Tree, Syntax, NotUtf8}
+use Rattle.tera_show.specs.declared.stream.ShowFault.{ShowFault}
+use Rattle.tera_show.specs.declared.stream.ShowFault.TheVariants.{Memory, Read, Write}
+
+-- the line of a syntax error
+abbrev pub fault_line : List ℕ → Span → List ℕ
+fault_line message span =
+    codes "syntax error at " ++ (decimal span.start_line ++ (codes ":" ++ (decimal span.start_col ++ (codes " (" ++ (decimal span.range.start ++ (codes ".." ++ (decimal span.range.end ++ (codes "): " ++ (message ++ 10 ∷ [])))))))))
+
+-- the answer to an input: the text of the output of its derivation; the line of a syntax error of it, where
+-- it has no derivation; or that it is no text
+abbrev pub IsAnswer : List ℕ → Outcome → List ℕ → Type 0
+IsAnswer input Tree text = IsUtf8 input × ((output : Output) × Derives default_marks input output × (text ≡ text_of output))
+IsAnswer input Syntax text =
+    IsUtf8 input × ((output : Output) → Derives default_marks input output → ⊥)
+    × ((message : List ℕ) × (span : Span) × (text ≡ fault_line message span) × IsWithin input span
+    × ((items : Items) × AreTokensOf default_marks input items × Faults items message span))
+IsAnswer input NotUtf8 text = (IsUtf8 input → ⊥) × (text ≡ codes "input is not UTF-8" ++ 10 ∷ [])
+
+-- what a reader gave and a writer took: an answer, whole; nothing; or less than an answer
+abbrev pub IsShown : Option (List ℕ) → Option (List ℕ) → Option (List ℕ) → Result Outcome ShowFault → Type 0
+IsShown read old new (Ok outcome) = IfSome read (λ input. (text : List ℕ) × IsAnswer input outcome text × Appends old new text)
+IsShown read old new (Err Memory) = Keeps old new
+IsShown read old new (Err Read) = Keeps old new
+IsShown read old new (Err Write) =
+    IfSome read (λ input. (outcome : Outcome) × (text : List ℕ) × (n : ℕ) × IsAnswer input outcome text × (n < length text) × Appends old new (take n text))
+
+-- the status of the program
+abbrev pub status_of : Result Outcome ShowFault → ℕ
+status_of (Ok Tree) = 0
+status_of (Ok Syntax) = 1
+status_of (Ok NotUtf8) = 2
+status_of (Err Memory) = 3
+status_of (Err Read) = 4
+status_of (Err Write) = 4

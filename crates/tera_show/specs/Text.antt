@@ -1,0 +1,35 @@
+-- The text of a tree.
+use Rattle.std.specs.Prelude.{ℕ, ◌==◌, if◌then◌else◌, List, [], ◌∷◌, ◌++◌, codes, chars, encode_utf8}
+use Rattle.std.specs.List.{flat_map}
+use Rattle.std.specs.Fmt.{signed_decimal}
+use Rattle.tera_parser.specs.Tree.{Val, Integer, Text, Expr, Const, Var, Stmt, Content, Shown, Output}
+
+-- a character of a text between quotes
+abbrev pub escaped : ℕ → List ℕ
+escaped c =
+    if c == 92 then codes "\\\\"
+    else (if c == 34 then codes "\\\""
+    else (if c == 10 then codes "\\n"
+    else (if c == 13 then codes "\\r"
+    else (if c == 9 then codes "\\t"
+    else encode_utf8 c))))
+
+abbrev pub quoted : List ℕ → List ℕ
+quoted text = 34 ∷ (flat_map escaped (chars text) ++ 34 ∷ [])
+
+-- a value as an expression shows it
+abbrev pub value_text : Val → List ℕ
+value_text (Integer n) = signed_decimal n
+value_text (Text s) = 39 ∷ (s ++ 39 ∷ [])
+
+abbrev pub expression_text : Expr → List ℕ
+expression_text (Const value span) = value_text value
+expression_text (Var name span) = name
+
+-- the line of a node
+abbrev pub line_of : Stmt → List ℕ
+line_of (Content text) = codes "text " ++ (quoted text ++ 10 ∷ [])
+line_of (Shown e) = codes "expr " ++ (expression_text e ++ 10 ∷ [])
+
+abbrev pub text_of : Output → List ℕ
+text_of output = flat_map line_of output.nodes

@@ -1,0 +1,150 @@
+//! From what is read to what is written.
+
+ghost use Rattle.std.specs.Prelude.{◌≡◌, ◌≢◌, ◌<◌, ℕ, length, take, string_bytes, IfOk, OnOk, IfErr, IfSome};
+ghost use Rattle.std.specs.Io.KnownBytes.{Appends};
+ghost use Rattle.tera_show.specs.Shown.{IsShown, IsAnswer, fault_line, status_of};
+
+use crate::text::tree_text;
+use std::alloc::{AllocError, AllocFailed, Global};
+use std::io::{Read, Write};
+use tera_parser::Parser;
+use tera_parser::lexer::Delimiters;
+use tera_parser::value::{Error, ErrorKind, Span};
+
+/// What was shown.
+#[derive(Clone, Copy, Debug, PartialEq, Eq)]
+pub enum Outcome {
+    /// The tree of the template.
+    Tree,
+    /// The line of the template's syntax error.
+    Syntax,
+    /// The line that says that the input is no text.
+    NotUtf8,
+}
+
+/// Why nothing, or not all, was shown.
+#[derive(Clone, Copy, Debug, PartialEq, Eq)]
+pub enum ShowFault {
+    /// No memory was found. Nothing was written.
+    Memory,
+    /// Reading failed, or did not end. Nothing was written.
+    Read,
+    /// Writing failed, or took no byte. A beginning was written.
+    Write,
+}
+
+// A reader that has not ended after so many calls is given up.
+const MOST_READS: u64 = 4294967296;
+
+impl From<AllocError> for ShowFault {
+    ghost use Rattle.tera_show.specs.declared.stream.ShowFault.TheVariants.{Memory};
+
+    ghost from_gives = { λ _ e. e ≡ Memory };
+
+    fn from(_error: AllocError) -> ShowFault {
+        ShowFault::Memory
+    }
+}
+
+/// Shows the tree of the template that the reader gives, to its end, with the default delimiters.
+///
+/// Nothing is written before the whole text is ready. A reader that has not ended after 4294967296 calls
+/// is answered `Read`. Any failed call is final, and so is a write that takes no byte.
+pub fn show<R: Read, W: Write>(
+    alloc: Global,
+    reader: &mut R,
+    writer: &mut W,
+) -> Result<Outcome, ShowFault>
+    ensures { IsShown (R.remaining reader.old) (W.contents writer.old) (W.contents writer.new) result }
+{
+    let input = read_all(alloc, reader)?;
+    let (outcome, text) = answer(alloc, input.as_slice())?;
+    write_all(writer, text.as_bytes())?;
+    Ok(outcome)
+}
+
+/// The status with which the program ends: 0 for a tree, 1 for a syntax error, 2 for an input that is no
+/// text, 3 for want of memory, 4 for a failed read or write.
+pub fn status(shown: &Result<Outcome, ShowFault>) -> u8
+    ensures { result ≡ status_of shown.now }
+{
+    match shown {
+        Ok(Outcome::Tree) => 0,
+        Ok(Outcome::Syntax) => 1,
+        Ok(Outcome::NotUtf8) => 2,
+        Err(ShowFault::Memory) => 3,
+        Err(ShowFault::Read) => 4,
+        Err(ShowFault::Write) => 4,
+    }
+}
+
+// All that the reader gives.
+fn read_all<R: Read>(alloc: Global, reader: &mut R) -> Result<Vec<u8>, ShowFault>
+    ensures ok { IfOk result (λ v. IfSome (R.remaining reader.old) (λ input. v.items ≡ input)) }
+    ensures err { IfErr result (λ e. e ≢ ShowFault.Write) }
+{
+    let mut all = Vec::new(alloc);
+    for _turn in 0..MOST_READS {
+        let mut part = [0u8; 4096];
+        let Ok(n) = reader.read(&mut part) else {
+            return Err(ShowFault::Read);
+        };
+        if n == 0 {
+            return Ok(all);
+        }
+        all.extend_from_slice(&part[..n])?;
+    }
+    Err(ShowFault::Read)
+}
+
+// Writes all of the text, or a beginning of it.
+fn write_all<W: Write>(writer: &mut W, text: &[u8]) -> Result<(), ShowFault>
+    ensures ok { OnOk result (Appends (W.contents writer.old) (W.contents writer.new) text.now) }
+    ensures err { IfErr result (λ e. (e ≡ ShowFault.Write)
+        × ((n : ℕ) × (n < length text.now) × Appends (W.contents writer.old) (W.contents writer.new) (take n text.now))) }
+{
+    let mut done = 0;
+    while done < text.len() {
+        match writer.write(&text[done..]) {
+            Ok(0) => return Err(ShowFault::Write),
+            Ok(n) => done += n,
+            Err(_) => return Err(ShowFault::Write),
+        }
+    }
+    Ok(())
+}
+
+// The answer to the input.
+fn answer(alloc: Global, input: &[u8]) -> Result<(Outcome, String), ShowFault>
+    ensures ok { IfOk result (λ p. IsAnswer input.now p.0 (string_bytes p.1)) }
+    ensures err { IfErr result (λ e. e ≢ ShowFault.Write) }
+{
+    let Ok(source) = str::from_utf8(input) else {
+        let line = String::from_str(alloc, "input is not UTF-8\n")?;
+        return Ok((Outcome::NotUtf8, line));
+    };
+    match Parser::new(alloc, "input", source, Delimiters::default()).parse() {
+        Ok(output) => match tree_text(alloc, &output) {
+            Ok(text) => Ok((Outcome::Tree, text)),
+            Err(_) => Err(ShowFault::Memory),
+        },
+        Err(error) => match error.kind {
+            ErrorKind::SyntaxError(report) => {
+                let line = fault_line(alloc, report.message.as_str(), &report.span)?;
+                Ok((Outcome::Syntax, line))
+            }
+            _ => Err(ShowFault::Memory),
+        },
+    }
+}
+
+// The line of a syntax error.
+fn fault_line(alloc: Global, message: &str, span: &Span) -> Result<String, AllocError>
+    ensures { IfOk result (λ line. string_bytes line ≡ fault_line message.now span.now) }
+{
+    let line = span.start_line;
+    let column = span.start_col;
+    let start = span.range.start;
+    let end = span.range.end;
+    format!(in alloc; "syntax error at {line}:{column} ({start}..{end}): {message}\n")
+}

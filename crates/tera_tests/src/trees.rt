@@ -1,0 +1,70 @@
+//! Trees and faults as `parse` answers them.
+
+use std::test::Fail;
+use tera_parser::Parser;
+use tera_parser::ast::{Expression, Node};
+use tera_parser::lexer::Delimiters;
+use tera_parser::value::{ErrorKind, Value};
+use tera_show::tree_text;
+
+#[test]
+fn a_variable_behind_a_text_of_wide_characters(rt: HostRuntime) -> Result<(), Fail> {
+    let output = Parser::new(rt.alloc(), "page", "é\n{{ b }}", Delimiters::default()).parse()?;
+    assert_eq!(rt; output.nodes.len(), 2);
+    let Some(Node::Content(text)) = output.nodes.first() else {
+        panic!(rt; "the first node is a text");
+    };
+    assert_eq!(rt; text.as_str(), "é\n");
+    let Some(Node::Expression(Expression::Var(variable))) = output.nodes.last() else {
+        panic!(rt; "the last node is a variable");
+    };
+    assert_eq!(rt; variable.node().name.as_str(), "b");
+    let span = variable.span();
+    assert_eq!(rt; (span.start_line, span.start_col), (2, 3));
+    assert_eq!(rt; (span.end_line, span.end_col), (2, 4));
+    assert_eq!(rt; span.range, 6..7);
+    assert_eq!(rt;
+        tree_text(rt.alloc(), &output)?.as_str(),
+        "text \"é\\n\"\nexpr b\n"
+    );
+    Ok(())
+}
+
+#[test]
+fn a_constant_at_the_limit(rt: HostRuntime) -> Result<(), Fail> {
+    let source = "{{ 9223372036854775807 }}";
+    let output = Parser::new(rt.alloc(), "page", source, Delimiters::default()).parse()?;
+    let Some(Node::Expression(Expression::Const(constant))) = output.nodes.first() else {
+        panic!(rt; "the node is a constant");
+    };
+    let Value::I64(n) = constant.node() else {
+        panic!(rt; "the constant is a number");
+    };
+    assert_eq!(rt; *n, i64::MAX);
+    assert_eq!(rt; constant.span().range, 3..22);
+    Ok(())
+}
+
+#[test]
+fn nothing_in_an_empty_source(rt: HostRuntime) -> Result<(), Fail> {
+    let output = Parser::new(rt.alloc(), "page", "", Delimiters::default()).parse()?;
+    assert_eq!(rt; output.nodes.len(), 0);
+    Ok(())
+}
+
+#[test]
+fn the_end_of_the_input(rt: HostRuntime) -> Result<(), Fail> {
+    let parser = Parser::new(rt.alloc(), "page", "a\n{{ bc ", Delimiters::default());
+    let Err(error) = parser.parse() else {
+        panic!(rt; "the tag is not closed");
+    };
+    let ErrorKind::SyntaxError(report) = error.kind else {
+        panic!(rt; "it is a syntax error");
+    };
+    assert_eq!(rt; report.message.as_str(), "Unexpected end of input");
+    assert_eq!(rt; (report.span.start_line, report.span.start_col), (2, 5));
+    assert_eq!(rt; (report.span.end_line, report.span.end_col), (2, 5));
+    assert_eq!(rt; report.span.range, 5..7);
+    assert_eq!(rt; report.notes.len(), 0);
+    Ok(())
+}
