@@ -3,19 +3,22 @@ use Rattle.std.proofs.Common.{◌≡◌, ◌≢◌, ◌<◌, ℕ, List, [], ◌�
 use Rattle.std.specs.Prelude.{map}
 use Rattle.std.specs.List.{AllByRecursion}
 use Rattle.std.proofs.lemmas.List.{map-append}
-use Rattle.tera_parser.specs.Place.{IsWithin}
-use Rattle.tera_parser.specs.Tokens as toks
-use Rattle.tera_parser.specs.Tokens.{Tok, Items, Ended, Failed, Token}
-use Rattle.tera_parser.specs.Tree.{node_view}
-use Rattle.tera_parser.specs.Template.{Concrete, Number, Quoted, Name, expression_yield, Element, Words, Variable, IsElement, yield, element_output}
+use Rattle.tera_lexer.specs.Place.{IsWithin}
+use Rattle.tera_lexer.specs.Tokens as toks
+use Rattle.tera_lexer.specs.Tokens.{Tok, Items, Ended, Failed, Token}
+use Rattle.tera_tree.specs.Tree.{node_view}
+use Rattle.tera_parser.specs.Template.{Element, Words, Variable, IsElement, yield, element_output}
 use Rattle.tera_parser.specs.Reading.{element_of}
-use Rattle.tera_parser.specs.Refusal.{Tells, Faults}
-use Rattle.tera_parser.specs.Gives.{left, source_of, FaultsFrom, RefusesFrom, RefusesIn, IsNoBody, size}
-use Rattle.tera_parser.specs.declared.tera_base.utils.Span.{Span}
-use Rattle.tera_parser.specs.declared.tera_base.errors.Error.{Error}
-use Rattle.tera_parser.specs.declared.tera_lexer.cursor.Cursor.{Cursor}
-use Rattle.tera_parser.specs.declared.tera_tree.ast.Node.{Node}
-use Rattle.tera_parser.proofs.Refusals.{tells_weaker, lift_faults}
+use Rattle.tera_base.specs.Errors.{Tells}
+use Rattle.tera_lexer.specs.Faults.{Faults}
+use Rattle.tera_lexer.specs.Cursors.{left, source_of, FaultsFrom, RefusesFrom, size}
+use Rattle.tera_parser.specs.Gives.{RefusesIn, IsNoBody}
+use Rattle.tera_base.specs.declared.utils.Span.{Span}
+use Rattle.tera_base.specs.declared.errors.Error.{Error}
+use Rattle.tera_lexer.specs.declared.lexer.cursor.Cursor.{Cursor}
+use Rattle.tera_tree.specs.declared.ast.Node.{Node}
+use Rattle.tera_lexer.proofs.Refusals.{tells_weaker, lift_faults}
+use Rattle.tera_expr.proofs.Yields.{expression_size}
 use Rattle.tera_parser.proofs.Parsings.{yield_push, are_push, yield_faults, element_stands, no_body_behind}
 
 -- the nodes are the output of elements with which the tokens begin, and the cursor stands behind those
@@ -69,12 +72,6 @@ pub from_refuses : (mid : Cursor) (t : Tok) (e : Error) → RefusesFrom mid e �
 from_refuses mid t e told =
     tells_weaker (λ text span. IsWithin (source_of mid) span × FaultsFrom mid.current_span (left mid) text span) (λ text span. IsWithin (source_of mid) span × Faults (Token t mid.current_span (left mid)) text span) e
     (λ text span f. (f.0, lift_faults t mid.current_span (left mid) text span f.1)) told
-
--- behind an expression fewer tokens are left
-expression_size : (c : Concrete) (items : Items) → size items < size (expression_yield c items)
-expression_size (Number n s) items = omega arith
-expression_size (Quoted t s) items = omega arith
-expression_size (Name t s) items = omega arith
 
 -- behind an element fewer tokens are left
 yield_size : (e : Element) (items : Items) → size items < size (yield (e ∷ []) items)

@@ -1,13 +1,14 @@
 -- The tokens of a body leave no tag unclosed.
 use Rattle.std.proofs.Common.{◌≡◌, ℕ, Bool, true, false, List, [], ◌∷◌, ◌++◌, subst, sym, refl}
 use Rattle.std.specs.Prelude.{if◌then◌else◌}
-use Rattle.tera_parser.specs.Marks.{Marks, dash_bytes}
-use Rattle.tera_parser.specs.Lexeme.{Item, Lexeme, Name, Number, Quoted, Operator, spelled}
-use Rattle.tera_parser.specs.Division.{Piece, Text, Tag, Ending, Nothing, OpenTag, BadTag, Unread}
-use Rattle.tera_parser.specs.Tokens as toks
-use Rattle.tera_parser.specs.Tokens.{Tok, Items, Ended, Failed, Token, token_of, name_token, lexemes, tokens_of}
-use Rattle.tera_parser.specs.Template as template
-use Rattle.tera_parser.specs.Template.{Concrete, expression_yield, Element, Words, Variable, yield}
+use Rattle.tera_lexer.specs.Marks.{Marks, dash_bytes}
+use Rattle.tera_lexer.specs.Lexeme.{Item, Lexeme, Name, Number, Quoted, Operator, spelled}
+use Rattle.tera_lexer.specs.Division.{Piece, Text, Tag, Ending, Nothing, OpenTag, BadTag, Unread}
+use Rattle.tera_lexer.specs.Tokens as toks
+use Rattle.tera_lexer.specs.Tokens.{Tok, Items, Ended, Failed, Token, token_of, name_token, lexemes, tokens_of}
+use Rattle.tera_expr.specs.Concrete as concrete
+use Rattle.tera_expr.specs.Concrete.{Concrete, expression_yield}
+use Rattle.tera_parser.specs.Template.{Element, Words, Variable, yield}
 
 -- whether a tag is unclosed behind the token
 in_tag : Tok → Bool → Bool
@@ -44,9 +45,9 @@ lexeme_in_tag (Name b bs) inside = name_in_tag (b ∷ bs) inside
 
 expression_closed : (c : Concrete) (items : Items) → IsClosed true items → IsClosed true (expression_yield c items)
 unfolding IsClosed in_tag
-expression_closed (template.Number n s) items is = is
-expression_closed (template.Quoted t s) items is = is
-expression_closed (template.Name t s) items is = is
+expression_closed (concrete.Number n s) items is = is
+expression_closed (concrete.Quoted t s) items is = is
+expression_closed (concrete.Name t s) items is = is
 
 yield_closed : (es : List Element) → IsClosed false (yield es Ended)
 unfolding IsClosed in_tag

@@ -1,63 +1,17 @@
 -- What tokens are read as, and that they are read as nothing else.
-use Rattle.std.proofs.Common.{◌≡◌, ◌≢◌, ℕ, Bool, true, false, List, [], ◌∷◌, ◌++◌, Option, Some, None, subst, sym, refl, ap, ◌∙◌}
+use Rattle.std.proofs.Common.{◌≡◌, ◌≢◌, ℕ, true, false, List, [], ◌∷◌, ◌++◌, Option, Some, None, subst, sym, refl, ap, ◌∙◌}
 use Rattle.std.specs.List.{AllByRecursion}
-use Rattle.tera_parser.specs.Tokens as toks
-use Rattle.tera_parser.specs.Tokens.{Tok, Items, Ended, Failed, Token}
-use Rattle.tera_parser.specs.Template.{Concrete, Number, Quoted, Name, is_word, IsExpression, expression_yield, Element, Words, Variable, IsElement, yield}
-use Rattle.tera_parser.specs.Reading.{expression_of, end_of_tag, closed, closed_by, tag_of, started, element_of}
-use Rattle.tera_parser.specs.Refusal.{Faults}
+use Rattle.tera_lexer.specs.Tokens as toks
+use Rattle.tera_lexer.specs.Tokens.{Tok, Items, Ended, Failed, Token}
+use Rattle.tera_parser.specs.Template.{Element, Words, Variable, IsElement, yield}
+use Rattle.tera_expr.specs.Concrete.{Concrete, IsExpression, expression_yield}
+use Rattle.tera_expr.specs.Reading.{expression_of}
+use Rattle.tera_parser.specs.Reading.{end_of_tag, closed, closed_by, tag_of, started, element_of}
+use Rattle.tera_lexer.specs.Faults.{Faults}
 use Rattle.tera_parser.specs.Gives.{IsNoBody}
-use Rattle.tera_parser.specs.declared.tera_base.utils.Span.{Span}
-use Rattle.tera_parser.proofs.Refusals.{later_faults}
-
--- the token, the span and the rest of equal items
-pub tok_same : {t u : Tok} {s r : Span} {is js : Items} → Token t s is ≡ Token u r js → t ≡ u
-tok_same e = cc
-
-pub span_same : {t u : Tok} {s r : Span} {is js : Items} → Token t s is ≡ Token u r js → s ≡ r
-span_same e = cc
-
-pub rest_same : {t u : Tok} {s r : Span} {is js : Items} → Token t s is ≡ Token u r js → is ≡ js
-rest_same e = cc
-
--- the value of equal options
-some_same : {A : Type 0} {a b : A} → Some a ≡ Some b → a ≡ b
-some_same e = cc
-
-none_some : {A : Type 0} {a : A} → Some a ≡ None → ⊥
-none_some e = cc
-
-first_same : {A B : Type 0} {p q : A × B} → Some p ≡ Some q → p.0 ≡ q.0
-first_same e = λ i. (some_same e i).0
-
-second_same : {A B : Type 0} {p q : A × B} → Some p ≡ Some q → p.1 ≡ q.1
-second_same e = λ i. (some_same e i).1
-
--- the tokens of an expression are read as it
-expression_found : (c : Concrete) (rest : Items) → IsExpression c → expression_of (expression_yield c rest) ≡ Some (c, rest)
-expression_found (Number n span) rest is = refl
-expression_found (Quoted text span) rest is = refl
-expression_found (Name name span) rest is = rw is refl
-
-name_stands : (name : List ℕ) (span : Span) (items : Items) (c : Concrete) (rest : Items) → (b : Bool) → is_word name ≡ b
-    → expression_of (Token (toks.Ident name) span items) ≡ Some (c, rest) → IsExpression c × (Token (toks.Ident name) span items ≡ expression_yield c rest)
-name_stands name span items c rest true is e = absurd (none_some (sym (rw is at e)))
-name_stands name span items c rest false is e =
-    let h : Some (Name name span, items) ≡ Some (c, rest) = rw is at e in
-    (subst IsExpression (first_same h) is, λ i. expression_yield (first_same h i) (second_same h i))
-
--- what is read as an expression is its tokens
-expression_stands : (items : Items) (c : Concrete) (rest : Items) → expression_of items ≡ Some (c, rest) → IsExpression c × (items ≡ expression_yield c rest)
-expression_stands Ended c rest e = cc
-expression_stands (Failed text span) c rest e = cc
-expression_stands (Token (toks.Content text) span items) c rest e = cc
-expression_stands (Token (toks.Start dash) span items) c rest e = cc
-expression_stands (Token (toks.Finish dash) span items) c rest e = cc
-expression_stands (Token (toks.Truth b) span items) c rest e = cc
-expression_stands (Token (toks.Symbol op) span items) c rest e = cc
-expression_stands (Token (toks.Ident name) span items) c rest e = name_stands name span items c rest (is_word name) refl e
-expression_stands (Token (toks.Str text) span items) c rest e = (subst IsExpression (first_same e) tt, λ i. expression_yield (first_same e i) (second_same e i))
-expression_stands (Token (toks.Integer n) span items) c rest e = (subst IsExpression (first_same e) tt, λ i. expression_yield (first_same e i) (second_same e i))
+use Rattle.tera_base.specs.declared.utils.Span.{Span}
+use Rattle.tera_lexer.proofs.Refusals.{later_faults}
+use Rattle.tera_expr.proofs.Yields.{rest_same, span_same, none_some, first_same, second_same, expression_found, expression_stands, expression_same, expression_faults}
 
 end_stands : (items : Items) (end : Span) (rest : Items) → end_of_tag items ≡ Some (end, rest) → items ≡ Token (toks.Finish false) end rest
 end_stands Ended end rest e = cc
@@ -94,18 +48,6 @@ tag_stands items c end rest e = closed_stands (expression_of items) items refl c
 
 pub tag_found : (c : Concrete) (end : Span) (rest : Items) → IsExpression c → tag_of (expression_yield c (Token (toks.Finish false) end rest)) ≡ Some ((c, end), rest)
 tag_found c end rest is = ap closed (expression_found c (Token (toks.Finish false) end rest) is)
-
--- an expression is told by its tokens
-expression_same : (c d : Concrete) (is js : Items) → expression_yield c is ≡ expression_yield d js → (c ≡ d) × (is ≡ js)
-expression_same (Number n s) (Number k r) is js e = (cc, cc)
-expression_same (Number n s) (Quoted t r) is js e = cc
-expression_same (Number n s) (Name t r) is js e = cc
-expression_same (Quoted t s) (Number k r) is js e = cc
-expression_same (Quoted t s) (Quoted u r) is js e = (cc, cc)
-expression_same (Quoted t s) (Name u r) is js e = cc
-expression_same (Name t s) (Number k r) is js e = cc
-expression_same (Name t s) (Quoted u r) is js e = cc
-expression_same (Name t s) (Name u r) is js e = (cc, cc)
 
 -- the tokens of a body tell its elements
 pub elements_same : (es fs : List Element) → yield es Ended ≡ yield fs Ended → es ≡ fs
@@ -188,11 +130,6 @@ are_push [] e are is = (is, tt)
 are_push (x ∷ es) e are is = (are.0, are_push es e are.1 is)
 
 -- a fault behind some elements is one of all their tokens
-expression_faults : (c : Concrete) (items : Items) (text : List ℕ) (span : Span) → Faults items text span → Faults (expression_yield c items) text span
-expression_faults (Number n s) items text span f = later_faults (toks.Integer n) s items text span f
-expression_faults (Quoted t s) items text span f = later_faults (toks.Str t) s items text span f
-expression_faults (Name t s) items text span f = later_faults (toks.Ident t) s items text span f
-
 pub yield_faults : (es : List Element) (items : Items) (text : List ℕ) (span : Span) → Faults items text span → Faults (yield es items) text span
 yield_faults [] items text span f = f
 yield_faults (Words t s ∷ es) items text span f = later_faults (toks.Content t) s (yield es items) text span (yield_faults es items text span f)

@@ -1,21 +1,23 @@
 -- From the tokens of a whole source to its derivation.
 use Rattle.std.proofs.Common.{◌≡◌, ℕ, List, [], ⊎_elim, subst, sym, refl, ap, ◌∙◌}
 use Rattle.std.specs.Prelude.{map, ◌⊎◌}
-use Rattle.tera_parser.specs.Marks.{Marks, IsValid}
-use Rattle.tera_parser.specs.Place.{IsWithin}
-use Rattle.tera_parser.specs.Division.{Nothing, IsDivision}
-use Rattle.tera_parser.specs.Tokens.{Items, Ended, tokens_of, AreTokensOf}
-use Rattle.tera_parser.specs.Tree.{Output, node_view}
+use Rattle.tera_lexer.specs.Marks.{Marks, IsValid}
+use Rattle.tera_lexer.specs.Place.{IsWithin}
+use Rattle.tera_lexer.specs.Division.{Nothing, IsDivision}
+use Rattle.tera_lexer.specs.Tokens.{Items, Ended, tokens_of, AreTokensOf}
+use Rattle.tera_tree.specs.Tree.{Output, node_view}
 use Rattle.tera_parser.specs.Template.{yield, output_of, Derives}
-use Rattle.tera_parser.specs.State.{Reading}
-use Rattle.tera_parser.specs.Left.{start_of, left_outside, left_of}
-use Rattle.tera_parser.specs.Steps.{whole_of}
-use Rattle.tera_parser.specs.Refusal.{IsMemory, Faults, Refuses}
+use Rattle.tera_lexer.specs.State.{Reading}
+use Rattle.tera_lexer.specs.Left.{start_of, left_outside, left_of}
+use Rattle.tera_lexer.specs.Steps.{whole_of}
+use Rattle.tera_base.specs.Errors.{IsMemory}
+use Rattle.tera_lexer.specs.Faults.{Faults}
+use Rattle.tera_parser.specs.Refusal.{Refuses}
 use Rattle.tera_parser.specs.Gives.{IsNoBody, ReadsBody, RefusesIn}
-use Rattle.tera_parser.specs.declared.tera_base.errors.Error.{Error}
-use Rattle.tera_parser.specs.declared.tera_tree.ast.Node.{Node}
-use Rattle.tera_parser.proofs.Lefts.{tokens_found, tokens_stand, start_is}
-use Rattle.tera_parser.proofs.Refusals.{tells_weaker}
+use Rattle.tera_base.specs.declared.errors.Error.{Error}
+use Rattle.tera_tree.specs.declared.ast.Node.{Node}
+use Rattle.tera_lexer.proofs.Lefts.{tokens_found, tokens_stand, start_is}
+use Rattle.tera_lexer.proofs.Refusals.{tells_weaker}
 use Rattle.tera_parser.proofs.Parsings.{elements_same}
 use Rattle.tera_parser.proofs.Closed.{ends_in_nothing}
 

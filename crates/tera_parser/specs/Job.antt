@@ -1,6 +1,6 @@
 -- What a parser is given.
 use Rattle.std.specs.Prelude.{ℕ, List}
-use Rattle.tera_parser.specs.Marks.{Marks}
+use Rattle.tera_lexer.specs.Marks.{Marks}
 
 pub record Job : Type 0 where
   pub filename : List ℕ

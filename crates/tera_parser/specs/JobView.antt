@@ -1,5 +1,5 @@
 -- From the fields of a `Parser` to what it is given.
-use Rattle.tera_parser.specs.Marks.{marks_of, IsValid}
+use Rattle.tera_lexer.specs.Marks.{marks_of, IsValid}
 use Rattle.tera_parser.specs.Job.{Job}
 use Rattle.tera_parser.specs.declared.parsing.Parser.TheInside.{Inside}
 

@@ -1,35 +1,12 @@
 //! Laws of the definitions: each function has the law as its promise and does nothing.
 
-ghost use Rattle.std.specs.Prelude.{◌≡◌, ◌++◌, ℕ, List, slice_range};
-ghost use Rattle.tera_parser.specs.Place.{span_of};
-ghost use Rattle.tera_parser.specs.Marks.{Marks, IsValid};
-ghost use Rattle.tera_parser.specs.Division.{Piece, Ending, IsDivision};
-ghost use Rattle.tera_parser.specs.Tokens.{Items, AreTokensOf};
-ghost use Rattle.tera_parser.specs.Tree.{Output};
+ghost use Rattle.std.specs.Prelude.{◌≡◌, ℕ, List};
+ghost use Rattle.tera_lexer.specs.Marks.{Marks, IsValid};
+ghost use Rattle.tera_tree.specs.Tree.{Output};
 ghost use Rattle.tera_parser.specs.Template.{Derives};
-
-/// Each source has one division into pieces and an ending.
-pub fn one_division()
-    ensures exists { (m : Marks) → IsValid m → (source : List ℕ) → (pieces : List Piece) × (ending : Ending) × IsDivision m pieces ending source }
-    ensures unique { (m : Marks) → IsValid m → (one other : List Piece) (end last : Ending) (source : List ℕ) →
-        IsDivision m one end source → IsDivision m other last source → (one ≡ other) × (end ≡ last) }
-{}
-
-/// Each source has one list of tokens.
-pub fn one_token_list()
-    ensures exists { (m : Marks) → IsValid m → (source : List ℕ) → (items : Items) × AreTokensOf m source items }
-    ensures unique { (m : Marks) → IsValid m → (source : List ℕ) (one other : Items) →
-        AreTokensOf m source one → AreTokensOf m source other → one ≡ other }
-{}
 
 /// No source has derivations with two outputs.
 pub fn one_output()
     ensures { (m : Marks) → IsValid m → (source : List ℕ) (one other : Output) →
         Derives m source one → Derives m source other → one ≡ other }
-{}
-
-/// The range of a text's span cuts that text out of the source.
-pub fn one_slice()
-    ensures { (front text rest : List ℕ) →
-        slice_range (front ++ (text ++ rest)) (span_of front text).range.start (span_of front text).range.end ≡ text }
 {}

@@ -1,24 +1,22 @@
 //! From a source to its tree.
 
 ghost use Rattle.std.specs.Prelude.{◌≡◌, ◌≢◌, ◌⊎◌, [], IfOk, IfErr, IsOk, MatchResult};
-ghost use Rattle.tera_parser.specs.Place.{IsWithin};
-ghost use Rattle.tera_parser.specs.Marks.{marks_of, IsValid};
-ghost use Rattle.tera_parser.specs.Refusal.{IsMemory, Refuses};
+ghost use Rattle.tera_lexer.specs.Place.{IsWithin};
+ghost use Rattle.tera_lexer.specs.Marks.{marks_of, IsValid};
+ghost use Rattle.tera_base.specs.Errors.{IsMemory};
+ghost use Rattle.tera_parser.specs.Refusal.{Refuses};
 ghost use Rattle.tera_parser.specs.Template.{Derives};
-ghost use Rattle.tera_parser.specs.Tokens.{Ended};
-ghost use Rattle.tera_parser.specs.Gives.{GivesEnd, GivesTag, GivesElement, ReadsBody, IsNoBody, IsLater, RefusesFrom, RefusesIn, TellsAt, source_of, left};
+ghost use Rattle.tera_lexer.specs.Tokens.{Ended};
+ghost use Rattle.tera_lexer.specs.Cursors.{IsLater, RefusesFrom, TellsAt, source_of, left};
+ghost use Rattle.tera_parser.specs.Gives.{GivesEnd, GivesTag, GivesElement, ReadsBody, IsNoBody, RefusesIn};
 
-use crate::tera_base::errors::Error;
-use crate::tera_base::utils::Span;
-use crate::tera_expr::expression;
-use crate::tera_lexer::cursor::Cursor;
-use crate::tera_lexer::delimiters::Delimiters;
-use crate::tera_lexer::lexer::Lexer;
-use crate::tera_lexer::tokens::Token;
-use crate::tera_tree::ast::{Expression, Node};
-use crate::tera_tree::build;
+use crate::build;
 use std::alloc::Global;
 use std::marker::Model;
+use tera_base::{Error, Span};
+use tera_expr::expression;
+use tera_lexer::{Cursor, Delimiters, Lexer, Token};
+use tera_tree::{Expression, Node};
 
 /// What a template is read as.
 #[derive(Debug, Drop)]
@@ -49,7 +47,8 @@ impl<'a> Model for Parser<'a> {
 }
 
 impl<'a> Parser<'a> {
-    ghost use Rattle.tera_parser.specs.Tree.{Output, output_view};
+    ghost use Rattle.tera_parser.specs.Outputs.{output_view};
+    ghost use Rattle.tera_tree.specs.Tree.{Output};
 
     /// A parser of the source, which stands in a file of this name. The name is shown in notes alone.
     pub fn new(

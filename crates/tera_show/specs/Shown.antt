@@ -2,13 +2,13 @@
 use Rattle.std.specs.Prelude.{◌≡◌, ◌<◌, ℕ, List, [], ◌∷◌, ◌++◌, length, take, codes, Option, IfSome, Result, Ok, Err, IsUtf8}
 use Rattle.std.specs.Fmt.{decimal}
 use Rattle.std.specs.Io.KnownBytes.{Keeps, Appends}
-use Rattle.tera_parser.specs.Marks.{default_marks}
-use Rattle.tera_parser.specs.Place.{IsWithin}
-use Rattle.tera_parser.specs.Tokens.{Items, AreTokensOf}
-use Rattle.tera_parser.specs.Refusal.{Faults}
-use Rattle.tera_parser.specs.Tree.{Output}
+use Rattle.tera_lexer.specs.Marks.{default_marks}
+use Rattle.tera_lexer.specs.Place.{IsWithin}
+use Rattle.tera_lexer.specs.Tokens.{Items, AreTokensOf}
+use Rattle.tera_lexer.specs.Faults.{Faults}
+use Rattle.tera_tree.specs.Tree.{Output}
 use Rattle.tera_parser.specs.Template.{Derives}
-use Rattle.tera_parser.specs.declared.tera_base.utils.Span.{Span}
+use Rattle.tera_base.specs.declared.utils.Span.{Span}
 use Rattle.tera_show.specs.Text.{text_of}
 use Rattle.tera_show.specs.declared.stream.Outcome.{Outcome}
 use Rattle.tera_show.specs.declared.stream.Outcome.TheVariants.{Tree, Syntax, NotUtf8}

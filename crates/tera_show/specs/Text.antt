@@ -2,7 +2,7 @@
 use Rattle.std.specs.Prelude.{ℕ, ◌==◌, if◌then◌else◌, List, [], ◌∷◌, ◌++◌, codes, chars, encode_utf8}
 use Rattle.std.specs.List.{flat_map}
 use Rattle.std.specs.Fmt.{signed_decimal}
-use Rattle.tera_parser.specs.Tree.{Val, Integer, Text, Expr, Const, Var, Stmt, Content, Shown, Output}
+use Rattle.tera_tree.specs.Tree.{Val, Integer, Text, Expr, Const, Var, Stmt, Content, Shown, Output}
 
 -- a character of a text between quotes
 abbrev pub escaped : ℕ → List ℕ

@@ -1,8 +1,9 @@
 //! The text of a tree.
 
 ghost use Rattle.std.specs.Prelude.{◌≡◌, ◌++◌, string_bytes, IfOk, IfErr, OnOk};
-ghost use Rattle.tera_parser.specs.Tree.{node_view, expression_view, value_view, output_view};
-ghost use Rattle.tera_parser.specs.Refusal.{IsMemory};
+ghost use Rattle.tera_parser.specs.Outputs.{output_view};
+ghost use Rattle.tera_tree.specs.Tree.{node_view, expression_view, value_view};
+ghost use Rattle.tera_base.specs.Errors.{IsMemory};
 ghost use Rattle.tera_show.specs.Text.{line_of, text_of, expression_text, value_text, quoted, escaped};
 
 use std::alloc::{AllocError, Global};

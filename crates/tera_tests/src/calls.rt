@@ -1,6 +1,7 @@
 //! Each public call that `parse` and `show` do not show by themselves.
 
 use std::test::Fail;
+use tera_lexer::laws as lexer_laws;
 use tera_parser::laws;
 use tera_parser::value::{Error, ErrorKind, ReportError, Span, Spanned};
 
@@ -46,9 +47,9 @@ fn errors(rt: HostRuntime) -> Result<(), Fail> {
 
 #[test]
 fn laws_do_nothing(_rt: HostRuntime) -> Result<(), Fail> {
-    laws::one_division();
-    laws::one_token_list();
+    lexer_laws::one_division();
+    lexer_laws::one_token_list();
+    lexer_laws::one_slice();
     laws::one_output();
-    laws::one_slice();
     Ok(())
 }

@@ -8,4 +8,6 @@ mod shown;
 #[cfg(test)]
 mod streams;
 #[cfg(test)]
+mod tokens;
+#[cfg(test)]
 mod trees;

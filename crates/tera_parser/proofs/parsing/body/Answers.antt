@@ -1,8 +1,9 @@
 use Rattle.std.proofs.Common.{rules, ◌≢◌, ◌++◌, ◌∷◌, [], ⊎_elim, inl, inr, sym, ◌∙◌}
 use Rattle.std.specs.Prelude.{◌⊎◌}
-use Rattle.tera_parser.specs.Tokens.{Ended}
-use Rattle.tera_parser.specs.Refusal.{IsMemory}
-use Rattle.tera_parser.specs.Gives.{left, source_of, IsNoBody, RefusesIn}
+use Rattle.tera_lexer.specs.Tokens.{Ended}
+use Rattle.tera_base.specs.Errors.{IsMemory}
+use Rattle.tera_lexer.specs.Cursors.{left, source_of}
+use Rattle.tera_parser.specs.Gives.{IsNoBody, RefusesIn}
 use Rattle.tera_parser.proofs.Parsings.{no_body, some_element}
 use Rattle.tera_parser.proofs.Bodies.{HasRead, read_more, behind_refuses, behind_no_body, some_left}
 use Rattle.tera_parser.proofs.parsing.body.Goals as goal

@@ -1,4 +1,4 @@
-use Rattle.tera_parser.specs.Gives.{source_of, left, size}
+use Rattle.tera_lexer.specs.Cursors.{source_of, left, size}
 use Rattle.tera_parser.proofs.Bodies.{HasRead}
 use Rattle.tera_parser.proofs.parsing.body.Given as goal
 

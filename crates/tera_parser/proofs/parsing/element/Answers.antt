@@ -1,11 +1,11 @@
 use Rattle.std.proofs.Common.{ap, ◌∙◌}
-use Rattle.tera_parser.specs.Tokens.{Token}
-use Rattle.tera_parser.specs.Seen.{seen}
+use Rattle.tera_lexer.specs.Tokens.{Token}
+use Rattle.tera_lexer.specs.Seen.{seen}
 use Rattle.tera_parser.specs.Template.{Words, Variable}
-use Rattle.tera_parser.specs.declared.tera_lexer.tokens.Token.TheVariants.{VariableStart}
-use Rattle.tera_parser.specs.Tree.{Shown}
+use Rattle.tera_lexer.specs.declared.lexer.tokens.Token.TheVariants.{VariableStart}
+use Rattle.tera_tree.specs.Tree.{Shown}
 use Rattle.tera_parser.specs.Reading.{started, element_of}
-use Rattle.tera_parser.specs.Gives.{left}
+use Rattle.tera_lexer.specs.Cursors.{left}
 use Rattle.tera_parser.proofs.parsing.element.Goals as goal
 
 pub returns-in_ok-content-in-Content-clause-gives : goal.returns-in_ok-content-in-Content-clause-gives

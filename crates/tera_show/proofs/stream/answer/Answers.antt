@@ -1,9 +1,11 @@
 use Rattle.std.proofs.Common.{◌≡◌, ◌∙◌, sym, subst, ap, List, ℕ, string_bytes}
-use Rattle.tera_parser.specs.Marks.{Marks, default_marks}
+use Rattle.tera_lexer.specs.Marks.{Marks, default_marks}
 use Rattle.tera_parser.specs.Job.{Job}
 use Rattle.tera_parser.specs.Template.{Derives}
-use Rattle.tera_parser.specs.Tree.{Output, output_view}
-use Rattle.tera_parser.specs.Refusal.{IsMemoryKind, Refuses}
+use Rattle.tera_parser.specs.Outputs.{output_view}
+use Rattle.tera_tree.specs.Tree.{Output}
+use Rattle.tera_base.specs.Errors.{IsMemoryKind}
+use Rattle.tera_parser.specs.Refusal.{Refuses}
 use Rattle.tera_show.specs.Shown.{fault_line}
 use Rattle.tera_show.proofs.stream.answer.Goals as goal
 

@@ -1,7 +1,8 @@
 use Rattle.std.proofs.Common.{rules, ap, ◌∙◌, subst}
-use Rattle.tera_parser.specs.Marks.{IsValid}
-use Rattle.tera_parser.specs.Refusal.{IsMemory, Refuses}
-use Rattle.tera_parser.specs.Left.{start_of}
+use Rattle.tera_lexer.specs.Marks.{IsValid}
+use Rattle.tera_base.specs.Errors.{IsMemory}
+use Rattle.tera_parser.specs.Refusal.{Refuses}
+use Rattle.tera_lexer.specs.Left.{start_of}
 use Rattle.tera_parser.specs.Job.{Job}
 use Rattle.tera_parser.proofs.Wholes.{derives_unique, start_derives, start_refused, start_refuses, start_empty}
 use Rattle.tera_parser.proofs.parsing.Parser.parse.Goals as goal

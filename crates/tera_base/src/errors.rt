@@ -1,0 +1,108 @@
+//! Errors with texts and spans.
+
+ghost use Rattle.std.specs.Prelude.{◌≡◌, IfOk, MatchResult, codes, string_bytes};
+ghost use Rattle.tera_base.specs.Errors.{IsMemory, Tells};
+
+use crate::utils::Span;
+use std::alloc::{AllocError, AllocFailed, Global};
+
+/// An error of this layer.
+#[derive(Debug, Drop)]
+pub struct Error {
+    pub kind: ErrorKind,
+}
+
+/// What went wrong.
+#[derive(Debug, Drop)]
+pub enum ErrorKind {
+    /// No memory was found.
+    Memory,
+    /// A fault that has no place in a source.
+    Message(String),
+    /// A fault in a source.
+    SyntaxError(Box<ReportError>),
+}
+
+/// A fault in a source: its text, where it stands, and notes on other places.
+#[derive(Debug, Drop)]
+pub struct ReportError {
+    pub message: String,
+    pub span: Span,
+    pub notes: Vec<Note>,
+}
+
+/// A place that explains a fault, in the file that is named.
+#[derive(Debug, Drop)]
+pub struct Note {
+    pub label: String,
+    pub filename: String,
+    pub span: Span,
+}
+
+impl From<AllocError> for Error {
+    ghost from_gives = { λ _ e. IsMemory e };
+
+    fn from(_error: AllocError) -> Error {
+        Error {
+            kind: ErrorKind::Memory,
+        }
+    }
+}
+
+impl<T: Drop> From<AllocFailed<T>> for Error {
+    ghost from_gives = { λ _ e. IsMemory e };
+
+    fn from(_error: AllocFailed<T>) -> Error {
+        Error {
+            kind: ErrorKind::Memory,
+        }
+    }
+}
+
+impl Error {
+    /// A syntax error with this text and place, or `Memory` where the text finds none.
+    pub fn syntax_error(alloc: Global, text: &str, span: &Span) -> Error
+        ensures { Tells text.now span.now result }
+    {
+        match String::from_str(alloc, text) {
+            Ok(message) => Error::reported(alloc, message, span),
+            Err(error) => Error::from(error),
+        }
+    }
+
+    /// A syntax error with this text and place, or `Memory` where it finds none.
+    pub fn reported(alloc: Global, message: String, span: &Span) -> Error
+        ensures { Tells (string_bytes message) span.now result }
+    {
+        let report = ReportError {
+            message,
+            span: span.copied(),
+            notes: Vec::new(alloc),
+        };
+        match Box::new(alloc, report) {
+            Ok(report) => Error {
+                kind: ErrorKind::SyntaxError(report),
+            },
+            Err(error) => Error::from(error),
+        }
+    }
+}
+
+impl ReportError {
+    ghost use Rattle.tera_base.specs.Errors.{end_of};
+
+    /// The end of the input, behind the token at this span: a syntax error that begins where the token
+    /// ends, in whose range the token stands.
+    pub fn unexpected_end_of_input(alloc: Global, span: &Span) -> Error
+        ensures { Tells (codes "Unexpected end of input") (end_of span.now) result }
+    {
+        let end = Span {
+            start_line: span.end_line,
+            start_col: span.end_col,
+            end_line: span.end_line,
+            end_col: span.end_col,
+            range: span.range.start..span.range.end,
+        };
+        Error::syntax_error(alloc, "Unexpected end of input", &end)
+    }
+}

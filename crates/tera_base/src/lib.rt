@@ -1,0 +1,10 @@
+//! Spans, errors and values of the template engine Tera.
+#![tactic(auto)]
+
+mod errors;
+mod utils;
+mod values;
+
+pub use errors::{Error, ErrorKind, Note, ReportError};
+pub use utils::{Span, Spanned};
+pub use values::Value;

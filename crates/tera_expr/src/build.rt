@@ -1,0 +1,32 @@
+//! Makes expressions.
+
+ghost use Rattle.std.specs.Prelude.{◌≡◌, IfOk};
+ghost use Rattle.tera_tree.specs.Tree as tree;
+ghost use Rattle.tera_tree.specs.Tree.{expression_view};
+
+use std::alloc::{AllocError, Global};
+use tera_base::{Span, Spanned, Value};
+use tera_tree::{Expression, Var};
+
+/// A whole number that stands at the span.
+pub(crate) fn integer(alloc: Global, n: i64, span: Span) -> Result<Expression, AllocError>
+    ensures { IfOk result (λ e. expression_view e ≡ tree.Const (tree.Integer n) span) }
+{
+    Ok(Expression::Const(Spanned::new(alloc, Value::I64(n), span)?))
+}
+
+/// A text that stands at the span.
+pub(crate) fn text(alloc: Global, text: &str, span: Span) -> Result<Expression, AllocError>
+    ensures { IfOk result (λ e. expression_view e ≡ tree.Const (tree.Text text.now) span) }
+{
+    let value = Value::String(String::from_str(alloc, text)?);
+    Ok(Expression::Const(Spanned::new(alloc, value, span)?))
+}
+
+/// A variable whose name stands at the span.
+pub(crate) fn variable(alloc: Global, name: &str, span: Span) -> Result<Expression, AllocError>
+    ensures { IfOk result (λ e. expression_view e ≡ tree.Var name.now span) }
+{
+    let name = String::from_str(alloc, name)?;
+    Ok(Expression::Var(Spanned::new(alloc, Var { name }, span)?))
+}

@@ -1,0 +1,7 @@
+//! The expressions of the template engine Tera.
+#![tactic(auto)]
+
+mod build;
+mod expressions;
+
+pub use expressions::expression;

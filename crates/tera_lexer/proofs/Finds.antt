@@ -1,0 +1,173 @@
+-- What the program finds in a tag is what stands there.
+use Rattle.std.proofs.Common.{◌≡◌, ◌≢◌, ℕ, suc, ◌+◌, ◌<◌, ◌≤◌, ◌^◌, Bool, true, false, List, [], ◌∷◌, length, take, drop, get_or, Option, Some, None, ap, sym, ◌∙◌, refl, subst, arith, IsUtf8}
+use Rattle.std.specs.Prelude.{nat_lt, ◌==◌, if◌then◌else◌, pos, codes}
+use Rattle.std.specs.List.{AllByRecursion, prefix_len, list_any}
+use Rattle.std.specs.Char.{is_ascii_digit}
+use Rattle.std.specs.Str.{IsCharBoundary}
+use Rattle.std.proofs.lemmas.Bool.Decides.{nat_tests, Decides-ltb}
+use Rattle.std.proofs.lemmas.List.{length-append, take_at}
+use Rattle.std.proofs.lemmas.List.Folds.{length-prefix_len}
+use Rattle.tera_lexer.specs.Marks.{begins}
+use Rattle.tera_lexer.specs.Lexeme.{begins_name, goes_on_name, is_quote, written, has_escape, quoted, decimal, operator_at, Number, Quoted, Float, TooGreat, Escaped}
+use Rattle.tera_lexer.specs.Tokens.{Tok, name_token, not_read, unclosed}
+use Rattle.tera_lexer.specs.Tokens as toks
+use Rattle.tera_lexer.specs.Front.{Front, Reads, Breaks, run_of, behind_run, number_front, string_front, operator_front, front_of, string_at, closing_at}
+use Rattle.tera_lexer.specs.Found.{BeginsBy, IsOperatorOf, IsTokenAt, IsFaultAt, IsFound, found_len}
+use Rattle.tera_lexer.specs.Seen.{seen}
+use Rattle.tera_lexer.specs.declared.lexer.tokens.Token.{Token}
+use Rattle.tera_lexer.specs.declared.lexer.lexeme.Found.{Found}
+use Rattle.tera_lexer.specs.declared.lexer.lexeme.Found.TheVariants as found
+use Rattle.tera_lexer.proofs.Closings.{IsInsideOf, inside_closes, nothing_closes, escape_written}
+use Rattle.tera_lexer.proofs.Cuts.{cut_before_byte, quote_ascii, front_len, front_cut}
+use Rattle.tera_lexer.proofs.Runs.{run_grows, run_stands}
+use Rattle.tera_lexer.proofs.Fronts.{front_digit, front_name, quote_front, other_front, IsFront, front_stands}
+
+not_below : (n m : ℕ) → m ≤ n → nat_lt n m ≡ false
+not_below n m h = grind (arith, nat_tests)
+
+begins_goes_on : (b : ℕ) → begins_name b ≡ true → goes_on_name b ≡ true
+begins_goes_on b h = grind (arith, nat_tests)
+
+-- a run that the first byte begins
+module _ (p : ℕ → Bool) (b : ℕ) (bs : List ℕ) (first : p b ≡ true) where
+  pub run_whole : run_of p (b ∷ bs) ≡ b ∷ run_of p bs
+  run_whole = ap (λ n. take n (b ∷ bs)) (run_grows p b bs first)
+
+  pub behind_whole : behind_run p (b ∷ bs) ≡ behind_run p bs
+  behind_whole = ap (λ n. drop n (b ∷ bs)) (run_grows p b bs first)
+
+  pub length_whole : prefix_len p (b ∷ bs) ≡ length (b ∷ run_of p bs)
+  length_whole = run_grows p b bs first ∙ ap suc (sym (length-prefix_len p bs))
+
+pub name_is_found : (bytes : List ℕ) (token : Tok) → BeginsBy begins_name bytes → token ≡ name_token (run_of goes_on_name bytes) → IsTokenAt token (prefix_len goes_on_name bytes) (front_of bytes)
+name_is_found [] token name is = absurd name
+name_is_found (b ∷ bs) token name is =
+    let goes_on = begins_goes_on b name in
+    subst (IsTokenAt token (prefix_len goes_on_name (b ∷ bs))) (sym (front_name b bs name)) (is ∙ ap name_token (run_whole goes_on_name b bs goes_on), length_whole goes_on_name b bs goes_on)
+
+-- digits are found as such
+number_is : (b : ℕ) (bs : List ℕ) → is_ascii_digit b ≡ true → front_of (b ∷ bs) ≡ number_front b (run_of is_ascii_digit bs) (behind_run is_ascii_digit (b ∷ bs))
+number_is b bs digit = front_digit b bs digit ∙ ap (number_front b (run_of is_ascii_digit bs)) (sym (behind_whole is_ascii_digit b bs digit))
+
+-- and what the tests say of them
+module _ (b : ℕ) (bs rest : List ℕ) where
+  float_front : begins (46 ∷ []) rest ≡ true → number_front b bs rest ≡ Breaks (Float b bs (run_of is_ascii_digit (drop 1 rest)))
+  float_front point = rw point refl
+
+  integer_front : begins (46 ∷ []) rest ≡ false → decimal (b ∷ bs) < 2 ^ 63 → number_front b bs rest ≡ Reads (Number b bs) rest
+  integer_front no_point low = rw (no_point, (Decides-ltb (decimal (b ∷ bs)) (2 ^ 63)).1 low) refl
+
+  great_front : begins (46 ∷ []) rest ≡ false → 2 ^ 63 ≤ decimal (b ∷ bs) → number_front b bs rest ≡ Breaks (TooGreat b bs)
+  great_front no_point high = rw (no_point, not_below (decimal (b ∷ bs)) (2 ^ 63) high) refl
+
+pub float_is_found : (bytes : List ℕ) (n : ℕ) → BeginsBy is_ascii_digit bytes → begins (46 ∷ []) (behind_run is_ascii_digit bytes) ≡ true
+    → n ≡ prefix_len is_ascii_digit bytes + 1 + prefix_len is_ascii_digit (drop 1 (behind_run is_ascii_digit bytes)) → IsFaultAt (codes "Float literals are not supported") n (front_of bytes)
+float_is_found [] n digit point len = absurd digit
+float_is_found (b ∷ bs) n digit point len =
+    let whole = length_whole is_ascii_digit b bs digit in
+    let behind : List ℕ = drop 1 (behind_run is_ascii_digit (b ∷ bs)) in
+    let more_len = length-prefix_len is_ascii_digit behind in
+    subst (IsFaultAt (codes "Float literals are not supported") n) (sym (number_is b bs digit ∙ float_front b (run_of is_ascii_digit bs) (behind_run is_ascii_digit (b ∷ bs)) point)) (refl, omega (arith, length-append (run_of is_ascii_digit bs) (46 ∷ run_of is_ascii_digit behind)))
+
+pub integer_is_found : (bytes : List ℕ) (token : Tok) → BeginsBy is_ascii_digit bytes → begins (46 ∷ []) (behind_run is_ascii_digit bytes) ≡ false
+    → decimal (run_of is_ascii_digit bytes) < 2 ^ 63 → token ≡ toks.Integer (pos (decimal (run_of is_ascii_digit bytes))) → IsTokenAt token (prefix_len is_ascii_digit bytes) (front_of bytes)
+integer_is_found [] token digit no_point low is = absurd digit
+integer_is_found (b ∷ bs) token digit no_point low is =
+    let whole = run_whole is_ascii_digit b bs digit in
+    subst (IsTokenAt token (prefix_len is_ascii_digit (b ∷ bs)))
+    (sym (number_is b bs digit ∙ integer_front b (run_of is_ascii_digit bs) (behind_run is_ascii_digit (b ∷ bs)) no_point (subst (λ l. decimal l < 2 ^ 63) whole low))) (is ∙ ap (λ l. toks.Integer (pos (decimal l))) whole, length_whole is_ascii_digit b bs digit)
+
+pub great_is_found : (bytes : List ℕ) (n : ℕ) → BeginsBy is_ascii_digit bytes → begins (46 ∷ []) (behind_run is_ascii_digit bytes) ≡ false
+    → 2 ^ 63 ≤ decimal (run_of is_ascii_digit bytes) → n ≡ prefix_len is_ascii_digit bytes → IsFaultAt (codes "Invalid Integer") n (front_of bytes)
+great_is_found [] n digit no_point high len = absurd digit
+great_is_found (b ∷ bs) n digit no_point high len =
+    let whole = run_whole is_ascii_digit b bs digit in
+    subst (IsFaultAt (codes "Invalid Integer") n)
+    (sym (number_is b bs digit ∙ great_front b (run_of is_ascii_digit bs) (behind_run is_ascii_digit (b ∷ bs)) no_point (subst (λ l. 2 ^ 63 ≤ decimal l) whole high))) (refl, len ∙ length_whole is_ascii_digit b bs digit)
+
+-- what is parsed are digits
+pub digits_parsed : (bytes : List ℕ) → BeginsBy is_ascii_digit bytes → (0 < length (run_of is_ascii_digit bytes)) × AllByRecursion (λ d. is_ascii_digit d ≡ true) (run_of is_ascii_digit bytes)
+digits_parsed [] digit = absurd digit
+digits_parsed (b ∷ bs) digit = (omega (arith, ap length (run_whole is_ascii_digit b bs digit)), (run_stands is_ascii_digit (b ∷ bs)).0)
+
+quote_no_escape : (b : ℕ) → is_quote b ≡ true → b ≢ 92
+quote_no_escape b h e = grind (arith, nat_tests)
+
+-- strings are found as such
+module _ (quote : ℕ) (bytes behind : List ℕ) (e : bytes ≡ quote ∷ behind) (is : is_quote quote ≡ true) where
+  front_quote : front_of bytes ≡ string_front quote (string_at quote behind)
+  front_quote = ap front_of e ∙ quote_front quote behind is
+
+  pub unclosed_is_found : None ≡ closing_at quote false behind → IsFaultAt (unclosed quote) 0 (front_of bytes)
+  unclosed_is_found none =
+      subst (IsFaultAt (unclosed quote) 0) (sym (front_quote ∙ ap (string_front quote) (nothing_closes quote behind (quote_no_escape quote is) none))) (refl, refl)
+
+  pub inside_is_found : (n : ℕ) → Some n ≡ closing_at quote false behind → IsInsideOf quote n behind
+  inside_is_found n some = inside_closes quote n behind (quote_no_escape quote is) some
+
+  module _ (n : ℕ) (inside : IsInsideOf quote n behind) where
+    front_string : (escape : Bool) → has_escape inside.inner ≡ escape → front_of bytes ≡ (if escape then Breaks (Escaped quote inside.inner) else Reads (Quoted quote inside.inner) inside.rest)
+    front_string escape has = front_quote ∙ ap (string_front quote) inside.found ∙ rw has refl
+
+    string_len : n + 2 ≡ length (quoted quote inside.inner)
+    string_len = omega (arith, inside.len, length-append (written inside.inner) (quote ∷ []))
+
+    pub inside_text : take n behind ≡ written inside.inner
+    inside_text = ap (take n) inside.splits ∙ take_at (written inside.inner) (quote ∷ inside.rest) n (sym inside.len)
+
+    pub inside_cut : IsCharBoundary behind n
+    inside_cut = subst (IsCharBoundary behind) (sym inside.len) (cut_before_byte behind (written inside.inner) inside.rest quote inside.splits (quote_ascii quote is))
+
+    has_is : list_any (λ b. b == 92) (take n behind) ≡ has_escape inside.inner
+    has_is = ap (list_any (λ b. b == 92)) inside_text ∙ escape_written quote inside.inner inside.all
+
+    pub escape_is_found : list_any (λ b. b == 92) (take n behind) ≡ true → IsFaultAt not_read (n + 2) (front_of bytes)
+    escape_is_found escape = subst (IsFaultAt not_read (n + 2)) (sym (front_string true (sym has_is ∙ escape))) (refl, string_len)
+
+    pub plain_is_found : list_any (λ b. b == 92) (take n behind) ≡ false → IsTokenAt (toks.Str (take n behind)) (n + 2) (front_of bytes)
+    plain_is_found plain = subst (IsTokenAt (toks.Str (take n behind)) (n + 2)) (sym (front_string false (sym has_is ∙ plain))) (ap toks.Str inside_text, string_len)
+
+other_at : (bytes : List ℕ) → 0 < length bytes → is_ascii_digit (get_or bytes 0 0) ≡ false → begins_name (get_or bytes 0 0) ≡ false → is_quote (get_or bytes 0 0) ≡ false → front_of bytes ≡ operator_front bytes (operator_at bytes)
+other_at [] some digit name quote = absurd (omega arith)
+other_at (b ∷ bs) some digit name quote = other_front b bs digit name quote
+
+-- the first byte and the others
+pub first_and_others : (p : ℕ → Bool) (bytes : List ℕ) → BeginsBy p bytes → (bytes ≡ get_or bytes 0 0 ∷ drop 1 bytes) × (p (get_or bytes 0 0) ≡ true)
+first_and_others p [] first = absurd first
+first_and_others p (b ∷ bs) first = (refl, first)
+
+-- an operator or nothing is found where no other class begins
+module _ (bytes : List ℕ) (some : 0 < length bytes) (digit : is_ascii_digit (get_or bytes 0 0) ≡ false) (name : begins_name (get_or bytes 0 0) ≡ false) (quote : is_quote (get_or bytes 0 0) ≡ false) where
+  front_other : front_of bytes ≡ operator_front bytes (operator_at bytes)
+  front_other = other_at bytes some digit name quote
+
+  pub operator_is_found : (p : Token × ℕ) → IsOperatorOf (Some p) (operator_at bytes) → IsTokenAt (seen p.0) p.1 (front_of bytes)
+  operator_is_found p is = subst (IsTokenAt (seen p.0) p.1) (sym front_other) (by (operator_at bytes) is)
+    where
+      by : (o : Option (List ℕ)) → IsOperatorOf (Some p) o → IsTokenAt (seen p.0) p.1 (operator_front bytes o)
+      by None is = absurd is
+      by (Some op) is = is
+
+  pub nothing_is_found : IsOperatorOf None (operator_at bytes) → IsFaultAt (codes "Unexpected character") 0 (front_of bytes)
+  nothing_is_found is = subst (IsFaultAt (codes "Unexpected character") 0) (sym front_other) (by (operator_at bytes) is)
+    where
+      by : (o : Option (List ℕ)) → IsOperatorOf None o → IsFaultAt (codes "Unexpected character") 0 (operator_front bytes o)
+      by None is = (refl, refl)
+      by (Some op) is = absurd is
+
+-- the length of what is found is that of what stands there
+pub found_length : (f : Found) (front : Front) → IsFound f front → front_len front ≡ found_len f
+found_length (found.Lexeme token n) (Reads l rest) is = sym is.1
+found_length (found.Lexeme token n) (Breaks f) is = absurd is
+found_length (found.Fault fault) (Reads l rest) is = absurd is
+found_length (found.Fault fault) (Breaks f) is = sym is.1
+
+pub found_cut : (bytes : List ℕ) (f : Found) → IsUtf8 bytes → 0 < length bytes → IsFound f (front_of bytes) → IsCharBoundary bytes (found_len f)
+found_cut [] f utf8 some is = absurd (omega arith)
+found_cut (b ∷ bs) f utf8 some is =
+    subst (IsCharBoundary (b ∷ bs)) (found_length f (front_of (b ∷ bs)) is) (front_cut (b ∷ bs) (front_of (b ∷ bs)) utf8 (front_stands b bs))
+
+-- what stands at the front of some bytes
+pub front_here : (bytes : List ℕ) → 0 < length bytes → IsFront bytes (front_of bytes)
+front_here [] some = absurd (omega arith)
+front_here (b ∷ bs) some = front_stands b bs

@@ -1,0 +1,17 @@
+pub mod Runs
+pub mod Strings
+pub mod Markers
+pub mod Operators
+pub mod Fronts
+pub mod Insides
+pub mod Divisions
+pub mod Closings
+pub mod Cuts
+pub mod Finds
+pub mod Texts
+pub mod Lefts
+pub mod Places
+pub mod Slices
+pub mod Dashes
+pub mod Readings
+pub mod Refusals

@@ -1,0 +1,52 @@
+-- Where markers stand.
+use Rattle.std.proofs.Common.{◌≡◌, ℕ, ◌<◌, ◌≤◌, Bool, true, false, ◌||◌, List, ◌++◌, length, take, drop, get_or, add-zero, subst, ⊎_elim, inl, inr, sym, refl, ap, ◌∙◌, arith, IsUtf8}
+use Rattle.std.specs.Prelude.{◌⊎◌}
+use Rattle.std.specs.Str.{IsCharBoundary}
+use Rattle.std.proofs.lemmas.List.{take_at, length-append, get_or-drop, get_or_append_left}
+use Rattle.std.proofs.lemmas.Slice.Eq.{starts_is}
+use Rattle.std.proofs.lemmas.Bool.Decides.{Decides-eqb}
+use Rattle.std.proofs.lemmas.Str.{IsCharBoundary-from_take, IsCharBoundary-start}
+use Rattle.tera_lexer.specs.Marks.{Marks, IsValid, AreTexts, begins}
+use Rattle.tera_lexer.specs.Division.{is_at_start}
+
+-- a marker that begins the bytes stands before the rest of them, and the other way round
+pub begins_splits : (marker bytes : List ℕ) → begins marker bytes ≡ true → bytes ≡ marker ++ drop (length marker) bytes
+begins_splits marker bytes h = (starts_is Decides-eqb bytes marker (begins marker bytes) refl).0 h
+
+pub splits_begins : (marker bytes rest : List ℕ) → bytes ≡ marker ++ rest → begins marker bytes ≡ true
+splits_begins marker bytes rest e = (starts_is Decides-eqb bytes marker (begins marker bytes) refl).1 rest e
+
+-- a text that is a marker and more may be cut behind the marker
+pub marker_cut : (bytes marker : List ℕ) → IsUtf8 bytes → IsUtf8 marker → begins marker bytes ≡ true → IsCharBoundary bytes (length marker)
+marker_cut bytes marker utf8 text h =
+    let e = begins_splits marker bytes h in
+    let fits : length marker ≤ length bytes = omega (arith, ap length e, length-append marker (drop (length marker) bytes)) in
+    IsCharBoundary-from_take bytes (length marker) utf8 fits (subst IsUtf8 (sym (ap (take (length marker)) e ∙ take_at marker (drop (length marker) bytes) (length marker) refl)) text)
+
+-- either of two tests
+pub or_true : (a b : Bool) → (a || b) ≡ true → (a ≡ true) ⊎ (b ≡ true)
+or_true true b h = inl refl
+or_true false b h = inr h
+
+pub or_false : (a b : Bool) → (a || b) ≡ false → (a ≡ false) × (b ≡ false)
+or_false true b h = cc
+or_false false b h = (refl, h)
+
+-- and before it
+begin_cut : (bytes marker : List ℕ) (i : ℕ) → i < length bytes → IsUtf8 marker → length marker ≡ 2 → begins marker (drop i bytes) ≡ true → IsCharBoundary bytes i
+begin_cut bytes marker i lt text two h =
+    let e = begins_splits marker (drop i bytes) h in
+    let first : get_or bytes i 0 ≡ get_or marker 0 0
+    = sym (ap (λ k. get_or bytes k 0) (add-zero i)) ∙ sym (get_or-drop i bytes 0 0) ∙ ap (λ l. get_or l 0 0) e ∙ get_or_append_left marker (drop (length marker) (drop i bytes)) 0 0 (omega arith) in
+    let lead = (IsCharBoundary-start marker text).1 (omega arith) in
+    (omega arith, λ in_range high. rw first (lead (rw first at high)))
+
+pub start_cut : (m : Marks) (bytes : List ℕ) (i : ℕ) → AreTexts m → IsValid m → i < length bytes → is_at_start m (drop i bytes) ≡ true → IsCharBoundary bytes i
+start_cut m bytes i texts valid lt h =
+    ⊎_elim
+    (λ v. begin_cut bytes m.variable_start i lt texts.variable_start valid.variable_start v)
+    (λ other. ⊎_elim
+    (λ b. begin_cut bytes m.block_start i lt texts.block_start valid.block_start b)
+    (λ c. begin_cut bytes m.comment_start i lt texts.comment_start valid.comment_start c)
+    (or_true (begins m.block_start (drop i bytes)) (begins m.comment_start (drop i bytes)) other))
+    (or_true (begins m.variable_start (drop i bytes)) (begins m.block_start (drop i bytes) || begins m.comment_start (drop i bytes)) h)

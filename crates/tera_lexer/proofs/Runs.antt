@@ -1,0 +1,38 @@
+-- The longest run of bytes that pass a test.
+use Rattle.std.proofs.Common.{◌≡◌, ℕ, suc, Bool, true, false, List, [], ◌∷◌, ◌++◌, length, take, drop, ⊎_elim, sym, ap, ◌∙◌, refl, subst, one-add}
+use Rattle.std.specs.List.{prefix_len}
+use Rattle.std.proofs.lemmas.Bool.{cases_Bool}
+use Rattle.std.proofs.lemmas.List.{take_at, drop_at, take-append-drop}
+use Rattle.tera_lexer.specs.Lexeme.{IsRun}
+use Rattle.tera_lexer.specs.Front.{run_of, behind_run}
+
+-- one byte more, or none
+pub run_grows : (p : ℕ → Bool) (b : ℕ) (bs : List ℕ) → p b ≡ true → prefix_len p (b ∷ bs) ≡ suc (prefix_len p bs)
+run_grows p b bs here = rw here (one-add (prefix_len p bs))
+
+run_ends : (p : ℕ → Bool) (b : ℕ) (bs : List ℕ) → p b ≡ false → prefix_len p (b ∷ bs) ≡ 0
+run_ends p b bs other = rw other refl
+
+pub run_stands : (p : ℕ → Bool) (bytes : List ℕ) → IsRun p (run_of p bytes) (behind_run p bytes)
+run_stands p [] = (tt, tt)
+run_stands p (b ∷ bs) =
+    let stands : ℕ → Type 0 = λ n. IsRun p (take n (b ∷ bs)) (drop n (b ∷ bs)) in
+    ⊎_elim
+    (λ here. let rec = run_stands p bs in subst stands (sym (run_grows p b bs here)) ((here, rec.0), rec.1))
+    (λ other. subst stands (sym (run_ends p b bs other)) (tt, other))
+    (cases_Bool (p b))
+
+pub run_splits : (p : ℕ → Bool) (bytes : List ℕ) → bytes ≡ run_of p bytes ++ behind_run p bytes
+run_splits p bytes = sym (take-append-drop (prefix_len p bytes) bytes)
+
+-- a run that is the longest is found
+run_length : (p : ℕ → Bool) (run rest : List ℕ) → IsRun p run rest → prefix_len p (run ++ rest) ≡ length run
+run_length p [] [] is = refl
+run_length p [] (b ∷ bs) is = run_ends p b bs is.1
+run_length p (b ∷ bs) rest is = run_grows p b (bs ++ rest) is.0.0 ∙ ap suc (run_length p bs rest (is.0.1, is.1))
+
+pub run_found : (p : ℕ → Bool) (run rest : List ℕ) → IsRun p run rest → run_of p (run ++ rest) ≡ run
+run_found p run rest is = take_at run rest (prefix_len p (run ++ rest)) (sym (run_length p run rest is))
+
+pub behind_found : (p : ℕ → Bool) (run rest : List ℕ) → IsRun p run rest → behind_run p (run ++ rest) ≡ rest
+behind_found p run rest is = drop_at run rest (prefix_len p (run ++ rest)) (sym (run_length p run rest is))

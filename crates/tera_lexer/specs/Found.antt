@@ -1,0 +1,51 @@
+-- What the program finds at a place in a tag, against what stands there.
+use Rattle.std.specs.Prelude.{◌≡◌, true, ℕ, Bool, List, [], ◌∷◌, length, Option, Some, None}
+use Rattle.std.specs.Char.{is_ascii_digit, is_ascii_whitespace}
+use Rattle.tera_lexer.specs.Lexeme.{goes_on_name, spelled, told}
+use Rattle.tera_lexer.specs.Tokens.{Tok, token_of, text_of, Symbol}
+use Rattle.tera_lexer.specs.Front.{Front, Reads, Breaks}
+use Rattle.tera_lexer.specs.Seen.{seen}
+use Rattle.tera_lexer.specs.declared.lexer.tokens.Token.{Token}
+use Rattle.tera_lexer.specs.declared.lexer.lexeme.Class.{Class}
+use Rattle.tera_lexer.specs.declared.lexer.lexeme.Class.TheVariants.{Space, Name, Digit}
+use Rattle.tera_lexer.specs.declared.lexer.lexeme.Found.{Found}
+use Rattle.tera_lexer.specs.declared.lexer.lexeme.Found.TheVariants.{Lexeme, Fault}
+
+abbrev pub passes : Class → ℕ → Bool
+passes Space b = is_ascii_whitespace b
+passes Name b = goes_on_name b
+passes Digit b = is_ascii_digit b
+
+-- the first byte passes the test
+abbrev pub BeginsBy : (ℕ → Bool) → List ℕ → Type 0
+BeginsBy p [] = ⊥
+BeginsBy p (b ∷ bs) = p b ≡ true
+
+-- the token of a lexeme that stands there, with its length
+abbrev pub IsTokenAt : Tok → ℕ → Front → Type 0
+IsTokenAt token n (Reads lexeme rest) = (token ≡ token_of lexeme) × (n ≡ length (spelled lexeme))
+IsTokenAt token n (Breaks fault) = ⊥
+
+-- the text of a fault that stands there, with the length of what it tells
+abbrev pub IsFaultAt : List ℕ → ℕ → Front → Type 0
+IsFaultAt text n (Reads lexeme rest) = ⊥
+IsFaultAt text n (Breaks fault) = (text ≡ text_of fault) × (n ≡ length (told fault))
+
+abbrev pub IsFound : Found → Front → Type 0
+IsFound (Lexeme token n) front = IsTokenAt (seen token) n front
+IsFound (Fault fault) front = IsFaultAt fault.message.now fault.len front
+
+abbrev pub found_len : Found → ℕ
+found_len (Lexeme token n) = n
+found_len (Fault fault) = fault.len
+
+-- the token of an operator, with its length
+abbrev pub IsOperatorOf : Option (Token × ℕ) → Option (List ℕ) → Type 0
+IsOperatorOf (Some p) (Some op) = (seen p.0 ≡ Symbol op) × (p.1 ≡ length op)
+IsOperatorOf None None = Unit {0}
+IsOperatorOf _ _ = ⊥
+
+abbrev pub IsTokenOf : Option Token → Option (List ℕ) → Type 0
+IsTokenOf (Some token) (Some op) = seen token ≡ Symbol op
+IsTokenOf None None = Unit {0}
+IsTokenOf _ _ = ⊥

@@ -1,0 +1,136 @@
+-- What stands at the front of some bytes, as a function: the reading that the definitions of lexemes and
+-- pieces allow. The contract of `Parser::parse` does not name it.
+use Rattle.std.specs.Prelude.{ℕ, zero, suc, ◌^◌, Bool, true, false, if◌then◌else◌, nat_lt, ◌==◌, List, [], ◌∷◌, length, take, drop, Option, Some, None}
+use Rattle.std.specs.List.{prefix_len}
+use Rattle.std.specs.Char.{is_ascii_digit, is_ascii_whitespace}
+use Rattle.tera_lexer.specs.Marks.{Marks, begins, dash_bytes}
+use Rattle.tera_lexer.specs.Lexeme.{begins_name, goes_on_name, is_quote, Inner, Plain, Escape, has_escape, operator_at, decimal, Lexeme, Name, Number, Quoted, Operator, Fault, Unexpected, Unclosed, Escaped, TooGreat, Float, Item, Close, End, Open, Bad}
+use Rattle.tera_lexer.specs.Division.{is_at_start, Piece, Text, Tag, Ending, Nothing, OpenTag, BadTag, Unread}
+
+-- a lexeme and the bytes behind it, or a fault
+pub data Front : Type 0 where
+  Reads : Lexeme → List ℕ → Front
+  Breaks : Fault → Front
+
+-- the longest run of bytes that pass the test, and what is behind it
+abbrev pub run_of : (ℕ → Bool) → List ℕ → List ℕ
+run_of p bytes = take (prefix_len p bytes) bytes
+
+abbrev pub behind_run : (ℕ → Bool) → List ℕ → List ℕ
+behind_run p bytes = drop (prefix_len p bytes) bytes
+
+-- the inside of a string and what is behind its closing quote
+abbrev pub with_inner : Inner → Option (List Inner × List ℕ) → Option (List Inner × List ℕ)
+with_inner i None = None
+with_inner i (Some p) = Some (i ∷ p.0, p.1)
+
+abbrev pub string_at : ℕ → List ℕ → Option (List Inner × List ℕ)
+string_at quote [] = None
+string_at quote (b ∷ []) = if b == quote then Some ([], []) else None
+string_at quote (b ∷ c ∷ cs) =
+    if b == quote then Some ([], c ∷ cs)
+    else (if b == 92 then with_inner (Escape c) (string_at quote cs) else with_inner (Plain b) (string_at quote (c ∷ cs)))
+
+-- how many bytes stand before the closing quote, behind a backslash or not
+abbrev pub more : Option ℕ → Option ℕ
+more None = None
+more (Some n) = Some (suc n)
+
+abbrev pub closing_at : ℕ → Bool → List ℕ → Option ℕ
+closing_at quote escaped [] = None
+closing_at quote true (b ∷ bs) = more (closing_at quote false bs)
+closing_at quote false (b ∷ bs) =
+    if b == 92 then more (closing_at quote true bs) else (if b == quote then Some 0 else more (closing_at quote false bs))
+
+abbrev pub string_front : ℕ → Option (List Inner × List ℕ) → Front
+string_front quote None = Breaks (Unclosed quote)
+string_front quote (Some p) = if has_escape p.0 then Breaks (Escaped quote p.0) else Reads (Quoted quote p.0) p.1
+
+-- digits b and bs, and what is behind them
+abbrev pub number_front : ℕ → List ℕ → List ℕ → Front
+number_front b bs rest =
+    if begins (46 ∷ []) rest then Breaks (Float b bs (run_of is_ascii_digit (drop 1 rest)))
+    else (if nat_lt (decimal (b ∷ bs)) (2 ^ 63) then Reads (Number b bs) rest else Breaks (TooGreat b bs))
+
+abbrev pub operator_front : List ℕ → Option (List ℕ) → Front
+operator_front bytes None = Breaks Unexpected
+operator_front bytes (Some op) = Reads (Operator op) (drop (length op) bytes)
+
+-- what stands at the front of bytes in a tag
+unfoldable pub front_of : List ℕ → Front
+front_of [] = Breaks Unexpected
+front_of (b ∷ bs) =
+    if is_ascii_digit b then number_front b (run_of is_ascii_digit bs) (behind_run is_ascii_digit bs)
+    else (if begins_name b then Reads (Name b (run_of goes_on_name bs)) (behind_run goes_on_name bs)
+    else (if is_quote b then string_front b (string_at b bs)
+    else operator_front (b ∷ bs) (operator_at (b ∷ bs))))
+
+-- what comes next in a tag, behind a gap
+pub data Next : Type 0 where
+  Ends : Next
+  Closes : Bool → List ℕ → Next
+  Stands : Front → Next
+
+abbrev pub next_at : List ℕ → List ℕ → Next
+next_at end [] = Ends
+next_at end (b ∷ bs) =
+    if begins (45 ∷ end) (b ∷ bs) then Closes true (drop (suc (length end)) (b ∷ bs))
+    else (if begins end (b ∷ bs) then Closes false (drop (length end) (b ∷ bs)) else Stands (front_of (b ∷ bs)))
+
+abbrev pub with_item : Item → List Item × Close → List Item × Close
+with_item i p = (i ∷ p.0, p.1)
+
+-- one step into a tag, which reads the rest by `go`
+abbrev pub inside_step : (List ℕ → List Item × Close) → List ℕ → List ℕ → Next → List Item × Close
+inside_step go gap at Ends = ([], Open gap)
+inside_step go gap at (Closes dash rest) = ([], End gap dash rest)
+inside_step go gap at (Stands (Breaks fault)) = ([], Bad gap fault at)
+inside_step go gap at (Stands (Reads lexeme rest)) = with_item (record { gap = gap; lexeme = lexeme }) (go rest)
+
+-- the inside of a tag, in at most so many steps
+unfoldable pub inside_by : ℕ → List ℕ → List ℕ → List Item × Close
+inside_by zero end bytes = ([], Open [])
+inside_by (suc n) end bytes =
+    let at = behind_run is_ascii_whitespace bytes in
+    inside_step (inside_by n end) (run_of is_ascii_whitespace bytes) at (next_at end at)
+
+abbrev pub inside_of : List ℕ → List ℕ → List Item × Close
+inside_of end bytes = inside_by (suc (length bytes)) end bytes
+
+-- how many bytes stand before the first start marker
+abbrev pub text_len : Marks → List ℕ → ℕ
+text_len m [] = 0
+text_len m (b ∷ bs) = if is_at_start m (b ∷ bs) then 0 else suc (text_len m bs)
+
+abbrev pub with_piece : Piece → List Piece × Ending → List Piece × Ending
+with_piece p d = (p ∷ d.0, d.1)
+
+abbrev pub tag_step : (List ℕ → List Piece × Ending) → Bool → List Item → Close → List Piece × Ending
+tag_step go dash items (End gap end rest) = with_piece (Tag dash items gap end) (go rest)
+tag_step go dash items (Open gap) = ([], OpenTag dash items gap)
+tag_step go dash items (Bad gap fault at) = ([], BadTag dash items gap fault at)
+
+-- what is behind a start marker, and behind its dash
+abbrev pub behind_marker : List ℕ → List ℕ → List ℕ
+behind_marker marker bytes = drop (length marker) bytes
+
+abbrev pub behind_dash : List ℕ → List ℕ
+behind_dash bytes = drop (length (dash_bytes (begins (45 ∷ []) bytes))) bytes
+
+abbrev pub text_step : (List ℕ → List Piece × Ending) → ℕ → List ℕ → List Piece × Ending
+text_step go n bytes = with_piece (Text (take n bytes)) (go (drop n bytes))
+
+-- the division of a source, in at most so many steps
+unfoldable pub division_by : ℕ → Marks → List ℕ → List Piece × Ending
+division_by zero m bytes = ([], Nothing)
+division_by (suc n) m [] = ([], Nothing)
+division_by (suc n) m (b ∷ bs) =
+    let behind = behind_marker m.variable_start (b ∷ bs) in
+    let inside = inside_of m.variable_end (behind_dash behind) in
+    if begins m.variable_start (b ∷ bs) then tag_step (division_by n m) (begins (45 ∷ []) behind) inside.0 inside.1
+    else (if begins m.block_start (b ∷ bs) then ([], Unread m.block_start)
+    else (if begins m.comment_start (b ∷ bs) then ([], Unread m.comment_start)
+    else text_step (division_by n m) (suc (text_len m bs)) (b ∷ bs)))
+
+abbrev pub division_of : Marks → List ℕ → List Piece × Ending
+division_of m bytes = division_by (suc (length bytes)) m bytes

@@ -1,0 +1,15 @@
+pub mod Place
+pub mod Marks
+pub mod Lexeme
+pub mod Division
+pub mod Tokens
+pub mod Faults
+pub mod Front
+pub mod State
+pub mod Left
+pub mod Seen
+pub mod Found
+pub mod Steps
+pub mod StateView
+pub mod Markers
+pub mod Cursors

@@ -1,0 +1,7 @@
+pub mod cursor;
+pub mod delimiters;
+mod lexeme;
+pub mod lexer;
+mod markers;
+mod place;
+pub mod tokens;

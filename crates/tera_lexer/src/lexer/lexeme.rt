@@ -1,0 +1,261 @@
+//! What stands at a place in a tag.
+
+ghost use Rattle.std.specs.Prelude.{◌≡◌, ◌^◌, ◌<◌, ◌≤◌, length, take, drop, true, false, pos, MatchOption};
+ghost use Rattle.std.specs.List.{AllByRecursion, prefix_len};
+ghost use Rattle.std.specs.Char.{is_ascii_digit};
+ghost use Rattle.tera_lexer.specs.Lexeme.{begins_name, is_quote, long_operator_at, short_operator, operator_at, decimal};
+ghost use Rattle.tera_lexer.specs.Tokens.{name_token, unclosed};
+ghost use Rattle.tera_lexer.specs.Seen.{seen};
+ghost use Rattle.tera_lexer.specs.Front.{front_of, closing_at};
+ghost use Rattle.tera_lexer.specs.Found.{passes, BeginsBy, IsFound, IsOperatorOf, IsTokenOf};
+
+use crate::lexer::tokens::Token;
+
+/// What was found: a token, with how many bytes it takes, or a fault.
+#[derive(Clone, Copy)]
+pub enum Found<'a> {
+    Lexeme(Token<'a>, usize),
+    Fault(Fault),
+}
+
+/// A lexical fault: its text, and how many bytes it tells.
+#[derive(Clone, Copy)]
+pub struct Fault {
+    pub message: &'static str,
+    pub len: usize,
+}
+
+/// A class of bytes.
+#[derive(Clone, Copy)]
+pub enum Class {
+    Space,
+    Name,
+    Digit,
+}
+
+fn is_in(class: Class, b: u8) -> bool
+    ensures { result ≡ passes class b }
+{
+    match class {
+        Class::Space => b.is_ascii_whitespace(),
+        Class::Name => b.is_ascii_alphanumeric() || b == b'_',
+        Class::Digit => b.is_ascii_digit(),
+    }
+}
+
+/// How many bytes at the front are of the class.
+pub(crate) fn run_len(bytes: &[u8], class: Class) -> usize
+    ensures run { result ≡ prefix_len (passes class) bytes.now }
+    ensures within { result ≤ length bytes.now }
+{
+    bytes.iter().take_while(|b| is_in(class, **b)).count()
+}
+
+fn begins_name(b: u8) -> bool
+    ensures { result ≡ begins_name b }
+{
+    b.is_ascii_alphabetic() || b == b'_'
+}
+
+fn is_quote(b: u8) -> bool
+    ensures { result ≡ is_quote b }
+{
+    b == b'"' || b == b'\'' || b == b'`'
+}
+
+/// What stands at the front of the text, in a tag.
+pub(crate) fn lexeme_at(rest: &str) -> Found<'_>
+    requires { 0 < length rest.now }
+    ensures { IsFound result (front_of rest.now) }
+{
+    let first = rest.as_bytes()[0];
+    if first.is_ascii_digit() {
+        number_at(rest)
+    } else if begins_name(first) {
+        name_at(rest)
+    } else if is_quote(first) {
+        string_at(rest)
+    } else {
+        match operator_at(rest.as_bytes()) {
+            Some((token, len)) => Found::Lexeme(token, len),
+            None => Found::Fault(Fault {
+                message: "Unexpected character",
+                len: 0,
+            }),
+        }
+    }
+}
+
+fn number_at(rest: &str) -> Found<'_>
+    requires { BeginsBy is_ascii_digit rest.now }
+    ensures { IsFound result (front_of rest.now) }
+{
+    let len = run_len(rest.as_bytes(), Class::Digit);
+    let (digits, behind) = rest.split_at(len);
+    let behind = behind.as_bytes();
+    if behind.starts_with(b".") {
+        let more = run_len(&behind[1..], Class::Digit);
+        return Found::Fault(Fault {
+            message: "Float literals are not supported",
+            len: len + 1 + more,
+        });
+    }
+    match integer_of(digits) {
+        Some(n) => Found::Lexeme(Token::Integer(n), len),
+        None => Found::Fault(Fault {
+            message: "Invalid Integer",
+            len,
+        }),
+    }
+}
+
+// The number that the digits write, unless it is too great.
+fn integer_of(digits: &str) -> Option<i64>
+    requires some { 0 < length digits.now }
+    requires digits { AllByRecursion (λ d. is_ascii_digit d ≡ true) digits.now }
+    ensures { MatchOption result (2 ^ 63 ≤ decimal digits.now) (λ n. (decimal digits.now < 2 ^ 63) × (n ≡ pos (decimal digits.now))) }
+{
+    digits.parse::<i64>().ok()
+}
+
+fn name_at(rest: &str) -> Found<'_>
+    requires { BeginsBy begins_name rest.now }
+    ensures { IsFound result (front_of rest.now) }
+{
+    let len = run_len(rest.as_bytes(), Class::Name);
+    let (name, _) = rest.split_at(len);
+    Found::Lexeme(word(name), len)
+}
+
+// A name, or one of the words for true and false.
+fn word(name: &str) -> Token<'_>
+    ensures { seen result ≡ name_token name.now }
+{
+    if name == "true" || name == "True" {
+        Token::Bool(true)
+    } else if name == "false" || name == "False" {
+        Token::Bool(false)
+    } else {
+        Token::Ident(name)
+    }
+}
+
+fn string_at(rest: &str) -> Found<'_>
+    requires { BeginsBy is_quote rest.now }
+    ensures { IsFound result (front_of rest.now) }
+{
+    let quote = rest.as_bytes()[0];
+    let (_, behind) = rest.split_at(1);
+    let Some(len) = closing_at(behind.as_bytes(), quote) else {
+        return Found::Fault(Fault {
+            message: unclosed(quote),
+            len: 0,
+        });
+    };
+    let (inside, _) = behind.split_at(len);
+    if inside.as_bytes().contains(&b'\\') {
+        return Found::Fault(Fault {
+            message: "Not read yet",
+            len: len + 2,
+        });
+    }
+    Found::Lexeme(Token::Str(inside), len + 2)
+}
+
+// Where the quote comes that closes a string, which a backslash before it hides.
+#[tactic(auto, using(crate::proofs::Closings::closing_escaped, crate::proofs::Closings::closing_escape, crate::proofs::Closings::closing_plain, crate::proofs::Closings::closing_here, crate::proofs::Closings::closing_nowhere, crate::proofs::Closings::further_none))]
+fn closing_at(bytes: &[u8], quote: u8) -> Option<usize>
+    ensures { result ≡ closing_at quote false bytes.now }
+{
+    let mut escaped = false;
+    for (i, b) in bytes.iter().enumerate() {
+        if escaped {
+            escaped = false;
+        } else if *b == b'\\' {
+            escaped = true;
+        } else if *b == quote {
+            return Some(i);
+        }
+    }
+    None
+}
+
+fn unclosed(quote: u8) -> &'static str
+    requires { is_quote quote ≡ true }
+    ensures { result.now ≡ unclosed quote }
+{
+    match quote {
+        b'"' => "String opened with `\"` is missing its closing `\"`",
+        b'\'' => "String opened with `'` is missing its closing `'`",
+        _ => "String opened with ``` is missing its closing ```",
+    }
+}
+
+// The operator that begins the bytes, with its length: the longest that does.
+fn operator_at(bytes: &[u8]) -> Option<(Token<'static>, usize)>
+    requires { 0 < length bytes.now }
+    ensures { IsOperatorOf result (operator_at bytes.now) }
+{
+    if let Some(found) = long_operator_at(bytes) {
+        return Some(found);
+    }
+    let token = short_operator(bytes[0])?;
+    Some((token, 1))
+}
+
+fn long_operator_at(bytes: &[u8]) -> Option<(Token<'static>, usize)>
+    ensures { IsOperatorOf result (long_operator_at bytes.now) }
+{
+    if bytes.starts_with(b"...") {
+        Some((Token::Spread, 3))
+    } else if bytes.starts_with(b"//") {
+        Some((Token::FloorDiv, 2))
+    } else if bytes.starts_with(b"**") {
+        Some((Token::Power, 2))
+    } else if bytes.starts_with(b"==") {
+        Some((Token::Equal, 2))
+    } else if bytes.starts_with(b"!=") {
+        Some((Token::NotEqual, 2))
+    } else if bytes.starts_with(b">=") {
+        Some((Token::GreaterThanOrEqual, 2))
+    } else if bytes.starts_with(b"<=") {
+        Some((Token::LessThanOrEqual, 2))
+    } else if bytes.starts_with(b"</") {
+        Some((Token::ClosingTagStart, 2))
+    } else if bytes.starts_with(b"?.") {
+        Some((Token::QuestionMarkDot, 2))
+    } else if bytes.starts_with(b"?[") {
+        Some((Token::QuestionMarkLeftBracket, 2))
+    } else {
+        None
+    }
+}
+
+fn short_operator(b: u8) -> Option<Token<'static>>
+    ensures { IsTokenOf result (short_operator b) }
+{
+    match b {
+        b'+' => Some(Token::Plus),
+        b'-' => Some(Token::Minus),
+        b'*' => Some(Token::Mul),
+        b'/' => Some(Token::Div),
+        b'%' => Some(Token::Mod),
+        b'!' => Some(Token::Bang),
+        b'.' => Some(Token::Dot),
+        b',' => Some(Token::Comma),
+        b':' => Some(Token::Colon),
+        b'~' => Some(Token::Tilde),
+        b'|' => Some(Token::Pipe),
+        b'=' => Some(Token::Assign),
+        b'>' => Some(Token::GreaterThan),
+        b'<' => Some(Token::LessThan),
+        b'(' => Some(Token::LeftParen),
+        b')' => Some(Token::RightParen),
+        b'[' => Some(Token::LeftBracket),
+        b']' => Some(Token::RightBracket),
+        b'{' => Some(Token::LeftBrace),
+        b'}' => Some(Token::RightBrace),
+        b'@' => Some(Token::At),
+        _ => None,
+    }
+}

@@ -1,0 +1,10 @@
+//! The lexer of the template engine Tera: from a source to its tokens.
+#![tactic(auto)]
+
+pub mod laws;
+mod lexer;
+
+pub use lexer::cursor::Cursor;
+pub use lexer::delimiters::Delimiters;
+pub use lexer::lexer::Lexer;
+pub use lexer::tokens::Token;

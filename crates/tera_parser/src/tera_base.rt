@@ -1,5 +1,0 @@
-//! What every layer stands on: spans, errors and values.
-
-pub mod errors;
-pub mod utils;
-pub mod value;

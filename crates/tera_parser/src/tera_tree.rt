@@ -1,4 +1,0 @@
-//! The tree of a template.
-
-pub mod ast;
-pub mod build;
