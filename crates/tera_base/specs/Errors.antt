@@ -36,3 +36,12 @@ end_of span = record {
   end_col = span.end_col;
   range = record { start = span.range.start; end = span.range.end };
 }
+
+-- an error with this text and no place, unless no memory was found
+abbrev pub KindSays : List ℕ → ErrorKind → Type 0
+KindSays text Memory = Unit {0}
+KindSays text (Message s) = string_bytes s ≡ text
+KindSays text (SyntaxError b) = ⊥
+
+abbrev pub Says : List ℕ → Error → Type 0
+Says text e = KindSays text e.kind

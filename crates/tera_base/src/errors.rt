@@ -60,6 +60,20 @@ impl<T: Drop> From<AllocFailed<T>> for Error {
 }
 
 impl Error {
+    ghost use Rattle.tera_base.specs.Errors.{Says};
+
+    /// An error with this text and no place, or `Memory` where the text finds none.
+    pub fn message(alloc: Global, text: &str) -> Error
+        ensures { Says text.now result }
+    {
+        match String::from_str(alloc, text) {
+            Ok(message) => Error {
+                kind: ErrorKind::Message(message),
+            },
+            Err(error) => Error::from(error),
+        }
+    }
+
     /// A syntax error with this text and place, or `Memory` where the text finds none.
     pub fn syntax_error(alloc: Global, text: &str, span: &Span) -> Error
         ensures { Tells text.now span.now result }

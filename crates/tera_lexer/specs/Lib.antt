@@ -13,3 +13,4 @@ pub mod Steps
 pub mod StateView
 pub mod Markers
 pub mod Cursors
+pub mod Rules

@@ -4,6 +4,8 @@
 #[cfg(test)]
 mod calls;
 #[cfg(test)]
+mod markers;
+#[cfg(test)]
 mod shown;
 #[cfg(test)]
 mod streams;

@@ -1,6 +1,10 @@
 //! The markers of a template.
 
+ghost use Rattle.tera_lexer.specs.Rules.{Checks, two_bytes, differ};
+
+use std::alloc::Global;
 use std::borrow::CowStr;
+use tera_base::{Error, ErrorKind};
 
 /// The six markers between which a template's tags stand.
 ///
@@ -36,5 +40,68 @@ impl Default for Delimiters {
             comment_start: CowStr::Borrowed("{#"),
             comment_end: CowStr::Borrowed("#}"),
         }
+    }
+}
+
+impl Delimiters {
+    ghost use Rattle.std.specs.Prelude.{IsOk, IfOk};
+    ghost use Rattle.tera_lexer.specs.Marks.{marks_of, IsValid};
+    ghost use Rattle.tera_lexer.specs.Rules.{ChecksAll, rules_of};
+
+    /// Whether a template can be read with the markers: each is two bytes long, and the three starts differ.
+    ///
+    /// The first rule that they break is told: the lengths in the order of the fields, and then the starts.
+    pub fn validate(&self, alloc: Global) -> Result<(), Error>
+        ensures rules { ChecksAll (rules_of (marks_of self.now)) result }
+        ensures ok { IfOk result (λ _. IsValid (marks_of self.now)) }
+        ensures valid { IsValid (marks_of self.now) → IsOk result }
+    {
+        check_two_bytes(alloc, "block_start", self.block_start.as_str())?;
+        check_two_bytes(alloc, "block_end", self.block_end.as_str())?;
+        check_two_bytes(alloc, "variable_start", self.variable_start.as_str())?;
+        check_two_bytes(alloc, "variable_end", self.variable_end.as_str())?;
+        check_two_bytes(alloc, "comment_start", self.comment_start.as_str())?;
+        check_two_bytes(alloc, "comment_end", self.comment_end.as_str())?;
+        let (block, variable) = (self.block_start.as_str(), self.variable_start.as_str());
+        let comment = self.comment_start.as_str();
+        check_differ(alloc, "block_start", block, "variable_start", variable)?;
+        check_differ(alloc, "block_start", block, "comment_start", comment)?;
+        check_differ(alloc, "variable_start", variable, "comment_start", comment)
+    }
+}
+
+// Whether the marker of this name is two bytes long.
+fn check_two_bytes(alloc: Global, name: &str, marker: &str) -> Result<(), Error>
+    ensures { Checks (two_bytes name.now marker.now) result }
+{
+    if marker.len() == 2 {
+        return Ok(());
+    }
+    match format!(in alloc; "`{name}` delimiter must be 2 bytes long") {
+        Ok(text) => Err(Error {
+            kind: ErrorKind::Message(text),
+        }),
+        Err(error) => Err(Error::from(error)),
+    }
+}
+
+// Whether the markers of these names differ.
+fn check_differ(
+    alloc: Global,
+    name: &str,
+    marker: &str,
+    other: &str,
+    value: &str,
+) -> Result<(), Error>
+    ensures { Checks (differ name.now marker.now other.now value.now) result }
+{
+    if marker != value {
+        return Ok(());
+    }
+    match format!(in alloc; "`{name}` and `{other}` cannot have the same value") {
+        Ok(text) => Err(Error {
+            kind: ErrorKind::Message(text),
+        }),
+        Err(error) => Err(Error::from(error)),
     }
 }
