@@ -1,7 +1,7 @@
 //! Errors with texts and spans.
 
 ghost use Rattle.std.specs.Prelude.{◌≡◌, IfOk, MatchResult, codes, string_bytes};
-ghost use Rattle.tera_base.specs.Errors.{IsMemory, Tells};
+ghost use Rattle.tera_base.specs.Errors.{IsMemory, Tells, HasNoNotes};
 
 use crate::utils::Span;
 use std::alloc::{AllocError, AllocFailed, Global};
@@ -74,20 +74,24 @@ impl Error {
         }
     }
 
-    /// A syntax error with this text and place, or `Memory` where the text finds none.
+    /// A syntax error with this text and place and no notes, or `Memory` where the text finds none.
     pub fn syntax_error(alloc: Global, text: &str, span: &Span) -> Error
-        ensures { Tells text.now span.now result }
+        ensures tells { Tells text.now span.now result }
+        ensures notes { HasNoNotes result }
     {
-        match String::from_str(alloc, text) {
-            Ok(message) => Error::reported(alloc, message, span),
-            Err(error) => Error::from(error),
-        }
+        Error::reported(alloc, String::from_str(alloc, text), span)
     }
 
-    /// A syntax error with this text and place, or `Memory` where it finds none.
-    pub fn reported(alloc: Global, message: String, span: &Span) -> Error
-        ensures { Tells (string_bytes message) span.now result }
+    /// A syntax error with this place and no notes, whose text was made, or `Memory` where it was not, or
+    /// where the error finds none.
+    pub fn reported(alloc: Global, message: Result<String, AllocError>, span: &Span) -> Error
+        ensures tells { MatchResult message (λ text. Tells (string_bytes text) span.now result) (λ _. IsMemory result) }
+        ensures notes { HasNoNotes result }
     {
+        let message = match message {
+            Ok(message) => message,
+            Err(error) => return Error::from(error),
+        };
         let report = ReportError {
             message,
             span: span.copied(),
@@ -108,7 +112,8 @@ impl ReportError {
     /// The end of the input, behind the token at this span: a syntax error that begins where the token
     /// ends, in whose range the token stands.
     pub fn unexpected_end_of_input(alloc: Global, span: &Span) -> Error
-        ensures { Tells (codes "Unexpected end of input") (end_of span.now) result }
+        ensures tells { Tells (codes "Unexpected end of input") (end_of span.now) result }
+        ensures notes { HasNoNotes result }
     {
         let end = Span {
             start_line: span.end_line,

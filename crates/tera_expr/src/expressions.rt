@@ -45,10 +45,7 @@ fn no_expression(alloc: Global, token: Token<'_>, span: &Span) -> Error
     let message = format!(in alloc;
         "Found {token} but expected one of: integer, string, bool, ident, `-`, `not`, `<`, `{{`, `[` or `(`"
     );
-    match message {
-        Ok(message) => Error::reported(alloc, message, span),
-        Err(error) => Error::from(error),
-    }
+    Error::reported(alloc, message, span)
 }
 
 // Whether the language has an expression that begins with the token.

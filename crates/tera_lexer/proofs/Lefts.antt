@@ -168,3 +168,10 @@ failed_is r over = rw over refl
 pub start_is : (m : Marks) (source : List ℕ) → left_of (start_of m source) ≡ left_outside m [] source
 unfolding left_of
 start_is m source = refl
+
+-- the tokens that are left at the start are those of the source, which are one list
+pub start_tokens : (m : Marks) → IsValid m → (source : List ℕ) (r : Reading) → r ≡ start_of m source → AreTokensOf m source (left_of r)
+start_tokens m valid source r start = rw (ap left_of start ∙ start_is m source) (tokens_stand m valid source)
+
+pub tokens_one : (m : Marks) → IsValid m → (source : List ℕ) (one other : Items) → AreTokensOf m source one → AreTokensOf m source other → one ≡ other
+tokens_one m valid source one other a b = tokens_found m valid source one a ∙ sym (tokens_found m valid source other b)

@@ -3,35 +3,22 @@ use Rattle.std.proofs.Common.{◌≡◌, ℕ, List, inl, inr, ⊎_elim, subst, s
 use Rattle.std.specs.Prelude.{codes}
 use Rattle.tera_lexer.specs.Place.{IsWithin}
 use Rattle.tera_lexer.specs.Tokens.{Tok, Items, Token}
-use Rattle.tera_base.specs.Errors.{KindTells, Tells, TellsBy, end_of}
+use Rattle.tera_base.specs.Errors.{Tells, end_of}
 use Rattle.tera_lexer.specs.Faults.{Faults}
 use Rattle.tera_lexer.specs.Cursors.{left, source_of, IsAt, FaultsFrom, RefusesFrom, IsLater, TellsAt}
 use Rattle.tera_base.specs.declared.utils.Span.{Span}
 use Rattle.tera_base.specs.declared.errors.Error.{Error}
-use Rattle.tera_base.specs.declared.errors.ErrorKind.{ErrorKind}
-use Rattle.tera_base.specs.declared.errors.ErrorKind.TheVariants.{Memory, Message, SyntaxError}
+use Rattle.tera_base.proofs.Tellings.{tells_weaker}
 use Rattle.tera_lexer.specs.declared.lexer.cursor.Cursor.{Cursor}
-
--- what is told may say less
-tells_by : (P Q : List ℕ → Span → Type 0) (k : ErrorKind) → ((text : List ℕ) (span : Span) → P text span → Q text span) → KindTells P k → KindTells Q k
-tells_by P Q Memory weaker told = tt
-tells_by P Q (Message s) weaker told = told
-tells_by P Q (SyntaxError b) weaker told = weaker _ b.value.span told
-
-pub tells_weaker : (P Q : List ℕ → Span → Type 0) (e : Error) → ((text : List ℕ) (span : Span) → P text span → Q text span) → TellsBy P e → TellsBy Q e
-tells_weaker P Q e weaker told = tells_by P Q e.kind weaker told
 
 -- a fault at the next token
 at_next : (t : Tok) (here span : Span) (items : Items) (text : List ℕ) → IsAt here span → Faults (Token t here items) text span
 at_next t here span items text at = inr (inl (at.0, inl at.1))
 
-within_by : (source : List ℕ) (here span : Span) → span.range ≡ here.range → IsWithin source here → IsWithin source span
-within_by source here span e within = rw e within
-
 pub token_refuses : (old : Cursor) (t : Tok) (here : Span) (items : Items) (e : Error) → left old ≡ Token t here items → IsWithin (source_of old) here → TellsAt here e → RefusesFrom old e
 token_refuses old t here items e is within told =
-    tells_weaker (λ text span. IsAt here span × (span.range ≡ here.range)) (λ text span. IsWithin (source_of old) span × FaultsFrom old.current_span (left old) text span) e
-    (λ text span at. (within_by (source_of old) here span at.1 within, inr (rw is (at_next t here span items text at.0)))) told
+    tells_weaker (λ text span. span ≡ here) (λ text span. IsWithin (source_of old) span × FaultsFrom old.current_span (left old) text span) e
+    (λ text span at. rw at (within, inr (rw is (at_next t here here items text (refl, (refl, refl, refl)))))) told
 
 -- the end of the input, at the token taken last
 pub end_refuses : (old : Cursor) (e : Error) → IsWithin (source_of old) old.current_span → Tells (codes "Unexpected end of input") (end_of old.current_span) e → RefusesFrom old e

@@ -1,6 +1,6 @@
 -- What a cursor takes, and which faults it meets.
-use Rattle.std.specs.Prelude.{◌≡◌, ◌⊎◌, ℕ, ◌+◌, List, Option, Some, None, Result, Ok, Err}
-use Rattle.tera_base.specs.Errors.{Tells, TellsBy}
+use Rattle.std.specs.Prelude.{◌≡◌, ◌⊎◌, ℕ, ◌+◌, List, Option, Some, None, Result, Ok, Err, codes}
+use Rattle.tera_base.specs.Errors.{Tells, TellsBy, end_of}
 use Rattle.tera_base.specs.declared.utils.Span.{Span}
 use Rattle.tera_base.specs.declared.errors.Error.{Error}
 use Rattle.tera_lexer.specs.Place.{IsWithin}
@@ -20,17 +20,15 @@ left c = left_of c.lexer
 abbrev pub source_of : Cursor → List ℕ
 source_of c = whole_of c.lexer
 
--- no token is left
-abbrev pub HasNone : Items → Type 0
-HasNone Ended = Unit {0}
-HasNone (Failed text span) = Unit {0}
-HasNone (toks.Token t span items) = ⊥
+-- the span before the first token
+abbrev pub nowhere : Span
+nowhere = record { start_line = 0; start_col = 0; end_line = 0; end_col = 0; range = record { start = 0; end = 0 } }
 
 -- a cursor took the next token; none was left; or the fault was told, after which none is left
 abbrev pub Takes : Cursor → Result (Option (Token × Span)) Error → Cursor → Type 0
 Takes old (Ok None) new = (left old ≡ Ended) × (new ≡ old)
 Takes old (Ok (Some p)) new = (left old ≡ toks.Token (seen p.0) p.1 (left new)) × (new.current_span ≡ p.1) × IsWithin (source_of old) p.1
-Takes old (Err e) new = (text : List ℕ) × (span : Span) × (left old ≡ Failed text span) × IsWithin (source_of old) span × Tells text span e
+Takes old (Err e) new = (text : List ℕ) × (span : Span) × (left old ≡ Failed text span) × (left new ≡ Ended) × IsWithin (source_of old) span × Tells text span e
 
 -- the range of the token at this span, with the place where it ends
 abbrev pub IsAt : Span → Span → Type 0
@@ -50,14 +48,20 @@ IsLater old new =
     (source_of new ≡ source_of old) × IsWithin (source_of old) new.current_span
     × ((text : List ℕ) (span : Span) → FaultsFrom new.current_span (left new) text span → FaultsFrom old.current_span (left old) text span)
 
--- a cursor took the next token, or none was left
+-- no token is left: the end of the input, behind the token at this span, or the fault is told
+abbrev pub TellsEnd : Span → Items → Error → Type 0
+TellsEnd last Ended e = Tells (codes "Unexpected end of input") (end_of last) e
+TellsEnd last (Failed text span) e = Tells text span e
+TellsEnd last (toks.Token t span items) e = ⊥
+
+-- a cursor took the next token, or told that there is none
 abbrev pub TakesOne : Cursor → Result (Token × Span) Error → Cursor → Type 0
-TakesOne old (Ok p) new = (left old ≡ toks.Token (seen p.0) p.1 (left new)) × IsWithin (source_of old) p.1
-TakesOne old (Err e) new = HasNone (left old)
+TakesOne old (Ok p) new = (left old ≡ toks.Token (seen p.0) p.1 (left new)) × (new.current_span ≡ p.1) × IsWithin (source_of old) p.1
+TakesOne old (Err e) new = TellsEnd old.current_span (left old) e
 
 -- a syntax error at this span, unless no memory was found
 abbrev pub TellsAt : Span → Error → Type 0
-TellsAt here e = TellsBy (λ text span. IsAt here span × (span.range ≡ here.range)) e
+TellsAt here e = TellsBy (λ text span. span ≡ here) e
 
 -- how many tokens are left
 abbrev pub size : Items → ℕ

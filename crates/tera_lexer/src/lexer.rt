@@ -1,3 +1,5 @@
+//! The parts of the lexer.
+
 pub mod cursor;
 pub mod delimiters;
 mod lexeme;

@@ -17,7 +17,8 @@ use Rattle.tera_base.specs.declared.utils.Span.{Span}
 use Rattle.tera_base.specs.declared.errors.Error.{Error}
 use Rattle.tera_lexer.specs.declared.lexer.cursor.Cursor.{Cursor}
 use Rattle.tera_tree.specs.declared.ast.Node.{Node}
-use Rattle.tera_lexer.proofs.Refusals.{tells_weaker, lift_faults}
+use Rattle.tera_base.proofs.Tellings.{tells_weaker}
+use Rattle.tera_lexer.proofs.Refusals.{lift_faults}
 use Rattle.tera_expr.proofs.Yields.{expression_size}
 use Rattle.tera_parser.proofs.Parsings.{yield_push, are_push, yield_faults, element_stands, no_body_behind}
 

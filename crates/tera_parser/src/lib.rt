@@ -17,7 +17,12 @@ pub mod ast {
     pub use tera_tree::{Expression, Node, Var};
 }
 
-/// The markers of a template.
+/// The markers of a template, its tokens, and the cursor over them.
 pub mod lexer {
-    pub use tera_lexer::Delimiters;
+    pub use tera_lexer::{Cursor, Delimiters, Lexer, Token};
+}
+
+/// The reading of expressions.
+pub mod expr {
+    pub use tera_expr::expression;
 }

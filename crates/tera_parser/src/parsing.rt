@@ -150,10 +150,8 @@ fn no_end(alloc: Global, token: Token<'_>, span: &Span) -> Error
     if goes_on(token) {
         return Error::syntax_error(alloc, "Not read yet", span);
     }
-    match format!(in alloc; "Found {token} but expected }}}}.") {
-        Ok(message) => Error::reported(alloc, message, span),
-        Err(error) => Error::from(error),
-    }
+    let message = format!(in alloc; "Found {token} but expected }}}}.");
+    Error::reported(alloc, message, span)
 }
 
 // Whether the language has an expression that goes on with the token, or an end of a tag with a dash.

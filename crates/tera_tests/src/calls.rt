@@ -42,6 +42,12 @@ fn errors(rt: HostRuntime) -> Result<(), Fail> {
     assert_eq!(rt; report.message.as_str(), "Unexpected end of input");
     assert_eq!(rt; (report.span.start_line, report.span.start_col), (3, 4));
     assert_eq!(rt; report.span.range, 5..6);
+    let told = Error::reported(rt.alloc(), String::from_str(rt.alloc(), "how"), &place());
+    let ErrorKind::SyntaxError(report) = told.kind else {
+        panic!(rt; "memory is left");
+    };
+    assert_eq!(rt; report.message.as_str(), "how");
+    assert_eq!(rt; report.span, place());
     Ok(())
 }
 

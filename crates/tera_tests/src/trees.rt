@@ -53,6 +53,26 @@ fn nothing_in_an_empty_source(rt: HostRuntime) -> Result<(), Fail> {
 }
 
 #[test]
+fn the_lines_of_the_names_that_a_program_asks_for(rt: HostRuntime) -> Result<(), Fail> {
+    let source = "Hi {{ name }}!\n{{ 12 }}{{ age }}";
+    let parser = Parser::new(rt.alloc(), "page.html", source, Delimiters::default());
+    let output = parser.parse()?;
+    let mut lines = Vec::new(rt.alloc());
+    for node in &output.nodes {
+        if let Node::Expression(Expression::Var(variable)) = node {
+            let name = String::from_str(rt.alloc(), variable.node().name.as_str())?;
+            lines.push((name, variable.span().start_line))?;
+        }
+    }
+    assert_eq!(rt; lines.len(), 2);
+    let (name, line) = &lines[0];
+    assert_eq!(rt; (name.as_str(), *line), ("name", 1));
+    let (name, line) = &lines[1];
+    assert_eq!(rt; (name.as_str(), *line), ("age", 2));
+    Ok(())
+}
+
+#[test]
 fn the_end_of_the_input(rt: HostRuntime) -> Result<(), Fail> {
     let parser = Parser::new(rt.alloc(), "page", "a\n{{ bc ", Delimiters::default());
     let Err(error) = parser.parse() else {

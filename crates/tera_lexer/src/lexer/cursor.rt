@@ -18,11 +18,12 @@ pub struct Cursor<'a> {
 }
 
 impl<'a> Cursor<'a> {
-    ghost use Rattle.tera_lexer.specs.Cursors.{left, source_of, Takes, TakesOne, IsLater, RefusesFrom};
+    ghost use Rattle.tera_lexer.specs.Cursors.{left, source_of, nowhere, Takes, TakesOne, IsLater, RefusesFrom};
 
     /// A cursor before the next token of the lexer.
     pub fn new(alloc: Global, lexer: Lexer<'a>) -> Cursor<'a>
-        ensures { result.lexer ≡ lexer.entry }
+        ensures lexer { result.lexer ≡ lexer.entry }
+        ensures span { result.current_span ≡ nowhere }
     {
         Cursor {
             alloc,
@@ -44,7 +45,7 @@ impl<'a> Cursor<'a> {
         Ok(Some((token, span)))
     }
 
-    /// Takes the next token, where one has to come.
+    /// Takes the next token, where one has to come: that none does is the end of the input.
     pub fn next_or_eoi(&mut self) -> Result<(Token<'a>, Span), Error>
         requires { IsWithin (source_of self.old) self.old.current_span }
         ensures takes { TakesOne self.old result self.new }

@@ -77,12 +77,10 @@ fn check_two_bytes(alloc: Global, name: &str, marker: &str) -> Result<(), Error>
     if marker.len() == 2 {
         return Ok(());
     }
-    match format!(in alloc; "`{name}` delimiter must be 2 bytes long") {
-        Ok(text) => Err(Error {
-            kind: ErrorKind::Message(text),
-        }),
-        Err(error) => Err(Error::from(error)),
-    }
+    let text = format!(in alloc; "`{name}` delimiter must be 2 bytes long")?;
+    Err(Error {
+        kind: ErrorKind::Message(text),
+    })
 }
 
 // Whether the markers of these names differ.
@@ -98,10 +96,8 @@ fn check_differ(
     if marker != value {
         return Ok(());
     }
-    match format!(in alloc; "`{name}` and `{other}` cannot have the same value") {
-        Ok(text) => Err(Error {
-            kind: ErrorKind::Message(text),
-        }),
-        Err(error) => Err(Error::from(error)),
-    }
+    let text = format!(in alloc; "`{name}` and `{other}` cannot have the same value")?;
+    Err(Error {
+        kind: ErrorKind::Message(text),
+    })
 }

@@ -6,8 +6,8 @@ ghost use Rattle.std.specs.Str.{IsCharBoundary};
 ghost use Rattle.tera_lexer.specs.Marks.{marks_of, IsValid};
 ghost use Rattle.tera_lexer.specs.Place.{span_of, IsWithin};
 ghost use Rattle.tera_lexer.specs.Lexeme.{StopsAt};
-ghost use Rattle.tera_lexer.specs.Left.{start_of};
-ghost use Rattle.tera_lexer.specs.Tokens.{not_read};
+ghost use Rattle.tera_lexer.specs.Left.{start_of, left_of};
+ghost use Rattle.tera_lexer.specs.Tokens.{not_read, AreTokensOf};
 ghost use Rattle.tera_base.specs.Errors.{Tells};
 ghost use Rattle.tera_lexer.specs.Steps.{Steps, whole_of};
 ghost use Rattle.tera_lexer.specs.StateView.{is_in_tag};
@@ -55,7 +55,8 @@ impl<'a> Lexer<'a> {
     /// A lexer before the first token of the source.
     pub fn new(alloc: Global, source: &'a str, delimiters: Delimiters) -> Lexer<'a>
         requires { IsValid (marks_of delimiters) }
-        ensures { result ≡ start_of (marks_of delimiters) source.now }
+        ensures start { result ≡ start_of (marks_of delimiters) source.now }
+        ensures tokens { AreTokensOf (marks_of delimiters) source.now (left_of result) }
     {
         Lexer {
             source,

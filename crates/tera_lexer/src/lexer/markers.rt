@@ -13,7 +13,7 @@ use crate::lexer::delimiters::Delimiters;
 pub(crate) fn dash_len(dash: bool) -> usize
     ensures { result ≡ length (dash_bytes dash) }
 {
-    if dash { 1 } else { 0 }
+    usize::from(dash)
 }
 
 /// Whether the marker begins the text, which may then be cut behind it.
