@@ -1,23 +1,14 @@
 -- What tokens are read as, as an expression, and that they are read as nothing else.
-use Rattle.std.proofs.Common.{◌≡◌, ◌<◌, ℕ, Bool, true, false, List, Some, None, subst, sym, refl, arith}
+use Rattle.std.proofs.Common.{◌≡◌, ◌<◌, ℕ, true, false, List, Option, Some, None, ⊎_elim, subst, sym, refl, ap, arith}
+use Rattle.std.proofs.lemmas.Bool.{cases_Bool}
 use Rattle.tera_base.specs.declared.utils.Span.{Span}
 use Rattle.tera_lexer.specs.Tokens as toks
 use Rattle.tera_lexer.specs.Tokens.{Tok, Items, Ended, Failed, Token}
 use Rattle.tera_lexer.specs.Faults.{Faults}
 use Rattle.tera_lexer.specs.Cursors.{size}
 use Rattle.tera_lexer.proofs.Refusals.{later_faults}
-use Rattle.tera_expr.specs.Concrete.{Concrete, Number, Quoted, Name, is_word, IsExpression, expression_yield}
-use Rattle.tera_expr.specs.Reading.{expression_of}
-
--- the token, the span and the rest of equal items
-pub tok_same : {t u : Tok} {s r : Span} {is js : Items} → Token t s is ≡ Token u r js → t ≡ u
-tok_same e = cc
-
-pub span_same : {t u : Tok} {s r : Span} {is js : Items} → Token t s is ≡ Token u r js → s ≡ r
-span_same e = cc
-
-pub rest_same : {t u : Tok} {s r : Span} {is js : Items} → Token t s is ≡ Token u r js → is ≡ js
-rest_same e = cc
+use Rattle.tera_expr.specs.Concrete.{Concrete, Number, Quoted, Escaped, Truth, Nothing, Name, is_none, is_not, IsExpression, token_of, place_of, expression_yield}
+use Rattle.tera_expr.specs.Reading.{named, atom_of, with_rest, expression_of}
 
 -- the value of equal options
 pub some_same : {A : Type 0} {a b : A} → Some a ≡ Some b → a ≡ b
@@ -32,52 +23,69 @@ first_same e = λ i. (some_same e i).0
 pub second_same : {A B : Type 0} {p q : A × B} → Some p ≡ Some q → p.1 ≡ q.1
 second_same e = λ i. (some_same e i).1
 
--- the tokens of an expression are read as it
+-- the token of an expression is read as it
+pub atom_found : (c : Concrete) → IsExpression c → atom_of (token_of c) (place_of c) ≡ Some c
+atom_found (Number n span) is = refl
+atom_found (Quoted text span) is = refl
+atom_found (Escaped text span) is = refl
+atom_found (Truth b span) is = refl
+atom_found (Nothing word span) is = rw is refl
+atom_found (Name name span) is = rw (is.0, is.1) refl
+
 pub expression_found : (c : Concrete) (rest : Items) → IsExpression c → expression_of (expression_yield c rest) ≡ Some (c, rest)
-expression_found (Number n span) rest is = refl
-expression_found (Quoted text span) rest is = refl
-expression_found (Name name span) rest is = rw is refl
+expression_found c rest is = ap (with_rest rest) (atom_found c is)
 
-pub name_stands : (name : List ℕ) (span : Span) (items : Items) (c : Concrete) (rest : Items) → (b : Bool) → is_word name ≡ b
-    → expression_of (Token (toks.Ident name) span items) ≡ Some (c, rest) → IsExpression c × (Token (toks.Ident name) span items ≡ expression_yield c rest)
-name_stands name span items c rest true is e = absurd (none_some (sym (rw is at e)))
-name_stands name span items c rest false is e =
-    let h : Some (Name name span, items) ≡ Some (c, rest) = rw is at e in
-    (subst IsExpression (first_same h) is, λ i. expression_yield (first_same h i) (second_same h i))
+-- what is read as an expression is its token
+pub record Stands (t : Tok) (span : Span) (c : Concrete) : Type 0 where
+  pub is : IsExpression c
+  pub token : t ≡ token_of c
+  pub place : span ≡ place_of c
 
--- what is read as an expression is its tokens
+named_stands : (name : List ℕ) (span : Span) (c : Concrete) → named name span ≡ Some c → Stands (toks.Ident name) span c
+named_stands name span c e =
+    ⊎_elim
+    (λ (none : is_none name ≡ true).
+    let h : Some (Nothing name span) ≡ Some c = rw none at e in
+    subst (Stands (toks.Ident name) span) (some_same h) (record { is = none; token = refl; place = refl }))
+    (λ (some : is_none name ≡ false). ⊎_elim
+    (λ (negation : is_not name ≡ true).
+    let h : None ≡ Some c = rw (some, negation) at e in
+    absurd (none_some (sym h)))
+    (λ (plain : is_not name ≡ false).
+    let h : Some (Name name span) ≡ Some c = rw (some, plain) at e in
+    subst (Stands (toks.Ident name) span) (some_same h) (record { is = (some, plain); token = refl; place = refl }))
+    (cases_Bool (is_not name)))
+    (cases_Bool (is_none name))
+
+pub atom_stands : (t : Tok) (span : Span) (c : Concrete) → atom_of t span ≡ Some c → Stands t span c
+atom_stands (toks.Integer n) span c e = subst (Stands (toks.Integer n) span) (some_same e) (record { is = tt; token = refl; place = refl })
+atom_stands (toks.Str text) span c e = subst (Stands (toks.Str text) span) (some_same e) (record { is = tt; token = refl; place = refl })
+atom_stands (toks.Escaped text) span c e = subst (Stands (toks.Escaped text) span) (some_same e) (record { is = tt; token = refl; place = refl })
+atom_stands (toks.Truth b) span c e = subst (Stands (toks.Truth b) span) (some_same e) (record { is = tt; token = refl; place = refl })
+atom_stands (toks.Ident name) span c e = named_stands name span c e
+atom_stands (toks.Content text) span c e = absurd (none_some (sym e))
+atom_stands (toks.RawContent dash text end) span c e = absurd (none_some (sym e))
+atom_stands (toks.Remark dash end) span c e = absurd (none_some (sym e))
+atom_stands (toks.Start kind dash) span c e = absurd (none_some (sym e))
+atom_stands (toks.Finish kind dash) span c e = absurd (none_some (sym e))
+atom_stands (toks.Symbol op) span c e = absurd (none_some (sym e))
+
+rest_stands : (t : Tok) (span : Span) (items : Items) (o : Option Concrete) → atom_of t span ≡ o → (c : Concrete) (rest : Items) → with_rest items o ≡ Some (c, rest)
+    → IsExpression c × (Token t span items ≡ expression_yield c rest)
+rest_stands t span items None is c rest e = absurd (none_some (sym e))
+rest_stands t span items (Some d) is c rest e =
+    let stands = subst (Stands t span) (first_same e) (atom_stands t span d is) in
+    (stands.is, λ i. Token (stands.token i) (stands.place i) (second_same e i))
+
 pub expression_stands : (items : Items) (c : Concrete) (rest : Items) → expression_of items ≡ Some (c, rest) → IsExpression c × (items ≡ expression_yield c rest)
-expression_stands Ended c rest e = cc
-expression_stands (Failed text span) c rest e = cc
-expression_stands (Token (toks.Content text) span items) c rest e = cc
-expression_stands (Token (toks.Start dash) span items) c rest e = cc
-expression_stands (Token (toks.Finish dash) span items) c rest e = cc
-expression_stands (Token (toks.Truth b) span items) c rest e = cc
-expression_stands (Token (toks.Symbol op) span items) c rest e = cc
-expression_stands (Token (toks.Ident name) span items) c rest e = name_stands name span items c rest (is_word name) refl e
-expression_stands (Token (toks.Str text) span items) c rest e = (subst IsExpression (first_same e) tt, λ i. expression_yield (first_same e i) (second_same e i))
-expression_stands (Token (toks.Integer n) span items) c rest e = (subst IsExpression (first_same e) tt, λ i. expression_yield (first_same e i) (second_same e i))
-
--- an expression is told by its tokens
-pub expression_same : (c d : Concrete) (is js : Items) → expression_yield c is ≡ expression_yield d js → (c ≡ d) × (is ≡ js)
-expression_same (Number n s) (Number k r) is js e = (cc, cc)
-expression_same (Number n s) (Quoted t r) is js e = cc
-expression_same (Number n s) (Name t r) is js e = cc
-expression_same (Quoted t s) (Number k r) is js e = cc
-expression_same (Quoted t s) (Quoted u r) is js e = (cc, cc)
-expression_same (Quoted t s) (Name u r) is js e = cc
-expression_same (Name t s) (Number k r) is js e = cc
-expression_same (Name t s) (Quoted u r) is js e = cc
-expression_same (Name t s) (Name u r) is js e = (cc, cc)
+expression_stands Ended c rest e = absurd (none_some (sym e))
+expression_stands (Failed text span) c rest e = absurd (none_some (sym e))
+expression_stands (Token t span items) c rest e = rest_stands t span items (atom_of t span) refl c rest e
 
 -- a fault behind an expression is one of all its tokens
 pub expression_faults : (c : Concrete) (items : Items) (text : List ℕ) (span : Span) → Faults items text span → Faults (expression_yield c items) text span
-expression_faults (Number n s) items text span f = later_faults (toks.Integer n) s items text span f
-expression_faults (Quoted t s) items text span f = later_faults (toks.Str t) s items text span f
-expression_faults (Name t s) items text span f = later_faults (toks.Ident t) s items text span f
+expression_faults c items text span f = later_faults (token_of c) (place_of c) items text span f
 
 -- behind an expression fewer tokens are left
 pub expression_size : (c : Concrete) (items : Items) → size items < size (expression_yield c items)
-expression_size (Number n s) items = omega arith
-expression_size (Quoted t s) items = omega arith
-expression_size (Name t s) items = omega arith
+expression_size c items = omega arith

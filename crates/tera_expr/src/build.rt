@@ -1,6 +1,6 @@
 //! Makes expressions.
 
-ghost use Rattle.std.specs.Prelude.{◌≡◌, IfOk};
+ghost use Rattle.std.specs.Prelude.{◌≡◌, IfOk, string_bytes};
 ghost use Rattle.tera_tree.specs.Tree as tree;
 ghost use Rattle.tera_tree.specs.Tree.{expression_view};
 
@@ -21,6 +21,27 @@ pub(crate) fn text(alloc: Global, text: &str, span: Span) -> Result<Expression, 
 {
     let value = Value::String(String::from_str(alloc, text)?);
     Ok(Expression::Const(Spanned::new(alloc, value, span)?))
+}
+
+/// A text that was made, which stands at the span.
+pub(crate) fn string(alloc: Global, text: String, span: Span) -> Result<Expression, AllocError>
+    ensures { IfOk result (λ e. expression_view e ≡ tree.Const (tree.Text (string_bytes text)) span) }
+{
+    Ok(Expression::Const(Spanned::new(alloc, Value::String(text), span)?))
+}
+
+/// A truth that stands at the span.
+pub(crate) fn truth(alloc: Global, b: bool, span: Span) -> Result<Expression, AllocError>
+    ensures { IfOk result (λ e. expression_view e ≡ tree.Const (tree.Truth b) span) }
+{
+    Ok(Expression::Const(Spanned::new(alloc, Value::Bool(b), span)?))
+}
+
+/// No value, at the span.
+pub(crate) fn none(alloc: Global, span: Span) -> Result<Expression, AllocError>
+    ensures { IfOk result (λ e. expression_view e ≡ tree.Const tree.Nothing span) }
+{
+    Ok(Expression::Const(Spanned::new(alloc, Value::None, span)?))
 }
 
 /// A variable whose name stands at the span.

@@ -1,9 +1,8 @@
 //! Expressions.
 
 ghost use Rattle.std.specs.Prelude.{◌≡◌, IfOk, IfErr};
-ghost use Rattle.tera_lexer.specs.Place.{IsWithin};
-ghost use Rattle.tera_expr.specs.Concrete.{is_word};
-ghost use Rattle.tera_lexer.specs.Cursors.{IsLater, RefusesFrom, TellsAt, source_of};
+ghost use Rattle.tera_expr.specs.Concrete.{is_none, is_not};
+ghost use Rattle.tera_lexer.specs.Cursors.{IsLater, RefusesFrom, TellsAt};
 ghost use Rattle.tera_expr.specs.Gives.{GivesExpression};
 
 use crate::build;
@@ -12,9 +11,22 @@ use tera_base::{Error, Span};
 use tera_lexer::{Cursor, Token};
 use tera_tree::Expression;
 
+/// Where an expression stands.
+#[derive(Clone, Copy, Debug, PartialEq, Eq)]
+pub struct Scope {
+    /// Whether it stands in the body of a loop, or is what a loop goes over.
+    pub in_loop: bool,
+}
+
 /// Reads an expression.
-pub fn expression(alloc: Global, cursor: &mut Cursor<'_>) -> Result<Expression, Error>
-    requires { IsWithin (source_of cursor.old) cursor.old.current_span }
+///
+/// An error is the lexical fault, the end of the input, a syntax error at the first token that no expression
+/// has there, or `Memory`. After an error the cursor is not used again.
+pub fn expression(
+    alloc: Global,
+    cursor: &mut Cursor<'_>,
+    _scope: Scope,
+) -> Result<Expression, Error>
     ensures gives { GivesExpression cursor.old result cursor.new }
     ensures refusal { IfErr result (RefusesFrom cursor.old) }
     ensures later { IfOk result (λ _. IsLater cursor.old cursor.new) }
@@ -23,20 +35,30 @@ pub fn expression(alloc: Global, cursor: &mut Cursor<'_>) -> Result<Expression, 
     match token {
         Token::Integer(n) => Ok(build::integer(alloc, n, span)?),
         Token::Str(text) => Ok(build::text(alloc, text, span)?),
-        Token::Ident(name) if !is_word(name) => Ok(build::variable(alloc, name, span)?),
-        _ => Err(no_expression(alloc, token, &span)),
+        Token::String(text) => Ok(build::string(alloc, text, span)?),
+        Token::Bool(b) => Ok(build::truth(alloc, b, span)?),
+        Token::Ident(name) if is_none(name) => Ok(build::none(alloc, span)?),
+        Token::Ident(name) if !is_not(name) => Ok(build::variable(alloc, name, span)?),
+        _ => Err(no_expression(alloc, &token, &span)),
     }
 }
 
-// Whether the name is the negation or a word for no value, which no variable has.
-fn is_word(name: &str) -> bool
-    ensures { result ≡ is_word name.now }
+// Whether the name is a word for no value.
+fn is_none(name: &str) -> bool
+    ensures { result ≡ is_none name.now }
 {
-    name == "not" || name == "none" || name == "None" || name == "null"
+    name == "none" || name == "None" || name == "null"
+}
+
+// Whether the name is the negation.
+fn is_not(name: &str) -> bool
+    ensures { result ≡ is_not name.now }
+{
+    name == "not"
 }
 
 // The fault of a token at which no expression is read.
-fn no_expression(alloc: Global, token: Token<'_>, span: &Span) -> Error
+fn no_expression(alloc: Global, token: &Token<'_>, span: &Span) -> Error
     ensures { TellsAt span.now result }
 {
     if begins_expression(token) {
@@ -48,14 +70,11 @@ fn no_expression(alloc: Global, token: Token<'_>, span: &Span) -> Error
     Error::reported(alloc, message, span)
 }
 
-// Whether the language has an expression that begins with the token.
-fn begins_expression(token: Token<'_>) -> bool {
+// Whether the language has an expression that begins with the token and is not read yet.
+fn begins_expression(token: &Token<'_>) -> bool {
     matches!(
         token,
-        Token::Integer(_)
-            | Token::Str(_)
-            | Token::Bool(_)
-            | Token::Ident(_)
+        Token::Ident(_)
             | Token::Minus
             | Token::LessThan
             | Token::LeftBrace

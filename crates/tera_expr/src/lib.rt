@@ -4,4 +4,4 @@
 mod build;
 mod expressions;
 
-pub use expressions::expression;
+pub use expressions::{Scope, expression};

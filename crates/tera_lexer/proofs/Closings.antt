@@ -10,11 +10,11 @@ use Rattle.tera_lexer.specs.Front.{string_at, with_inner, closing_at, more}
 use Rattle.tera_lexer.proofs.Strings.{IsStringAt, string_stands}
 
 -- so many bytes further
-pub further : ℕ → Option ℕ → Option ℕ
+unfoldable pub further : ℕ → Option ℕ → Option ℕ
 further i None = None
 further i (Some n) = Some (i + n)
 
-further_more : (i : ℕ) (o : Option ℕ) → further i (more o) ≡ further (i + 1) o
+pub further_more : (i : ℕ) (o : Option ℕ) → further i (more o) ≡ further (i + 1) o
 unfolding further
 further_more i None = refl
 further_more i (Some n) = ap Some (omega arith)
@@ -24,7 +24,7 @@ unfolding further
 further_none None = refl
 further_none (Some n) = ap Some (omega arith)
 
-not_equal : (a b : ℕ) → a ≢ b → (a == b) ≡ false
+pub not_equal : (a b : ℕ) → a ≢ b → (a == b) ≡ false
 not_equal a b other = ⊎_elim (λ same. absurd (other (eqb-true a b same))) (λ no. no) (cases_Bool (a == b))
 
 module _ (quote : ℕ) (bytes : List ℕ) (i : ℕ) (lt : i < length bytes) where

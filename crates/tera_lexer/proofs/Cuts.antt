@@ -1,5 +1,5 @@
 -- Where a text may be cut.
-use Rattle.std.proofs.Common.{◌≡◌, ℕ, zero, suc, ◌+◌, ◌<◌, ◌≤◌, Bool, true, List, [], ◌∷◌, ◌++◌, length, take, get_or, subst, sym, refl, ap, ◌∙◌, arith, append_assoc, IsUtf8}
+use Rattle.std.proofs.Common.{◌≡◌, ℕ, zero, suc, ◌+◌, ◌<◌, ◌≤◌, Bool, true, false, List, [], ◌∷◌, ◌++◌, length, take, get_or, subst, sym, refl, ap, ◌∙◌, arith, append_assoc, IsUtf8}
 use Rattle.std.specs.List.{AllByRecursion, prefix_len}
 use Rattle.std.specs.Str.{IsCharBoundary, IsAscii}
 use Rattle.std.specs.Char.{is_ascii_digit, is_ascii_whitespace}
@@ -7,7 +7,8 @@ use Rattle.std.proofs.lemmas.Bool.Decides.{nat_tests}
 use Rattle.std.proofs.lemmas.List.{take_at, length-append, get_or_at}
 use Rattle.std.proofs.lemmas.List.Folds.{length-prefix_len}
 use Rattle.std.proofs.lemmas.Str.{IsUtf8-from_ascii, IsCharBoundary-from_take, IsCharBoundary-after_ascii, IsCharBoundary-before_ascii}
-use Rattle.tera_lexer.specs.Lexeme.{begins_name, goes_on_name, is_quote, Inner, written, quoted, Name, Number, Quoted, Operator, spelled, Unexpected, Unclosed, Escaped, TooGreat, Float, told}
+use Rattle.tera_lexer.specs.Marks.{dash_bytes}
+use Rattle.tera_lexer.specs.Lexeme.{begins_name, goes_on_name, is_quote, Inner, written, quoted, Name, Number, Quoted, Operator, spelled, Unexpected, Unclosed, UnknownEscape, TooGreat, Float, told}
 use Rattle.tera_lexer.specs.Front.{Front, Reads, Breaks, run_of, behind_run}
 use Rattle.tera_lexer.proofs.Runs.{run_stands, run_splits}
 use Rattle.tera_lexer.proofs.Operators.{operator_ascii}
@@ -28,11 +29,11 @@ begin_ascii b h = grind (arith, nat_tests)
 pub quote_ascii : (b : ℕ) → is_quote b ≡ true → b < 128
 quote_ascii b h = grind (arith, nat_tests)
 
-all_weaker : (P Q : ℕ → Type 0) (xs : List ℕ) → ((x : ℕ) → P x → Q x) → AllByRecursion P xs → AllByRecursion Q xs
+pub all_weaker : (P Q : ℕ → Type 0) (xs : List ℕ) → ((x : ℕ) → P x → Q x) → AllByRecursion P xs → AllByRecursion Q xs
 all_weaker P Q [] f all = tt
 all_weaker P Q (x ∷ xs) f all = (f x all.0, all_weaker P Q xs f all.1)
 
-all_append : (P : ℕ → Type 0) (xs ys : List ℕ) → AllByRecursion P xs → AllByRecursion P ys → AllByRecursion P (xs ++ ys)
+pub all_append : (P : ℕ → Type 0) (xs ys : List ℕ) → AllByRecursion P xs → AllByRecursion P ys → AllByRecursion P (xs ++ ys)
 all_append P [] ys all all' = all'
 all_append P (x ∷ xs) ys all all' = (all.0, all_append P xs ys all.1 all')
 
@@ -40,6 +41,11 @@ ascii_from_all : (xs : List ℕ) → AllByRecursion (λ b. b < 128) xs → IsAsc
 ascii_from_all [] all i = omega arith
 ascii_from_all (x ∷ xs) all zero = all.0
 ascii_from_all (x ∷ xs) all (suc i) = ascii_from_all xs all.1 i
+
+-- a dash is ASCII
+pub dash_ascii : (dash : Bool) → AllByRecursion (λ b. b < 128) (dash_bytes dash)
+dash_ascii true = (omega arith, tt)
+dash_ascii false = tt
 
 -- a text may be cut behind ASCII
 pub cut_behind_ascii : (bytes front rest : List ℕ) → IsUtf8 bytes → bytes ≡ front ++ rest → AllByRecursion (λ b. b < 128) front → IsCharBoundary bytes (length front)
@@ -91,7 +97,7 @@ front_cut bytes (Reads (Quoted quote is) rest) utf8 (e, q) = string_cut quote is
 front_cut bytes (Reads (Operator op) rest) utf8 (e, is) = cut_behind_ascii bytes op rest utf8 e (operator_ascii (op ++ rest) op is)
 front_cut bytes (Breaks Unexpected) utf8 here = none_cut bytes utf8
 front_cut bytes (Breaks (Unclosed quote)) utf8 here = none_cut bytes utf8
-front_cut bytes (Breaks (Escaped quote is)) utf8 (rest, e, q, escape) = string_cut quote is rest bytes utf8 q.0 e
+front_cut bytes (Breaks (UnknownEscape quote is)) utf8 (rest, e, q, escape) = string_cut quote is rest bytes utf8 q.0 e
 front_cut bytes (Breaks (TooGreat b bs)) utf8 (rest, e, digits, no_point, high) = cut_behind_ascii bytes (b ∷ bs) rest utf8 e (digit_ascii b digits.0, digits_ascii bs digits.1.0)
 front_cut bytes (Breaks (Float b bs more)) utf8 (rest, e, digit, all, run) =
     let regrouped : bytes ≡ (b ∷ (bs ++ 46 ∷ more)) ++ rest = e ∙ ap (λ l. b ∷ l) (sym (append_assoc bs (46 ∷ more) rest)) in

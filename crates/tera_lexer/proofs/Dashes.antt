@@ -1,7 +1,6 @@
 -- Markers with their dashes.
-use Rattle.std.proofs.Common.{◌≡◌, ℕ, ◌+◌, ◌<◌, Bool, true, false, ◌&&◌, List, [], ◌∷◌, ◌++◌, length, drop, Some, subst, ⊎_elim, sym, refl, ap, ◌∙◌, arith, IsUtf8}
+use Rattle.std.proofs.Common.{◌≡◌, ℕ, ◌+◌, Bool, true, false, ◌&&◌, List, [], ◌∷◌, ◌++◌, length, drop, Some, subst, ⊎_elim, sym, refl, ap, ◌∙◌, arith, IsUtf8}
 use Rattle.std.specs.Prelude.{◌==◌}
-use Rattle.std.specs.List.{AllByRecursion}
 use Rattle.std.specs.Bool.{OnTrue}
 use Rattle.std.specs.Str.{IsCharBoundary}
 use Rattle.std.proofs.lemmas.Bool.{cases_Bool}
@@ -11,13 +10,8 @@ use Rattle.std.proofs.lemmas.Str.Ascii.{IsAscii-cons}
 use Rattle.tera_lexer.specs.Marks.{begins, dash_bytes, TakesDash}
 use Rattle.tera_lexer.specs.Front.{behind_dash}
 use Rattle.tera_lexer.specs.Markers.{marker_len, IsStartOf, IsEndOf}
-use Rattle.tera_lexer.proofs.Markers.{begins_splits, marker_cut}
-use Rattle.tera_lexer.proofs.Divisions.{dash_stands}
-use Rattle.tera_lexer.proofs.Cuts.{cut_behind_ascii}
-
-dash_ascii : (dash : Bool) → AllByRecursion (λ b. b < 128) (dash_bytes dash)
-dash_ascii true = (omega arith, tt)
-dash_ascii false = tt
+use Rattle.tera_lexer.proofs.Markers.{begins_splits, marker_cut, dash_stands}
+use Rattle.tera_lexer.proofs.Cuts.{cut_behind_ascii, dash_ascii}
 
 -- a start marker is found with its dash
 pub start_found : (marker rest behind : List ℕ) (dash : Bool) → IsUtf8 rest → IsUtf8 behind → IsCharBoundary rest (length marker) → begins marker rest ≡ true → behind ≡ drop (length marker) rest → dash ≡ begins (45 ∷ []) behind

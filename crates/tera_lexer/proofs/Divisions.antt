@@ -1,47 +1,20 @@
 -- Every source has a division, and only one.
-use Rattle.std.proofs.Common.{◌≡◌, ◌≢◌, ℕ, zero, suc, ◌<◌, ◌≤◌, Bool, true, false, ◌||◌, List, [], ◌∷◌, ◌++◌, length, take, drop, ⊎_elim, inl, inr, ap, sym, ◌∙◌, refl, subst, arith}
-use Rattle.std.specs.Prelude.{◌⊎◌}
+use Rattle.std.proofs.Common.{◌≡◌, ◌≢◌, ℕ, zero, suc, ◌<◌, Bool, true, false, ◌||◌, List, [], ◌∷◌, ◌++◌, length, take, drop, Option, Some, None, ⊎_elim, ap, sym, ◌∙◌, refl, arith}
 use Rattle.std.proofs.lemmas.Bool.{cases_Bool, false_from_ne_true}
-use Rattle.std.proofs.lemmas.List.{drop_at, take_at, length-append, length-drop, take-append-drop}
-use Rattle.tera_lexer.specs.Marks.{Marks, IsValid, begins, NowhereIn, dash_bytes, TakesDash}
+use Rattle.std.proofs.lemmas.List.{drop_at, take_at, length-append}
+use Rattle.tera_lexer.specs.Marks.{Marks, IsValid, start_marker, end_marker, begins, NowhereIn, dash_bytes}
 use Rattle.tera_lexer.specs.Lexeme.{Item, Close, End, Open, Bad, IsInside}
-use Rattle.tera_lexer.specs.Division.{is_at_start, EndsText, Piece, Text, Tag, Ending, Nothing, OpenTag, BadTag, Unread, Starts, IsDivision}
-use Rattle.tera_lexer.specs.Front.{inside_of, tag_step, text_len, text_step, behind_marker, behind_dash, division_by}
-use Rattle.tera_lexer.proofs.Markers.{begins_splits, splits_begins, or_false}
-use Rattle.tera_lexer.proofs.Insides.{inside_stands, inside_found, end_shortens}
-
--- a text before the next start marker stands there, and is found
-text_stands : (m : Marks) (bytes : List ℕ) → NowhereIn (is_at_start m) (take (text_len m bytes) bytes) (drop (text_len m bytes) bytes) × EndsText m (drop (text_len m bytes) bytes)
-text_stands m [] = (tt, tt)
-text_stands m (b ∷ bs) =
-    ⊎_elim
-    (λ here. rw here (tt, here))
-    (λ other. rw other (let rec = text_stands m bs in ((subst (λ l. is_at_start m (b ∷ l) ≡ false) (sym (take-append-drop (text_len m bs) bs)) other, rec.0), rec.1)))
-    (cases_Bool (is_at_start m (b ∷ bs)))
-
-text_length : (m : Marks) (text rest : List ℕ) → NowhereIn (is_at_start m) text rest → EndsText m rest → text_len m (text ++ rest) ≡ length text
-text_length m [] [] none ends = refl
-text_length m [] (b ∷ bs) none ends = rw ends refl
-text_length m (b ∷ bs) rest none ends = rw none.0 (ap suc (text_length m bs rest none.1 ends))
-
--- a start marker with its dash
-pub dash_stands : (behind : List ℕ) → (behind ≡ dash_bytes (begins (45 ∷ []) behind) ++ behind_dash behind) × TakesDash (begins (45 ∷ []) behind) (behind_dash behind)
-dash_stands behind =
-    ⊎_elim
-    (λ dashed. rw dashed (begins_splits (45 ∷ []) behind dashed, tt))
-    (λ no_dash. rw no_dash (refl, no_dash))
-    (cases_Bool (begins (45 ∷ []) behind))
-
-marker_stands : (marker bytes : List ℕ) → begins marker bytes ≡ true → Starts marker (begins (45 ∷ []) (behind_marker marker bytes)) bytes (behind_dash (behind_marker marker bytes))
-marker_stands marker bytes starts =
-    let dash = dash_stands (behind_marker marker bytes) in (begins_splits marker bytes starts ∙ ap (λ l. marker ++ l) dash.0, dash.1)
-
-dash_found : (dash : Bool) (inside : List ℕ) → TakesDash dash inside → (begins (45 ∷ []) (dash_bytes dash ++ inside) ≡ dash) × (behind_dash (dash_bytes dash ++ inside) ≡ inside)
-dash_found true inside takes = (refl, refl)
-dash_found false inside takes = (takes, rw takes refl)
-
-behind_is : (marker bytes rest : List ℕ) → bytes ≡ marker ++ rest → behind_marker marker bytes ≡ rest
-behind_is marker bytes rest e = ap (drop (length marker)) e ∙ drop_at marker rest (length marker) refl
+use Rattle.tera_lexer.specs.Raw.{WordTag, word_tag_bytes, raw_word, endraw_word, OpensRaw}
+use Rattle.tera_lexer.specs.Division.{is_at_start, EndsText, Piece, Text, Comment, Raw, Tag, Ending, Nothing, OpenTag, BadTag, OpenRaw, OpenComment, Starts, OpensTag, IsDivision}
+use Rattle.tera_lexer.specs.Front.{inside_of, find_marker, at_dash, behind_dash, behind_marker, word_tag_at, raw_end, tag_step, tag_front, comment_step, raw_step, block_step, text_len, text_step, division_by}
+use Rattle.tera_lexer.specs.declared.lexer.delimiters.Kind.{Kind}
+use Rattle.tera_lexer.specs.declared.lexer.delimiters.Kind.TheVariants.{Variable, Block}
+use Rattle.tera_lexer.proofs.Markers.{begins_splits, splits_begins, marker_stands, dash_found, behind_is, or_false}
+use Rattle.tera_lexer.proofs.Insides.{inside_found}
+use Rattle.tera_lexer.proofs.WordTags.{IsTagAt, word_tag_stands, word_tag_found}
+use Rattle.tera_lexer.proofs.Finding.{behind_at, find_found, find_none}
+use Rattle.tera_lexer.proofs.RawEnds.{body_found, open_found}
+use Rattle.tera_lexer.proofs.Pieces.{text_length, end_two, body_splits, piece_shortens, tag_front_stands, comment_stands, block_stands, text_divides}
 
 same_marker : (a b bytes x : List ℕ) → length a ≡ 2 → length b ≡ 2 → bytes ≡ a ++ x → begins b bytes ≡ true → b ≡ a
 same_marker a b bytes x two two' e h =
@@ -52,93 +25,88 @@ same_marker a b bytes x two two' e h =
 no_other : (a b bytes rest : List ℕ) → length a ≡ 2 → length b ≡ 2 → b ≢ a → bytes ≡ a ++ rest → begins b bytes ≡ false
 no_other a b bytes rest two two' other e = false_from_ne_true (begins b bytes) (λ h. other (same_marker a b bytes rest two two' e h))
 
-marker_some : (marker bytes rest : List ℕ) → length marker ≡ 2 → bytes ≡ marker ++ rest → 0 < length bytes
-marker_some marker bytes rest two e = omega (arith, ap length e, length-append marker rest)
-
-dash_length : (dash : Bool) → length (dash_bytes dash) ≤ 1
-dash_length true = omega arith
-dash_length false = omega arith
-
-starts_shortens : (marker : List ℕ) (dash : Bool) (bytes inside : List ℕ) → length marker ≡ 2 → Starts marker dash bytes inside → length inside < length bytes
-starts_shortens marker dash bytes inside two starts =
-    omega (arith, ap length starts.0, length-append marker (dash_bytes dash ++ inside), length-append (dash_bytes dash) inside)
+starts_some : (marker : List ℕ) (dash : Bool) (bytes behind : List ℕ) → length marker ≡ 2 → Starts marker dash bytes behind → 0 < length bytes
+starts_some marker dash bytes behind two starts = omega (arith, ap length starts.0, length-append marker (dash_bytes dash ++ behind))
 
 module _ (m : Marks) (valid : IsValid m) where
   -- what is found stands there
-  tag_stands : (go : List ℕ → List Piece × Ending) (dash : Bool) (items : List Item) (close : Close) (bytes inside : List ℕ) → Starts m.variable_start dash bytes inside
-      → IsInside m.variable_end items close inside → ((rest : List ℕ) → length rest < length bytes → IsDivision m (go rest).0 (go rest).1 rest)
-      → IsDivision m (tag_step go dash items close).0 (tag_step go dash items close).1 bytes
-  tag_stands go dash items (End gap end rest) bytes inside starts here divides =
-      let less : length rest < length bytes = omega (arith, end_shortens m.variable_end items gap end rest inside valid.variable_end here, starts_shortens m.variable_start dash bytes inside valid.variable_start starts) in
-      (rest, (inside, starts, here), divides rest less)
-  tag_stands go dash items (Open gap) bytes inside starts here divides = (inside, starts, here)
-  tag_stands go dash items (Bad gap fault at) bytes inside starts here divides = (inside, starts, here)
-
-  nonempty : (b : ℕ) (bs : List ℕ) → b ∷ bs ≢ []
-  nonempty b bs e = cc
-
-  text_divides : (go : List ℕ → List Piece × Ending) (b : ℕ) (bs : List ℕ) → is_at_start m (b ∷ bs) ≡ false
-      → ((rest : List ℕ) → length rest < length (b ∷ bs) → IsDivision m (go rest).0 (go rest).1 rest)
-      → IsDivision m (text_step go (suc (text_len m bs)) (b ∷ bs)).0 (text_step go (suc (text_len m bs)) (b ∷ bs)).1 (b ∷ bs)
-  text_divides go b bs nowhere divides =
-      let n = text_len m bs in
-      let text = text_stands m bs in
-      let splits : b ∷ bs ≡ b ∷ (take n bs ++ drop n bs) = ap (λ l. b ∷ l) (sym (take-append-drop n bs)) in (
-        drop n bs,
-        (splits, nonempty b (take n bs), (subst (λ l. is_at_start m l ≡ false) splits nowhere, text.0), text.1),
-        divides (drop n bs) (omega (arith, length-drop n bs)),
-      )
-
   pub division_stands : (n : ℕ) (bytes : List ℕ) → length bytes < n → IsDivision m (division_by n m bytes).0 (division_by n m bytes).1 bytes
   unfolding division_by
   division_stands zero bytes lt = absurd (omega arith)
   division_stands (suc n) [] lt = refl
   division_stands (suc n) (b ∷ bs) lt =
       let bytes : List ℕ = b ∷ bs in
-      let inside : List ℕ = behind_dash (behind_marker m.variable_start bytes) in
       let divides : (rest : List ℕ) → length rest < length bytes → IsDivision m (division_by n m rest).0 (division_by n m rest).1 rest
       = λ rest less. division_stands n rest (omega arith) in
+      let behind : List ℕ → List ℕ = λ marker. behind_marker marker bytes in
       ⊎_elim
-      (λ variable. rw variable (tag_stands (division_by n m) (begins (45 ∷ []) (behind_marker m.variable_start bytes)) _ _ bytes inside (marker_stands m.variable_start bytes variable) (inside_stands m.variable_end (suc (length inside)) inside (omega arith)) divides))
+      (λ variable. rw variable (tag_front_stands m valid (division_by n m) bytes divides Variable (at_dash (behind m.variable_start)) (behind_dash (behind m.variable_start)) (marker_stands m.variable_start bytes variable) tt))
       (λ no_variable. rw no_variable (⊎_elim
-      (λ block. rw block (inl refl, (drop (length m.block_start) bytes, begins_splits m.block_start bytes block)))
+      (λ block. rw block (block_stands m valid (division_by n m) bytes divides (at_dash (behind m.block_start)) (behind_dash (behind m.block_start)) (marker_stands m.block_start bytes block)))
       (λ no_block. rw no_block (⊎_elim
-      (λ comment. rw comment (inr refl, (drop (length m.comment_start) bytes, begins_splits m.comment_start bytes comment)))
-      (λ no_comment. rw no_comment (text_divides (division_by n m) b bs (rw (no_variable, no_block, no_comment) refl) divides))
+      (λ comment. rw comment (comment_stands m valid (division_by n m) bytes divides (at_dash (behind m.comment_start)) (behind_dash (behind m.comment_start)) (marker_stands m.comment_start bytes comment)))
+      (λ no_comment. rw no_comment (text_divides m valid (division_by n m) b bs divides (rw (no_variable, no_block, no_comment) refl)))
       (cases_Bool (begins m.comment_start bytes))))
       (cases_Bool (begins m.block_start bytes))))
       (cases_Bool (begins m.variable_start bytes))
 
-  -- what stands there is found
-  at_tag : (n : ℕ) (dash : Bool) (items : List Item) (close : Close) (bytes inside : List ℕ) → Starts m.variable_start dash bytes inside → IsInside m.variable_end items close inside
-      → division_by (suc n) m bytes ≡ tag_step (division_by n m) dash items close
+  -- what stands there is found: at each start marker
+  at_variable : (n : ℕ) (dash : Bool) (bytes behind : List ℕ) → Starts m.variable_start dash bytes behind → division_by (suc n) m bytes ≡ tag_front (division_by n m) m Variable dash behind
   unfolding division_by
-  at_tag n dash items close [] inside starts here = absurd (omega (arith, marker_some m.variable_start [] (dash_bytes dash ++ inside) valid.variable_start starts.0))
-  at_tag n dash items close (b ∷ bs) inside starts here =
-      let passes : begins m.variable_start (b ∷ bs) ≡ true = splits_begins m.variable_start (b ∷ bs) (dash_bytes dash ++ inside) starts.0 in
-      let behind = behind_is m.variable_start (b ∷ bs) (dash_bytes dash ++ inside) starts.0 in
-      let dashed = dash_found dash inside starts.1 in
-      let found = inside_found m.variable_end items close (suc (length inside)) inside valid.variable_end here (omega arith) in
-      let at = ap behind_dash behind ∙ dashed.1 in
-      let whole : inside_of m.variable_end (behind_dash (behind_marker m.variable_start (b ∷ bs))) ≡ (items, close) = ap (inside_of m.variable_end) at ∙ found in
-      rw passes (λ i. tag_step (division_by n m) ((ap (begins (45 ∷ [])) behind ∙ dashed.0) i) (whole i).0 (whole i).1)
+  at_variable n dash [] behind starts = absurd (omega (arith, starts_some m.variable_start dash [] behind valid.variable_start starts))
+  at_variable n dash (b ∷ bs) behind starts =
+      let here = splits_begins m.variable_start (b ∷ bs) (dash_bytes dash ++ behind) starts.0 in
+      let is = behind_is m.variable_start (b ∷ bs) (dash_bytes dash ++ behind) starts.0 in
+      let dashed = dash_found dash behind starts.1 in
+      rw here (λ i. tag_front (division_by n m) m Variable ((ap at_dash is ∙ dashed.0) i) ((ap behind_dash is ∙ dashed.1) i))
 
-  at_unread : (n : ℕ) (marker bytes rest : List ℕ) → ((marker ≡ m.block_start) ⊎ (marker ≡ m.comment_start)) → bytes ≡ marker ++ rest → division_by (suc n) m bytes ≡ ([], Unread marker)
+  at_block : (n : ℕ) (dash : Bool) (bytes behind : List ℕ) → Starts m.block_start dash bytes behind
+      → division_by (suc n) m bytes ≡ block_step (division_by n m) m dash behind (word_tag_at raw_word m.block_end behind)
   unfolding division_by
-  at_unread n marker [] rest which e =
-      absurd (⊎_elim (λ (is : marker ≡ m.block_start). omega (arith, ap length e, length-append marker rest, ap length is, valid.block_start)) (λ (is : marker ≡ m.comment_start). omega (arith, ap length e, length-append marker rest, ap length is, valid.comment_start)) which)
-  at_unread n marker (b ∷ bs) rest which e =
-      ⊎_elim
-      (λ is.
-      let e' : b ∷ bs ≡ m.block_start ++ rest = e ∙ ap (λ k. k ++ rest) is in
-      let variable = no_other m.block_start m.variable_start (b ∷ bs) rest valid.block_start valid.variable_start (λ s. valid.block_variable (sym s)) e' in
-      rw (variable, splits_begins m.block_start (b ∷ bs) rest e') (ap (λ k. ([], Unread k)) (sym is)))
-      (λ is.
-      let e' : b ∷ bs ≡ m.comment_start ++ rest = e ∙ ap (λ k. k ++ rest) is in
-      let variable = no_other m.comment_start m.variable_start (b ∷ bs) rest valid.comment_start valid.variable_start valid.variable_comment e' in
-      let block = no_other m.comment_start m.block_start (b ∷ bs) rest valid.comment_start valid.block_start valid.block_comment e' in
-      rw (variable, block, splits_begins m.comment_start (b ∷ bs) rest e') (ap (λ k. ([], Unread k)) (sym is)))
-      which
+  at_block n dash [] behind starts = absurd (omega (arith, starts_some m.block_start dash [] behind valid.block_start starts))
+  at_block n dash (b ∷ bs) behind starts =
+      let variable = no_other m.block_start m.variable_start (b ∷ bs) (dash_bytes dash ++ behind) valid.block_start valid.variable_start (λ s. valid.block_variable (sym s)) starts.0 in
+      let here = splits_begins m.block_start (b ∷ bs) (dash_bytes dash ++ behind) starts.0 in
+      let is = behind_is m.block_start (b ∷ bs) (dash_bytes dash ++ behind) starts.0 in
+      let dashed = dash_found dash behind starts.1 in
+      rw (variable, here) (λ i. block_step (division_by n m) m ((ap at_dash is ∙ dashed.0) i) ((ap behind_dash is ∙ dashed.1) i) (word_tag_at raw_word m.block_end ((ap behind_dash is ∙ dashed.1) i)))
+
+  at_comment : (n : ℕ) (dash : Bool) (bytes behind : List ℕ) → Starts m.comment_start dash bytes behind
+      → division_by (suc n) m bytes ≡ comment_step (division_by n m) m dash behind (find_marker m.comment_end behind)
+  unfolding division_by
+  at_comment n dash [] behind starts = absurd (omega (arith, starts_some m.comment_start dash [] behind valid.comment_start starts))
+  at_comment n dash (b ∷ bs) behind starts =
+      let variable = no_other m.comment_start m.variable_start (b ∷ bs) (dash_bytes dash ++ behind) valid.comment_start valid.variable_start valid.variable_comment starts.0 in
+      let block = no_other m.comment_start m.block_start (b ∷ bs) (dash_bytes dash ++ behind) valid.comment_start valid.block_start valid.block_comment starts.0 in
+      let here = splits_begins m.comment_start (b ∷ bs) (dash_bytes dash ++ behind) starts.0 in
+      let is = behind_is m.comment_start (b ∷ bs) (dash_bytes dash ++ behind) starts.0 in
+      let dashed = dash_found dash behind starts.1 in
+      rw (variable, block, here) (λ i. comment_step (division_by n m) m ((ap at_dash is ∙ dashed.0) i) ((ap behind_dash is ∙ dashed.1) i) (find_marker m.comment_end ((ap behind_dash is ∙ dashed.1) i)))
+
+  -- where no raw piece opens
+  none_opens : (behind : List ℕ) → OpensTag m Block behind → word_tag_at raw_word m.block_end behind ≡ None
+  none_opens behind opens = by (word_tag_at raw_word m.block_end behind) (word_tag_stands raw_word m.block_end behind)
+    where
+      by : (o : Option (WordTag × List ℕ)) → IsTagAt raw_word m.block_end behind o → o ≡ None
+      by None is = refl
+      by (Some p) is = absurd (opens p.0 p.1 is)
+
+  at_front : (n : ℕ) (kind : Kind) (dash : Bool) (bytes inside : List ℕ) → Starts (start_marker kind m) dash bytes inside → OpensTag m kind inside
+      → division_by (suc n) m bytes ≡ tag_front (division_by n m) m kind dash inside
+  at_front n Variable dash bytes inside starts opens = at_variable n dash bytes inside starts
+  at_front n Block dash bytes inside starts opens =
+      at_block n dash bytes inside starts ∙ ap (block_step (division_by n m) m dash inside) (none_opens inside opens)
+
+  at_tag : (n : ℕ) (kind : Kind) (dash : Bool) (items : List Item) (close : Close) (bytes inside : List ℕ) → Starts (start_marker kind m) dash bytes inside → OpensTag m kind inside → IsInside (end_marker kind m) items close inside
+      → division_by (suc n) m bytes ≡ tag_step (division_by n m) kind dash items close
+  at_tag n kind dash items close bytes inside starts opens here =
+      let found : inside_of (end_marker kind m) inside ≡ (items, close) = inside_found (end_marker kind m) items close (suc (length inside)) inside (end_two m valid kind) here (omega arith) in
+      at_front n kind dash bytes inside starts opens ∙ (λ i. tag_step (division_by n m) kind dash (found i).0 (found i).1)
+
+  at_raw : (n : ℕ) (dash : Bool) (opening : WordTag) (bytes behind inside : List ℕ) → Starts m.block_start dash bytes behind → OpensRaw m opening behind inside
+      → division_by (suc n) m bytes ≡ raw_step (division_by n m) dash opening inside (raw_end m.block_start m.block_end false inside)
+  at_raw n dash opening bytes behind inside starts opens =
+      at_block n dash bytes behind starts ∙ ap (block_step (division_by n m) m dash behind) (word_tag_found raw_word m.block_end opening behind inside opens)
 
   at_text : (n : ℕ) (text rest bytes : List ℕ) → bytes ≡ text ++ rest → text ≢ [] → NowhereIn (is_at_start m) text rest → EndsText m rest
       → division_by (suc n) m bytes ≡ (Text text ∷ (division_by n m rest).0, (division_by n m rest).1)
@@ -153,25 +121,39 @@ module _ (m : Marks) (valid : IsValid m) where
       (ap (λ k. text_step (division_by n m) k (b ∷ (text ++ rest))) len
       ∙ (λ i. (Text (take_at (b ∷ text) rest (suc (length text)) refl i) ∷ (division_by n m (drop_at (b ∷ text) rest (suc (length text)) refl i)).0, (division_by n m (drop_at (b ∷ text) rest (suc (length text)) refl i)).1)))
 
-  rest_shorter : (text rest bytes : List ℕ) → bytes ≡ text ++ rest → text ≢ [] → length rest < length bytes
-  rest_shorter [] rest bytes e some = absurd (some refl)
-  rest_shorter (b ∷ text) rest bytes e some = omega (arith, ap length e, length-append text rest)
-
   pub division_found : (ps : List Piece) (ending : Ending) (n : ℕ) (bytes : List ℕ) → IsDivision m ps ending bytes → length bytes < n → division_by n m bytes ≡ (ps, ending)
   unfolding division_by
   division_found ps ending zero bytes divides lt = absurd (omega arith)
   division_found [] Nothing (suc n) bytes divides lt = ap (division_by (suc n) m) divides
-  division_found [] (OpenTag dash items gap) (suc n) bytes (inside, starts, here) lt = at_tag n dash items (Open gap) bytes inside starts here
-  division_found [] (BadTag dash items gap fault at) (suc n) bytes (inside, starts, here) lt = at_tag n dash items (Bad gap fault at) bytes inside starts here
-  division_found [] (Unread marker) (suc n) bytes (which, (rest, e)) lt = at_unread n marker bytes rest which e
+  division_found [] (OpenTag kind dash items gap) (suc n) bytes (inside, starts, opens, here) lt = at_tag n kind dash items (Open gap) bytes inside starts opens here
+  division_found [] (BadTag kind dash items gap fault at) (suc n) bytes (inside, starts, opens, here) lt = at_tag n kind dash items (Bad gap fault at) bytes inside starts opens here
+  division_found [] (OpenRaw dash) (suc n) bytes (behind, inside, opening, starts, opens, is) lt =
+      at_raw n dash opening bytes behind inside starts opens ∙ ap (raw_step (division_by n m) dash opening inside) (open_found m valid.block_start inside is)
+  division_found [] (OpenComment dash) (suc n) bytes (behind, starts, none) lt =
+      at_comment n dash bytes behind starts ∙ ap (comment_step (division_by n m) m dash behind) (find_none m.comment_end behind none)
   division_found (Text text ∷ ps) ending (suc n) bytes (rest, (e, some, none, ends), divides) lt =
-      at_text n text rest bytes e some none ends
-      ∙ ap (λ d. (Text text ∷ d.0, d.1)) (division_found ps ending n rest divides (omega (arith, rest_shorter text rest bytes e some)))
-  division_found (Tag dash items gap end ∷ ps) ending (suc n) bytes (rest, (inside, starts, here), divides) lt =
-      let less = end_shortens m.variable_end items gap end rest inside valid.variable_end here in
-      let less' = starts_shortens m.variable_start dash bytes inside valid.variable_start starts in
-      at_tag n dash items (End gap end rest) bytes inside starts here
-      ∙ ap (λ d. (Tag dash items gap end ∷ d.0, d.1)) (division_found ps ending n rest divides (omega arith))
+      let less = piece_shortens m valid (Text text) bytes rest (e, some, none, ends) in
+      at_text n text rest bytes e some none ends ∙ ap (λ d. (Text text ∷ d.0, d.1)) (division_found ps ending n rest divides (omega arith))
+  division_found (Comment dash inside ∷ ps) ending (suc n) bytes (rest, (behind, starts, e, none), divides) lt =
+      let less = piece_shortens m valid (Comment dash inside) bytes rest (behind, starts, e, none) in
+      let found : find_marker m.comment_end behind ≡ Some (length inside) = ap (find_marker m.comment_end) e ∙ find_found m.comment_end inside rest valid.comment_end none in
+      let text : take (length inside) behind ≡ inside = ap (take (length inside)) e ∙ take_at inside (m.comment_end ++ rest) (length inside) refl in
+      let after : behind_at m.comment_end (length inside) behind ≡ rest
+      = ap (behind_at m.comment_end (length inside)) e ∙ ap (drop (length m.comment_end)) (drop_at inside (m.comment_end ++ rest) (length inside) refl) ∙ drop_at m.comment_end rest (length m.comment_end) refl in
+      at_comment n dash bytes behind starts ∙ ap (comment_step (division_by n m) m dash behind) found
+      ∙ (λ i. (Comment dash (text i) ∷ (division_by n m (after i)).0, (division_by n m (after i)).1))
+      ∙ ap (λ d. (Comment dash inside ∷ d.0, d.1)) (division_found ps ending n rest divides (omega arith))
+  division_found (Raw dash opening body closing ∷ ps) ending (suc n) bytes (rest, (behind, inside, starts, opens, is), divides) lt =
+      let less = piece_shortens m valid (Raw dash opening body closing) bytes rest (behind, inside, starts, opens, is) in
+      let after : List ℕ = m.block_start ++ (word_tag_bytes endraw_word m.block_end closing ++ rest) in
+      let text : take (length body) inside ≡ body = ap (take (length body)) (body_splits m valid body closing inside rest is) ∙ take_at body after (length body) refl in
+      at_raw n dash opening bytes behind inside starts opens ∙ ap (raw_step (division_by n m) dash opening inside) (body_found m valid.block_start body closing inside rest is)
+      ∙ ap (λ l. (Raw dash opening l closing ∷ (division_by n m rest).0, (division_by n m rest).1)) text
+      ∙ ap (λ d. (Raw dash opening body closing ∷ d.0, d.1)) (division_found ps ending n rest divides (omega arith))
+  division_found (Tag kind dash items gap end ∷ ps) ending (suc n) bytes (rest, (inside, starts, opens, here), divides) lt =
+      let less = piece_shortens m valid (Tag kind dash items gap end) bytes rest (inside, starts, opens, here) in
+      at_tag n kind dash items (End gap end rest) bytes inside starts opens here
+      ∙ ap (λ d. (Tag kind dash items gap end ∷ d.0, d.1)) (division_found ps ending n rest divides (omega arith))
 
   pub division_one : (ps qs : List Piece) (e f : Ending) (bytes : List ℕ) → IsDivision m ps e bytes → IsDivision m qs f bytes → (ps ≡ qs) × (e ≡ f)
   division_one ps qs e f bytes a b =

@@ -8,11 +8,12 @@ use Rattle.std.proofs.lemmas.Bool.Decides.{nat_tests, Decides-ltb}
 use Rattle.std.proofs.lemmas.List.{length-append, take_at}
 use Rattle.std.proofs.lemmas.List.Folds.{length-prefix_len}
 use Rattle.tera_lexer.specs.Marks.{begins}
-use Rattle.tera_lexer.specs.Lexeme.{begins_name, goes_on_name, is_quote, written, has_escape, quoted, decimal, operator_at, Number, Quoted, Float, TooGreat, Escaped}
-use Rattle.tera_lexer.specs.Tokens.{Tok, name_token, not_read, unclosed}
+use Rattle.tera_lexer.specs.Lexeme.{begins_name, goes_on_name, is_quote, Inner, Plain, Escape, written, has_escape, has_unknown_escape, value_of, quoted, decimal, operator_at, Name, Number, Operator, Quoted, Float, TooGreat, UnknownEscape}
+use Rattle.tera_lexer.specs.Tokens.{Tok, name_token, unclosed}
 use Rattle.tera_lexer.specs.Tokens as toks
-use Rattle.tera_lexer.specs.Front.{Front, Reads, Breaks, run_of, behind_run, number_front, string_front, operator_front, front_of, string_at, closing_at}
-use Rattle.tera_lexer.specs.Found.{BeginsBy, IsOperatorOf, IsTokenAt, IsFaultAt, IsFound, found_len}
+use Rattle.tera_lexer.specs.Front.{Front, Reads, Breaks, run_of, behind_run, number_front, string_front, operator_front, front_of, string_at, closing_at, unknown_in}
+use Rattle.tera_lexer.proofs.Escapes.{unknown_written}
+use Rattle.tera_lexer.specs.Found.{BeginsBy, IsOperatorOf, IsTokenAt, IsEscapedAt, IsFaultAt, IsFound, found_len}
 use Rattle.tera_lexer.specs.Seen.{seen}
 use Rattle.tera_lexer.specs.declared.lexer.tokens.Token.{Token}
 use Rattle.tera_lexer.specs.declared.lexer.lexeme.Found.{Found}
@@ -93,6 +94,12 @@ digits_parsed (b ∷ bs) digit = (omega (arith, ap length (run_whole is_ascii_di
 quote_no_escape : (b : ℕ) → is_quote b ≡ true → b ≢ 92
 quote_no_escape b h e = grind (arith, nat_tests)
 
+-- no escape is unknown where there is none
+none_unknown : (is : List Inner) → has_escape is ≡ false → has_unknown_escape is ≡ false
+none_unknown [] none = refl
+none_unknown (Plain b ∷ is) none = none_unknown is none
+none_unknown (Escape b ∷ is) none = cc
+
 -- strings are found as such
 module _ (quote : ℕ) (bytes behind : List ℕ) (e : bytes ≡ quote ∷ behind) (is : is_quote quote ≡ true) where
   front_quote : front_of bytes ≡ string_front quote (string_at quote behind)
@@ -106,8 +113,8 @@ module _ (quote : ℕ) (bytes behind : List ℕ) (e : bytes ≡ quote ∷ behind
   inside_is_found n some = inside_closes quote n behind (quote_no_escape quote is) some
 
   module _ (n : ℕ) (inside : IsInsideOf quote n behind) where
-    front_string : (escape : Bool) → has_escape inside.inner ≡ escape → front_of bytes ≡ (if escape then Breaks (Escaped quote inside.inner) else Reads (Quoted quote inside.inner) inside.rest)
-    front_string escape has = front_quote ∙ ap (string_front quote) inside.found ∙ rw has refl
+    front_string : (unknown : Bool) → has_unknown_escape inside.inner ≡ unknown → front_of bytes ≡ (if unknown then Breaks (UnknownEscape quote inside.inner) else Reads (Quoted quote inside.inner) inside.rest)
+    front_string unknown has = front_quote ∙ ap (string_front quote) inside.found ∙ rw has refl
 
     string_len : n + 2 ≡ length (quoted quote inside.inner)
     string_len = omega (arith, inside.len, length-append (written inside.inner) (quote ∷ []))
@@ -121,11 +128,21 @@ module _ (quote : ℕ) (bytes behind : List ℕ) (e : bytes ≡ quote ∷ behind
     has_is : list_any (λ b. b == 92) (take n behind) ≡ has_escape inside.inner
     has_is = ap (list_any (λ b. b == 92)) inside_text ∙ escape_written quote inside.inner inside.all
 
-    pub escape_is_found : list_any (λ b. b == 92) (take n behind) ≡ true → IsFaultAt not_read (n + 2) (front_of bytes)
-    escape_is_found escape = subst (IsFaultAt not_read (n + 2)) (sym (front_string true (sym has_is ∙ escape))) (refl, string_len)
+    unknown_is : unknown_in false (take n behind) ≡ has_unknown_escape inside.inner
+    unknown_is = ap (unknown_in false) inside_text ∙ unknown_written quote inside.inner inside.all
+
+    pub unknown_is_found : unknown_in false (take n behind) ≡ true → IsFaultAt (codes "unexpected escape character") (n + 2) (front_of bytes)
+    unknown_is_found unknown = subst (IsFaultAt (codes "unexpected escape character") (n + 2)) (sym (front_string true (sym unknown_is ∙ unknown))) (refl, string_len)
+
+    pub escaped_is_found : list_any (λ b. b == 92) (take n behind) ≡ true → unknown_in false (take n behind) ≡ false → IsEscapedAt (take n behind) (n + 2) (front_of bytes)
+    escaped_is_found escape known =
+        subst (IsEscapedAt (take n behind) (n + 2)) (sym (front_string false (sym unknown_is ∙ known))) (inside_text, sym has_is ∙ escape, string_len)
 
     pub plain_is_found : list_any (λ b. b == 92) (take n behind) ≡ false → IsTokenAt (toks.Str (take n behind)) (n + 2) (front_of bytes)
-    plain_is_found plain = subst (IsTokenAt (toks.Str (take n behind)) (n + 2)) (sym (front_string false (sym has_is ∙ plain))) (ap toks.Str inside_text, string_len)
+    plain_is_found plain =
+        let no_escape : has_escape inside.inner ≡ false = sym has_is ∙ plain in
+        let text : toks.Str (take n behind) ≡ (if has_escape inside.inner then toks.Escaped (value_of inside.inner) else toks.Str (written inside.inner)) = rw no_escape (ap toks.Str inside_text) in
+        subst (IsTokenAt (toks.Str (take n behind)) (n + 2)) (sym (front_string false (none_unknown inside.inner no_escape))) (text, string_len)
 
 other_at : (bytes : List ℕ) → 0 < length bytes → is_ascii_digit (get_or bytes 0 0) ≡ false → begins_name (get_or bytes 0 0) ≡ false → is_quote (get_or bytes 0 0) ≡ false → front_of bytes ≡ operator_front bytes (operator_at bytes)
 other_at [] some digit name quote = absurd (omega arith)
@@ -156,9 +173,17 @@ module _ (bytes : List ℕ) (some : 0 < length bytes) (digit : is_ascii_digit (g
       by (Some op) is = absurd is
 
 -- the length of what is found is that of what stands there
+escaped_length : (inside : List ℕ) (n : ℕ) (front : Front) → IsEscapedAt inside n front → front_len front ≡ n
+escaped_length inside n (Reads (Name b bs) rest) is = absurd is
+escaped_length inside n (Reads (Number b bs) rest) is = absurd is
+escaped_length inside n (Reads (Operator op) rest) is = absurd is
+escaped_length inside n (Reads (Quoted quote inner) rest) is = sym is.2
+escaped_length inside n (Breaks f) is = absurd is
+
 pub found_length : (f : Found) (front : Front) → IsFound f front → front_len front ≡ found_len f
 found_length (found.Lexeme token n) (Reads l rest) is = sym is.1
 found_length (found.Lexeme token n) (Breaks f) is = absurd is
+found_length (found.Escaped inside n) front is = escaped_length inside.now n front is
 found_length (found.Fault fault) (Reads l rest) is = absurd is
 found_length (found.Fault fault) (Breaks f) is = sym is.1
 
@@ -171,3 +196,11 @@ found_cut (b ∷ bs) f utf8 some is =
 pub front_here : (bytes : List ℕ) → 0 < length bytes → IsFront bytes (front_of bytes)
 front_here [] some = absurd (omega arith)
 front_here (b ∷ bs) some = front_stands b bs
+
+-- in a string with escapes that is found none is unknown
+pub escaped_known : (bytes inside : List ℕ) (n : ℕ) (front : Front) → IsFront bytes front → IsEscapedAt inside n front → unknown_in false inside ≡ false
+escaped_known bytes inside n (Reads (Quoted quote is) rest) stands (inside_is, escape, len) = ap (unknown_in false) inside_is ∙ unknown_written quote is stands.1.0.1 ∙ stands.1.1
+escaped_known bytes inside n (Reads (Name b bs) rest) stands found = absurd found
+escaped_known bytes inside n (Reads (Number b bs) rest) stands found = absurd found
+escaped_known bytes inside n (Reads (Operator op) rest) stands found = absurd found
+escaped_known bytes inside n (Breaks f) stands found = absurd found

@@ -6,7 +6,7 @@ use Rattle.std.proofs.lemmas.Bool.{cases_Bool, false_from_ne_true}
 use Rattle.std.proofs.lemmas.Bool.Decides.{nat_tests, Decides-ltb}
 use Rattle.std.proofs.lemmas.List.{drop_at}
 use Rattle.tera_lexer.specs.Marks.{begins}
-use Rattle.tera_lexer.specs.Lexeme.{IsRun, begins_name, goes_on_name, is_quote, Inner, has_escape, written, quoted, operator_at, decimal, Lexeme, Name, Number, Quoted, Operator, spelled, AreDigits, IsQuoted, IsLexeme, Fault, Unexpected, Unclosed, Escaped, TooGreat, Float, IsFault}
+use Rattle.tera_lexer.specs.Lexeme.{IsRun, begins_name, goes_on_name, is_quote, Inner, has_unknown_escape, written, quoted, operator_at, decimal, Lexeme, Name, Number, Quoted, Operator, spelled, AreDigits, IsQuoted, IsLexeme, Fault, Unexpected, Unclosed, UnknownEscape, TooGreat, Float, IsFault}
 use Rattle.tera_lexer.specs.Front.{Front, Reads, Breaks, run_of, behind_run, string_at, string_front, number_front, operator_front, front_of}
 use Rattle.tera_lexer.proofs.Runs.{run_stands, run_splits, run_found, behind_found}
 use Rattle.tera_lexer.proofs.Markers.{begins_splits}
@@ -61,7 +61,7 @@ string_front_stands quote bytes (Some p) is_quote (e, all) =
     ⊎_elim
     (λ escape. rw escape (p.1, splits, (is_quote, all), escape))
     (λ plain. rw plain (splits, ((is_quote, all), plain)))
-    (cases_Bool (has_escape p.0))
+    (cases_Bool (has_unknown_escape p.0))
 
 operator_front_stands : (b : ℕ) (bs : List ℕ) (o : Option (List ℕ)) → is_ascii_digit b ≡ false → begins_name b ≡ false → is_quote b ≡ false → operator_at (b ∷ bs) ≡ o → IsFront (b ∷ bs) (operator_front (b ∷ bs) o)
 operator_front_stands b bs None digit name quote e = (digit, name, quote, e)
@@ -138,7 +138,7 @@ fault_found Unexpected [] here = absurd here
 fault_found Unexpected (b ∷ bs) (digit, name, quote, none) = other_front b bs digit name quote ∙ ap (operator_front (b ∷ bs)) none
 fault_found (Unclosed quote) bytes (rest, e, is, unclosed) =
     ap front_of e ∙ quote_front quote rest is ∙ ap (string_front quote) (unclosed_found quote rest (quote_no_escape quote is) unclosed)
-fault_found (Escaped quote is) bytes (rest, e, q, escape) = ap front_of e ∙ quoted_front quote is rest q ∙ rw escape refl
+fault_found (UnknownEscape quote is) bytes (rest, e, q, escape) = ap front_of e ∙ quoted_front quote is rest q ∙ rw escape refl
 fault_found (TooGreat b bs) bytes (rest, e, digits, no_point, high) =
     ap front_of e ∙ digits_front b bs rest digits ∙ rw (no_point, not_below (decimal (b ∷ bs)) (2 ^ 63) high) refl
   where

@@ -4,7 +4,7 @@ use Rattle.std.specs.Char.{is_ascii_whitespace}
 use Rattle.std.proofs.lemmas.Bool.{cases_Bool}
 use Rattle.std.proofs.lemmas.List.{append-nil, drop_at, length-append}
 use Rattle.tera_lexer.specs.Marks.{begins}
-use Rattle.tera_lexer.specs.Lexeme.{IsGap, Lexeme, Name, Number, Quoted, Operator, spelled, IsLexeme, Fault, Unexpected, Unclosed, Escaped, TooGreat, Float, IsFault, Item, Close, End, Open, Bad, is_at_end, IsEnd, IsInside}
+use Rattle.tera_lexer.specs.Lexeme.{IsGap, Lexeme, Name, Number, Quoted, Operator, spelled, IsLexeme, Fault, Unexpected, Unclosed, UnknownEscape, TooGreat, Float, IsFault, Item, Close, End, Open, Bad, is_at_end, IsEnd, IsInside}
 use Rattle.tera_lexer.specs.Front.{Front, Reads, Breaks, run_of, behind_run, front_of, Closes, Stands, next_at, inside_step, inside_by}
 use Rattle.tera_lexer.proofs.Runs.{run_stands, run_splits, run_found, behind_found}
 use Rattle.tera_lexer.proofs.Markers.{begins_splits, splits_begins, or_false}
@@ -20,10 +20,10 @@ spelled_some (Operator (b ∷ bs)) rest is = omega arith
 spelled_some (Operator []) [] is = cc
 spelled_some (Operator []) (b ∷ bs) is = (operator_stands b bs [] is).some
 
-fault_some : (f : Fault) → IsFault f [] → ⊥
+pub fault_some : (f : Fault) → IsFault f [] → ⊥
 fault_some Unexpected here = here
 fault_some (Unclosed quote) here = let e = here.1 in cc
-fault_some (Escaped quote inner) here = let e = here.1 in cc
+fault_some (UnknownEscape quote inner) here = let e = here.1 in cc
 fault_some (TooGreat b bs) here = let e = here.1 in cc
 fault_some (Float b bs more) here = let e = here.1 in cc
 

@@ -1,18 +1,20 @@
 -- The tokens that are left, one after another.
-use Rattle.std.proofs.Common.{◌≡◌, ◌≢◌, ℕ, suc, ◌<◌, ◌≤◌, Bool, true, false, List, [], ◌∷◌, ◌++◌, length, ⊎_elim, ap, sym, ◌∙◌, refl, subst, arith}
-use Rattle.std.specs.Prelude.{◌⊎◌}
+use Rattle.std.proofs.Common.{◌≡◌, ◌≢◌, ℕ, suc, ◌<◌, ◌≤◌, Bool, true, false, List, [], ◌∷◌, ◌++◌, length, Option, ⊎_elim, ap, sym, ◌∙◌, refl, subst, arith}
 use Rattle.std.specs.Char.{is_ascii_whitespace}
 use Rattle.std.proofs.lemmas.Bool.{cases_Bool}
 use Rattle.std.proofs.lemmas.List.{append-nil, length-append}
-use Rattle.tera_lexer.specs.Marks.{Marks, IsValid, begins, NowhereIn}
+use Rattle.tera_lexer.specs.Marks.{Marks, IsValid, start_marker, end_marker, begins, NowhereIn, dash_bytes}
 use Rattle.tera_lexer.specs.Place.{span_of}
 use Rattle.tera_lexer.specs.Lexeme.{StopsAt, IsGap, Lexeme, spelled, Fault, Item, Close, End, Open, Bad, is_at_end, IsEnd, IsInside}
-use Rattle.tera_lexer.specs.Division.{is_at_start, EndsText, Piece, Text, Tag, Ending, OpenTag, BadTag, Unread, Starts, IsDivision}
-use Rattle.tera_lexer.specs.Tokens.{Items, Ended, Failed, Token, Content, token_of, not_read, started, finished, failed, tokens_of, AreTokensOf}
+use Rattle.tera_lexer.specs.Raw.{WordTag, OpensRaw, IsBody, IsOpenBody}
+use Rattle.tera_lexer.specs.Division.{is_at_start, EndsText, Piece, Text, Comment, Raw, Tag, Ending, Nothing, OpenTag, BadTag, OpenRaw, OpenComment, Starts, OpensTag, IsPiece, IsDivision}
+use Rattle.tera_lexer.specs.Tokens.{Items, Ended, Failed, Token, Content, Remark, token_of, started, finished, failed, open_raw, open_comment, comment_bytes, raw_bytes, ends_dashed, raw_token, tokens_of, AreTokensOf}
 use Rattle.tera_lexer.specs.Front.{Front, Reads, Breaks, front_of, Next, Ends, Closes, Stands, next_at, inside_step, inside_by, inside_of, division_of}
 use Rattle.tera_lexer.specs.State.{Reading}
-use Rattle.tera_lexer.specs.Left.{start_of, left_outside, left_by, left_inside, left_of}
+use Rattle.tera_lexer.specs.Left.{start_of, left_outside, left_by, left_inside, left_in, ahead_of, left_of}
+use Rattle.tera_lexer.specs.declared.lexer.delimiters.Kind.{Kind}
 use Rattle.tera_lexer.proofs.Insides.{spelled_some, inside_stands, inside_found, at_gap, next_stands, next_closes}
+use Rattle.tera_lexer.proofs.Pieces.{end_two}
 use Rattle.tera_lexer.proofs.Divisions.{division_stands, division_found}
 use Rattle.tera_lexer.proofs.Fronts.{IsFront, front_stands}
 
@@ -24,22 +26,22 @@ tokens_found m valid source items (ps, e, division, is) =
 pub tokens_stand : (m : Marks) → IsValid m → (source : List ℕ) → AreTokensOf m source (left_outside m [] source)
 tokens_stand m valid source = ((division_of m source).0, (division_of m source).1, division_stands m valid (suc (length source)) source (omega arith), refl)
 
-module _ (m : Marks) (valid : IsValid m) where
+module _ (m : Marks) (valid : IsValid m) (kind : Kind) where
   -- steps that are enough are enough
-  inside_enough : (n : ℕ) (bytes : List ℕ) → length bytes < n → inside_by n m.variable_end bytes ≡ inside_of m.variable_end bytes
+  inside_enough : (n : ℕ) (bytes : List ℕ) → length bytes < n → inside_by n (end_marker kind m) bytes ≡ inside_of (end_marker kind m) bytes
   inside_enough n bytes lt =
-      inside_found m.variable_end (inside_of m.variable_end bytes).0 (inside_of m.variable_end bytes).1 n bytes valid.variable_end (inside_stands m.variable_end (suc (length bytes)) bytes (omega arith)) lt
+      inside_found (end_marker kind m) (inside_of (end_marker kind m) bytes).0 (inside_of (end_marker kind m) bytes).1 n bytes (end_two m valid kind) (inside_stands (end_marker kind m) (suc (length bytes)) bytes (omega arith)) lt
 
   -- from what comes next in a tag, behind front
   next_left : List ℕ → Next → Items
   next_left front Ends = Ended
-  next_left front (Closes dash rest) = finished m front dash (λ h. left_outside m h rest)
-  next_left front (Stands (Reads lexeme rest)) = Token (token_of lexeme) (span_of front (spelled lexeme)) (left_inside m (front ++ spelled lexeme) rest)
+  next_left front (Closes dash rest) = finished m front kind dash (λ h. left_outside m h rest)
+  next_left front (Stands (Reads lexeme rest)) = Token (token_of lexeme) (span_of front (spelled lexeme)) (left_inside m kind (front ++ spelled lexeme) rest)
   next_left front (Stands (Breaks fault)) = failed front fault
 
   -- a lexeme more
   left_by_more : (front : List ℕ) (i : Item) (items : List Item) (close : Close)
-      → left_by m front (i ∷ items) close ≡ Token (token_of i.lexeme) (span_of (front ++ i.gap) (spelled i.lexeme)) (left_by m ((front ++ i.gap) ++ spelled i.lexeme) items close)
+      → left_by m kind front (i ∷ items) close ≡ Token (token_of i.lexeme) (span_of (front ++ i.gap) (spelled i.lexeme)) (left_by m kind ((front ++ i.gap) ++ spelled i.lexeme) items close)
   left_by_more front i items (End gap dash rest) = refl
   left_by_more front i items (Open gap) = refl
   left_by_more front i items (Bad gap fault at) = refl
@@ -52,21 +54,21 @@ module _ (m : Marks) (valid : IsValid m) where
   ShortensBy n (Stands (Breaks fault)) = Unit {0}
 
   step_left : (n : ℕ) (front gap at : List ℕ) (next : Next) → ShortensBy n next
-      → left_by m front (inside_step (inside_by n m.variable_end) gap at next).0 (inside_step (inside_by n m.variable_end) gap at next).1 ≡ next_left (front ++ gap) next
+      → left_by m kind front (inside_step (inside_by n (end_marker kind m)) gap at next).0 (inside_step (inside_by n (end_marker kind m)) gap at next).1 ≡ next_left (front ++ gap) next
   unfolding next_left ShortensBy
   step_left n front gap at Ends less = refl
   step_left n front gap at (Closes dash rest) less = refl
   step_left n front gap at (Stands (Breaks fault)) less = refl
   step_left n front gap at (Stands (Reads lexeme rest)) less =
       let item : Item = record { gap = gap; lexeme = lexeme } in
-      let read = inside_by n m.variable_end rest in
+      let read = inside_by n (end_marker kind m) rest in
       left_by_more front item read.0 read.1
-      ∙ ap (λ (p : List Item × Close). Token (token_of lexeme) (span_of (front ++ gap) (spelled lexeme)) (left_by m ((front ++ gap) ++ spelled lexeme) p.0 p.1)) (inside_enough n rest less)
+      ∙ ap (λ (p : List Item × Close). Token (token_of lexeme) (span_of (front ++ gap) (spelled lexeme)) (left_by m kind ((front ++ gap) ++ spelled lexeme) p.0 p.1)) (inside_enough n rest less)
 
-  left_next : (front gap at bytes : List ℕ) (next : Next) → bytes ≡ gap ++ at → IsGap gap at → next_at m.variable_end at ≡ next → ShortensBy (length bytes) next
-      → left_inside m front bytes ≡ next_left (front ++ gap) next
+  left_next : (front gap at bytes : List ℕ) (next : Next) → bytes ≡ gap ++ at → IsGap gap at → next_at (end_marker kind m) at ≡ next → ShortensBy (length bytes) next
+      → left_inside m kind front bytes ≡ next_left (front ++ gap) next
   left_next front gap at bytes next e is_gap is less =
-      ap (λ (p : List Item × Close). left_by m front p.0 p.1) (at_gap m.variable_end (length bytes) gap at bytes e is_gap ∙ ap (inside_step (inside_by (length bytes) m.variable_end) gap at) is)
+      ap (λ (p : List Item × Close). left_by m kind front p.0 p.1) (at_gap (end_marker kind m) (length bytes) gap at bytes e is_gap ∙ ap (inside_step (inside_by (length bytes) (end_marker kind m)) gap at) is)
       ∙ step_left (length bytes) front gap at next less
 
   shortens_more : (n k : ℕ) (next : Next) → n ≤ k → ShortensBy n next → ShortensBy k next
@@ -81,48 +83,49 @@ module _ (m : Marks) (valid : IsValid m) where
   front_shortens at (Breaks fault) is = tt
   front_shortens at (Reads lexeme rest) is = omega (arith, spelled_some lexeme rest is.1, ap length is.0, length-append (spelled lexeme) rest)
 
-  next_shortens : (at : List ℕ) → ShortensBy (length at) (next_at m.variable_end at)
+  next_shortens : (at : List ℕ) → ShortensBy (length at) (next_at (end_marker kind m) at)
   unfolding ShortensBy
   next_shortens [] = tt
   next_shortens (b ∷ bs) =
       ⊎_elim
       (λ dashed. rw dashed tt)
-      (λ no_dash. rw no_dash (⊎_elim (λ closes. rw closes tt) (λ goes_on. rw goes_on (front_shortens (b ∷ bs) (front_of (b ∷ bs)) (front_stands b bs))) (cases_Bool (begins m.variable_end (b ∷ bs)))))
-      (cases_Bool (begins (45 ∷ m.variable_end) (b ∷ bs)))
+      (λ no_dash. rw no_dash (⊎_elim (λ closes. rw closes tt) (λ goes_on. rw goes_on (front_shortens (b ∷ bs) (front_of (b ∷ bs)) (front_stands b bs))) (cases_Bool (begins (end_marker kind m) (b ∷ bs)))))
+      (cases_Bool (begins (45 ∷ (end_marker kind m)) (b ∷ bs)))
 
-  at_next : (front gap at bytes : List ℕ) (next : Next) → bytes ≡ gap ++ at → IsGap gap at → next_at m.variable_end at ≡ next → left_inside m front bytes ≡ next_left (front ++ gap) next
+  at_next : (front gap at bytes : List ℕ) (next : Next) → bytes ≡ gap ++ at → IsGap gap at → next_at (end_marker kind m) at ≡ next → left_inside m kind front bytes ≡ next_left (front ++ gap) next
   at_next front gap at bytes next e is_gap is =
       let less = shortens_more (length at) (length bytes) next (omega (arith, ap length e, length-append gap at)) (subst (ShortensBy (length at)) is (next_shortens at)) in
       left_next front gap at bytes next e is_gap is less
 
-  pub gap_left : (front gap at bytes : List ℕ) → bytes ≡ gap ++ at → IsGap gap at → left_inside m front bytes ≡ left_inside m (front ++ gap) at
+  pub gap_left : (front gap at bytes : List ℕ) → bytes ≡ gap ++ at → IsGap gap at → left_inside m kind front bytes ≡ left_inside m kind (front ++ gap) at
   gap_left front gap at bytes e is_gap =
-      at_next front gap at bytes (next_at m.variable_end at) e is_gap refl
-      ∙ ap (λ f. next_left f (next_at m.variable_end at)) (sym (append-nil (front ++ gap)))
-      ∙ sym (at_next (front ++ gap) [] at at (next_at m.variable_end at) refl (tt, is_gap.1) refl)
+      at_next front gap at bytes (next_at (end_marker kind m) at) e is_gap refl
+      ∙ ap (λ f. next_left f (next_at (end_marker kind m) at)) (sym (append-nil (front ++ gap)))
+      ∙ sym (at_next (front ++ gap) [] at at (next_at (end_marker kind m) at) refl (tt, is_gap.1) refl)
 
   -- what is left where no gap comes first
   module _ (front at : List ℕ) (stops : StopsAt is_ascii_whitespace at) where
-    here_left : (next : Next) → next_at m.variable_end at ≡ next → left_inside m front at ≡ next_left front next
+    here_left : (next : Next) → next_at (end_marker kind m) at ≡ next → left_inside m kind front at ≡ next_left front next
     here_left next is = at_next front [] at at next refl (tt, stops) is ∙ ap (λ f. next_left f next) (append-nil front)
 
-    pub end_left : (dash : Bool) (rest : List ℕ) → IsEnd m.variable_end dash at rest → left_inside m front at ≡ finished m front dash (λ h. left_outside m h rest)
+    pub end_left : (dash : Bool) (rest : List ℕ) → IsEnd (end_marker kind m) dash at rest → left_inside m kind front at ≡ finished m front kind dash (λ h. left_outside m h rest)
     unfolding next_left
-    end_left dash rest is = here_left (Closes dash rest) (next_closes m.variable_end dash at rest valid.variable_end is)
+    end_left dash rest is = here_left (Closes dash rest) (next_closes (end_marker kind m) dash at rest (end_two m valid kind) is)
 
-    pub lexeme_left : (lexeme : Lexeme) (rest : List ℕ) → 0 < length at → is_at_end m.variable_end at ≡ false → front_of at ≡ Reads lexeme rest
-        → left_inside m front at ≡ Token (token_of lexeme) (span_of front (spelled lexeme)) (left_inside m (front ++ spelled lexeme) rest)
+    pub lexeme_left : (lexeme : Lexeme) (rest : List ℕ) → 0 < length at → is_at_end (end_marker kind m) at ≡ false → front_of at ≡ Reads lexeme rest
+        → left_inside m kind front at ≡ Token (token_of lexeme) (span_of front (spelled lexeme)) (left_inside m kind (front ++ spelled lexeme) rest)
     unfolding next_left
-    lexeme_left lexeme rest some no_end is = here_left (Stands (Reads lexeme rest)) (next_stands m.variable_end at some no_end ∙ ap Stands is)
+    lexeme_left lexeme rest some no_end is = here_left (Stands (Reads lexeme rest)) (next_stands (end_marker kind m) at some no_end ∙ ap Stands is)
 
-    pub fault_left : (fault : Fault) → 0 < length at → is_at_end m.variable_end at ≡ false → front_of at ≡ Breaks fault → left_inside m front at ≡ failed front fault
+    pub fault_left : (fault : Fault) → 0 < length at → is_at_end (end_marker kind m) at ≡ false → front_of at ≡ Breaks fault → left_inside m kind front at ≡ failed front fault
     unfolding next_left
-    fault_left fault some no_end is = here_left (Stands (Breaks fault)) (next_stands m.variable_end at some no_end ∙ ap Stands is)
+    fault_left fault some no_end is = here_left (Stands (Breaks fault)) (next_stands (end_marker kind m) at some no_end ∙ ap Stands is)
 
-  pub gap_ends : (front gap : List ℕ) → IsGap gap [] → left_inside m front gap ≡ Ended
+  pub gap_ends : (front gap : List ℕ) → IsGap gap [] → left_inside m kind front gap ≡ Ended
   unfolding next_left
   gap_ends front gap is_gap = at_next front gap [] gap Ends (sym (append-nil gap)) is_gap refl
 
+module _ (m : Marks) (valid : IsValid m) where
   -- what is left outside a tag
   division_is : (ps : List Piece) (ending : Ending) (bytes : List ℕ) → IsDivision m ps ending bytes → division_of m bytes ≡ (ps, ending)
   division_is ps ending bytes divides = division_found m valid ps ending (suc (length bytes)) bytes divides (omega arith)
@@ -133,40 +136,61 @@ module _ (m : Marks) (valid : IsValid m) where
   left_is : (front : List ℕ) (ps : List Piece) (ending : Ending) (bytes : List ℕ) → IsDivision m ps ending bytes → left_outside m front bytes ≡ tokens_of m front ps ending
   left_is front ps ending bytes divides = ap (λ (d : List Piece × Ending). tokens_of m front d.0 d.1) (division_is ps ending bytes divides)
 
-  pub unread_left : (front marker bytes rest : List ℕ) → ((marker ≡ m.block_start) ⊎ (marker ≡ m.comment_start)) → bytes ≡ marker ++ rest → left_outside m front bytes ≡ Failed not_read (span_of front marker)
-  unread_left front marker bytes rest which e = left_is front [] (Unread marker) bytes (which, (rest, e))
+  pub nothing_left : (front bytes : List ℕ) → bytes ≡ [] → left_outside m front bytes ≡ Ended
+  nothing_left front bytes e = left_is front [] Nothing bytes e
+
+  -- a piece, and what is behind it
+  piece_left : (front bytes rest : List ℕ) (p : Piece) → IsPiece m p bytes rest → left_outside m front bytes ≡ tokens_of m front (p ∷ (division_of m rest).0) (division_of m rest).1
+  piece_left front bytes rest p is = left_is front (p ∷ (division_of m rest).0) (division_of m rest).1 bytes (rest, is, rest_divides rest)
 
   pub text_left : (front text rest bytes : List ℕ) → bytes ≡ text ++ rest → text ≢ [] → NowhereIn (is_at_start m) text rest → EndsText m rest
       → left_outside m front bytes ≡ Token (Content text) (span_of front text) (left_outside m (front ++ text) rest)
-  text_left front text rest bytes e some none ends =
-      left_is front (Text text ∷ (division_of m rest).0) (division_of m rest).1 bytes (rest, (e, some, none, ends), rest_divides rest)
+  text_left front text rest bytes e some none ends = piece_left front bytes rest (Text text) (e, some, none, ends)
 
-  tag_left : (front : List ℕ) (dash : Bool) (items : List Item) (close : Close) (bytes inside : List ℕ) → Starts m.variable_start dash bytes inside → IsInside m.variable_end items close inside
-      → left_outside m front bytes ≡ started m front dash (λ f. left_by m f items close)
-  tag_left front dash items (End gap end rest) bytes inside starts here =
-      left_is front (Tag dash items gap end ∷ (division_of m rest).0) (division_of m rest).1 bytes (rest, (inside, starts, here), rest_divides rest)
-  tag_left front dash items (Open gap) bytes inside starts here = left_is front [] (OpenTag dash items gap) bytes (inside, starts, here)
-  tag_left front dash items (Bad gap fault at) bytes inside starts here = left_is front [] (BadTag dash items gap fault at) bytes (inside, starts, here)
+  pub comment_left : (front : List ℕ) (dash : Bool) (inside rest bytes behind : List ℕ) → Starts m.comment_start dash bytes behind → behind ≡ inside ++ (m.comment_end ++ rest) → NowhereIn (begins m.comment_end) inside (m.comment_end ++ rest)
+      → left_outside m front bytes ≡ Token (Remark dash (ends_dashed inside)) (span_of front (comment_bytes m dash inside)) (left_outside m (front ++ comment_bytes m dash inside) rest)
+  comment_left front dash inside rest bytes behind starts e none = piece_left front bytes rest (Comment dash inside) (behind, starts, e, none)
 
-  pub start_left : (front : List ℕ) (dash : Bool) (bytes inside : List ℕ) → Starts m.variable_start dash bytes inside → left_outside m front bytes ≡ started m front dash (λ f. left_inside m f inside)
-  start_left front dash bytes inside starts =
-      tag_left front dash (inside_of m.variable_end inside).0 (inside_of m.variable_end inside).1 bytes inside starts (inside_stands m.variable_end (suc (length inside)) inside (omega arith))
+  pub open_comment_left : (front : List ℕ) (dash : Bool) (bytes behind : List ℕ) → Starts m.comment_start dash bytes behind → NowhereIn (begins m.comment_end) behind []
+      → left_outside m front bytes ≡ Failed (open_comment m) (span_of front (m.comment_start ++ dash_bytes dash))
+  open_comment_left front dash bytes behind starts none = left_is front [] (OpenComment dash) bytes (behind, starts, none)
+
+  pub raw_left : (front : List ℕ) (dash : Bool) (opening : WordTag) (body : List ℕ) (closing : WordTag) (rest bytes behind inside : List ℕ) → Starts m.block_start dash bytes behind → OpensRaw m opening behind inside → IsBody m body closing inside rest
+      → left_outside m front bytes ≡ Token (raw_token dash opening body closing) (span_of front (raw_bytes m dash opening body closing)) (left_outside m (front ++ raw_bytes m dash opening body closing) rest)
+  raw_left front dash opening body closing rest bytes behind inside starts opens is = piece_left front bytes rest (Raw dash opening body closing) (behind, inside, starts, opens, is)
+
+  pub open_raw_left : (front : List ℕ) (dash : Bool) (opening : WordTag) (bytes behind inside : List ℕ) → Starts m.block_start dash bytes behind → OpensRaw m opening behind inside → IsOpenBody m inside
+      → left_outside m front bytes ≡ Failed open_raw (span_of front (m.block_start ++ dash_bytes dash))
+  open_raw_left front dash opening bytes behind inside starts opens is = left_is front [] (OpenRaw dash) bytes (behind, inside, opening, starts, opens, is)
+
+  tag_left : (kind : Kind) (front : List ℕ) (dash : Bool) (items : List Item) (close : Close) (bytes inside : List ℕ) → Starts (start_marker kind m) dash bytes inside → OpensTag m kind inside → IsInside (end_marker kind m) items close inside
+      → left_outside m front bytes ≡ started m front kind dash (λ f. left_by m kind f items close)
+  tag_left kind front dash items (End gap end rest) bytes inside starts opens here = piece_left front bytes rest (Tag kind dash items gap end) (inside, starts, opens, here)
+  tag_left kind front dash items (Open gap) bytes inside starts opens here = left_is front [] (OpenTag kind dash items gap) bytes (inside, starts, opens, here)
+  tag_left kind front dash items (Bad gap fault at) bytes inside starts opens here = left_is front [] (BadTag kind dash items gap fault at) bytes (inside, starts, opens, here)
+
+  pub start_left : (kind : Kind) (front : List ℕ) (dash : Bool) (bytes inside : List ℕ) → Starts (start_marker kind m) dash bytes inside → OpensTag m kind inside
+      → left_outside m front bytes ≡ started m front kind dash (λ f. left_inside m kind f inside)
+  start_left kind front dash bytes inside starts opens =
+      tag_left kind front dash (inside_of (end_marker kind m) inside).0 (inside_of (end_marker kind m) inside).1 bytes inside starts opens (inside_stands (end_marker kind m) (suc (length inside)) inside (omega arith))
 
 -- where a reading is
-pub outside_is : (r : Reading) → r.failed ≡ false → r.in_tag ≡ false → left_of r ≡ left_outside r.marks r.front r.rest
-unfolding left_of
-outside_is r going outside = rw (going, outside) refl
+pub ahead_in : (r : Reading) (tag : Option Kind) → r.tag ≡ tag → ahead_of r ≡ left_in r.marks tag r.front r.rest
+unfolding ahead_of
+ahead_in r tag e = ap (λ t. left_in r.marks t r.front r.rest) e
 
-pub inside_is : (r : Reading) → r.failed ≡ false → r.in_tag ≡ true → left_of r ≡ left_inside r.marks r.front r.rest
-unfolding left_of
-inside_is r going inside = rw (going, inside) refl
+pub going_is : (r : Reading) → r.failed ≡ false → left_of r ≡ ahead_of r
+going_is r going = rw going refl
 
 pub failed_is : (r : Reading) → r.failed ≡ true → left_of r ≡ Ended
-unfolding left_of
 failed_is r over = rw over refl
 
+pub ahead_failed : (r : Reading) → ahead_of (record r { failed = true }) ≡ ahead_of r
+unfolding ahead_of
+ahead_failed r = refl
+
 pub start_is : (m : Marks) (source : List ℕ) → left_of (start_of m source) ≡ left_outside m [] source
-unfolding left_of
+unfolding ahead_of
 start_is m source = refl
 
 -- the tokens that are left at the start are those of the source, which are one list

@@ -1,13 +1,15 @@
 -- Where markers stand.
-use Rattle.std.proofs.Common.{◌≡◌, ℕ, ◌<◌, ◌≤◌, Bool, true, false, ◌||◌, List, ◌++◌, length, take, drop, get_or, add-zero, subst, ⊎_elim, inl, inr, sym, refl, ap, ◌∙◌, arith, IsUtf8}
+use Rattle.std.proofs.Common.{◌≡◌, ℕ, ◌<◌, ◌≤◌, Bool, true, false, ◌||◌, List, [], ◌∷◌, ◌++◌, length, take, drop, get_or, add-zero, subst, ⊎_elim, inl, inr, sym, refl, ap, ◌∙◌, arith, IsUtf8}
 use Rattle.std.specs.Prelude.{◌⊎◌}
 use Rattle.std.specs.Str.{IsCharBoundary}
-use Rattle.std.proofs.lemmas.List.{take_at, length-append, get_or-drop, get_or_append_left}
+use Rattle.std.proofs.lemmas.List.{take_at, drop_at, length-append, get_or-drop, get_or_append_left}
 use Rattle.std.proofs.lemmas.Slice.Eq.{starts_is}
 use Rattle.std.proofs.lemmas.Bool.Decides.{Decides-eqb}
 use Rattle.std.proofs.lemmas.Str.{IsCharBoundary-from_take, IsCharBoundary-start}
-use Rattle.tera_lexer.specs.Marks.{Marks, IsValid, AreTexts, begins}
-use Rattle.tera_lexer.specs.Division.{is_at_start}
+use Rattle.tera_lexer.specs.Marks.{Marks, IsValid, AreTexts, begins, dash_bytes, TakesDash}
+use Rattle.tera_lexer.specs.Division.{is_at_start, Starts}
+use Rattle.tera_lexer.specs.Front.{at_dash, behind_dash, behind_marker}
+use Rattle.std.proofs.lemmas.Bool.{cases_Bool}
 
 -- a marker that begins the bytes stands before the rest of them, and the other way round
 pub begins_splits : (marker bytes : List ℕ) → begins marker bytes ≡ true → bytes ≡ marker ++ drop (length marker) bytes
@@ -33,7 +35,7 @@ or_false true b h = cc
 or_false false b h = (refl, h)
 
 -- and before it
-begin_cut : (bytes marker : List ℕ) (i : ℕ) → i < length bytes → IsUtf8 marker → length marker ≡ 2 → begins marker (drop i bytes) ≡ true → IsCharBoundary bytes i
+pub begin_cut : (bytes marker : List ℕ) (i : ℕ) → i < length bytes → IsUtf8 marker → length marker ≡ 2 → begins marker (drop i bytes) ≡ true → IsCharBoundary bytes i
 begin_cut bytes marker i lt text two h =
     let e = begins_splits marker (drop i bytes) h in
     let first : get_or bytes i 0 ≡ get_or marker 0 0
@@ -50,3 +52,22 @@ start_cut m bytes i texts valid lt h =
     (λ c. begin_cut bytes m.comment_start i lt texts.comment_start valid.comment_start c)
     (or_true (begins m.block_start (drop i bytes)) (begins m.comment_start (drop i bytes)) other))
     (or_true (begins m.variable_start (drop i bytes)) (begins m.block_start (drop i bytes) || begins m.comment_start (drop i bytes)) h)
+
+-- a start marker with its dash
+pub dash_stands : (behind : List ℕ) → (behind ≡ dash_bytes (at_dash behind) ++ behind_dash behind) × TakesDash (at_dash behind) (behind_dash behind)
+dash_stands behind =
+    ⊎_elim
+    (λ dashed. rw dashed (begins_splits (45 ∷ []) behind dashed, tt))
+    (λ no_dash. rw no_dash (refl, no_dash))
+    (cases_Bool (at_dash behind))
+
+pub marker_stands : (marker bytes : List ℕ) → begins marker bytes ≡ true → Starts marker (at_dash (behind_marker marker bytes)) bytes (behind_dash (behind_marker marker bytes))
+marker_stands marker bytes starts =
+    let dash = dash_stands (behind_marker marker bytes) in (begins_splits marker bytes starts ∙ ap (λ l. marker ++ l) dash.0, dash.1)
+
+pub dash_found : (dash : Bool) (inside : List ℕ) → TakesDash dash inside → (at_dash (dash_bytes dash ++ inside) ≡ dash) × (behind_dash (dash_bytes dash ++ inside) ≡ inside)
+dash_found true inside takes = (refl, refl)
+dash_found false inside takes = (takes, rw takes refl)
+
+pub behind_is : (marker bytes rest : List ℕ) → bytes ≡ marker ++ rest → behind_marker marker bytes ≡ rest
+behind_is marker bytes rest e = ap (drop (length marker)) e ∙ drop_at marker rest (length marker) refl

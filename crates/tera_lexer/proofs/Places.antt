@@ -6,7 +6,7 @@ use Rattle.std.specs.Str.{IsCharBoundary}
 use Rattle.std.proofs.lemmas.List.{append-nil, drop_all, drop-append-le, length-append, length-drop, reverse-append, take-append-drop, take_at, drop-drop, length-take-le, length-take}
 use Rattle.std.proofs.lemmas.List.Sums.{count_by-le-length, suffix_len-le-length, sum_by_push}
 use Rattle.std.proofs.lemmas.Str.{IsCharBoundary-from_rest}
-use Rattle.tera_lexer.specs.Place.{is_line_feed, begins_character, place_after, stepped, moved}
+use Rattle.tera_lexer.specs.Place.{is_line_feed, begins_character, place_after, span_of, IsWithin, stepped, moved}
 use Rattle.tera_lexer.specs.declared.lexer.place.Place.{Place}
 
 is_either : (v : Bool) → (v ≡ true) ⊎ (v ≡ false)
@@ -78,17 +78,23 @@ pub record Advanced (source : List ℕ) (old new : Place) (n : ℕ) : Type 0 whe
   pub place : new ≡ place_after (take new.byte source)
   pub front : take new.byte source ≡ take old.byte source ++ take n (drop old.byte source)
   pub rest : drop new.byte source ≡ drop n (drop old.byte source)
-  pub forward : old.byte ≤ new.byte
 
 byte_of_place : (front : List ℕ) → (place_after front).byte ≡ length front
 unfolding place_after
 byte_of_place front = refl
 
-pub place_advances : (source : List ℕ) (place new : Place) (text : List ℕ) (n : ℕ) → IsCharBoundary source place.byte → place ≡ place_after (take place.byte source) → IsCharBoundary (drop place.byte source) n → text ≡ take n (drop place.byte source) → new ≡ moved place text → Advanced source place new n
-place_advances source place new text n cut at cut_on text_is new_is =
+-- the place that the counters give behind the next n bytes
+pub moved_ahead : (source : List ℕ) (place new : Place) (text : List ℕ) (n : ℕ) → place ≡ place_after (take place.byte source) → text ≡ take n (drop place.byte source) → new ≡ moved place text
+    → new ≡ place_after (take place.byte source ++ take n (drop place.byte source))
+moved_ahead source place new text n at text_is new_is =
+    let part : List ℕ = take n (drop place.byte source) in
+    new_is ∙ ap (λ t. moved place t) text_is ∙ ap (λ p. moved p part) at ∙ moved_is (take place.byte source) part
+
+pub place_advances : (source : List ℕ) (place new : Place) (n : ℕ) → IsCharBoundary source place.byte → IsCharBoundary (drop place.byte source) n
+    → new ≡ place_after (take place.byte source ++ take n (drop place.byte source)) → Advanced source place new n
+place_advances source place new n cut cut_on here =
     let front : List ℕ = take place.byte source in
     let part : List ℕ = take n (drop place.byte source) in
-    let here : new ≡ place_after (front ++ part) = new_is ∙ ap (λ t. moved place t) text_is ∙ ap (λ p. moved p part) at ∙ moved_is front part in
     let len : length (front ++ part) ≡ place.byte + n
     = length-append front part ∙ (λ i. length-take-le place.byte source cut.0 i + length-take-le n (drop place.byte source) cut_on.0 i) in
     let byte : new.byte ≡ place.byte + n = ap (λ (p : Place). p.byte) here ∙ byte_of_place (front ++ part) ∙ len in
@@ -98,8 +104,20 @@ place_advances source place new text n cut at cut_on text_is new_is =
       place = here ∙ ap place_after (sym split);
       front = split;
       rest = ap (λ k. drop k source) byte ∙ drop_on source place.byte n;
-      forward = omega arith;
     }
+
+-- the span of the next n bytes lies in the source
+pub span_within : (source : List ℕ) (byte n : ℕ) → IsCharBoundary source byte → IsCharBoundary (drop byte source) n → IsWithin (take byte source ++ drop byte source) (span_of (take byte source) (take n (drop byte source)))
+unfolding place_after
+span_within source byte n cut cut_on =
+    let whole : source ≡ take byte source ++ drop byte source = sym (take-append-drop byte source) in
+    let start : byte ≡ length (take byte source) = sym (length-take-le byte source cut.0) in
+    let end : byte + n ≡ length (take byte source ++ take n (drop byte source))
+    = sym (length-append (take byte source) (take n (drop byte source)) ∙ (λ i. length-take-le byte source cut.0 i + length-take-le n (drop byte source) cut_on.0 i)) in (
+      omega (arith, start, end),
+      subst (λ (l : List ℕ). IsCharBoundary l (length (take byte source))) whole (subst (IsCharBoundary source) start cut),
+      subst (λ (l : List ℕ). IsCharBoundary l (length (take byte source ++ take n (drop byte source)))) whole (subst (IsCharBoundary source) end (IsCharBoundary-from_rest source byte n cut.0 cut_on)),
+    )
 
 -- no counter has outrun the bytes
 pub line_bound : (front : List ℕ) → (place_after front).line ≤ 1 + length front

@@ -1,36 +1,40 @@
 -- One step of a reading.
-use Rattle.std.proofs.Common.{◌≡◌, ◌≢◌, ℕ, zero, suc, ◌<◌, Bool, true, false, List, [], ◌∷◌, ◌++◌, length, take, drop, Some, None, Ok, Err, Result, subst, sym, refl, ap, ◌∙◌, arith, Bor, append_assoc}
-use Rattle.std.specs.Prelude.{◌⊎◌}
+use Rattle.std.proofs.Common.{◌≡◌, ◌≢◌, ℕ, zero, suc, ◌+◌, ◌<◌, Bool, true, false, List, [], ◌∷◌, ◌++◌, length, take, drop, Option, Some, None, Ok, Err, Result, subst, sym, refl, ap, ◌∙◌, arith, Bor, append_assoc}
 use Rattle.std.specs.Char.{is_ascii_whitespace}
 use Rattle.std.proofs.lemmas.List.{take-append-drop, length-append, take_at, drop_at}
-use Rattle.tera_lexer.specs.Marks.{Marks, IsValid, begins, NowhereIn, dash_bytes}
+use Rattle.tera_lexer.specs.Marks.{Marks, IsValid, start_marker, end_marker, begins, NowhereIn, dash_bytes}
 use Rattle.tera_lexer.specs.Place.{span_of, IsWithin}
-use Rattle.tera_lexer.specs.Lexeme.{StopsAt, IsGap, Lexeme, spelled, Fault, Unexpected, Unclosed, Escaped, TooGreat, Float, told, IsFault, is_at_end, IsEnd}
-use Rattle.tera_lexer.specs.Division.{is_at_start, EndsText}
+use Rattle.tera_lexer.specs.Lexeme.{StopsAt, IsGap, Lexeme, Name, Number, Quoted, Operator, quoted, spelled, value_of, Fault, Unexpected, Unclosed, UnknownEscape, TooGreat, Float, told, IsFault, is_at_end, IsEnd}
+use Rattle.tera_lexer.specs.Raw as raw
+use Rattle.tera_lexer.specs.Raw.{word_tag_bytes, raw_word, endraw_word, OpensRaw, IsBody}
+use Rattle.tera_lexer.specs.Division.{is_at_start, EndsText, Starts, OpensTag}
 use Rattle.tera_lexer.specs.Tokens as toks
-use Rattle.tera_lexer.specs.Tokens.{Ended, not_read, text_of, token_of}
-use Rattle.tera_lexer.specs.Front.{Front, Reads, Breaks, front_of, division_by}
+use Rattle.tera_lexer.specs.Tokens.{Items, Ended, Failed, text_of, token_of, open_raw, open_comment, comment_bytes, raw_bytes, ends_dashed, trimmed, raw_token}
+use Rattle.tera_lexer.specs.Front.{Front, Reads, Breaks, front_of, find_marker, RawEnd, raw_end, unescaped}
 use Rattle.tera_lexer.specs.State.{Reading}
-use Rattle.tera_lexer.specs.Left.{left_outside, left_inside, left_of}
+use Rattle.tera_lexer.specs.Left.{left_outside, left_inside, left_in, ahead_of, left_of}
 use Rattle.tera_lexer.specs.Seen.{seen}
-use Rattle.tera_lexer.specs.Found.{IsTokenAt, IsFaultAt}
-use Rattle.tera_lexer.specs.Markers.{marker_len, IsStartOf, IsEndOf}
-use Rattle.tera_lexer.specs.Steps.{whole_of, Steps}
-use Rattle.tera_base.specs.Errors.{Tells}
+use Rattle.tera_lexer.specs.Found.{IsTokenAt, IsEscapedAt, IsFaultAt}
+use Rattle.tera_lexer.specs.Markers.{marker_len, IsStartOf, IsEndOf, OpensBy, IsRawEndOf}
+use Rattle.tera_lexer.specs.Steps.{whole_of, Stops, Steps}
+use Rattle.tera_base.specs.Errors.{IsMemory, Tells}
 use Rattle.tera_base.specs.declared.utils.Span.{Span}
 use Rattle.tera_base.specs.declared.errors.Error.{Error}
+use Rattle.tera_lexer.specs.declared.lexer.delimiters.Kind.{Kind}
+use Rattle.tera_lexer.specs.declared.lexer.markers.WordTag.{WordTag}
 use Rattle.tera_lexer.specs.declared.lexer.tokens.Token.{Token}
-use Rattle.tera_lexer.specs.declared.lexer.tokens.Token.TheVariants.{Content, VariableStart, VariableEnd}
-use Rattle.tera_lexer.proofs.Markers.{begins_splits}
+use Rattle.tera_lexer.specs.declared.lexer.tokens.Token.TheVariants.{Content, RawContent, Comment}
 use Rattle.tera_lexer.proofs.Fronts.{IsFront}
-use Rattle.tera_lexer.proofs.Lefts.{gap_left, end_left, lexeme_left, fault_left, gap_ends, unread_left, text_left, start_left, outside_is, inside_is, failed_is}
+use Rattle.tera_lexer.proofs.Escapes.{unescaped_written}
+use Rattle.tera_lexer.proofs.Pieces.{body_splits}
+use Rattle.tera_lexer.proofs.Finding.{IsMarkerAt, behind_at, find_stands}
+use Rattle.tera_lexer.proofs.WordTags.{IsTagAt, word_tag_stands, word_tag_splits}
+use Rattle.tera_lexer.proofs.RawEnds.{IsEndAt, raw_stands}
+use Rattle.tera_lexer.proofs.Lefts.{gap_left, end_left, lexeme_left, fault_left, gap_ends, nothing_left, text_left, comment_left, open_comment_left, raw_left, open_raw_left, start_left, ahead_in, going_is, failed_is, ahead_failed}
 
--- n bytes further, and in a tag or out of it
+-- n bytes further
 abbrev pub forward : Reading → ℕ → Reading
 forward r n = record r { front = r.front ++ take n r.rest; rest = drop n r.rest }
-
-abbrev pub turned : Reading → Bool → Reading
-turned r in_tag = record r { in_tag = in_tag }
 
 -- which leaves the whole as it is
 pub forward_whole : (r : Reading) (n : ℕ) → whole_of (forward r n) ≡ whole_of r
@@ -51,7 +55,7 @@ no_bytes (b ∷ bs) e = absurd (omega arith)
 fault_splits : (f : Fault) (bytes : List ℕ) → IsFault f bytes → (rest : List ℕ) × (bytes ≡ told f ++ rest)
 fault_splits Unexpected bytes here = (bytes, refl)
 fault_splits (Unclosed quote) bytes here = (bytes, refl)
-fault_splits (Escaped quote is) bytes here = (here.0, here.1)
+fault_splits (UnknownEscape quote is) bytes here = (here.0, here.1)
 fault_splits (TooGreat b bs) bytes here = (here.0, here.1)
 fault_splits (Float b bs more) bytes here = (here.0, here.1 ∙ ap (λ l. b ∷ l) (sym (append_assoc bs (46 ∷ more) here.0)))
 
@@ -61,133 +65,254 @@ text_some m [] n some nowhere ends e = omega arith
 text_some m (b ∷ bs) zero some nowhere ends e = let clash : false ≡ true = sym nowhere ∙ ends in cc
 text_some m (b ∷ bs) (suc n) some nowhere ends e = cc
 
-module _ (r : Reading) (going : r.failed ≡ false) (outside : r.in_tag ≡ false) (valid : IsValid r.marks) where
-  outside_left : (k : toks.Items) → left_outside r.marks r.front r.rest ≡ k → left_of r ≡ k
-  outside_left k e = outside_is r going outside ∙ e
-
-  pub outside_ends : r.rest ≡ [] → Steps r None r
-  unfolding division_by
-  outside_ends e = (refl, outside_left Ended (ap (left_outside r.marks r.front) e))
-
-  pub outside_starts : (new : Reading) (span : Span) (dash : Bool) (n : ℕ) → IsStartOf r.marks.variable_start r.rest (Some dash) → n ≡ marker_len r.marks.variable_start dash
-      → new ≡ turned (forward r n) true → span ≡ span_of r.front (take n r.rest) → IsWithin (whole_of r) span → Steps r (Some (Ok (VariableStart dash, span))) new
-  outside_starts new span dash n starts n_is new_is span_is within =
-      let marker : List ℕ = r.marks.variable_start ++ dash_bytes dash in
-      let inside : List ℕ = drop (marker_len r.marks.variable_start dash) r.rest in
-      let splits : r.rest ≡ marker ++ inside = starts.0.0 ∙ sym (append_assoc r.marks.variable_start (dash_bytes dash) inside) in
-      let len : n ≡ length marker = n_is ∙ sym (length-append r.marks.variable_start (dash_bytes dash)) in
-      let front : take n r.rest ≡ marker = cut_front r.rest marker inside n splits len in
-      let rest : drop n r.rest ≡ inside = ap (λ k. drop k r.rest) n_is in
-      let next : left_of new ≡ left_inside r.marks (r.front ++ marker) inside
-      = ap left_of new_is ∙ inside_is (turned (forward r n) true) going refl ∙ (λ i. left_inside r.marks (r.front ++ front i) (rest i)) in (
-        outside_left (toks.Token (toks.Start dash) span (left_of new)) (start_left r.marks valid r.front dash r.rest inside starts.0 ∙ (λ i. toks.Token (toks.Start dash) (sym (span_is ∙ ap (span_of r.front) front) i) (sym next i))),
-        (ap (λ (k : Reading). k.marks) new_is, ap (λ (k : Reading). whole_of k) new_is ∙ forward_whole r n),
-        within,
-      )
-
-  pub outside_unread : (new : Reading) (e : Error) (marker : List ℕ) → ((marker ≡ r.marks.block_start) ⊎ (marker ≡ r.marks.comment_start)) → length marker ≡ 2 → begins marker r.rest ≡ true
-      → new ≡ record r { front = r.front ++ take 2 r.rest; rest = drop 2 r.rest; failed = true } → Tells not_read (span_of r.front (take 2 r.rest)) e → IsWithin (whole_of r) (span_of r.front (take 2 r.rest)) → Steps r (Some (Err e)) new
-  outside_unread new e marker which two starts new_is tells within =
-      let splits = begins_splits marker r.rest starts in
-      let front : take 2 r.rest ≡ marker = cut_front r.rest marker (drop (length marker) r.rest) 2 splits (sym two) in (
-        failed_is new (ap (λ (k : Reading). k.failed) new_is),
-        (ap (λ (k : Reading). k.marks) new_is, ap (λ (k : Reading). whole_of k) new_is ∙ forward_whole r 2),
-        (
-          not_read,
-          span_of r.front (take 2 r.rest),
-          outside_left (toks.Failed not_read (span_of r.front (take 2 r.rest))) (unread_left r.marks valid r.front marker r.rest (drop (length marker) r.rest) which splits ∙ ap (λ l. toks.Failed not_read (span_of r.front l)) (sym front)),
-          within,
-          tells,
-        ),
-      )
-
-  pub outside_text : (new : Reading) (text : Bor (List ℕ)) (span : Span) (n : ℕ) → 0 < length r.rest → begins r.marks.variable_start r.rest ≡ false → begins r.marks.block_start r.rest ≡ false → begins r.marks.comment_start r.rest ≡ false
-      → NowhereIn (is_at_start r.marks) (take n r.rest) (drop n r.rest) → EndsText r.marks (drop n r.rest)
-      → new ≡ forward r n → text.now ≡ take n r.rest → span ≡ span_of r.front (take n r.rest) → IsWithin (whole_of r) span → Steps r (Some (Ok (Content text, span))) new
-  outside_text new text span n some variable block comment none ends new_is text_is span_is within =
-      let nowhere : is_at_start r.marks r.rest ≡ false = rw (variable, block, comment) refl in
-      let next : left_of new ≡ left_outside r.marks (r.front ++ take n r.rest) (drop n r.rest) = ap left_of new_is ∙ outside_is (forward r n) going outside in (
-        outside_left (toks.Token (toks.Content text.now) span (left_of new)) (text_left r.marks valid r.front (take n r.rest) (drop n r.rest) r.rest (sym (take-append-drop n r.rest)) (text_some r.marks r.rest n some nowhere ends) none ends
-            ∙ (λ i. toks.Token (toks.Content (sym text_is i)) (sym span_is i) (sym next i))),
-        (ap (λ (k : Reading). k.marks) new_is, ap (λ (k : Reading). whole_of k) new_is ∙ forward_whole r n),
-        within,
-      )
-
-module _ (r : Reading) (going : r.failed ≡ false) (inside : r.in_tag ≡ true) (valid : IsValid r.marks) where
-  inside_left : (k : toks.Items) → left_inside r.marks r.front r.rest ≡ k → left_of r ≡ k
-  inside_left k e = inside_is r going inside ∙ e
-
-  pub inside_ends : IsGap r.rest [] → Steps r None r
-  inside_ends is_gap = (refl, inside_left Ended (gap_ends r.marks valid r.front r.rest is_gap))
-
-  -- the gap is passed over
-  pub gap_step : (mid new : Reading) (result : Result (Token × Span) Error) (g : ℕ) → IsGap (take g r.rest) (drop g r.rest) → mid ≡ forward r g → Steps mid (Some result) new → Steps r (Some result) new
-  gap_step mid new (Ok p) g is_gap mid_is (left, goes_on, within) =
-      let whole : whole_of mid ≡ whole_of r = ap (λ (k : Reading). whole_of k) mid_is ∙ forward_whole r g in
-      let same : left_of r ≡ left_of mid
-      = inside_left (left_inside r.marks (r.front ++ take g r.rest) (drop g r.rest)) (gap_left r.marks valid r.front (take g r.rest) (drop g r.rest) r.rest (sym (take-append-drop g r.rest)) is_gap)
-      ∙ sym (ap left_of mid_is ∙ inside_is (forward r g) going inside) in
-      (same ∙ left, (goes_on.0 ∙ ap (λ (k : Reading). k.marks) mid_is, goes_on.1 ∙ whole), subst (λ l. IsWithin l p.1) whole within)
-  gap_step mid new (Err e) g is_gap mid_is (over, goes_on, (text, span, left, within, tells)) =
-      let whole : whole_of mid ≡ whole_of r = ap (λ (k : Reading). whole_of k) mid_is ∙ forward_whole r g in
-      let same : left_of r ≡ left_of mid
-      = inside_left (left_inside r.marks (r.front ++ take g r.rest) (drop g r.rest)) (gap_left r.marks valid r.front (take g r.rest) (drop g r.rest) r.rest (sym (take-append-drop g r.rest)) is_gap)
-      ∙ sym (ap left_of mid_is ∙ inside_is (forward r g) going inside) in
-      (over, (goes_on.0 ∙ ap (λ (k : Reading). k.marks) mid_is, goes_on.1 ∙ whole), (text, span, same ∙ left, subst (λ l. IsWithin l span) whole within, tells))
-
-  module _ (stops : StopsAt is_ascii_whitespace r.rest) where
-    pub end_step : (new : Reading) (span : Span) (dash : Bool) (n : ℕ) → IsEndOf r.marks.variable_end r.rest (Some dash) → n ≡ marker_len r.marks.variable_end dash
-        → new ≡ turned (forward r n) false → span ≡ span_of r.front (take n r.rest) → IsWithin (whole_of r) span → Steps r (Some (Ok (VariableEnd dash, span))) new
-    end_step new span dash n ends n_is new_is span_is within =
-        let marker : List ℕ = dash_bytes dash ++ r.marks.variable_end in
-        let behind : List ℕ = drop (marker_len r.marks.variable_end dash) r.rest in
-        let splits : r.rest ≡ marker ++ behind = end_splits dash behind ends.0 in
-        let len : n ≡ length marker = omega (arith, n_is, length-append (dash_bytes dash) r.marks.variable_end) in
-        let front : take n r.rest ≡ marker = cut_front r.rest marker behind n splits len in
-        let rest : drop n r.rest ≡ behind = ap (λ k. drop k r.rest) n_is in
-        let next : left_of new ≡ left_outside r.marks (r.front ++ marker) behind
-        = ap left_of new_is ∙ outside_is (turned (forward r n) false) going refl ∙ (λ i. left_outside r.marks (r.front ++ front i) (rest i)) in (
-          inside_left (toks.Token (toks.Finish dash) span (left_of new)) (end_left r.marks valid r.front r.rest stops dash behind ends.0 ∙ (λ i. toks.Token (toks.Finish dash) (sym (span_is ∙ ap (span_of r.front) front) i) (sym next i))),
+-- the bytes of a token were taken; or those of a fault were told; or no memory was found
+module _ (r new : Reading) (going : r.failed ≡ false) where
+  module _ (n : ℕ) (bytes behind : List ℕ) (splits : r.rest ≡ bytes ++ behind) (len : n ≡ length bytes) where
+    pub took : (t : Token) (span : Span) (tag : Option Kind) → new ≡ record (forward r n) { tag = tag } → span ≡ span_of r.front (take n r.rest) → IsWithin (whole_of r) span
+        → ahead_of r ≡ toks.Token (seen t) (span_of r.front bytes) (left_in r.marks tag (r.front ++ bytes) behind) → Steps r (Some (Ok (t, span))) new
+    took t span tag new_is span_is within is =
+        let front : take n r.rest ≡ bytes = cut_front r.rest bytes behind n splits len in
+        let rest : drop n r.rest ≡ behind = cut_rest r.rest bytes behind n splits len in
+        let next : left_of new ≡ left_in r.marks tag (r.front ++ bytes) behind
+        = ap left_of new_is ∙ going_is (record (forward r n) { tag = tag }) going ∙ ahead_in (record (forward r n) { tag = tag }) tag refl ∙ (λ i. left_in r.marks tag (r.front ++ front i) (rest i)) in (
+          going_is r going ∙ is ∙ (λ i. toks.Token (seen t) (sym (span_is ∙ ap (span_of r.front) front) i) (sym next i)),
           (ap (λ (k : Reading). k.marks) new_is, ap (λ (k : Reading). whole_of k) new_is ∙ forward_whole r n),
           within,
         )
+
+    pub told_fault : (e : Error) (text : List ℕ) → new ≡ record r { failed = true } → Tells text (span_of r.front (take n r.rest)) e → IsWithin (whole_of r) (span_of r.front (take n r.rest))
+        → ahead_of r ≡ Failed text (span_of r.front bytes) → Steps r (Some (Err e)) new
+    told_fault e text new_is tells within is =
+        let front : take n r.rest ≡ bytes = cut_front r.rest bytes behind n splits len in
+        let ahead : ahead_of new ≡ Failed text (span_of r.front (take n r.rest)) = ap ahead_of new_is ∙ ahead_failed r ∙ is ∙ ap (λ l. Failed text (span_of r.front l)) (sym front) in (
+          failed_is new (ap (λ (k : Reading). k.failed) new_is),
+          going_is r going ∙ sym (ap ahead_of new_is ∙ ahead_failed r),
+          (ap (λ (k : Reading). k.marks) new_is, ap (λ (k : Reading). whole_of k) new_is),
+          subst (λ (items : Items). Stops (whole_of r) items e) (sym ahead) (within, tells),
+        )
+
+  pub no_memory : (e : Error) (text : List ℕ) (span : Span) (items : Items) → new ≡ record r { failed = true } → IsMemory e → ahead_of r ≡ toks.Token (toks.Escaped text) span items → Steps r (Some (Err e)) new
+  no_memory e text span items new_is memory is =
+      let ahead : ahead_of new ≡ toks.Token (toks.Escaped text) span items = ap ahead_of new_is ∙ ahead_failed r ∙ is in (
+        failed_is new (ap (λ (k : Reading). k.failed) new_is),
+        going_is r going ∙ sym (ap ahead_of new_is ∙ ahead_failed r),
+        (ap (λ (k : Reading). k.marks) new_is, ap (λ (k : Reading). whole_of k) new_is),
+        subst (λ (items : Items). Stops (whole_of r) items e) (sym ahead) (tt, memory),
+      )
+
+-- a start marker with its dash
+start_splits : (marker rest behind : List ℕ) (dash : Bool) → Starts marker dash rest behind → rest ≡ (marker ++ dash_bytes dash) ++ behind
+start_splits marker rest behind dash starts = starts.0 ∙ sym (append_assoc marker (dash_bytes dash) behind)
+
+start_len : (marker : List ℕ) (dash : Bool) (n : ℕ) → n ≡ marker_len marker dash → n ≡ length (marker ++ dash_bytes dash)
+start_len marker dash n e = e ∙ sym (length-append marker (dash_bytes dash))
+
+module _ (r : Reading) (going : r.failed ≡ false) (outside : r.tag ≡ None) (valid : IsValid r.marks) where
+  ahead_outside : (k : Items) → left_outside r.marks r.front r.rest ≡ k → ahead_of r ≡ k
+  ahead_outside k e = ahead_in r None outside ∙ e
+
+  pub outside_ends : r.rest ≡ [] → Steps r None r
+  outside_ends e = (refl, going_is r going ∙ ahead_outside Ended (nothing_left r.marks valid r.front r.rest e))
+
+  pub outside_starts : (new : Reading) (t : Token) (span : Span) (kind : Kind) (dash : Bool) (n : ℕ) → IsStartOf (start_marker kind r.marks) r.rest (Some dash) → OpensTag r.marks kind (drop (marker_len (start_marker kind r.marks) dash) r.rest)
+      → n ≡ marker_len (start_marker kind r.marks) dash → seen t ≡ toks.Start kind dash
+      → new ≡ record (forward r n) { tag = Some kind } → span ≡ span_of r.front (take n r.rest) → IsWithin (whole_of r) span → Steps r (Some (Ok (t, span))) new
+  outside_starts new t span kind dash n starts opens n_is t_is new_is span_is within =
+      let marker : List ℕ = start_marker kind r.marks in
+      let inside : List ℕ = drop (marker_len marker dash) r.rest in
+      took r new going n (marker ++ dash_bytes dash) inside (start_splits marker r.rest inside dash starts.0) (start_len marker dash n n_is) t span (Some kind) new_is span_is within
+      (ahead_outside (toks.Token (seen t) (span_of r.front (marker ++ dash_bytes dash)) (left_inside r.marks kind (r.front ++ (marker ++ dash_bytes dash)) inside))
+      (start_left r.marks valid kind r.front dash r.rest inside starts.0 opens ∙ ap (λ k. toks.Token k (span_of r.front (marker ++ dash_bytes dash)) (left_inside r.marks kind (r.front ++ (marker ++ dash_bytes dash)) inside)) (sym t_is)))
+
+  pub outside_text : (new : Reading) (text : Bor (List ℕ)) (span : Span) (n : ℕ) → 0 < length r.rest → begins r.marks.variable_start r.rest ≡ false → begins r.marks.block_start r.rest ≡ false → begins r.marks.comment_start r.rest ≡ false
+      → NowhereIn (is_at_start r.marks) (take n r.rest) (drop n r.rest) → EndsText r.marks (drop n r.rest)
+      → new ≡ forward r n → text.now ≡ take n r.rest → length (take n r.rest) ≡ n → span ≡ span_of r.front (take n r.rest) → IsWithin (whole_of r) span → Steps r (Some (Ok (Content text, span))) new
+  outside_text new text span n some variable block comment none ends new_is text_is len span_is within =
+      let nowhere : is_at_start r.marks r.rest ≡ false = rw (variable, block, comment) refl in
+      let splits = sym (take-append-drop n r.rest) in
+      took r new going n (take n r.rest) (drop n r.rest) splits (sym len) (Content text) span None (new_is ∙ (λ i. record (forward r n) { tag = outside i })) span_is within
+      (ahead_outside (toks.Token (toks.Content text.now) (span_of r.front (take n r.rest)) (left_outside r.marks (r.front ++ take n r.rest) (drop n r.rest)))
+      (text_left r.marks valid r.front (take n r.rest) (drop n r.rest) r.rest splits (text_some r.marks r.rest n some nowhere ends) none ends
+      ∙ ap (λ l. toks.Token (toks.Content l) (span_of r.front (take n r.rest)) (left_outside r.marks (r.front ++ take n r.rest) (drop n r.rest))) (sym text_is)))
+
+  -- a comment that closes, and one that does not
+  module _ (dash : Bool) (starts : IsStartOf r.marks.comment_start r.rest (Some dash)) where
+    abbrev behind_comment : List ℕ
+    behind_comment = drop (marker_len r.marks.comment_start dash) r.rest
+
+    comment_splits : (inside rest : List ℕ) → behind_comment ≡ inside ++ (r.marks.comment_end ++ rest) → r.rest ≡ comment_bytes r.marks dash inside ++ rest
+    comment_splits inside rest e =
+        let m = r.marks in
+        starts.0.0 ∙ ap (λ l. m.comment_start ++ (dash_bytes dash ++ l)) (e ∙ sym (append_assoc inside m.comment_end rest))
+        ∙ sym (append_assoc m.comment_start (dash_bytes dash ++ (inside ++ m.comment_end)) rest ∙ ap (λ l. m.comment_start ++ l) (append_assoc (dash_bytes dash) (inside ++ m.comment_end) rest))
+
+    pub comment_step : (new : Reading) (span : Span) (len n : ℕ) → find_marker r.marks.comment_end behind_comment ≡ Some len → n ≡ marker_len r.marks.comment_start dash + (len + length r.marks.comment_end) → length (take len behind_comment) ≡ len
+        → new ≡ forward r n → span ≡ span_of r.front (take n r.rest) → IsWithin (whole_of r) span → Steps r (Some (Ok (Comment dash (ends_dashed (take len behind_comment)), span))) new
+    comment_step new span len n found n_is taken new_is span_is within =
+        let inside : List ℕ = take len behind_comment in
+        let rest : List ℕ = behind_at r.marks.comment_end len behind_comment in
+        let stands : IsMarkerAt r.marks.comment_end behind_comment (Some len) = subst (IsMarkerAt r.marks.comment_end behind_comment) found (find_stands r.marks.comment_end behind_comment) in
+        let long : n ≡ length (comment_bytes r.marks dash inside)
+        = omega (arith, n_is, taken, length-append r.marks.comment_start (dash_bytes dash ++ (inside ++ r.marks.comment_end)), length-append (dash_bytes dash) (inside ++ r.marks.comment_end), length-append inside r.marks.comment_end) in
+        took r new going n (comment_bytes r.marks dash inside) rest (comment_splits inside rest stands.0) long (Comment dash (ends_dashed inside)) span None (new_is ∙ (λ i. record (forward r n) { tag = outside i })) span_is within
+        (ahead_outside (toks.Token (toks.Remark dash (ends_dashed inside)) (span_of r.front (comment_bytes r.marks dash inside)) (left_outside r.marks (r.front ++ comment_bytes r.marks dash inside) rest))
+        (comment_left r.marks valid r.front dash inside rest r.rest behind_comment starts.0 stands.0 stands.1))
+
+    pub open_comment_step : (new : Reading) (e : Error) (n : ℕ) → find_marker r.marks.comment_end behind_comment ≡ None → n ≡ marker_len r.marks.comment_start dash
+        → new ≡ record r { failed = true } → Tells (open_comment r.marks) (span_of r.front (take n r.rest)) e → IsWithin (whole_of r) (span_of r.front (take n r.rest)) → Steps r (Some (Err e)) new
+    open_comment_step new e n none n_is new_is tells within =
+        let stands : IsMarkerAt r.marks.comment_end behind_comment None = subst (IsMarkerAt r.marks.comment_end behind_comment) none (find_stands r.marks.comment_end behind_comment) in
+        told_fault r new going n (r.marks.comment_start ++ dash_bytes dash) behind_comment (start_splits r.marks.comment_start r.rest behind_comment dash starts.0) (start_len r.marks.comment_start dash n n_is) e (open_comment r.marks) new_is tells within
+        (ahead_outside (Failed (open_comment r.marks) (span_of r.front (r.marks.comment_start ++ dash_bytes dash))) (open_comment_left r.marks valid r.front dash r.rest behind_comment starts.0 stands))
+
+  -- a raw piece
+  module _ (dash : Bool) (starts : IsStartOf r.marks.block_start r.rest (Some dash)) (opening : WordTag) (opens : OpensBy r.marks dash opening r.rest) where
+    abbrev pub raw_tag : raw.WordTag
+    raw_tag = opens.0
+
+    abbrev pub raw_inside : List ℕ
+    raw_inside = opens.1
+
+    abbrev behind_block : List ℕ
+    behind_block = drop (marker_len r.marks.block_start dash) r.rest
+
+    pub raw_opens : OpensRaw r.marks raw_tag behind_block raw_inside
+    raw_opens = subst (IsTagAt raw_word r.marks.block_end behind_block) opens.4 (word_tag_stands raw_word r.marks.block_end behind_block)
+
+    -- where the body begins
+    pub body_at : drop (marker_len r.marks.block_start dash + opening.len) r.rest ≡ raw_inside
+    body_at =
+        let tag : List ℕ = word_tag_bytes raw_word r.marks.block_end raw_tag in
+        let start : List ℕ = r.marks.block_start ++ dash_bytes dash in
+        let splits : r.rest ≡ (start ++ tag) ++ raw_inside
+        = start_splits r.marks.block_start r.rest behind_block dash starts.0 ∙ ap (λ l. start ++ l) (word_tag_splits raw_word r.marks.block_end raw_tag behind_block raw_inside raw_opens) ∙ sym (append_assoc start tag raw_inside) in
+        cut_rest r.rest (start ++ tag) raw_inside (marker_len r.marks.block_start dash + opening.len) splits
+        (omega (arith, opens.2.2, length-append start tag, length-append r.marks.block_start (dash_bytes dash)))
+
+    pub open_raw_step : (new : Reading) (e : Error) (n : ℕ) → raw_end r.marks.block_start r.marks.block_end false raw_inside ≡ None → n ≡ marker_len r.marks.block_start dash
+        → new ≡ record r { failed = true } → Tells open_raw (span_of r.front (take n r.rest)) e → IsWithin (whole_of r) (span_of r.front (take n r.rest)) → Steps r (Some (Err e)) new
+    unfolding IsEndAt
+    open_raw_step new e n none n_is new_is tells within =
+        let is : IsEndAt r.marks valid.block_start raw_inside None = subst (IsEndAt r.marks valid.block_start raw_inside) none (raw_stands r.marks valid.block_start (suc (length raw_inside)) raw_inside (omega arith)) in
+        told_fault r new going n (r.marks.block_start ++ dash_bytes dash) behind_block (start_splits r.marks.block_start r.rest behind_block dash starts.0) (start_len r.marks.block_start dash n n_is) e open_raw new_is tells within
+        (ahead_outside (Failed open_raw (span_of r.front (r.marks.block_start ++ dash_bytes dash))) (open_raw_left r.marks valid r.front dash raw_tag r.rest behind_block raw_inside starts.0 raw_opens is))
+
+    raw_splits : (body : List ℕ) (closing : raw.WordTag) (rest : List ℕ) → IsBody r.marks body closing raw_inside rest → r.rest ≡ raw_bytes r.marks dash raw_tag body closing ++ rest
+    raw_splits body closing rest is =
+        let m = r.marks in
+        let close : List ℕ = word_tag_bytes endraw_word m.block_end closing in
+        let open_tag : List ℕ = word_tag_bytes raw_word m.block_end raw_tag in
+        starts.0.0
+        ∙ ap (λ l. m.block_start ++ (dash_bytes dash ++ l)) (word_tag_splits raw_word m.block_end raw_tag behind_block raw_inside raw_opens ∙ ap (λ l. open_tag ++ l) (body_splits m valid body closing raw_inside rest is))
+        ∙ sym (append_assoc m.block_start (dash_bytes dash ++ (open_tag ++ (body ++ (m.block_start ++ close)))) rest
+        ∙ ap (λ l. m.block_start ++ l) (append_assoc (dash_bytes dash) (open_tag ++ (body ++ (m.block_start ++ close))) rest
+        ∙ ap (λ l. dash_bytes dash ++ l) (append_assoc open_tag (body ++ (m.block_start ++ close)) rest
+        ∙ ap (λ l. open_tag ++ l) (append_assoc body (m.block_start ++ close) rest
+        ∙ ap (λ l. body ++ l) (append_assoc m.block_start close rest)))))
+
+    raw_by : (new : Reading) (text : Bor (List ℕ)) (span : Span) (len n : ℕ) (closing : WordTag) (o : Option RawEnd) → IsRawEndOf r.marks.block_end (Some (len, closing)) o → IsEndAt r.marks valid.block_start raw_inside o
+        → n ≡ marker_len r.marks.block_start dash + opening.len + (len + (length r.marks.block_start + closing.len)) → text.now ≡ trimmed opening.dash_out closing.dash_in (take len raw_inside)
+        → new ≡ forward r n → span ≡ span_of r.front (take n r.rest) → IsWithin (whole_of r) span → Steps r (Some (Ok (RawContent dash text closing.dash_out, span))) new
+    unfolding IsEndAt
+    raw_by new text span len n closing None ends is n_is text_is new_is span_is within = absurd ends
+    raw_by new text span len n closing (Some e) ends (body, body_len, is) n_is text_is new_is span_is within =
+        let m = r.marks in
+        let bytes : List ℕ = raw_bytes m dash raw_tag body e.close in
+        let close : List ℕ = word_tag_bytes endraw_word m.block_end e.close in
+        let open_tag : List ℕ = word_tag_bytes raw_word m.block_end raw_tag in
+        let taken : take len raw_inside ≡ body = cut_front raw_inside body (m.block_start ++ (close ++ e.rest)) len (body_splits m valid body e.close raw_inside e.rest is) (ends.0 ∙ body_len) in
+        let long : n ≡ length bytes
+        = omega (arith, n_is, ends.0, body_len, ends.1.2, opens.2.2, length-append m.block_start (dash_bytes dash ++ (open_tag ++ (body ++ (m.block_start ++ close)))), length-append (dash_bytes dash) (open_tag ++ (body ++ (m.block_start ++ close))), length-append open_tag (body ++ (m.block_start ++ close)), length-append body (m.block_start ++ close), length-append m.block_start close) in
+        let t_is : toks.RawContent dash text.now closing.dash_out ≡ raw_token dash raw_tag body e.close
+        = λ i. toks.RawContent dash ((text_is ∙ (λ k. trimmed (opens.2.1 k) (ends.1.0 k) (taken k))) i) (ends.1.1 i) in
+        took r new going n bytes e.rest (raw_splits body e.close e.rest is) long (RawContent dash text closing.dash_out) span None (new_is ∙ (λ i. record (forward r n) { tag = outside i })) span_is within
+        (ahead_outside (toks.Token (toks.RawContent dash text.now closing.dash_out) (span_of r.front bytes) (left_outside m (r.front ++ bytes) e.rest))
+        (raw_left m valid r.front dash raw_tag body e.close e.rest r.rest behind_block raw_inside starts.0 raw_opens is ∙ ap (λ t. toks.Token t (span_of r.front bytes) (left_outside m (r.front ++ bytes) e.rest)) (sym t_is)))
+
+    pub raw_step : (new : Reading) (text : Bor (List ℕ)) (span : Span) (len n : ℕ) (closing : WordTag) → IsRawEndOf r.marks.block_end (Some (len, closing)) (raw_end r.marks.block_start r.marks.block_end false raw_inside)
+        → n ≡ marker_len r.marks.block_start dash + opening.len + (len + (length r.marks.block_start + closing.len)) → text.now ≡ trimmed opening.dash_out closing.dash_in (take len raw_inside)
+        → new ≡ forward r n → span ≡ span_of r.front (take n r.rest) → IsWithin (whole_of r) span → Steps r (Some (Ok (RawContent dash text closing.dash_out, span))) new
+    raw_step new text span len n closing ends n_is text_is new_is span_is within =
+        raw_by new text span len n closing (raw_end r.marks.block_start r.marks.block_end false raw_inside) ends (raw_stands r.marks valid.block_start (suc (length raw_inside)) raw_inside (omega arith)) n_is text_is new_is span_is within
+
+module _ (r : Reading) (going : r.failed ≡ false) (kind : Kind) (inside : r.tag ≡ Some kind) (valid : IsValid r.marks) where
+  ahead_inside : (k : Items) → left_inside r.marks kind r.front r.rest ≡ k → ahead_of r ≡ k
+  ahead_inside k e = ahead_in r (Some kind) inside ∙ e
+
+  pub inside_ends : IsGap r.rest [] → Steps r None r
+  inside_ends is_gap = (refl, going_is r going ∙ ahead_inside Ended (gap_ends r.marks valid kind r.front r.rest is_gap))
+
+  -- the gap is passed over
+  pub gap_step : (mid new : Reading) (result : Result (Token × Span) Error) (g : ℕ) → IsGap (take g r.rest) (drop g r.rest) → mid ≡ forward r g → Steps mid (Some result) new → Steps r (Some result) new
+  gap_step mid new result g is_gap mid_is steps = by result steps
+    where
+      whole : whole_of mid ≡ whole_of r
+      whole = ap (λ (k : Reading). whole_of k) mid_is ∙ forward_whole r g
+
+      same : left_of r ≡ left_of mid
+      same =
+          going_is r going ∙ ahead_inside (left_inside r.marks kind (r.front ++ take g r.rest) (drop g r.rest)) (gap_left r.marks valid kind r.front (take g r.rest) (drop g r.rest) r.rest (sym (take-append-drop g r.rest)) is_gap)
+          ∙ sym (ap left_of mid_is ∙ going_is (forward r g) going ∙ ahead_in (forward r g) (Some kind) inside)
+
+      by : (result : Result (Token × Span) Error) → Steps mid (Some result) new → Steps r (Some result) new
+      by (Ok p) (left, goes_on, within) = (same ∙ left, (goes_on.0 ∙ ap (λ (k : Reading). k.marks) mid_is, goes_on.1 ∙ whole), subst (λ l. IsWithin l p.1) whole within)
+      by (Err e) (over, left, goes_on, stops) = (over, same ∙ left, (goes_on.0 ∙ ap (λ (k : Reading). k.marks) mid_is, goes_on.1 ∙ whole), subst (λ l. Stops l (ahead_of new) e) whole stops)
+
+  module _ (stops : StopsAt is_ascii_whitespace r.rest) where
+    pub end_step : (new : Reading) (t : Token) (span : Span) (dash : Bool) (n : ℕ) → IsEndOf (end_marker kind r.marks) r.rest (Some dash) → n ≡ marker_len (end_marker kind r.marks) dash → seen t ≡ toks.Finish kind dash
+        → new ≡ record (forward r n) { tag = None } → span ≡ span_of r.front (take n r.rest) → IsWithin (whole_of r) span → Steps r (Some (Ok (t, span))) new
+    end_step new t span dash n ends n_is t_is new_is span_is within =
+        let end : List ℕ = end_marker kind r.marks in
+        let marker : List ℕ = dash_bytes dash ++ end in
+        let behind : List ℕ = drop (marker_len end dash) r.rest in
+        took r new going n marker behind (end_splits dash behind ends.0) (omega (arith, n_is, length-append (dash_bytes dash) end)) t span None new_is span_is within
+        (ahead_inside (toks.Token (seen t) (span_of r.front marker) (left_outside r.marks (r.front ++ marker) behind))
+        (end_left r.marks valid kind r.front r.rest stops dash behind ends.0 ∙ ap (λ k. toks.Token k (span_of r.front marker) (left_outside r.marks (r.front ++ marker) behind)) (sym t_is)))
       where
-        end_splits : (dash : Bool) (behind : List ℕ) → IsEnd r.marks.variable_end dash r.rest behind → r.rest ≡ (dash_bytes dash ++ r.marks.variable_end) ++ behind
+        end_splits : (dash : Bool) (behind : List ℕ) → IsEnd (end_marker kind r.marks) dash r.rest behind → r.rest ≡ (dash_bytes dash ++ end_marker kind r.marks) ++ behind
         end_splits true behind is = is
         end_splits false behind is = is.0
 
-    module _ (some : 0 < length r.rest) (no_end : is_at_end r.marks.variable_end r.rest ≡ false) where
-      lexeme_by : (new : Reading) (token : Token) (span : Span) (n : ℕ) (lexeme : Lexeme) (behind : List ℕ) → front_of r.rest ≡ Reads lexeme behind → r.rest ≡ spelled lexeme ++ behind → seen token ≡ token_of lexeme → n ≡ length (spelled lexeme)
-          → new ≡ forward r n → span ≡ span_of r.front (take n r.rest) → IsWithin (whole_of r) span → Steps r (Some (Ok (token, span))) new
-      lexeme_by new token span n lexeme behind is splits seen_is len new_is span_is within =
-          let front : take n r.rest ≡ spelled lexeme = cut_front r.rest (spelled lexeme) behind n splits len in
-          let rest : drop n r.rest ≡ behind = cut_rest r.rest (spelled lexeme) behind n splits len in
-          let next : left_of new ≡ left_inside r.marks (r.front ++ spelled lexeme) behind
-          = ap left_of new_is ∙ inside_is (forward r n) going inside ∙ (λ i. left_inside r.marks (r.front ++ front i) (rest i)) in (
-            inside_left (toks.Token (seen token) span (left_of new)) (lexeme_left r.marks valid r.front r.rest stops lexeme behind some no_end is
-                ∙ (λ i. toks.Token (sym seen_is i) (sym (span_is ∙ ap (span_of r.front) front) i) (sym next i))),
-            (ap (λ (k : Reading). k.marks) new_is, ap (λ (k : Reading). whole_of k) new_is ∙ forward_whole r n),
-            within,
-          )
+    module _ (some : 0 < length r.rest) (no_end : is_at_end (end_marker kind r.marks) r.rest ≡ false) where
+      lexeme_by : (new : Reading) (t : Token) (span : Span) (n : ℕ) (lexeme : Lexeme) (behind : List ℕ) → front_of r.rest ≡ Reads lexeme behind → r.rest ≡ spelled lexeme ++ behind → seen t ≡ token_of lexeme → n ≡ length (spelled lexeme)
+          → new ≡ forward r n → span ≡ span_of r.front (take n r.rest) → IsWithin (whole_of r) span → Steps r (Some (Ok (t, span))) new
+      lexeme_by new t span n lexeme behind is splits seen_is len new_is span_is within =
+          took r new going n (spelled lexeme) behind splits len t span (Some kind) (new_is ∙ (λ i. record (forward r n) { tag = inside i })) span_is within
+          (ahead_inside (toks.Token (seen t) (span_of r.front (spelled lexeme)) (left_inside r.marks kind (r.front ++ spelled lexeme) behind))
+          (lexeme_left r.marks valid kind r.front r.rest stops lexeme behind some no_end is ∙ ap (λ k. toks.Token k (span_of r.front (spelled lexeme)) (left_inside r.marks kind (r.front ++ spelled lexeme) behind)) (sym seen_is)))
 
-      pub lexeme_step : (new : Reading) (token : Token) (span : Span) (n : ℕ) (front : Front) → front_of r.rest ≡ front → IsFront r.rest front → IsTokenAt (seen token) n front
-          → new ≡ forward r n → span ≡ span_of r.front (take n r.rest) → IsWithin (whole_of r) span → Steps r (Some (Ok (token, span))) new
-      lexeme_step new token span n (Reads lexeme behind) is stands found new_is span_is within = lexeme_by new token span n lexeme behind is stands.0 found.0 found.1 new_is span_is within
-      lexeme_step new token span n (Breaks fault) is stands found new_is span_is within = absurd found
+      pub lexeme_step : (new : Reading) (t : Token) (span : Span) (n : ℕ) (front : Front) → front_of r.rest ≡ front → IsFront r.rest front → IsTokenAt (seen t) n front
+          → new ≡ forward r n → span ≡ span_of r.front (take n r.rest) → IsWithin (whole_of r) span → Steps r (Some (Ok (t, span))) new
+      lexeme_step new t span n (Reads lexeme behind) is stands found new_is span_is within = lexeme_by new t span n lexeme behind is stands.0 found.0 found.1 new_is span_is within
+      lexeme_step new t span n (Breaks fault) is stands found new_is span_is within = absurd found
+
+      -- a string with escapes
+      pub escaped_step : (new : Reading) (t : Token) (text within_quotes : List ℕ) (span : Span) (n : ℕ) (front : Front) → front_of r.rest ≡ front → IsFront r.rest front → IsEscapedAt within_quotes n front → seen t ≡ toks.Escaped text → text ≡ unescaped within_quotes
+          → new ≡ forward r n → span ≡ span_of r.front (take n r.rest) → IsWithin (whole_of r) span → Steps r (Some (Ok (t, span))) new
+      escaped_step new t text within_quotes span n (Reads (Quoted quote is) behind) front_is stands (inside_is, escape, len) t_is text_is new_is span_is within =
+          let value : seen t ≡ token_of (Quoted quote is)
+          = t_is ∙ ap toks.Escaped (text_is ∙ ap unescaped inside_is ∙ unescaped_written quote is stands.1.0.1) ∙ rw escape refl in
+          lexeme_by new t span n (Quoted quote is) behind front_is stands.0 value len new_is span_is within
+      escaped_step new t text within_quotes span n (Reads (Name b bs) behind) front_is stands found t_is text_is new_is span_is within = absurd found
+      escaped_step new t text within_quotes span n (Reads (Number b bs) behind) front_is stands found t_is text_is new_is span_is within = absurd found
+      escaped_step new t text within_quotes span n (Reads (Operator op) behind) front_is stands found t_is text_is new_is span_is within = absurd found
+      escaped_step new t text within_quotes span n (Breaks fault) front_is stands found t_is text_is new_is span_is within = absurd found
+
+      pub escaped_memory : (new : Reading) (e : Error) (within_quotes : List ℕ) (n : ℕ) (front : Front) → front_of r.rest ≡ front → IsEscapedAt within_quotes n front → new ≡ record r { failed = true } → IsMemory e → Steps r (Some (Err e)) new
+      escaped_memory new e within_quotes n (Reads (Quoted quote is) behind) front_is (inside_is, escape, len) new_is memory =
+          let text : token_of (Quoted quote is) ≡ toks.Escaped (value_of is) = rw escape refl in
+          no_memory r new going e (value_of is) (span_of r.front (quoted quote is)) (left_inside r.marks kind (r.front ++ quoted quote is) behind) new_is memory
+          (ahead_inside (toks.Token (toks.Escaped (value_of is)) (span_of r.front (quoted quote is)) (left_inside r.marks kind (r.front ++ quoted quote is) behind))
+          (lexeme_left r.marks valid kind r.front r.rest stops (Quoted quote is) behind some no_end front_is ∙ ap (λ k. toks.Token k (span_of r.front (quoted quote is)) (left_inside r.marks kind (r.front ++ quoted quote is) behind)) text))
+      escaped_memory new e within_quotes n (Reads (Name b bs) behind) front_is found new_is memory = absurd found
+      escaped_memory new e within_quotes n (Reads (Number b bs) behind) front_is found new_is memory = absurd found
+      escaped_memory new e within_quotes n (Reads (Operator op) behind) front_is found new_is memory = absurd found
+      escaped_memory new e within_quotes n (Breaks fault) front_is found new_is memory = absurd found
 
       pub fault_step : (new : Reading) (e : Error) (text : List ℕ) (n : ℕ) (front : Front) → front_of r.rest ≡ front → IsFront r.rest front → IsFaultAt text n front
-          → new ≡ record (forward r n) { failed = true } → Tells text (span_of r.front (take n r.rest)) e → IsWithin (whole_of r) (span_of r.front (take n r.rest)) → Steps r (Some (Err e)) new
+          → new ≡ record r { failed = true } → Tells text (span_of r.front (take n r.rest)) e → IsWithin (whole_of r) (span_of r.front (take n r.rest)) → Steps r (Some (Err e)) new
       fault_step new e text n (Reads lexeme behind) is stands found new_is tells within = absurd found
       fault_step new e text n (Breaks fault) is stands found new_is tells within =
           let (behind, splits) = fault_splits fault r.rest stands in
-          let front : take n r.rest ≡ told fault = cut_front r.rest (told fault) behind n splits found.1 in (
-            failed_is new (ap (λ (k : Reading). k.failed) new_is),
-            (ap (λ (k : Reading). k.marks) new_is, ap (λ (k : Reading). whole_of k) new_is ∙ forward_whole r n),
-            (
-              text,
-              span_of r.front (take n r.rest),
-              inside_left (toks.Failed text (span_of r.front (take n r.rest))) (fault_left r.marks valid r.front r.rest stops fault some no_end is ∙ (λ i. toks.Failed (sym found.0 i) (span_of r.front (sym front i)))),
-              within,
-              tells,
-            ),
-          )
+          told_fault r new going n (told fault) behind splits found.1 e text new_is tells within
+          (ahead_inside (Failed text (span_of r.front (told fault))) (fault_left r.marks valid kind r.front r.rest stops fault some no_end is ∙ ap (λ l. Failed l (span_of r.front (told fault))) (sym found.0)))

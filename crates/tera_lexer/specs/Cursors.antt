@@ -1,34 +1,69 @@
--- What a cursor takes, and which faults it meets.
-use Rattle.std.specs.Prelude.{◌≡◌, ◌⊎◌, ℕ, ◌+◌, List, Option, Some, None, Result, Ok, Err, codes}
+-- What a cursor has left, what it shows, and which faults it meets.
+use Rattle.std.specs.Prelude.{◌≡◌, ◌⊎◌, ℕ, zero, suc, ◌+◌, ◌<◌, Bool, true, false, List, Option, Some, None, Result, Ok, Err, codes}
 use Rattle.tera_base.specs.Errors.{Tells, TellsBy, end_of}
 use Rattle.tera_base.specs.declared.utils.Span.{Span}
 use Rattle.tera_base.specs.declared.errors.Error.{Error}
 use Rattle.tera_lexer.specs.Place.{IsWithin}
 use Rattle.tera_lexer.specs.Tokens as toks
-use Rattle.tera_lexer.specs.Tokens.{Items, Ended, Failed}
-use Rattle.tera_lexer.specs.Left.{left_of}
-use Rattle.tera_lexer.specs.Steps.{whole_of}
+use Rattle.tera_lexer.specs.Tokens.{Tok, Items, Ended, Failed}
+use Rattle.tera_lexer.specs.Steps.{TakesMemory, Stops}
 use Rattle.tera_lexer.specs.Seen.{seen}
 use Rattle.tera_lexer.specs.Faults.{Faults, EndsWith}
 use Rattle.tera_lexer.specs.declared.lexer.tokens.Token.{Token}
-use Rattle.tera_lexer.specs.declared.lexer.cursor.Cursor.{Cursor}
 
--- the tokens that a cursor has not taken, and the source that they are of
-abbrev pub left : Cursor → Items
-left c = left_of c.lexer
-
-abbrev pub source_of : Cursor → List ℕ
-source_of c = whole_of c.lexer
+-- a cursor over the tokens of a source: those that are not taken yet; how many of the next two it can show;
+-- how many were taken; and the span of the token taken last
+pub record Position : Type 0 where
+  pub source : List ℕ
+  pub left : Items
+  pub sight : ℕ
+  pub taken : ℕ
+  pub span : Span
 
 -- the span before the first token
 abbrev pub nowhere : Span
 nowhere = record { start_line = 0; start_col = 0; end_line = 0; end_col = 0; range = record { start = 0; end = 0 } }
 
--- a cursor took the next token; none was left; or the fault was told, after which none is left
-abbrev pub Takes : Cursor → Result (Option (Token × Span)) Error → Cursor → Type 0
-Takes old (Ok None) new = (left old ≡ Ended) × (new ≡ old)
-Takes old (Ok (Some p)) new = (left old ≡ toks.Token (seen p.0) p.1 (left new)) × (new.current_span ≡ p.1) × IsWithin (source_of old) p.1
-Takes old (Err e) new = (text : List ℕ) × (span : Span) × (left old ≡ Failed text span) × (left new ≡ Ended) × IsWithin (source_of old) span × Tells text span e
+-- how many of the next few tokens can be shown: all, save a token for which no memory was found, and those
+-- behind it
+abbrev pub Sight : ℕ → Items → ℕ → Type 0
+Sight zero items n = n ≡ 0
+Sight (suc few) Ended n = n ≡ 0
+Sight (suc few) (Failed text span) n = n ≡ 0
+Sight (suc few) (toks.Token t span items) zero = TakesMemory t
+Sight (suc few) (toks.Token t span items) (suc n) = Sight few items n
+
+-- the next two
+abbrev pub SeesTwo : Position → Type 0
+SeesTwo p = Sight 2 p.left p.sight
+
+-- the first of the tokens that are left, and the second
+abbrev pub FirstIs : Items → Tok → Type 0
+FirstIs items t = (span : Span) × (behind : Items) × (items ≡ toks.Token t span behind)
+
+abbrev pub FirstStandsAt : Items → Span → Type 0
+FirstStandsAt items span = (t : Tok) × (behind : Items) × (items ≡ toks.Token t span behind)
+
+abbrev pub SecondIs : Items → Tok → Type 0
+SecondIs items t = (first : Tok) × (here there : Span) × (behind : Items) × (items ≡ toks.Token first here (toks.Token t there behind))
+
+abbrev pub is_end : Items → Bool
+is_end Ended = true
+is_end (Failed text span) = false
+is_end (toks.Token t span items) = false
+
+-- the cursor goes on in the same source
+abbrev pub Keeps : Position → Position → Type 0
+Keeps old new = (new.source ≡ old.source) × (new.taken ≡ old.taken) × (new.span ≡ old.span)
+
+-- the next token was taken; or none is left; or the fault is told, or no memory was found for the next
+-- token, after which none is left
+abbrev pub Takes : Position → Result (Option (Token × Span)) Error → Position → Type 0
+Takes old (Ok None) new = (old.left ≡ Ended) × (new ≡ old)
+Takes old (Ok (Some p)) new =
+    (0 < old.sight) × (old.left ≡ toks.Token (seen p.0) p.1 new.left) × IsWithin old.source p.1
+    × (new.source ≡ old.source) × (new.taken ≡ old.taken + 1) × (new.span ≡ p.1)
+Takes old (Err e) new = (old.sight ≡ 0) × Stops old.source old.left e × (new.left ≡ Ended) × Keeps old new
 
 -- the range of the token at this span, with the place where it ends
 abbrev pub IsAt : Span → Span → Type 0
@@ -39,25 +74,24 @@ abbrev pub FaultsFrom : Span → Items → List ℕ → Span → Type 0
 FaultsFrom last items text span = IsAt last span ⊎ Faults items text span
 
 -- a refusal is want of memory, or a syntax error of the source at the token taken last or later
-abbrev pub RefusesFrom : Cursor → Error → Type 0
-RefusesFrom old e = TellsBy (λ text span. IsWithin (source_of old) span × FaultsFrom old.current_span (left old) text span) e
+abbrev pub RefusesFrom : Position → Error → Type 0
+RefusesFrom old e = TellsBy (λ text span. IsWithin old.source span × FaultsFrom old.span old.left text span) e
 
 -- a cursor went on over tokens: a fault that it meets from here on is one that it meets from there on
-abbrev pub IsLater : Cursor → Cursor → Type 0
+abbrev pub IsLater : Position → Position → Type 0
 IsLater old new =
-    (source_of new ≡ source_of old) × IsWithin (source_of old) new.current_span
-    × ((text : List ℕ) (span : Span) → FaultsFrom new.current_span (left new) text span → FaultsFrom old.current_span (left old) text span)
+    (new.source ≡ old.source)
+    × ((text : List ℕ) (span : Span) → FaultsFrom new.span new.left text span → FaultsFrom old.span old.left text span)
 
--- no token is left: the end of the input, behind the token at this span, or the fault is told
-abbrev pub TellsEnd : Span → Items → Error → Type 0
-TellsEnd last Ended e = Tells (codes "Unexpected end of input") (end_of last) e
-TellsEnd last (Failed text span) e = Tells text span e
-TellsEnd last (toks.Token t span items) e = ⊥
+-- no token was taken: none is left, which is the end of the input behind the token at this span; or reading
+-- stopped
+abbrev pub TellsEnd : Position → Error → Type 0
+TellsEnd old e = ((old.left ≡ Ended) × Tells (codes "Unexpected end of input") (end_of old.span) e) ⊎ Stops old.source old.left e
 
 -- a cursor took the next token, or told that there is none
-abbrev pub TakesOne : Cursor → Result (Token × Span) Error → Cursor → Type 0
-TakesOne old (Ok p) new = (left old ≡ toks.Token (seen p.0) p.1 (left new)) × (new.current_span ≡ p.1) × IsWithin (source_of old) p.1
-TakesOne old (Err e) new = TellsEnd old.current_span (left old) e
+abbrev pub TakesOne : Position → Result (Token × Span) Error → Position → Type 0
+TakesOne old (Ok p) new = Takes old (Ok (Some p)) new
+TakesOne old (Err e) new = TellsEnd old e
 
 -- a syntax error at this span, unless no memory was found
 abbrev pub TellsAt : Span → Error → Type 0

@@ -1,7 +1,8 @@
 -- What the program finds at a place in a tag, against what stands there.
 use Rattle.std.specs.Prelude.{◌≡◌, true, ℕ, Bool, List, [], ◌∷◌, length, Option, Some, None}
 use Rattle.std.specs.Char.{is_ascii_digit, is_ascii_whitespace}
-use Rattle.tera_lexer.specs.Lexeme.{goes_on_name, spelled, told}
+use Rattle.tera_lexer.specs.Lexeme.{goes_on_name, spelled, told, quoted, Inner, IsQuoted, written, has_escape, has_unknown_escape}
+use Rattle.tera_lexer.specs.Lexeme as lexeme
 use Rattle.tera_lexer.specs.Tokens.{Tok, token_of, text_of, Symbol}
 use Rattle.tera_lexer.specs.Front.{Front, Reads, Breaks}
 use Rattle.tera_lexer.specs.Seen.{seen}
@@ -9,7 +10,7 @@ use Rattle.tera_lexer.specs.declared.lexer.tokens.Token.{Token}
 use Rattle.tera_lexer.specs.declared.lexer.lexeme.Class.{Class}
 use Rattle.tera_lexer.specs.declared.lexer.lexeme.Class.TheVariants.{Space, Name, Digit}
 use Rattle.tera_lexer.specs.declared.lexer.lexeme.Found.{Found}
-use Rattle.tera_lexer.specs.declared.lexer.lexeme.Found.TheVariants.{Lexeme, Fault}
+use Rattle.tera_lexer.specs.declared.lexer.lexeme.Found.TheVariants.{Lexeme, Escaped, Fault}
 
 abbrev pub passes : Class → ℕ → Bool
 passes Space b = is_ascii_whitespace b
@@ -31,12 +32,19 @@ abbrev pub IsFaultAt : List ℕ → ℕ → Front → Type 0
 IsFaultAt text n (Reads lexeme rest) = ⊥
 IsFaultAt text n (Breaks fault) = (text ≡ text_of fault) × (n ≡ length (told fault))
 
+-- the inside of a string with escapes that stands there, with the length of the string
+abbrev pub IsEscapedAt : List ℕ → ℕ → Front → Type 0
+IsEscapedAt inside n (Reads (lexeme.Quoted quote is) rest) = (inside ≡ written is) × (has_escape is ≡ true) × (n ≡ length (quoted quote is))
+IsEscapedAt inside n _ = ⊥
+
 abbrev pub IsFound : Found → Front → Type 0
 IsFound (Lexeme token n) front = IsTokenAt (seen token) n front
+IsFound (Escaped inside n) front = IsEscapedAt inside.now n front
 IsFound (Fault fault) front = IsFaultAt fault.message.now fault.len front
 
 abbrev pub found_len : Found → ℕ
 found_len (Lexeme token n) = n
+found_len (Escaped inside n) = n
 found_len (Fault fault) = fault.len
 
 -- the token of an operator, with its length

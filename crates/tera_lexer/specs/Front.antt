@@ -1,11 +1,14 @@
 -- What stands at the front of some bytes, as a function: the reading that the definitions of lexemes and
 -- pieces allow. The contract of `Parser::parse` does not name it.
-use Rattle.std.specs.Prelude.{ℕ, zero, suc, ◌^◌, Bool, true, false, if◌then◌else◌, nat_lt, ◌==◌, List, [], ◌∷◌, length, take, drop, Option, Some, None}
+use Rattle.std.specs.Prelude.{ℕ, zero, suc, ◌^◌, Bool, true, false, not, if◌then◌else◌, nat_lt, ◌==◌, List, [], ◌∷◌, length, take, drop, Option, Some, None}
 use Rattle.std.specs.List.{prefix_len}
 use Rattle.std.specs.Char.{is_ascii_digit, is_ascii_whitespace}
-use Rattle.tera_lexer.specs.Marks.{Marks, begins, dash_bytes}
-use Rattle.tera_lexer.specs.Lexeme.{begins_name, goes_on_name, is_quote, Inner, Plain, Escape, has_escape, operator_at, decimal, Lexeme, Name, Number, Quoted, Operator, Fault, Unexpected, Unclosed, Escaped, TooGreat, Float, Item, Close, End, Open, Bad}
-use Rattle.tera_lexer.specs.Division.{is_at_start, Piece, Text, Tag, Ending, Nothing, OpenTag, BadTag, Unread}
+use Rattle.tera_lexer.specs.Marks.{Marks, end_marker, begins, dash_bytes}
+use Rattle.tera_lexer.specs.Lexeme.{begins_name, goes_on_name, is_quote, Inner, Plain, Escape, is_known, escaped, has_unknown_escape, operator_at, decimal, Lexeme, Name, Number, Quoted, Operator, Fault, Unexpected, Unclosed, UnknownEscape, TooGreat, Float, Item, Close, End, Open, Bad}
+use Rattle.tera_lexer.specs.Raw.{WordTag, raw_word, endraw_word}
+use Rattle.tera_lexer.specs.Division.{is_at_start, Piece, Text, Comment, Raw, Tag, Ending, Nothing, OpenTag, BadTag, OpenRaw, OpenComment}
+use Rattle.tera_lexer.specs.declared.lexer.delimiters.Kind.{Kind}
+use Rattle.tera_lexer.specs.declared.lexer.delimiters.Kind.TheVariants.{Variable, Block}
 
 -- a lexeme and the bytes behind it, or a fault
 pub data Front : Type 0 where
@@ -42,9 +45,24 @@ closing_at quote true (b ∷ bs) = more (closing_at quote false bs)
 closing_at quote false (b ∷ bs) =
     if b == 92 then more (closing_at quote true bs) else (if b == quote then Some 0 else more (closing_at quote false bs))
 
+abbrev pub is_plain : ℕ → Bool
+is_plain b = not (b == 92)
+
+-- the text that the inside of a string stands for
+abbrev pub unescaped : List ℕ → List ℕ
+unescaped [] = []
+unescaped (b ∷ []) = b ∷ []
+unescaped (b ∷ c ∷ cs) = if b == 92 then escaped c ∷ unescaped cs else b ∷ unescaped (c ∷ cs)
+
+-- whether an escape in it is unknown, behind a backslash or not
+abbrev pub unknown_in : Bool → List ℕ → Bool
+unknown_in escape [] = false
+unknown_in true (b ∷ bs) = if is_known b then unknown_in false bs else true
+unknown_in false (b ∷ bs) = if b == 92 then unknown_in true bs else unknown_in false bs
+
 abbrev pub string_front : ℕ → Option (List Inner × List ℕ) → Front
 string_front quote None = Breaks (Unclosed quote)
-string_front quote (Some p) = if has_escape p.0 then Breaks (Escaped quote p.0) else Reads (Quoted quote p.0) p.1
+string_front quote (Some p) = if has_unknown_escape p.0 then Breaks (UnknownEscape quote p.0) else Reads (Quoted quote p.0) p.1
 
 -- digits b and bs, and what is behind them
 abbrev pub number_front : ℕ → List ℕ → List ℕ → Front
@@ -105,17 +123,76 @@ text_len m (b ∷ bs) = if is_at_start m (b ∷ bs) then 0 else suc (text_len m 
 abbrev pub with_piece : Piece → List Piece × Ending → List Piece × Ending
 with_piece p d = (p ∷ d.0, d.1)
 
-abbrev pub tag_step : (List ℕ → List Piece × Ending) → Bool → List Item → Close → List Piece × Ending
-tag_step go dash items (End gap end rest) = with_piece (Tag dash items gap end) (go rest)
-tag_step go dash items (Open gap) = ([], OpenTag dash items gap)
-tag_step go dash items (Bad gap fault at) = ([], BadTag dash items gap fault at)
+-- how many bytes stand before the first such marker
+abbrev pub find_marker : List ℕ → List ℕ → Option ℕ
+find_marker marker [] = None
+find_marker marker (b ∷ bs) = if begins marker (b ∷ bs) then Some 0 else more (find_marker marker bs)
 
 -- what is behind a start marker, and behind its dash
 abbrev pub behind_marker : List ℕ → List ℕ → List ℕ
 behind_marker marker bytes = drop (length marker) bytes
 
+abbrev pub at_dash : List ℕ → Bool
+at_dash bytes = begins (45 ∷ []) bytes
+
 abbrev pub behind_dash : List ℕ → List ℕ
-behind_dash bytes = drop (length (dash_bytes (begins (45 ∷ []) bytes))) bytes
+behind_dash bytes = drop (length (dash_bytes (at_dash bytes))) bytes
+
+-- a tag of a raw piece, and what is behind it
+abbrev pub word_tag_end : List ℕ → WordTag → List ℕ → Option (WordTag × List ℕ)
+word_tag_end end t at = if begins end at then Some (t, behind_marker end at) else None
+
+abbrev pub word_tag_at : List ℕ → List ℕ → List ℕ → Option (WordTag × List ℕ)
+word_tag_at word end bytes =
+    let inner = behind_dash bytes in
+    let at = behind_run is_ascii_whitespace inner in
+    let after = behind_marker word at in
+    let last = behind_run is_ascii_whitespace after in
+    let tag : WordTag = record { dash_in = at_dash bytes; before = run_of is_ascii_whitespace inner; behind = run_of is_ascii_whitespace after; dash_out = at_dash last } in
+    if begins word at then word_tag_end end tag (behind_dash last) else None
+
+-- how long the body of a raw piece is, the tag that closes it, and what is behind that
+pub record RawEnd : Type 0 where
+  pub len : ℕ
+  pub close : WordTag
+  pub rest : List ℕ
+
+abbrev pub longer : Option RawEnd → Option RawEnd
+longer None = None
+longer (Some e) = Some (record e { len = suc e.len })
+
+abbrev pub closed_or : Option (WordTag × List ℕ) → Option RawEnd → Option RawEnd
+closed_or None other = other
+closed_or (Some p) other = Some (record { len = 0; close = p.0; rest = p.1 })
+
+-- the end of a raw piece by the markers of its tags, where its body or the second byte of a block start that
+-- closed nothing comes first
+abbrev pub raw_end : List ℕ → List ℕ → Bool → List ℕ → Option RawEnd
+raw_end start end second [] = None
+raw_end start end true (b ∷ bs) = longer (raw_end start end false bs)
+raw_end start end false (b ∷ bs) =
+    if begins start (b ∷ bs) then closed_or (word_tag_at endraw_word end (behind_marker start (b ∷ bs))) (longer (raw_end start end true bs))
+    else longer (raw_end start end false bs)
+
+abbrev pub tag_step : (List ℕ → List Piece × Ending) → Kind → Bool → List Item → Close → List Piece × Ending
+tag_step go kind dash items (End gap end rest) = with_piece (Tag kind dash items gap end) (go rest)
+tag_step go kind dash items (Open gap) = ([], OpenTag kind dash items gap)
+tag_step go kind dash items (Bad gap fault at) = ([], BadTag kind dash items gap fault at)
+
+abbrev pub tag_front : (List ℕ → List Piece × Ending) → Marks → Kind → Bool → List ℕ → List Piece × Ending
+tag_front go m kind dash inside = tag_step go kind dash (inside_of (end_marker kind m) inside).0 (inside_of (end_marker kind m) inside).1
+
+abbrev pub comment_step : (List ℕ → List Piece × Ending) → Marks → Bool → List ℕ → Option ℕ → List Piece × Ending
+comment_step go m dash behind None = ([], OpenComment dash)
+comment_step go m dash behind (Some n) = with_piece (Comment dash (take n behind)) (go (behind_marker m.comment_end (drop n behind)))
+
+abbrev pub raw_step : (List ℕ → List Piece × Ending) → Bool → WordTag → List ℕ → Option RawEnd → List Piece × Ending
+raw_step go dash opening inside None = ([], OpenRaw dash)
+raw_step go dash opening inside (Some e) = with_piece (Raw dash opening (take e.len inside) e.close) (go e.rest)
+
+abbrev pub block_step : (List ℕ → List Piece × Ending) → Marks → Bool → List ℕ → Option (WordTag × List ℕ) → List Piece × Ending
+block_step go m dash behind None = tag_front go m Block dash behind
+block_step go m dash behind (Some p) = raw_step go dash p.0 p.1 (raw_end m.block_start m.block_end false p.1)
 
 abbrev pub text_step : (List ℕ → List Piece × Ending) → ℕ → List ℕ → List Piece × Ending
 text_step go n bytes = with_piece (Text (take n bytes)) (go (drop n bytes))
@@ -125,11 +202,12 @@ unfoldable pub division_by : ℕ → Marks → List ℕ → List Piece × Ending
 division_by zero m bytes = ([], Nothing)
 division_by (suc n) m [] = ([], Nothing)
 division_by (suc n) m (b ∷ bs) =
-    let behind = behind_marker m.variable_start (b ∷ bs) in
-    let inside = inside_of m.variable_end (behind_dash behind) in
-    if begins m.variable_start (b ∷ bs) then tag_step (division_by n m) (begins (45 ∷ []) behind) inside.0 inside.1
-    else (if begins m.block_start (b ∷ bs) then ([], Unread m.block_start)
-    else (if begins m.comment_start (b ∷ bs) then ([], Unread m.comment_start)
+    let variable = behind_marker m.variable_start (b ∷ bs) in
+    let block = behind_marker m.block_start (b ∷ bs) in
+    let comment = behind_marker m.comment_start (b ∷ bs) in
+    if begins m.variable_start (b ∷ bs) then tag_front (division_by n m) m Variable (at_dash variable) (behind_dash variable)
+    else (if begins m.block_start (b ∷ bs) then block_step (division_by n m) m (at_dash block) (behind_dash block) (word_tag_at raw_word m.block_end (behind_dash block))
+    else (if begins m.comment_start (b ∷ bs) then comment_step (division_by n m) m (at_dash comment) (behind_dash comment) (find_marker m.comment_end (behind_dash comment))
     else text_step (division_by n m) (suc (text_len m bs)) (b ∷ bs)))
 
 abbrev pub division_of : Marks → List ℕ → List Piece × Ending

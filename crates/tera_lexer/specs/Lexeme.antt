@@ -1,5 +1,5 @@
 -- What stands inside a tag: gaps of white space, lexemes, and faults.
-use Rattle.std.specs.Prelude.{◌≡◌, ◌≢◌, ◌⊎◌, ℕ, ◌+◌, ◌-◌, ◌*◌, ◌^◌, ◌<◌, ◌≤◌, Bool, true, false, ◌||◌, ◌==◌, if◌then◌else◌, List, [], ◌∷◌, ◌++◌, Option, Some, None, find, codes}
+use Rattle.std.specs.Prelude.{◌≡◌, ◌≢◌, ◌⊎◌, ℕ, ◌+◌, ◌-◌, ◌*◌, ◌^◌, ◌<◌, ◌≤◌, Bool, true, false, not, ◌||◌, ◌==◌, if◌then◌else◌, List, [], ◌∷◌, ◌++◌, Option, Some, None, find, codes}
 use Rattle.std.specs.List.{AllByRecursion, list_any}
 use Rattle.std.specs.Char.{is_ascii_digit, is_ascii_alphabetic, is_ascii_alphanumeric, is_ascii_whitespace}
 use Rattle.tera_lexer.specs.Marks.{begins}
@@ -48,6 +48,28 @@ is_escape (Escape b) = true
 
 abbrev pub has_escape : List Inner → Bool
 has_escape is = list_any is_escape is
+
+-- the escapes that are known: of the two quotes, of the slash and the backslash, and of a line feed, a tab
+-- and a carriage return
+abbrev pub is_known : ℕ → Bool
+is_known b = list_any (λ c. c == b) (34 ∷ 39 ∷ 47 ∷ 92 ∷ codes "ntr")
+
+abbrev pub is_unknown_escape : Inner → Bool
+is_unknown_escape (Plain b) = false
+is_unknown_escape (Escape b) = not (is_known b)
+
+abbrev pub has_unknown_escape : List Inner → Bool
+has_unknown_escape is = list_any is_unknown_escape is
+
+-- what a known escape stands for
+abbrev pub escaped : ℕ → ℕ
+escaped b = if b == 110 then 10 else (if b == 116 then 9 else (if b == 114 then 13 else b))
+
+-- the text that a string stands for
+abbrev pub value_of : List Inner → List ℕ
+value_of [] = []
+value_of (Plain b ∷ is) = b ∷ value_of is
+value_of (Escape b ∷ is) = escaped b ∷ value_of is
 
 -- the operators of more than one byte, longer ones first, and those of one byte
 abbrev pub long_operators : List (List ℕ)
@@ -114,15 +136,15 @@ IsQuoted quote is = (is_quote quote ≡ true) × AllByRecursion (IsInner quote) 
 abbrev pub IsLexeme : Lexeme → List ℕ → Type 0
 IsLexeme (Name b bs) rest = (begins_name b ≡ true) × IsRun goes_on_name bs rest
 IsLexeme (Number b bs) rest = AreDigits b bs rest × (begins (46 ∷ []) rest ≡ false) × (decimal (b ∷ bs) < 2 ^ 63)
-IsLexeme (Quoted quote is) rest = IsQuoted quote is × (has_escape is ≡ false)
+IsLexeme (Quoted quote is) rest = IsQuoted quote is × (has_unknown_escape is ≡ false)
 IsLexeme (Operator op) rest = operator_at (op ++ rest) ≡ Some op
 
--- a character that begins no lexeme; a quote that never closes; a string with an escape, which is not
--- read yet; digits of a number that is too great; a number with a point and the digits behind it
+-- a character that begins no lexeme; a quote that never closes; a string with an unknown escape; digits of
+-- a number that is too great; a number with a point and the digits behind it
 pub data Fault : Type 0 where
   Unexpected : Fault
   Unclosed : ℕ → Fault
-  Escaped : ℕ → List Inner → Fault
+  UnknownEscape : ℕ → List Inner → Fault
   TooGreat : ℕ → List ℕ → Fault
   Float : ℕ → List ℕ → List ℕ → Fault
 
@@ -130,7 +152,7 @@ pub data Fault : Type 0 where
 abbrev pub told : Fault → List ℕ
 told Unexpected = []
 told (Unclosed quote) = []
-told (Escaped quote is) = quoted quote is
+told (UnknownEscape quote is) = quoted quote is
 told (TooGreat b bs) = b ∷ bs
 told (Float b bs more) = b ∷ (bs ++ 46 ∷ more)
 
@@ -149,7 +171,8 @@ IsUnclosed quote bytes =
 abbrev pub IsFault : Fault → List ℕ → Type 0
 IsFault Unexpected bytes = BeginsNothing bytes
 IsFault (Unclosed quote) bytes = (rest : List ℕ) × (bytes ≡ quote ∷ rest) × (is_quote quote ≡ true) × IsUnclosed quote rest
-IsFault (Escaped quote is) bytes = (rest : List ℕ) × (bytes ≡ quoted quote is ++ rest) × IsQuoted quote is × (has_escape is ≡ true)
+IsFault (UnknownEscape quote is) bytes =
+    (rest : List ℕ) × (bytes ≡ quoted quote is ++ rest) × IsQuoted quote is × (has_unknown_escape is ≡ true)
 IsFault (TooGreat b bs) bytes =
     (rest : List ℕ) × (bytes ≡ b ∷ (bs ++ rest)) × AreDigits b bs rest × (begins (46 ∷ []) rest ≡ false) × (2 ^ 63 ≤ decimal (b ∷ bs))
 IsFault (Float b bs more) bytes =

@@ -1,8 +1,10 @@
 pub mod Place
 pub mod Marks
 pub mod Lexeme
+pub mod Raw
 pub mod Division
 pub mod Tokens
+pub mod Tiling
 pub mod Faults
 pub mod Front
 pub mod State
@@ -13,4 +15,6 @@ pub mod Steps
 pub mod StateView
 pub mod Markers
 pub mod Cursors
+pub mod Codes
+pub mod CursorView
 pub mod Rules

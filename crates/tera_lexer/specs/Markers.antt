@@ -1,9 +1,13 @@
 -- What the program finds at a marker.
 use Rattle.std.specs.Prelude.{◌≡◌, ℕ, ◌+◌, Bool, false, List, length, drop, Option, Some, None}
 use Rattle.std.specs.Str.{IsCharBoundary}
-use Rattle.tera_lexer.specs.Marks.{begins, dash_bytes}
+use Rattle.tera_lexer.specs.Marks.{Marks, begins, dash_bytes}
 use Rattle.tera_lexer.specs.Lexeme.{is_at_end, IsEnd}
+use Rattle.tera_lexer.specs.Raw as raw
+use Rattle.tera_lexer.specs.Raw.{word_tag_bytes, raw_word, endraw_word}
 use Rattle.tera_lexer.specs.Division.{Starts}
+use Rattle.tera_lexer.specs.Front.{RawEnd, word_tag_at}
+use Rattle.tera_lexer.specs.declared.lexer.markers.WordTag.{WordTag}
 
 -- how many bytes a marker takes with its dash
 abbrev pub marker_len : List ℕ → Bool → ℕ
@@ -18,3 +22,29 @@ IsStartOf marker rest (Some dash) = Starts marker dash rest (drop (marker_len ma
 abbrev pub IsEndOf : List ℕ → List ℕ → Option Bool → Type 0
 IsEndOf marker rest None = is_at_end marker rest ≡ false
 IsEndOf marker rest (Some dash) = IsEnd marker dash rest (drop (marker_len marker dash) rest) × IsCharBoundary rest (marker_len marker dash)
+
+-- a tag of a raw piece, by its dashes and its length
+abbrev pub IsTagOf : List ℕ → List ℕ → WordTag → raw.WordTag → Type 0
+IsTagOf word end tag t = (tag.dash_in ≡ t.dash_in) × (tag.dash_out ≡ t.dash_out) × (tag.len ≡ length (word_tag_bytes word end t))
+
+abbrev pub IsWordTagOf : List ℕ → List ℕ → Option WordTag → Option (raw.WordTag × List ℕ) → Type 0
+IsWordTagOf word end None None = Unit {0}
+IsWordTagOf word end (Some tag) (Some p) = IsTagOf word end tag p.0
+IsWordTagOf word end _ _ = ⊥
+
+-- behind the block start with its dash stands the tag that opens a raw piece
+abbrev pub OpensBy : Marks → Bool → WordTag → List ℕ → Type 0
+OpensBy m dash tag rest =
+    (t : raw.WordTag) × (inside : List ℕ) × IsTagOf raw_word m.block_end tag t
+    × IsCharBoundary rest (marker_len m.block_start dash + tag.len)
+    × (word_tag_at raw_word m.block_end (drop (marker_len m.block_start dash) rest) ≡ Some (t, inside))
+
+-- the end of a raw piece
+abbrev pub IsRawEndOf : List ℕ → Option (ℕ × WordTag) → Option RawEnd → Type 0
+IsRawEndOf end None None = Unit {0}
+IsRawEndOf end (Some p) (Some e) = (p.0 ≡ e.len) × IsTagOf endraw_word end p.1 e.close
+IsRawEndOf end _ _ = ⊥
+
+-- at which the text may be cut before its block start and behind its tag
+abbrev pub IsRawCut : Marks → List ℕ → ℕ × WordTag → Type 0
+IsRawCut m text p = IsCharBoundary text p.0 × IsCharBoundary text (p.0 + (length m.block_start + p.1.len))

@@ -3,6 +3,8 @@ use Rattle.std.specs.Prelude.{◌≡◌, ◌≢◌, ℕ, Bool, true, false, List
 use Rattle.std.specs.List.{starts_with}
 use Rattle.std.specs.Cow.{cow_str_bytes}
 use Rattle.tera_lexer.specs.declared.lexer.delimiters.Delimiters.{Delimiters}
+use Rattle.tera_lexer.specs.declared.lexer.delimiters.Kind.{Kind}
+use Rattle.tera_lexer.specs.declared.lexer.delimiters.Kind.TheVariants.{Variable, Block}
 
 pub record Marks : Type 0 where
   pub block_start : List ℕ
@@ -49,6 +51,15 @@ pub record AreTexts (m : Marks) : Type 0 where
   pub block_start : IsUtf8 m.block_start
   pub variable_start : IsUtf8 m.variable_start
   pub comment_start : IsUtf8 m.comment_start
+
+-- the markers of a tag of this kind
+abbrev pub start_marker : Kind → Marks → List ℕ
+start_marker Variable m = m.variable_start
+start_marker Block m = m.block_start
+
+abbrev pub end_marker : Kind → Marks → List ℕ
+end_marker Variable m = m.variable_end
+end_marker Block m = m.block_end
 
 -- the marker begins the bytes
 abbrev pub begins : List ℕ → List ℕ → Bool

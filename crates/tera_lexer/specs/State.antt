@@ -1,12 +1,13 @@
--- Where a lexer stands in its source.
-use Rattle.std.specs.Prelude.{ℕ, Bool, List}
+-- Where the reading of a source stands.
+use Rattle.std.specs.Prelude.{ℕ, Bool, List, Option}
 use Rattle.tera_lexer.specs.Marks.{Marks}
+use Rattle.tera_lexer.specs.declared.lexer.delimiters.Kind.{Kind}
 
--- what stands before and behind the place that is reached, whether that is inside a tag, and whether a
--- fault was told
+-- what stands before and behind the place that is reached, the tag that is open there, and whether a fault
+-- was told
 pub record Reading : Type 0 where
   pub marks : Marks
   pub front : List ℕ
   pub rest : List ℕ
-  pub in_tag : Bool
+  pub tag : Option Kind
   pub failed : Bool

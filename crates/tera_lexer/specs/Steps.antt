@@ -2,10 +2,10 @@
 use Rattle.std.specs.Prelude.{◌≡◌, ℕ, List, ◌++◌, Option, Some, None, Result, Ok, Err}
 use Rattle.tera_lexer.specs.Place.{IsWithin}
 use Rattle.tera_lexer.specs.Tokens as toks
-use Rattle.tera_lexer.specs.Tokens.{Ended, Failed}
-use Rattle.tera_base.specs.Errors.{Tells}
+use Rattle.tera_lexer.specs.Tokens.{Tok, Items, Ended, Failed, Escaped}
+use Rattle.tera_base.specs.Errors.{IsMemory, Tells}
 use Rattle.tera_lexer.specs.State.{Reading}
-use Rattle.tera_lexer.specs.Left.{left_of}
+use Rattle.tera_lexer.specs.Left.{ahead_of, left_of}
 use Rattle.tera_lexer.specs.Seen.{seen}
 use Rattle.tera_base.specs.declared.utils.Span.{Span}
 use Rattle.tera_base.specs.declared.errors.Error.{Error}
@@ -19,11 +19,21 @@ whole_of r = r.front ++ r.rest
 abbrev pub GoesOn : Reading → Reading → Type 0
 GoesOn old new = (new.marks ≡ old.marks) × (whole_of new ≡ whole_of old)
 
--- the first of the tokens that are left was taken; or they end; or their fault was told, after which none
--- is left
+-- the token takes memory: it is a string with an escape
+abbrev pub TakesMemory : Tok → Type 0
+TakesMemory (Escaped text) = Unit {0}
+TakesMemory _ = ⊥
+
+-- reading stops before these tokens: at their fault, which is told, or at a token for which no memory was
+-- found
+abbrev pub Stops : List ℕ → Items → Error → Type 0
+Stops source Ended e = ⊥
+Stops source (Failed text span) e = IsWithin source span × Tells text span e
+Stops source (toks.Token t span items) e = TakesMemory t × IsMemory e
+
+-- the first of the tokens that are left was taken; or they end; or reading stops, after which none is given
 abbrev pub Steps : Reading → Option (Result (Token × Span) Error) → Reading → Type 0
 Steps old None new = (new ≡ old) × (left_of old ≡ Ended)
 Steps old (Some (Ok p)) new = (left_of old ≡ toks.Token (seen p.0) p.1 (left_of new)) × GoesOn old new × IsWithin (whole_of old) p.1
 Steps old (Some (Err e)) new =
-    (left_of new ≡ Ended) × GoesOn old new
-    × ((text : List ℕ) × (span : Span) × (left_of old ≡ Failed text span) × IsWithin (whole_of old) span × Tells text span e)
+    (left_of new ≡ Ended) × (left_of old ≡ ahead_of new) × GoesOn old new × Stops (whole_of old) (ahead_of new) e

@@ -1,21 +1,28 @@
 -- The tokens of a division, each with its span.
-use Rattle.std.specs.Prelude.{◌≡◌, ℕ, ℤ, pos, Bool, true, false, ◌||◌, if◌then◌else◌, List, [], ◌∷◌, ◌++◌, codes}
-use Rattle.std.specs.Str.{bytes_eq}
-use Rattle.tera_lexer.specs.Marks.{Marks, dash_bytes}
+use Rattle.std.specs.Prelude.{◌≡◌, ℕ, ℤ, pos, Bool, true, false, ◌||◌, if◌then◌else◌, List, [], ◌∷◌, ◌++◌, codes, nat_eq}
+use Rattle.std.specs.Str.{bytes_eq, trim_start, trim_end}
+use Rattle.std.specs.List.{ends_with}
+use Rattle.tera_lexer.specs.Marks.{Marks, start_marker, end_marker, dash_bytes}
 use Rattle.tera_lexer.specs.Place.{span_of}
-use Rattle.tera_lexer.specs.Lexeme.{Item, Lexeme, Name, Number, Quoted, Operator, Fault, Unexpected, Unclosed, Escaped, TooGreat, Float, spelled, told, decimal, written}
-use Rattle.tera_lexer.specs.Division.{Piece, Text, Tag, Ending, Nothing, OpenTag, BadTag, Unread, IsDivision}
+use Rattle.tera_lexer.specs.Lexeme.{Item, Lexeme, Name, Number, Quoted, Operator, Fault, Unexpected, Unclosed, UnknownEscape, TooGreat, Float, spelled, told, decimal, written, value_of, has_escape}
+use Rattle.tera_lexer.specs.Raw.{WordTag, word_tag_bytes, raw_word, endraw_word}
+use Rattle.tera_lexer.specs.Division.{Piece, Text, Comment, Raw, Tag, Ending, Nothing, OpenTag, BadTag, OpenRaw, OpenComment, IsDivision}
+use Rattle.tera_lexer.specs.declared.lexer.delimiters.Kind.{Kind}
 use Rattle.tera_base.specs.declared.utils.Span.{Span}
 
--- a token, without where it lies in memory: a text; the start and the end of a tag, with a dash or none;
--- a name; the inside of a string; a number; one of the words for true and false; an operator, by its
--- source text
+-- a token, without where it lies in memory: a text; a raw piece, by its start's dash, its body and its
+-- end's dash; a comment, by its dashes; the start and the end of a tag, with a dash or none; a name; the
+-- inside of a string without escapes; the value of a string with some; a number; one of the words for true
+-- and false; an operator, by its source text
 pub data Tok : Type 0 where
   Content : List ℕ → Tok
-  Start : Bool → Tok
-  Finish : Bool → Tok
+  RawContent : Bool → List ℕ → Bool → Tok
+  Remark : Bool → Bool → Tok
+  Start : Kind → Bool → Tok
+  Finish : Kind → Bool → Tok
   Ident : List ℕ → Tok
   Str : List ℕ → Tok
+  Escaped : List ℕ → Tok
   Integer : ℤ → Tok
   Truth : Bool → Tok
   Symbol : List ℕ → Tok
@@ -38,11 +45,8 @@ name_token name =
 abbrev pub token_of : Lexeme → Tok
 token_of (Name b bs) = name_token (b ∷ bs)
 token_of (Number b bs) = Integer (pos (decimal (b ∷ bs)))
-token_of (Quoted quote is) = Str (written is)
+token_of (Quoted quote is) = if has_escape is then Escaped (value_of is) else Str (written is)
 token_of (Operator op) = Symbol op
-
-abbrev pub not_read : List ℕ
-not_read = codes "Not read yet"
 
 abbrev pub unclosed : ℕ → List ℕ
 unclosed quote = codes "String opened with `" ++ quote ∷ (codes "` is missing its closing `" ++ quote ∷ codes "`")
@@ -51,7 +55,7 @@ unclosed quote = codes "String opened with `" ++ quote ∷ (codes "` is missing 
 abbrev pub text_of : Fault → List ℕ
 text_of Unexpected = codes "Unexpected character"
 text_of (Unclosed quote) = unclosed quote
-text_of (Escaped quote is) = not_read
+text_of (UnknownEscape quote is) = codes "unexpected escape character"
 text_of (TooGreat b bs) = codes "Invalid Integer"
 text_of (Float b bs more) = codes "Float literals are not supported"
 
@@ -62,30 +66,67 @@ lexemes front (i ∷ is) follows =
     Token (token_of i.lexeme) (span_of (front ++ i.gap) (spelled i.lexeme)) (lexemes ((front ++ i.gap) ++ spelled i.lexeme) is follows)
 
 -- the start of a tag behind front, and what follows it
-abbrev pub started : Marks → List ℕ → Bool → (List ℕ → Items) → Items
-started m front dash follows =
-    let start = m.variable_start ++ dash_bytes dash in
-    Token (Start dash) (span_of front start) (follows (front ++ start))
+abbrev pub started : Marks → List ℕ → Kind → Bool → (List ℕ → Items) → Items
+started m front kind dash follows =
+    let start = start_marker kind m ++ dash_bytes dash in
+    Token (Start kind dash) (span_of front start) (follows (front ++ start))
 
 -- the end of a tag behind front, and what follows it
-abbrev pub finished : Marks → List ℕ → Bool → (List ℕ → Items) → Items
-finished m front dash follows =
-    let end = dash_bytes dash ++ m.variable_end in
-    Token (Finish dash) (span_of front end) (follows (front ++ end))
+abbrev pub finished : Marks → List ℕ → Kind → Bool → (List ℕ → Items) → Items
+finished m front kind dash follows =
+    let end = dash_bytes dash ++ end_marker kind m in
+    Token (Finish kind dash) (span_of front end) (follows (front ++ end))
 
 -- a fault behind front
 abbrev pub failed : List ℕ → Fault → Items
 failed front fault = Failed (text_of fault) (span_of front (told fault))
 
+abbrev pub open_raw : List ℕ
+open_raw = codes "unexpected end of raw block"
+
+abbrev pub open_comment : Marks → List ℕ
+open_comment m = codes "Closing comment tag `" ++ (m.comment_end ++ codes "` not found")
+
+-- the bytes of a comment, and of a raw piece
+abbrev pub comment_bytes : Marks → Bool → List ℕ → List ℕ
+comment_bytes m dash inside = m.comment_start ++ (dash_bytes dash ++ (inside ++ m.comment_end))
+
+abbrev pub raw_bytes : Marks → Bool → WordTag → List ℕ → WordTag → List ℕ
+raw_bytes m dash opening body closing =
+    m.block_start ++ (dash_bytes dash ++ (word_tag_bytes raw_word m.block_end opening
+    ++ (body ++ (m.block_start ++ word_tag_bytes endraw_word m.block_end closing))))
+
+-- the end of a comment has a dash where the last byte before it is one
+abbrev pub ends_dashed : List ℕ → Bool
+ends_dashed inside = ends_with nat_eq inside (45 ∷ [])
+
+-- a text without the white space at its start, and without that at its end
+abbrev pub trimmed : Bool → Bool → List ℕ → List ℕ
+trimmed start end text =
+    let begun = if start then trim_start text else text in
+    if end then trim_end begun else begun
+
+-- the token of a raw piece: the dash at the end of its opening tag and that at the start of its closing tag
+-- trim its body
+abbrev pub raw_token : Bool → WordTag → List ℕ → WordTag → Tok
+raw_token dash opening body closing = RawContent dash (trimmed opening.dash_out closing.dash_in body) closing.dash_out
+
 -- the tokens of the pieces and of the ending, behind front
 abbrev pub tokens_of : Marks → List ℕ → List Piece → Ending → Items
 tokens_of m front [] Nothing = Ended
-tokens_of m front [] (OpenTag dash items gap) = started m front dash (λ f. lexemes f items (λ g. Ended))
-tokens_of m front [] (BadTag dash items gap fault at) = started m front dash (λ f. lexemes f items (λ g. failed (g ++ gap) fault))
-tokens_of m front [] (Unread marker) = Failed not_read (span_of front marker)
+tokens_of m front [] (OpenTag kind dash items gap) = started m front kind dash (λ f. lexemes f items (λ g. Ended))
+tokens_of m front [] (BadTag kind dash items gap fault at) = started m front kind dash (λ f. lexemes f items (λ g. failed (g ++ gap) fault))
+tokens_of m front [] (OpenRaw dash) = Failed open_raw (span_of front (m.block_start ++ dash_bytes dash))
+tokens_of m front [] (OpenComment dash) = Failed (open_comment m) (span_of front (m.comment_start ++ dash_bytes dash))
 tokens_of m front (Text text ∷ ps) ending = Token (Content text) (span_of front text) (tokens_of m (front ++ text) ps ending)
-tokens_of m front (Tag dash items gap end ∷ ps) ending =
-    started m front dash (λ f. lexemes f items (λ g. finished m (g ++ gap) end (λ h. tokens_of m h ps ending)))
+tokens_of m front (Comment dash inside ∷ ps) ending =
+    let bytes = comment_bytes m dash inside in
+    Token (Remark dash (ends_dashed inside)) (span_of front bytes) (tokens_of m (front ++ bytes) ps ending)
+tokens_of m front (Raw dash opening body closing ∷ ps) ending =
+    let bytes = raw_bytes m dash opening body closing in
+    Token (raw_token dash opening body closing) (span_of front bytes) (tokens_of m (front ++ bytes) ps ending)
+tokens_of m front (Tag kind dash items gap end ∷ ps) ending =
+    started m front kind dash (λ f. lexemes f items (λ g. finished m (g ++ gap) kind end (λ h. tokens_of m h ps ending)))
 
 -- the tokens of a source: those of a division of it
 abbrev pub AreTokensOf : Marks → List ℕ → Items → Type 0

@@ -1,10 +1,11 @@
 //! Laws of the definitions: each function has the law as its promise and does nothing.
 
-ghost use Rattle.std.specs.Prelude.{◌≡◌, ◌++◌, ℕ, List, slice_range};
+ghost use Rattle.std.specs.Prelude.{◌≡◌, ◌++◌, ℕ, List, [], false, slice_range};
 ghost use Rattle.tera_lexer.specs.Place.{span_of};
 ghost use Rattle.tera_lexer.specs.Marks.{Marks, IsValid};
 ghost use Rattle.tera_lexer.specs.Division.{Piece, Ending, IsDivision};
 ghost use Rattle.tera_lexer.specs.Tokens.{Items, AreTokensOf};
+ghost use Rattle.tera_lexer.specs.Tiling.{Tile};
 
 /// Each source has one division into pieces and an ending.
 pub fn one_division()
@@ -24,4 +25,11 @@ pub fn one_token_list()
 pub fn one_slice()
     ensures { (front text rest : List ℕ) →
         slice_range (front ++ (text ++ rest)) (span_of front text).range.start (span_of front text).range.end ≡ text }
+{}
+
+/// The tokens of a source stand in it one behind the other, each with the bytes of its span: a text, a name,
+/// an operator and the inside of a string without escapes are those bytes. Between two tokens stands nothing
+/// but white space, and that only inside a tag.
+pub fn tokens_tile()
+    ensures { (m : Marks) → IsValid m → (source : List ℕ) (items : Items) → AreTokensOf m source items → Tile false [] source items }
 {}

@@ -1,66 +1,76 @@
 -- What the loop over a body has read.
-use Rattle.std.proofs.Common.{◌≡◌, ◌≢◌, ◌<◌, ℕ, List, [], ◌∷◌, ◌++◌, false, Some, inl, inr, subst, sym, refl, ap, ◌∙◌, arith}
-use Rattle.std.specs.Prelude.{map}
-use Rattle.std.specs.List.{AllByRecursion}
-use Rattle.std.proofs.lemmas.List.{map-append}
+use Rattle.std.proofs.Common.{◌≡◌, ◌≢◌, ◌<◌, ℕ, List, [], ◌∷◌, ◌++◌, Some, None, ⊎_elim, inl, inr, subst, sym, refl, ap, ◌∙◌, arith}
+use Rattle.std.specs.Prelude.{map, ◌⊎◌}
+use Rattle.std.specs.List.{AllByRecursion, flat_map}
+use Rattle.std.proofs.lemmas.List.{map-append, append-nil}
+use Rattle.std.proofs.lemmas.Grind.{flat_map-append}
 use Rattle.tera_lexer.specs.Place.{IsWithin}
 use Rattle.tera_lexer.specs.Tokens as toks
 use Rattle.tera_lexer.specs.Tokens.{Tok, Items, Ended, Failed, Token}
+use Rattle.tera_lexer.specs.declared.lexer.delimiters.Kind.TheVariants as kind
 use Rattle.tera_tree.specs.Tree.{node_view}
-use Rattle.tera_parser.specs.Template.{Element, Words, Variable, IsElement, yield, element_output}
-use Rattle.tera_parser.specs.Reading.{element_of}
-use Rattle.tera_base.specs.Errors.{Tells}
+use Rattle.tera_parser.specs.Template.{Element, Words, Raw, Remark, Variable, IsElement, element_yield, yield, element_nodes}
+use Rattle.tera_parser.specs.Reading.{element_at, element_of}
+use Rattle.tera_base.specs.Errors.{IsMemory, Tells}
 use Rattle.tera_lexer.specs.Faults.{Faults}
-use Rattle.tera_lexer.specs.Cursors.{left, source_of, FaultsFrom, RefusesFrom, size}
+use Rattle.tera_lexer.specs.Steps.{Stops}
+use Rattle.tera_lexer.specs.Cursors.{Position, FaultsFrom, RefusesFrom, size}
 use Rattle.tera_parser.specs.Gives.{RefusesIn, IsNoBody}
 use Rattle.tera_base.specs.declared.utils.Span.{Span}
 use Rattle.tera_base.specs.declared.errors.Error.{Error}
-use Rattle.tera_lexer.specs.declared.lexer.cursor.Cursor.{Cursor}
 use Rattle.tera_tree.specs.declared.ast.Node.{Node}
-use Rattle.tera_base.proofs.Tellings.{tells_weaker}
+use Rattle.tera_base.proofs.Tellings.{tells_weaker, tells_memory}
 use Rattle.tera_lexer.proofs.Refusals.{lift_faults}
+use Rattle.tera_lexer.proofs.CursorSteps.{stops_not_ended}
 use Rattle.tera_expr.proofs.Yields.{expression_size}
-use Rattle.tera_parser.proofs.Parsings.{yield_push, are_push, yield_faults, element_stands, no_body_behind}
+use Rattle.tera_parser.proofs.Parsings.{yield_push, are_push, yield_faults, element_found, element_stands, some_element, no_body, no_body_behind}
 
 -- the nodes are the output of elements with which the tokens begin, and the cursor stands behind those
-pub record HasRead (source : List ℕ) (old : Items) (nodes : List Node) (now : Cursor) : Type 0 where
+pub record HasRead (source : List ℕ) (old : Items) (nodes : List Node) (now : Position) : Type 0 where
   pub elements : List Element
   pub are : AllByRecursion IsElement elements
-  pub leads : old ≡ yield elements (left now)
-  pub output : map node_view nodes ≡ map element_output elements
-  pub same : source_of now ≡ source
+  pub leads : old ≡ yield elements now.left
+  pub output : map node_view nodes ≡ flat_map element_nodes elements
+  pub same : now.source ≡ source
 
-pub read_none : (c : Cursor) → HasRead (source_of c) (left c) [] c
+pub read_none : (c : Position) → HasRead c.source c.left [] c
 read_none c = record { elements = []; are = tt; leads = refl; output = refl; same = refl }
 
-module _ (source : List ℕ) (old : Items) (nodes : List Node) (now : Cursor) (read : HasRead source old nodes now) where
-  -- one element more
-  pub read_more : (e : Element) (node : Node) (new : Cursor) → element_of (left now) ≡ Some (e, left new) → source_of new ≡ source_of now
-      → node_view node ≡ element_output e → HasRead source old (nodes ++ node ∷ []) new
-  read_more e node new found same output =
-      let stands = element_stands (left now) e (left new) found in
+module _ (source : List ℕ) (old : Items) (nodes : List Node) (now : Position) (read : HasRead source old nodes now) where
+  -- one element more, with its nodes
+  pub read_more : (e : Element) (more : List Node) (new : Position) → element_of now.left ≡ Some (e, new.left) → new.source ≡ now.source
+      → map node_view more ≡ element_nodes e → HasRead source old (nodes ++ more) new
+  read_more e more new found same output =
+      let stands = element_stands now.left e new.left found in
       record {
         elements = read.elements ++ e ∷ [];
         are = are_push read.elements e read.are stands.0;
-        leads = read.leads ∙ ap (yield read.elements) stands.1 ∙ sym (yield_push read.elements e (left new));
-        output = map-append node_view nodes (node ∷ []) ∙ (λ i. read.output i ++ output i ∷ []) ∙ sym (map-append element_output read.elements (e ∷ []));
+        leads = read.leads ∙ ap (yield read.elements) stands.1 ∙ sym (yield_push read.elements e new.left);
+        output = map-append node_view nodes more ∙ (λ i. read.output i ++ (output ∙ sym (append-nil (element_nodes e))) i) ∙ sym (flat_map-append element_nodes read.elements (e ∷ []));
         same = same ∙ read.same;
       }
 
   -- what is refused there is refused here
-  pub behind_refuses : (e : Error) → RefusesIn (source_of now) (left now) e → RefusesIn source old e
+  pub behind_refuses : (e : Error) → RefusesIn now.source now.left e → RefusesIn source old e
   behind_refuses e told =
-      tells_weaker (λ text span. IsWithin (source_of now) span × Faults (left now) text span) (λ text span. IsWithin source span × Faults old text span) e
-      (λ text span f. (subst (λ s. IsWithin s span) read.same f.0, rw read.leads (yield_faults read.elements (left now) text span f.1))) told
+      tells_weaker (λ text span. IsWithin now.source span × Faults now.left text span) (λ text span. IsWithin source span × Faults old text span) e
+      (λ text span f. (subst (λ s. IsWithin s span) read.same f.0, rw read.leads (yield_faults read.elements now.left text span f.1))) told
 
-  pub behind_no_body : IsNoBody (left now) → IsNoBody old
-  behind_no_body none = rw read.leads (no_body_behind read.elements (left now) none)
+  pub behind_no_body : IsNoBody now.left → IsNoBody old
+  behind_no_body none = rw read.leads (no_body_behind read.elements now.left read.are none)
 
--- a fault of the lexer
-pub failed_refuses : (source : List ℕ) (text : List ℕ) (span : Span) (e : Error) → IsWithin source span → Tells text span e → RefusesIn source (Failed text span) e
-failed_refuses source text span e within told =
+-- where reading stops
+pub stops_refuses : (source : List ℕ) (items : Items) (e : Error) → Stops source items e → RefusesIn source items e
+stops_refuses source Ended e stops = absurd stops
+stops_refuses source (Failed text span) e (within, tells) =
     tells_weaker (λ t s. (t ≡ text) × (s ≡ span)) (λ t s. IsWithin source s × Faults (Failed text span) t s) e
-    (λ t s is. (subst (IsWithin source) (sym is.1) within, inl is)) told
+    (λ t s is. (subst (IsWithin source) (sym is.1) within, inl is)) tells
+stops_refuses source (Token t span items) e (takes, memory) = tells_memory (λ text s. IsWithin source s × Faults (Token t span items) text s) e memory
+
+pub stops_err : (source : List ℕ) (items : Items) (e : Error) → Stops source items e → IsMemory e ⊎ IsNoBody items
+stops_err source Ended e stops = absurd stops
+stops_err source (Failed text span) e stops = inr (no_body (Failed text span) refl (λ is. cc))
+stops_err source (Token t span items) e (takes, memory) = inl memory
 
 -- a fault at the next token
 pub next_refuses : (source : List ℕ) (t : Tok) (here : Span) (items : Items) (text : List ℕ) (e : Error) → IsWithin source here → Tells text here e → RefusesIn source (Token t here items) e
@@ -69,20 +79,57 @@ next_refuses source t here items text e within told =
     (λ text' span is. (subst (IsWithin source) (sym is.1) within, subst (λ s. Faults (Token t here items) text' s) (sym is.1) (inr (inl (refl, inl (refl, refl, refl)))))) told
 
 -- what is refused behind a token is refused from it on
-pub from_refuses : (mid : Cursor) (t : Tok) (e : Error) → RefusesFrom mid e → RefusesIn (source_of mid) (Token t mid.current_span (left mid)) e
-from_refuses mid t e told =
-    tells_weaker (λ text span. IsWithin (source_of mid) span × FaultsFrom mid.current_span (left mid) text span) (λ text span. IsWithin (source_of mid) span × Faults (Token t mid.current_span (left mid)) text span) e
-    (λ text span f. (f.0, lift_faults t mid.current_span (left mid) text span f.1)) told
+pub from_refuses : (mid : Position) (t : Tok) (here : Span) (e : Error) → mid.span ≡ here → RefusesFrom mid e → RefusesIn mid.source (Token t here mid.left) e
+from_refuses mid t here e last told =
+    tells_weaker (λ text span. IsWithin mid.source span × FaultsFrom mid.span mid.left text span) (λ text span. IsWithin mid.source span × Faults (Token t here mid.left) text span) e
+    (λ text span f. (f.0, lift_faults t here mid.left text span (subst (λ s. FaultsFrom s mid.left text span) last f.1))) told
 
 -- behind an element fewer tokens are left
-yield_size : (e : Element) (items : Items) → size items < size (yield (e ∷ []) items)
+yield_size : (e : Element) (items : Items) → size items < size (element_yield e items)
 yield_size (Words t s) items = omega arith
-yield_size (Variable s c r) items = omega (arith, expression_size c (Token (toks.Finish false) r items))
+yield_size (Raw dash t end s) items = omega arith
+yield_size (Remark dash end s) items = omega arith
+yield_size (Variable dash s c last r) items = omega (arith, expression_size c (Token (toks.Finish kind.Variable last) r items))
 
 pub element_size : (items : Items) (e : Element) (rest : Items) → element_of items ≡ Some (e, rest) → size rest < size items
 element_size items e rest found = omega (arith, ap size (element_stands items e rest found).1, yield_size e rest)
 
-pub some_left : (es : List Element) (items : Items) → items ≢ Ended → yield es items ≢ Ended
-some_left [] items some = some
-some_left (Words t s ∷ es) items some = λ e. cc
-some_left (Variable s c r ∷ es) items some = λ e. cc
+-- tokens that go on do so behind elements
+pub some_left : (es : List Element) (items : Items) → AllByRecursion IsElement es → items ≢ Ended → yield es items ≢ Ended
+some_left [] items are some = some
+some_left (e ∷ es) items are some = some_element (element_found_in e es items are)
+  where
+    element_found_in : (e : Element) (es : List Element) (items : Items) → AllByRecursion IsElement (e ∷ es) → element_of (element_yield e (yield es items)) ≡ Some (e, yield es items)
+    element_found_in e es items are = element_found e (yield es items) are.0
+
+-- the next token was taken
+module _ (source : List ℕ) (old : Items) (nodes : List Node) (now mid : Position) (t : Tok) (span : Span) (read : HasRead source old nodes now) (took : now.left ≡ Token t span mid.left) (same : mid.source ≡ now.source) where
+  pub next_read : (e : Element) (more : List Node) (new : Position) → element_at t span mid.left ≡ Some (e, new.left) → new.source ≡ mid.source → map node_view more ≡ element_nodes e → HasRead source old (nodes ++ more) new
+  next_read e more new found goes_on output = read_more source old nodes now read e more new (ap element_of took ∙ found) (goes_on ∙ same) output
+
+  pub next_refused : (e : Error) → RefusesIn mid.source (Token t span mid.left) e → RefusesIn source old e
+  next_refused e told = behind_refuses source old nodes now read e (subst (λ s. RefusesIn s now.left e) same (subst (λ items. RefusesIn mid.source items e) (sym took) told))
+
+  goes_on_here : now.left ≢ Ended
+  goes_on_here e = let clash : Token t span mid.left ≡ Ended = sym took ∙ e in cc
+
+  pub next_err : (e : Error) → IsMemory e ⊎ (element_at t span mid.left ≡ None) → IsMemory e ⊎ IsNoBody old
+  next_err e why =
+      ⊎_elim (λ memory. inl memory) (λ none. inr (behind_no_body source old nodes now read (no_body now.left (ap element_of took ∙ none) goes_on_here))) why
+
+  pub next_some : old ≢ Ended
+  next_some e = some_left read.elements now.left read.are goes_on_here (sym read.leads ∙ e)
+
+  pub next_smaller : (e : Element) (new : Position) → element_at t span mid.left ≡ Some (e, new.left) → size new.left < size now.left
+  next_smaller e new found = element_size now.left e new.left (ap element_of took ∙ found)
+
+-- reading stopped
+module _ (source : List ℕ) (old : Items) (nodes : List Node) (now : Position) (read : HasRead source old nodes now) (e : Error) (stops : Stops now.source now.left e) where
+  pub stopped_refused : RefusesIn source old e
+  stopped_refused = behind_refuses source old nodes now read e (stops_refuses now.source now.left e stops)
+
+  pub stopped_err : IsMemory e ⊎ IsNoBody old
+  stopped_err = ⊎_elim (λ memory. inl memory) (λ none. inr (behind_no_body source old nodes now read none)) (stops_err now.source now.left e stops)
+
+  pub stopped_some : old ≢ Ended
+  stopped_some is = some_left read.elements now.left read.are (λ end. stops_not_ended now.source now.left e end stops) (sym read.leads ∙ is)

@@ -27,7 +27,7 @@ module _ (m : Marks) (valid : IsValid m) (source : List ℕ) where
   pub derives_unique : (one other : Output) → Derives m source one → Derives m source other → one ≡ other
   derives_unique one other d d' =
       let same = derived_tokens (tokens_of m [] d.0 Nothing) (d.0, Nothing, d.1, refl) other d' in
-      d.2.3 ∙ ap output_of (elements_same d.2.0 d'.2.0 (sym d.2.2 ∙ same)) ∙ sym d'.2.3
+      d.2.3 ∙ ap output_of (elements_same d.2.0 d'.2.0 d.2.1 d'.2.1 (sym d.2.2 ∙ same)) ∙ sym d'.2.3
 
   -- of the tokens of the source
   module _ (items : Items) (are : AreTokensOf m source items) where

@@ -1,37 +1,58 @@
 -- The templates that are read, and what they are read as.
-use Rattle.std.specs.Prelude.{◌≡◌, ℕ, false, List, [], ◌∷◌, map}
-use Rattle.std.specs.List.{AllByRecursion}
+use Rattle.std.specs.Prelude.{◌≡◌, ℕ, Bool, List, [], ◌∷◌}
+use Rattle.std.specs.List.{AllByRecursion, flat_map}
 use Rattle.tera_lexer.specs.Marks.{Marks}
 use Rattle.tera_lexer.specs.Division.{Piece, Nothing, IsDivision}
 use Rattle.tera_lexer.specs.Tokens as toks
 use Rattle.tera_lexer.specs.Tokens.{Items, Ended, Token, tokens_of}
+use Rattle.tera_lexer.specs.declared.lexer.delimiters.Kind.TheVariants as kind
 use Rattle.tera_tree.specs.Tree as tree
 use Rattle.tera_expr.specs.Concrete.{Concrete, IsExpression, expression_yield, expression_output}
 use Rattle.tera_tree.specs.Tree.{Stmt, Output}
 use Rattle.tera_base.specs.declared.utils.Span.{Span}
 
--- an element of a body: a text, with its span; a variable tag, by the span of its start, its expression and
--- the span of its end
+-- an element of a body: a text; a raw piece and a comment, by the dashes of their start and end; each with its
+-- span; a variable tag, by the dash and the span of its start, its expression, and the dash and the span of its
+-- end
 pub data Element : Type 0 where
   Words : List ℕ → Span → Element
-  Variable : Span → Concrete → Span → Element
+  Raw : Bool → List ℕ → Bool → Span → Element
+  Remark : Bool → Bool → Span → Element
+  Variable : Bool → Span → Concrete → Bool → Span → Element
 
 abbrev pub IsElement : Element → Type 0
 IsElement (Words text span) = Unit {0}
-IsElement (Variable start e end) = IsExpression e
+IsElement (Raw dash text end span) = Unit {0}
+IsElement (Remark dash end span) = Unit {0}
+IsElement (Variable dash start e last end) = IsExpression e
 
--- the tokens of a body, in front of others; no marker has a dash yet
+-- the tokens of an element, in front of others
+abbrev pub element_yield : Element → Items → Items
+element_yield (Words text span) items = Token (toks.Content text) span items
+element_yield (Raw dash text end span) items = Token (toks.RawContent dash text end) span items
+element_yield (Remark dash end span) items = Token (toks.Remark dash end) span items
+element_yield (Variable dash start e last end) items =
+    Token (toks.Start kind.Variable dash) start (expression_yield e (Token (toks.Finish kind.Variable last) end items))
+
+-- the tokens of a body, in front of others
 abbrev pub yield : List Element → Items → Items
 yield [] items = items
-yield (Words text span ∷ es) items = Token (toks.Content text) span (yield es items)
-yield (Variable start e end ∷ es) items = Token (toks.Start false) start (expression_yield e (Token (toks.Finish false) end (yield es items)))
+yield (e ∷ es) items = element_yield e (yield es items)
 
-abbrev pub element_output : Element → Stmt
-element_output (Words text span) = tree.Content text
-element_output (Variable start e end) = tree.Shown (expression_output e)
+-- a text is a node, unless it is empty
+abbrev pub text_nodes : List ℕ → List Stmt
+text_nodes [] = []
+text_nodes (b ∷ bs) = tree.Content (b ∷ bs) ∷ []
+
+-- the nodes of an element: none of a comment
+abbrev pub element_nodes : Element → List Stmt
+element_nodes (Words text span) = text_nodes text
+element_nodes (Raw dash text end span) = text_nodes text
+element_nodes (Remark dash end span) = []
+element_nodes (Variable dash start e last end) = tree.Shown (expression_output e) ∷ []
 
 abbrev pub output_of : List Element → Output
-output_of es = record { nodes = map element_output es }
+output_of es = record { nodes = flat_map element_nodes es }
 
 -- the source has a derivation with this output: it is divided into pieces alone, and their tokens are those
 -- of a body

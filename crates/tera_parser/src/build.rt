@@ -1,15 +1,18 @@
 //! Makes the nodes of a tree.
 
 ghost use Rattle.std.specs.Prelude.{◌≡◌, IfOk};
-ghost use Rattle.tera_tree.specs.Tree as tree;
-ghost use Rattle.tera_tree.specs.Tree.{node_view};
+ghost use Rattle.tera_parser.specs.Template.{text_nodes};
+ghost use Rattle.tera_parser.specs.Gives.{nodes_view};
 
 use std::alloc::{AllocError, Global};
 use tera_tree::Node;
 
-/// A text between tags.
-pub(crate) fn content(alloc: Global, text: &str) -> Result<Node, AllocError>
-    ensures { IfOk result (λ n. node_view n ≡ tree.Content text.now) }
+/// A text between tags, which is no node if it is empty.
+pub(crate) fn content(alloc: Global, text: &str) -> Result<Option<Node>, AllocError>
+    ensures { IfOk result (λ n. nodes_view n ≡ text_nodes text.now) }
 {
-    Ok(Node::Content(String::from_str(alloc, text)?))
+    if text.is_empty() {
+        return Ok(None);
+    }
+    Ok(Some(Node::Content(String::from_str(alloc, text)?)))
 }

@@ -19,10 +19,10 @@ pub mod ast {
 
 /// The markers of a template, its tokens, and the cursor over them.
 pub mod lexer {
-    pub use tera_lexer::{Cursor, Delimiters, Lexer, Token};
+    pub use tera_lexer::{Cursor, Delimiters, Token, Tokens, tokenize};
 }
 
 /// The reading of expressions.
 pub mod expr {
-    pub use tera_expr::expression;
+    pub use tera_expr::{Scope, expression};
 }

@@ -7,15 +7,17 @@ ghost use Rattle.tera_base.specs.Errors.{IsMemory};
 ghost use Rattle.tera_parser.specs.Refusal.{Refuses};
 ghost use Rattle.tera_parser.specs.Template.{Derives};
 ghost use Rattle.tera_lexer.specs.Tokens.{Ended};
-ghost use Rattle.tera_lexer.specs.Cursors.{IsLater, RefusesFrom, TellsAt, source_of, left};
+ghost use Rattle.tera_lexer.specs.Tokens as toks;
+ghost use Rattle.tera_lexer.specs.Seen.{seen};
+ghost use Rattle.tera_lexer.specs.Cursors.{IsLater, RefusesFrom, TellsAt};
 ghost use Rattle.tera_parser.specs.Gives.{GivesEnd, GivesTag, GivesElement, ReadsBody, IsNoBody, RefusesIn};
 
 use crate::build;
 use std::alloc::Global;
 use std::marker::Model;
 use tera_base::{Error, Span};
-use tera_expr::expression;
-use tera_lexer::{Cursor, Delimiters, Lexer, Token};
+use tera_expr::{Scope, expression};
+use tera_lexer::{Cursor, Delimiters, Token, tokenize};
 use tera_tree::{Expression, Node};
 
 /// What a template is read as.
@@ -79,8 +81,8 @@ impl<'a> Parser<'a> {
         ensures refusal { IfErr result (Refuses self.entry.marks self.entry.source) }
         ensures empty { self.entry.source ≡ [] → IsOk result }
     {
-        let lexer = Lexer::new(self.alloc, self.source, self.delimiters);
-        let mut cursor = Cursor::new(self.alloc, lexer);
+        let tokens = tokenize(self.alloc, self.source, self.delimiters);
+        let mut cursor = Cursor::new(tokens);
         let nodes = body(self.alloc, &mut cursor)?;
         Ok(ParserOutput { nodes })
     }
@@ -88,63 +90,68 @@ impl<'a> Parser<'a> {
 
 // The nodes of a body that lasts to the end of the tokens.
 fn body(alloc: Global, cursor: &mut Cursor<'_>) -> Result<Vec<Node>, Error>
-    ensures ok { IfOk result (λ v. ReadsBody (left cursor.old) v.items) }
-    ensures err { IfErr result (λ e. IsMemory e ⊎ IsNoBody (left cursor.old)) }
-    ensures refusal { IfErr result (RefusesIn (source_of cursor.old) (left cursor.old)) }
-    ensures empty { IfErr result (λ e. left cursor.old ≢ Ended) }
+    ensures ok { IfOk result (λ v. ReadsBody cursor.old.left v.items) }
+    ensures err { IfErr result (λ e. IsMemory e ⊎ IsNoBody cursor.old.left) }
+    ensures refusal { IfErr result (RefusesIn cursor.old.source cursor.old.left) }
+    ensures empty { IfErr result (λ e. cursor.old.left ≢ Ended) }
 {
     let mut nodes = Vec::new(alloc);
-    while let Some(node) = element(alloc, cursor)? {
-        nodes.push(node)?;
+    while let Some((token, span)) = cursor.next()? {
+        if let Some(node) = element(alloc, cursor, token, &span)? {
+            nodes.push(node)?;
+        }
     }
     Ok(nodes)
 }
 
-// The next element of a body, where the tokens go on.
-fn element(alloc: Global, cursor: &mut Cursor<'_>) -> Result<Option<Node>, Error>
-    ensures gives { GivesElement cursor.old result cursor.new }
-    ensures refusal { IfErr result (RefusesIn (source_of cursor.old) (left cursor.old)) }
-    ensures source { IfOk result (λ _. source_of cursor.new ≡ source_of cursor.old) }
-    ensures empty { IfErr result (λ e. left cursor.old ≢ Ended) }
+// The node of the element that begins with this token, which was taken, if it has one.
+fn element(
+    alloc: Global,
+    cursor: &mut Cursor<'_>,
+    token: Token<'_>,
+    span: &Span,
+) -> Result<Option<Node>, Error>
+    requires last { cursor.old.span ≡ span.now }
+    requires within { IsWithin cursor.old.source span.now }
+    ensures gives { GivesElement (seen token.entry) span.now cursor.old result cursor.new }
+    ensures refusal { IfErr result (RefusesIn cursor.old.source (toks.Token (seen token.entry) span.now cursor.old.left)) }
+    ensures source { IfOk result (λ _. cursor.new.source ≡ cursor.old.source) }
 {
-    let Some((token, span)) = cursor.next()? else {
-        return Ok(None);
-    };
     match token {
-        Token::Content(text) => Ok(Some(build::content(alloc, text)?)),
-        Token::VariableStart(false) => Ok(Some(Node::Expression(variable_tag(alloc, cursor)?))),
-        _ => Err(Error::syntax_error(alloc, "Not read yet", &span)),
+        Token::Content(text) => Ok(build::content(alloc, text)?),
+        Token::RawContent(_, text, _) => Ok(build::content(alloc, text)?),
+        Token::Comment(..) => Ok(None),
+        Token::VariableStart(_) => Ok(Some(Node::Expression(variable_tag(alloc, cursor)?))),
+        _ => Err(Error::syntax_error(alloc, "Not read yet", span)),
     }
 }
 
 // The expression of a variable tag, behind its start.
 fn variable_tag(alloc: Global, cursor: &mut Cursor<'_>) -> Result<Expression, Error>
-    requires { IsWithin (source_of cursor.old) cursor.old.current_span }
     ensures gives { GivesTag cursor.old result cursor.new }
     ensures refusal { IfErr result (RefusesFrom cursor.old) }
     ensures later { IfOk result (λ _. IsLater cursor.old cursor.new) }
 {
-    let shown = expression(alloc, cursor)?;
+    let shown = expression(alloc, cursor, Scope { in_loop: false })?;
     end_of_tag(alloc, cursor)?;
     Ok(shown)
 }
 
 // The end of a variable tag.
 fn end_of_tag(alloc: Global, cursor: &mut Cursor<'_>) -> Result<(), Error>
-    requires { IsWithin (source_of cursor.old) cursor.old.current_span }
     ensures gives { GivesEnd cursor.old result cursor.new }
     ensures refusal { IfErr result (RefusesFrom cursor.old) }
     ensures later { IfOk result (λ _. IsLater cursor.old cursor.new) }
 {
     let (token, span) = cursor.next_or_eoi()?;
     match token {
-        Token::VariableEnd(false) => Ok(()),
-        _ => Err(no_end(alloc, token, &span)),
+        Token::VariableEnd(_) => Ok(()),
+        _ => Err(no_end(alloc, &token, &span)),
     }
 }
 
 // The fault of a token behind an expression that is no end of a variable tag.
-fn no_end(alloc: Global, token: Token<'_>, span: &Span) -> Error
+fn no_end(alloc: Global, token: &Token<'_>, span: &Span) -> Error
     ensures { TellsAt span.now result }
 {
     if goes_on(token) {
@@ -154,17 +161,16 @@ fn no_end(alloc: Global, token: Token<'_>, span: &Span) -> Error
     Error::reported(alloc, message, span)
 }
 
-// Whether the language has an expression that goes on with the token, or an end of a tag with a dash.
-fn goes_on(token: Token<'_>) -> bool {
+// Whether the language has an expression that goes on with the token.
+fn goes_on(token: &Token<'_>) -> bool {
     match token {
-        Token::VariableEnd(dash) => dash,
         Token::Ident(word) => {
-            word == "and"
-                || word == "or"
-                || word == "not"
-                || word == "in"
-                || word == "is"
-                || word == "if"
+            *word == "and"
+                || *word == "or"
+                || *word == "not"
+                || *word == "in"
+                || *word == "is"
+                || *word == "if"
         }
         Token::Mul
         | Token::Div

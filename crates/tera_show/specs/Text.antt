@@ -2,7 +2,7 @@
 use Rattle.std.specs.Prelude.{ℕ, ◌==◌, if◌then◌else◌, List, [], ◌∷◌, ◌++◌, codes, chars, encode_utf8}
 use Rattle.std.specs.List.{flat_map}
 use Rattle.std.specs.Fmt.{signed_decimal}
-use Rattle.tera_tree.specs.Tree.{Val, Integer, Text, Expr, Const, Var, Stmt, Content, Shown, Output}
+use Rattle.tera_tree.specs.Tree.{Val, Nothing, Truth, Integer, Text, Expr, Const, Var, Stmt, Content, Shown, Output}
 
 -- a character of a text between quotes
 abbrev pub escaped : ℕ → List ℕ
@@ -19,6 +19,8 @@ quoted text = 34 ∷ (flat_map escaped (chars text) ++ 34 ∷ [])
 
 -- a value as an expression shows it
 abbrev pub value_text : Val → List ℕ
+value_text Nothing = codes "null"
+value_text (Truth b) = if b then codes "true" else codes "false"
 value_text (Integer n) = signed_decimal n
 value_text (Text s) = 39 ∷ (s ++ 39 ∷ [])
 

@@ -59,6 +59,9 @@ fn push_value(alloc: Global, text: &mut String, value: &Value) -> Result<(), All
     ensures { OnOk result (string_bytes text.new ≡ string_bytes text.old ++ value_text (value_view value.now)) }
 {
     match value {
+        Value::None => text.push_str("null"),
+        Value::Bool(true) => text.push_str("true"),
+        Value::Bool(false) => text.push_str("false"),
         Value::I64(n) => text.push_str(n.to_string(alloc)?.as_str()),
         Value::String(s) => {
             text.push('\'')?;

@@ -56,6 +56,7 @@ fn laws_do_nothing(_rt: HostRuntime) -> Result<(), Fail> {
     lexer_laws::one_division();
     lexer_laws::one_token_list();
     lexer_laws::one_slice();
+    lexer_laws::tokens_tile();
     laws::one_output();
     Ok(())
 }

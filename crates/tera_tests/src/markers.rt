@@ -64,3 +64,13 @@ fn a_template_with_other_markers(rt: HostRuntime) -> Result<(), Fail> {
     );
     Ok(())
 }
+
+#[test]
+fn a_copy_has_the_same_markers(rt: HostRuntime) -> Result<(), Fail> {
+    let mut given = markers("[[", "[#");
+    given.comment_start = CowStr::Owned(String::from_str(rt.alloc(), "(*")?);
+    let copy = given.clone()?;
+    assert_eq!(rt; copy, given);
+    assert_eq!(rt; copy.comment_start.as_str(), "(*");
+    Ok(())
+}

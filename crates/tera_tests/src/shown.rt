@@ -16,6 +16,17 @@ fn shows_trees(rt: HostRuntime) -> Result<(), Fail> {
         ),
         ("é\n{{ b }}", "text \"é\\n\"\nexpr b\n"),
         ("é{{ a }}", "text \"é\"\nexpr a\n"),
+        (
+            "{{true}}{{False}}{{None}}",
+            "expr true\nexpr false\nexpr null\n",
+        ),
+        ("{{ 'a\\/\\n\\'' }}", "expr 'a/\n''\n"),
+        ("a{# b }} #}c", "text \"a\"\ntext \"c\"\n"),
+        ("{#-#}{#--#}", ""),
+        ("{%raw%}{{ x }}{% endraw %}", "text \"{{ x }}\"\n"),
+        ("{% raw -%}  {{ x }}  {%- endraw %}", "text \"{{ x }}\"\n"),
+        ("{% raw %}{% endraw %}", ""),
+        ("{{- a -}}", "expr a\n"),
         ("a\t\"\\\r }} {b", "text \"a\\t\\\"\\\\\\r }} {b\"\n"),
     ] {
         let mut written = Vec::new(rt.alloc());
@@ -44,13 +55,15 @@ fn shows_faults(rt: HostRuntime) -> Result<(), Fail> {
         ),
         ("{{ a", "1:4 (3..4): Unexpected end of input"),
         ("é\n{{ é }}", "2:3 (6..6): Unexpected character"),
+        ("{{ 1.5 }}", "1:3 (3..6): Float literals are not supported"),
+        ("{{ '\\a' }}", "1:3 (3..7): unexpected escape character"),
+        ("{% raw %}x", "1:0 (0..2): unexpected end of raw block"),
+        ("a{# b", "1:1 (1..3): Closing comment tag `#}` not found"),
+        ("{#- a", "1:0 (0..3): Closing comment tag `#}` not found"),
         ("a {% b %}", "1:2 (2..4): Not read yet"),
-        ("a {# b #}", "1:2 (2..4): Not read yet"),
-        ("{{- a }}", "1:0 (0..3): Not read yet"),
-        ("{{ true }}", "1:3 (3..7): Not read yet"),
-        ("{{ none }}", "1:3 (3..7): Not read yet"),
+        ("{{ not a }}", "1:3 (3..6): Not read yet"),
         ("{{ a + b }}", "1:5 (5..6): Not read yet"),
-        ("{{ 'a\\n' }}", "1:3 (3..8): Not read yet"),
+        ("{{ a %}", "1:5 (5..6): Not read yet"),
     ] {
         let mut written = Vec::new(rt.alloc());
         let mut rest = source.as_bytes();

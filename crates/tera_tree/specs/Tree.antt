@@ -1,5 +1,5 @@
 -- The tree of a template, without where it lies in memory.
-use Rattle.std.specs.Prelude.{ℕ, ℤ, List, string_bytes}
+use Rattle.std.specs.Prelude.{ℕ, ℤ, Bool, List, string_bytes}
 use Rattle.tera_base.specs.Spanned.{node_of, span_of}
 use Rattle.tera_base.specs.declared.utils.Span.{Span}
 use Rattle.tera_base.specs.declared.values.Value.{Value}
@@ -9,8 +9,10 @@ use Rattle.tera_tree.specs.declared.ast.Expression.TheVariants as expressions
 use Rattle.tera_tree.specs.declared.ast.Node.{Node}
 use Rattle.tera_tree.specs.declared.ast.Node.TheVariants as nodes
 
--- a whole number, or a text
+-- no value; one of the two truths; a whole number; a text
 pub data Val : Type 0 where
+  Nothing : Val
+  Truth : Bool → Val
   Integer : ℤ → Val
   Text : List ℕ → Val
 
@@ -29,6 +31,8 @@ pub record Output : Type 0 where
   pub nodes : List Stmt
 
 abbrev pub value_view : Value → Val
+value_view values.None = Nothing
+value_view (values.Bool b) = Truth b
 value_view (values.I64 n) = Integer n
 value_view (values.String s) = Text (string_bytes s)
 

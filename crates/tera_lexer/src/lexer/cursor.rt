@@ -1,53 +1,146 @@
 //! A cursor over the tokens of a source.
 
-ghost use Rattle.std.specs.Prelude.{◌≡◌, IfOk, IfErr, codes};
+ghost use Rattle.std.specs.Prelude.{◌≡◌, ◌≤◌, IfOk, IfErr, MatchOption, length, codes};
 ghost use Rattle.tera_lexer.specs.Place.{IsWithin};
+ghost use Rattle.tera_lexer.specs.Left.{left_of};
+ghost use Rattle.tera_lexer.specs.Steps.{whole_of};
+ghost use Rattle.tera_lexer.specs.Seen.{seen};
+ghost use Rattle.std.specs.Option.{option_map};
+ghost use Rattle.tera_lexer.specs.CursorView.{IsShown};
 ghost use Rattle.tera_base.specs.Errors.{Tells, end_of};
 
-use crate::lexer::lexer::Lexer;
+use crate::lexer::lexer::Tokens;
 use crate::lexer::tokens::Token;
 use std::alloc::Global;
+use std::marker::Model;
+use std::mem;
 use tera_base::{Error, ReportError, Span};
 
-/// The tokens of a source that are not taken yet.
+/// The tokens of a source that are not taken yet, of which the next two can be looked at.
+///
+/// A fault, or want of memory for a token, that is met while looking ahead is answered when its place is taken.
 #[derive(Drop)]
 pub struct Cursor<'a> {
     alloc: Global,
-    pub lexer: Lexer<'a>,
-    pub current_span: Span,
+    tokens: Tokens<'a>,
+    first: Option<Result<(Token<'a>, Span), Error>>,
+    second: Option<Result<(Token<'a>, Span), Error>>,
+    taken: usize,
+    current_span: Span,
+}
+
+impl<'a> Model for Cursor<'a> {
+    ghost use Rattle.tera_lexer.specs.Cursors.{Position};
+    ghost use Rattle.tera_lexer.specs.Codes.{position_code};
+
+    ghost Value = { Position };
+
+    ghost coded = { position_code };
+
+    ghost use Rattle.tera_lexer.specs.CursorView.{position_of, AreReadAhead};
+
+    ghost view = { position_of };
+
+    ghost invariant = { AreReadAhead };
 }
 
 impl<'a> Cursor<'a> {
-    ghost use Rattle.tera_lexer.specs.Cursors.{left, source_of, nowhere, Takes, TakesOne, IsLater, RefusesFrom};
+    ghost use Rattle.tera_lexer.specs.Cursors.{nowhere, is_end, FirstIs, FirstStandsAt, SecondIs, SeesTwo, Takes, TakesOne, IsLater, RefusesFrom};
 
-    /// A cursor before the next token of the lexer.
-    pub fn new(alloc: Global, lexer: Lexer<'a>) -> Cursor<'a>
-        ensures lexer { result.lexer ≡ lexer.entry }
-        ensures span { result.current_span ≡ nowhere }
+    /// A cursor before the next of the tokens. The next two are read.
+    pub fn new(tokens: Tokens<'a>) -> Cursor<'a>
+        ensures source { result.source ≡ whole_of tokens.entry }
+        ensures left { result.left ≡ left_of tokens.entry }
+        ensures taken { result.taken ≡ 0 }
+        ensures span { result.span ≡ nowhere }
     {
+        let alloc = tokens.alloc();
+        let mut tokens = tokens;
+        let first = tokens.next();
+        let second = tokens.next();
         Cursor {
             alloc,
-            lexer,
+            tokens,
+            first,
+            second,
+            taken: 0,
             current_span: Span::default(),
         }
     }
 
-    /// Takes the next token. After an error none is left.
+    /// Takes the next token; `None` is the end of the tokens.
+    ///
+    /// An error is that of the tokens: the lexical fault, or `Memory` at a string with escapes. After an error
+    /// none is left.
     pub fn next(&mut self) -> Result<Option<(Token<'a>, Span)>, Error>
         ensures takes { Takes self.old result self.new }
-        ensures source { source_of self.new ≡ source_of self.old }
+        ensures count { self.new.taken ≤ length self.new.source }
     {
-        let Some(item) = self.lexer.next_token() else {
-            return Ok(None);
-        };
-        let (token, span) = item?;
-        self.current_span = span.copied();
-        Ok(Some((token, span)))
+        let third = self.tokens.next();
+        let second = mem::replace(&mut self.second, third);
+        match mem::replace(&mut self.first, second) {
+            Some(Ok((token, span))) => {
+                self.taken += 1;
+                self.current_span = span.copied();
+                Ok(Some((token, span)))
+            }
+            Some(Err(error)) => Err(error),
+            None => Ok(None),
+        }
+    }
+
+    /// The next token. There is none at the end, at a fault, and where no memory was found for it.
+    pub fn first(&self) -> Option<&Token<'a>>
+        ensures shows { MatchOption result (self.now.sight ≡ 0) (λ t. FirstIs self.now.left (seen t.now)) }
+        ensures sight { SeesTwo self.now }
+    {
+        let (token, _) = shown(&self.first)?;
+        Some(token)
+    }
+
+    /// The token behind the next one. There is none where either is not shown.
+    pub fn second(&self) -> Option<&Token<'a>>
+        ensures shows { MatchOption result (self.now.sight ≤ 1) (λ t. SecondIs self.now.left (seen t.now)) }
+        ensures sight { SeesTwo self.now }
+    {
+        let _ = shown(&self.first)?;
+        let (token, _) = shown(&self.second)?;
+        Some(token)
+    }
+
+    /// The span of the next token, where that is shown.
+    pub fn first_span(&self) -> Option<&Span>
+        ensures { MatchOption result (self.now.sight ≡ 0) (λ s. FirstStandsAt self.now.left s.now × IsWithin self.now.source s.now) }
+    {
+        let (_, span) = shown(&self.first)?;
+        Some(span)
+    }
+
+    /// Whether neither a token nor a fault is left.
+    pub fn at_end(&self) -> bool
+        ensures { result ≡ is_end self.now.left }
+    {
+        self.first.is_none()
+    }
+
+    /// The span of the token taken last, which is all zeros before.
+    pub fn current_span(&self) -> &Span
+        ensures span { result.now ≡ self.now.span }
+        ensures within { IsWithin self.now.source result.now }
+    {
+        &self.current_span
+    }
+
+    /// The end of the input, behind the token taken last: a syntax error, or `Memory` where its text finds none.
+    pub fn eoi(&self) -> Error
+        ensures tells { Tells (codes "Unexpected end of input") (end_of self.now.span) result }
+        ensures within { IsWithin self.now.source (end_of self.now.span) }
+    {
+        ReportError::unexpected_end_of_input(self.alloc, &self.current_span)
     }
 
     /// Takes the next token, where one has to come: that none does is the end of the input.
     pub fn next_or_eoi(&mut self) -> Result<(Token<'a>, Span), Error>
-        requires { IsWithin (source_of self.old) self.old.current_span }
         ensures takes { TakesOne self.old result self.new }
         ensures later { IfOk result (λ _. IsLater self.old self.new) }
         ensures refusal { IfErr result (RefusesFrom self.old) }
@@ -57,11 +150,16 @@ impl<'a> Cursor<'a> {
             None => Err(self.eoi()),
         }
     }
+}
 
-    /// The end of the input, behind the token taken last.
-    pub fn eoi(&self) -> Error
-        ensures { Tells (codes "Unexpected end of input") (end_of self.now.current_span) result }
-    {
-        ReportError::unexpected_end_of_input(self.alloc, &self.current_span)
+// The token that was read ahead, if one was.
+fn shown<'b, 'a>(
+    item: &'b Option<Result<(Token<'a>, Span), Error>>,
+) -> Option<&'b (Token<'a>, Span)>
+    ensures { IsShown item.now (option_map (λ p. p.now) result) }
+{
+    match item {
+        Some(Ok(pair)) => Some(pair),
+        _ => None,
     }
 }

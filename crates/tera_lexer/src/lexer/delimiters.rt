@@ -2,7 +2,7 @@
 
 ghost use Rattle.tera_lexer.specs.Rules.{Checks, two_bytes, differ};
 
-use std::alloc::Global;
+use std::alloc::{AllocError, Global};
 use std::borrow::CowStr;
 use tera_base::{Error, ErrorKind};
 
@@ -43,9 +43,34 @@ impl Default for Delimiters {
     }
 }
 
+impl Clone for Delimiters {
+    ghost use Rattle.std.specs.Prelude.{◌≡◌};
+    ghost use Rattle.tera_lexer.specs.Marks.{marks_of};
+
+    ghost is_clone = { λ d copy. marks_of copy ≡ marks_of d };
+
+    fn clone(&self) -> Result<Delimiters, AllocError> {
+        Ok(Delimiters {
+            block_start: self.block_start.clone()?,
+            block_end: self.block_end.clone()?,
+            variable_start: self.variable_start.clone()?,
+            variable_end: self.variable_end.clone()?,
+            comment_start: self.comment_start.clone()?,
+            comment_end: self.comment_end.clone()?,
+        })
+    }
+}
+
+/// The kinds of tags: those of expressions and those of statements.
+#[derive(Clone, Copy, Debug, PartialEq, Eq)]
+pub(crate) enum Kind {
+    Variable,
+    Block,
+}
+
 impl Delimiters {
-    ghost use Rattle.std.specs.Prelude.{IsOk, IfOk};
-    ghost use Rattle.tera_lexer.specs.Marks.{marks_of, IsValid};
+    ghost use Rattle.std.specs.Prelude.{◌≡◌, IsOk, IfOk};
+    ghost use Rattle.tera_lexer.specs.Marks.{marks_of, end_marker, IsValid};
     ghost use Rattle.tera_lexer.specs.Rules.{ChecksAll, rules_of};
 
     /// Whether a template can be read with the markers: each is two bytes long, and the three starts differ.
@@ -67,6 +92,16 @@ impl Delimiters {
         check_differ(alloc, "block_start", block, "variable_start", variable)?;
         check_differ(alloc, "block_start", block, "comment_start", comment)?;
         check_differ(alloc, "variable_start", variable, "comment_start", comment)
+    }
+
+    // The marker at the end of a tag.
+    pub(crate) fn end(&self, kind: Kind) -> &str
+        ensures { result.now ≡ end_marker kind (marks_of self.now) }
+    {
+        match kind {
+            Kind::Variable => self.variable_end.as_str(),
+            Kind::Block => self.block_end.as_str(),
+        }
     }
 }
 

@@ -1,20 +1,23 @@
 //! What stands at a place in a tag.
 
-ghost use Rattle.std.specs.Prelude.{◌≡◌, ◌^◌, ◌<◌, ◌≤◌, length, take, drop, true, false, pos, MatchOption};
+ghost use Rattle.std.specs.Prelude.{◌≡◌, ◌^◌, ◌<◌, ◌≤◌, ◌∷◌, [], length, take, drop, get_or, true, false, pos, string_bytes, IfOk, MatchOption};
 ghost use Rattle.std.specs.List.{AllByRecursion, prefix_len};
 ghost use Rattle.std.specs.Char.{is_ascii_digit};
-ghost use Rattle.tera_lexer.specs.Lexeme.{begins_name, is_quote, long_operator_at, short_operator, operator_at, decimal};
+ghost use Rattle.tera_lexer.specs.Lexeme.{begins_name, is_quote, is_known, escaped, long_operator_at, short_operator, operator_at, decimal};
 ghost use Rattle.tera_lexer.specs.Tokens.{name_token, unclosed};
 ghost use Rattle.tera_lexer.specs.Seen.{seen};
-ghost use Rattle.tera_lexer.specs.Front.{front_of, closing_at};
+ghost use Rattle.std.specs.Str.{IsCharBoundary};
+ghost use Rattle.tera_lexer.specs.Front.{front_of, closing_at, is_plain, unescaped, unknown_in};
 ghost use Rattle.tera_lexer.specs.Found.{passes, BeginsBy, IsFound, IsOperatorOf, IsTokenOf};
 
 use crate::lexer::tokens::Token;
+use std::alloc::{AllocError, Global};
 
-/// What was found: a token, with how many bytes it takes, or a fault.
-#[derive(Clone, Copy)]
+/// What was found: a token, or the inside of a string with escapes, with how many bytes it takes; or a fault.
+#[derive(Drop)]
 pub enum Found<'a> {
     Lexeme(Token<'a>, usize),
+    Escaped(&'a str, usize),
     Fault(Fault),
 }
 
@@ -153,13 +156,85 @@ fn string_at(rest: &str) -> Found<'_>
         });
     };
     let (inside, _) = behind.split_at(len);
-    if inside.as_bytes().contains(&b'\\') {
+    if !inside.as_bytes().contains(&b'\\') {
+        return Found::Lexeme(Token::Str(inside), len + 2);
+    }
+    if has_unknown_escape(inside.as_bytes()) {
         return Found::Fault(Fault {
-            message: "Not read yet",
+            message: "unexpected escape character",
             len: len + 2,
         });
     }
-    Found::Lexeme(Token::Str(inside), len + 2)
+    Found::Escaped(inside, len + 2)
+}
+
+// Whether a backslash stands before a byte that makes no escape with it.
+fn has_unknown_escape(bytes: &[u8]) -> bool
+    ensures { result ≡ unknown_in false bytes.now }
+{
+    let mut escape = false;
+    for b in bytes {
+        if escape {
+            if !is_known_escape(*b) {
+                return true;
+            }
+            escape = false;
+        } else if *b == b'\\' {
+            escape = true;
+        }
+    }
+    false
+}
+
+fn is_known_escape(b: u8) -> bool
+    ensures { result ≡ is_known b }
+{
+    matches!(b, b'"' | b'\'' | b'/' | b'\\' | b'n' | b't' | b'r')
+}
+
+/// The text that the inside of a string stands for.
+pub(crate) fn unescape(alloc: Global, inside: &str) -> Result<String, AllocError>
+    requires { unknown_in false inside.now ≡ false }
+    ensures { IfOk result (λ text. string_bytes text ≡ unescaped inside.now) }
+{
+    let mut text = String::new(alloc);
+    let mut rest = inside;
+    loop {
+        let (plain, escape) = rest.split_at(plain_len(rest.as_bytes()));
+        text.push_str(plain)?;
+        if escape.len() < 2 {
+            text.push_str(escape)?;
+            return Ok(text);
+        }
+        let (escape, behind) = escape.split_at(2);
+        text.push_str(escaped(escape))?;
+        rest = behind;
+    }
+}
+
+// How many bytes stand before the first backslash.
+fn plain_len(bytes: &[u8]) -> usize
+    ensures run { result ≡ prefix_len is_plain bytes.now }
+    ensures within { result ≤ length bytes.now }
+{
+    bytes.iter().take_while(|b| **b != b'\\').count()
+}
+
+// What an escape of two bytes stands for.
+fn escaped(escape: &str) -> &str
+    requires len { length escape.now ≡ 2 }
+    requires cut { IsCharBoundary escape.now 1 }
+    ensures { result.now ≡ escaped (get_or escape.now 1 0) ∷ [] }
+{
+    match escape.as_bytes()[1] {
+        b'n' => "\n",
+        b't' => "\t",
+        b'r' => "\r",
+        _ => {
+            let (_, itself) = escape.split_at(1);
+            itself
+        }
+    }
 }
 
 // Where the quote comes that closes a string, which a backslash before it hides.

@@ -1,13 +1,15 @@
 //! Where markers stand.
 
-ghost use Rattle.std.specs.Prelude.{◌≡◌, ◌∷◌, ◌+◌, length, take, drop};
+ghost use Rattle.std.specs.Prelude.{◌≡◌, ◌∷◌, ◌+◌, false, IfSome, length, take, drop};
 ghost use Rattle.std.specs.Bool.{OnTrue};
 ghost use Rattle.std.specs.Str.{IsCharBoundary};
 ghost use Rattle.tera_lexer.specs.Marks.{marks_of, AreTexts, IsValid, begins, NowhereIn, dash_bytes};
 ghost use Rattle.tera_lexer.specs.Division.{is_at_start, EndsText};
-ghost use Rattle.tera_lexer.specs.Markers.{IsStartOf, IsEndOf};
+ghost use Rattle.tera_lexer.specs.Front.{find_marker, word_tag_at, raw_end};
+ghost use Rattle.tera_lexer.specs.Markers.{IsStartOf, IsEndOf, IsWordTagOf, IsRawEndOf, IsRawCut};
 
 use crate::lexer::delimiters::Delimiters;
+use crate::lexer::lexeme::{Class, run_len};
 
 /// How many bytes a dash takes, or none.
 pub(crate) fn dash_len(dash: bool) -> usize
@@ -84,4 +86,78 @@ pub(crate) fn text_len(rest: &str, delimiters: &Delimiters) -> usize
         }
     }
     bytes.len()
+}
+
+/// How many bytes stand before the first such marker.
+pub(crate) fn find_marker(bytes: &[u8], marker: &[u8]) -> Option<usize>
+    ensures { result ≡ find_marker marker.now bytes.now }
+{
+    for i in 0..bytes.len() {
+        if bytes[i..].starts_with(marker) {
+            return Some(i);
+        }
+    }
+    None
+}
+
+/// A tag that opens or closes a raw piece, behind its block start and the dash of that: whether it begins and
+/// ends with a dash, and how many bytes it takes.
+#[derive(Clone, Copy)]
+pub struct WordTag {
+    pub dash_in: bool,
+    pub dash_out: bool,
+    pub len: usize,
+}
+
+/// The tag of this word that begins the bytes, if one does.
+pub(crate) fn word_tag_at(bytes: &[u8], word: &[u8], end: &[u8]) -> Option<WordTag>
+    ensures { IsWordTagOf word.now end.now result (word_tag_at word.now end.now bytes.now) }
+{
+    let dash_in = bytes.starts_with(b"-");
+    let (_, inner) = bytes.split_at(dash_len(dash_in));
+    let (_, at) = inner.split_at(run_len(inner, Class::Space));
+    if !at.starts_with(word) {
+        return None;
+    }
+    let (_, after) = at.split_at(word.len());
+    let (_, last) = after.split_at(run_len(after, Class::Space));
+    let dash_out = last.starts_with(b"-");
+    let (_, at) = last.split_at(dash_len(dash_out));
+    if !at.starts_with(end) {
+        return None;
+    }
+    let (_, rest) = at.split_at(end.len());
+    Some(WordTag {
+        dash_in,
+        dash_out,
+        len: bytes.len() - rest.len(),
+    })
+}
+
+/// Where the block start stands that closes a raw piece, and the tag behind it.
+pub(crate) fn raw_end(text: &str, delimiters: &Delimiters) -> Option<(usize, WordTag)>
+    requires { IsValid (marks_of delimiters.now) }
+    ensures end { IsRawEndOf (marks_of delimiters.now).block_end result (raw_end (marks_of delimiters.now).block_start (marks_of delimiters.now).block_end false text.now) }
+    ensures cut { IfSome result (IsRawCut (marks_of delimiters.now) text.now) }
+{
+    let start = delimiters.block_start.as_str().as_bytes();
+    let end = delimiters.block_end.as_str().as_bytes();
+    end_between(text.as_bytes(), start, end)
+}
+
+// The same, by the two markers.
+fn end_between(bytes: &[u8], start: &[u8], end: &[u8]) -> Option<(usize, WordTag)>
+    requires start { length start.now ≡ 2 }
+    ensures { IsRawEndOf end.now result (raw_end start.now end.now false bytes.now) }
+{
+    let mut from = 0;
+    for i in 0..bytes.len() {
+        if i >= from && bytes[i..].starts_with(start) {
+            if let Some(tag) = word_tag_at(&bytes[i + 2..], b"endraw", end) {
+                return Some((i, tag));
+            }
+            from = i + 2;
+        }
+    }
+    None
 }

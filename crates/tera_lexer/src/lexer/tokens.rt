@@ -3,16 +3,32 @@
 use std::fmt;
 
 /// A token of a source, whose texts it borrows.
-///
-/// A marker says whether a dash stands at it. A string is its text between the quotes.
-#[derive(Clone, Copy, Debug, PartialEq, Eq)]
+#[derive(Debug, PartialEq, Eq, Drop)]
 pub enum Token<'a> {
+    /// A text between tags.
     Content(&'a str),
+    /// A raw piece: whether its start has a dash, its body without the white space that the dashes inside it
+    /// trim, and whether its end has a dash.
+    RawContent(bool, &'a str, bool),
+    /// A comment: whether its start has a dash, and whether its end has one.
+    Comment(bool, bool),
+    /// The start of a variable tag, and whether it has a dash.
     VariableStart(bool),
+    /// The end of a variable tag, and whether it has a dash.
     VariableEnd(bool),
+    /// The start of a block tag, and whether it has a dash.
+    TagStart(bool),
+    /// The end of a block tag, and whether it has a dash.
+    TagEnd(bool),
+    /// A name.
     Ident(&'a str),
+    /// The text of a string with escapes, each replaced by its character.
+    String(String),
+    /// The text between the quotes of a string without escapes.
     Str(&'a str),
+    /// A number without a point.
     Integer(i64),
+    /// One of the words `true`, `True`, `false` and `False`.
     Bool(bool),
     Mul,
     Div,
@@ -57,9 +73,14 @@ impl Token<'_> {
     {
         match self {
             Token::Content(_) => "content",
+            Token::RawContent(..) => "raw content",
+            Token::Comment(..) => "comment",
             Token::VariableStart(_) => "`{{`",
             Token::VariableEnd(_) => "`}}`",
+            Token::TagStart(_) => "`{%`",
+            Token::TagEnd(_) => "`%}`",
             Token::Ident(_) => "identifier",
+            Token::String(_) => "string",
             Token::Str(_) => "string",
             Token::Integer(_) => "integer",
             Token::Bool(_) => "bool",

@@ -1,23 +1,45 @@
-use Rattle.std.proofs.Common.{ap, ◌∙◌}
-use Rattle.tera_lexer.specs.Tokens.{Token}
+use Rattle.std.proofs.Common.{◌≡◌, [], ◌∷◌, Some, None, Ok, inr, ap, sym, subst, ◌∙◌, refl, rules}
+use Rattle.std.specs.Prelude.{Option, Result}
 use Rattle.tera_lexer.specs.Seen.{seen}
-use Rattle.tera_parser.specs.Template.{Words, Variable}
-use Rattle.tera_lexer.specs.declared.lexer.tokens.Token.TheVariants.{VariableStart}
-use Rattle.tera_tree.specs.Tree.{Shown}
-use Rattle.tera_parser.specs.Reading.{started, element_of}
-use Rattle.tera_lexer.specs.Cursors.{left}
+use Rattle.tera_lexer.specs.Cursors.{Position}
+use Rattle.tera_tree.specs.Tree as tree
+use Rattle.tera_tree.specs.Tree.{Stmt}
+use Rattle.tera_parser.specs.Template.{Element, Words, Raw, Remark, Variable, element_nodes}
+use Rattle.tera_parser.specs.Reading.{element_at, started}
+use Rattle.tera_parser.specs.Gives.{nodes_view, GivesElement}
+use Rattle.tera_base.specs.declared.utils.Span.{Span}
+use Rattle.tera_base.specs.declared.errors.Error.{Error}
+use Rattle.tera_tree.specs.declared.ast.Node.{Node}
+use Rattle.tera_lexer.specs.declared.lexer.tokens.Token.{Token}
 use Rattle.tera_parser.proofs.parsing.element.Goals as goal
+use Rattle.tera_parser.proofs.parsing.element.Goals.{in-Content+in_ok-content-in-Content, in-RawContent+in_ok-content-in-RawContent, in-Comment, in-VariableStart+in_ok-variable_tag-in-VariableStart, in_default}
 
-pub returns-in_ok-content-in-Content-clause-gives : goal.returns-in_ok-content-in-Content-clause-gives
-returns-in_ok-content-in-Content-clause-gives c =
-    let took = rw c.in-Some.is at c.in_ok-token.ensures.takes in
-    let read = took.0 ∙ ap (λ t. Token (seen t) c.in-Some.span (left c.next.new.self)) c.in-Content.is in
-    (Words c.in-Content.text.now c.in-Some.span, ap element_of read, c.in_ok-content-in-Content.ensures)
+-- an element that was read
+gives : (given token : Token) (span : Span) (old new : Position) (result : Result (Option Node) Error) (n : Option Node) (e : Element) → given ≡ token → result ≡ Ok n → element_at (seen token) span old.left ≡ Some (e, new.left) → nodes_view n ≡ element_nodes e
+    → GivesElement (seen given) span old result new
+gives given token span old new result n e is answers found view =
+    subst (λ r. GivesElement (seen given) span old r new) (sym answers) (e, ap (λ t. element_at (seen t) span old.left) is ∙ found, view)
 
-pub returns-in_ok-variable_tag-in-VariableStart-false-clause-gives :
-    goal.returns-in_ok-variable_tag-in-VariableStart-false-clause-gives
-returns-in_ok-variable_tag-in-VariableStart-false-clause-gives c =
-    let (e, end, tag, view) = c.in_ok-variable_tag-in-VariableStart-false.ensures.gives in
-    let took = rw c.in-Some.is at c.in_ok-token.ensures.takes in
-    let read = took.0 ∙ ap (λ t. Token (seen t) c.in-Some.span (left c.next.new.self)) (c.in-VariableStart-false.is ∙ ap VariableStart c.in-VariableStart-false.field-0-test) in
-    (Variable c.in-Some.span e end, ap element_of read ∙ ap (started c.in-Some.span) tag, ap Shown view)
+pub returns-clause-gives : goal.returns-clause-gives
+returns-clause-gives c =
+    elim c.match-token.branch [
+      | in-Content+in_ok-content-in-Content w ↦
+          gives c.args.token _ c.args.span.now c.args.cursor.now c.match-token.cursor c.match-token.result w.in_ok-content-in-Content.field-0 (Words w.in-Content.text.now c.args.span.now) w.in-Content.is w.result-is
+          (ap (λ (p : Position). Some (Words w.in-Content.text.now c.args.span.now, p.left)) (sym w.cursor-is)) w.in_ok-content-in-Content.ensures
+      | in-RawContent+in_ok-content-in-RawContent w ↦
+          gives c.args.token _ c.args.span.now c.args.cursor.now c.match-token.cursor c.match-token.result w.in_ok-content-in-RawContent.field-0 (Raw w.in-RawContent.field-0 w.in-RawContent.text.now w.in-RawContent.field-2 c.args.span.now) w.in-RawContent.is w.result-is
+          (ap (λ (p : Position). Some (Raw w.in-RawContent.field-0 w.in-RawContent.text.now w.in-RawContent.field-2 c.args.span.now, p.left)) (sym w.cursor-is)) w.in_ok-content-in-RawContent.ensures
+      | in-Comment w ↦
+          gives c.args.token _ c.args.span.now c.args.cursor.now c.match-token.cursor c.match-token.result None (Remark w.in-Comment.field-0 w.in-Comment.field-1 c.args.span.now) w.in-Comment.is w.result-is
+          (ap (λ (p : Position). Some (Remark w.in-Comment.field-0 w.in-Comment.field-1 c.args.span.now, p.left)) (sym w.cursor-is)) refl
+      | in-VariableStart+in_ok-variable_tag-in-VariableStart w ↦
+          let (e, end, tag, view) = w.in_ok-variable_tag-in-VariableStart.ensures.gives in
+          gives c.args.token _ c.args.span.now c.args.cursor.now c.match-token.cursor c.match-token.result _ (Variable w.in-VariableStart.field-0 c.args.span.now e end.0 end.1) w.in-VariableStart.is w.result-is
+          (ap (started w.in-VariableStart.field-0 c.args.span.now) tag ∙ ap (λ (p : Position). Some (Variable w.in-VariableStart.field-0 c.args.span.now e end.0 end.1, p.left)) (sym w.cursor-is)) (λ i. tree.Shown (view i) ∷ [])
+      | in_default w ↦
+          let content = w.in_default.not-Content in
+          let raw = w.in_default.not-RawContent in
+          let comment = w.in_default.not-Comment in
+          let start = w.in_default.not-VariableStart in
+          rw w.result-is (inr (search rules))
+    ]

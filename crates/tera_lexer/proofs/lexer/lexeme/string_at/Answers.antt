@@ -1,13 +1,14 @@
-use Rattle.std.proofs.Common.{◌≡◌, ℕ, true, List, [], ◌∷◌, take, drop, get_or, Some, sym, subst, ap, ◌∙◌}
+use Rattle.std.proofs.Common.{◌≡◌, ℕ, true, false, List, [], ◌∷◌, take, drop, get_or, Some, sym, subst, ap, ◌∙◌}
 use Rattle.std.specs.Prelude.{◌==◌}
 use Rattle.std.specs.List.{list_any}
 use Rattle.std.specs.Str.{IsCharBoundary}
 use Rattle.tera_lexer.specs.Lexeme.{is_quote}
+use Rattle.tera_lexer.specs.Front.{unknown_in}
 use Rattle.tera_lexer.proofs.Closings.{IsInsideOf}
 use Rattle.tera_lexer.proofs.Cuts.{cut_behind_byte, quote_ascii}
-use Rattle.tera_lexer.proofs.Finds.{first_and_others, unclosed_is_found, inside_is_found, inside_cut, escape_is_found, plain_is_found}
+use Rattle.tera_lexer.proofs.Finds.{first_and_others, unclosed_is_found, inside_is_found, inside_cut, unknown_is_found, escaped_is_found, plain_is_found}
 use Rattle.tera_lexer.proofs.lexer.lexeme.string_at.Goals as goal
-use Rattle.tera_lexer.proofs.lexer.lexeme.string_at.Goals.{After-closing_at, After-contains}
+use Rattle.tera_lexer.proofs.lexer.lexeme.string_at.Goals.{After-closing_at, After-contains, After-has_unknown_escape}
 
 pub split_at-requires : goal.split_at-requires
 split_at-requires c =
@@ -44,14 +45,25 @@ text_is c = c.split_at-2.ensures.front ∙ ap (take c.in-Some.len) (sym c.as_byt
 contains_is : (c : After-contains) → c.contains.result ≡ list_any (λ b. b == 92) (take c.in-Some.len c.as_bytes-2.result.now)
 contains_is c = c.contains.ensures.value ∙ ap (list_any (λ b. b == 92)) (c.as_bytes-3.ensures.value ∙ text_is c)
 
-pub returns-then-contains : goal.returns-then-contains
-returns-then-contains c =
-    let at = goal.at.returns-then-contains c in
+pub returns-then-not-contains : goal.returns-then-not-contains
+returns-then-not-contains c =
+    let at = goal.at.returns-then-not-contains c in
     let here = at.After-closing_at in
-    escape_is_found _ c.args.rest.now c.as_bytes-2.result.now (splits here) (quote here) c.in-Some.len (inside here c.in-Some.len c.in-Some.is) (sym (contains_is at.After-contains) ∙ c.if-contains.true)
+    rw (text_is at.After-contains) (plain_is_found _ c.args.rest.now c.as_bytes-2.result.now (splits here) (quote here) c.in-Some.len (inside here c.in-Some.len c.in-Some.is) (sym (contains_is at.After-contains) ∙ c.if-not-contains.true))
+
+-- and whether an escape in it is unknown
+unknown_is : (c : After-has_unknown_escape) → c.has_unknown_escape.result ≡ unknown_in false (take c.in-Some.len c.as_bytes-2.result.now)
+unknown_is c = c.has_unknown_escape.ensures ∙ ap (unknown_in false) (c.as_bytes-4.ensures.value ∙ c.split_at-2.ensures.front ∙ ap (take c.in-Some.len) (sym c.as_bytes-2.ensures.value))
+
+pub returns-then-has_unknown_escape : goal.returns-then-has_unknown_escape
+returns-then-has_unknown_escape c =
+    let at = goal.at.returns-then-has_unknown_escape c in
+    let here = at.After-closing_at in
+    unknown_is_found _ c.args.rest.now c.as_bytes-2.result.now (splits here) (quote here) c.in-Some.len (inside here c.in-Some.len c.in-Some.is) (sym (unknown_is at.After-has_unknown_escape) ∙ c.if-has_unknown_escape.true)
 
 pub returns : goal.returns
 returns c =
     let at = goal.at.returns c in
     let here = at.After-closing_at in
-    rw (text_is at.After-contains) (plain_is_found _ c.args.rest.now c.as_bytes-2.result.now (splits here) (quote here) c.in-Some.len (inside here c.in-Some.len c.in-Some.is) (sym (contains_is at.After-contains) ∙ c.if-contains.false))
+    rw (text_is at.After-contains) (escaped_is_found _ c.args.rest.now c.as_bytes-2.result.now (splits here) (quote here) c.in-Some.len (inside here c.in-Some.len c.in-Some.is)
+    (sym (contains_is at.After-contains) ∙ c.if-not-contains.false) (sym (unknown_is at.After-has_unknown_escape) ∙ c.if-has_unknown_escape.false))

@@ -1,0 +1,204 @@
+-- The tokens of a source tile it.
+use Rattle.std.proofs.Common.{◌≡◌, ◌≢◌, ℕ, suc, ◌<◌, ◌≤◌, Bool, true, false, ◌||◌, List, [], ◌∷◌, ◌++◌, length, Option, Some, None, ⊎_elim, ap, sym, ◌∙◌, refl, subst, arith, append_assoc}
+use Rattle.std.specs.Prelude.{codes}
+use Rattle.std.specs.Str.{bytes_eq}
+use Rattle.std.proofs.lemmas.Bool.{cases_Bool}
+use Rattle.std.proofs.lemmas.List.{append-nil, length-append}
+use Rattle.tera_lexer.specs.Marks.{Marks, IsValid, start_marker, end_marker, dash_bytes}
+use Rattle.tera_lexer.specs.Place.{place_after, span_of}
+use Rattle.tera_lexer.specs.Lexeme.{Lexeme, Name, Number, Quoted, Operator, spelled, has_escape, IsLexeme, Fault, told, IsFault, Item, Close, End, Open, Bad, IsEnd, IsInside}
+use Rattle.tera_lexer.specs.Raw.{word_tag_bytes, raw_word, endraw_word}
+use Rattle.tera_lexer.specs.Division.{Piece, Text, Comment, Raw, Tag, Ending, Nothing, OpenTag, BadTag, OpenRaw, OpenComment, Starts, IsDivision}
+use Rattle.tera_lexer.specs.Tokens.{Tok, Content, Start, Remark, Items, Ended, Failed, Token, name_token, token_of, lexemes, started, finished, failed, open_raw, open_comment, comment_bytes, raw_bytes, ends_dashed, raw_token, tokens_of, AreTokensOf}
+use Rattle.tera_lexer.specs.Front.{inside_of, division_of}
+use Rattle.tera_lexer.specs.State.{Reading}
+use Rattle.tera_lexer.specs.Steps.{whole_of}
+use Rattle.tera_lexer.specs.Cursors.{size}
+use Rattle.tera_lexer.specs.Left.{left_outside, left_by, left_in, ahead_of, left_of, item_count}
+use Rattle.tera_lexer.specs.Tiling.{Shows, in_tag_behind, Tile}
+use Rattle.tera_lexer.specs.declared.lexer.delimiters.Kind.{Kind}
+use Rattle.tera_lexer.proofs.Insides.{spelled_some, fault_some, inside_stands}
+use Rattle.tera_lexer.proofs.Pieces.{start_two, end_two, body_splits}
+use Rattle.tera_lexer.proofs.Divisions.{division_stands}
+use Rattle.tera_lexer.proofs.WordTags.{word_tag_splits}
+
+some_bytes : (bytes : List ℕ) → 0 < length bytes → bytes ≢ []
+some_bytes bytes some e = omega (arith, ap length e)
+
+span_start : (front bytes : List ℕ) → (span_of front bytes).range.start ≡ length front
+unfolding place_after
+span_start front bytes = refl
+
+-- a token or a fault outside a tag, where no gap comes first
+tile_here : (t : Tok) (front bytes behind rest : List ℕ) (items : Items) → rest ≡ bytes ++ behind → bytes ≢ [] → Shows t bytes → Tile (in_tag_behind false t) (front ++ bytes) behind items → Tile false front rest (Token t (span_of front bytes) items)
+tile_here t front bytes behind rest items e some shows tile =
+    ([], bytes, behind, e, refl, some, shows, ap (λ f. span_of f bytes) (sym (append-nil front)), subst (λ f. Tile (in_tag_behind false t) (f ++ bytes) behind items) (sym (append-nil front)) tile)
+
+fault_here : (front told rest text : List ℕ) → rest ≢ [] → Tile false front rest (Failed text (span_of front told))
+fault_here front told rest text some = ([], rest, refl, refl, some, span_start front told ∙ ap length (sym (append-nil front)))
+
+-- a lexeme shows its bytes
+either : (a b : List ℕ) → List ℕ → Bool
+either a b name = bytes_eq name a || bytes_eq name b
+
+name_shows : (name : List ℕ) → Shows (name_token name) name
+unfolding either
+name_shows name =
+    ⊎_elim
+    (λ here. rw here tt)
+    (λ other. rw other (⊎_elim (λ here. rw here tt) (λ other'. rw other' refl) (cases_Bool (either (codes "false") (codes "False") name))))
+    (cases_Bool (either (codes "true") (codes "True") name))
+
+lexeme_shows : (l : Lexeme) → Shows (token_of l) (spelled l)
+lexeme_shows (Name b bs) = name_shows (b ∷ bs)
+lexeme_shows (Number b bs) = tt
+lexeme_shows (Quoted quote is) = ⊎_elim (λ escape. rw escape tt) (λ plain. rw plain (quote, refl)) (cases_Bool (has_escape is))
+lexeme_shows (Operator op) = refl
+
+-- inside a tag a lexeme leaves the tag open
+name_inside : (name : List ℕ) → in_tag_behind true (name_token name) ≡ true
+unfolding either
+name_inside name =
+    ⊎_elim
+    (λ here. rw here refl)
+    (λ other. rw other (⊎_elim (λ here. rw here refl) (λ other'. rw other' refl) (cases_Bool (either (codes "false") (codes "False") name))))
+    (cases_Bool (either (codes "true") (codes "True") name))
+
+lexeme_inside : (l : Lexeme) → in_tag_behind true (token_of l) ≡ true
+lexeme_inside (Name b bs) = name_inside (b ∷ bs)
+lexeme_inside (Number b bs) = refl
+lexeme_inside (Quoted quote is) = ⊎_elim (λ escape. rw escape refl) (λ plain. rw plain refl) (cases_Bool (has_escape is))
+lexeme_inside (Operator op) = refl
+
+-- lexemes, and what follows them
+module _ (end : List ℕ) where
+  tile_lexeme : (i : Item) (front rest bytes : List ℕ) (items : Items) → bytes ≡ i.gap ++ (spelled i.lexeme ++ rest) → Tile true [] i.gap Ended → IsLexeme i.lexeme rest → Tile true ((front ++ i.gap) ++ spelled i.lexeme) rest items
+      → Tile true front bytes (Token (token_of i.lexeme) (span_of (front ++ i.gap) (spelled i.lexeme)) items)
+  tile_lexeme i front rest bytes items e gap here tile =
+      (i.gap, spelled i.lexeme, rest, e, gap, some_bytes (spelled i.lexeme) (spelled_some i.lexeme rest here), lexeme_shows i.lexeme, refl, subst (λ b. Tile b ((front ++ i.gap) ++ spelled i.lexeme) rest items) (sym (lexeme_inside i.lexeme)) tile)
+
+  tile_open : (is : List Item) (gap front bytes : List ℕ) → IsInside end is (Open gap) bytes → Tile true front bytes (lexemes front is (λ g. Ended))
+  tile_open [] gap front bytes (e, is_gap) = subst (λ l. Tile true front l Ended) (sym e) is_gap.0
+  tile_open (i ∷ is) gap front bytes (rest, e, is_gap, no_end, here, inside) =
+      tile_lexeme i front rest bytes _ e is_gap.0 here (tile_open is gap ((front ++ i.gap) ++ spelled i.lexeme) rest inside)
+
+  fault_bytes : (fault : Fault) (at : List ℕ) → IsFault fault at → at ≢ []
+  fault_bytes fault at here e = fault_some fault (subst (IsFault fault) e here)
+
+  tile_bad : (is : List Item) (gap : List ℕ) (fault : Fault) (at front bytes : List ℕ) → IsInside end is (Bad gap fault at) bytes → Tile true front bytes (lexemes front is (λ g. failed (g ++ gap) fault))
+  tile_bad [] gap fault at front bytes (e, is_gap, no_end, here) = (gap, at, e, is_gap.0, fault_bytes fault at here, span_start (front ++ gap) (told fault))
+  tile_bad (i ∷ is) gap fault at front bytes (rest, e, is_gap, no_end, here, inside) =
+      tile_lexeme i front rest bytes _ e is_gap.0 here (tile_bad is gap fault at ((front ++ i.gap) ++ spelled i.lexeme) rest inside)
+
+module _ (m : Marks) (valid : IsValid m) where
+  end_splits : (end : List ℕ) (dash : Bool) (at rest : List ℕ) → IsEnd end dash at rest → at ≡ (dash_bytes dash ++ end) ++ rest
+  end_splits end true at rest is = is
+  end_splits end false at rest is = is.0
+
+  tile_end : (kind : Kind) (is : List Item) (gap : List ℕ) (dash : Bool) (rest front bytes : List ℕ) (follows : List ℕ → Items) → IsInside (end_marker kind m) is (End gap dash rest) bytes → ((g : List ℕ) → Tile false g rest (follows g))
+      → Tile true front bytes (lexemes front is (λ g. finished m (g ++ gap) kind dash follows))
+  tile_end kind [] gap dash rest front bytes follows (at, e, is_gap, ends) tile =
+      let end : List ℕ = end_marker kind m in
+      let marker : List ℕ = dash_bytes dash ++ end in
+      let some : 0 < length marker = omega (arith, length-append (dash_bytes dash) end, end_two m valid kind) in
+      (gap, marker, rest, e ∙ ap (λ l. gap ++ l) (end_splits end dash at rest ends), is_gap.0, some_bytes marker some, tt, refl, tile ((front ++ gap) ++ marker))
+  tile_end kind (i ∷ is) gap dash rest front bytes follows (behind, e, is_gap, no_end, here, inside) tile =
+      tile_lexeme (end_marker kind m) i front behind bytes _ e is_gap.0 here (tile_end kind is gap dash rest ((front ++ i.gap) ++ spelled i.lexeme) behind follows inside tile)
+
+  tile_start : (kind : Kind) (front : List ℕ) (dash : Bool) (bytes inside : List ℕ) (follows : List ℕ → Items) → Starts (start_marker kind m) dash bytes inside → ((f : List ℕ) → Tile true f inside (follows f))
+      → Tile false front bytes (started m front kind dash follows)
+  tile_start kind front dash bytes inside follows starts tile =
+      let marker : List ℕ = start_marker kind m ++ dash_bytes dash in
+      let some : 0 < length marker = omega (arith, length-append (start_marker kind m) (dash_bytes dash), start_two m valid kind) in
+      tile_here (Start kind dash) front marker inside bytes (follows (front ++ marker)) (starts.0 ∙ sym (append_assoc (start_marker kind m) (dash_bytes dash) inside)) (some_bytes marker some) tt (tile (front ++ marker))
+
+  starts_some : (marker : List ℕ) (dash : Bool) (bytes behind : List ℕ) → length marker ≡ 2 → Starts marker dash bytes behind → bytes ≢ []
+  starts_some marker dash bytes behind two starts = some_bytes bytes (omega (arith, ap length starts.0, length-append marker (dash_bytes dash ++ behind)))
+
+  pub tile : (ps : List Piece) (ending : Ending) (front bytes : List ℕ) → IsDivision m ps ending bytes → Tile false front bytes (tokens_of m front ps ending)
+  tile [] Nothing front bytes e = e
+  tile [] (OpenTag kind dash items gap) front bytes (inside, starts, opens, here) =
+      tile_start kind front dash bytes inside (λ f. lexemes f items (λ g. Ended)) starts (λ f. tile_open (end_marker kind m) items gap f inside here)
+  tile [] (BadTag kind dash items gap fault at) front bytes (inside, starts, opens, here) =
+      tile_start kind front dash bytes inside (λ f. lexemes f items (λ g. failed (g ++ gap) fault)) starts (λ f. tile_bad (end_marker kind m) items gap fault at f inside here)
+  tile [] (OpenRaw dash) front bytes (behind, inside, opening, starts, opens, is) = fault_here front (m.block_start ++ dash_bytes dash) bytes open_raw (starts_some m.block_start dash bytes behind valid.block_start starts)
+  tile [] (OpenComment dash) front bytes (behind, starts, none) = fault_here front (m.comment_start ++ dash_bytes dash) bytes (open_comment m) (starts_some m.comment_start dash bytes behind valid.comment_start starts)
+  tile (Text text ∷ ps) ending front bytes (rest, (e, some, none, ends), divides) =
+      tile_here (Content text) front text rest bytes (tokens_of m (front ++ text) ps ending) e some refl (tile ps ending (front ++ text) rest divides)
+  tile (Comment dash inside ∷ ps) ending front bytes (rest, (behind, starts, e, none), divides) =
+      let text : List ℕ = comment_bytes m dash inside in
+      let splits : bytes ≡ text ++ rest
+      = starts.0 ∙ ap (λ l. m.comment_start ++ (dash_bytes dash ++ l)) (e ∙ sym (append_assoc inside m.comment_end rest))
+      ∙ sym (append_assoc m.comment_start (dash_bytes dash ++ (inside ++ m.comment_end)) rest ∙ ap (λ l. m.comment_start ++ l) (append_assoc (dash_bytes dash) (inside ++ m.comment_end) rest)) in
+      let some : 0 < length text = omega (arith, length-append m.comment_start (dash_bytes dash ++ (inside ++ m.comment_end)), valid.comment_start) in
+      tile_here (Remark dash (ends_dashed inside)) front text rest bytes (tokens_of m (front ++ text) ps ending) splits (some_bytes text some) tt (tile ps ending (front ++ text) rest divides)
+  tile (Raw dash opening body closing ∷ ps) ending front bytes (rest, (behind, inside, starts, opens, is), divides) =
+      let text : List ℕ = raw_bytes m dash opening body closing in
+      let close : List ℕ = word_tag_bytes endraw_word m.block_end closing in
+      let open_tag : List ℕ = word_tag_bytes raw_word m.block_end opening in
+      let splits : bytes ≡ text ++ rest
+      = starts.0
+      ∙ ap (λ l. m.block_start ++ (dash_bytes dash ++ l)) (word_tag_splits raw_word m.block_end opening behind inside opens ∙ ap (λ l. open_tag ++ l) (body_splits m valid body closing inside rest is))
+      ∙ sym (append_assoc m.block_start (dash_bytes dash ++ (open_tag ++ (body ++ (m.block_start ++ close)))) rest
+      ∙ ap (λ l. m.block_start ++ l) (append_assoc (dash_bytes dash) (open_tag ++ (body ++ (m.block_start ++ close))) rest
+      ∙ ap (λ l. dash_bytes dash ++ l) (append_assoc open_tag (body ++ (m.block_start ++ close)) rest
+      ∙ ap (λ l. open_tag ++ l) (append_assoc body (m.block_start ++ close) rest
+      ∙ ap (λ l. body ++ l) (append_assoc m.block_start close rest))))) in
+      let some : 0 < length text = omega (arith, length-append m.block_start (dash_bytes dash ++ (open_tag ++ (body ++ (m.block_start ++ close)))), valid.block_start) in
+      let front_part : List ℕ = m.block_start ++ (dash_bytes dash ++ open_tag) in
+      let shows_at : text ≡ front_part ++ (body ++ (m.block_start ++ close))
+      = sym (append_assoc m.block_start (dash_bytes dash ++ open_tag) (body ++ (m.block_start ++ close)) ∙ ap (λ l. m.block_start ++ l) (append_assoc (dash_bytes dash) open_tag (body ++ (m.block_start ++ close)))) in
+      tile_here (raw_token dash opening body closing) front text rest bytes (tokens_of m (front ++ text) ps ending) splits (some_bytes text some)
+      (front_part, body, m.block_start ++ close, opening.dash_out, closing.dash_in, shows_at, refl) (tile ps ending (front ++ text) rest divides)
+  tile (Tag kind dash items gap end ∷ ps) ending front bytes (rest, (inside, starts, opens, here), divides) =
+      let follows : List ℕ → Items = λ h. tokens_of m h ps ending in
+      tile_start kind front dash bytes inside (λ f. lexemes f items (λ g. finished m (g ++ gap) kind end follows)) starts
+      (λ f. tile_end kind items gap end rest f inside follows here (λ g. tile ps ending g rest divides))
+
+  pub tokens_tile : (source : List ℕ) (items : Items) → AreTokensOf m source items → Tile false [] source items
+  tokens_tile source items (ps, ending, division, is) = subst (Tile false [] source) (sym is) (tile ps ending [] source division)
+
+-- the same of what a reading has left
+is_open : Option Kind → Bool
+is_open None = false
+is_open (Some kind) = true
+
+module _ (m : Marks) (valid : IsValid m) where
+  tile_outside : (front rest : List ℕ) → Tile false front rest (left_outside m front rest)
+  tile_outside front rest = tile m valid (division_of m rest).0 (division_of m rest).1 front rest (division_stands m valid (suc (length rest)) rest (omega arith))
+
+  tile_by : (kind : Kind) (front rest : List ℕ) (is : List Item) (close : Close) → IsInside (end_marker kind m) is close rest → Tile true front rest (left_by m kind front is close)
+  tile_by kind front rest is (End gap dash behind) here = tile_end m valid kind is gap dash behind front rest (λ h. left_outside m h behind) here (λ g. tile_outside g behind)
+  tile_by kind front rest is (Open gap) here = tile_open (end_marker kind m) is gap front rest here
+  tile_by kind front rest is (Bad gap fault at) here = tile_bad (end_marker kind m) is gap fault at front rest here
+
+  tile_in : (tag : Option Kind) (front rest : List ℕ) → Tile (is_open tag) front rest (left_in m tag front rest)
+  unfolding is_open
+  tile_in None front rest = tile_outside front rest
+  tile_in (Some kind) front rest =
+      tile_by kind front rest (inside_of (end_marker kind m) rest).0 (inside_of (end_marker kind m) rest).1 (inside_stands (end_marker kind m) (suc (length rest)) rest (omega arith))
+
+-- at most one item a byte
+length_some : (bytes : List ℕ) → bytes ≢ [] → 0 < length bytes
+length_some [] some = absurd (some refl)
+length_some (b ∷ bs) some = omega arith
+
+pub tiles_count : (items : Items) (inside : Bool) (front rest : List ℕ) → Tile inside front rest items → item_count items ≤ length rest
+tiles_count Ended inside front rest tile = omega arith
+tiles_count (Failed text span) inside front rest (gap, at, e, between, some, start) = omega (arith, ap length e, length-append gap at, length_some at some)
+tiles_count (Token t span items) inside front rest (gap, bytes, behind, e, between, some, shows, is, tile) =
+    omega (arith, ap length e, length-append gap (bytes ++ behind), length-append bytes behind, length_some bytes some, tiles_count items (in_tag_behind inside t) ((front ++ gap) ++ bytes) behind tile)
+
+pub left_count : (r : Reading) → IsValid r.marks → item_count (left_of r) ≤ length (whole_of r)
+unfolding ahead_of
+left_count r valid =
+    ⊎_elim
+    (λ over. rw over (omega arith))
+    (λ going. rw going (omega (arith, tiles_count (left_in r.marks r.tag r.front r.rest) (is_open r.tag) r.front r.rest (tile_in r.marks valid r.tag r.front r.rest), length-append r.front r.rest)))
+    (cases_Bool r.failed)
+
+-- a fault is no token
+pub size_count : (items : Items) → size items ≤ item_count items
+size_count Ended = omega arith
+size_count (Failed text span) = omega arith
+size_count (Token t span items) = omega (arith, size_count items)

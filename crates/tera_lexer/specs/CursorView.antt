@@ -1,0 +1,66 @@
+-- From the fields of a `Cursor` to what it has left.
+use Rattle.std.specs.Prelude.{◌≡◌, ℕ, suc, ◌+◌, ◌<◌, ◌≤◌, ◌^◌, length, Option, Some, None, Result, Ok, Err}
+use Rattle.tera_base.specs.declared.utils.Span.{Span}
+use Rattle.tera_base.specs.declared.errors.Error.{Error}
+use Rattle.tera_lexer.specs.Place.{IsWithin}
+use Rattle.tera_lexer.specs.Tokens as toks
+use Rattle.tera_lexer.specs.Tokens.{Items, Ended}
+use Rattle.tera_lexer.specs.State.{Reading}
+use Rattle.tera_lexer.specs.Left.{ahead_of, left_of}
+use Rattle.tera_lexer.specs.Steps.{whole_of, Stops}
+use Rattle.tera_lexer.specs.Seen.{seen}
+use Rattle.tera_lexer.specs.Cursors.{Position, size}
+use Rattle.tera_lexer.specs.declared.lexer.tokens.Token.{Token}
+use Rattle.tera_lexer.specs.declared.lexer.cursor.Cursor.TheInside.{Inside}
+
+-- an item that was read ahead: a token comes before what follows; where reading stopped, what it stopped at
+-- comes; and where there was none, only what follows
+abbrev pub with_item : Items → Option (Result (Token × Span) Error) → Items → Items
+with_item stopped None items = items
+with_item stopped (Some (Ok p)) items = toks.Token (seen p.0) p.1 items
+with_item stopped (Some (Err e)) items = stopped
+
+abbrev pub left_behind : Reading → Option (Result (Token × Span) Error) → Option (Result (Token × Span) Error) → Items
+left_behind r first second = with_item (ahead_of r) first (with_item (ahead_of r) second (left_of r))
+
+-- a token that was read ahead can be shown
+abbrev pub in_sight : Option (Result (Token × Span) Error) → ℕ → ℕ
+in_sight None n = 0
+in_sight (Some (Ok p)) n = suc n
+in_sight (Some (Err e)) n = 0
+
+abbrev pub position_of : Inside → Position
+position_of c = record {
+  source = whole_of c.tokens;
+  left = left_behind c.tokens c.first c.second;
+  sight = in_sight c.first (in_sight c.second 0);
+  taken = c.taken;
+  span = c.current_span;
+}
+
+-- an item that was read ahead of this place: a token lies in the source; reading stopped at what is told; and
+-- where there was none, or reading stopped, nothing more is given
+abbrev pub IsReadAhead : Reading → Option (Result (Token × Span) Error) → Type 0
+IsReadAhead r None = left_of r ≡ Ended
+IsReadAhead r (Some (Ok p)) = IsWithin (whole_of r) p.1
+IsReadAhead r (Some (Err e)) = (left_of r ≡ Ended) × Stops (whole_of r) (ahead_of r) e
+
+-- behind an item that is no token none was read
+abbrev pub Follows : Option (Result (Token × Span) Error) → Option (Result (Token × Span) Error) → Type 0
+Follows None second = second ≡ None
+Follows (Some (Ok p)) second = Unit {0}
+Follows (Some (Err e)) second = second ≡ None
+
+pub record AreReadAhead (c : Inside) : Type 0 where
+  pub first : IsReadAhead c.tokens c.first
+  pub second : IsReadAhead c.tokens c.second
+  pub follows : Follows c.first c.second
+  pub count : c.taken + size (left_behind c.tokens c.first c.second) ≤ length (whole_of c.tokens)
+  pub fits : length (whole_of c.tokens) < 2 ^ 64
+  pub span : IsWithin (whole_of c.tokens) c.current_span
+
+-- the token of an item that was read ahead, with its span
+abbrev pub IsShown : Option (Result (Token × Span) Error) → Option (Token × Span) → Type 0
+IsShown (Some (Ok p)) shown = shown ≡ Some p
+IsShown (Some (Err e)) shown = shown ≡ None
+IsShown None shown = shown ≡ None

@@ -1,0 +1,299 @@
+//! Texts, comments, raw pieces and tags, between the default markers and others.
+
+use std::alloc::Global;
+use std::borrow::CowStr;
+use std::process::Abort;
+use std::test::Fail;
+use tera_base::ErrorKind;
+use tera_lexer::{Delimiters, Token, tokenize};
+
+// The tokens of the source with their ranges, and the fault that ends them.
+fn listing(alloc: Global, source: &str, delimiters: Delimiters) -> Result<String, Fail> {
+    delimiters.validate(alloc)?;
+    let mut all = String::new(alloc);
+    for item in tokenize(alloc, source, delimiters) {
+        let text = match item {
+            Ok((token, span)) => {
+                let range = &span.range;
+                format!(in alloc; "{range:?} {token:?}")?
+            }
+            Err(error) => match error.kind {
+                ErrorKind::SyntaxError(report) => {
+                    let (range, message) = (&report.span.range, &report.message);
+                    format!(in alloc; "{range:?} {message}")?
+                }
+                other => format!(in alloc; "{other:?}")?,
+            },
+        };
+        if !all.is_empty() {
+            all.push_str("; ")?;
+        }
+        all.push_str(text.as_str())?;
+    }
+    Ok(all)
+}
+
+/// That the source has these tokens between the default markers, and at last this fault.
+pub(crate) fn expect_items(
+    rt: &impl Abort,
+    alloc: Global,
+    source: &str,
+    wanted: &str,
+) -> Result<(), Fail> {
+    let shown = listing(alloc, source, Delimiters::default())?;
+    assert_eq!(rt; shown.as_str(), wanted);
+    Ok(())
+}
+
+// These markers, in the order of the fields.
+fn markers(texts: [&'static str; 6]) -> Delimiters {
+    Delimiters {
+        block_start: CowStr::Borrowed(texts[0]),
+        block_end: CowStr::Borrowed(texts[1]),
+        variable_start: CowStr::Borrowed(texts[2]),
+        variable_end: CowStr::Borrowed(texts[3]),
+        comment_start: CowStr::Borrowed(texts[4]),
+        comment_end: CowStr::Borrowed(texts[5]),
+    }
+}
+
+#[test]
+fn texts_stay_untouched_beside_tags(rt: HostRuntime) -> Result<(), Fail> {
+    for (source, wanted) in [
+        ("", ""),
+        (" a}} %}\n", "0..8 Content(\" a}} %}\\n\")"),
+        (
+            "{{-1}}",
+            "0..3 VariableStart(true); 3..4 Integer(1); 4..6 VariableEnd(false)",
+        ),
+        ("a  {{-", "0..3 Content(\"a  \"); 3..6 VariableStart(true)"),
+        (
+            "{{ -}}  b",
+            "0..2 VariableStart(false); 3..6 VariableEnd(true); 6..9 Content(\"  b\")",
+        ),
+        (
+            "{%- if -%}",
+            "0..3 TagStart(true); 4..6 Ident(\"if\"); 7..10 TagEnd(true)",
+        ),
+        (
+            "{% rawx %}",
+            "0..2 TagStart(false); 3..7 Ident(\"rawx\"); 8..10 TagEnd(false)",
+        ),
+        (
+            "{%endraw%}",
+            "0..2 TagStart(false); 2..8 Ident(\"endraw\"); 8..10 TagEnd(false)",
+        ),
+    ] {
+        expect_items(&rt, rt.alloc(), source, wanted)?;
+    }
+    Ok(())
+}
+
+#[test]
+fn comments_tell_their_dashes(rt: HostRuntime) -> Result<(), Fail> {
+    for (source, wanted) in [
+        ("{##}", "0..4 Comment(false, false)"),
+        (
+            "{# {{ #} ",
+            "0..8 Comment(false, false); 8..9 Content(\" \")",
+        ),
+        ("{#-#}", "0..5 Comment(true, false)"),
+        ("{#--#}", "0..6 Comment(true, true)"),
+        ("{# a -#}", "0..8 Comment(false, true)"),
+        (
+            "a{# b",
+            "0..1 Content(\"a\"); 1..3 Closing comment tag `#}` not found",
+        ),
+        ("{#- a", "0..3 Closing comment tag `#}` not found"),
+        ("{#-}", "0..3 Closing comment tag `#}` not found"),
+    ] {
+        expect_items(&rt, rt.alloc(), source, wanted)?;
+    }
+    Ok(())
+}
+
+#[test]
+fn inner_dashes_trim_a_raw_body(rt: HostRuntime) -> Result<(), Fail> {
+    for (source, wanted) in [
+        (
+            "{% raw %}{% raw %}x{% endraw %}",
+            "0..31 RawContent(false, \"{% raw %}x\", false)",
+        ),
+        (
+            "{% raw -%}  {{ x }}  {%- endraw %}",
+            "0..34 RawContent(false, \"{{ x }}\", false)",
+        ),
+        (
+            "{%- raw %} {# a {% endraw -%}",
+            "0..29 RawContent(true, \" {# a \", true)",
+        ),
+        (
+            "{%-- raw%}a{%endraw-%}",
+            "0..22 RawContent(true, \"a\", true)",
+        ),
+        ("{% raw %}x", "0..2 unexpected end of raw block"),
+        ("{%- raw %}x{% endraw", "0..3 unexpected end of raw block"),
+    ] {
+        expect_items(&rt, rt.alloc(), source, wanted)?;
+    }
+    Ok(())
+}
+
+// That the source has these tokens where tags begin by `{%` or `«` and end by this marker.
+fn expect_ended_by(
+    rt: &impl Abort,
+    alloc: Global,
+    end: &'static str,
+    source: &str,
+    wanted: &str,
+) -> Result<(), Fail> {
+    let delimiters = markers(["{%", end, "«", end, "{#", "#}"]);
+    let shown = listing(alloc, source, delimiters)?;
+    assert_eq!(rt; shown.as_str(), wanted);
+    Ok(())
+}
+
+#[test]
+fn a_marker_can_be_one_wide_character(rt: HostRuntime) -> Result<(), Fail> {
+    let wanted = "0..2 VariableStart(false); 2..3 Ident(\"b\"); 3..5 VariableEnd(false)";
+    expect_ended_by(&rt, rt.alloc(), "»", "«b»", wanted)?;
+    let wanted = "0..4 Content(\"é}}\"); 4..7 VariableStart(true); 7..10 VariableEnd(true)";
+    expect_ended_by(&rt, rt.alloc(), "»", "é}}«--»", wanted)
+}
+
+#[test]
+fn an_end_of_two_blanks_closes_behind_a_dash_alone(rt: HostRuntime) -> Result<(), Fail> {
+    for (source, wanted) in [
+        (
+            "{%a  -",
+            "0..2 TagStart(false); 2..3 Ident(\"a\"); 5..6 Minus",
+        ),
+        (
+            "{%a-  ",
+            "0..2 TagStart(false); 2..3 Ident(\"a\"); 3..6 TagEnd(true)",
+        ),
+        ("{%raw  ", "0..2 TagStart(false); 2..5 Ident(\"raw\")"),
+        (
+            "{%raw-  { {%endraw-  ",
+            "0..21 RawContent(false, \"{ \", true)",
+        ),
+    ] {
+        expect_ended_by(&rt, rt.alloc(), "  ", source, wanted)?;
+    }
+    Ok(())
+}
+
+#[test]
+fn an_end_marker_goes_before_operators(rt: HostRuntime) -> Result<(), Fail> {
+    for (end, source, wanted) in [
+        (
+            "..",
+            "«...",
+            "0..2 VariableStart(false); 2..4 VariableEnd(false); 4..5 Content(\".\")",
+        ),
+        (
+            "--",
+            "«---",
+            "0..3 VariableStart(true); 3..5 VariableEnd(false)",
+        ),
+        (
+            "--",
+            "« ---- ",
+            "0..2 VariableStart(false); 3..6 VariableEnd(true); 6..8 Content(\"- \")",
+        ),
+        (
+            "--",
+            "{%raw---a{%endraw---",
+            "0..20 RawContent(false, \"a\", true)",
+        ),
+        (
+            "--",
+            "{%raw--",
+            "0..2 TagStart(false); 2..5 Ident(\"raw\"); 5..7 TagEnd(false)",
+        ),
+    ] {
+        expect_ended_by(&rt, rt.alloc(), end, source, wanted)?;
+    }
+    Ok(())
+}
+
+#[test]
+fn a_fault_is_the_last_item(rt: HostRuntime) -> Result<(), Fail> {
+    let mut tokens = tokenize(rt.alloc(), "{{ ? a }} b", Delimiters::default());
+    assert!(rt; matches!(tokens.next(), Some(Ok((Token::VariableStart(false), _)))));
+    assert!(rt; matches!(tokens.next(), Some(Err(_))));
+    for _again in 0..3 {
+        assert!(rt; tokens.next().is_none());
+    }
+    Ok(())
+}
+
+#[test]
+fn lines_count_from_one_and_columns_in_characters(rt: HostRuntime) -> Result<(), Fail> {
+    let mut tokens = tokenize(rt.alloc(), "é\n{{ 'é\n\\a'", Delimiters::default());
+    let _ = tokens.next();
+    let Some(Ok((_, start))) = tokens.next() else {
+        panic!(rt; "a tag begins");
+    };
+    let Some(Err(error)) = tokens.next() else {
+        panic!(rt; "a fault comes");
+    };
+    let ErrorKind::SyntaxError(report) = error.kind else {
+        panic!(rt; "memory is left");
+    };
+    for (span, start, end) in [(&start, (2, 0), (2, 2)), (&report.span, (2, 3), (3, 3))] {
+        assert_eq!(rt; (span.start_line, span.start_col), start);
+        assert_eq!(rt; (span.end_line, span.end_col), end);
+    }
+    Ok(())
+}
+
+// That the markers are refused by this text.
+fn expect_refusal(
+    rt: &impl Abort,
+    alloc: Global,
+    delimiters: &Delimiters,
+    message: &str,
+) -> Result<(), Fail> {
+    let Err(error) = delimiters.validate(alloc) else {
+        panic!(rt; "it is refused: {message}");
+    };
+    let ErrorKind::Message(told) = error.kind else {
+        panic!(rt; "memory is left");
+    };
+    assert_eq!(rt; told.as_str(), message);
+    Ok(())
+}
+
+#[test]
+fn the_first_wrong_length_is_told(rt: HostRuntime) -> Result<(), Fail> {
+    for (texts, name) in [
+        (["", "x", "x", "x", "x", "x"], "block_start"),
+        (["[[[", "x", "x", "x", "[[[", "x"], "block_start"),
+        (["日", "x", "x", "x", "x", "x"], "block_start"),
+        (["[[", "x", "x", "x", "x", "x"], "block_end"),
+        (["[[", "]]", "x", "x", "x", "x"], "variable_start"),
+        (["[[", "]]", "[[", "x", "x", "x"], "variable_end"),
+        (["[[", "]]", "[[", "]]", "x", "x"], "comment_start"),
+        (["[[", "]]", "[[", "]]", "[[", "x"], "comment_end"),
+    ] {
+        let message = format!(in rt.alloc(); "`{name}` delimiter must be 2 bytes long")?;
+        expect_refusal(&rt, rt.alloc(), &markers(texts), message.as_str())?;
+    }
+    Ok(())
+}
+
+#[test]
+fn equal_starts_are_told_after_the_lengths(rt: HostRuntime) -> Result<(), Fail> {
+    for ([block, variable, comment], names) in [
+        (["[[", "[[", "[["], "`block_start` and `variable_start`"),
+        (["[[", "{{", "[["], "`block_start` and `comment_start`"),
+        (["{%", "[[", "[["], "`variable_start` and `comment_start`"),
+    ] {
+        let message = format!(in rt.alloc(); "{names} cannot have the same value")?;
+        let delimiters = markers([block, "é", variable, "é", comment, "é"]);
+        expect_refusal(&rt, rt.alloc(), &delimiters, message.as_str())?;
+    }
+    markers(["{%", "é", "{{", "é", "{#", "{#"]).validate(rt.alloc())?;
+    Ok(())
+}
