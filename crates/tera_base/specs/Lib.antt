@@ -1,2 +1,5 @@
 pub mod Spanned
 pub mod Errors
+pub mod Values
+pub mod ValueView
+pub mod formers

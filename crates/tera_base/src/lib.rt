@@ -7,4 +7,4 @@ mod values;
 
 pub use errors::{Error, ErrorKind, Note, ReportError};
 pub use utils::{Span, Spanned};
-pub use values::Value;
+pub use values::{Key, Map, MapOf, Value};

@@ -2,6 +2,7 @@
 use Rattle.std.specs.Prelude.{◌≡◌, ℕ, ℤ, Bool, true, false, ◌||◌, List, codes}
 use Rattle.std.specs.Str.{bytes_eq}
 use Rattle.tera_base.specs.declared.utils.Span.{Span}
+use Rattle.tera_base.specs.Values as values
 use Rattle.tera_tree.specs.Tree as tree
 use Rattle.tera_tree.specs.Tree.{Expr}
 use Rattle.tera_lexer.specs.Tokens as toks
@@ -54,9 +55,9 @@ abbrev pub expression_yield : Concrete → Items → Items
 expression_yield c items = Token (token_of c) (place_of c) items
 
 abbrev pub expression_output : Concrete → Expr
-expression_output (Number n span) = tree.Const (tree.Integer n) span
-expression_output (Quoted text span) = tree.Const (tree.Text text) span
-expression_output (Escaped text span) = tree.Const (tree.Text text) span
-expression_output (Truth b span) = tree.Const (tree.Truth b) span
-expression_output (Nothing word span) = tree.Const tree.Nothing span
+expression_output (Number n span) = tree.Const (values.I64 n) span
+expression_output (Quoted text span) = tree.Const (values.Text text) span
+expression_output (Escaped text span) = tree.Const (values.Text text) span
+expression_output (Truth b span) = tree.Const (values.Truth b) span
+expression_output (Nothing word span) = tree.Const values.Nothing span
 expression_output (Name name span) = tree.Var name span

@@ -2,7 +2,7 @@
 use Rattle.std.specs.Prelude.{◌≡◌, ◌⊎◌, Some, None, Result, Ok, Err}
 use Rattle.tera_base.specs.Errors.{IsMemory}
 use Rattle.tera_base.specs.declared.errors.Error.{Error}
-use Rattle.tera_tree.specs.Tree.{expression_view}
+use Rattle.tera_tree.specs.View.{expression_view}
 use Rattle.tera_tree.specs.declared.ast.Expression.{Expression}
 use Rattle.tera_lexer.specs.Cursors.{Position}
 use Rattle.tera_expr.specs.Concrete.{Concrete, expression_output}

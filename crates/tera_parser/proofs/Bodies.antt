@@ -8,7 +8,7 @@ use Rattle.tera_lexer.specs.Place.{IsWithin}
 use Rattle.tera_lexer.specs.Tokens as toks
 use Rattle.tera_lexer.specs.Tokens.{Tok, Items, Ended, Failed, Token}
 use Rattle.tera_lexer.specs.declared.lexer.delimiters.Kind.TheVariants as kind
-use Rattle.tera_tree.specs.Tree.{node_view}
+use Rattle.tera_tree.specs.View.{node_view}
 use Rattle.tera_parser.specs.Template.{Element, Words, Raw, Remark, Variable, IsElement, element_yield, yield, element_nodes}
 use Rattle.tera_parser.specs.Reading.{element_at, element_of}
 use Rattle.tera_base.specs.Errors.{IsMemory, Tells}

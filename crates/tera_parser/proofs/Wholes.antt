@@ -1,11 +1,12 @@
 -- From the tokens of a whole source to its derivation.
 use Rattle.std.proofs.Common.{◌≡◌, ℕ, List, [], ⊎_elim, subst, sym, refl, ap, ◌∙◌}
-use Rattle.std.specs.Prelude.{map, ◌⊎◌}
+use Rattle.std.specs.Prelude.{map, None, ◌⊎◌}
 use Rattle.tera_lexer.specs.Marks.{Marks, IsValid}
 use Rattle.tera_lexer.specs.Place.{IsWithin}
 use Rattle.tera_lexer.specs.Division.{Nothing, IsDivision}
 use Rattle.tera_lexer.specs.Tokens.{Items, Ended, tokens_of, AreTokensOf}
-use Rattle.tera_tree.specs.Tree.{Output, node_view}
+use Rattle.tera_tree.specs.Tree.{Output}
+use Rattle.tera_tree.specs.View.{node_view}
 use Rattle.tera_parser.specs.Template.{yield, output_of, Derives}
 use Rattle.tera_base.specs.Errors.{IsMemory}
 use Rattle.tera_lexer.specs.Faults.{Faults}
@@ -32,13 +33,13 @@ module _ (m : Marks) (valid : IsValid m) (source : List ℕ) where
   -- of the tokens of the source
   module _ (items : Items) (are : AreTokensOf m source items) where
     -- what is read of them is derived
-    pub derives : (nodes : List Node) → ReadsBody items nodes → Derives m source (record { nodes = map node_view nodes })
+    pub derives : (nodes : List Node) → ReadsBody items nodes → Derives m source (record { parent = None; nodes = map node_view nodes; definitions = [] })
     derives nodes (es, each, tokens, output) =
         let (pieces, ending, division, same) = are in
         let nothing : ending ≡ Nothing = ends_in_nothing m pieces ending es (sym same ∙ tokens) in (
           pieces,
           subst (λ e. IsDivision m pieces e source) nothing division,
-          (es, each, ap (tokens_of m [] pieces) (sym nothing) ∙ sym same ∙ tokens, λ i. record { nodes = output i }),
+          (es, each, ap (tokens_of m [] pieces) (sym nothing) ∙ sym same ∙ tokens, λ i. record { parent = None; nodes = output i; definitions = [] }),
         )
 
     -- a refusal is want of memory, where there is a derivation

@@ -6,7 +6,8 @@ use Rattle.tera_lexer.specs.Tokens.{Tok, Items, Ended}
 use Rattle.tera_lexer.specs.Cursors.{Position}
 use Rattle.tera_base.specs.Errors.{IsMemory, TellsBy}
 use Rattle.tera_lexer.specs.Faults.{Faults}
-use Rattle.tera_tree.specs.Tree.{Stmt, expression_view, node_view}
+use Rattle.tera_tree.specs.Tree.{Stmt}
+use Rattle.tera_tree.specs.View.{expression_view, node_view}
 use Rattle.tera_expr.specs.Concrete.{Concrete, expression_output}
 use Rattle.tera_parser.specs.Template.{Element, IsElement, yield, element_nodes}
 use Rattle.tera_parser.specs.Reading.{end_of_tag, tag_of, element_at}

@@ -1,5 +1,5 @@
 -- The templates that are read, and what they are read as.
-use Rattle.std.specs.Prelude.{◌≡◌, ℕ, Bool, List, [], ◌∷◌}
+use Rattle.std.specs.Prelude.{◌≡◌, ℕ, Bool, List, [], ◌∷◌, None}
 use Rattle.std.specs.List.{AllByRecursion, flat_map}
 use Rattle.tera_lexer.specs.Marks.{Marks}
 use Rattle.tera_lexer.specs.Division.{Piece, Nothing, IsDivision}
@@ -52,7 +52,7 @@ element_nodes (Remark dash end span) = []
 element_nodes (Variable dash start e last end) = tree.Shown (expression_output e) ∷ []
 
 abbrev pub output_of : List Element → Output
-output_of es = record { nodes = flat_map element_nodes es }
+output_of es = record { parent = None; nodes = flat_map element_nodes es; definitions = [] }
 
 -- the source has a derivation with this output: it is divided into pieces alone, and their tokens are those
 -- of a body

@@ -9,12 +9,22 @@ pub use parsing::{Parser, ParserOutput};
 
 /// Spans, errors and values.
 pub mod value {
-    pub use tera_base::{Error, ErrorKind, Note, ReportError, Span, Spanned, Value};
+    pub use tera_base::{
+        Error, ErrorKind, Key, Map, MapOf, Note, ReportError, Span, Spanned, Value,
+    };
 }
 
 /// The tree of a template.
 pub mod ast {
-    pub use tera_tree::{Expression, Node, Var};
+    pub use tera_tree::{
+        ArgType as Type, Array, ArrayEntry, ArrayEntryOf, ArrayOf, BinaryOperation,
+        BinaryOperationOf, BinaryOperator, Block, BlockOf, BlockSet, ComponentArgument,
+        ComponentCall, ComponentDefinition, Expression, Filter, FilterOf, FilterSection, ForLoop,
+        FunctionCall, FunctionCallOf, GetAttr, GetAttrOf, GetItem, GetItemOf, If, Include,
+        ListComprehension, ListComprehensionOf, Map, MapEntry, MapEntryOf, MapOf, Node, Set, SetOf,
+        Slice, SliceOf, Ternary, TernaryOf, Test, TestOf, UnaryOperation, UnaryOperationOf,
+        UnaryOperator, Var,
+    };
 }
 
 /// The markers of a template, its tokens, and the cursor over them.

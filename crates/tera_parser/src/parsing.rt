@@ -18,13 +18,17 @@ use std::marker::Model;
 use tera_base::{Error, Span};
 use tera_expr::{Scope, expression};
 use tera_lexer::{Cursor, Delimiters, Token, tokenize};
-use tera_tree::{Expression, Node};
+use tera_tree::{ComponentDefinition, Expression, Node};
 
 /// What a template is read as.
 #[derive(Debug, Drop)]
 pub struct ParserOutput {
+    /// The name of the template that this one extends.
+    pub parent: Option<String>,
     /// The nodes of the template, in order.
     pub nodes: Vec<Node>,
+    /// The components that the template defines, in order.
+    pub component_definitions: Vec<ComponentDefinition>,
 }
 
 /// A template that is to be parsed.
@@ -84,7 +88,12 @@ impl<'a> Parser<'a> {
         let tokens = tokenize(self.alloc, self.source, self.delimiters);
         let mut cursor = Cursor::new(tokens);
         let nodes = body(self.alloc, &mut cursor)?;
-        Ok(ParserOutput { nodes })
+        let definitions = Vec::new(self.alloc);
+        Ok(ParserOutput {
+            parent: None,
+            nodes,
+            component_definitions: definitions,
+        })
     }
 }
 
@@ -133,8 +142,13 @@ fn variable_tag(alloc: Global, cursor: &mut Cursor<'_>) -> Result<Expression, Er
     ensures later { IfOk result (λ _. IsLater cursor.old cursor.new) }
 {
     let shown = expression(alloc, cursor, Scope { in_loop: false })?;
-    end_of_tag(alloc, cursor)?;
-    Ok(shown)
+    match end_of_tag(alloc, cursor) {
+        Ok(()) => Ok(shown),
+        Err(error) => {
+            drop(shown);
+            Err(error)
+        }
+    }
 }
 
 // The end of a variable tag.

@@ -2,7 +2,8 @@
 
 ghost use Rattle.std.specs.Prelude.{◌≡◌, ◌++◌, string_bytes, IfOk, IfErr, OnOk};
 ghost use Rattle.tera_parser.specs.Outputs.{output_view};
-ghost use Rattle.tera_tree.specs.Tree.{node_view, expression_view, value_view};
+ghost use Rattle.tera_base.specs.ValueView.{value_view};
+ghost use Rattle.tera_tree.specs.View.{node_view, expression_view};
 ghost use Rattle.tera_base.specs.Errors.{IsMemory};
 ghost use Rattle.tera_show.specs.Text.{line_of, text_of, expression_text, value_text, quoted, escaped};
 
@@ -36,6 +37,7 @@ fn push_node(alloc: Global, text: &mut String, node: &Node) -> Result<(), AllocE
             text.push_str("expr ")?;
             push_expression(alloc, text, expression)?;
         }
+        _ => return Ok(()),
     }
     text.push('\n')
 }
@@ -51,6 +53,7 @@ fn push_expression(
     match expression {
         Expression::Const(constant) => push_value(alloc, text, constant.node()),
         Expression::Var(variable) => text.push_str(variable.node().name.as_str()),
+        _ => Ok(()),
     }
 }
 
@@ -68,6 +71,7 @@ fn push_value(alloc: Global, text: &mut String, value: &Value) -> Result<(), All
             text.push_str(s.as_str())?;
             text.push('\'')
         }
+        _ => Ok(()),
     }
 }
 

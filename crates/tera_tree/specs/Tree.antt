@@ -1,45 +1,93 @@
 -- The tree of a template, without where it lies in memory.
-use Rattle.std.specs.Prelude.{ℕ, ℤ, Bool, List, string_bytes}
-use Rattle.tera_base.specs.Spanned.{node_of, span_of}
+use Rattle.std.specs.Prelude.{ℕ, Bool, List, Option}
+use Rattle.tera_base.specs.Values.{KeyVal, Val}
 use Rattle.tera_base.specs.declared.utils.Span.{Span}
-use Rattle.tera_base.specs.declared.values.Value.{Value}
-use Rattle.tera_base.specs.declared.values.Value.TheVariants as values
-use Rattle.tera_tree.specs.declared.ast.Expression.{Expression}
-use Rattle.tera_tree.specs.declared.ast.Expression.TheVariants as expressions
-use Rattle.tera_tree.specs.declared.ast.Node.{Node}
-use Rattle.tera_tree.specs.declared.ast.Node.TheVariants as nodes
+use Rattle.tera_tree.specs.declared.ast.UnaryOperator.{UnaryOperator}
+use Rattle.tera_tree.specs.declared.ast.BinaryOperator.{BinaryOperator}
+use Rattle.tera_tree.specs.declared.ast.ArgType.{ArgType}
 
--- no value; one of the two truths; a whole number; a text
-pub data Val : Type 0 where
-  Nothing : Val
-  Truth : Bool → Val
-  Integer : ℤ → Val
-  Text : List ℕ → Val
+mutual
+  -- an expression, with where it stands
+  pub data Expr : Type 0 where
+    Const : Val → Span → Expr
+    Array : Items → Span → Expr
+    Map : Entries → Span → Expr
+    Var : List ℕ → Span → Expr
+    -- a field by its name; by an expression; a part from, to and by what is there; each optional or not
+    GetAttr : Expr → List ℕ → Bool → Span → Expr
+    GetItem : Expr → Expr → Bool → Span → Expr
+    Slice : Expr → MaybeExpr → MaybeExpr → MaybeExpr → Bool → Span → Expr
+    Filter : Expr → List ℕ → Args → Span → Expr
+    Test : Expr → List ℕ → Args → Span → Expr
+    -- the condition, and the expressions with and without it
+    Ternary : Expr → Expr → Expr → Span → Expr
+    -- the element, the names of the key and the value, the target and the condition
+    ListComprehension : Expr → Option (List ℕ) → List ℕ → Expr → MaybeExpr → Span → Expr
+    -- the name, the attributes, the body, and whether it is closed at once
+    ComponentCall : List ℕ → Entries → Nodes → Bool → Span → Expr
+    FunctionCall : List ℕ → Args → Span → Expr
+    UnaryOperation : UnaryOperator → Expr → Span → Expr
+    BinaryOperation : BinaryOperator → Expr → Expr → Span → Expr
 
--- a constant or a variable, with where it stands
-pub data Expr : Type 0 where
-  Const : Val → Span → Expr
-  Var : List ℕ → Span → Expr
+  pub data MaybeExpr : Type 0 where
+    NoExpr : MaybeExpr
+    OneExpr : Expr → MaybeExpr
 
--- a text, or an expression that is shown
-pub data Stmt : Type 0 where
-  Content : List ℕ → Stmt
-  Shown : Expr → Stmt
+  pub data Filters : Type 0 where
+    NoFilters : Filters
+    OneFilter : Expr → Filters → Filters
+
+  -- arguments by their names, in byte order
+  pub data Args : Type 0 where
+    NoArgs : Args
+    Arg : List ℕ → Expr → Args → Args
+
+  pub data Items : Type 0 where
+    NoItems : Items
+    Item : Expr → Items → Items
+    SpreadItem : Expr → Items → Items
+
+  pub data Entries : Type 0 where
+    NoEntries : Entries
+    Entry : KeyVal → Expr → Entries → Entries
+    SpreadEntry : Expr → Entries → Entries
+
+  -- a node of a template
+  pub data Stmt : Type 0 where
+    Content : List ℕ → Stmt
+    Shown : Expr → Stmt
+    -- the name, the value, and whether it is set for the whole template
+    Set : List ℕ → Expr → Bool → Stmt
+    BlockSet : List ℕ → Filters → Nodes → Bool → Stmt
+    Include : List ℕ → Span → Stmt
+    Block : List ℕ → Span → Nodes → Stmt
+    -- the names of the key and the value, the target, the body, and the body for no items
+    ForLoop : Option (List ℕ) → List ℕ → Expr → Nodes → Nodes → Stmt
+    Break : Stmt
+    Continue : Stmt
+    If : Expr → Nodes → Nodes → Stmt
+    FilterSection : Filters → Nodes → Stmt
+
+  pub data Nodes : Type 0 where
+    NoNodes : Nodes
+    OneNode : Stmt → Nodes → Nodes
+
+-- an argument of a component
+pub record Argument : Type 0 where
+  pub default : Option Val
+  pub typ : Option ArgType
+  pub implicit : Bool
+
+-- the definition of a component: arguments and metadata in the byte order of their names
+pub record Definition : Type 0 where
+  pub name : List ℕ
+  pub arguments : List (List ℕ × Argument)
+  pub rest : Option (List ℕ)
+  pub metadata : List (List ℕ × Val)
+  pub body : List Stmt
 
 -- what a template is read as
 pub record Output : Type 0 where
+  pub parent : Option (List ℕ)
   pub nodes : List Stmt
-
-abbrev pub value_view : Value → Val
-value_view values.None = Nothing
-value_view (values.Bool b) = Truth b
-value_view (values.I64 n) = Integer n
-value_view (values.String s) = Text (string_bytes s)
-
-abbrev pub expression_view : Expression → Expr
-expression_view (expressions.Const s) = Const (value_view (node_of s)) (span_of s)
-expression_view (expressions.Var s) = Var (string_bytes (node_of s).name) (span_of s)
-
-abbrev pub node_view : Node → Stmt
-node_view (nodes.Content s) = Content (string_bytes s)
-node_view (nodes.Expression e) = Shown (expression_view e)
+  pub definitions : List Definition

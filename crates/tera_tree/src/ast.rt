@@ -1,6 +1,127 @@
-//! Expressions and nodes.
+//! Expressions, nodes and definitions.
+//!
+//! A struct that holds expressions alone, or nodes alone, is declared for every type of them and has its
+//! name as an alias: so the types that hold one another stay few.
 
-use tera_base::{Spanned, Value};
+use std::collections::BTreeMap;
+use tera_base::{Key, Spanned, Value};
+
+/// What stands before its one operand.
+#[derive(Clone, Copy, Debug, PartialEq, Eq)]
+pub enum UnaryOperator {
+    Not,
+    Minus,
+}
+
+/// What stands between its two operands.
+#[derive(Clone, Copy, Debug, PartialEq, Eq)]
+pub enum BinaryOperator {
+    Mul,
+    Div,
+    Mod,
+    Plus,
+    Minus,
+    FloorDiv,
+    Power,
+    LessThan,
+    GreaterThan,
+    LessThanOrEqual,
+    GreaterThanOrEqual,
+    Equal,
+    NotEqual,
+    And,
+    Or,
+    StrConcat,
+    In,
+    Is,
+    Pipe,
+}
+
+/// An expression.
+#[cycle(ast)]
+#[derive(Debug, Drop)]
+pub enum Expression {
+    Const(Spanned<Value>),
+    Array(Spanned<Array>),
+    Map(Spanned<Map>),
+    Var(Spanned<Var>),
+    GetAttr(Spanned<GetAttr>),
+    GetItem(Spanned<GetItem>),
+    Slice(Spanned<Slice>),
+    Filter(Spanned<Filter>),
+    Test(Spanned<Test>),
+    Ternary(Spanned<Ternary>),
+    ListComprehension(Spanned<ListComprehension>),
+    ComponentCall(Spanned<ComponentCall>),
+    FunctionCall(Spanned<FunctionCall>),
+    UnaryOperation(Spanned<UnaryOperation>),
+    BinaryOperation(Spanned<BinaryOperation>),
+}
+
+/// A node of a template.
+#[cycle(ast)]
+#[derive(Debug, Drop)]
+pub enum Node {
+    Content(String),
+    Expression(Expression),
+    Set(Set),
+    BlockSet(BlockSet),
+    Include(Include),
+    Block(Block),
+    ForLoop(ForLoop),
+    Break,
+    Continue,
+    If(If),
+    FilterSection(FilterSection),
+}
+
+/// A call of a component, with its body if it is not closed at once.
+#[cycle(ast)]
+#[derive(Debug, Drop)]
+pub struct ComponentCall {
+    pub name: String,
+    pub kwargs: Vec<MapEntry>,
+    pub body: Vec<Node>,
+    pub self_closing: bool,
+}
+
+/// A variable that takes what a body is shown as, after some filters.
+#[cycle(ast)]
+#[derive(Debug, Drop)]
+pub struct BlockSet {
+    pub name: String,
+    pub filters: Vec<Expression>,
+    pub body: Vec<Node>,
+    pub global: bool,
+}
+
+/// A body for each item of the target, and one for a target without items.
+#[cycle(ast)]
+#[derive(Debug, Drop)]
+pub struct ForLoop {
+    pub key: Option<String>,
+    pub value: String,
+    pub target: Expression,
+    pub body: Vec<Node>,
+    pub else_body: Vec<Node>,
+}
+
+/// A body under a condition, and one without it. An `elif` is an `If` alone in `false_body`.
+#[cycle(ast)]
+#[derive(Debug, Drop)]
+pub struct If {
+    pub expr: Expression,
+    pub body: Vec<Node>,
+    pub false_body: Vec<Node>,
+}
+
+/// A body that filters change.
+#[cycle(ast)]
+#[derive(Debug, Drop)]
+pub struct FilterSection {
+    pub filters: Vec<Expression>,
+    pub body: Vec<Node>,
+}
 
 /// A variable.
 #[derive(Debug, Drop)]
@@ -8,16 +129,194 @@ pub struct Var {
     pub name: String,
 }
 
-/// An expression.
+/// An item of an array, or a spread of them.
 #[derive(Debug, Drop)]
-pub enum Expression {
-    Const(Spanned<Value>),
-    Var(Spanned<Var>),
+pub enum ArrayEntryOf<E> {
+    Item(E),
+    Spread(E),
 }
 
-/// A node of a template.
+/// An array.
 #[derive(Debug, Drop)]
-pub enum Node {
-    Content(String),
-    Expression(Expression),
+pub struct ArrayOf<E> {
+    pub items: Vec<ArrayEntryOf<E>>,
+}
+
+/// A pair of a map, or a spread of them.
+#[derive(Debug, Drop)]
+pub enum MapEntryOf<E> {
+    KeyValue { key: Key, value: E },
+    Spread(E),
+}
+
+/// A map.
+#[derive(Debug, Drop)]
+pub struct MapOf<E> {
+    pub entries: Vec<MapEntryOf<E>>,
+}
+
+/// A field by its name.
+#[derive(Debug, Drop)]
+pub struct GetAttrOf<E> {
+    pub expr: E,
+    pub name: String,
+    pub optional: bool,
+}
+
+/// A field by an expression.
+#[derive(Debug, Drop)]
+pub struct GetItemOf<E> {
+    pub expr: E,
+    pub sub_expr: E,
+    pub optional: bool,
+}
+
+/// A part of a list.
+#[derive(Debug, Drop)]
+pub struct SliceOf<E> {
+    pub expr: E,
+    pub start: Option<E>,
+    pub end: Option<E>,
+    pub step: Option<E>,
+    pub optional: bool,
+}
+
+/// A filter on an expression.
+#[derive(Debug, Drop)]
+pub struct FilterOf<E> {
+    pub expr: E,
+    pub name: String,
+    pub kwargs: BTreeMap<String, E>,
+}
+
+/// A test of an expression.
+#[derive(Debug, Drop)]
+pub struct TestOf<E> {
+    pub expr: E,
+    pub name: String,
+    pub kwargs: BTreeMap<String, E>,
+}
+
+/// One of two expressions, by the condition `expr`.
+#[derive(Debug, Drop)]
+pub struct TernaryOf<E> {
+    pub expr: E,
+    pub true_expr: E,
+    pub false_expr: E,
+}
+
+/// An expression for each item of the target that meets the condition.
+#[derive(Debug, Drop)]
+pub struct ListComprehensionOf<E> {
+    pub expr: E,
+    pub key: Option<String>,
+    pub value: String,
+    pub target: E,
+    pub condition: Option<E>,
+}
+
+/// A call of a function.
+#[derive(Debug, Drop)]
+pub struct FunctionCallOf<E> {
+    pub name: String,
+    pub kwargs: BTreeMap<String, E>,
+}
+
+/// An operator and its operand.
+#[derive(Debug, Drop)]
+pub struct UnaryOperationOf<E> {
+    pub op: UnaryOperator,
+    pub expr: E,
+}
+
+/// An operator between its operands.
+#[derive(Debug, Drop)]
+pub struct BinaryOperationOf<E> {
+    pub op: BinaryOperator,
+    pub left: E,
+    pub right: E,
+}
+
+/// A variable that takes a value.
+#[derive(Debug, Drop)]
+pub struct SetOf<E> {
+    pub name: String,
+    pub value: E,
+    pub global: bool,
+}
+
+/// Another template at this place.
+#[derive(Debug, Drop)]
+pub struct Include {
+    pub name: Spanned<String>,
+}
+
+/// A body with a name.
+#[derive(Debug, Drop)]
+pub struct BlockOf<N> {
+    pub name: Spanned<String>,
+    pub body: Vec<N>,
+}
+
+pub type Array = ArrayOf<Expression>;
+
+pub type ArrayEntry = ArrayEntryOf<Expression>;
+
+pub type Map = MapOf<Expression>;
+
+pub type MapEntry = MapEntryOf<Expression>;
+
+pub type GetAttr = GetAttrOf<Expression>;
+
+pub type GetItem = GetItemOf<Expression>;
+
+pub type Slice = SliceOf<Expression>;
+
+pub type Filter = FilterOf<Expression>;
+
+pub type Test = TestOf<Expression>;
+
+pub type Ternary = TernaryOf<Expression>;
+
+pub type ListComprehension = ListComprehensionOf<Expression>;
+
+pub type FunctionCall = FunctionCallOf<Expression>;
+
+pub type UnaryOperation = UnaryOperationOf<Expression>;
+
+pub type BinaryOperation = BinaryOperationOf<Expression>;
+
+pub type Set = SetOf<Expression>;
+
+pub type Block = BlockOf<Node>;
+
+/// What an argument of a component may be. Outside this crate it is `Type`, a word that contracts have for
+/// themselves.
+#[derive(Clone, Copy, Debug, PartialEq, Eq)]
+pub enum ArgType {
+    String,
+    Bool,
+    Integer,
+    Number,
+    Array,
+    Map,
+    Bytes,
+}
+
+/// An argument of a component.
+#[derive(Debug, Default, Drop)]
+pub struct ComponentArgument {
+    pub default: Option<Value>,
+    pub typ: Option<ArgType>,
+    pub implicit: bool,
+}
+
+/// The definition of a component.
+#[derive(Debug, Drop)]
+pub struct ComponentDefinition {
+    pub name: String,
+    pub kwargs: BTreeMap<String, ComponentArgument>,
+    pub rest_param_name: Option<String>,
+    pub metadata: BTreeMap<String, Value>,
+    pub body: Vec<Node>,
 }

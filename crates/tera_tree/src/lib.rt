@@ -3,4 +3,11 @@
 
 mod ast;
 
-pub use ast::{Expression, Node, Var};
+pub use ast::{
+    ArgType, Array, ArrayEntry, ArrayEntryOf, ArrayOf, BinaryOperation, BinaryOperationOf,
+    BinaryOperator, Block, BlockOf, BlockSet, ComponentArgument, ComponentCall,
+    ComponentDefinition, Expression, Filter, FilterOf, FilterSection, ForLoop, FunctionCall,
+    FunctionCallOf, GetAttr, GetAttrOf, GetItem, GetItemOf, If, Include, ListComprehension,
+    ListComprehensionOf, Map, MapEntry, MapEntryOf, MapOf, Node, Set, SetOf, Slice, SliceOf,
+    Ternary, TernaryOf, Test, TestOf, UnaryOperation, UnaryOperationOf, UnaryOperator, Var,
+};

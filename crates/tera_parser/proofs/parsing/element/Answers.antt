@@ -4,6 +4,7 @@ use Rattle.tera_lexer.specs.Seen.{seen}
 use Rattle.tera_lexer.specs.Cursors.{Position}
 use Rattle.tera_tree.specs.Tree as tree
 use Rattle.tera_tree.specs.Tree.{Stmt}
+use Rattle.tera_tree.proofs.Views.{view_shown}
 use Rattle.tera_parser.specs.Template.{Element, Words, Raw, Remark, Variable, element_nodes}
 use Rattle.tera_parser.specs.Reading.{element_at, started}
 use Rattle.tera_parser.specs.Gives.{nodes_view, GivesElement}
@@ -35,7 +36,7 @@ returns-clause-gives c =
       | in-VariableStart+in_ok-variable_tag-in-VariableStart w ↦
           let (e, end, tag, view) = w.in_ok-variable_tag-in-VariableStart.ensures.gives in
           gives c.args.token _ c.args.span.now c.args.cursor.now c.match-token.cursor c.match-token.result _ (Variable w.in-VariableStart.field-0 c.args.span.now e end.0 end.1) w.in-VariableStart.is w.result-is
-          (ap (started w.in-VariableStart.field-0 c.args.span.now) tag ∙ ap (λ (p : Position). Some (Variable w.in-VariableStart.field-0 c.args.span.now e end.0 end.1, p.left)) (sym w.cursor-is)) (λ i. tree.Shown (view i) ∷ [])
+          (ap (started w.in-VariableStart.field-0 c.args.span.now) tag ∙ ap (λ (p : Position). Some (Variable w.in-VariableStart.field-0 c.args.span.now e end.0 end.1, p.left)) (sym w.cursor-is)) (ap (λ n. n ∷ []) (view_shown _ ∙ ap tree.Shown view))
       | in_default w ↦
           let content = w.in_default.not-Content in
           let raw = w.in_default.not-RawContent in

@@ -1,9 +1,11 @@
-use Rattle.std.proofs.Common.{rules, sym, ap, ◌∙◌, subst}
+use Rattle.std.proofs.Common.{◌≡◌, [], map, None, rules, sym, ap, ◌∙◌, subst}
 use Rattle.tera_base.specs.Errors.{IsMemory}
 use Rattle.tera_lexer.specs.Marks.{IsValid}
 use Rattle.tera_lexer.specs.Tokens.{AreTokensOf}
 use Rattle.tera_lexer.specs.Left.{left_of}
 use Rattle.tera_lexer.specs.Steps.{whole_of}
+use Rattle.tera_tree.specs.View.{node_view, definition_view}
+use Rattle.tera_parser.specs.Template.{Derives}
 use Rattle.tera_parser.specs.Refusal.{Refuses}
 use Rattle.tera_parser.specs.Job.{Job}
 use Rattle.tera_parser.proofs.Wholes.{derives, derives_unique, refused, refuses, empty_tokens}
@@ -41,9 +43,13 @@ returns-in_err-nodes-clause-empty c = λ empty.
 pub returns-clause-sound : goal.returns-clause-sound
 returns-clause-sound c =
     let at = (goal.at.returns-clause-sound c).After-new-cursor in
-    derives _ (valid at) _ _ (are at) c.in_ok-nodes.nodes.items c.in_ok-nodes.ensures.ok
+    let none : c.new-definitions.result.items ≡ [] = search rules in
+    subst (λ ds. Derives c.args.self.marks c.args.self.source (record { parent = None; nodes = map node_view c.in_ok-nodes.nodes.items; definitions = map definition_view ds })) (sym none)
+    (derives _ (valid at) _ _ (are at) c.in_ok-nodes.nodes.items c.in_ok-nodes.ensures.ok)
 
 pub returns-clause-complete : goal.returns-clause-complete
 returns-clause-complete c = λ output d.
     let at = (goal.at.returns-clause-complete c).After-new-cursor in
-    derives_unique _ (valid at) _ _ output (derives _ (valid at) _ _ (are at) c.in_ok-nodes.nodes.items c.in_ok-nodes.ensures.ok) d
+    let none : c.new-definitions.result.items ≡ [] = search rules in
+    subst (λ ds. record { parent = None; nodes = map node_view c.in_ok-nodes.nodes.items; definitions = map definition_view ds } ≡ output) (sym none)
+    (derives_unique _ (valid at) _ _ output (derives _ (valid at) _ _ (are at) c.in_ok-nodes.nodes.items c.in_ok-nodes.ensures.ok) d)
