@@ -1,2 +1,4 @@
 pub mod Tellings
 pub mod ValueViews
+pub mod Showing
+pub mod Rows

@@ -2,6 +2,7 @@
 #![tactic(auto)]
 
 mod errors;
+mod show;
 mod utils;
 mod values;
 

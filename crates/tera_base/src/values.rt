@@ -53,3 +53,29 @@ impl<V> Model for MapOf<V> {
 
     ghost invariant = { λ m. length m.values.items ≡ length m.keys.keys };
 }
+
+impl<V> MapOf<V> {
+    ghost use Rattle.std.specs.Prelude.{◌≡◌, length};
+    ghost use Rattle.std.specs.Map.{keys_of, values_of};
+
+    /// How many pairs there are.
+    pub fn len(&self) -> usize
+        ensures { result ≡ length self.now }
+    {
+        self.keys.len()
+    }
+
+    /// The keys, in the order in which they came.
+    pub(crate) fn keys(&self) -> &[Key]
+        ensures { result.now ≡ keys_of self.now }
+    {
+        self.keys.as_slice()
+    }
+
+    /// What belongs to the keys, in their order.
+    pub(crate) fn values(&self) -> &[V]
+        ensures { result.now ≡ values_of self.now }
+    {
+        self.values.as_slice()
+    }
+}
