@@ -111,3 +111,6 @@ section_out s = search (rules, the_lemmas)
 
 pub view_shown : (e : Expression) → node_view (nodes.Expression e) ≡ tree.Shown (expression_view e)
 view_shown e = search (rules, the_lemmas)
+
+pub view_call : (s : Spanned Call) → expression_view (ComponentCall s) ≡ tree.ComponentCall (string_bytes (out-ComponentCall (node_of s)).name) (entries_view (out-ComponentCall (node_of s)).kwargs.items) (nodes_view (out-ComponentCall (node_of s)).body.items) (out-ComponentCall (node_of s)).self_closing (span_of s)
+view_call s = view_component_call s ∙ call_out (node_of s) (span_of s)

@@ -2,6 +2,7 @@
 #![tactic(auto)]
 
 mod ast;
+pub mod build;
 
 pub use ast::{
     ArgType, Array, ArrayEntry, ArrayEntryOf, ArrayOf, BinaryOperation, BinaryOperationOf,
