@@ -3,6 +3,8 @@
 
 mod ast;
 pub mod build;
+mod parts;
+mod show;
 
 pub use ast::{
     ArgType, Array, ArrayEntry, ArrayEntryOf, ArrayOf, BinaryOperation, BinaryOperationOf,
@@ -12,3 +14,4 @@ pub use ast::{
     ListComprehensionOf, Map, MapEntry, MapEntryOf, MapOf, Node, Set, SetOf, Slice, SliceOf,
     Ternary, TernaryOf, Test, TestOf, UnaryOperation, UnaryOperationOf, UnaryOperator, Var,
 };
+pub use parts::{WithArguments, WithAttributes};
