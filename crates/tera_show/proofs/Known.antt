@@ -42,3 +42,10 @@ pub write_fault : (read old new : Option (List ℕ)) (items : List ℕ) (outcome
     → IsAnswer items outcome text → n < length text → Appends old new (take n text) → IsShown read old new (Err Write)
 write_fault None old new items outcome text n is answer less wrote = tt
 write_fault (Some input) old new items outcome text n is answer less wrote = (outcome, text, n, subst (λ i. IsAnswer i outcome text) is answer, less, wrote)
+
+-- an answer that was written whole
+pub written : (read : Option (List ℕ)) (bytes : List ℕ) (outcome : Outcome) (text : List ℕ) (old new : Option (List ℕ))
+    → IfSome read (λ input. bytes ≡ input) → IsAnswer bytes outcome text → Appends old new text
+    → IfSome read (λ input. (text : List ℕ) × IsAnswer input outcome text × Appends old new text)
+written None bytes outcome text old new is answer wrote = tt
+written (Some input) bytes outcome text old new is answer wrote = (text, subst (λ i. IsAnswer i outcome text) is answer, wrote)

@@ -9,7 +9,7 @@ use Rattle.tera_lexer.specs.Faults.{Faults}
 use Rattle.tera_tree.specs.Tree.{Output}
 use Rattle.tera_parser.specs.Template.{Derives}
 use Rattle.tera_base.specs.declared.utils.Span.{Span}
-use Rattle.tera_show.specs.Text.{text_of}
+use Rattle.tera_text.specs.TreeText.{text_of}
 use Rattle.tera_show.specs.declared.stream.Outcome.{Outcome}
 use Rattle.tera_show.specs.declared.stream.Outcome.TheVariants.{Tree, Syntax, NotUtf8}
 use Rattle.tera_show.specs.declared.stream.ShowFault.{ShowFault}

@@ -1,101 +1,49 @@
 //! The text of a tree.
 
-ghost use Rattle.std.specs.Prelude.{◌≡◌, ◌++◌, string_bytes, IfOk, IfErr, OnOk};
-ghost use Rattle.tera_parser.specs.Outputs.{output_view};
-ghost use Rattle.tera_base.specs.ValueView.{value_view};
-ghost use Rattle.tera_tree.specs.View.{node_view, expression_view};
+ghost use Rattle.std.specs.Prelude.{◌≡◌, ◌++◌, map, string_bytes, IfOk, IfErr, OnOk};
+ghost use Rattle.std.specs.List.{flat_map};
 ghost use Rattle.tera_base.specs.Errors.{IsMemory};
-ghost use Rattle.tera_show.specs.Text.{line_of, text_of, expression_text, value_text, quoted, escaped};
+ghost use Rattle.tera_tree.specs.View.{name_view, definition_view};
+ghost use Rattle.tera_parser.specs.Outputs.{output_view};
+ghost use Rattle.tera_text.specs.TreeText.{parent_text, definition_text, text_of};
 
 use std::alloc::{AllocError, Global};
 use tera_parser::ParserOutput;
-use tera_parser::ast::{Expression, Node};
-use tera_parser::value::{Error, Value};
+use tera_parser::ast::ComponentDefinition;
+use tera_parser::value::Error;
+use tera_text::{push_definition, push_named, push_nodes};
 
-/// The text of the tree: a line for each node, in order. The one error is `Memory`.
+/// The text of the tree: its parent, its definitions and its nodes, line by line. The one error is `Memory`.
 pub fn tree_text(alloc: Global, output: &ParserOutput) -> Result<String, Error>
     ensures ok { IfOk result (λ text. string_bytes text ≡ text_of (output_view output.now)) }
     ensures err { IfErr result IsMemory }
 {
     let mut text = String::new(alloc);
-    for node in &output.nodes {
-        push_node(alloc, &mut text, node)?;
-    }
+    push_parent(&mut text, &output.parent)?;
+    push_definitions(&mut text, &output.component_definitions)?;
+    push_nodes(&mut text, "if ", "", &output.nodes)?;
     Ok(text)
 }
 
-// The line of a node, at the end.
-fn push_node(alloc: Global, text: &mut String, node: &Node) -> Result<(), AllocError>
-    ensures { OnOk result (string_bytes text.new ≡ string_bytes text.old ++ line_of (node_view node.now)) }
+// The line of the parent, if there is one.
+fn push_parent(text: &mut String, parent: &Option<String>) -> Result<(), AllocError>
+    ensures { OnOk result (string_bytes text.new ≡ string_bytes text.old ++ parent_text (name_view parent.now)) }
 {
-    match node {
-        Node::Content(content) => {
-            text.push_str("text ")?;
-            push_quoted(text, content.as_str())?;
-        }
-        Node::Expression(expression) => {
-            text.push_str("expr ")?;
-            push_expression(alloc, text, expression)?;
-        }
-        _ => return Ok(()),
+    match parent {
+        Some(name) => push_named(text, "", "parent ", name.as_str()),
+        None => Ok(()),
     }
-    text.push('\n')
 }
 
-// An expression, at the end.
-fn push_expression(
-    alloc: Global,
+// The lines of the definitions, in order.
+fn push_definitions(
     text: &mut String,
-    expression: &Expression,
+    definitions: &Vec<ComponentDefinition>,
 ) -> Result<(), AllocError>
-    ensures { OnOk result (string_bytes text.new ≡ string_bytes text.old ++ expression_text (expression_view expression.now)) }
+    ensures { OnOk result (string_bytes text.new ≡ string_bytes text.old ++ flat_map definition_text (map definition_view definitions.now.items)) }
 {
-    match expression {
-        Expression::Const(constant) => push_value(alloc, text, constant.node()),
-        Expression::Var(variable) => text.push_str(variable.node().name.as_str()),
-        _ => Ok(()),
+    for definition in definitions {
+        push_definition(text, definition)?;
     }
-}
-
-// A value as an expression shows it, at the end.
-fn push_value(alloc: Global, text: &mut String, value: &Value) -> Result<(), AllocError>
-    ensures { OnOk result (string_bytes text.new ≡ string_bytes text.old ++ value_text (value_view value.now)) }
-{
-    match value {
-        Value::None => text.push_str("null"),
-        Value::Bool(true) => text.push_str("true"),
-        Value::Bool(false) => text.push_str("false"),
-        Value::I64(n) => text.push_str(n.to_string(alloc)?.as_str()),
-        Value::String(s) => {
-            text.push('\'')?;
-            text.push_str(s.as_str())?;
-            text.push('\'')
-        }
-        _ => Ok(()),
-    }
-}
-
-// The text between quotes with its escapes, at the end.
-fn push_quoted(text: &mut String, content: &str) -> Result<(), AllocError>
-    ensures { OnOk result (string_bytes text.new ≡ string_bytes text.old ++ quoted content.now) }
-{
-    text.push('"')?;
-    for c in content.chars() {
-        push_escaped(text, c)?;
-    }
-    text.push('"')
-}
-
-// A character of a text between quotes, at the end.
-fn push_escaped(text: &mut String, c: char) -> Result<(), AllocError>
-    ensures { OnOk result (string_bytes text.new ≡ string_bytes text.old ++ escaped c) }
-{
-    match c {
-        '\\' => text.push_str("\\\\"),
-        '"' => text.push_str("\\\""),
-        '\n' => text.push_str("\\n"),
-        '\r' => text.push_str("\\r"),
-        '\t' => text.push_str("\\t"),
-        _ => text.push(c),
-    }
+    Ok(())
 }

@@ -144,6 +144,7 @@ impl Display for BinaryOperationOf<Expression> {
 }
 
 /// A name with arguments.
+#[derive(Clone, Copy)]
 pub struct WithArguments<'a> {
     pub name: &'a str,
     pub kwargs: &'a BTreeMap<String, Expression>,
@@ -158,6 +159,7 @@ impl<'a> Display for WithArguments<'a> {
 }
 
 /// A name with the attributes of a component call.
+#[derive(Clone, Copy)]
 pub struct WithAttributes<'a> {
     pub name: &'a str,
     pub kwargs: &'a Vec<MapEntry>,

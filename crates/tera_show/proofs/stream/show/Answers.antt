@@ -1,6 +1,6 @@
 use Rattle.std.proofs.lemmas.Result.{err_from_is_err_and}
 use Rattle.std.proofs.Common.{string_bytes}
-use Rattle.tera_show.proofs.Known.{write_fault}
+use Rattle.tera_show.proofs.Known.{write_fault, written}
 use Rattle.tera_show.proofs.stream.show.Goals as goal
 
 pub returns-in_err-write_all : goal.returns-in_err-write_all
@@ -10,3 +10,8 @@ returns-in_err-write_all g c =
     let (n, less, wrote) = failed.1 in
     rw (p.1, p.2, failed.0) (write_fault _ _ _ c.in_ok-input.input.items c.in_ok-outcome.outcome (string_bytes c.in_ok-outcome.text) n c.in_ok-input.ensures.ok
     (rw c.as_slice.ensures.value at c.in_ok-outcome.ensures.ok) (rw c.as_bytes.ensures.value at less) (rw c.as_bytes.ensures.value at wrote))
+
+pub returns : goal.returns
+returns g c =
+    written _ c.in_ok-input.input.items c.in_ok-outcome.outcome (string_bytes c.in_ok-outcome.text) _ _ c.in_ok-input.ensures.ok
+    (rw c.as_slice.ensures.value at c.in_ok-outcome.ensures.ok) (rw c.as_bytes.ensures.value at c.in_ok-write_all.ensures.ok)

@@ -1,8 +1,8 @@
 use Rattle.std.proofs.Common.{◌≡◌, ◌++◌, IsUtf8, chars, string_bytes}
 use Rattle.std.specs.List.{flat_map}
 use Rattle.std.specs.Str.Iter.{chars_rest}
-use Rattle.tera_show.specs.Text.{escaped}
-use Rattle.tera_show.proofs.text.push_quoted.Given as goal
+use Rattle.tera_text.specs.Quoted.{escaped}
+use Rattle.tera_text.proofs.quoted.push_quoted.Given as goal
 
 abbrev pub invariant-loop-c : goal.invariant-loop-c
 invariant-loop-c l = IsUtf8 (chars_rest l.c-iterator)

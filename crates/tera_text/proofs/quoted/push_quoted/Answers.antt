@@ -3,8 +3,8 @@ use Rattle.std.specs.List.{flat_map}
 use Rattle.std.proofs.lemmas.Str.{IsUtf8-past_char, chars_past_char, chars_from_encodes}
 use Rattle.std.proofs.Math.Utf8.{encode}
 use Rattle.std.proofs.lemmas.List.{append-nil}
-use Rattle.tera_show.specs.Text.{escaped, quoted}
-use Rattle.tera_show.proofs.text.push_quoted.Goals as goal
+use Rattle.tera_text.specs.Quoted.{escaped, quoted}
+use Rattle.tera_text.proofs.quoted.push_quoted.Goals as goal
 
 pub loop-c-preserved : goal.loop-c-preserved
 loop-c-preserved c =

@@ -1,0 +1,2 @@
+pub mod LoneIf
+pub mod Calls
