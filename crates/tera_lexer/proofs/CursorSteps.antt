@@ -16,7 +16,7 @@ use Rattle.tera_lexer.specs.declared.lexer.tokens.Token.{Token}
 -- what was left comes from the item that was read, and from what is left behind it
 pub left_on : (r new : Reading) (item : Option (Result (Token × Span) Error)) → Steps r item new → left_of r ≡ with_item (ahead_of new) item (left_of new)
 left_on r new None (same, ended) = ap left_of (sym same)
-left_on r new (Some (Ok p)) (left, goes_on, within) = left
+left_on r new (Some (Ok p)) (left, goes_on, at) = left
 left_on r new (Some (Err e)) (over, left, goes_on, stops) = left
 
 token_not_ended : {t : Tok} {s : Span} {items : Items} {A : Type 0} → toks.Token t s items ≡ Ended → A
@@ -30,17 +30,17 @@ stops_not_ended source (toks.Token t span items) e is stops = token_not_ended is
 -- at the end nothing more is read
 steps_ended : (r new : Reading) (item : Option (Result (Token × Span) Error)) → left_of r ≡ Ended → Steps r item new → (item ≡ None) × (new ≡ r)
 steps_ended r new None ended (same, left) = (refl, same)
-steps_ended r new (Some (Ok p)) ended (left, goes_on, within) = token_not_ended (sym left ∙ ended)
+steps_ended r new (Some (Ok p)) ended (left, goes_on, at) = token_not_ended (sym left ∙ ended)
 steps_ended r new (Some (Err e)) ended (over, left, goes_on, stops) = stops_not_ended (whole_of r) (ahead_of new) e (sym left ∙ ended) stops
 
 pub steps_whole : (r new : Reading) (item : Option (Result (Token × Span) Error)) → Steps r item new → whole_of new ≡ whole_of r
 steps_whole r new None (same, ended) = ap whole_of same
-steps_whole r new (Some (Ok p)) (left, goes_on, within) = goes_on.1
+steps_whole r new (Some (Ok p)) (left, goes_on, at) = goes_on.1
 steps_whole r new (Some (Err e)) (over, left, goes_on, stops) = goes_on.1
 
 pub read_ahead : (r new : Reading) (item : Option (Result (Token × Span) Error)) → Steps r item new → IsReadAhead new item
 read_ahead r new None (same, ended) = ap left_of same ∙ ended
-read_ahead r new (Some (Ok p)) (left, goes_on, within) = subst (λ s. IsWithin s p.1) (sym goes_on.1) within
+read_ahead r new (Some (Ok p)) (left, goes_on, at) = subst (λ s. IsWithin s p.1) (sym goes_on.1) at.0
 read_ahead r new (Some (Err e)) (over, left, goes_on, stops) = (over, subst (λ s. Stops s (ahead_of new) e) (sym goes_on.1) stops)
 
 -- one item further

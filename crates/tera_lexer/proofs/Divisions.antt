@@ -51,7 +51,7 @@ module _ (m : Marks) (valid : IsValid m) where
       (cases_Bool (begins m.variable_start bytes))
 
   -- what stands there is found: at each start marker
-  at_variable : (n : ℕ) (dash : Bool) (bytes behind : List ℕ) → Starts m.variable_start dash bytes behind → division_by (suc n) m bytes ≡ tag_front (division_by n m) m Variable dash behind
+  pub at_variable : (n : ℕ) (dash : Bool) (bytes behind : List ℕ) → Starts m.variable_start dash bytes behind → division_by (suc n) m bytes ≡ tag_front (division_by n m) m Variable dash behind
   unfolding division_by
   at_variable n dash [] behind starts = absurd (omega (arith, starts_some m.variable_start dash [] behind valid.variable_start starts))
   at_variable n dash (b ∷ bs) behind starts =
@@ -60,7 +60,7 @@ module _ (m : Marks) (valid : IsValid m) where
       let dashed = dash_found dash behind starts.1 in
       rw here (λ i. tag_front (division_by n m) m Variable ((ap at_dash is ∙ dashed.0) i) ((ap behind_dash is ∙ dashed.1) i))
 
-  at_block : (n : ℕ) (dash : Bool) (bytes behind : List ℕ) → Starts m.block_start dash bytes behind
+  pub at_block : (n : ℕ) (dash : Bool) (bytes behind : List ℕ) → Starts m.block_start dash bytes behind
       → division_by (suc n) m bytes ≡ block_step (division_by n m) m dash behind (word_tag_at raw_word m.block_end behind)
   unfolding division_by
   at_block n dash [] behind starts = absurd (omega (arith, starts_some m.block_start dash [] behind valid.block_start starts))
@@ -71,7 +71,7 @@ module _ (m : Marks) (valid : IsValid m) where
       let dashed = dash_found dash behind starts.1 in
       rw (variable, here) (λ i. block_step (division_by n m) m ((ap at_dash is ∙ dashed.0) i) ((ap behind_dash is ∙ dashed.1) i) (word_tag_at raw_word m.block_end ((ap behind_dash is ∙ dashed.1) i)))
 
-  at_comment : (n : ℕ) (dash : Bool) (bytes behind : List ℕ) → Starts m.comment_start dash bytes behind
+  pub at_comment : (n : ℕ) (dash : Bool) (bytes behind : List ℕ) → Starts m.comment_start dash bytes behind
       → division_by (suc n) m bytes ≡ comment_step (division_by n m) m dash behind (find_marker m.comment_end behind)
   unfolding division_by
   at_comment n dash [] behind starts = absurd (omega (arith, starts_some m.comment_start dash [] behind valid.comment_start starts))

@@ -1,5 +1,5 @@
 -- The tokens that are left, one after another.
-use Rattle.std.proofs.Common.{◌≡◌, ◌≢◌, ℕ, suc, ◌<◌, ◌≤◌, Bool, true, false, List, [], ◌∷◌, ◌++◌, length, Option, ⊎_elim, ap, sym, ◌∙◌, refl, subst, arith}
+use Rattle.std.proofs.Common.{◌≡◌, ◌≢◌, ℕ, suc, ◌<◌, ◌≤◌, Bool, true, false, ◌||◌, List, [], ◌∷◌, ◌++◌, length, Option, ⊎_elim, ap, sym, ◌∙◌, refl, subst, arith}
 use Rattle.std.specs.Char.{is_ascii_whitespace}
 use Rattle.std.proofs.lemmas.Bool.{cases_Bool}
 use Rattle.std.proofs.lemmas.List.{append-nil, length-append}
@@ -8,23 +8,37 @@ use Rattle.tera_lexer.specs.Place.{span_of}
 use Rattle.tera_lexer.specs.Lexeme.{StopsAt, IsGap, Lexeme, spelled, Fault, Item, Close, End, Open, Bad, is_at_end, IsEnd, IsInside}
 use Rattle.tera_lexer.specs.Raw.{WordTag, OpensRaw, IsBody, IsOpenBody}
 use Rattle.tera_lexer.specs.Division.{is_at_start, EndsText, Piece, Text, Comment, Raw, Tag, Ending, Nothing, OpenTag, BadTag, OpenRaw, OpenComment, Starts, OpensTag, IsPiece, IsDivision}
-use Rattle.tera_lexer.specs.Tokens.{Items, Ended, Failed, Token, Content, Remark, token_of, started, finished, failed, open_raw, open_comment, comment_bytes, raw_bytes, ends_dashed, raw_token, tokens_of, AreTokensOf}
+use Rattle.tera_lexer.specs.Trimming.{ends_dashed, trims_start, trims_end, trimmed}
+use Rattle.tera_lexer.specs.Tokens.{Items, Ended, Failed, Token, Content, token_of, started, finished, failed, open_raw, open_comment, comment_bytes, raw_bytes, piece_tokens, tokens_of, AreTokensOf}
 use Rattle.tera_lexer.specs.Front.{Front, Reads, Breaks, front_of, Next, Ends, Closes, Stands, next_at, inside_step, inside_by, inside_of, division_of}
 use Rattle.tera_lexer.specs.State.{Reading}
-use Rattle.tera_lexer.specs.Left.{start_of, left_outside, left_by, left_inside, left_in, ahead_of, left_of}
+use Rattle.tera_lexer.specs.Left.{start_of, trims_behind, tokens_by, starts_dashed, left_outside, left_by, left_inside, left_in, ahead_of, left_of}
 use Rattle.tera_lexer.specs.declared.lexer.delimiters.Kind.{Kind}
 use Rattle.tera_lexer.proofs.Insides.{spelled_some, inside_stands, inside_found, at_gap, next_stands, next_closes}
 use Rattle.tera_lexer.proofs.Pieces.{end_two}
 use Rattle.tera_lexer.proofs.Divisions.{division_stands, division_found}
 use Rattle.tera_lexer.proofs.Fronts.{IsFront, front_stands}
 
--- the tokens of a source are one list, and that is left at its start
-pub tokens_found : (m : Marks) → IsValid m → (source : List ℕ) (items : Items) → AreTokensOf m source items → items ≡ left_outside m [] source
-tokens_found m valid source items (ps, e, division, is) =
-    is ∙ ap (λ (d : List Piece × Ending). tokens_of m [] d.0 d.1) (sym (division_found m valid ps e (suc (length source)) source division (omega arith)))
+-- of the pieces to the left one bit is kept
+behind_is : (left : List Piece) (p : Piece) → trims_behind (trims_start left) p ≡ trims_start (p ∷ left)
+behind_is left (Text text) = refl
+behind_is left (Comment dash inside) = refl
+behind_is left (Raw dash opening body closing) = refl
+behind_is left (Tag kind dash items gap end) = refl
 
-pub tokens_stand : (m : Marks) → IsValid m → (source : List ℕ) → AreTokensOf m source (left_outside m [] source)
-tokens_stand m valid source = ((division_of m source).0, (division_of m source).1, division_stands m valid (suc (length source)) source (omega arith), refl)
+by_left : (m : Marks) (front : List ℕ) (left ps : List Piece) (ending : Ending) → tokens_by m front (trims_start left) ps ending ≡ tokens_of m front left ps ending
+by_left m front left [] ending = refl
+by_left m front left (p ∷ ps) ending =
+    λ i. piece_tokens m front (trims_start left) (trims_end ps ending) p (λ f. (ap (λ t. tokens_by m f t ps ending) (behind_is left p) ∙ by_left m f (p ∷ left) ps ending) i)
+
+-- the tokens of a source are one list, and that is left at its start
+pub tokens_found : (m : Marks) → IsValid m → (source : List ℕ) (items : Items) → AreTokensOf m source items → items ≡ left_outside m [] false source
+tokens_found m valid source items (ps, e, division, is) =
+    is ∙ sym (by_left m [] [] ps e) ∙ ap (λ (d : List Piece × Ending). tokens_by m [] false d.0 d.1) (sym (division_found m valid ps e (suc (length source)) source division (omega arith)))
+
+pub tokens_stand : (m : Marks) → IsValid m → (source : List ℕ) → AreTokensOf m source (left_outside m [] false source)
+tokens_stand m valid source =
+    ((division_of m source).0, (division_of m source).1, division_stands m valid (suc (length source)) source (omega arith), by_left m [] [] (division_of m source).0 (division_of m source).1)
 
 module _ (m : Marks) (valid : IsValid m) (kind : Kind) where
   -- steps that are enough are enough
@@ -35,7 +49,7 @@ module _ (m : Marks) (valid : IsValid m) (kind : Kind) where
   -- from what comes next in a tag, behind front
   next_left : List ℕ → Next → Items
   next_left front Ends = Ended
-  next_left front (Closes dash rest) = finished m front kind dash (λ h. left_outside m h rest)
+  next_left front (Closes dash rest) = finished m front kind dash (λ h. left_outside m h dash rest)
   next_left front (Stands (Reads lexeme rest)) = Token (token_of lexeme) (span_of front (spelled lexeme)) (left_inside m kind (front ++ spelled lexeme) rest)
   next_left front (Stands (Breaks fault)) = failed front fault
 
@@ -108,7 +122,7 @@ module _ (m : Marks) (valid : IsValid m) (kind : Kind) where
     here_left : (next : Next) → next_at (end_marker kind m) at ≡ next → left_inside m kind front at ≡ next_left front next
     here_left next is = at_next front [] at at next refl (tt, stops) is ∙ ap (λ f. next_left f next) (append-nil front)
 
-    pub end_left : (dash : Bool) (rest : List ℕ) → IsEnd (end_marker kind m) dash at rest → left_inside m kind front at ≡ finished m front kind dash (λ h. left_outside m h rest)
+    pub end_left : (dash : Bool) (rest : List ℕ) → IsEnd (end_marker kind m) dash at rest → left_inside m kind front at ≡ finished m front kind dash (λ h. left_outside m h dash rest)
     unfolding next_left
     end_left dash rest is = here_left (Closes dash rest) (next_closes (end_marker kind m) dash at rest (end_two m valid kind) is)
 
@@ -133,51 +147,52 @@ module _ (m : Marks) (valid : IsValid m) where
   rest_divides : (rest : List ℕ) → IsDivision m (division_of m rest).0 (division_of m rest).1 rest
   rest_divides rest = division_stands m valid (suc (length rest)) rest (omega arith)
 
-  left_is : (front : List ℕ) (ps : List Piece) (ending : Ending) (bytes : List ℕ) → IsDivision m ps ending bytes → left_outside m front bytes ≡ tokens_of m front ps ending
-  left_is front ps ending bytes divides = ap (λ (d : List Piece × Ending). tokens_of m front d.0 d.1) (division_is ps ending bytes divides)
+  left_is : (front : List ℕ) (trim : Bool) (ps : List Piece) (ending : Ending) (bytes : List ℕ) → IsDivision m ps ending bytes → left_outside m front trim bytes ≡ tokens_by m front trim ps ending
+  left_is front trim ps ending bytes divides = ap (λ (d : List Piece × Ending). tokens_by m front trim d.0 d.1) (division_is ps ending bytes divides)
 
-  pub nothing_left : (front bytes : List ℕ) → bytes ≡ [] → left_outside m front bytes ≡ Ended
-  nothing_left front bytes e = left_is front [] Nothing bytes e
+  pub nothing_left : (front : List ℕ) (trim : Bool) (bytes : List ℕ) → bytes ≡ [] → left_outside m front trim bytes ≡ Ended
+  nothing_left front trim bytes e = left_is front trim [] Nothing bytes e
 
   -- a piece, and what is behind it
-  piece_left : (front bytes rest : List ℕ) (p : Piece) → IsPiece m p bytes rest → left_outside m front bytes ≡ tokens_of m front (p ∷ (division_of m rest).0) (division_of m rest).1
-  piece_left front bytes rest p is = left_is front (p ∷ (division_of m rest).0) (division_of m rest).1 bytes (rest, is, rest_divides rest)
+  piece_left : (front : List ℕ) (trim : Bool) (bytes rest : List ℕ) (p : Piece) → IsPiece m p bytes rest → left_outside m front trim bytes ≡ tokens_by m front trim (p ∷ (division_of m rest).0) (division_of m rest).1
+  piece_left front trim bytes rest p is = left_is front trim (p ∷ (division_of m rest).0) (division_of m rest).1 bytes (rest, is, rest_divides rest)
 
-  pub text_left : (front text rest bytes : List ℕ) → bytes ≡ text ++ rest → text ≢ [] → NowhereIn (is_at_start m) text rest → EndsText m rest
-      → left_outside m front bytes ≡ Token (Content text) (span_of front text) (left_outside m (front ++ text) rest)
-  text_left front text rest bytes e some none ends = piece_left front bytes rest (Text text) (e, some, none, ends)
+  pub text_left : (front : List ℕ) (trim : Bool) (text rest bytes : List ℕ) → bytes ≡ text ++ rest → text ≢ [] → NowhereIn (is_at_start m) text rest → EndsText m rest
+      → left_outside m front trim bytes ≡ Token (Content (trimmed trim (starts_dashed m rest) text)) (span_of front text) (left_outside m (front ++ text) false rest)
+  text_left front trim text rest bytes e some none ends = piece_left front trim bytes rest (Text text) (e, some, none, ends)
 
-  pub comment_left : (front : List ℕ) (dash : Bool) (inside rest bytes behind : List ℕ) → Starts m.comment_start dash bytes behind → behind ≡ inside ++ (m.comment_end ++ rest) → NowhereIn (begins m.comment_end) inside (m.comment_end ++ rest)
-      → left_outside m front bytes ≡ Token (Remark dash (ends_dashed inside)) (span_of front (comment_bytes m dash inside)) (left_outside m (front ++ comment_bytes m dash inside) rest)
-  comment_left front dash inside rest bytes behind starts e none = piece_left front bytes rest (Comment dash inside) (behind, starts, e, none)
+  pub comment_left : (front : List ℕ) (trim dash : Bool) (inside rest bytes behind : List ℕ) → Starts m.comment_start dash bytes behind → behind ≡ inside ++ (m.comment_end ++ rest) → NowhereIn (begins m.comment_end) inside (m.comment_end ++ rest)
+      → left_outside m front trim bytes ≡ Token (Content []) (span_of front (comment_bytes m dash inside)) (left_outside m (front ++ comment_bytes m dash inside) (trim || ends_dashed inside) rest)
+  comment_left front trim dash inside rest bytes behind starts e none = piece_left front trim bytes rest (Comment dash inside) (behind, starts, e, none)
 
-  pub open_comment_left : (front : List ℕ) (dash : Bool) (bytes behind : List ℕ) → Starts m.comment_start dash bytes behind → NowhereIn (begins m.comment_end) behind []
-      → left_outside m front bytes ≡ Failed (open_comment m) (span_of front (m.comment_start ++ dash_bytes dash))
-  open_comment_left front dash bytes behind starts none = left_is front [] (OpenComment dash) bytes (behind, starts, none)
+  pub open_comment_left : (front : List ℕ) (trim dash : Bool) (bytes behind : List ℕ) → Starts m.comment_start dash bytes behind → NowhereIn (begins m.comment_end) behind []
+      → left_outside m front trim bytes ≡ Failed (open_comment m) (span_of front (m.comment_start ++ dash_bytes dash))
+  open_comment_left front trim dash bytes behind starts none = left_is front trim [] (OpenComment dash) bytes (behind, starts, none)
 
-  pub raw_left : (front : List ℕ) (dash : Bool) (opening : WordTag) (body : List ℕ) (closing : WordTag) (rest bytes behind inside : List ℕ) → Starts m.block_start dash bytes behind → OpensRaw m opening behind inside → IsBody m body closing inside rest
-      → left_outside m front bytes ≡ Token (raw_token dash opening body closing) (span_of front (raw_bytes m dash opening body closing)) (left_outside m (front ++ raw_bytes m dash opening body closing) rest)
-  raw_left front dash opening body closing rest bytes behind inside starts opens is = piece_left front bytes rest (Raw dash opening body closing) (behind, inside, starts, opens, is)
+  pub raw_left : (front : List ℕ) (trim dash : Bool) (opening : WordTag) (body : List ℕ) (closing : WordTag) (rest bytes behind inside : List ℕ) → Starts m.block_start dash bytes behind → OpensRaw m opening behind inside → IsBody m body closing inside rest
+      → left_outside m front trim bytes
+      ≡ Token (Content (trimmed (opening.dash_out || trim) (closing.dash_in || starts_dashed m rest) body)) (span_of front (raw_bytes m dash opening body closing)) (left_outside m (front ++ raw_bytes m dash opening body closing) closing.dash_out rest)
+  raw_left front trim dash opening body closing rest bytes behind inside starts opens is = piece_left front trim bytes rest (Raw dash opening body closing) (behind, inside, starts, opens, is)
 
-  pub open_raw_left : (front : List ℕ) (dash : Bool) (opening : WordTag) (bytes behind inside : List ℕ) → Starts m.block_start dash bytes behind → OpensRaw m opening behind inside → IsOpenBody m inside
-      → left_outside m front bytes ≡ Failed open_raw (span_of front (m.block_start ++ dash_bytes dash))
-  open_raw_left front dash opening bytes behind inside starts opens is = left_is front [] (OpenRaw dash) bytes (behind, inside, opening, starts, opens, is)
+  pub open_raw_left : (front : List ℕ) (trim dash : Bool) (opening : WordTag) (bytes behind inside : List ℕ) → Starts m.block_start dash bytes behind → OpensRaw m opening behind inside → IsOpenBody m inside
+      → left_outside m front trim bytes ≡ Failed open_raw (span_of front (m.block_start ++ dash_bytes dash))
+  open_raw_left front trim dash opening bytes behind inside starts opens is = left_is front trim [] (OpenRaw dash) bytes (behind, inside, opening, starts, opens, is)
 
-  tag_left : (kind : Kind) (front : List ℕ) (dash : Bool) (items : List Item) (close : Close) (bytes inside : List ℕ) → Starts (start_marker kind m) dash bytes inside → OpensTag m kind inside → IsInside (end_marker kind m) items close inside
-      → left_outside m front bytes ≡ started m front kind dash (λ f. left_by m kind f items close)
-  tag_left kind front dash items (End gap end rest) bytes inside starts opens here = piece_left front bytes rest (Tag kind dash items gap end) (inside, starts, opens, here)
-  tag_left kind front dash items (Open gap) bytes inside starts opens here = left_is front [] (OpenTag kind dash items gap) bytes (inside, starts, opens, here)
-  tag_left kind front dash items (Bad gap fault at) bytes inside starts opens here = left_is front [] (BadTag kind dash items gap fault at) bytes (inside, starts, opens, here)
+  tag_left : (kind : Kind) (front : List ℕ) (trim dash : Bool) (items : List Item) (close : Close) (bytes inside : List ℕ) → Starts (start_marker kind m) dash bytes inside → OpensTag m kind inside → IsInside (end_marker kind m) items close inside
+      → left_outside m front trim bytes ≡ started m front kind dash (λ f. left_by m kind f items close)
+  tag_left kind front trim dash items (End gap end rest) bytes inside starts opens here = piece_left front trim bytes rest (Tag kind dash items gap end) (inside, starts, opens, here)
+  tag_left kind front trim dash items (Open gap) bytes inside starts opens here = left_is front trim [] (OpenTag kind dash items gap) bytes (inside, starts, opens, here)
+  tag_left kind front trim dash items (Bad gap fault at) bytes inside starts opens here = left_is front trim [] (BadTag kind dash items gap fault at) bytes (inside, starts, opens, here)
 
-  pub start_left : (kind : Kind) (front : List ℕ) (dash : Bool) (bytes inside : List ℕ) → Starts (start_marker kind m) dash bytes inside → OpensTag m kind inside
-      → left_outside m front bytes ≡ started m front kind dash (λ f. left_inside m kind f inside)
-  start_left kind front dash bytes inside starts opens =
-      tag_left kind front dash (inside_of (end_marker kind m) inside).0 (inside_of (end_marker kind m) inside).1 bytes inside starts opens (inside_stands (end_marker kind m) (suc (length inside)) inside (omega arith))
+  pub start_left : (kind : Kind) (front : List ℕ) (trim dash : Bool) (bytes inside : List ℕ) → Starts (start_marker kind m) dash bytes inside → OpensTag m kind inside
+      → left_outside m front trim bytes ≡ started m front kind dash (λ f. left_inside m kind f inside)
+  start_left kind front trim dash bytes inside starts opens =
+      tag_left kind front trim dash (inside_of (end_marker kind m) inside).0 (inside_of (end_marker kind m) inside).1 bytes inside starts opens (inside_stands (end_marker kind m) (suc (length inside)) inside (omega arith))
 
 -- where a reading is
-pub ahead_in : (r : Reading) (tag : Option Kind) → r.tag ≡ tag → ahead_of r ≡ left_in r.marks tag r.front r.rest
+pub ahead_in : (r : Reading) (tag : Option Kind) → r.tag ≡ tag → ahead_of r ≡ left_in r.marks tag r.front r.trim r.rest
 unfolding ahead_of
-ahead_in r tag e = ap (λ t. left_in r.marks t r.front r.rest) e
+ahead_in r tag e = ap (λ t. left_in r.marks t r.front r.trim r.rest) e
 
 pub going_is : (r : Reading) → r.failed ≡ false → left_of r ≡ ahead_of r
 going_is r going = rw going refl
@@ -189,7 +204,7 @@ pub ahead_failed : (r : Reading) → ahead_of (record r { failed = true }) ≡ a
 unfolding ahead_of
 ahead_failed r = refl
 
-pub start_is : (m : Marks) (source : List ℕ) → left_of (start_of m source) ≡ left_outside m [] source
+pub start_is : (m : Marks) (source : List ℕ) → left_of (start_of m source) ≡ left_outside m [] false source
 unfolding ahead_of
 start_is m source = refl
 

@@ -10,6 +10,7 @@ pub mod Closings
 pub mod Finding
 pub mod Pieces
 pub mod Divisions
+pub mod Neighbours
 pub mod Cuts
 pub mod Escapes
 pub mod TagCuts
@@ -20,6 +21,7 @@ pub mod Tilings
 pub mod Places
 pub mod Slices
 pub mod Dashes
+pub mod Parts
 pub mod Readings
 pub mod CursorSteps
 pub mod Refusals

@@ -1,5 +1,6 @@
 -- One step of a reading.
-use Rattle.std.proofs.Common.{◌≡◌, ◌≢◌, ℕ, zero, suc, ◌+◌, ◌<◌, Bool, true, false, List, [], ◌∷◌, ◌++◌, length, take, drop, Option, Some, None, Ok, Err, Result, subst, sym, refl, ap, ◌∙◌, arith, Bor, append_assoc}
+use Rattle.std.proofs.Common.{◌≡◌, ◌≢◌, ℕ, zero, suc, ◌+◌, ◌<◌, Bool, true, false, ◌||◌, List, [], ◌∷◌, ◌++◌, length, take, drop, Option, Some, None, Ok, Err, Result, subst, sym, refl, ap, ◌∙◌, arith, Bor, append_assoc}
+use Rattle.std.specs.Prelude.{slice_range}
 use Rattle.std.specs.Char.{is_ascii_whitespace}
 use Rattle.std.proofs.lemmas.List.{take-append-drop, length-append, take_at, drop_at}
 use Rattle.tera_lexer.specs.Marks.{Marks, IsValid, start_marker, end_marker, begins, NowhereIn, dash_bytes}
@@ -8,25 +9,29 @@ use Rattle.tera_lexer.specs.Lexeme.{StopsAt, IsGap, Lexeme, Name, Number, Quoted
 use Rattle.tera_lexer.specs.Raw as raw
 use Rattle.tera_lexer.specs.Raw.{word_tag_bytes, raw_word, endraw_word, OpensRaw, IsBody}
 use Rattle.tera_lexer.specs.Division.{is_at_start, EndsText, Starts, OpensTag}
+use Rattle.tera_lexer.specs.Trimming.{ends_dashed, trimmed}
 use Rattle.tera_lexer.specs.Tokens as toks
-use Rattle.tera_lexer.specs.Tokens.{Items, Ended, Failed, text_of, token_of, open_raw, open_comment, comment_bytes, raw_bytes, ends_dashed, trimmed, raw_token}
+use Rattle.tera_lexer.specs.Tokens.{Items, Ended, Failed, text_of, token_of, open_raw, open_comment, comment_bytes, raw_bytes}
 use Rattle.tera_lexer.specs.Front.{Front, Reads, Breaks, front_of, find_marker, RawEnd, raw_end, unescaped}
 use Rattle.tera_lexer.specs.State.{Reading}
-use Rattle.tera_lexer.specs.Left.{left_outside, left_inside, left_in, ahead_of, left_of}
+use Rattle.tera_lexer.specs.Left.{starts_dashed, left_outside, left_inside, left_in, ahead_of, left_of}
 use Rattle.tera_lexer.specs.Seen.{seen}
 use Rattle.tera_lexer.specs.Found.{IsTokenAt, IsEscapedAt, IsFaultAt}
 use Rattle.tera_lexer.specs.Markers.{marker_len, IsStartOf, IsEndOf, OpensBy, IsRawEndOf}
-use Rattle.tera_lexer.specs.Steps.{whole_of, Stops, Steps}
+use Rattle.tera_lexer.specs.Steps.{whole_of, IsPart, StandsIn, StandsAt, Stops, Steps}
 use Rattle.tera_base.specs.Errors.{IsMemory, Tells}
 use Rattle.tera_base.specs.declared.utils.Span.{Span}
 use Rattle.tera_base.specs.declared.errors.Error.{Error}
 use Rattle.tera_lexer.specs.declared.lexer.delimiters.Kind.{Kind}
 use Rattle.tera_lexer.specs.declared.lexer.markers.WordTag.{WordTag}
 use Rattle.tera_lexer.specs.declared.lexer.tokens.Token.{Token}
-use Rattle.tera_lexer.specs.declared.lexer.tokens.Token.TheVariants.{Content, RawContent, Comment}
+use Rattle.tera_lexer.specs.declared.lexer.tokens.Token.TheVariants.{Content}
 use Rattle.tera_lexer.proofs.Fronts.{IsFront}
 use Rattle.tera_lexer.proofs.Escapes.{unescaped_written}
 use Rattle.tera_lexer.proofs.Pieces.{body_splits}
+use Rattle.tera_lexer.proofs.Slices.{span_slice}
+use Rattle.tera_lexer.proofs.Parts.{part_part}
+use Rattle.tera_lexer.proofs.Tilings.{before_body, behind_body, raw_around, lexeme_stands}
 use Rattle.tera_lexer.proofs.Finding.{IsMarkerAt, behind_at, find_stands}
 use Rattle.tera_lexer.proofs.WordTags.{IsTagAt, word_tag_stands, word_tag_splits}
 use Rattle.tera_lexer.proofs.RawEnds.{IsEndAt, raw_stands}
@@ -68,16 +73,20 @@ text_some m (b ∷ bs) (suc n) some nowhere ends e = cc
 -- the bytes of a token were taken; or those of a fault were told; or no memory was found
 module _ (r new : Reading) (going : r.failed ≡ false) where
   module _ (n : ℕ) (bytes behind : List ℕ) (splits : r.rest ≡ bytes ++ behind) (len : n ≡ length bytes) where
-    pub took : (t : Token) (span : Span) (tag : Option Kind) → new ≡ record (forward r n) { tag = tag } → span ≡ span_of r.front (take n r.rest) → IsWithin (whole_of r) span
-        → ahead_of r ≡ toks.Token (seen t) (span_of r.front bytes) (left_in r.marks tag (r.front ++ bytes) behind) → Steps r (Some (Ok (t, span))) new
-    took t span tag new_is span_is within is =
+    pub took : (t : Token) (span : Span) (tag : Option Kind) (trim : Bool) → new ≡ record (forward r n) { tag = tag; trim = trim } → span ≡ span_of r.front (take n r.rest) → IsWithin (whole_of r) span → StandsIn (seen t) bytes
+        → ahead_of r ≡ toks.Token (seen t) (span_of r.front bytes) (left_in r.marks tag (r.front ++ bytes) trim behind) → Steps r (Some (Ok (t, span))) new
+    took t span tag trim new_is span_is within stands is =
         let front : take n r.rest ≡ bytes = cut_front r.rest bytes behind n splits len in
         let rest : drop n r.rest ≡ behind = cut_rest r.rest bytes behind n splits len in
-        let next : left_of new ≡ left_in r.marks tag (r.front ++ bytes) behind
-        = ap left_of new_is ∙ going_is (record (forward r n) { tag = tag }) going ∙ ahead_in (record (forward r n) { tag = tag }) tag refl ∙ (λ i. left_in r.marks tag (r.front ++ front i) (rest i)) in (
-          going_is r going ∙ is ∙ (λ i. toks.Token (seen t) (sym (span_is ∙ ap (span_of r.front) front) i) (sym next i)),
+        let at : Reading = record (forward r n) { tag = tag; trim = trim } in
+        let next : left_of new ≡ left_in r.marks tag (r.front ++ bytes) trim behind
+        = ap left_of new_is ∙ going_is at going ∙ ahead_in at tag refl ∙ (λ i. left_in r.marks tag (r.front ++ front i) trim (rest i)) in
+        let spans : span ≡ span_of r.front bytes = span_is ∙ ap (span_of r.front) front in
+        let slice : slice_range (whole_of r) span.range.start span.range.end ≡ bytes
+        = (λ i. slice_range (r.front ++ splits i) (spans i).range.start (spans i).range.end) ∙ span_slice r.front bytes behind in (
+          going_is r going ∙ is ∙ (λ i. toks.Token (seen t) (sym spans i) (sym next i)),
           (ap (λ (k : Reading). k.marks) new_is, ap (λ (k : Reading). whole_of k) new_is ∙ forward_whole r n),
-          within,
+          (within, subst (StandsIn (seen t)) (sym slice) stands),
         )
 
     pub told_fault : (e : Error) (text : List ℕ) → new ≡ record r { failed = true } → Tells text (span_of r.front (take n r.rest)) e → IsWithin (whole_of r) (span_of r.front (take n r.rest))
@@ -108,11 +117,11 @@ start_len : (marker : List ℕ) (dash : Bool) (n : ℕ) → n ≡ marker_len mar
 start_len marker dash n e = e ∙ sym (length-append marker (dash_bytes dash))
 
 module _ (r : Reading) (going : r.failed ≡ false) (outside : r.tag ≡ None) (valid : IsValid r.marks) where
-  ahead_outside : (k : Items) → left_outside r.marks r.front r.rest ≡ k → ahead_of r ≡ k
+  ahead_outside : (k : Items) → left_outside r.marks r.front r.trim r.rest ≡ k → ahead_of r ≡ k
   ahead_outside k e = ahead_in r None outside ∙ e
 
   pub outside_ends : r.rest ≡ [] → Steps r None r
-  outside_ends e = (refl, going_is r going ∙ ahead_outside Ended (nothing_left r.marks valid r.front r.rest e))
+  outside_ends e = (refl, going_is r going ∙ ahead_outside Ended (nothing_left r.marks valid r.front r.trim r.rest e))
 
   pub outside_starts : (new : Reading) (t : Token) (span : Span) (kind : Kind) (dash : Bool) (n : ℕ) → IsStartOf (start_marker kind r.marks) r.rest (Some dash) → OpensTag r.marks kind (drop (marker_len (start_marker kind r.marks) dash) r.rest)
       → n ≡ marker_len (start_marker kind r.marks) dash → seen t ≡ toks.Start kind dash
@@ -120,20 +129,25 @@ module _ (r : Reading) (going : r.failed ≡ false) (outside : r.tag ≡ None) (
   outside_starts new t span kind dash n starts opens n_is t_is new_is span_is within =
       let marker : List ℕ = start_marker kind r.marks in
       let inside : List ℕ = drop (marker_len marker dash) r.rest in
-      took r new going n (marker ++ dash_bytes dash) inside (start_splits marker r.rest inside dash starts.0) (start_len marker dash n n_is) t span (Some kind) new_is span_is within
+      took r new going n (marker ++ dash_bytes dash) inside (start_splits marker r.rest inside dash starts.0) (start_len marker dash n n_is) t span (Some kind) r.trim new_is span_is within (subst (λ k. StandsIn k (marker ++ dash_bytes dash)) (sym t_is) tt)
       (ahead_outside (toks.Token (seen t) (span_of r.front (marker ++ dash_bytes dash)) (left_inside r.marks kind (r.front ++ (marker ++ dash_bytes dash)) inside))
-      (start_left r.marks valid kind r.front dash r.rest inside starts.0 opens ∙ ap (λ k. toks.Token k (span_of r.front (marker ++ dash_bytes dash)) (left_inside r.marks kind (r.front ++ (marker ++ dash_bytes dash)) inside)) (sym t_is)))
+      (start_left r.marks valid kind r.front r.trim dash r.rest inside starts.0 opens ∙ ap (λ k. toks.Token k (span_of r.front (marker ++ dash_bytes dash)) (left_inside r.marks kind (r.front ++ (marker ++ dash_bytes dash)) inside)) (sym t_is)))
 
   pub outside_text : (new : Reading) (text : Bor (List ℕ)) (span : Span) (n : ℕ) → 0 < length r.rest → begins r.marks.variable_start r.rest ≡ false → begins r.marks.block_start r.rest ≡ false → begins r.marks.comment_start r.rest ≡ false
       → NowhereIn (is_at_start r.marks) (take n r.rest) (drop n r.rest) → EndsText r.marks (drop n r.rest)
-      → new ≡ forward r n → text.now ≡ take n r.rest → length (take n r.rest) ≡ n → span ≡ span_of r.front (take n r.rest) → IsWithin (whole_of r) span → Steps r (Some (Ok (Content text, span))) new
-  outside_text new text span n some variable block comment none ends new_is text_is len span_is within =
+      → new ≡ record (forward r n) { trim = false } → text.now ≡ trimmed r.trim (starts_dashed r.marks (drop n r.rest)) (take n r.rest) → IsPart text.now (take n r.rest) → length (take n r.rest) ≡ n
+      → span ≡ span_of r.front (take n r.rest) → IsWithin (whole_of r) span → Steps r (Some (Ok (Content text, span))) new
+  outside_text new text span n some variable block comment none ends new_is text_is part len span_is within =
       let nowhere : is_at_start r.marks r.rest ≡ false = rw (variable, block, comment) refl in
       let splits = sym (take-append-drop n r.rest) in
-      took r new going n (take n r.rest) (drop n r.rest) splits (sym len) (Content text) span None (new_is ∙ (λ i. record (forward r n) { tag = outside i })) span_is within
-      (ahead_outside (toks.Token (toks.Content text.now) (span_of r.front (take n r.rest)) (left_outside r.marks (r.front ++ take n r.rest) (drop n r.rest)))
-      (text_left r.marks valid r.front (take n r.rest) (drop n r.rest) r.rest splits (text_some r.marks r.rest n some nowhere ends) none ends
-      ∙ ap (λ l. toks.Token (toks.Content l) (span_of r.front (take n r.rest)) (left_outside r.marks (r.front ++ take n r.rest) (drop n r.rest))) (sym text_is)))
+      took r new going n (take n r.rest) (drop n r.rest) splits (sym len) (Content text) span None false (new_is ∙ (λ i. record (forward r n) { tag = outside i; trim = false })) span_is within part
+      (ahead_outside (toks.Token (toks.Content text.now) (span_of r.front (take n r.rest)) (left_outside r.marks (r.front ++ take n r.rest) false (drop n r.rest)))
+      (text_left r.marks valid r.front r.trim (take n r.rest) (drop n r.rest) r.rest splits (text_some r.marks r.rest n some nowhere ends) none ends
+      ∙ ap (λ l. toks.Token (toks.Content l) (span_of r.front (take n r.rest)) (left_outside r.marks (r.front ++ take n r.rest) false (drop n r.rest))) (sym text_is)))
+
+  -- an empty text, wherever it lies
+  abbrev no_text : Bor (List ℕ)
+  no_text = record { ref_ptr = (0, 0); now = [] }
 
   -- a comment that closes, and one that does not
   module _ (dash : Bool) (starts : IsStartOf r.marks.comment_start r.rest (Some dash)) where
@@ -147,23 +161,25 @@ module _ (r : Reading) (going : r.failed ≡ false) (outside : r.tag ≡ None) (
         ∙ sym (append_assoc m.comment_start (dash_bytes dash ++ (inside ++ m.comment_end)) rest ∙ ap (λ l. m.comment_start ++ l) (append_assoc (dash_bytes dash) (inside ++ m.comment_end) rest))
 
     pub comment_step : (new : Reading) (span : Span) (len n : ℕ) → find_marker r.marks.comment_end behind_comment ≡ Some len → n ≡ marker_len r.marks.comment_start dash + (len + length r.marks.comment_end) → length (take len behind_comment) ≡ len
-        → new ≡ forward r n → span ≡ span_of r.front (take n r.rest) → IsWithin (whole_of r) span → Steps r (Some (Ok (Comment dash (ends_dashed (take len behind_comment)), span))) new
+        → new ≡ record (forward r n) { trim = r.trim || ends_dashed (take len behind_comment) } → span ≡ span_of r.front (take n r.rest) → IsWithin (whole_of r) span → Steps r (Some (Ok (Content no_text, span))) new
     comment_step new span len n found n_is taken new_is span_is within =
         let inside : List ℕ = take len behind_comment in
         let rest : List ℕ = behind_at r.marks.comment_end len behind_comment in
+        let bytes : List ℕ = comment_bytes r.marks dash inside in
+        let trim : Bool = r.trim || ends_dashed inside in
         let stands : IsMarkerAt r.marks.comment_end behind_comment (Some len) = subst (IsMarkerAt r.marks.comment_end behind_comment) found (find_stands r.marks.comment_end behind_comment) in
-        let long : n ≡ length (comment_bytes r.marks dash inside)
+        let long : n ≡ length bytes
         = omega (arith, n_is, taken, length-append r.marks.comment_start (dash_bytes dash ++ (inside ++ r.marks.comment_end)), length-append (dash_bytes dash) (inside ++ r.marks.comment_end), length-append inside r.marks.comment_end) in
-        took r new going n (comment_bytes r.marks dash inside) rest (comment_splits inside rest stands.0) long (Comment dash (ends_dashed inside)) span None (new_is ∙ (λ i. record (forward r n) { tag = outside i })) span_is within
-        (ahead_outside (toks.Token (toks.Remark dash (ends_dashed inside)) (span_of r.front (comment_bytes r.marks dash inside)) (left_outside r.marks (r.front ++ comment_bytes r.marks dash inside) rest))
-        (comment_left r.marks valid r.front dash inside rest r.rest behind_comment starts.0 stands.0 stands.1))
+        took r new going n bytes rest (comment_splits inside rest stands.0) long (Content no_text) span None trim (new_is ∙ (λ i. record (forward r n) { tag = outside i; trim = trim })) span_is within ([], bytes, refl)
+        (ahead_outside (toks.Token (toks.Content []) (span_of r.front bytes) (left_outside r.marks (r.front ++ bytes) trim rest))
+        (comment_left r.marks valid r.front r.trim dash inside rest r.rest behind_comment starts.0 stands.0 stands.1))
 
     pub open_comment_step : (new : Reading) (e : Error) (n : ℕ) → find_marker r.marks.comment_end behind_comment ≡ None → n ≡ marker_len r.marks.comment_start dash
         → new ≡ record r { failed = true } → Tells (open_comment r.marks) (span_of r.front (take n r.rest)) e → IsWithin (whole_of r) (span_of r.front (take n r.rest)) → Steps r (Some (Err e)) new
     open_comment_step new e n none n_is new_is tells within =
         let stands : IsMarkerAt r.marks.comment_end behind_comment None = subst (IsMarkerAt r.marks.comment_end behind_comment) none (find_stands r.marks.comment_end behind_comment) in
         told_fault r new going n (r.marks.comment_start ++ dash_bytes dash) behind_comment (start_splits r.marks.comment_start r.rest behind_comment dash starts.0) (start_len r.marks.comment_start dash n n_is) e (open_comment r.marks) new_is tells within
-        (ahead_outside (Failed (open_comment r.marks) (span_of r.front (r.marks.comment_start ++ dash_bytes dash))) (open_comment_left r.marks valid r.front dash r.rest behind_comment starts.0 stands))
+        (ahead_outside (Failed (open_comment r.marks) (span_of r.front (r.marks.comment_start ++ dash_bytes dash))) (open_comment_left r.marks valid r.front r.trim dash r.rest behind_comment starts.0 stands))
 
   -- a raw piece
   module _ (dash : Bool) (starts : IsStartOf r.marks.block_start r.rest (Some dash)) (opening : WordTag) (opens : OpensBy r.marks dash opening r.rest) where
@@ -195,7 +211,7 @@ module _ (r : Reading) (going : r.failed ≡ false) (outside : r.tag ≡ None) (
     open_raw_step new e n none n_is new_is tells within =
         let is : IsEndAt r.marks valid.block_start raw_inside None = subst (IsEndAt r.marks valid.block_start raw_inside) none (raw_stands r.marks valid.block_start (suc (length raw_inside)) raw_inside (omega arith)) in
         told_fault r new going n (r.marks.block_start ++ dash_bytes dash) behind_block (start_splits r.marks.block_start r.rest behind_block dash starts.0) (start_len r.marks.block_start dash n n_is) e open_raw new_is tells within
-        (ahead_outside (Failed open_raw (span_of r.front (r.marks.block_start ++ dash_bytes dash))) (open_raw_left r.marks valid r.front dash raw_tag r.rest behind_block raw_inside starts.0 raw_opens is))
+        (ahead_outside (Failed open_raw (span_of r.front (r.marks.block_start ++ dash_bytes dash))) (open_raw_left r.marks valid r.front r.trim dash raw_tag r.rest behind_block raw_inside starts.0 raw_opens is))
 
     raw_splits : (body : List ℕ) (closing : raw.WordTag) (rest : List ℕ) → IsBody r.marks body closing raw_inside rest → r.rest ≡ raw_bytes r.marks dash raw_tag body closing ++ rest
     raw_splits body closing rest is =
@@ -211,11 +227,11 @@ module _ (r : Reading) (going : r.failed ≡ false) (outside : r.tag ≡ None) (
         ∙ ap (λ l. body ++ l) (append_assoc m.block_start close rest)))))
 
     raw_by : (new : Reading) (text : Bor (List ℕ)) (span : Span) (len n : ℕ) (closing : WordTag) (o : Option RawEnd) → IsRawEndOf r.marks.block_end (Some (len, closing)) o → IsEndAt r.marks valid.block_start raw_inside o
-        → n ≡ marker_len r.marks.block_start dash + opening.len + (len + (length r.marks.block_start + closing.len)) → text.now ≡ trimmed opening.dash_out closing.dash_in (take len raw_inside)
-        → new ≡ forward r n → span ≡ span_of r.front (take n r.rest) → IsWithin (whole_of r) span → Steps r (Some (Ok (RawContent dash text closing.dash_out, span))) new
+        → n ≡ marker_len r.marks.block_start dash + opening.len + (len + (length r.marks.block_start + closing.len)) → text.now ≡ trimmed (opening.dash_out || r.trim) (closing.dash_in || starts_dashed r.marks (drop n r.rest)) (take len raw_inside)
+        → IsPart text.now (take len raw_inside) → new ≡ record (forward r n) { trim = closing.dash_out } → span ≡ span_of r.front (take n r.rest) → IsWithin (whole_of r) span → Steps r (Some (Ok (Content text, span))) new
     unfolding IsEndAt
-    raw_by new text span len n closing None ends is n_is text_is new_is span_is within = absurd ends
-    raw_by new text span len n closing (Some e) ends (body, body_len, is) n_is text_is new_is span_is within =
+    raw_by new text span len n closing None ends is n_is text_is part new_is span_is within = absurd ends
+    raw_by new text span len n closing (Some e) ends (body, body_len, is) n_is text_is part new_is span_is within =
         let m = r.marks in
         let bytes : List ℕ = raw_bytes m dash raw_tag body e.close in
         let close : List ℕ = word_tag_bytes endraw_word m.block_end e.close in
@@ -223,17 +239,19 @@ module _ (r : Reading) (going : r.failed ≡ false) (outside : r.tag ≡ None) (
         let taken : take len raw_inside ≡ body = cut_front raw_inside body (m.block_start ++ (close ++ e.rest)) len (body_splits m valid body e.close raw_inside e.rest is) (ends.0 ∙ body_len) in
         let long : n ≡ length bytes
         = omega (arith, n_is, ends.0, body_len, ends.1.2, opens.2.2, length-append m.block_start (dash_bytes dash ++ (open_tag ++ (body ++ (m.block_start ++ close)))), length-append (dash_bytes dash) (open_tag ++ (body ++ (m.block_start ++ close))), length-append open_tag (body ++ (m.block_start ++ close)), length-append body (m.block_start ++ close), length-append m.block_start close) in
-        let t_is : toks.RawContent dash text.now closing.dash_out ≡ raw_token dash raw_tag body e.close
-        = λ i. toks.RawContent dash ((text_is ∙ (λ k. trimmed (opens.2.1 k) (ends.1.0 k) (taken k))) i) (ends.1.1 i) in
-        took r new going n bytes e.rest (raw_splits body e.close e.rest is) long (RawContent dash text closing.dash_out) span None (new_is ∙ (λ i. record (forward r n) { tag = outside i })) span_is within
-        (ahead_outside (toks.Token (toks.RawContent dash text.now closing.dash_out) (span_of r.front bytes) (left_outside m (r.front ++ bytes) e.rest))
-        (raw_left m valid r.front dash raw_tag body e.close e.rest r.rest behind_block raw_inside starts.0 raw_opens is ∙ ap (λ t. toks.Token t (span_of r.front bytes) (left_outside m (r.front ++ bytes) e.rest)) (sym t_is)))
+        let behind : drop n r.rest ≡ e.rest = cut_rest r.rest bytes e.rest n (raw_splits body e.close e.rest is) long in
+        let t_is : text.now ≡ trimmed (raw_tag.dash_out || r.trim) (e.close.dash_in || starts_dashed m e.rest) body
+        = text_is ∙ (λ i. trimmed (opens.2.1 i || r.trim) (ends.1.0 i || starts_dashed m (behind i)) (taken i)) in
+        let stands : IsPart text.now bytes = part_part text.now body bytes (subst (IsPart text.now) taken part) (before_body m dash raw_tag, behind_body m e.close, raw_around m dash raw_tag body e.close) in
+        took r new going n bytes e.rest (raw_splits body e.close e.rest is) long (Content text) span None e.close.dash_out (new_is ∙ (λ i. record (forward r n) { tag = outside i; trim = ends.1.1 i })) span_is within stands
+        (ahead_outside (toks.Token (toks.Content text.now) (span_of r.front bytes) (left_outside m (r.front ++ bytes) e.close.dash_out e.rest))
+        (raw_left m valid r.front r.trim dash raw_tag body e.close e.rest r.rest behind_block raw_inside starts.0 raw_opens is ∙ ap (λ l. toks.Token (toks.Content l) (span_of r.front bytes) (left_outside m (r.front ++ bytes) e.close.dash_out e.rest)) (sym t_is)))
 
     pub raw_step : (new : Reading) (text : Bor (List ℕ)) (span : Span) (len n : ℕ) (closing : WordTag) → IsRawEndOf r.marks.block_end (Some (len, closing)) (raw_end r.marks.block_start r.marks.block_end false raw_inside)
-        → n ≡ marker_len r.marks.block_start dash + opening.len + (len + (length r.marks.block_start + closing.len)) → text.now ≡ trimmed opening.dash_out closing.dash_in (take len raw_inside)
-        → new ≡ forward r n → span ≡ span_of r.front (take n r.rest) → IsWithin (whole_of r) span → Steps r (Some (Ok (RawContent dash text closing.dash_out, span))) new
-    raw_step new text span len n closing ends n_is text_is new_is span_is within =
-        raw_by new text span len n closing (raw_end r.marks.block_start r.marks.block_end false raw_inside) ends (raw_stands r.marks valid.block_start (suc (length raw_inside)) raw_inside (omega arith)) n_is text_is new_is span_is within
+        → n ≡ marker_len r.marks.block_start dash + opening.len + (len + (length r.marks.block_start + closing.len)) → text.now ≡ trimmed (opening.dash_out || r.trim) (closing.dash_in || starts_dashed r.marks (drop n r.rest)) (take len raw_inside)
+        → IsPart text.now (take len raw_inside) → new ≡ record (forward r n) { trim = closing.dash_out } → span ≡ span_of r.front (take n r.rest) → IsWithin (whole_of r) span → Steps r (Some (Ok (Content text, span))) new
+    raw_step new text span len n closing ends n_is text_is part new_is span_is within =
+        raw_by new text span len n closing (raw_end r.marks.block_start r.marks.block_end false raw_inside) ends (raw_stands r.marks valid.block_start (suc (length raw_inside)) raw_inside (omega arith)) n_is text_is part new_is span_is within
 
 module _ (r : Reading) (going : r.failed ≡ false) (kind : Kind) (inside : r.tag ≡ Some kind) (valid : IsValid r.marks) where
   ahead_inside : (k : Items) → left_inside r.marks kind r.front r.rest ≡ k → ahead_of r ≡ k
@@ -255,19 +273,19 @@ module _ (r : Reading) (going : r.failed ≡ false) (kind : Kind) (inside : r.ta
           ∙ sym (ap left_of mid_is ∙ going_is (forward r g) going ∙ ahead_in (forward r g) (Some kind) inside)
 
       by : (result : Result (Token × Span) Error) → Steps mid (Some result) new → Steps r (Some result) new
-      by (Ok p) (left, goes_on, within) = (same ∙ left, (goes_on.0 ∙ ap (λ (k : Reading). k.marks) mid_is, goes_on.1 ∙ whole), subst (λ l. IsWithin l p.1) whole within)
+      by (Ok p) (left, goes_on, at) = (same ∙ left, (goes_on.0 ∙ ap (λ (k : Reading). k.marks) mid_is, goes_on.1 ∙ whole), subst (λ l. StandsAt l (seen p.0) p.1) whole at)
       by (Err e) (over, left, goes_on, stops) = (over, same ∙ left, (goes_on.0 ∙ ap (λ (k : Reading). k.marks) mid_is, goes_on.1 ∙ whole), subst (λ l. Stops l (ahead_of new) e) whole stops)
 
   module _ (stops : StopsAt is_ascii_whitespace r.rest) where
     pub end_step : (new : Reading) (t : Token) (span : Span) (dash : Bool) (n : ℕ) → IsEndOf (end_marker kind r.marks) r.rest (Some dash) → n ≡ marker_len (end_marker kind r.marks) dash → seen t ≡ toks.Finish kind dash
-        → new ≡ record (forward r n) { tag = None } → span ≡ span_of r.front (take n r.rest) → IsWithin (whole_of r) span → Steps r (Some (Ok (t, span))) new
+        → new ≡ record (forward r n) { tag = None; trim = dash } → span ≡ span_of r.front (take n r.rest) → IsWithin (whole_of r) span → Steps r (Some (Ok (t, span))) new
     end_step new t span dash n ends n_is t_is new_is span_is within =
         let end : List ℕ = end_marker kind r.marks in
         let marker : List ℕ = dash_bytes dash ++ end in
         let behind : List ℕ = drop (marker_len end dash) r.rest in
-        took r new going n marker behind (end_splits dash behind ends.0) (omega (arith, n_is, length-append (dash_bytes dash) end)) t span None new_is span_is within
-        (ahead_inside (toks.Token (seen t) (span_of r.front marker) (left_outside r.marks (r.front ++ marker) behind))
-        (end_left r.marks valid kind r.front r.rest stops dash behind ends.0 ∙ ap (λ k. toks.Token k (span_of r.front marker) (left_outside r.marks (r.front ++ marker) behind)) (sym t_is)))
+        took r new going n marker behind (end_splits dash behind ends.0) (omega (arith, n_is, length-append (dash_bytes dash) end)) t span None dash new_is span_is within (subst (λ k. StandsIn k marker) (sym t_is) tt)
+        (ahead_inside (toks.Token (seen t) (span_of r.front marker) (left_outside r.marks (r.front ++ marker) dash behind))
+        (end_left r.marks valid kind r.front r.rest stops dash behind ends.0 ∙ ap (λ k. toks.Token k (span_of r.front marker) (left_outside r.marks (r.front ++ marker) dash behind)) (sym t_is)))
       where
         end_splits : (dash : Bool) (behind : List ℕ) → IsEnd (end_marker kind r.marks) dash r.rest behind → r.rest ≡ (dash_bytes dash ++ end_marker kind r.marks) ++ behind
         end_splits true behind is = is
@@ -277,7 +295,7 @@ module _ (r : Reading) (going : r.failed ≡ false) (kind : Kind) (inside : r.ta
       lexeme_by : (new : Reading) (t : Token) (span : Span) (n : ℕ) (lexeme : Lexeme) (behind : List ℕ) → front_of r.rest ≡ Reads lexeme behind → r.rest ≡ spelled lexeme ++ behind → seen t ≡ token_of lexeme → n ≡ length (spelled lexeme)
           → new ≡ forward r n → span ≡ span_of r.front (take n r.rest) → IsWithin (whole_of r) span → Steps r (Some (Ok (t, span))) new
       lexeme_by new t span n lexeme behind is splits seen_is len new_is span_is within =
-          took r new going n (spelled lexeme) behind splits len t span (Some kind) (new_is ∙ (λ i. record (forward r n) { tag = inside i })) span_is within
+          took r new going n (spelled lexeme) behind splits len t span (Some kind) r.trim (new_is ∙ (λ i. record (forward r n) { tag = inside i })) span_is within (subst (λ k. StandsIn k (spelled lexeme)) (sym seen_is) (lexeme_stands lexeme))
           (ahead_inside (toks.Token (seen t) (span_of r.front (spelled lexeme)) (left_inside r.marks kind (r.front ++ spelled lexeme) behind))
           (lexeme_left r.marks valid kind r.front r.rest stops lexeme behind some no_end is ∙ ap (λ k. toks.Token k (span_of r.front (spelled lexeme)) (left_inside r.marks kind (r.front ++ spelled lexeme) behind)) (sym seen_is)))
 

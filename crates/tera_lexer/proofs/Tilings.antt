@@ -7,20 +7,22 @@ use Rattle.std.proofs.lemmas.List.{append-nil, length-append}
 use Rattle.tera_lexer.specs.Marks.{Marks, IsValid, start_marker, end_marker, dash_bytes}
 use Rattle.tera_lexer.specs.Place.{place_after, span_of}
 use Rattle.tera_lexer.specs.Lexeme.{Lexeme, Name, Number, Quoted, Operator, spelled, has_escape, IsLexeme, Fault, told, IsFault, Item, Close, End, Open, Bad, IsEnd, IsInside}
-use Rattle.tera_lexer.specs.Raw.{word_tag_bytes, raw_word, endraw_word}
-use Rattle.tera_lexer.specs.Division.{Piece, Text, Comment, Raw, Tag, Ending, Nothing, OpenTag, BadTag, OpenRaw, OpenComment, Starts, IsDivision}
-use Rattle.tera_lexer.specs.Tokens.{Tok, Content, Start, Remark, Items, Ended, Failed, Token, name_token, token_of, lexemes, started, finished, failed, open_raw, open_comment, comment_bytes, raw_bytes, ends_dashed, raw_token, tokens_of, AreTokensOf}
+use Rattle.tera_lexer.specs.Raw.{WordTag, word_tag_bytes, raw_word, endraw_word}
+use Rattle.tera_lexer.specs.Division.{Piece, Text, Comment, Raw, Tag, Ending, Nothing, OpenTag, BadTag, OpenRaw, OpenComment, Starts, IsPiece, IsEnding, IsDivision}
+use Rattle.tera_lexer.specs.Trimming.{trims_end, trimmed}
+use Rattle.tera_lexer.specs.Tokens.{Tok, Content, Start, Items, Ended, Failed, Token, name_token, token_of, lexemes, started, finished, failed, open_raw, open_comment, comment_bytes, raw_bytes, piece_tokens, ending_tokens, AreTokensOf}
 use Rattle.tera_lexer.specs.Front.{inside_of, division_of}
 use Rattle.tera_lexer.specs.State.{Reading}
-use Rattle.tera_lexer.specs.Steps.{whole_of}
+use Rattle.tera_lexer.specs.Steps.{whole_of, StandsIn}
 use Rattle.tera_lexer.specs.Cursors.{size}
-use Rattle.tera_lexer.specs.Left.{left_outside, left_by, left_in, ahead_of, left_of, item_count}
+use Rattle.tera_lexer.specs.Left.{trims_behind, tokens_by, left_outside, left_by, left_in, ahead_of, left_of, item_count}
 use Rattle.tera_lexer.specs.Tiling.{Shows, in_tag_behind, Tile}
 use Rattle.tera_lexer.specs.declared.lexer.delimiters.Kind.{Kind}
 use Rattle.tera_lexer.proofs.Insides.{spelled_some, fault_some, inside_stands}
 use Rattle.tera_lexer.proofs.Pieces.{start_two, end_two, body_splits}
 use Rattle.tera_lexer.proofs.Divisions.{division_stands}
 use Rattle.tera_lexer.proofs.WordTags.{word_tag_splits}
+use Rattle.tera_lexer.proofs.Lefts.{tokens_found}
 
 some_bytes : (bytes : List ℕ) → 0 < length bytes → bytes ≢ []
 some_bytes bytes some e = omega (arith, ap length e)
@@ -54,6 +56,20 @@ lexeme_shows (Name b bs) = name_shows (b ∷ bs)
 lexeme_shows (Number b bs) = tt
 lexeme_shows (Quoted quote is) = ⊎_elim (λ escape. rw escape tt) (λ plain. rw plain (quote, refl)) (cases_Bool (has_escape is))
 lexeme_shows (Operator op) = refl
+
+name_stands : (name : List ℕ) → StandsIn (name_token name) name
+unfolding either
+name_stands name =
+    ⊎_elim
+    (λ here. rw here tt)
+    (λ other. rw other (⊎_elim (λ here. rw here tt) (λ other'. rw other' refl) (cases_Bool (either (codes "false") (codes "False") name))))
+    (cases_Bool (either (codes "true") (codes "True") name))
+
+pub lexeme_stands : (l : Lexeme) → StandsIn (token_of l) (spelled l)
+lexeme_stands (Name b bs) = name_stands (b ∷ bs)
+lexeme_stands (Number b bs) = tt
+lexeme_stands (Quoted quote is) = ⊎_elim (λ escape. rw escape tt) (λ plain. rw plain (quote, refl)) (cases_Bool (has_escape is))
+lexeme_stands (Operator op) = refl
 
 -- inside a tag a lexeme leaves the tag open
 name_inside : (name : List ℕ) → in_tag_behind true (name_token name) ≡ true
@@ -90,6 +106,18 @@ module _ (end : List ℕ) where
   tile_bad (i ∷ is) gap fault at front bytes (rest, e, is_gap, no_end, here, inside) =
       tile_lexeme i front rest bytes _ e is_gap.0 here (tile_bad is gap fault at ((front ++ i.gap) ++ spelled i.lexeme) rest inside)
 
+-- the bytes of a raw piece before and behind its body
+abbrev pub before_body : Marks → Bool → WordTag → List ℕ
+before_body m dash opening = m.block_start ++ (dash_bytes dash ++ word_tag_bytes raw_word m.block_end opening)
+
+abbrev pub behind_body : Marks → WordTag → List ℕ
+behind_body m closing = m.block_start ++ word_tag_bytes endraw_word m.block_end closing
+
+pub raw_around : (m : Marks) (dash : Bool) (opening : WordTag) (body : List ℕ) (closing : WordTag) → raw_bytes m dash opening body closing ≡ before_body m dash opening ++ (body ++ behind_body m closing)
+raw_around m dash opening body closing =
+    let tag : List ℕ = word_tag_bytes raw_word m.block_end opening in
+    sym (append_assoc m.block_start (dash_bytes dash ++ tag) (body ++ behind_body m closing) ∙ ap (λ l. m.block_start ++ l) (append_assoc (dash_bytes dash) tag (body ++ behind_body m closing)))
+
 module _ (m : Marks) (valid : IsValid m) where
   end_splits : (end : List ℕ) (dash : Bool) (at rest : List ℕ) → IsEnd end dash at rest → at ≡ (dash_bytes dash ++ end) ++ rest
   end_splits end true at rest is = is
@@ -115,24 +143,27 @@ module _ (m : Marks) (valid : IsValid m) where
   starts_some : (marker : List ℕ) (dash : Bool) (bytes behind : List ℕ) → length marker ≡ 2 → Starts marker dash bytes behind → bytes ≢ []
   starts_some marker dash bytes behind two starts = some_bytes bytes (omega (arith, ap length starts.0, length-append marker (dash_bytes dash ++ behind)))
 
-  pub tile : (ps : List Piece) (ending : Ending) (front bytes : List ℕ) → IsDivision m ps ending bytes → Tile false front bytes (tokens_of m front ps ending)
-  tile [] Nothing front bytes e = e
-  tile [] (OpenTag kind dash items gap) front bytes (inside, starts, opens, here) =
+  tile_ending : (ending : Ending) (front bytes : List ℕ) → IsEnding m ending bytes → Tile false front bytes (ending_tokens m front ending)
+  tile_ending Nothing front bytes e = e
+  tile_ending (OpenTag kind dash items gap) front bytes (inside, starts, opens, here) =
       tile_start kind front dash bytes inside (λ f. lexemes f items (λ g. Ended)) starts (λ f. tile_open (end_marker kind m) items gap f inside here)
-  tile [] (BadTag kind dash items gap fault at) front bytes (inside, starts, opens, here) =
+  tile_ending (BadTag kind dash items gap fault at) front bytes (inside, starts, opens, here) =
       tile_start kind front dash bytes inside (λ f. lexemes f items (λ g. failed (g ++ gap) fault)) starts (λ f. tile_bad (end_marker kind m) items gap fault at f inside here)
-  tile [] (OpenRaw dash) front bytes (behind, inside, opening, starts, opens, is) = fault_here front (m.block_start ++ dash_bytes dash) bytes open_raw (starts_some m.block_start dash bytes behind valid.block_start starts)
-  tile [] (OpenComment dash) front bytes (behind, starts, none) = fault_here front (m.comment_start ++ dash_bytes dash) bytes (open_comment m) (starts_some m.comment_start dash bytes behind valid.comment_start starts)
-  tile (Text text ∷ ps) ending front bytes (rest, (e, some, none, ends), divides) =
-      tile_here (Content text) front text rest bytes (tokens_of m (front ++ text) ps ending) e some refl (tile ps ending (front ++ text) rest divides)
-  tile (Comment dash inside ∷ ps) ending front bytes (rest, (behind, starts, e, none), divides) =
+  tile_ending (OpenRaw dash) front bytes (behind, inside, opening, starts, opens, is) = fault_here front (m.block_start ++ dash_bytes dash) bytes open_raw (starts_some m.block_start dash bytes behind valid.block_start starts)
+  tile_ending (OpenComment dash) front bytes (behind, starts, none) = fault_here front (m.comment_start ++ dash_bytes dash) bytes (open_comment m) (starts_some m.comment_start dash bytes behind valid.comment_start starts)
+
+  -- a piece, trimmed or not, and what follows it
+  tile_piece : (start end : Bool) (p : Piece) (front bytes rest : List ℕ) (follows : List ℕ → Items) → IsPiece m p bytes rest → ((f : List ℕ) → Tile false f rest (follows f)) → Tile false front bytes (piece_tokens m front start end p follows)
+  tile_piece start end (Text text) front bytes rest follows (e, some, none, ends) tile =
+      tile_here (Content (trimmed start end text)) front text rest bytes (follows (front ++ text)) e some ([], text, [], start, end, sym (append-nil text), refl) (tile (front ++ text))
+  tile_piece start end (Comment dash inside) front bytes rest follows (behind, starts, e, none) tile =
       let text : List ℕ = comment_bytes m dash inside in
       let splits : bytes ≡ text ++ rest
       = starts.0 ∙ ap (λ l. m.comment_start ++ (dash_bytes dash ++ l)) (e ∙ sym (append_assoc inside m.comment_end rest))
       ∙ sym (append_assoc m.comment_start (dash_bytes dash ++ (inside ++ m.comment_end)) rest ∙ ap (λ l. m.comment_start ++ l) (append_assoc (dash_bytes dash) (inside ++ m.comment_end) rest)) in
       let some : 0 < length text = omega (arith, length-append m.comment_start (dash_bytes dash ++ (inside ++ m.comment_end)), valid.comment_start) in
-      tile_here (Remark dash (ends_dashed inside)) front text rest bytes (tokens_of m (front ++ text) ps ending) splits (some_bytes text some) tt (tile ps ending (front ++ text) rest divides)
-  tile (Raw dash opening body closing ∷ ps) ending front bytes (rest, (behind, inside, starts, opens, is), divides) =
+      tile_here (Content []) front text rest bytes (follows (front ++ text)) splits (some_bytes text some) ([], [], text, false, false, refl, refl) (tile (front ++ text))
+  tile_piece start end (Raw dash opening body closing) front bytes rest follows (behind, inside, starts, opens, is) tile =
       let text : List ℕ = raw_bytes m dash opening body closing in
       let close : List ℕ = word_tag_bytes endraw_word m.block_end closing in
       let open_tag : List ℕ = word_tag_bytes raw_word m.block_end opening in
@@ -145,18 +176,23 @@ module _ (m : Marks) (valid : IsValid m) where
       ∙ ap (λ l. open_tag ++ l) (append_assoc body (m.block_start ++ close) rest
       ∙ ap (λ l. body ++ l) (append_assoc m.block_start close rest))))) in
       let some : 0 < length text = omega (arith, length-append m.block_start (dash_bytes dash ++ (open_tag ++ (body ++ (m.block_start ++ close)))), valid.block_start) in
-      let front_part : List ℕ = m.block_start ++ (dash_bytes dash ++ open_tag) in
-      let shows_at : text ≡ front_part ++ (body ++ (m.block_start ++ close))
-      = sym (append_assoc m.block_start (dash_bytes dash ++ open_tag) (body ++ (m.block_start ++ close)) ∙ ap (λ l. m.block_start ++ l) (append_assoc (dash_bytes dash) open_tag (body ++ (m.block_start ++ close)))) in
-      tile_here (raw_token dash opening body closing) front text rest bytes (tokens_of m (front ++ text) ps ending) splits (some_bytes text some)
-      (front_part, body, m.block_start ++ close, opening.dash_out, closing.dash_in, shows_at, refl) (tile ps ending (front ++ text) rest divides)
-  tile (Tag kind dash items gap end ∷ ps) ending front bytes (rest, (inside, starts, opens, here), divides) =
-      let follows : List ℕ → Items = λ h. tokens_of m h ps ending in
-      tile_start kind front dash bytes inside (λ f. lexemes f items (λ g. finished m (g ++ gap) kind end follows)) starts
-      (λ f. tile_end kind items gap end rest f inside follows here (λ g. tile ps ending g rest divides))
+      tile_here (Content (trimmed (opening.dash_out || start) (closing.dash_in || end) body)) front text rest bytes (follows (front ++ text)) splits (some_bytes text some)
+      (before_body m dash opening, body, behind_body m closing, opening.dash_out || start, closing.dash_in || end, raw_around m dash opening body closing, refl) (tile (front ++ text))
+  tile_piece start end (Tag kind dash items gap last) front bytes rest follows (inside, starts, opens, here) tile =
+      tile_start kind front dash bytes inside (λ f. lexemes f items (λ g. finished m (g ++ gap) kind last follows)) starts
+      (λ f. tile_end kind items gap last rest f inside follows here tile)
+
+  tile_pieces : (trim : Bool) (ps : List Piece) (ending : Ending) (front bytes : List ℕ) → IsDivision m ps ending bytes → Tile false front bytes (tokens_by m front trim ps ending)
+  tile_pieces trim [] ending front bytes is = tile_ending ending front bytes is
+  tile_pieces trim (p ∷ ps) ending front bytes (rest, is, divides) =
+      tile_piece trim (trims_end ps ending) p front bytes rest (λ f. tokens_by m f (trims_behind trim p) ps ending) is (λ f. tile_pieces (trims_behind trim p) ps ending f rest divides)
+
+  -- the tokens that are left outside a tag, and those of a source
+  tile_outside : (front : List ℕ) (trim : Bool) (rest : List ℕ) → Tile false front rest (left_outside m front trim rest)
+  tile_outside front trim rest = tile_pieces trim (division_of m rest).0 (division_of m rest).1 front rest (division_stands m valid (suc (length rest)) rest (omega arith))
 
   pub tokens_tile : (source : List ℕ) (items : Items) → AreTokensOf m source items → Tile false [] source items
-  tokens_tile source items (ps, ending, division, is) = subst (Tile false [] source) (sym is) (tile ps ending [] source division)
+  tokens_tile source items are = subst (Tile false [] source) (sym (tokens_found m valid source items are)) (tile_outside [] false source)
 
 -- the same of what a reading has left
 is_open : Option Kind → Bool
@@ -164,18 +200,15 @@ is_open None = false
 is_open (Some kind) = true
 
 module _ (m : Marks) (valid : IsValid m) where
-  tile_outside : (front rest : List ℕ) → Tile false front rest (left_outside m front rest)
-  tile_outside front rest = tile m valid (division_of m rest).0 (division_of m rest).1 front rest (division_stands m valid (suc (length rest)) rest (omega arith))
-
   tile_by : (kind : Kind) (front rest : List ℕ) (is : List Item) (close : Close) → IsInside (end_marker kind m) is close rest → Tile true front rest (left_by m kind front is close)
-  tile_by kind front rest is (End gap dash behind) here = tile_end m valid kind is gap dash behind front rest (λ h. left_outside m h behind) here (λ g. tile_outside g behind)
+  tile_by kind front rest is (End gap dash behind) here = tile_end m valid kind is gap dash behind front rest (λ h. left_outside m h dash behind) here (λ g. tile_outside m valid g dash behind)
   tile_by kind front rest is (Open gap) here = tile_open (end_marker kind m) is gap front rest here
   tile_by kind front rest is (Bad gap fault at) here = tile_bad (end_marker kind m) is gap fault at front rest here
 
-  tile_in : (tag : Option Kind) (front rest : List ℕ) → Tile (is_open tag) front rest (left_in m tag front rest)
+  tile_in : (tag : Option Kind) (front : List ℕ) (trim : Bool) (rest : List ℕ) → Tile (is_open tag) front rest (left_in m tag front trim rest)
   unfolding is_open
-  tile_in None front rest = tile_outside front rest
-  tile_in (Some kind) front rest =
+  tile_in None front trim rest = tile_outside m valid front trim rest
+  tile_in (Some kind) front trim rest =
       tile_by kind front rest (inside_of (end_marker kind m) rest).0 (inside_of (end_marker kind m) rest).1 (inside_stands (end_marker kind m) (suc (length rest)) rest (omega arith))
 
 -- at most one item a byte
@@ -194,7 +227,7 @@ unfolding ahead_of
 left_count r valid =
     ⊎_elim
     (λ over. rw over (omega arith))
-    (λ going. rw going (omega (arith, tiles_count (left_in r.marks r.tag r.front r.rest) (is_open r.tag) r.front r.rest (tile_in r.marks valid r.tag r.front r.rest), length-append r.front r.rest)))
+    (λ going. rw going (omega (arith, tiles_count (left_in r.marks r.tag r.front r.trim r.rest) (is_open r.tag) r.front r.rest (tile_in r.marks valid r.tag r.front r.trim r.rest), length-append r.front r.rest)))
     (cases_Bool r.failed)
 
 -- a fault is no token

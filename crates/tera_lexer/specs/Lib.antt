@@ -3,6 +3,7 @@ pub mod Marks
 pub mod Lexeme
 pub mod Raw
 pub mod Division
+pub mod Trimming
 pub mod Tokens
 pub mod Tiling
 pub mod Faults

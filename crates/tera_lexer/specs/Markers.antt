@@ -1,12 +1,13 @@
 -- What the program finds at a marker.
-use Rattle.std.specs.Prelude.{◌≡◌, ℕ, ◌+◌, Bool, false, List, length, drop, Option, Some, None}
+use Rattle.std.specs.Prelude.{◌≡◌, ℕ, ◌+◌, Bool, true, false, List, length, drop, Option, Some, None}
+use Rattle.std.specs.Option.{is_some}
 use Rattle.std.specs.Str.{IsCharBoundary}
 use Rattle.tera_lexer.specs.Marks.{Marks, begins, dash_bytes}
 use Rattle.tera_lexer.specs.Lexeme.{is_at_end, IsEnd}
 use Rattle.tera_lexer.specs.Raw as raw
 use Rattle.tera_lexer.specs.Raw.{word_tag_bytes, raw_word, endraw_word}
 use Rattle.tera_lexer.specs.Division.{Starts}
-use Rattle.tera_lexer.specs.Front.{RawEnd, word_tag_at}
+use Rattle.tera_lexer.specs.Front.{RawEnd, find_marker, word_tag_at, raw_end}
 use Rattle.tera_lexer.specs.declared.lexer.markers.WordTag.{WordTag}
 
 -- how many bytes a marker takes with its dash
@@ -44,6 +45,18 @@ abbrev pub IsRawEndOf : List ℕ → Option (ℕ × WordTag) → Option RawEnd �
 IsRawEndOf end None None = Unit {0}
 IsRawEndOf end (Some p) (Some e) = (p.0 ≡ e.len) × IsTagOf endraw_word end p.1 e.close
 IsRawEndOf end _ _ = ⊥
+
+-- bytes behind a block start and its dash that make it a piece: they close a raw piece that they open
+abbrev pub closes_by : Marks → Option (raw.WordTag × List ℕ) → Bool
+closes_by m None = true
+closes_by m (Some p) = is_some (raw_end m.block_start m.block_end false p.1)
+
+abbrev pub is_block_piece : Marks → List ℕ → Bool
+is_block_piece m bytes = closes_by m (word_tag_at raw_word m.block_end bytes)
+
+-- bytes behind a comment start and its dash that make it a piece
+abbrev pub is_comment : Marks → List ℕ → Bool
+is_comment m bytes = is_some (find_marker m.comment_end bytes)
 
 -- at which the text may be cut before its block start and behind its tag
 abbrev pub IsRawCut : Marks → List ℕ → ℕ × WordTag → Type 0

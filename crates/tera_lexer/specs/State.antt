@@ -3,11 +3,12 @@ use Rattle.std.specs.Prelude.{ℕ, Bool, List, Option}
 use Rattle.tera_lexer.specs.Marks.{Marks}
 use Rattle.tera_lexer.specs.declared.lexer.delimiters.Kind.{Kind}
 
--- what stands before and behind the place that is reached, the tag that is open there, and whether a fault
--- was told
+-- what stands before and behind the place that is reached, the tag that is open there, whether a dash that was
+-- passed trims the start of the next text, and whether a fault was told
 pub record Reading : Type 0 where
   pub marks : Marks
   pub front : List ℕ
   pub rest : List ℕ
   pub tag : Option Kind
+  pub trim : Bool
   pub failed : Bool

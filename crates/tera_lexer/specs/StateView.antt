@@ -12,6 +12,7 @@ reading_of t = record {
   front = take t.place.byte t.source.now;
   rest = drop t.place.byte t.source.now;
   tag = t.tag;
+  trim = t.trim;
   failed = t.failed;
 }
 

@@ -4,7 +4,8 @@ use Rattle.std.specs.Prelude.{◌≡◌, ◌≢◌, ℕ, Bool, true, false, List
 use Rattle.std.specs.List.{AllByRecursion}
 use Rattle.std.specs.Char.{is_ascii_whitespace}
 use Rattle.tera_lexer.specs.Place.{span_of}
-use Rattle.tera_lexer.specs.Tokens.{Tok, Content, RawContent, Remark, Start, Finish, Ident, Str, Escaped, Integer, Truth, Symbol, Items, Ended, Failed, Token, trimmed}
+use Rattle.tera_lexer.specs.Trimming.{trimmed}
+use Rattle.tera_lexer.specs.Tokens.{Tok, Content, RawContent, Remark, Start, Finish, Ident, Str, Escaped, Integer, Truth, Symbol, Items, Ended, Failed, Token}
 
 -- the bytes between two tokens, inside a tag or not
 abbrev pub AreBetween : Bool → List ℕ → Type 0
@@ -25,16 +26,17 @@ in_tag_behind inside (Integer n) = inside
 in_tag_behind inside (Truth b) = inside
 in_tag_behind inside (Symbol op) = inside
 
--- what the bytes of a token have to do with the text that it borrows: they are a text, a name or an operator
--- itself; a string stands between two quotes; the body of a raw piece stands in them and may be trimmed
+-- what the bytes of a token have to do with the text that it borrows: a name and an operator are the bytes; a
+-- string stands between two quotes; a text is a part of them, with or without the white space at its ends. A raw
+-- piece and a comment as such have none.
 abbrev pub Shows : Tok → List ℕ → Type 0
-Shows (Content text) bytes = text ≡ bytes
-Shows (RawContent dash text end) bytes =
-    (before body behind : List ℕ) × (start stop : Bool) × (bytes ≡ before ++ (body ++ behind)) × (text ≡ trimmed start stop body)
+Shows (Content text) bytes =
+    (before body behind : List ℕ) × (start end : Bool) × (bytes ≡ before ++ (body ++ behind)) × (text ≡ trimmed start end body)
+Shows (RawContent dash text end) bytes = ⊥
+Shows (Remark dash end) bytes = ⊥
 Shows (Ident name) bytes = name ≡ bytes
 Shows (Str text) bytes = (quote : ℕ) × (bytes ≡ quote ∷ (text ++ quote ∷ []))
 Shows (Symbol op) bytes = op ≡ bytes
-Shows (Remark dash end) bytes = Unit {0}
 Shows (Start kind dash) bytes = Unit {0}
 Shows (Finish kind dash) bytes = Unit {0}
 Shows (Escaped text) bytes = Unit {0}

@@ -1,19 +1,19 @@
 -- The tokens of a division, each with its span.
-use Rattle.std.specs.Prelude.{◌≡◌, ℕ, ℤ, pos, Bool, true, false, ◌||◌, if◌then◌else◌, List, [], ◌∷◌, ◌++◌, codes, nat_eq}
-use Rattle.std.specs.Str.{bytes_eq, trim_start, trim_end}
-use Rattle.std.specs.List.{ends_with}
+use Rattle.std.specs.Prelude.{◌≡◌, ℕ, ℤ, pos, Bool, true, false, ◌||◌, if◌then◌else◌, List, [], ◌∷◌, ◌++◌, codes}
+use Rattle.std.specs.Str.{bytes_eq}
 use Rattle.tera_lexer.specs.Marks.{Marks, start_marker, end_marker, dash_bytes}
 use Rattle.tera_lexer.specs.Place.{span_of}
 use Rattle.tera_lexer.specs.Lexeme.{Item, Lexeme, Name, Number, Quoted, Operator, Fault, Unexpected, Unclosed, UnknownEscape, TooGreat, Float, spelled, told, decimal, written, value_of, has_escape}
 use Rattle.tera_lexer.specs.Raw.{WordTag, word_tag_bytes, raw_word, endraw_word}
 use Rattle.tera_lexer.specs.Division.{Piece, Text, Comment, Raw, Tag, Ending, Nothing, OpenTag, BadTag, OpenRaw, OpenComment, IsDivision}
+use Rattle.tera_lexer.specs.Trimming.{trims_start, trims_end, trimmed}
 use Rattle.tera_lexer.specs.declared.lexer.delimiters.Kind.{Kind}
 use Rattle.tera_base.specs.declared.utils.Span.{Span}
 
--- a token, without where it lies in memory: a text; a raw piece, by its start's dash, its body and its
--- end's dash; a comment, by its dashes; the start and the end of a tag, with a dash or none; a name; the
--- inside of a string without escapes; the value of a string with some; a number; one of the words for true
--- and false; an operator, by its source text
+-- a token, without where it lies in memory: a text, which is also that of a raw piece, and empty for a comment;
+-- a raw piece and a comment as such, which no source has; the start and the end of a tag, with a dash or none;
+-- a name; the inside of a string without escapes; the value of a string with some; a number; one of the words
+-- for true and false; an operator, by its source text
 pub data Tok : Type 0 where
   Content : List ℕ → Tok
   RawContent : Bool → List ℕ → Bool → Tok
@@ -96,38 +96,35 @@ raw_bytes m dash opening body closing =
     m.block_start ++ (dash_bytes dash ++ (word_tag_bytes raw_word m.block_end opening
     ++ (body ++ (m.block_start ++ word_tag_bytes endraw_word m.block_end closing))))
 
--- the end of a comment has a dash where the last byte before it is one
-abbrev pub ends_dashed : List ℕ → Bool
-ends_dashed inside = ends_with nat_eq inside (45 ∷ [])
-
--- a text without the white space at its start, and without that at its end
-abbrev pub trimmed : Bool → Bool → List ℕ → List ℕ
-trimmed start end text =
-    let begun = if start then trim_start text else text in
-    if end then trim_end begun else begun
-
--- the token of a raw piece: the dash at the end of its opening tag and that at the start of its closing tag
--- trim its body
-abbrev pub raw_token : Bool → WordTag → List ℕ → WordTag → Tok
-raw_token dash opening body closing = RawContent dash (trimmed opening.dash_out closing.dash_in body) closing.dash_out
-
--- the tokens of the pieces and of the ending, behind front
-abbrev pub tokens_of : Marks → List ℕ → List Piece → Ending → Items
-tokens_of m front [] Nothing = Ended
-tokens_of m front [] (OpenTag kind dash items gap) = started m front kind dash (λ f. lexemes f items (λ g. Ended))
-tokens_of m front [] (BadTag kind dash items gap fault at) = started m front kind dash (λ f. lexemes f items (λ g. failed (g ++ gap) fault))
-tokens_of m front [] (OpenRaw dash) = Failed open_raw (span_of front (m.block_start ++ dash_bytes dash))
-tokens_of m front [] (OpenComment dash) = Failed (open_comment m) (span_of front (m.comment_start ++ dash_bytes dash))
-tokens_of m front (Text text ∷ ps) ending = Token (Content text) (span_of front text) (tokens_of m (front ++ text) ps ending)
-tokens_of m front (Comment dash inside ∷ ps) ending =
+-- the tokens of a piece behind front, and what follows them: a text, which neighbours may trim at its start and
+-- at its end; a comment, which is an empty text; the body of a raw piece, which the dashes of its inner sides
+-- trim as well
+abbrev pub piece_tokens : Marks → List ℕ → Bool → Bool → Piece → (List ℕ → Items) → Items
+piece_tokens m front start end (Text text) follows = Token (Content (trimmed start end text)) (span_of front text) (follows (front ++ text))
+piece_tokens m front start end (Comment dash inside) follows =
     let bytes = comment_bytes m dash inside in
-    Token (Remark dash (ends_dashed inside)) (span_of front bytes) (tokens_of m (front ++ bytes) ps ending)
-tokens_of m front (Raw dash opening body closing ∷ ps) ending =
+    Token (Content []) (span_of front bytes) (follows (front ++ bytes))
+piece_tokens m front start end (Raw dash opening body closing) follows =
     let bytes = raw_bytes m dash opening body closing in
-    Token (raw_token dash opening body closing) (span_of front bytes) (tokens_of m (front ++ bytes) ps ending)
-tokens_of m front (Tag kind dash items gap end ∷ ps) ending =
-    started m front kind dash (λ f. lexemes f items (λ g. finished m (g ++ gap) kind end (λ h. tokens_of m h ps ending)))
+    Token (Content (trimmed (opening.dash_out || start) (closing.dash_in || end) body)) (span_of front bytes) (follows (front ++ bytes))
+piece_tokens m front start end (Tag kind dash items gap last) follows =
+    started m front kind dash (λ f. lexemes f items (λ g. finished m (g ++ gap) kind last follows))
+
+-- the tokens of an ending behind front
+abbrev pub ending_tokens : Marks → List ℕ → Ending → Items
+ending_tokens m front Nothing = Ended
+ending_tokens m front (OpenTag kind dash items gap) = started m front kind dash (λ f. lexemes f items (λ g. Ended))
+ending_tokens m front (BadTag kind dash items gap fault at) = started m front kind dash (λ f. lexemes f items (λ g. failed (g ++ gap) fault))
+ending_tokens m front (OpenRaw dash) = Failed open_raw (span_of front (m.block_start ++ dash_bytes dash))
+ending_tokens m front (OpenComment dash) = Failed (open_comment m) (span_of front (m.comment_start ++ dash_bytes dash))
+
+-- the tokens of the pieces and of the ending, behind front and to the right of the pieces on the left, the
+-- nearest first
+abbrev pub tokens_of : Marks → List ℕ → List Piece → List Piece → Ending → Items
+tokens_of m front left [] ending = ending_tokens m front ending
+tokens_of m front left (p ∷ right) ending =
+    piece_tokens m front (trims_start left) (trims_end right ending) p (λ f. tokens_of m f (p ∷ left) right ending)
 
 -- the tokens of a source: those of a division of it
 abbrev pub AreTokensOf : Marks → List ℕ → Items → Type 0
-AreTokensOf m source items = (pieces : List Piece) × (ending : Ending) × IsDivision m pieces ending source × (items ≡ tokens_of m [] pieces ending)
+AreTokensOf m source items = (pieces : List Piece) × (ending : Ending) × IsDivision m pieces ending source × (items ≡ tokens_of m [] [] pieces ending)

@@ -27,9 +27,10 @@ pub fn one_slice()
         slice_range (front ++ (text ++ rest)) (span_of front text).range.start (span_of front text).range.end ≡ text }
 {}
 
-/// The tokens of a source stand in it one behind the other, each with the bytes of its span: a text, a name,
-/// an operator and the inside of a string without escapes are those bytes. Between two tokens stands nothing
-/// but white space, and that only inside a tag.
+/// The tokens of a source stand in it one behind the other, each with the bytes of its span: a name and an
+/// operator are those bytes, the inside of a string without escapes stands between its quotes there, and a text
+/// is a part of them, trimmed or not. Between two tokens stands nothing but white space, and that only inside a
+/// tag.
 pub fn tokens_tile()
     ensures { (m : Marks) → IsValid m → (source : List ℕ) (items : Items) → AreTokensOf m source items → Tile false [] source items }
 {}

@@ -9,21 +9,20 @@ use Rattle.tera_lexer.specs.Tokens as toks
 use Rattle.tera_lexer.specs.Tokens.{Tok, Items, Ended, Failed, Token}
 use Rattle.tera_lexer.specs.declared.lexer.delimiters.Kind.TheVariants as kind
 use Rattle.tera_tree.specs.View.{node_view}
-use Rattle.tera_parser.specs.Template.{Element, Words, Raw, Remark, Variable, IsElement, element_yield, yield, element_nodes}
+use Rattle.tera_parser.specs.Template.{Element, Words, Variable, IsElement, element_yield, yield, element_nodes}
 use Rattle.tera_parser.specs.Reading.{element_at, element_of}
 use Rattle.tera_base.specs.Errors.{IsMemory, Tells}
 use Rattle.tera_lexer.specs.Faults.{Faults}
-use Rattle.tera_lexer.specs.Steps.{Stops}
+use Rattle.tera_lexer.specs.Steps.{TakesMemory, Stops}
 use Rattle.tera_lexer.specs.Cursors.{Position, FaultsFrom, RefusesFrom, size}
-use Rattle.tera_parser.specs.Gives.{RefusesIn, IsNoBody}
+use Rattle.tera_parser.specs.Gives.{nodes_view, AreEmptyTexts, RefusesIn, IsNoBody}
 use Rattle.tera_base.specs.declared.utils.Span.{Span}
 use Rattle.tera_base.specs.declared.errors.Error.{Error}
 use Rattle.tera_tree.specs.declared.ast.Node.{Node}
 use Rattle.tera_base.proofs.Tellings.{tells_weaker, tells_memory}
 use Rattle.tera_lexer.proofs.Refusals.{lift_faults}
-use Rattle.tera_lexer.proofs.CursorSteps.{stops_not_ended}
-use Rattle.tera_expr.proofs.Yields.{expression_size}
-use Rattle.tera_parser.proofs.Parsings.{yield_push, are_push, yield_faults, element_found, element_stands, some_element, no_body, no_body_behind}
+use Rattle.tera_expr.proofs.Yields.{first_same, expression_size}
+use Rattle.tera_parser.proofs.Parsings.{yield_push, are_push, yield_faults, element_stands, no_body, no_body_behind}
 
 -- the nodes are the output of elements with which the tokens begin, and the cursor stands behind those
 pub record HasRead (source : List ℕ) (old : Items) (nodes : List Node) (now : Position) : Type 0 where
@@ -87,20 +86,16 @@ from_refuses mid t here e last told =
 -- behind an element fewer tokens are left
 yield_size : (e : Element) (items : Items) → size items < size (element_yield e items)
 yield_size (Words t s) items = omega arith
-yield_size (Raw dash t end s) items = omega arith
-yield_size (Remark dash end s) items = omega arith
 yield_size (Variable dash s c last r) items = omega (arith, expression_size c (Token (toks.Finish kind.Variable last) r items))
 
 pub element_size : (items : Items) (e : Element) (rest : Items) → element_of items ≡ Some (e, rest) → size rest < size items
 element_size items e rest found = omega (arith, ap size (element_stands items e rest found).1, yield_size e rest)
 
--- tokens that go on do so behind elements
-pub some_left : (es : List Element) (items : Items) → AllByRecursion IsElement es → items ≢ Ended → yield es items ≢ Ended
-some_left [] items are some = some
-some_left (e ∷ es) items are some = some_element (element_found_in e es items are)
-  where
-    element_found_in : (e : Element) (es : List Element) (items : Items) → AllByRecursion IsElement (e ∷ es) → element_of (element_yield e (yield es items)) ≡ Some (e, yield es items)
-    element_found_in e es items are = element_found e (yield es items) are.0
+-- behind elements that are empty texts the tokens are empty texts
+left_empty : (es : List Element) (items : Items) → AreEmptyTexts (yield es items) → AreEmptyTexts items
+left_empty [] items empty = empty
+left_empty (Words t s ∷ es) items empty = left_empty es items empty.1
+left_empty (Variable dash s c last r ∷ es) items empty = let clash = empty.0 in cc
 
 -- the next token was taken
 module _ (source : List ℕ) (old : Items) (nodes : List Node) (now mid : Position) (t : Tok) (span : Span) (read : HasRead source old nodes now) (took : now.left ≡ Token t span mid.left) (same : mid.source ≡ now.source) where
@@ -117,8 +112,19 @@ module _ (source : List ℕ) (old : Items) (nodes : List Node) (now mid : Positi
   next_err e why =
       ⊎_elim (λ memory. inl memory) (λ none. inr (behind_no_body source old nodes now read (no_body now.left (ap element_of took ∙ none) goes_on_here))) why
 
-  pub next_some : old ≢ Ended
-  next_some e = some_left read.elements now.left read.are goes_on_here (sym read.leads ∙ e)
+  -- where it is no empty text, neither are all of the tokens
+  next_empty : AreEmptyTexts old → t ≡ toks.Content []
+  next_empty empty = (subst AreEmptyTexts took (left_empty read.elements now.left (subst AreEmptyTexts read.leads empty))).0
+
+  pub next_some : t ≢ toks.Content [] → AreEmptyTexts old → ⊥
+  next_some some empty = some (next_empty empty)
+
+  -- an empty text has no node
+  pub next_node : (e : Element) (node : Node) (rest : Items) → element_at t span mid.left ≡ Some (e, rest) → nodes_view (Some node) ≡ element_nodes e → AreEmptyTexts old → ⊥
+  next_node e node rest found view empty =
+      let same : Some (Words [] span, mid.left) ≡ Some (e, rest) = sym (ap (λ k. element_at k span mid.left) (next_empty empty)) ∙ found in
+      let none : node_view node ∷ [] ≡ [] = view ∙ ap element_nodes (sym (first_same same)) in
+      cc
 
   pub next_smaller : (e : Element) (new : Position) → element_at t span mid.left ≡ Some (e, new.left) → size new.left < size now.left
   next_smaller e new found = element_size now.left e new.left (ap element_of took ∙ found)
@@ -131,5 +137,10 @@ module _ (source : List ℕ) (old : Items) (nodes : List Node) (now : Position) 
   pub stopped_err : IsMemory e ⊎ IsNoBody old
   stopped_err = ⊎_elim (λ memory. inl memory) (λ none. inr (behind_no_body source old nodes now read none)) (stops_err now.source now.left e stops)
 
-  pub stopped_some : old ≢ Ended
-  stopped_some is = some_left read.elements now.left read.are (λ end. stops_not_ended now.source now.left e end stops) (sym read.leads ∙ is)
+  pub stopped_some : AreEmptyTexts old → ⊥
+  stopped_some empty = by now.left stops (left_empty read.elements now.left (subst AreEmptyTexts read.leads empty))
+    where
+      by : (items : Items) → Stops now.source items e → AreEmptyTexts items → ⊥
+      by Ended stops empty = stops
+      by (Failed text span) stops empty = empty
+      by (Token t span items) stops empty = subst TakesMemory empty.0 stops.0

@@ -4,7 +4,7 @@ use Rattle.std.specs.List.{AllByRecursion}
 use Rattle.tera_lexer.specs.Tokens as toks
 use Rattle.tera_lexer.specs.Tokens.{Tok, Items, Ended, Failed, Token}
 use Rattle.tera_lexer.specs.declared.lexer.delimiters.Kind.TheVariants as kind
-use Rattle.tera_parser.specs.Template.{Element, Words, Raw, Remark, Variable, IsElement, element_yield, yield}
+use Rattle.tera_parser.specs.Template.{Element, Words, Variable, IsElement, element_yield, yield}
 use Rattle.tera_expr.specs.Concrete.{Concrete, IsExpression, expression_yield}
 use Rattle.tera_expr.specs.Reading.{expression_of}
 use Rattle.tera_parser.specs.Reading.{end_at, ended, end_of_tag, closed, closed_by, tag_of, started, element_at, element_of}
@@ -60,8 +60,6 @@ tag_found c end rest is = ap closed (expression_found c (end_token end rest) is)
 -- the tokens of an element are read as it, and what is read as an element is its tokens
 pub element_found : (e : Element) (rest : Items) → IsElement e → element_of (element_yield e rest) ≡ Some (e, rest)
 element_found (Words text span) rest is = refl
-element_found (Raw dash text end span) rest is = refl
-element_found (Remark dash end span) rest is = refl
 element_found (Variable dash start c last end) rest is = ap (started dash start) (tag_found c (last, end) rest is)
 
 started_stands : (dash : Bool) (start : Span) (items : Items) (tag : Option ((Concrete × (Bool × Span)) × Items)) → tag_of items ≡ tag → (e : Element) (rest : Items)
@@ -73,8 +71,8 @@ started_stands dash start items (Some p) is e rest read =
 
 pub at_stands : (t : Tok) (span : Span) (items : Items) (e : Element) (rest : Items) → element_at t span items ≡ Some (e, rest) → IsElement e × (Token t span items ≡ element_yield e rest)
 at_stands (toks.Content text) span items e rest read = (subst IsElement (first_same read) tt, λ i. element_yield (first_same read i) (second_same read i))
-at_stands (toks.RawContent dash text end) span items e rest read = (subst IsElement (first_same read) tt, λ i. element_yield (first_same read i) (second_same read i))
-at_stands (toks.Remark dash end) span items e rest read = (subst IsElement (first_same read) tt, λ i. element_yield (first_same read i) (second_same read i))
+at_stands (toks.RawContent dash text end) span items e rest read = absurd (none_some (sym read))
+at_stands (toks.Remark dash end) span items e rest read = absurd (none_some (sym read))
 at_stands (toks.Start kind.Variable dash) span items e rest read = started_stands dash span items (tag_of items) refl e rest read
 at_stands (toks.Start kind.Block dash) span items e rest read = absurd (none_some (sym read))
 at_stands (toks.Finish k dash) span items e rest read = absurd (none_some (sym read))
@@ -135,8 +133,6 @@ are_push (x ∷ es) e are is = (are.0, are_push es e are.1 is)
 -- a fault behind some elements is one of all their tokens
 element_faults : (e : Element) (items : Items) (text : List ℕ) (span : Span) → Faults items text span → Faults (element_yield e items) text span
 element_faults (Words t s) items text span f = later_faults (toks.Content t) s items text span f
-element_faults (Raw dash t end s) items text span f = later_faults (toks.RawContent dash t end) s items text span f
-element_faults (Remark dash end s) items text span f = later_faults (toks.Remark dash end) s items text span f
 element_faults (Variable dash s c last r) items text span f =
     let end = Token (toks.Finish kind.Variable last) r items in
     later_faults (toks.Start kind.Variable dash) s (expression_yield c end) text span (expression_faults c end text span (later_faults (toks.Finish kind.Variable last) r items text span f))

@@ -1,17 +1,18 @@
 -- From the tokens of a whole source to its derivation.
-use Rattle.std.proofs.Common.{◌≡◌, ℕ, List, [], ⊎_elim, subst, sym, refl, ap, ◌∙◌}
+use Rattle.std.proofs.Common.{◌≡◌, ℕ, List, [], ◌∷◌, ◌++◌, ⊎_elim, subst, sym, refl, ap, ◌∙◌}
 use Rattle.std.specs.Prelude.{map, None, ◌⊎◌}
+use Rattle.std.specs.List.{AllByRecursion}
 use Rattle.tera_lexer.specs.Marks.{Marks, IsValid}
 use Rattle.tera_lexer.specs.Place.{IsWithin}
-use Rattle.tera_lexer.specs.Division.{Nothing, IsDivision}
-use Rattle.tera_lexer.specs.Tokens.{Items, Ended, tokens_of, AreTokensOf}
+use Rattle.tera_lexer.specs.Division.{Piece, Text, Comment, Raw, Tag, Nothing, IsDivision}
+use Rattle.tera_lexer.specs.Tokens.{Items, Ended, comment_bytes, tokens_of, AreTokensOf}
 use Rattle.tera_tree.specs.Tree.{Output}
 use Rattle.tera_tree.specs.View.{node_view}
-use Rattle.tera_parser.specs.Template.{yield, output_of, Derives}
+use Rattle.tera_parser.specs.Template.{yield, output_of, Derives, IsComment, IsCommentsAlone}
 use Rattle.tera_base.specs.Errors.{IsMemory}
 use Rattle.tera_lexer.specs.Faults.{Faults}
 use Rattle.tera_parser.specs.Refusal.{Refuses}
-use Rattle.tera_parser.specs.Gives.{IsNoBody, ReadsBody, RefusesIn}
+use Rattle.tera_parser.specs.Gives.{IsNoBody, ReadsBody, AreEmptyTexts, RefusesIn}
 use Rattle.tera_base.specs.declared.errors.Error.{Error}
 use Rattle.tera_tree.specs.declared.ast.Node.{Node}
 use Rattle.tera_lexer.proofs.Lefts.{tokens_one}
@@ -23,11 +24,11 @@ module _ (m : Marks) (valid : IsValid m) (source : List ℕ) where
   -- what is derived is read: its tokens are those of the source
   derived_tokens : (items : Items) → AreTokensOf m source items → (output : Output) (d : Derives m source output) → items ≡ yield d.2.0 Ended
   derived_tokens items are output (pieces, division, (es, each, tokens, is)) =
-      tokens_one m valid source items (tokens_of m [] pieces Nothing) are (pieces, Nothing, division, refl) ∙ tokens
+      tokens_one m valid source items (tokens_of m [] [] pieces Nothing) are (pieces, Nothing, division, refl) ∙ tokens
 
   pub derives_unique : (one other : Output) → Derives m source one → Derives m source other → one ≡ other
   derives_unique one other d d' =
-      let same = derived_tokens (tokens_of m [] d.0 Nothing) (d.0, Nothing, d.1, refl) other d' in
+      let same = derived_tokens (tokens_of m [] [] d.0 Nothing) (d.0, Nothing, d.1, refl) other d' in
       d.2.3 ∙ ap output_of (elements_same d.2.0 d'.2.0 d.2.1 d'.2.1 (sym d.2.2 ∙ same)) ∙ sym d'.2.3
 
   -- of the tokens of the source
@@ -39,7 +40,7 @@ module _ (m : Marks) (valid : IsValid m) (source : List ℕ) where
         let nothing : ending ≡ Nothing = ends_in_nothing m pieces ending es (sym same ∙ tokens) in (
           pieces,
           subst (λ e. IsDivision m pieces e source) nothing division,
-          (es, each, ap (tokens_of m [] pieces) (sym nothing) ∙ sym same ∙ tokens, λ i. record { parent = None; nodes = output i; definitions = [] }),
+          (es, each, ap (tokens_of m [] [] pieces) (sym nothing) ∙ sym same ∙ tokens, λ i. record { parent = None; nodes = output i; definitions = [] }),
         )
 
     -- a refusal is want of memory, where there is a derivation
@@ -53,6 +54,14 @@ module _ (m : Marks) (valid : IsValid m) (source : List ℕ) where
         (λ text span. IsWithin source span × ((items : Items) × AreTokensOf m source items × Faults items text span)) e
         (λ text span f. (subst (λ s. IsWithin s span) same f.0, (items, are, f.1))) told
 
-    -- an empty source has none
-    pub empty_tokens : source ≡ [] → items ≡ Ended
-    empty_tokens empty = tokens_one m valid source items Ended are ([], Nothing, empty, refl)
+    -- those of comments alone are empty texts
+    pub comments_tokens : IsCommentsAlone m source → AreEmptyTexts items
+    comments_tokens (pieces, division, each) =
+        subst AreEmptyTexts (tokens_one m valid source (tokens_of m [] [] pieces Nothing) items (pieces, Nothing, division, refl) are) (empty [] [] pieces each)
+      where
+        empty : (front : List ℕ) (left pieces : List Piece) → AllByRecursion IsComment pieces → AreEmptyTexts (tokens_of m front left pieces Nothing)
+        empty front left [] each = tt
+        empty front left (Text text ∷ pieces) each = absurd each.0
+        empty front left (Comment dash inside ∷ pieces) each = (refl, empty (front ++ comment_bytes m dash inside) (Comment dash inside ∷ left) pieces each.1)
+        empty front left (Raw dash opening body closing ∷ pieces) each = absurd each.0
+        empty front left (Tag kind dash is gap end ∷ pieces) each = absurd each.0

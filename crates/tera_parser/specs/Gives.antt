@@ -2,7 +2,7 @@
 use Rattle.std.specs.Prelude.{◌≡◌, ◌⊎◌, ℕ, Bool, List, [], ◌∷◌, map, Option, Some, None, Result, Ok, Err}
 use Rattle.std.specs.List.{AllByRecursion, flat_map}
 use Rattle.tera_lexer.specs.Place.{IsWithin}
-use Rattle.tera_lexer.specs.Tokens.{Tok, Items, Ended}
+use Rattle.tera_lexer.specs.Tokens.{Tok, Content, Items, Ended, Failed, Token}
 use Rattle.tera_lexer.specs.Cursors.{Position}
 use Rattle.tera_base.specs.Errors.{IsMemory, TellsBy}
 use Rattle.tera_lexer.specs.Faults.{Faults}
@@ -42,6 +42,12 @@ IsNoBody items = (es : List Element) → AllByRecursion IsElement es → items �
 -- the nodes are the output of a body, whose tokens these are
 abbrev pub ReadsBody : Items → List Node → Type 0
 ReadsBody items nodes = (es : List Element) × AllByRecursion IsElement es × (items ≡ yield es Ended) × (map node_view nodes ≡ flat_map element_nodes es)
+
+-- the tokens are empty texts, and then they end
+abbrev pub AreEmptyTexts : Items → Type 0
+AreEmptyTexts Ended = Unit {0}
+AreEmptyTexts (Failed text span) = ⊥
+AreEmptyTexts (Token t span items) = (t ≡ Content []) × AreEmptyTexts items
 
 -- a refusal is want of memory, or a syntax error of the source in these tokens
 abbrev pub RefusesIn : List ℕ → Items → Error → Type 0

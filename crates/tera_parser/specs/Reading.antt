@@ -1,9 +1,8 @@
 -- What tokens are read as: the reading function. The contract of `Parser::parse` does not name it.
 use Rattle.std.specs.Prelude.{Bool, Option, Some, None}
-use Rattle.tera_lexer.specs.Tokens.{Tok, Items, Ended, Failed, Token, Content, RawContent, Start, Finish, Ident, Str, Escaped, Integer, Truth, Symbol}
-use Rattle.tera_lexer.specs.Tokens as toks
+use Rattle.tera_lexer.specs.Tokens.{Tok, Items, Ended, Failed, Token, Content, RawContent, Remark, Start, Finish, Ident, Str, Escaped, Integer, Truth, Symbol}
 use Rattle.tera_lexer.specs.declared.lexer.delimiters.Kind.TheVariants as kind
-use Rattle.tera_parser.specs.Template.{Element, Words, Raw, Remark, Variable}
+use Rattle.tera_parser.specs.Template.{Element, Words, Variable}
 use Rattle.tera_base.specs.declared.utils.Span.{Span}
 use Rattle.tera_expr.specs.Concrete.{Concrete}
 use Rattle.tera_expr.specs.Reading.{expression_of}
@@ -14,7 +13,7 @@ end_at (Finish kind.Variable dash) span = Some (dash, span)
 end_at (Finish kind.Block dash) span = None
 end_at (Content text) span = None
 end_at (RawContent dash text end) span = None
-end_at (toks.Remark dash end) span = None
+end_at (Remark dash end) span = None
 end_at (Start kind dash) span = None
 end_at (Ident name) span = None
 end_at (Str text) span = None
@@ -52,8 +51,8 @@ started dash start (Some p) = Some (Variable dash start p.0.0 p.0.1.0 p.0.1.1, p
 
 abbrev pub element_at : Tok → Span → Items → Option (Element × Items)
 element_at (Content text) span items = Some (Words text span, items)
-element_at (RawContent dash text end) span items = Some (Raw dash text end span, items)
-element_at (toks.Remark dash end) span items = Some (Remark dash end span, items)
+element_at (RawContent dash text end) span items = None
+element_at (Remark dash end) span items = None
 element_at (Start kind.Variable dash) span items = started dash span (tag_of items)
 element_at (Start kind.Block dash) span items = None
 element_at (Finish kind dash) span items = None

@@ -2,7 +2,7 @@
 use Rattle.std.specs.Prelude.{◌≡◌, ℕ, Bool, List, [], ◌∷◌, None}
 use Rattle.std.specs.List.{AllByRecursion, flat_map}
 use Rattle.tera_lexer.specs.Marks.{Marks}
-use Rattle.tera_lexer.specs.Division.{Piece, Nothing, IsDivision}
+use Rattle.tera_lexer.specs.Division.{Piece, Text, Comment, Raw, Tag, Nothing, IsDivision}
 use Rattle.tera_lexer.specs.Tokens as toks
 use Rattle.tera_lexer.specs.Tokens.{Items, Ended, Token, tokens_of}
 use Rattle.tera_lexer.specs.declared.lexer.delimiters.Kind.TheVariants as kind
@@ -11,26 +11,19 @@ use Rattle.tera_expr.specs.Concrete.{Concrete, IsExpression, expression_yield, e
 use Rattle.tera_tree.specs.Tree.{Stmt, Output}
 use Rattle.tera_base.specs.declared.utils.Span.{Span}
 
--- an element of a body: a text; a raw piece and a comment, by the dashes of their start and end; each with its
--- span; a variable tag, by the dash and the span of its start, its expression, and the dash and the span of its
--- end
+-- an element of a body: a text with its span, which is also that of a raw piece, and empty for a comment; a
+-- variable tag, by the dash and the span of its start, its expression, and the dash and the span of its end
 pub data Element : Type 0 where
   Words : List ℕ → Span → Element
-  Raw : Bool → List ℕ → Bool → Span → Element
-  Remark : Bool → Bool → Span → Element
   Variable : Bool → Span → Concrete → Bool → Span → Element
 
 abbrev pub IsElement : Element → Type 0
 IsElement (Words text span) = Unit {0}
-IsElement (Raw dash text end span) = Unit {0}
-IsElement (Remark dash end span) = Unit {0}
 IsElement (Variable dash start e last end) = IsExpression e
 
 -- the tokens of an element, in front of others
 abbrev pub element_yield : Element → Items → Items
 element_yield (Words text span) items = Token (toks.Content text) span items
-element_yield (Raw dash text end span) items = Token (toks.RawContent dash text end) span items
-element_yield (Remark dash end span) items = Token (toks.Remark dash end) span items
 element_yield (Variable dash start e last end) items =
     Token (toks.Start kind.Variable dash) start (expression_yield e (Token (toks.Finish kind.Variable last) end items))
 
@@ -44,11 +37,9 @@ abbrev pub text_nodes : List ℕ → List Stmt
 text_nodes [] = []
 text_nodes (b ∷ bs) = tree.Content (b ∷ bs) ∷ []
 
--- the nodes of an element: none of a comment
+-- the nodes of an element
 abbrev pub element_nodes : Element → List Stmt
 element_nodes (Words text span) = text_nodes text
-element_nodes (Raw dash text end span) = text_nodes text
-element_nodes (Remark dash end span) = []
 element_nodes (Variable dash start e last end) = tree.Shown (expression_output e) ∷ []
 
 abbrev pub output_of : List Element → Output
@@ -58,4 +49,14 @@ output_of es = record { parent = None; nodes = flat_map element_nodes es; defini
 -- of a body
 abbrev pub Derives : Marks → List ℕ → Output → Type 0
 Derives m source output = (pieces : List Piece) × IsDivision m pieces Nothing source
-    × ((es : List Element) × AllByRecursion IsElement es × (tokens_of m [] pieces Nothing ≡ yield es Ended) × (output ≡ output_of es))
+    × ((es : List Element) × AllByRecursion IsElement es × (tokens_of m [] [] pieces Nothing ≡ yield es Ended) × (output ≡ output_of es))
+
+-- the source is divided into comments alone, of which it may have none
+abbrev pub IsComment : Piece → Type 0
+IsComment (Text text) = ⊥
+IsComment (Comment dash inside) = Unit {0}
+IsComment (Raw dash opening body closing) = ⊥
+IsComment (Tag kind dash items gap end) = ⊥
+
+abbrev pub IsCommentsAlone : Marks → List ℕ → Type 0
+IsCommentsAlone m source = (pieces : List Piece) × IsDivision m pieces Nothing source × AllByRecursion IsComment pieces

@@ -5,12 +5,11 @@ ghost use Rattle.tera_lexer.specs.Place.{IsWithin};
 ghost use Rattle.tera_lexer.specs.Marks.{marks_of, IsValid};
 ghost use Rattle.tera_base.specs.Errors.{IsMemory};
 ghost use Rattle.tera_parser.specs.Refusal.{Refuses};
-ghost use Rattle.tera_parser.specs.Template.{Derives};
-ghost use Rattle.tera_lexer.specs.Tokens.{Ended};
+ghost use Rattle.tera_parser.specs.Template.{Derives, IsCommentsAlone};
 ghost use Rattle.tera_lexer.specs.Tokens as toks;
 ghost use Rattle.tera_lexer.specs.Seen.{seen};
 ghost use Rattle.tera_lexer.specs.Cursors.{IsLater, RefusesFrom, TellsAt};
-ghost use Rattle.tera_parser.specs.Gives.{GivesEnd, GivesTag, GivesElement, ReadsBody, IsNoBody, RefusesIn};
+ghost use Rattle.tera_parser.specs.Gives.{GivesEnd, GivesTag, GivesElement, ReadsBody, IsNoBody, AreEmptyTexts, RefusesIn};
 
 use crate::build;
 use std::alloc::Global;
@@ -83,7 +82,7 @@ impl<'a> Parser<'a> {
         ensures complete { (output : Output) → Derives self.entry.marks self.entry.source output →
             MatchResult result (λ o. output_view o ≡ output) IsMemory }
         ensures refusal { IfErr result (Refuses self.entry.marks self.entry.source) }
-        ensures empty { self.entry.source ≡ [] → IsOk result }
+        ensures empty { IsCommentsAlone self.entry.marks self.entry.source → IsOk result }
     {
         let tokens = tokenize(self.alloc, self.source, self.delimiters);
         let mut cursor = Cursor::new(tokens);
@@ -102,7 +101,7 @@ fn body(alloc: Global, cursor: &mut Cursor<'_>) -> Result<Vec<Node>, Error>
     ensures ok { IfOk result (λ v. ReadsBody cursor.old.left v.items) }
     ensures err { IfErr result (λ e. IsMemory e ⊎ IsNoBody cursor.old.left) }
     ensures refusal { IfErr result (RefusesIn cursor.old.source cursor.old.left) }
-    ensures empty { IfErr result (λ e. cursor.old.left ≢ Ended) }
+    ensures empty { IfErr result (λ e. AreEmptyTexts cursor.old.left → ⊥) }
 {
     let mut nodes = Vec::new(alloc);
     while let Some((token, span)) = cursor.next()? {
@@ -125,11 +124,10 @@ fn element(
     ensures gives { GivesElement (seen token.entry) span.now cursor.old result cursor.new }
     ensures refusal { IfErr result (RefusesIn cursor.old.source (toks.Token (seen token.entry) span.now cursor.old.left)) }
     ensures source { IfOk result (λ _. cursor.new.source ≡ cursor.old.source) }
+    ensures empty { IfErr result (λ _. seen token.entry ≢ toks.Content []) }
 {
     match token {
         Token::Content(text) => Ok(build::content(alloc, text)?),
-        Token::RawContent(_, text, _) => Ok(build::content(alloc, text)?),
-        Token::Comment(..) => Ok(None),
         Token::VariableStart(_) => Ok(Some(Node::Expression(variable_tag(alloc, cursor)?))),
         _ => Err(Error::syntax_error(alloc, "Not read yet", span)),
     }

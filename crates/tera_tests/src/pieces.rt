@@ -58,7 +58,7 @@ fn markers(texts: [&'static str; 6]) -> Delimiters {
 }
 
 #[test]
-fn texts_stay_untouched_beside_tags(rt: HostRuntime) -> Result<(), Fail> {
+fn dashes_of_tags_trim_the_texts_beside_them(rt: HostRuntime) -> Result<(), Fail> {
     for (source, wanted) in [
         ("", ""),
         (" a}} %}\n", "0..8 Content(\" a}} %}\\n\")"),
@@ -66,10 +66,14 @@ fn texts_stay_untouched_beside_tags(rt: HostRuntime) -> Result<(), Fail> {
             "{{-1}}",
             "0..3 VariableStart(true); 3..4 Integer(1); 4..6 VariableEnd(false)",
         ),
-        ("a  {{-", "0..3 Content(\"a  \"); 3..6 VariableStart(true)"),
+        ("a  {{-", "0..3 Content(\"a\"); 3..6 VariableStart(true)"),
         (
             "{{ -}}  b",
-            "0..2 VariableStart(false); 3..6 VariableEnd(true); 6..9 Content(\"  b\")",
+            "0..2 VariableStart(false); 3..6 VariableEnd(true); 6..9 Content(\"b\")",
+        ),
+        (
+            "{{ -}} \u{a0}\n{{-",
+            "0..2 VariableStart(false); 3..6 VariableEnd(true); 6..10 Content(\"\"); 10..13 VariableStart(true)",
         ),
         (
             "{%- if -%}",
@@ -90,16 +94,26 @@ fn texts_stay_untouched_beside_tags(rt: HostRuntime) -> Result<(), Fail> {
 }
 
 #[test]
-fn comments_tell_their_dashes(rt: HostRuntime) -> Result<(), Fail> {
+fn comments_are_empty_texts_whose_dashes_trim(rt: HostRuntime) -> Result<(), Fail> {
     for (source, wanted) in [
-        ("{##}", "0..4 Comment(false, false)"),
+        ("{##}", "0..4 Content(\"\")"),
+        ("{# {{ #} ", "0..8 Content(\"\"); 8..9 Content(\" \")"),
         (
-            "{# {{ #} ",
-            "0..8 Comment(false, false); 8..9 Content(\" \")",
+            "a {#-#} b",
+            "0..2 Content(\"a\"); 2..7 Content(\"\"); 7..9 Content(\" b\")",
         ),
-        ("{#-#}", "0..5 Comment(true, false)"),
-        ("{#--#}", "0..6 Comment(true, true)"),
-        ("{# a -#}", "0..8 Comment(false, true)"),
+        (
+            " {#--#} ",
+            "0..1 Content(\"\"); 1..7 Content(\"\"); 7..8 Content(\"\")",
+        ),
+        (
+            "a {# -#} b",
+            "0..2 Content(\"a \"); 2..8 Content(\"\"); 8..10 Content(\"b\")",
+        ),
+        (
+            "a {#- b",
+            "0..2 Content(\"a \"); 2..5 Closing comment tag `#}` not found",
+        ),
         (
             "a{# b",
             "0..1 Content(\"a\"); 1..3 Closing comment tag `#}` not found",
@@ -113,24 +127,33 @@ fn comments_tell_their_dashes(rt: HostRuntime) -> Result<(), Fail> {
 }
 
 #[test]
-fn inner_dashes_trim_a_raw_body(rt: HostRuntime) -> Result<(), Fail> {
+fn inner_and_outer_dashes_trim_a_raw_body(rt: HostRuntime) -> Result<(), Fail> {
     for (source, wanted) in [
         (
             "{% raw %}{% raw %}x{% endraw %}",
-            "0..31 RawContent(false, \"{% raw %}x\", false)",
+            "0..31 Content(\"{% raw %}x\")",
         ),
         (
             "{% raw -%}  {{ x }}  {%- endraw %}",
-            "0..34 RawContent(false, \"{{ x }}\", false)",
+            "0..34 Content(\"{{ x }}\")",
         ),
         (
-            "{%- raw %} {# a {% endraw -%}",
-            "0..29 RawContent(true, \" {# a \", true)",
+            " {%- raw %} {# a {% endraw -%} ",
+            "0..1 Content(\"\"); 1..30 Content(\" {# a \"); 30..31 Content(\"\")",
         ),
         (
-            "{%-- raw%}a{%endraw-%}",
-            "0..22 RawContent(true, \"a\", true)",
+            "{#-#}{% raw %} a {% endraw %}{#-",
+            "0..5 Content(\"\"); 5..29 Content(\" a \"); 29..32 Closing comment tag `#}` not found",
         ),
+        (
+            "{#--#}{% raw %} a {% endraw %}{#-#}",
+            "0..6 Content(\"\"); 6..30 Content(\"a\"); 30..35 Content(\"\")",
+        ),
+        (
+            " {%- raw %}x",
+            "0..1 Content(\" \"); 1..4 unexpected end of raw block",
+        ),
+        ("{%-- raw%}a{%endraw-%}", "0..22 Content(\"a\")"),
         ("{% raw %}x", "0..2 unexpected end of raw block"),
         ("{%- raw %}x{% endraw", "0..3 unexpected end of raw block"),
     ] {
@@ -173,10 +196,7 @@ fn an_end_of_two_blanks_closes_behind_a_dash_alone(rt: HostRuntime) -> Result<()
             "0..2 TagStart(false); 2..3 Ident(\"a\"); 3..6 TagEnd(true)",
         ),
         ("{%raw  ", "0..2 TagStart(false); 2..5 Ident(\"raw\")"),
-        (
-            "{%raw-  { {%endraw-  ",
-            "0..21 RawContent(false, \"{ \", true)",
-        ),
+        ("{%raw-  { {%endraw-  ", "0..21 Content(\"{ \")"),
     ] {
         expect_ended_by(&rt, rt.alloc(), "  ", source, wanted)?;
     }
@@ -201,11 +221,7 @@ fn an_end_marker_goes_before_operators(rt: HostRuntime) -> Result<(), Fail> {
             "« ---- ",
             "0..2 VariableStart(false); 3..6 VariableEnd(true); 6..8 Content(\"- \")",
         ),
-        (
-            "--",
-            "{%raw---a{%endraw---",
-            "0..20 RawContent(false, \"a\", true)",
-        ),
+        ("--", "{%raw---a{%endraw---", "0..20 Content(\"a\")"),
         (
             "--",
             "{%raw--",

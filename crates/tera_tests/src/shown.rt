@@ -27,6 +27,16 @@ fn shows_trees(rt: HostRuntime) -> Result<(), Fail> {
         ("{% raw -%}  {{ x }}  {%- endraw %}", "text \"{{ x }}\"\n"),
         ("{% raw %}{% endraw %}", ""),
         ("{{- a -}}", "expr a\n"),
+        ("{{- a -}} b {{- c }}", "expr a\ntext \"b\"\nexpr c\n"),
+        ("{{x -}}{# c #}  t", "expr x\ntext \"t\"\n"),
+        ("{{x -}}  {# c #}  t", "expr x\ntext \"  t\"\n"),
+        ("a  {# c -#}  b", "text \"a  \"\ntext \"b\"\n"),
+        ("{{ a }}  {#- c #}  b", "expr a\ntext \"  b\"\n"),
+        (
+            "a  {%- raw %}  x  {% endraw -%}  b",
+            "text \"a\"\ntext \"  x  \"\ntext \"b\"\n",
+        ),
+        ("{{ a -}}\u{a0}b", "expr a\ntext \"b\"\n"),
         ("a\t\"\\\r }} {b", "text \"a\\t\\\"\\\\\\r }} {b\"\n"),
     ] {
         let mut written = Vec::new(rt.alloc());

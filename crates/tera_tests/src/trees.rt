@@ -46,9 +46,11 @@ fn a_constant_at_the_limit(rt: HostRuntime) -> Result<(), Fail> {
 }
 
 #[test]
-fn nothing_in_an_empty_source(rt: HostRuntime) -> Result<(), Fail> {
-    let output = Parser::new(rt.alloc(), "page", "", Delimiters::default()).parse()?;
-    assert_eq!(rt; output.nodes.len(), 0);
+fn nothing_in_a_source_of_comments_alone(rt: HostRuntime) -> Result<(), Fail> {
+    for source in ["", "{# a #}", "{#- a #}{##}{#--#}"] {
+        let output = Parser::new(rt.alloc(), "page", source, Delimiters::default()).parse()?;
+        assert_eq!(rt; output.nodes.len(), 0);
+    }
     Ok(())
 }
 

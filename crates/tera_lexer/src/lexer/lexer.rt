@@ -7,18 +7,19 @@ ghost use Rattle.tera_lexer.specs.Marks.{marks_of, end_marker, IsValid};
 ghost use Rattle.tera_lexer.specs.Place.{place_after, span_of, IsWithin};
 ghost use Rattle.tera_lexer.specs.Lexeme.{StopsAt, is_at_end};
 ghost use Rattle.tera_lexer.specs.Left.{start_of, left_of, item_count};
-ghost use Rattle.tera_lexer.specs.Tokens.{AreTokensOf, Finish, trimmed};
+ghost use Rattle.tera_lexer.specs.Trimming.{trimmed};
+ghost use Rattle.tera_lexer.specs.Tokens.{AreTokensOf, Finish};
 ghost use Rattle.tera_lexer.specs.Seen.{seen};
 ghost use Rattle.tera_lexer.specs.Front.{front_of};
 ghost use Rattle.tera_lexer.specs.Found.{IsEscapedAt};
 ghost use Rattle.tera_lexer.specs.Markers.{IsStartOf, IsEndOf, OpensBy};
 ghost use Rattle.tera_base.specs.Errors.{Tells};
-ghost use Rattle.tera_lexer.specs.Steps.{Steps, whole_of};
+ghost use Rattle.tera_lexer.specs.Steps.{Steps, IsPart, whole_of};
 
 use crate::lexer::delimiters::{Delimiters, Kind};
 use crate::lexer::lexeme::{Class, Fault, Found, lexeme_at, run_len, unescape};
 use crate::lexer::markers::{
-    WordTag, dash_len, end_at, find_marker, raw_end, start_at, text_len, word_tag_at,
+    WordTag, dash_len, end_at, find_marker, raw_end, start_at, starts_dashed, text_len, word_tag_at,
 };
 use crate::lexer::place::Place;
 use crate::lexer::tokens::Token;
@@ -31,7 +32,8 @@ use tera_base::{Error, Span};
 /// An item is an error at a lexical fault, which is a syntax error with its place, and at a string with escapes
 /// for which no memory is found. After an error none comes. The other tokens take no memory.
 ///
-/// A text and a raw body are as they stand in the source: white space between pieces is not trimmed.
+/// A text loses the white space at its start or at its end where a dash of its neighbours says so. The body of a
+/// raw piece is a text too, and a comment an empty one. The span of each is that of the whole piece.
 #[derive(Drop)]
 pub struct Tokens<'a> {
     source: &'a str,
@@ -39,6 +41,7 @@ pub struct Tokens<'a> {
     delimiters: Delimiters,
     place: Place,
     tag: Option<Kind>,
+    trim: bool,
     failed: bool,
 }
 
@@ -71,6 +74,7 @@ pub fn tokenize(alloc: Global, input: &str, delimiters: Delimiters) -> Tokens<'_
             byte: 0,
         },
         tag: None,
+        trim: false,
         failed: false,
     }
 }
@@ -173,7 +177,10 @@ impl<'a> Tokens<'a> {
             return Some(self.comment(dash));
         }
         let len = text_len(rest, &self.delimiters);
-        let (text, span) = self.advance(len);
+        let (text, behind) = rest.split_at(len);
+        let text = trimmed(text, self.trim, starts_dashed(behind, &self.delimiters));
+        let (_, span) = self.advance(len);
+        self.trim = false;
         Some(Ok((Token::Content(text), span)))
     }
 
@@ -224,9 +231,13 @@ impl<'a> Tokens<'a> {
         };
         let whole = start + opening.len + (len + (self.delimiters.block_start.len() + closing.len));
         let (text, _) = body.split_at(len);
-        let text = trimmed(text, opening.dash_out, closing.dash_in);
+        let (_, behind) = self.rest().split_at(whole);
+        let trim_start = opening.dash_out || self.trim;
+        let trim_end = closing.dash_in || starts_dashed(behind, &self.delimiters);
+        let text = trimmed(text, trim_start, trim_end);
         let (_, span) = self.advance(whole);
-        Ok((Token::RawContent(dash, text, closing.dash_out), span))
+        self.trim = closing.dash_out;
+        Ok((Token::Content(text), span))
     }
 
     // A comment.
@@ -247,7 +258,8 @@ impl<'a> Tokens<'a> {
         let dash_end = inside.ends_with(b"-");
         let whole = start + (len + end.len());
         let (_, span) = self.advance(whole);
-        Ok((Token::Comment(dash, dash_end), span))
+        self.trim |= dash_end;
+        Ok((Token::Content(""), span))
     }
 
     // The next token inside a tag.
@@ -301,6 +313,7 @@ impl<'a> Tokens<'a> {
         let len = self.delimiters.end(kind).len() + dash_len(dash);
         let (_, span) = self.advance(len);
         self.tag = None;
+        self.trim = dash;
         (end_token(kind, dash), span)
     }
 
@@ -345,7 +358,8 @@ fn end_token(kind: Kind, dash: bool) -> Token<'static>
 
 // The text without the white space at its start and at its end, where asked.
 fn trimmed(text: &str, start: bool, end: bool) -> &str
-    ensures { result.now ≡ trimmed start end text.now }
+    ensures value { result.now ≡ trimmed start end text.now }
+    ensures part { IsPart result.now text.now }
 {
     let text = if start { text.trim_start() } else { text };
     if end { text.trim_end() } else { text }

@@ -6,7 +6,8 @@ ghost use Rattle.std.specs.Str.{IsCharBoundary};
 ghost use Rattle.tera_lexer.specs.Marks.{marks_of, AreTexts, IsValid, begins, NowhereIn, dash_bytes};
 ghost use Rattle.tera_lexer.specs.Division.{is_at_start, EndsText};
 ghost use Rattle.tera_lexer.specs.Front.{find_marker, word_tag_at, raw_end};
-ghost use Rattle.tera_lexer.specs.Markers.{IsStartOf, IsEndOf, IsWordTagOf, IsRawEndOf, IsRawCut};
+ghost use Rattle.tera_lexer.specs.Left.{starts_dashed};
+ghost use Rattle.tera_lexer.specs.Markers.{IsStartOf, IsEndOf, IsWordTagOf, IsRawEndOf, IsRawCut, is_block_piece, is_comment};
 
 use crate::lexer::delimiters::Delimiters;
 use crate::lexer::lexeme::{Class, run_len};
@@ -98,6 +99,50 @@ pub(crate) fn find_marker(bytes: &[u8], marker: &[u8]) -> Option<usize>
         }
     }
     None
+}
+
+/// Whether the piece that begins the text begins with a dash. A tag is one even where it never ends or a fault
+/// stands in it; a comment or a raw piece that never closes is none.
+pub(crate) fn starts_dashed(rest: &str, delimiters: &Delimiters) -> bool
+    requires { IsValid (marks_of delimiters.now) }
+    ensures { result ≡ starts_dashed (marks_of delimiters.now) rest.now }
+{
+    if let Some(dash) = start_at(rest, delimiters.variable_start.as_str()) {
+        return dash;
+    }
+    if let Some(dash) = start_at(rest, delimiters.block_start.as_str()) {
+        let start = delimiters.block_start.len() + dash_len(dash);
+        let (_, behind) = rest.as_bytes().split_at(start);
+        return dash && is_block_piece(behind, delimiters);
+    }
+    if let Some(dash) = start_at(rest, delimiters.comment_start.as_str()) {
+        let start = delimiters.comment_start.len() + dash_len(dash);
+        let (_, behind) = rest.as_bytes().split_at(start);
+        return dash && is_comment(behind, delimiters);
+    }
+    false
+}
+
+// Whether these bytes behind a block start and its dash make it a piece: they close a raw piece that they open.
+fn is_block_piece(bytes: &[u8], delimiters: &Delimiters) -> bool
+    requires { IsValid (marks_of delimiters.now) }
+    ensures { result ≡ is_block_piece (marks_of delimiters.now) bytes.now }
+{
+    let start = delimiters.block_start.as_str().as_bytes();
+    let end = delimiters.block_end.as_str().as_bytes();
+    let Some(opening) = word_tag_at(bytes, b"raw", end) else {
+        return true;
+    };
+    let (_, body) = bytes.split_at(opening.len);
+    end_between(body, start, end).is_some()
+}
+
+// Whether these bytes behind a comment start and its dash make it a piece: they close it.
+fn is_comment(bytes: &[u8], delimiters: &Delimiters) -> bool
+    ensures { result ≡ is_comment (marks_of delimiters.now) bytes.now }
+{
+    let end = delimiters.comment_end.as_str().as_bytes();
+    find_marker(bytes, end).is_some()
 }
 
 /// A tag that opens or closes a raw piece, behind its block start and the dash of that: whether it begins and

@@ -5,12 +5,12 @@ use std::fmt;
 /// A token of a source, whose texts it borrows.
 #[derive(Debug, PartialEq, Eq, Drop)]
 pub enum Token<'a> {
-    /// A text between tags.
+    /// A text between tags, or the body of a raw piece, each without the white space that dashes trim; and an
+    /// empty text for a comment.
     Content(&'a str),
-    /// A raw piece: whether its start has a dash, its body without the white space that the dashes inside it
-    /// trim, and whether its end has a dash.
+    /// A raw piece before it is trimmed, with the dashes of its start and its end. No source gives it.
     RawContent(bool, &'a str, bool),
-    /// A comment: whether its start has a dash, and whether its end has one.
+    /// A comment as such, with the dashes of its start and its end. No source gives it.
     Comment(bool, bool),
     /// The start of a variable tag, and whether it has a dash.
     VariableStart(bool),

@@ -1,11 +1,11 @@
-use Rattle.std.proofs.Common.{rules, ◌≡◌, ◌≢◌, ◌++◌, ◌∷◌, [], subst}
+use Rattle.std.proofs.Common.{rules, ◌≡◌, ◌++◌, ◌∷◌, [], subst}
 use Rattle.std.specs.Prelude.{◌⊎◌}
 use Rattle.std.proofs.lemmas.List.{append-nil}
-use Rattle.tera_lexer.specs.Tokens.{Ended, Token}
+use Rattle.tera_lexer.specs.Tokens.{Token}
 use Rattle.tera_lexer.specs.Seen.{seen}
 use Rattle.tera_base.specs.Errors.{IsMemory}
-use Rattle.tera_parser.specs.Gives.{IsNoBody, RefusesIn}
-use Rattle.tera_parser.proofs.Bodies.{HasRead, next_read, next_refused, next_err, next_some, next_smaller, stopped_refused, stopped_err, stopped_some}
+use Rattle.tera_parser.specs.Gives.{IsNoBody, AreEmptyTexts, RefusesIn}
+use Rattle.tera_parser.proofs.Bodies.{HasRead, next_read, next_refused, next_err, next_some, next_node, next_smaller, stopped_refused, stopped_err, stopped_some}
 use Rattle.tera_parser.proofs.parsing.body.Goals as goal
 use Rattle.tera_parser.proofs.parsing.body.Goals.{In-Some}
 
@@ -21,7 +21,7 @@ returns-in_err-token-clause-refusal c =
 
 pub returns-in_err-token-clause-empty : goal.returns-in_err-token-clause-empty
 returns-in_err-token-clause-empty c =
-    let fact : c.args.cursor.now.left ≢ Ended = stopped_some _ _ _ _ c.loop-nodes.invariant c.in_err-token.field-0.0 c.in_err-token.ensures.takes.1 in
+    let fact : AreEmptyTexts c.args.cursor.now.left → ⊥ = stopped_some _ _ _ _ c.loop-nodes.invariant c.in_err-token.field-0.0 c.in_err-token.ensures.takes.1 in
     search rules
 
 -- the next token
@@ -48,7 +48,7 @@ returns-in_err-node-clause-refusal c =
 pub returns-in_err-node-clause-empty : goal.returns-in_err-node-clause-empty
 returns-in_err-node-clause-empty c =
     let at = goal.at.returns-in_err-node-clause-empty c in
-    let fact : c.args.cursor.now.left ≢ Ended = next_some _ _ _ _ c.next.new.self _ _ c.loop-nodes.invariant (took at.In-Some) (same at.In-Some) in
+    let fact : AreEmptyTexts c.args.cursor.now.left → ⊥ = next_some _ _ _ _ c.next.new.self _ _ c.loop-nodes.invariant (took at.In-Some) (same at.In-Some) c.in_err-node.ensures.empty in
     search rules
 
 pub loop-nodes-smaller-in-Continue-branch-5 : goal.loop-nodes-smaller-in-Continue-branch-5
@@ -68,7 +68,8 @@ loop-nodes-preserved-in-Continue-branch-5 c =
 pub returns-in_err-push-clause-empty : goal.returns-in_err-push-clause-empty
 returns-in_err-push-clause-empty c =
     let at = goal.at.returns-in_err-push-clause-empty c in
-    let fact : c.args.cursor.now.left ≢ Ended = next_some _ _ _ _ c.next.new.self _ _ c.loop-nodes.invariant (took at.In-Some) (same at.In-Some) in
+    let (e, found, view) = rw c.in-Some-2.is at c.in_ok-node.ensures.gives in
+    let fact : AreEmptyTexts c.args.cursor.now.left → ⊥ = next_node _ _ _ _ c.next.new.self _ _ c.loop-nodes.invariant (took at.In-Some) (same at.In-Some) e c.in-Some-2.node c.element.new.cursor.left found view in
     search rules
 
 pub loop-nodes-smaller : goal.loop-nodes-smaller

@@ -1,11 +1,11 @@
-use Rattle.std.proofs.Common.{◌≡◌, [], ◌∷◌, Some, None, Ok, inr, ap, sym, subst, ◌∙◌, refl, rules}
+use Rattle.std.proofs.Common.{◌≡◌, [], ◌∷◌, Some, Ok, inr, ap, sym, subst, ◌∙◌, rules}
 use Rattle.std.specs.Prelude.{Option, Result}
 use Rattle.tera_lexer.specs.Seen.{seen}
 use Rattle.tera_lexer.specs.Cursors.{Position}
 use Rattle.tera_tree.specs.Tree as tree
 use Rattle.tera_tree.specs.Tree.{Stmt}
 use Rattle.tera_tree.proofs.Views.{view_shown}
-use Rattle.tera_parser.specs.Template.{Element, Words, Raw, Remark, Variable, element_nodes}
+use Rattle.tera_parser.specs.Template.{Element, Words, Variable, element_nodes}
 use Rattle.tera_parser.specs.Reading.{element_at, started}
 use Rattle.tera_parser.specs.Gives.{nodes_view, GivesElement}
 use Rattle.tera_base.specs.declared.utils.Span.{Span}
@@ -13,7 +13,7 @@ use Rattle.tera_base.specs.declared.errors.Error.{Error}
 use Rattle.tera_tree.specs.declared.ast.Node.{Node}
 use Rattle.tera_lexer.specs.declared.lexer.tokens.Token.{Token}
 use Rattle.tera_parser.proofs.parsing.element.Goals as goal
-use Rattle.tera_parser.proofs.parsing.element.Goals.{in-Content+in_ok-content-in-Content, in-RawContent+in_ok-content-in-RawContent, in-Comment, in-VariableStart+in_ok-variable_tag-in-VariableStart, in_default}
+use Rattle.tera_parser.proofs.parsing.element.Goals.{in-Content+in_ok-content-in-Content, in-VariableStart+in_ok-variable_tag-in-VariableStart, in_default}
 
 -- an element that was read
 gives : (given token : Token) (span : Span) (old new : Position) (result : Result (Option Node) Error) (n : Option Node) (e : Element) → given ≡ token → result ≡ Ok n → element_at (seen token) span old.left ≡ Some (e, new.left) → nodes_view n ≡ element_nodes e
@@ -26,21 +26,13 @@ returns-clause-gives c =
     elim c.match-token.branch [
       | in-Content+in_ok-content-in-Content w ↦
           gives c.args.token _ c.args.span.now c.args.cursor.now c.match-token.cursor c.match-token.result w.in_ok-content-in-Content.field-0 (Words w.in-Content.text.now c.args.span.now) w.in-Content.is w.result-is
-          (ap (λ (p : Position). Some (Words w.in-Content.text.now c.args.span.now, p.left)) (sym w.cursor-is)) w.in_ok-content-in-Content.ensures
-      | in-RawContent+in_ok-content-in-RawContent w ↦
-          gives c.args.token _ c.args.span.now c.args.cursor.now c.match-token.cursor c.match-token.result w.in_ok-content-in-RawContent.field-0 (Raw w.in-RawContent.field-0 w.in-RawContent.text.now w.in-RawContent.field-2 c.args.span.now) w.in-RawContent.is w.result-is
-          (ap (λ (p : Position). Some (Raw w.in-RawContent.field-0 w.in-RawContent.text.now w.in-RawContent.field-2 c.args.span.now, p.left)) (sym w.cursor-is)) w.in_ok-content-in-RawContent.ensures
-      | in-Comment w ↦
-          gives c.args.token _ c.args.span.now c.args.cursor.now c.match-token.cursor c.match-token.result None (Remark w.in-Comment.field-0 w.in-Comment.field-1 c.args.span.now) w.in-Comment.is w.result-is
-          (ap (λ (p : Position). Some (Remark w.in-Comment.field-0 w.in-Comment.field-1 c.args.span.now, p.left)) (sym w.cursor-is)) refl
+          (ap (λ (p : Position). Some (Words w.in-Content.text.now c.args.span.now, p.left)) (sym w.cursor-is)) w.in_ok-content-in-Content.ensures.node
       | in-VariableStart+in_ok-variable_tag-in-VariableStart w ↦
           let (e, end, tag, view) = w.in_ok-variable_tag-in-VariableStart.ensures.gives in
           gives c.args.token _ c.args.span.now c.args.cursor.now c.match-token.cursor c.match-token.result _ (Variable w.in-VariableStart.field-0 c.args.span.now e end.0 end.1) w.in-VariableStart.is w.result-is
           (ap (started w.in-VariableStart.field-0 c.args.span.now) tag ∙ ap (λ (p : Position). Some (Variable w.in-VariableStart.field-0 c.args.span.now e end.0 end.1, p.left)) (sym w.cursor-is)) (ap (λ n. n ∷ []) (view_shown _ ∙ ap tree.Shown view))
       | in_default w ↦
           let content = w.in_default.not-Content in
-          let raw = w.in_default.not-RawContent in
-          let comment = w.in_default.not-Comment in
           let start = w.in_default.not-VariableStart in
           rw w.result-is (inr (search rules))
     ]

@@ -8,7 +8,7 @@ use Rattle.tera_tree.specs.View.{node_view, definition_view}
 use Rattle.tera_parser.specs.Template.{Derives}
 use Rattle.tera_parser.specs.Refusal.{Refuses}
 use Rattle.tera_parser.specs.Job.{Job}
-use Rattle.tera_parser.proofs.Wholes.{derives, derives_unique, refused, refuses, empty_tokens}
+use Rattle.tera_parser.proofs.Wholes.{derives, derives_unique, refused, refuses, comments_tokens}
 use Rattle.tera_parser.proofs.parsing.Parser.parse.Goals as goal
 use Rattle.tera_parser.proofs.parsing.Parser.parse.Goals.{After-new-cursor}
 
@@ -38,7 +38,7 @@ returns-in_err-nodes-clause-refusal c =
 pub returns-in_err-nodes-clause-empty : goal.returns-in_err-nodes-clause-empty
 returns-in_err-nodes-clause-empty c = λ empty.
     let at = (goal.at.returns-in_err-nodes-clause-empty c).After-new-cursor in
-    absurd (c.in_err-nodes.ensures.empty (empty_tokens _ (valid at) _ _ (are at) empty))
+    absurd (c.in_err-nodes.ensures.empty (comments_tokens _ (valid at) _ _ (are at) empty))
 
 pub returns-clause-sound : goal.returns-clause-sound
 returns-clause-sound c =

@@ -11,4 +11,4 @@ returns c =
     let n_is : length c.end.result.now + c.dash_len.result ≡ marker_len (end_marker c.args.kind c.args.self.now.marks) c.args.dash
     = λ i. (ap length (c.end.ensures ∙ ap (λ (r : Reading). end_marker c.args.kind r.marks) c.self.view_is)) i + c.dash_len.ensures i in
     end_step c.args.self.now c.requires.going c.args.kind c.requires.inside valid c.requires.stops _ c.end_token.result c.advance.result.1 c.args.dash (length c.end.result.now + c.dash_len.result) c.requires.ends n_is c.end_token.ensures
-    (ap (λ (r : Reading). record r { tag = None }) (c.self-2.view_is ∙ c.advance.ensures.state)) c.advance.ensures.span c.advance.ensures.within
+    (ap (λ (r : Reading). record r { tag = None; trim = c.args.dash }) (c.self-2.view_is ∙ c.advance.ensures.state)) c.advance.ensures.span c.advance.ensures.within

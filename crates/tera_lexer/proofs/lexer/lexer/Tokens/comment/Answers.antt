@@ -1,15 +1,14 @@
-use Rattle.std.proofs.Common.{◌≡◌, ◌++◌, ◌+◌, ◌<◌, List, ℕ, true, Some, length, take, drop, ap, sym, subst, ◌∙◌, arith, Ok, codes, string_bytes}
+use Rattle.std.proofs.Common.{◌≡◌, ◌++◌, ◌+◌, ◌<◌, List, ℕ, true, ◌||◌, Some, length, take, drop, ap, sym, subst, ◌∙◌, arith, codes, string_bytes}
 use Rattle.std.specs.Prelude.{IfOk}
 use Rattle.std.specs.Str.{IsCharBoundary}
 use Rattle.std.proofs.lemmas.List.{length-take-le}
 use Rattle.std.proofs.lemmas.Str.{IsCharBoundary-from_rest}
 use Rattle.tera_lexer.specs.Marks.{IsValid, begins}
 use Rattle.tera_lexer.specs.State.{Reading}
-use Rattle.tera_lexer.specs.Tokens.{ends_dashed, open_comment}
+use Rattle.tera_lexer.specs.Trimming.{ends_dashed}
+use Rattle.tera_lexer.specs.Tokens.{open_comment}
 use Rattle.tera_lexer.specs.Front.{find_marker}
 use Rattle.tera_lexer.specs.Markers.{marker_len}
-use Rattle.tera_lexer.specs.Steps.{Steps}
-use Rattle.tera_lexer.specs.declared.lexer.tokens.Token.TheVariants.{Comment}
 use Rattle.tera_lexer.proofs.TagCuts.{marker_cuts, marker_found}
 use Rattle.tera_lexer.proofs.Readings.{comment_step, open_comment_step}
 use Rattle.tera_lexer.proofs.lexer.lexer.Tokens.comment.Goals as goal
@@ -70,6 +69,7 @@ returns c =
     let taken : length (take c.in-Some.len behind) ≡ c.in-Some.len = length-take-le c.in-Some.len behind (omega (arith, ap length (behind_is at))) in
     let whole : c.len.result + c.dash_len.result + (c.in-Some.len + length c.as_str-end.result.now) ≡ marker_len c.args.self.now.marks.comment_start c.args.dash + (c.in-Some.len + length c.args.self.now.marks.comment_end)
     = λ i. start_is at i + (c.in-Some.len + length (end_is at i)) in
-    subst (λ d. Steps c.args.self.now (Some (Ok (Comment c.args.dash d, c.advance.result.1))) c.advance.new.self) (sym dash)
-    (comment_step c.args.self.now c.requires.going c.requires.outside (valid at) c.args.dash c.requires.starts c.advance.new.self c.advance.result.1 c.in-Some.len _ (sym (found at) ∙ c.in-Some.is) whole taken
-    c.advance.ensures.state c.advance.ensures.span c.advance.ensures.within)
+    let trim : c.self-2.inside.trim || c.ends_with-dash_end.result ≡ c.args.self.now.trim || ends_dashed (take c.in-Some.len behind)
+    = λ i. ap (λ (r : Reading). r.trim) (c.self-2.view_is ∙ c.advance.ensures.state) i || dash i in
+    comment_step c.args.self.now c.requires.going c.requires.outside (valid at) c.args.dash c.requires.starts _ c.advance.result.1 c.in-Some.len _ (sym (found at) ∙ c.in-Some.is) whole taken
+    (λ i. record ((c.self-2.view_is ∙ c.advance.ensures.state) i) { trim = trim i }) c.advance.ensures.span c.advance.ensures.within

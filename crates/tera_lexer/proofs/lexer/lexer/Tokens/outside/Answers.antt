@@ -1,9 +1,12 @@
-use Rattle.std.proofs.Common.{◌≡◌, ℕ, ◌<◌, ◌≤◌, List, length, take, drop, subst, ap, sym, ◌∙◌, arith, false-eqb}
+use Rattle.std.proofs.Common.{◌≡◌, ℕ, ◌<◌, ◌≤◌, List, length, take, drop, subst, ap, sym, ◌∙◌, arith, false, false-eqb}
 use Rattle.std.proofs.lemmas.Bool.Decides.{Decides-eqb}
 use Rattle.std.proofs.lemmas.List.{length-take-le}
 use Rattle.tera_lexer.specs.Marks.{Marks, marks_of, NowhereIn}
 use Rattle.tera_lexer.specs.Division.{is_at_start, EndsText}
+use Rattle.tera_lexer.specs.Trimming.{trimmed}
 use Rattle.tera_lexer.specs.State.{Reading}
+use Rattle.tera_lexer.specs.Left.{starts_dashed}
+use Rattle.tera_lexer.specs.Steps.{IsPart}
 use Rattle.tera_lexer.specs.Markers.{IsStartOf}
 use Rattle.tera_lexer.proofs.Readings.{no_bytes, outside_ends, outside_text}
 use Rattle.tera_lexer.proofs.lexer.lexer.Tokens.outside.Goals as goal
@@ -49,9 +52,14 @@ pub returns : goal.returns
 returns c =
     let at = goal.at.returns c in
     let n = c.text_len-len.result in
-    let plain = subst (λ (m : Marks). NowhereIn (is_at_start m) (take n c.args.self.now.rest) (drop n c.args.self.now.rest)) (marks_is at.Else-is_empty) (subst (λ (l : List ℕ). NowhereIn (is_at_start (marks_of c.self.inside.delimiters)) (take n l) (drop n l)) c.rest-rest.ensures.rest c.text_len-len.ensures.plain) in
-    let stops = subst (λ (m : Marks). EndsText m (drop n c.args.self.now.rest)) (marks_is at.Else-is_empty) (subst (λ (l : List ℕ). EndsText (marks_of c.self.inside.delimiters) (drop n l)) c.rest-rest.ensures.rest c.text_len-len.ensures.stops) in
+    let marks = marks_is at.Else-is_empty in
+    let plain = subst (λ (m : Marks). NowhereIn (is_at_start m) (take n c.args.self.now.rest) (drop n c.args.self.now.rest)) marks (subst (λ (l : List ℕ). NowhereIn (is_at_start (marks_of c.self.inside.delimiters)) (take n l) (drop n l)) c.rest-rest.ensures.rest c.text_len-len.ensures.plain) in
+    let stops = subst (λ (m : Marks). EndsText m (drop n c.args.self.now.rest)) marks (subst (λ (l : List ℕ). EndsText (marks_of c.self.inside.delimiters) (drop n l)) c.rest-rest.ensures.rest c.text_len-len.ensures.stops) in
     let fits = subst (λ (l : List ℕ). n ≤ length l) c.rest-rest.ensures.rest c.text_len-len.ensures.cut.0 in
-    outside_text c.args.self.now c.requires.going c.requires.outside c.rest-rest.ensures.valid c.advance.new.self c.advance.result.0 c.advance.result.1 n (some at.Else-is_empty)
+    let front : c.split_at.result.0.now ≡ take n c.args.self.now.rest = c.split_at.ensures.front ∙ ap (take n) c.rest-rest.ensures.rest in
+    let behind : c.split_at.result.1.now ≡ drop n c.args.self.now.rest = c.split_at.ensures.back ∙ ap (drop n) c.rest-rest.ensures.rest in
+    let text : c.trimmed-text.result.now ≡ trimmed c.args.self.now.trim (starts_dashed c.args.self.now.marks (drop n c.args.self.now.rest)) (take n c.args.self.now.rest)
+    = c.trimmed-text.ensures.value ∙ (λ i. trimmed (ap (λ (r : Reading). r.trim) c.self.view_is i) ((c.starts_dashed.ensures ∙ (λ j. starts_dashed (marks j) (behind j))) i) (front i)) in
+    outside_text c.args.self.now c.requires.going c.requires.outside c.rest-rest.ensures.valid _ c.trimmed-text.result c.advance.result.1 n (some at.Else-is_empty)
     (rw c.in_default.is at (variable_is at.After-start_at)) (rw c.in_default-start_at.is at (block_is at.After-start_at-2)) (rw c.in_default-start_at-2.is at (comment_is at.After-start_at-3)) plain stops
-    c.advance.ensures.state c.advance.ensures.text (length-take-le n c.args.self.now.rest fits) c.advance.ensures.span c.advance.ensures.within
+    (λ i. record ((c.self-2.view_is ∙ c.advance.ensures.state) i) { trim = false }) text (subst (IsPart c.trimmed-text.result.now) front c.trimmed-text.ensures.part) (length-take-le n c.args.self.now.rest fits) c.advance.ensures.span c.advance.ensures.within

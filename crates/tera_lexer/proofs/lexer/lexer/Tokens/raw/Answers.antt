@@ -1,16 +1,19 @@
-use Rattle.std.proofs.Common.{◌≡◌, ◌+◌, ◌≤◌, List, ℕ, Option, Some, None, length, take, drop, ap, sym, subst, refl, ◌∙◌, arith, false, w64, Fits}
+use Rattle.std.proofs.Common.{◌≡◌, ◌+◌, ◌≤◌, List, ℕ, Option, Some, None, length, take, drop, ap, sym, subst, refl, ◌∙◌, arith, false, ◌||◌, w64, Fits}
 use Rattle.std.specs.Str.{IsCharBoundary}
 use Rattle.std.proofs.lemmas.List.{length-drop}
 use Rattle.std.proofs.lemmas.Str.{IsCharBoundary-from_rest}
 use Rattle.tera_lexer.specs.Marks.{Marks, IsValid, marks_of}
 use Rattle.tera_lexer.specs.State.{Reading}
-use Rattle.tera_lexer.specs.Tokens.{open_raw, trimmed}
+use Rattle.tera_lexer.specs.Left.{starts_dashed}
+use Rattle.tera_lexer.specs.Steps.{IsPart}
+use Rattle.tera_lexer.specs.Tokens.{open_raw}
+use Rattle.tera_lexer.specs.Trimming.{trimmed}
 use Rattle.tera_lexer.specs.Front.{RawEnd, raw_end}
 use Rattle.tera_lexer.specs.declared.lexer.markers.WordTag.{WordTag}
 use Rattle.tera_lexer.specs.Markers.{marker_len, IsRawEndOf, IsRawCut}
 use Rattle.tera_lexer.proofs.Readings.{body_at, open_raw_step, raw_step}
 use Rattle.tera_lexer.proofs.lexer.lexer.Tokens.raw.Goals as goal
-use Rattle.tera_lexer.proofs.lexer.lexer.Tokens.raw.Goals.{After-rest, After-raw_end, After-len-2}
+use Rattle.tera_lexer.proofs.lexer.lexer.Tokens.raw.Goals.{After-rest, After-raw_end, After-len-2, Joined-opening, then-opening, else-opening, Joined-closing, then-closing, else-closing}
 
 marks_is : (c : After-rest) → marks_of c.self.inside.delimiters ≡ c.args.self.now.marks
 marks_is c = ap (λ (r : Reading). r.marks) c.self.view_is
@@ -99,6 +102,27 @@ advance-requires c =
     let at = goal.at.advance-requires c in
     whole_cut at.After-len-2 c.in-Some.len c.in-Some.closing c.in-Some.ensures.cut (body_is at.After-raw_end) (begin_cut at.After-rest)
 
+-- what trims the body
+start_trims : (c : Joined-opening) → c.if-opening.trim_start ≡ c.args.opening.dash_out || c.args.self.now.trim
+start_trims c =
+    let trim : c.self.inside.trim ≡ c.args.self.now.trim = ap (λ (r : Reading). r.trim) c.self.view_is in
+    elim c.if-opening.branch [
+      | then-opening w ↦ w.trim_start-is ∙ w.if-opening.true ∙ ap (λ b. b || c.args.self.now.trim) (sym w.if-opening.true)
+      | else-opening w ↦ w.trim_start-is ∙ trim ∙ ap (λ b. b || c.args.self.now.trim) (sym w.if-opening.false)
+    ]
+
+end_trims : (c : Joined-closing) → c.if-closing.trim_end ≡ c.in-Some.closing.dash_in || starts_dashed c.args.self.now.marks (drop (c.len.result + c.dash_len.result + c.args.opening.len + (c.in-Some.len + (c.len-2.result + c.in-Some.closing.len))) c.args.self.now.rest)
+end_trims c =
+    let n = c.len.result + c.dash_len.result + c.args.opening.len + (c.in-Some.len + (c.len-2.result + c.in-Some.closing.len)) in
+    let marks : marks_of c.self.inside.delimiters ≡ c.args.self.now.marks = ap (λ (r : Reading). r.marks) c.self.view_is in
+    let behind : c.split_at-3.result.1.now ≡ drop n c.args.self.now.rest = c.split_at-3.ensures.back ∙ ap (drop n) c.rest-2.ensures.rest in
+    let next = starts_dashed c.args.self.now.marks (drop n c.args.self.now.rest) in
+    elim c.if-closing.branch [
+      | then-closing w ↦ w.trim_end-is ∙ w.if-closing.true ∙ ap (λ b. b || next) (sym w.if-closing.true)
+      | else-closing w ↦
+          w.trim_end-is ∙ w.starts_dashed-trim_end.ensures ∙ (λ i. starts_dashed (marks i) (behind i)) ∙ ap (λ b. b || next) (sym w.if-closing.false)
+    ]
+
 pub returns : goal.returns
 returns c =
     let at = goal.at.returns c in
@@ -109,6 +133,7 @@ returns c =
     let whole : c.len.result + c.dash_len.result + c.args.opening.len + (c.in-Some.len + (c.len-2.result + c.in-Some.closing.len))
     ≡ marker_len c.args.self.now.marks.block_start c.args.dash + c.args.opening.len + (c.in-Some.len + (length c.args.self.now.marks.block_start + c.in-Some.closing.len))
     = λ i. start i + c.args.opening.len + (c.in-Some.len + ((c.len-2.ensures ∙ ap (λ (r : Reading). length r.marks.block_start) c.self.view_is) i + c.in-Some.closing.len)) in
-    let text = c.trimmed-text.ensures ∙ ap (trimmed c.args.opening.dash_out c.in-Some.closing.dash_in) (c.split_at-2.ensures.front ∙ ap (take c.in-Some.len) inside) in
-    raw_step c.args.self.now c.requires.going c.requires.outside (valid at.After-rest) c.args.dash c.requires.starts c.args.opening c.requires.opens c.advance.new.self c.trimmed-text.result c.advance.result.1 c.in-Some.len _ c.in-Some.closing ends whole text
-    c.advance.ensures.state c.advance.ensures.span c.advance.ensures.within
+    let body : c.split_at-2.result.0.now ≡ take c.in-Some.len c.requires.opens.1 = c.split_at-2.ensures.front ∙ ap (take c.in-Some.len) inside in
+    let text = c.trimmed-text.ensures.value ∙ (λ i. trimmed (start_trims at.Joined-opening i) (end_trims at.Joined-closing i) (body i)) in
+    raw_step c.args.self.now c.requires.going c.requires.outside (valid at.After-rest) c.args.dash c.requires.starts c.args.opening c.requires.opens _ c.trimmed-text.result c.advance.result.1 c.in-Some.len _ c.in-Some.closing ends whole text
+    (subst (IsPart c.trimmed-text.result.now) body c.trimmed-text.ensures.part) (λ i. record ((c.self-2.view_is ∙ c.advance.ensures.state) i) { trim = c.in-Some.closing.dash_out }) c.advance.ensures.span c.advance.ensures.within

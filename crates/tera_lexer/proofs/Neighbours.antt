@@ -1,0 +1,108 @@
+-- Whether what begins some bytes begins with a dash, so that it trims a text before them.
+use Rattle.std.proofs.Common.{◌≡◌, ◌≤◌, ℕ, Bool, true, false, ◌&&◌, List, [], ◌∷◌, ◌++◌, length, drop, Option, Some, None, ap, sym, subst, ◌∙◌, refl, arith}
+use Rattle.std.proofs.lemmas.List.{drop_at, length-append}
+use Rattle.std.specs.Option.{is_some}
+use Rattle.tera_lexer.specs.Marks.{Marks, IsValid, end_marker, begins}
+use Rattle.tera_lexer.specs.Lexeme.{Item, Close, End, Open, Bad}
+use Rattle.tera_lexer.specs.Raw.{WordTag, word_tag_bytes, raw_word}
+use Rattle.tera_lexer.specs.Division.{Piece, Ending, Starts}
+use Rattle.tera_lexer.specs.Trimming.{trims_end}
+use Rattle.tera_lexer.specs.Front.{inside_of, find_marker, word_tag_at, RawEnd, raw_end, tag_step, comment_step, raw_step, block_step, division_by}
+use Rattle.tera_lexer.specs.Left.{starts_dashed}
+use Rattle.tera_lexer.specs.Markers.{IsWordTagOf, IsRawEndOf, closes_by, is_block_piece, is_comment}
+use Rattle.tera_lexer.specs.declared.lexer.markers.WordTag.{WordTag as WordTagOfCode}
+use Rattle.tera_lexer.specs.declared.lexer.delimiters.Kind.{Kind}
+use Rattle.tera_lexer.specs.declared.lexer.delimiters.Kind.TheVariants.{Variable, Block}
+use Rattle.tera_lexer.proofs.WordTags.{IsTagAt, word_tag_stands, word_tag_splits}
+use Rattle.tera_lexer.proofs.Divisions.{at_variable, at_block, at_comment}
+
+trims : List Piece × Ending → Bool
+trims d = trims_end d.0 d.1
+
+and_true : (b : Bool) → b ≡ (b && true)
+and_true true = refl
+and_true false = refl
+
+and_false : (b : Bool) → false ≡ (b && false)
+and_false true = refl
+and_false false = refl
+
+module _ (go : List ℕ → List Piece × Ending) (dash : Bool) where
+  tag_trims : (kind : Kind) (items : List Item) (close : Close) → trims (tag_step go kind dash items close) ≡ dash
+  unfolding trims
+  tag_trims kind items (End gap end rest) = refl
+  tag_trims kind items (Open gap) = refl
+  tag_trims kind items (Bad gap fault at) = refl
+
+  comment_trims : (m : Marks) (behind : List ℕ) (o : Option ℕ) → trims (comment_step go m dash behind o) ≡ (dash && is_some o)
+  unfolding trims
+  comment_trims m behind None = and_false dash
+  comment_trims m behind (Some n) = and_true dash
+
+  raw_trims : (opening : WordTag) (inside : List ℕ) (o : Option RawEnd) → trims (raw_step go dash opening inside o) ≡ (dash && is_some o)
+  unfolding trims
+  raw_trims opening inside None = and_false dash
+  raw_trims opening inside (Some e) = and_true dash
+
+  block_trims : (m : Marks) (behind : List ℕ) (o : Option (WordTag × List ℕ)) → trims (block_step go m dash behind o) ≡ (dash && closes_by m o)
+  block_trims m behind None = tag_trims Block (inside_of (end_marker Block m) behind).0 (inside_of (end_marker Block m) behind).1 ∙ and_true dash
+  block_trims m behind (Some p) = raw_trims p.0 p.1 (raw_end m.block_start m.block_end false p.1)
+
+module _ (m : Marks) (valid : IsValid m) (bytes : List ℕ) where
+  pub variable_dashed : (dash : Bool) (behind : List ℕ) → Starts m.variable_start dash bytes behind → starts_dashed m bytes ≡ dash
+  unfolding trims
+  variable_dashed dash behind starts =
+      ap trims (at_variable m valid (length bytes) dash bytes behind starts) ∙ tag_trims (division_by (length bytes) m) dash Variable (inside_of (end_marker Variable m) behind).0 (inside_of (end_marker Variable m) behind).1
+
+  pub block_dashed : (dash : Bool) (behind : List ℕ) → Starts m.block_start dash bytes behind → starts_dashed m bytes ≡ (dash && is_block_piece m behind)
+  unfolding trims
+  block_dashed dash behind starts =
+      ap trims (at_block m valid (length bytes) dash bytes behind starts) ∙ block_trims (division_by (length bytes) m) dash m behind (word_tag_at raw_word m.block_end behind)
+
+  pub comment_dashed : (dash : Bool) (behind : List ℕ) → Starts m.comment_start dash bytes behind → starts_dashed m bytes ≡ (dash && is_comment m behind)
+  unfolding trims
+  comment_dashed dash behind starts =
+      ap trims (at_comment m valid (length bytes) dash bytes behind starts) ∙ comment_trims (division_by (length bytes) m) dash m behind (find_marker m.comment_end behind)
+
+  -- a text has no dash, and neither has the end of the source
+  pub nothing_dashed : begins m.variable_start bytes ≡ false → begins m.block_start bytes ≡ false → begins m.comment_start bytes ≡ false → starts_dashed m bytes ≡ false
+  unfolding division_by
+  nothing_dashed variable block comment = by bytes variable block comment
+    where
+      by : (bytes : List ℕ) → begins m.variable_start bytes ≡ false → begins m.block_start bytes ≡ false → begins m.comment_start bytes ≡ false → starts_dashed m bytes ≡ false
+      by [] variable block comment = refl
+      by (b ∷ bs) variable block comment = rw (variable, block, comment) refl
+
+-- behind the tag that opens a raw piece stands its body
+module _ (m : Marks) (bytes : List ℕ) (tag : WordTagOfCode) where
+  tag_splits : (o : Option (WordTag × List ℕ)) → word_tag_at raw_word m.block_end bytes ≡ o → IsWordTagOf raw_word m.block_end (Some tag) o
+      → (t : WordTag) × (body : List ℕ) × (o ≡ Some (t, body)) × (bytes ≡ word_tag_bytes raw_word m.block_end t ++ body) × (tag.len ≡ length (word_tag_bytes raw_word m.block_end t))
+  tag_splits None e is = absurd is
+  tag_splits (Some p) e is =
+      let stands : IsTagAt raw_word m.block_end bytes (Some p) = subst (IsTagAt raw_word m.block_end bytes) e (word_tag_stands raw_word m.block_end bytes) in
+      (p.0, p.1, refl, word_tag_splits raw_word m.block_end p.0 bytes p.1 stands, is.2)
+
+  pub tag_fits : IsWordTagOf raw_word m.block_end (Some tag) (word_tag_at raw_word m.block_end bytes) → tag.len ≤ length bytes
+  tag_fits is =
+      let (t, body, e, splits, len) = tag_splits (word_tag_at raw_word m.block_end bytes) refl is in
+      omega (arith, ap length splits, length-append (word_tag_bytes raw_word m.block_end t) body, len)
+
+  pub closes_here : IsWordTagOf raw_word m.block_end (Some tag) (word_tag_at raw_word m.block_end bytes) → (o : Option (ℕ × WordTagOfCode)) → IsRawEndOf m.block_end o (raw_end m.block_start m.block_end false (drop tag.len bytes))
+      → is_some o ≡ is_block_piece m bytes
+  closes_here is o ends =
+      let (t, body, e, splits, len) = tag_splits (word_tag_at raw_word m.block_end bytes) refl is in
+      let begins : drop tag.len bytes ≡ body = ap (drop tag.len) splits ∙ drop_at (word_tag_bytes raw_word m.block_end t) body tag.len (sym len) in
+      same o (raw_end m.block_start m.block_end false (drop tag.len bytes)) ends ∙ ap (λ l. is_some (raw_end m.block_start m.block_end false l)) begins ∙ ap (closes_by m) (sym e)
+    where
+      same : (o : Option (ℕ × WordTagOfCode)) (e : Option RawEnd) → IsRawEndOf m.block_end o e → is_some o ≡ is_some e
+      same None None ends = refl
+      same (Some p) (Some e) ends = refl
+      same None (Some e) ends = absurd ends
+      same (Some p) None ends = absurd ends
+
+pub opens_nothing : (m : Marks) (bytes : List ℕ) → IsWordTagOf raw_word m.block_end None (word_tag_at raw_word m.block_end bytes) → true ≡ is_block_piece m bytes
+opens_nothing m bytes is = by (word_tag_at raw_word m.block_end bytes) is
+  where
+    by : (o : Option (WordTag × List ℕ)) → IsWordTagOf raw_word m.block_end None o → true ≡ closes_by m o
+    by None is = refl
+    by (Some p) is = absurd is
