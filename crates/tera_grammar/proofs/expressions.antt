@@ -1,0 +1,20 @@
+pub mod Fronts
+pub mod Quiet
+pub mod Longer
+pub mod FoundRows
+pub mod FoundParts
+pub mod FoundAtoms
+pub mod FoundLoop
+pub mod Unrolled
+pub mod ReadRows
+pub mod ReadParts
+pub mod Complete
+pub mod Outermost
+pub mod Wholes
+pub mod Only
+mod Examples
+pub mod Steps
+pub mod Later
+pub mod Peeks
+pub mod Numbers
+pub mod Repeated

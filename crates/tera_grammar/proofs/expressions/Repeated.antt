@@ -1,0 +1,87 @@
+-- Names that are met one after another: the first that is met again makes them not distinct, whatever follows.
+use Rattle.std.proofs.Common.{◌≡◌, ◌⊎◌, inl, inr, ⊎_elim, ℕ, Bool, true, false, not, ◌&&◌, ◌||◌, List, [], ◌∷◌, ◌++◌, bytes_eq, refl, sym, ap, ◌∙◌}
+use Rattle.std.proofs.lemmas.Slice.Eq.{bytes_eq-Decides}
+use Rattle.std.proofs.lemmas.List.Folds.{list_any-append}
+use Rattle.tera_base.specs.declared.utils.Span.{Span}
+use Rattle.tera_grammar.specs.expressions.Concrete.{Name, Row, then, argument, Tree}
+use Rattle.tera_grammar.specs.expressions.Words.{is_one_of, are_distinct}
+use Rattle.tera_grammar.specs.expressions.Conditions.{names}
+
+and_false : (b : Bool) → (b && false) ≡ false
+and_false true = refl
+and_false false = refl
+
+or_either : (a b : Bool) → (a || b) ≡ true → (a ≡ true) ⊎ (b ≡ true)
+or_either true b h = inl refl
+or_either false b h = inr h
+
+or_neither : (a b : Bool) → (a || b) ≡ false → (a ≡ false) × (b ≡ false)
+or_neither true b h = cc
+or_neither false b h = (refl, h)
+
+or_second : (a b : Bool) → b ≡ true → (a || b) ≡ true
+or_second true b h = refl
+or_second false b h = h
+
+and_both : (a b : Bool) → (a && b) ≡ true → (a ≡ true) × (b ≡ true)
+and_both true b h = (refl, h)
+and_both false b h = cc
+
+not_true : (b : Bool) → not b ≡ true → b ≡ false
+not_true true h = cc
+not_true false h = refl
+
+same_both : (a b : List ℕ) → bytes_eq a b ≡ true → bytes_eq b a ≡ true
+same_both a b h = (bytes_eq-Decides b a).1 (sym ((bytes_eq-Decides a b).0 h))
+
+other_of : (a b : List ℕ) → bytes_eq a b ≡ false → (v : Bool) → bytes_eq b a ≡ v → v ≡ false
+other_of a b h true e = let clash : true ≡ false = sym (same_both b a e) ∙ h in cc
+other_of a b h false e = refl
+
+other_both : (a b : List ℕ) → bytes_eq a b ≡ false → bytes_eq b a ≡ false
+other_both a b h = let e = other_of a b h (bytes_eq b a) refl in e
+
+is_behind : (ds more : List (List ℕ)) (n d : List ℕ) → bytes_eq n d ≡ true → is_one_of (ds ++ n ∷ more) d ≡ true
+is_behind ds more n d h =
+    list_any-append (λ m. bytes_eq d m) ds (n ∷ more) ∙ or_second (is_one_of ds d) (bytes_eq d n || is_one_of more d) (rw (same_both n d h))
+
+-- a name that is met again
+pub twice : (done more : List (List ℕ)) (n : List ℕ) → is_one_of done n ≡ true → are_distinct (done ++ n ∷ more) ≡ false
+twice [] more n h = cc
+twice (d ∷ ds) more n h =
+    ⊎_elim (λ (here : bytes_eq n d ≡ true). ap (λ b. not b && are_distinct (ds ++ n ∷ more)) (is_behind ds more n d here))
+    (λ (later : is_one_of ds n ≡ true). ap (λ b. not (is_one_of (ds ++ n ∷ more) d) && b) (twice ds more n later)
+    ∙ and_false (not (is_one_of (ds ++ n ∷ more) d)))
+    (or_either (bytes_eq n d) (is_one_of ds n) h)
+
+not_behind : (ds : List (List ℕ)) (n d : List ℕ) → is_one_of ds d ≡ false → bytes_eq n d ≡ false → is_one_of (ds ++ n ∷ []) d ≡ false
+not_behind ds n d none other = list_any-append (λ m. bytes_eq d m) ds (n ∷ []) ∙ rw (none, other_both n d other)
+
+-- a name that is met for the first time
+pub once : (done : List (List ℕ)) (n : List ℕ) → are_distinct done ≡ true → is_one_of done n ≡ false → are_distinct (done ++ n ∷ []) ≡ true
+once [] n distinct h = refl
+once (d ∷ ds) n distinct h =
+    let (first, rest) = and_both (not (is_one_of ds d)) (are_distinct ds) distinct in
+    let (other, none) = or_neither (bytes_eq n d) (is_one_of ds n) h in
+    ap (λ b. not b && are_distinct (ds ++ n ∷ [])) (not_behind ds n d (not_true (is_one_of ds d) first) other) ∙ once ds n rest none
+
+-- an argument in front of others
+pub record Given : Type 0 where
+  pub name : Name
+  pub assign : Span
+  pub value : Tree
+  pub comma : Span
+
+-- a row of arguments that begins with these
+pub in_front : List Given → Row → Row
+in_front [] row = row
+in_front (g ∷ gs) row = then (argument g.name g.assign g.value) g.comma (in_front gs row)
+
+pub given_names : List Given → List (List ℕ)
+given_names [] = []
+given_names (g ∷ gs) = g.name.text ∷ given_names gs
+
+pub names_in_front : (gs : List Given) (row : Row) → names (in_front gs row) ≡ given_names gs ++ names row
+unfolding in_front given_names
+names_in_front [] row = refl
+names_in_front (g ∷ gs) row = ap (λ ns. g.name.text ∷ ns) (names_in_front gs row)

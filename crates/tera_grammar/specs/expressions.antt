@@ -1,0 +1,12 @@
+pub mod Operators
+pub mod Marks
+pub mod Concrete
+pub mod Powers
+pub mod Measures
+pub mod Spans
+pub mod Words
+pub mod Output
+pub mod Conditions
+pub mod Constants
+pub mod Companions
+pub mod Reading

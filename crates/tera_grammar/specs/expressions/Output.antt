@@ -1,0 +1,257 @@
+-- What an expression is read as. The first argument of most of these says whether the expression stands in
+-- a loop.
+use Rattle.std.specs.Prelude.{ℕ, ℤ, Bool, true, false, ◌&&◌, cond, nat_eq, pos, negsuc, neg_ℤ, List, [], ◌++◌, Option, Some, None, codes}
+use Rattle.std.specs.Str.{bytes_eq}
+use Rattle.std.specs.Ordering.{nat_cmp, match_ordering}
+use Rattle.std.specs.Cmp.Lexicographic.{slice_cmp}
+use Rattle.tera_base.specs.Values as values
+use Rattle.tera_base.specs.declared.utils.Span.{Span}
+use Rattle.tera_tree.specs.declared.ast.BinaryOperator.TheVariants as binary
+use Rattle.tera_tree.specs.declared.ast.UnaryOperator.TheVariants as unary
+use Rattle.tera_tree.specs.Tree as tree
+use Rattle.tera_base.specs.Values.{KeyVal, TextKey, I64Key, TruthKey, Val, Vals, Pairs, NoPairs}
+use Rattle.tera_tree.specs.Tree.{Expr}
+use Rattle.tera_grammar.specs.expressions.Operators.{operator_made}
+use Rattle.tera_grammar.specs.expressions.Concrete.{Name, Lit, Number, Quoted, Escaped, Truth, Nothing, Sign, Negative, Negates, Joint, plain_dot, optional_dot, Bracket, plain_bracket, optional_bracket, Negation, plainly, negated, Second, no_second, second, Dotted, no_dots, dots, Op, Single, NotIn, Tree, Atomic, Prefix, Suffixed, Infix, Atom, Literal, Chain, Call, Paren, Array, Comprehension, Map, Component, Links, no_links, field, item, Sub, index, slice, Part, absent, present, Extra, no_extra, extra, Row, ended, only, then, Element, plain, spread, pair, argument, Attributes, no_attributes, bare, quoted, valued, spreading, Suffix, Test, Filter, Subscript, Args, no_args, args, Operator, Binary, Condition}
+use Rattle.tera_grammar.specs.expressions.Spans.{spanning, sign_span, row_end, args_end, first, last}
+use Rattle.tera_grammar.specs.expressions.Words.{is_loop}
+
+abbrev pub literal_value : Lit → Val
+literal_value (Number n) = values.I64 n
+literal_value (Quoted text) = values.Text text
+literal_value (Escaped text) = values.Text text
+literal_value (Truth b) = values.Truth b
+literal_value (Nothing word) = values.Nothing
+
+-- the key that a literal is; a word for no value is none
+abbrev pub key_of : Lit → KeyVal
+key_of (Number n) = I64Key n
+key_of (Quoted text) = TextKey text
+key_of (Escaped text) = TextKey text
+key_of (Truth b) = TruthKey b
+key_of (Nothing word) = TextKey word
+
+abbrev pub same_number : ℤ → ℤ → Bool
+same_number (pos a) (pos b) = nat_eq a b
+same_number (negsuc a) (negsuc b) = nat_eq a b
+same_number _ _ = false
+
+abbrev pub same_truth : Bool → Bool → Bool
+same_truth true true = true
+same_truth false false = true
+same_truth _ _ = false
+
+abbrev pub same_key : KeyVal → KeyVal → Bool
+same_key (TextKey a) (TextKey b) = bytes_eq a b
+same_key (I64Key a) (I64Key b) = same_number a b
+same_key (TruthKey a) (TruthKey b) = same_truth a b
+same_key _ _ = false
+
+-- a new key goes last; a key that is there keeps its place and takes the later value
+abbrev pub put_pair : KeyVal → Val → Pairs → Pairs
+put_pair k v NoPairs = values.OnePair k v NoPairs
+put_pair k v (values.OnePair l u ps) = cond (same_key k l) (values.OnePair l v ps) (values.OnePair l u (put_pair k v ps))
+
+-- the argument stands where the byte order of the names puts it
+abbrev pub put_arg : List ℕ → Expr → tree.Args → tree.Args
+put_arg n e tree.NoArgs = tree.Arg n e tree.NoArgs
+put_arg n e (tree.Arg m f rest) =
+    match_ordering (slice_cmp nat_cmp n m) (tree.Arg n e (tree.Arg m f rest)) (tree.Arg m e rest) (tree.Arg m f (put_arg n e rest))
+
+-- the constants that the items are, where all are constants
+abbrev pub with_value : Val → Option Vals → Option Vals
+with_value v None = None
+with_value v (Some vs) = Some (values.OneVal v vs)
+
+abbrev pub constant_items : tree.Items → Option Vals
+constant_items tree.NoItems = Some values.NoVals
+constant_items (tree.Item (tree.Const v s) is) = with_value v (constant_items is)
+constant_items _ = None
+
+-- the pairs of constants that the entries are, put behind those that are there
+abbrev pub constant_entries : tree.Entries → Pairs → Option Pairs
+constant_entries tree.NoEntries ps = Some ps
+constant_entries (tree.Entry k (tree.Const v s) es) ps = constant_entries es (put_pair k v ps)
+constant_entries _ ps = None
+
+abbrev pub array_made : tree.Items → Span → Option Vals → Expr
+array_made is span (Some vs) = tree.Const (values.Array vs) span
+array_made is span None = tree.Array is span
+
+abbrev pub array_of : tree.Items → Span → Expr
+array_of is span = array_made is span (constant_items is)
+
+abbrev pub map_made : tree.Entries → Span → Option Pairs → Expr
+map_made es span (Some ps) = tree.Const (values.Map ps) span
+map_made es span None = tree.Map es span
+
+abbrev pub map_of : tree.Entries → Span → Expr
+map_of es span = map_made es span (constant_entries es NoPairs)
+
+-- a minus before a whole number is that number's negation
+abbrev pub prefixed : Sign → Expr → Span → Expr
+prefixed (Negative s) (tree.Const (values.I64 n) t) span = tree.Const (values.I64 (neg_ℤ n)) span
+prefixed (Negative s) e span = tree.UnaryOperation unary.Minus e span
+prefixed (Negates s) e span = tree.UnaryOperation unary.Not e span
+
+abbrev pub is_unary : Expr → Bool
+is_unary (tree.UnaryOperation o e span) = true
+is_unary _ = false
+
+abbrev pub is_constant : Expr → Bool
+is_constant (tree.Const v span) = true
+is_constant _ = false
+
+-- where an expression stands
+abbrev pub place_of : Expr → Span
+place_of (tree.Const v s) = s
+place_of (tree.Var n s) = s
+place_of (tree.GetAttr e n o s) = s
+place_of (tree.GetItem e i o s) = s
+place_of (tree.Slice e a b c o s) = s
+place_of (tree.UnaryOperation o e s) = s
+place_of (tree.BinaryOperation o a b s) = s
+place_of (tree.Test e n g s) = s
+place_of (tree.Filter e n g s) = s
+place_of (tree.FunctionCall n g s) = s
+place_of (tree.Ternary c a b s) = s
+place_of (tree.Array is s) = s
+place_of (tree.Map es s) = s
+place_of (tree.ListComprehension e k v t c s) = s
+place_of (tree.ComponentCall n es b o s) = s
+
+abbrev pub is_optional_joint : Joint → Bool
+is_optional_joint (plain_dot s) = false
+is_optional_joint (optional_dot s) = true
+
+abbrev pub is_optional_bracket : Bracket → Bool
+is_optional_bracket (plain_bracket s) = false
+is_optional_bracket (optional_bracket s) = true
+
+-- whether the fields of a chain are those of a loop: it stands in one and begins with `loop`
+abbrev pub of_loop : Bool → Name → Bool
+of_loop in_loop n = in_loop && is_loop n.text
+
+-- a field of an expression; one of a loop is a variable of its own
+abbrev pub field_output : Bool → Expr → Joint → Name → Expr
+field_output true e d n = tree.Var (codes "__tera_loop_" ++ n.text) n.span
+field_output false e d n = tree.GetAttr e n.text (is_optional_joint d) n.span
+
+abbrev pub negation_output : Negation → Expr → Span → Expr
+negation_output plainly e span = e
+negation_output (negated s) e span = tree.UnaryOperation unary.Not e span
+
+abbrev pub op_output : Op → Expr → Expr → Span → Expr
+op_output (Single o s) a b span = tree.BinaryOperation (operator_made o) a b span
+op_output (NotIn s t) a b span = tree.UnaryOperation unary.Not (tree.BinaryOperation binary.In a b span) span
+
+-- the variables of a comprehension: of two the first is that of the keys
+abbrev pub key_variable : Name → Second → Option (List ℕ)
+key_variable n no_second = None
+key_variable n (second s m) = Some n.text
+
+abbrev pub value_variable : Name → Second → List ℕ
+value_variable n no_second = n.text
+value_variable n (second s m) = m.text
+
+abbrev pub dotted_text : Dotted → List ℕ
+dotted_text no_dots = []
+dotted_text (dots s n ds) = codes "." ++ (n.text ++ dotted_text ds)
+
+abbrev pub component_text : Name → Dotted → List ℕ
+component_text n ds = n.text ++ dotted_text ds
+
+abbrev mutual
+  pub output : Bool → Tree → Expr
+  output l (Atomic a) = atom_output l a
+  output l (Prefix s e) = prefixed s (output l e) (spanning (sign_span s) (last e))
+  output l (Suffixed a s) = suffix_output l (first a) (output l a) s
+  output l (Infix a o b) = operator_output l (spanning (first a) (last b)) (output l a) o (output l b)
+
+  pub atom_output : Bool → Atom → Expr
+  atom_output l (Literal x s) = tree.Const (literal_value x) s
+  atom_output l (Chain n ls) = links_output l (of_loop l n) (tree.Var n.text n.span) ls
+  atom_output l (Call n s row) = tree.FunctionCall n.text (arguments_output l row tree.NoArgs) (spanning n.span (row_end row))
+  atom_output l (Paren s e t) = output l e
+  atom_output l (Array s row) = array_of (items_output l row) (spanning s (row_end row))
+  atom_output l (Comprehension s e f n m i t g c) =
+      tree.ListComprehension (output l e) (key_variable n m) (value_variable n m) (output l t) (extra_output l g) (spanning s c)
+  atom_output l (Map s row) = map_of (entries_output l row) (spanning s (row_end row))
+  atom_output l (Component s n ds ats t u) =
+      tree.ComponentCall (component_text n ds) (attributes_output l ats) tree.NoNodes true (spanning s u)
+
+  -- a chain up to here, and its further links
+  pub links_output : Bool → Bool → Expr → Links → Expr
+  links_output l c e no_links = e
+  links_output l c e (field d n ls) = links_output l c (field_output c e d n) ls
+  links_output l c e (item b s ls) = links_output l c (sub_output l (is_optional_bracket b) e s) ls
+
+  pub sub_output : Bool → Bool → Expr → Sub → Expr
+  sub_output l o e (index i c) = tree.GetItem e (output l i) o (spanning (place_of e) c)
+  sub_output l o e (slice a s b x c) = tree.Slice e (part_output l a) (part_output l b) (extra_output l x) o
+      (spanning (place_of e) c)
+
+  pub part_output : Bool → Part → tree.MaybeExpr
+  part_output l absent = tree.NoExpr
+  part_output l (present e) = tree.OneExpr (output l e)
+
+  pub extra_output : Bool → Extra → tree.MaybeExpr
+  extra_output l no_extra = tree.NoExpr
+  extra_output l (extra s e) = tree.OneExpr (output l e)
+
+  -- the arguments, put to those before them
+  pub arguments_output : Bool → Row → tree.Args → tree.Args
+  arguments_output l (ended s) rest = rest
+  arguments_output l (only x s) rest = argument_output l x rest
+  arguments_output l (then x s xs) rest = arguments_output l xs (argument_output l x rest)
+
+  pub argument_output : Bool → Element → tree.Args → tree.Args
+  argument_output l (argument n s e) rest = put_arg n.text (output l e) rest
+  argument_output l (plain e) rest = rest
+  argument_output l (spread s e) rest = rest
+  argument_output l (pair x s t e) rest = rest
+
+  pub items_output : Bool → Row → tree.Items
+  items_output l (ended s) = tree.NoItems
+  items_output l (only x s) = item_output l x tree.NoItems
+  items_output l (then x s xs) = item_output l x (items_output l xs)
+
+  pub item_output : Bool → Element → tree.Items → tree.Items
+  item_output l (plain e) is = tree.Item (output l e) is
+  item_output l (spread s e) is = tree.SpreadItem (output l e) is
+  item_output l (pair x s t e) is = is
+  item_output l (argument n s e) is = is
+
+  pub entries_output : Bool → Row → tree.Entries
+  entries_output l (ended s) = tree.NoEntries
+  entries_output l (only x s) = entry_output l x tree.NoEntries
+  entries_output l (then x s xs) = entry_output l x (entries_output l xs)
+
+  pub entry_output : Bool → Element → tree.Entries → tree.Entries
+  entry_output l (pair x s t e) es = tree.Entry (key_of x) (output l e) es
+  entry_output l (spread s e) es = tree.SpreadEntry (output l e) es
+  entry_output l (plain e) es = es
+  entry_output l (argument n s e) es = es
+
+  pub attributes_output : Bool → Attributes → tree.Entries
+  attributes_output l no_attributes = tree.NoEntries
+  attributes_output l (bare n ats) = tree.Entry (TextKey n.text) (tree.Var n.text n.span) (attributes_output l ats)
+  attributes_output l (quoted n s x t ats) = tree.Entry (TextKey n.text) (tree.Const (literal_value x) t)
+      (attributes_output l ats)
+  attributes_output l (valued n s b e c ats) = tree.Entry (TextKey n.text) (output l e) (attributes_output l ats)
+  attributes_output l (spreading b s e c ats) = tree.SpreadEntry (output l e) (attributes_output l ats)
+
+  -- a suffix behind an operand that begins here
+  pub suffix_output : Bool → Span → Expr → Suffix → Expr
+  suffix_output l start e (Test s n w g) =
+      negation_output n (tree.Test e w.text (args_output l g) (spanning w.span (args_end w g))) (spanning start (args_end w g))
+  suffix_output l start e (Filter s w g) = tree.Filter e w.text (args_output l g) (spanning w.span (args_end w g))
+  suffix_output l start e (Subscript s b) = sub_output l false e b
+
+  pub args_output : Bool → Args → tree.Args
+  args_output l no_args = tree.NoArgs
+  args_output l (args s row) = arguments_output l row tree.NoArgs
+
+  pub operator_output : Bool → Span → Expr → Operator → Expr → Expr
+  operator_output l span a (Binary o) b = op_output o a b span
+  operator_output l span a (Condition s c t) b = tree.Ternary (output l c) a b span

@@ -1,0 +1,107 @@
+-- The powers of the operators, and what stands on the spines of an expression.
+use Rattle.std.specs.Prelude.{◌≡◌, ℕ, ◌<◌, ◌≤◌, List, [], ◌∷◌}
+use Rattle.std.specs.List.{AllByRecursion}
+use Rattle.tera_grammar.specs.expressions.Operators.{BinaryOperator, Mul, Div, Mod, Plus, Minus, FloorDiv, Power, LessThan, GreaterThan, LessThanOrEqual, GreaterThanOrEqual, Equal, NotEqual, And, Or, StrConcat, In}
+use Rattle.tera_grammar.specs.expressions.Concrete.{Sign, Negative, Negates, Op, Single, NotIn, Tree, Atomic, Prefix, Suffixed, Infix, Chain, Suffix, Test, Filter, Subscript, Operator, Binary, Condition}
+
+-- how strongly a binary operator holds its left operand, and its right one
+abbrev pub left_of : BinaryOperator → ℕ
+left_of Or = 1
+left_of And = 3
+left_of In = 5
+left_of Equal = 7
+left_of NotEqual = 7
+left_of LessThan = 7
+left_of LessThanOrEqual = 7
+left_of GreaterThan = 7
+left_of GreaterThanOrEqual = 7
+left_of Plus = 11
+left_of Minus = 11
+left_of Mul = 13
+left_of Div = 13
+left_of Mod = 13
+left_of StrConcat = 13
+left_of FloorDiv = 13
+left_of Power = 16
+
+abbrev pub right_of : BinaryOperator → ℕ
+right_of Or = 2
+right_of And = 4
+right_of In = 6
+right_of Equal = 8
+right_of NotEqual = 8
+right_of LessThan = 8
+right_of LessThanOrEqual = 8
+right_of GreaterThan = 8
+right_of GreaterThanOrEqual = 8
+right_of Plus = 12
+right_of Minus = 12
+right_of Mul = 14
+right_of Div = 14
+right_of Mod = 14
+right_of StrConcat = 14
+right_of FloorDiv = 14
+right_of Power = 15
+
+abbrev pub op_left : Op → ℕ
+op_left (Single o s) = left_of o
+op_left (NotIn s t) = left_of In
+
+abbrev pub op_right : Op → ℕ
+op_right (Single o s) = right_of o
+op_right (NotIn s t) = right_of In
+
+abbrev pub left_power : Operator → ℕ
+left_power (Binary o) = op_left o
+left_power (Condition s c t) = 0
+
+abbrev pub right_power : Operator → ℕ
+right_power (Binary o) = op_right o
+right_power (Condition s c t) = 0
+
+-- a test holds its operand with power 5, a filter with 17
+abbrev pub sign_power : Sign → ℕ
+sign_power (Negative s) = 20
+sign_power (Negates s) = 5
+
+-- The left powers on the left spine, from the root down. The spine passes through a subscript, which has none.
+abbrev pub left_spine : Tree → List ℕ
+left_spine (Atomic a) = []
+left_spine (Prefix s e) = []
+left_spine (Suffixed a (Test s n w g)) = 5 ∷ left_spine a
+left_spine (Suffixed a (Filter s w g)) = 17 ∷ left_spine a
+left_spine (Suffixed a (Subscript s b)) = left_spine a
+left_spine (Infix a o b) = left_power o ∷ left_spine a
+
+-- the right powers on the right spine, from the root down
+abbrev pub right_spine : Tree → List ℕ
+right_spine (Atomic a) = []
+right_spine (Prefix s e) = sign_power s ∷ right_spine e
+right_spine (Suffixed a s) = []
+right_spine (Infix a o b) = right_power o ∷ right_spine b
+
+-- each node on the left spine has a left power of at least m
+abbrev pub AtLeast : ℕ → Tree → Type 0
+AtLeast m t = AllByRecursion (λ p. m ≤ p) (left_spine t)
+
+-- each node on the right spine has a right power above p
+abbrev pub Above : ℕ → Tree → Type 0
+Above p t = AllByRecursion (λ r. p < r) (right_spine t)
+
+-- it is no name with its links
+abbrev pub NoChain : Tree → Type 0
+NoChain (Atomic (Chain n ls)) = ⊥
+NoChain _ = Unit {0}
+
+-- the operand may stand before this suffix
+abbrev pub Carries : Tree → Suffix → Type 0
+Carries a (Test s n w g) = Above 5 a
+Carries a (Filter s w g) = Above 17 a
+Carries a (Subscript s b) = (right_spine a ≡ []) × NoChain a
+
+-- it does not begin with a prefix
+abbrev pub BeginsPlain : Tree → Type 0
+BeginsPlain (Atomic a) = Unit {0}
+BeginsPlain (Prefix s e) = ⊥
+BeginsPlain (Suffixed a s) = BeginsPlain a
+BeginsPlain (Infix a o b) = BeginsPlain a

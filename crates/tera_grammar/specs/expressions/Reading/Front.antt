@@ -1,0 +1,168 @@
+-- What tokens begin with.
+use Rattle.std.specs.Prelude.{ℕ, zero, suc, Bool, true, false, cond, ltb, List, [], ◌∷◌, Option, Some, None}
+use Rattle.std.specs.Str.{bytes_eq}
+use Rattle.tera_base.specs.declared.utils.Span.{Span}
+use Rattle.tera_lexer.specs.Tokens as toks
+use Rattle.tera_lexer.specs.Tokens.{Tok, Items, Token, Ident, Symbol}
+use Rattle.tera_grammar.specs.expressions.Operators.{Mul, Div, Mod, Plus, Minus, FloorDiv, Power, LessThan, GreaterThan, LessThanOrEqual, GreaterThanOrEqual, Equal, NotEqual, And, Or, StrConcat, In}
+use Rattle.tera_grammar.specs.expressions.Marks.{Mark, mark_token, LeftParen, LeftBracket, QuestionBracket, LeftBrace, Dot, QuestionDot, Bar, Not, Is, If, Operation, Other}
+use Rattle.tera_grammar.specs.expressions.Concrete.{Name, Lit, Number, Quoted, Escaped, Truth, Op, Single, NotIn, Joint, plain_dot, optional_dot, Bracket, plain_bracket, optional_bracket}
+use Rattle.tera_grammar.specs.expressions.Powers.{op_left}
+
+infixl 10 ◌>>=◌
+abbrev pub ◌>>=◌ : {A B : Type 0} → Option A → (A → Option B) → Option B
+None >>= f = None
+(Some x) >>= f = f x
+
+-- Where the reading stands: how many links may still come, and the tokens that are not yet taken.
+pub record Place : Type 0 where
+  pub links : ℕ
+  pub tokens : Items
+
+abbrev pub at : ℕ → Items → Place
+at k ts = record { links = k; tokens = ts }
+
+-- what is read, and the place behind it
+abbrev pub Reads : Type 0 → Type 0
+Reads A = Option (A × Place)
+
+abbrev pub same_token : Tok → Tok → Bool
+same_token (Ident a) (Ident b) = bytes_eq a b
+same_token (Symbol a) (Symbol b) = bytes_eq a b
+same_token _ _ = false
+
+-- which of the marks a token is
+abbrev pub among : List Mark → Tok → Mark
+among [] t = Other
+among (m ∷ ms) t = cond (same_token t (mark_token m)) m (among ms t)
+
+-- the span of a mark that the tokens begin with, and the tokens behind it
+abbrev pub takes : Mark → Items → Option (Span × Items)
+takes m (Token t s us) = cond (same_token t (mark_token m)) (Some (s, us)) None
+takes m _ = None
+
+abbrev pub moved : {A : Type 0} → ℕ → Option (A × Items) → Reads A
+moved k None = None
+moved k (Some x) = Some (x.0, at k x.1)
+
+-- a mark that has to stand there
+unfoldable pub skip : Mark → Place → Reads Span
+skip m p = moved p.links (takes m p.tokens)
+
+abbrev pub lowered : ℕ → Option ℕ
+lowered zero = None
+lowered (suc n) = Some n
+
+-- one link more, where one may still come
+unfoldable pub bump : Place → Option Place
+bump p = lowered p.links >>= λ k. Some (at k p.tokens)
+
+-- a name
+abbrev pub taken_name : Items → Option (Name × Items)
+taken_name (Token (Ident w) s us) = Some (record { text = w; span = s }, us)
+taken_name _ = None
+
+unfoldable pub name_of : Place → Reads Name
+name_of p = moved p.links (taken_name p.tokens)
+
+-- a literal that is a key, and one that is a string
+abbrev pub literal_of : Tok → Option Lit
+literal_of (toks.Integer n) = Some (Number n)
+literal_of (toks.Str text) = Some (Quoted text)
+literal_of (toks.Escaped text) = Some (Escaped text)
+literal_of (toks.Truth b) = Some (Truth b)
+literal_of _ = None
+
+abbrev pub taken_literal : (Lit → Bool) → Items → Option ((Lit × Span) × Items)
+taken_literal test (Token t s us) = literal_of t >>= λ l. cond (test l) (Some ((l, s), us)) None
+taken_literal test _ = None
+
+unfoldable pub literal_by : (Lit → Bool) → Place → Reads (Lit × Span)
+literal_by test p = moved p.links (taken_literal test p.tokens)
+
+-- how a link begins, with the tokens behind it; a call is none
+pub data Link : Type 0 where
+  no_link : Link
+  jointed : Joint → Items → Link
+  bracketed : Bracket → Items → Link
+  called : Link
+
+abbrev pub link_marks : List Mark
+link_marks = Dot ∷ QuestionDot ∷ LeftBracket ∷ QuestionBracket ∷ LeftParen ∷ []
+
+abbrev pub marked_link : Mark → Span → Items → Link
+marked_link Dot s us = jointed (plain_dot s) us
+marked_link QuestionDot s us = jointed (optional_dot s) us
+marked_link LeftBracket s us = bracketed (plain_bracket s) us
+marked_link QuestionBracket s us = bracketed (optional_bracket s) us
+marked_link LeftParen s us = called
+marked_link _ s us = no_link
+
+unfoldable pub link_of : Items → Link
+link_of (Token t s us) = marked_link (among link_marks t) s us
+link_of _ = no_link
+
+-- how an operator, or a suffix, begins
+pub data Lead : Type 0 where
+  leads_binary : Op → Lead
+  leads_condition : Span → Lead
+
+pub data Ending : Type 0 where
+  ends_test ends_filter ends_subscript : Span → Ending
+
+-- what the tokens behind an operand begin with; a `not` that is no `not in` is misplaced
+pub data Front : Type 0 where
+  nothing : Front
+  joins : Lead → Items → Front
+  closes : Ending → Items → Front
+  misplaced : Front
+
+abbrev pub lead_power : Lead → ℕ
+lead_power (leads_binary o) = op_left o
+lead_power (leads_condition s) = 0
+
+-- whether the power m keeps the suffix out; it never keeps a subscript out
+abbrev pub keeps_out : ℕ → Ending → Bool
+keeps_out m (ends_test s) = ltb 5 m
+keeps_out m (ends_filter s) = ltb 17 m
+keeps_out m (ends_subscript s) = false
+
+abbrev pub front_marks : List Mark
+front_marks =
+    Operation Or ∷ Operation And ∷ Operation In ∷ Not ∷ Is ∷ If ∷ Bar ∷ LeftBracket ∷ Operation Equal ∷ Operation NotEqual
+    ∷ Operation LessThan
+    ∷ Operation LessThanOrEqual ∷ Operation GreaterThan ∷ Operation GreaterThanOrEqual ∷ Operation Plus ∷ Operation Minus
+    ∷ Operation Mul
+    ∷ Operation Div ∷ Operation Mod ∷ Operation StrConcat ∷ Operation FloorDiv ∷ Operation Power ∷ []
+
+abbrev pub front_not : Span → Option (Span × Items) → Front
+front_not s None = misplaced
+front_not s (Some x) = joins (leads_binary (NotIn s x.0)) x.1
+
+abbrev pub marked_front : Mark → Span → Items → Front
+marked_front (Operation o) s us = joins (leads_binary (Single o s)) us
+marked_front Not s us = front_not s (takes (Operation In) us)
+marked_front Is s us = closes (ends_test s) us
+marked_front If s us = joins (leads_condition s) us
+marked_front Bar s us = closes (ends_filter s) us
+marked_front LeftBracket s us = closes (ends_subscript s) us
+marked_front _ s us = nothing
+
+unfoldable pub front_of_token : Tok → Span → Items → Front
+front_of_token t s us = marked_front (among front_marks t) s us
+
+abbrev pub front : Items → Front
+front (Token t s us) = front_of_token t s us
+front _ = nothing
+
+-- how an operand begins, where it is no name and no literal
+abbrev pub head_marks : List Mark
+head_marks = Operation Minus ∷ LeftParen ∷ LeftBracket ∷ LeftBrace ∷ Operation LessThan ∷ []
+
+unfoldable pub head_mark : Tok → Mark
+head_mark t = among head_marks t
+
+-- the tokens begin with a prefix
+unfoldable pub begins_sign : Items → Bool
+begins_sign (Token t s us) = cond (same_token t (mark_token Not)) true (same_token t (mark_token (Operation Minus)))
+begins_sign _ = false

@@ -1,0 +1,124 @@
+//! Laws of the grammar: each function has the law as its promise and does nothing.
+
+ghost use Rattle.std.specs.Prelude.{◌≡◌, ℕ, List, Bool, Some};
+ghost use Rattle.tera_lexer.specs.Tokens.{Items, Ended};
+ghost use Rattle.tera_base.specs.Values.{Vals, Pairs};
+ghost use Rattle.tera_grammar.specs.expressions.Concrete.{Tree, Attributes, yield, attributes_yield};
+ghost use Rattle.tera_grammar.specs.expressions.Conditions.{IsExpression, AreArgs, AreAttributes, IsStop};
+ghost use Rattle.tera_grammar.specs.expressions.Measures.{Limits, Within, EachRow, EachAttribute};
+ghost use Rattle.tera_grammar.specs.expressions.Companions.{
+  Opened,
+  Filtering,
+  Path,
+  kwargs_yield,
+  AreKwargs,
+  filter_yield,
+  EachArgs,
+  path_yield,
+  array_yield,
+  IsArray,
+  ArrayWithin,
+  map_yield,
+  IsMap,
+  EndsAttributes,
+  EndsFilter,
+  EndsPath,
+};
+ghost use Rattle.tera_grammar.specs.expressions.Reading.Whole.{
+  expression_of,
+  kwargs_of,
+  filter_of,
+  all_attributes,
+  path_of,
+  literal_array_of,
+  literal_map_of,
+};
+
+/// What is read as an expression is one, within the limits, and its tokens are those that were taken. Each
+/// expression within the limits is read before a token that ends it. So no other has the same tokens.
+pub fn expressions()
+    ensures sound { (limits : Limits) (in_loop : Bool) (items rest : Items) (e : Tree) →
+        expression_of limits in_loop items ≡ Some (e, rest) →
+        (items ≡ yield e rest) × IsExpression in_loop e × Within limits e }
+    ensures complete { (limits : Limits) (in_loop : Bool) (e : Tree) (rest : Items) →
+        IsExpression in_loop e → Within limits e → IsStop rest →
+        expression_of limits in_loop (yield e rest) ≡ Some (e, rest) }
+    ensures unique { (in_loop : Bool) (one other : Tree) (rest last : Items) →
+        IsExpression in_loop one → IsExpression in_loop other → IsStop rest → IsStop last →
+        yield one rest ≡ yield other last → (one ≡ other) × (rest ≡ last) }
+    ensures alone { (in_loop : Bool) (one other : Tree) → IsExpression in_loop one → IsExpression in_loop other →
+        yield one Ended ≡ yield other Ended → one ≡ other }
+{}
+
+/// The same of the arguments of a call, whatever follows.
+pub fn arguments()
+    ensures sound { (limits : Limits) (in_loop : Bool) (items rest : Items) (x : Opened) →
+        kwargs_of limits in_loop items ≡ Some (x, rest) →
+        (items ≡ kwargs_yield x rest) × AreKwargs in_loop x × EachRow (Within limits) x.row }
+    ensures complete { (limits : Limits) (in_loop : Bool) (x : Opened) (rest : Items) →
+        AreKwargs in_loop x → EachRow (Within limits) x.row →
+        kwargs_of limits in_loop (kwargs_yield x rest) ≡ Some (x, rest) }
+    ensures unique { (in_loop : Bool) (one other : Opened) (rest last : Items) →
+        AreKwargs in_loop one → AreKwargs in_loop other →
+        kwargs_yield one rest ≡ kwargs_yield other last → (one ≡ other) × (rest ≡ last) }
+{}
+
+/// The same of a filter, before a further one or the end of its tag.
+pub fn filters()
+    ensures sound { (limits : Limits) (in_loop : Bool) (items rest : Items) (x : Filtering) →
+        filter_of limits in_loop items ≡ Some (x, rest) →
+        (items ≡ filter_yield x rest) × AreArgs in_loop x.args × EachArgs (Within limits) x.args }
+    ensures complete { (limits : Limits) (in_loop : Bool) (x : Filtering) (rest : Items) →
+        AreArgs in_loop x.args → EachArgs (Within limits) x.args → EndsFilter rest →
+        filter_of limits in_loop (filter_yield x rest) ≡ Some (x, rest) }
+    ensures unique { (in_loop : Bool) (one other : Filtering) (rest last : Items) →
+        AreArgs in_loop one.args → AreArgs in_loop other.args → EndsFilter rest → EndsFilter last →
+        filter_yield one rest ≡ filter_yield other last → (one ≡ other) × (rest ≡ last) }
+{}
+
+/// The same of the attributes of a component, before `/` or `>`.
+pub fn attributes()
+    ensures sound { (limits : Limits) (in_loop : Bool) (items rest : Items) (x : Attributes) →
+        all_attributes limits in_loop items ≡ Some (x, rest) →
+        (items ≡ attributes_yield x rest) × AreAttributes in_loop x × EachAttribute (Within limits) x }
+    ensures complete { (limits : Limits) (in_loop : Bool) (x : Attributes) (rest : Items) →
+        AreAttributes in_loop x → EachAttribute (Within limits) x → EndsAttributes rest →
+        all_attributes limits in_loop (attributes_yield x rest) ≡ Some (x, rest) }
+    ensures unique { (in_loop : Bool) (one other : Attributes) (rest last : Items) →
+        AreAttributes in_loop one → AreAttributes in_loop other → EndsAttributes rest → EndsAttributes last →
+        attributes_yield one rest ≡ attributes_yield other last → (one ≡ other) × (rest ≡ last) }
+{}
+
+/// The same of the name of a component, before all but a dot.
+pub fn component_names()
+    ensures sound { (items rest : Items) (x : Path) → path_of items ≡ Some (x, rest) → items ≡ path_yield x rest }
+    ensures complete { (x : Path) (rest : Items) → EndsPath rest → path_of (path_yield x rest) ≡ Some (x, rest) }
+    ensures unique { (one other : Path) (rest last : Items) → EndsPath rest → EndsPath last →
+        path_yield one rest ≡ path_yield other last → (one ≡ other) × (rest ≡ last) }
+{}
+
+/// The same of an array of constants, whatever follows.
+pub fn literal_arrays()
+    ensures sound { (limits : Limits) (items rest : Items) (x : Opened) (values : Vals) →
+        literal_array_of limits items ≡ Some ((x, values), rest) →
+        (items ≡ array_yield x rest) × IsArray x values × ArrayWithin limits x }
+    ensures complete { (limits : Limits) (x : Opened) (values : Vals) (rest : Items) →
+        IsArray x values → ArrayWithin limits x →
+        literal_array_of limits (array_yield x rest) ≡ Some ((x, values), rest) }
+    ensures unique { (one other : Opened) (values others : Vals) (rest last : Items) →
+        IsArray one values → IsArray other others →
+        array_yield one rest ≡ array_yield other last → (one ≡ other) × (values ≡ others) × (rest ≡ last) }
+{}
+
+/// The same of a map of constants, whatever follows.
+pub fn literal_maps()
+    ensures sound { (limits : Limits) (items rest : Items) (x : Opened) (pairs : Pairs) →
+        literal_map_of limits items ≡ Some ((x, pairs), rest) →
+        (items ≡ map_yield x rest) × IsMap x pairs × EachRow (Within limits) x.row }
+    ensures complete { (limits : Limits) (x : Opened) (pairs : Pairs) (rest : Items) →
+        IsMap x pairs → EachRow (Within limits) x.row →
+        literal_map_of limits (map_yield x rest) ≡ Some ((x, pairs), rest) }
+    ensures unique { (one other : Opened) (pairs others : Pairs) (rest last : Items) →
+        IsMap one pairs → IsMap other others →
+        map_yield one rest ≡ map_yield other last → (one ≡ other) × (pairs ≡ others) × (rest ≡ last) }
+{}
