@@ -18,3 +18,4 @@ pub mod Later
 pub mod Peeks
 pub mod Numbers
 pub mod Repeated
+pub mod Bodiless

@@ -5,7 +5,8 @@ ghost use Rattle.tera_lexer.specs.Tokens.{Items, Ended};
 ghost use Rattle.tera_base.specs.Values.{Vals, Pairs};
 ghost use Rattle.tera_grammar.specs.expressions.Concrete.{Tree, Attributes, yield, attributes_yield};
 ghost use Rattle.tera_grammar.specs.expressions.Conditions.{IsExpression, AreArgs, AreAttributes, IsStop};
-ghost use Rattle.tera_grammar.specs.expressions.Measures.{Limits, Within, EachRow, EachAttribute};
+ghost use Rattle.tera_grammar.specs.Limits.{Limits};
+ghost use Rattle.tera_grammar.specs.expressions.Measures.{Within, EachRow, EachAttribute};
 ghost use Rattle.tera_grammar.specs.expressions.Companions.{
   Opened,
   Filtering,

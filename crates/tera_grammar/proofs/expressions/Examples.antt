@@ -12,7 +12,7 @@ use Rattle.tera_base.specs.Values.{TextKey, NoPairs}
 use Rattle.tera_tree.specs.Tree.{Expr}
 use Rattle.tera_tree.specs.declared.ast.BinaryOperator.TheVariants.{Mul, Plus, Power, StrConcat, In}
 use Rattle.tera_grammar.specs.expressions.Concrete.{Tree}
-use Rattle.tera_grammar.specs.expressions.Measures.{usual}
+use Rattle.tera_grammar.specs.Limits.{usual}
 use Rattle.tera_grammar.specs.expressions.Words.{is_none, is_reserved, is_loop_field}
 use Rattle.tera_grammar.specs.expressions.Output.{output}
 use Rattle.tera_grammar.specs.expressions.Reading.Front.{skip, bump, name_of, literal_by, link_of, front_of_token, head_mark, begins_sign}

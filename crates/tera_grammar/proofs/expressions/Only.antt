@@ -8,7 +8,8 @@ use Rattle.tera_lexer.specs.Cursors.{nowhere}
 use Rattle.tera_grammar.specs.expressions.Marks.{LeftParen, Dot}
 use Rattle.tera_grammar.specs.expressions.Concrete.{Row, ended, Attributes, Args, no_args, args, attributes_yield}
 use Rattle.tera_grammar.specs.expressions.Conditions.{AreAttributes, AreArgs}
-use Rattle.tera_grammar.specs.expressions.Measures.{row_deep, attributes_deep, openings, subscripts, arrays, row_links, attributes_links, Limits, Within, EachRow}
+use Rattle.tera_grammar.specs.Limits.{Limits}
+use Rattle.tera_grammar.specs.expressions.Measures.{row_deep, attributes_deep, openings, subscripts, arrays, row_links, attributes_links, Within, EachRow}
 use Rattle.tera_grammar.specs.expressions.Companions.{Opened, kwargs_yield, AreKwargs, Filtering, filter_yield, EachArgs, Path, path_yield, array_yield, IsArray, ArrayWithin, map_yield, IsMap, EndsAttributes, EndsFilter, EndsPath}
 use Rattle.tera_grammar.specs.expressions.Reading.Front.{takes}
 use Rattle.tera_grammar.specs.expressions.Reading.Whole.{kwargs_of, filter_of, all_attributes, path_of, literal_array_of, literal_map_of}
@@ -35,7 +36,7 @@ path_end r h = path_end_of r h (takes Dot r) refl
 
 -- limits for two
 abbrev for_two : (h k n m s t a b : ℕ) → Limits
-for_two h k n m s t a b = record { depth = h + k; links = n + m; subscripts = s + t; arrays = a + b }
+for_two h k n m s t a b = record { depth = h + k; links = n + m; subscripts = s + t; arrays = a + b; bodies = 0 }
 
 abbrev rows_limits : Row → Row → Limits
 rows_limits a b = for_two (row_deep openings a) (row_deep openings b) (row_links a) (row_links b) (row_deep subscripts a)

@@ -5,7 +5,8 @@ use Rattle.tera_lexer.specs.Tokens.{Items}
 use Rattle.tera_grammar.specs.expressions.Marks.{mark}
 use Rattle.tera_grammar.specs.expressions.Concrete.{Kind, Tree, Row, ended, only, then, Element, plain, spread, pair, argument, Attributes, no_attributes, bare, quoted, valued, spreading, yield}
 use Rattle.tera_grammar.specs.expressions.Conditions.{IsExpression, IsRow, IsElement, AreAttributes}
-use Rattle.tera_grammar.specs.expressions.Measures.{row_deep, element_deep, attributes_deep, openings, subscripts, arrays, links, row_links, element_links, attributes_links, Limits, Within, EachElement, EachRow, EachAttribute}
+use Rattle.tera_grammar.specs.Limits.{Limits}
+use Rattle.tera_grammar.specs.expressions.Measures.{row_deep, element_deep, attributes_deep, openings, subscripts, arrays, links, row_links, element_links, attributes_links, Within, EachElement, EachRow, EachAttribute}
 use Rattle.tera_grammar.specs.expressions.Reading.Front.{Place, at}
 use Rattle.tera_grammar.specs.expressions.Reading.Parts.{Room, Reader}
 use Rattle.tera_grammar.specs.expressions.Reading.Loop.{expr, fresh}
@@ -23,22 +24,22 @@ apart_by zero b le = (b, omega arith)
 apart_by (suc a) zero le = absurd (omega arith)
 apart_by (suc a) (suc b) le = let (j, e) = apart_by a b (omega arith) in (j, omega (arith, e))
 
-abbrev pub limits_in : ℕ → ℕ → Room → Limits
-limits_in d n w = record { depth = d; links = n; subscripts = w.subscripts; arrays = w.arrays }
+abbrev pub limits_in : ℕ → ℕ → ℕ → Room → Limits
+limits_in c d n w = record { depth = d; links = n; subscripts = w.subscripts; arrays = w.arrays; bodies = c }
 
 -- nothing is paid for a value with links of its own
 abbrev pub no_toll : Tree → ℕ
 no_toll t = 0
 
-abbrev pub Fitting : ℕ → ℕ → Room → Tree → Type 0
-Fitting d n w t = Within (limits_in d n w) t
+abbrev pub Fitting : ℕ → ℕ → ℕ → Room → Tree → Type 0
+Fitting c d n w t = Within (limits_in c d n w) t
 
-pub fresh_sound : (d n : ℕ) (f : Reader) → SoundTree d f → Sound no_toll (Fitting d n) d (fresh n f)
+pub fresh_sound : (c d n : ℕ) (f : Reader) → SoundTree d f → Sound no_toll (Fitting c d n) d (fresh n f)
 unfolding fresh
-fresh_sound d n f sound w m p x h =
+fresh_sound c d n f sound w m p x h =
     bound _ _ _ h (λ t read made.
     let found = sound w m (at n p.tokens) t read in
-    subst (λ (y : Tree × Place). Found no_toll (Fitting d n) d w m p y.0 y.1) (same_Some (t.0, at p.links t.1.tokens) x made)
+    subst (λ (y : Tree × Place). Found no_toll (Fitting c d n) d w m p y.0 y.1) (same_Some (t.0, at p.links t.1.tokens) x made)
     (record {
       spelled = found.spelled;
       counted = omega arith;
@@ -74,11 +75,11 @@ ends_read t limits l r is within ends =
           (omega (arith, within.depth), within.few_subscripts, within.few_arrays),
     )
 
-pub fresh_whole : (d n : ℕ) (w : Room) (e : Tree) → IsExpression w.in_loop e → Fitting d n w e
+pub fresh_whole : (c d n : ℕ) (w : Room) (e : Tree) → IsExpression w.in_loop e → Fitting c d n w e
     → Whole (fresh n (expr d)) no_toll w e
 unfolding fresh
-fresh_whole d n w e is fits m stop s k r =
-    let (q, same, read) = ends_read e (limits_in d n w) w.in_loop (mark m s r) is fits (ends_mark m stop s r) in
+fresh_whole c d n w e is fits m stop s k r =
+    let (q, same, read) = ends_read e (limits_in c d n w) w.in_loop (mark m s r) is fits (ends_mark m stop s r) in
     let nothing_paid : 0 + k ≡ k = omega arith in
     ap (λ i. fresh n (expr d) w 0 (at i (yield e (mark m s r)))) nothing_paid ∙ rw read
 
@@ -94,26 +95,26 @@ row_map P Q (ended s) f h = tt
 row_map P Q (only x s) f h = element_map P Q x f h
 row_map P Q (then x s xs) f h = (element_map P Q x f h.0, row_map P Q xs f h.1)
 
-element_whole : (d n : ℕ) (w : Room) (k : Kind) (x : Element) → IsElement w.in_loop k x → EachElement (Fitting d n w) x
+element_whole : (c d n : ℕ) (w : Room) (k : Kind) (x : Element) → IsElement w.in_loop k x → EachElement (Fitting c d n w) x
     → EachElement (Whole (fresh n (expr d)) no_toll w) x
-element_whole d n w k (plain e) is h = fresh_whole d n w e is.1 h
-element_whole d n w k (spread s e) is h = fresh_whole d n w e is.1 h
-element_whole d n w k (pair l s t e) is h = fresh_whole d n w e is.1 h
-element_whole d n w k (argument m s e) is h = fresh_whole d n w e is.1 h
+element_whole c d n w k (plain e) is h = fresh_whole c d n w e is.1 h
+element_whole c d n w k (spread s e) is h = fresh_whole c d n w e is.1 h
+element_whole c d n w k (pair l s t e) is h = fresh_whole c d n w e is.1 h
+element_whole c d n w k (argument m s e) is h = fresh_whole c d n w e is.1 h
 
-pub row_whole : (d n : ℕ) (w : Room) (k : Kind) (row : Row) → IsRow w.in_loop k row → EachRow (Fitting d n w) row
+pub row_whole : (c d n : ℕ) (w : Room) (k : Kind) (row : Row) → IsRow w.in_loop k row → EachRow (Fitting c d n w) row
     → EachRow (Whole (fresh n (expr d)) no_toll w) row
-row_whole d n w k (ended s) is h = tt
-row_whole d n w k (only x s) is h = element_whole d n w k x is h
-row_whole d n w k (then x s xs) is h = (element_whole d n w k x is.0 h.0, row_whole d n w k xs is.1 h.1)
+row_whole c d n w k (ended s) is h = tt
+row_whole c d n w k (only x s) is h = element_whole c d n w k x is h
+row_whole c d n w k (then x s xs) is h = (element_whole c d n w k x is.0 h.0, row_whole c d n w k xs is.1 h.1)
 
-pub attributes_whole : (d n : ℕ) (w : Room) (x : Attributes) → AreAttributes w.in_loop x → EachAttribute (Fitting d n w) x
+pub attributes_whole : (c d n : ℕ) (w : Room) (x : Attributes) → AreAttributes w.in_loop x → EachAttribute (Fitting c d n w) x
     → EachAttribute (Whole (fresh n (expr d)) no_toll w) x
-attributes_whole d n w no_attributes is h = tt
-attributes_whole d n w (bare m ats) is h = attributes_whole d n w ats is h
-attributes_whole d n w (quoted m s l t ats) is h = attributes_whole d n w ats is.1 h
-attributes_whole d n w (valued m s b e c ats) is h = (fresh_whole d n w e is.0 h.0, attributes_whole d n w ats is.1 h.1)
-attributes_whole d n w (spreading b s e c ats) is h = (fresh_whole d n w e is.0 h.0, attributes_whole d n w ats is.1 h.1)
+attributes_whole c d n w no_attributes is h = tt
+attributes_whole c d n w (bare m ats) is h = attributes_whole c d n w ats is h
+attributes_whole c d n w (quoted m s l t ats) is h = attributes_whole c d n w ats is.1 h
+attributes_whole c d n w (valued m s b e t ats) is h = (fresh_whole c d n w e is.0 h.0, attributes_whole c d n w ats is.1 h.1)
+attributes_whole c d n w (spreading b s e t ats) is h = (fresh_whole c d n w e is.0 h.0, attributes_whole c d n w ats is.1 h.1)
 
 element_free_toll : (x : Element) → element_toll no_toll x ≡ 0
 element_free_toll (plain e) = refl

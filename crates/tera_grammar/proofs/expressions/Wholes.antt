@@ -7,7 +7,8 @@ use Rattle.tera_lexer.specs.Tokens.{Items, Ended}
 use Rattle.tera_grammar.specs.expressions.Marks.{LeftParen, LeftBracket, LeftBrace, Dot, mark}
 use Rattle.tera_grammar.specs.expressions.Concrete.{of_arguments, of_items, of_entries, Tree, Row, ended, only, then, Element, plain, spread, pair, argument, Attributes, Args, no_args, args, named, dotted_yield, yield, row_yield, attributes_yield, args_yield}
 use Rattle.tera_grammar.specs.expressions.Conditions.{IsExpression, IsRow, AreAttributes, AreArgs}
-use Rattle.tera_grammar.specs.expressions.Measures.{deep, row_deep, element_deep, subscripts, arrays, height, links, Limits, Within, EachElement, EachRow, EachAttribute}
+use Rattle.tera_grammar.specs.Limits.{Limits}
+use Rattle.tera_grammar.specs.expressions.Measures.{deep, row_deep, element_deep, subscripts, arrays, height, links, Within, EachElement, EachRow, EachAttribute}
 use Rattle.tera_grammar.specs.expressions.Companions.{Opened, kwargs_yield, AreKwargs, Filtering, filter_yield, EachArgs, Path, path_yield, array_yield, array_value, IsArray, ArrayWithin, map_yield, map_value, IsMap}
 use Rattle.tera_grammar.specs.expressions.Reading.Front.{◌>>=◌, Place, at, Reads, takes, skip, link_of}
 use Rattle.tera_grammar.specs.expressions.Reading.Parts.{room, inside_array, row_of, arguments_of, args_at, args_of, attributes_of}
@@ -59,6 +60,7 @@ expression_one l t u r v t_is u_is r_ends v_ends e =
       subscripts = deep subscripts t + deep
           subscripts u;
       arrays = deep arrays t + deep arrays u;
+      bodies = 0;
     } in
     let first = expression_read limits l t r t_is (record {
       depth = omega arith;
@@ -83,8 +85,8 @@ unfolding link_of
 ends_ended = record { front = refl; apart = record { link = refl; call = refl } }
 
 -- Arguments.
-outer_sound : (limits : Limits) → Sound no_toll (Fitting limits.depth limits.links) limits.depth (outermost limits)
-outer_sound limits = fresh_sound limits.depth limits.links (expr limits.depth) (expr_sound limits.depth)
+outer_sound : (limits : Limits) → Sound no_toll (Fitting limits.bodies limits.depth limits.links) limits.depth (outermost limits)
+outer_sound limits = fresh_sound limits.bodies limits.depth limits.links (expr limits.depth) (expr_sound limits.depth)
 
 outer_bars : (limits : Limits) → Bars (outermost limits)
 outer_bars limits = fresh_bars limits.links (expr limits.depth) (expr_bars limits.depth)
@@ -96,7 +98,7 @@ kwargs_found limits l items rest x h =
     let (y, read, is) = left_over_ok _ (x, rest) h in
     bound _ _ _ read (λ s begun more. bound _ _ _ more (λ r inside made.
     let at_open = skip_ok LeftParen (at 0 items) s begun in
-    let (found, distinct) = arguments_found no_toll (Fitting limits.depth limits.links) limits.depth (outermost limits)
+    let (found, distinct) = arguments_found no_toll (Fitting limits.bodies limits.depth limits.links) limits.depth (outermost limits)
     (outer_sound limits) (widest limits l) s.1 r inside in
     let same : (record { mark = s.0; row = r.0 }, r.1.tokens) ≡ (x, rest) = ap (λ (z : Opened × Place). (z.0, z.1.tokens))
     (same_Some _ _ made) ∙ is in
@@ -107,7 +109,7 @@ pub kwargs_read : (limits : Limits) (l : Bool) (x : Opened) (r : Items) → AreK
     → kwargs_of limits l (kwargs_yield x r) ≡ Some (x, r)
 unfolding kwargs_of
 kwargs_read limits l x r is fits =
-    let each = row_whole limits.depth limits.links (widest limits l) of_arguments x.row is.0 fits in
+    let each = row_whole limits.bodies limits.depth limits.links (widest limits l) of_arguments x.row is.0 fits in
     let paid : 0 ≡ row_toll no_toll x.row + 0 = sym (ap (λ i. i + 0) (row_free_toll x.row) ∙ omega arith) in
     let read : arguments_of (outermost limits) (widest limits l) (at 0 (row_yield of_arguments x.row r)) ≡ Some (x.row, at 0 r) =
     ap (λ i. arguments_of (outermost limits) (widest limits l) (at i (row_yield of_arguments x.row r))) paid
@@ -124,7 +126,7 @@ args_found_outer limits l p None is x h =
 args_found_outer limits l p (Some s) is x h =
     bound _ _ _ h (λ r read made.
     let at_open = skip_ok LeftParen p s is in
-    let (found, distinct) = arguments_found no_toll (Fitting limits.depth limits.links) limits.depth (outermost limits)
+    let (found, distinct) = arguments_found no_toll (Fitting limits.bodies limits.depth limits.links) limits.depth (outermost limits)
     (outer_sound limits) (widest limits l) s.1 r read in
     subst (λ (y : Args × Place). (p.tokens ≡ args_yield y.0 y.1.tokens) × AreArgs l y.0 × EachArgs (Within limits) y.0)
     (same_Some (args s.0 r.0, r.1) x made)
@@ -149,7 +151,7 @@ args_read_outer : (limits : Limits) (l : Bool) (g : Args) (r : Items) → AreArg
 args_read_outer limits l no_args r is fits free_of_call = no_args_read (outermost limits) (outer_bars limits) (widest limits l) 0 r
     free_of_call
 args_read_outer limits l (args s row) r is fits free_of_call =
-    let each = row_whole limits.depth limits.links (widest limits l) of_arguments row is.0 fits in
+    let each = row_whole limits.bodies limits.depth limits.links (widest limits l) of_arguments row is.0 fits in
     let paid : 0 ≡ row_toll no_toll row + 0 = sym (ap (λ i. i + 0) (row_free_toll row) ∙ omega arith) in
     args_read (outermost limits) (outer_bars limits) (widest limits l) s row 0 0 (row_yield of_arguments row r) r
     (ap (λ i. arguments_of (outermost limits) (widest limits l) (at i (row_yield of_arguments row r))) paid
@@ -172,7 +174,7 @@ pub attributes_found_whole : (limits : Limits) (l : Bool) (items rest : Items) (
 unfolding all_attributes
 attributes_found_whole limits l items rest x h =
     let (y, read, is) = left_over_ok (attributes_of (outermost limits) (widest limits l) (at 0 items)) (x, rest) h in
-    let found = attributes_found no_toll (Fitting limits.depth limits.links) limits.depth (outermost limits) (outer_sound limits)
+    let found = attributes_found no_toll (Fitting limits.bodies limits.depth limits.links) limits.depth (outermost limits) (outer_sound limits)
     (widest limits l) (at 0 items) y read in
     subst (λ (z : Attributes × Items). (items ≡ attributes_yield z.0 z.1) × AreAttributes l z.0
     × EachAttribute (Within limits) z.0) is (found.spelled, found.is, found.each)
@@ -182,7 +184,7 @@ pub attributes_read_whole : (limits : Limits) (l : Bool) (x : Attributes) (r : I
     → all_attributes limits l (attributes_yield x r) ≡ Some (x, r)
 unfolding all_attributes
 attributes_read_whole limits l x r is fits none =
-    let each = attributes_whole limits.depth limits.links (widest limits l) x is fits in
+    let each = attributes_whole limits.bodies limits.depth limits.links (widest limits l) x is fits in
     let paid : 0 ≡ attributes_toll no_toll x + 0 = sym (ap (λ i. i + 0) (attributes_free_toll x) ∙ omega arith) in
     ap left_over (ap (λ i. attributes_of (outermost limits) (widest limits l) (at i (attributes_yield x r))) paid
     ∙ attributes_read (outermost limits) no_toll (outer_bars limits) (widest limits l) x 0 r is each none)
@@ -215,11 +217,11 @@ with_map_ok x q None y h = cc
 with_map_ok x q (Some ps) y h = (ps, refl, same_Some _ _ h)
 
 array_fits : (limits : Limits) (a : ℕ) → limits.arrays ≡ suc a → (items : Items) (x : Opened) (p q : Place)
-    → FoundRow no_toll (Fitting limits.depth limits.links) limits.depth (room false limits.subscripts a) of_items p x.row q
+    → FoundRow no_toll (Fitting limits.bodies limits.depth limits.links) limits.depth (room false limits.subscripts a) of_items p x.row q
     → ArrayWithin limits x
 array_fits limits a low items x p q found = (
   omega (arith, found.inner, low),
-  row_map (Fitting limits.depth limits.links (room false limits.subscripts a)) (Within limits) x.row
+  row_map (Fitting limits.bodies limits.depth limits.links (room false limits.subscripts a)) (Within limits) x.row
       (λ e h. record {
         depth = h.depth;
         few_links = h.few_links;
@@ -240,7 +242,7 @@ literal_array_found limits items rest x vs h =
     three in
     let at_open = skip_ok LeftBracket (at 0 items) s begun in
     let (a, low, room_is) = inside_array_ok (widest limits false) v inside in
-    let found = row_found no_toll (Fitting limits.depth limits.links) limits.depth (outermost limits) (outer_sound limits)
+    let found = row_found no_toll (Fitting limits.bodies limits.depth limits.links) limits.depth (outermost limits) (outer_sound limits)
     (room false limits.subscripts a) of_items s.1 r
     (subst (λ u. row_of (outermost limits) u of_items s.1 ≡ Some r) (sym room_is) row) in
     let same : ((record { mark = s.0; row = r.0 }, us), r.1.tokens) ≡ ((x, vs), rest) = ap
@@ -255,7 +257,7 @@ literal_array_found limits items rest x vs h =
 
 -- each item fits into the room inside of the array
 element_inside : (x : Element) (limits : Limits) (a : ℕ) → element_deep arrays x ≤ a → EachElement (Within limits) x
-    → EachElement (Fitting limits.depth limits.links (room false limits.subscripts a)) x
+    → EachElement (Fitting limits.bodies limits.depth limits.links (room false limits.subscripts a)) x
 element_inside (plain e) limits a le h = record {
   depth = h.depth;
   few_links = h.few_links;
@@ -282,7 +284,7 @@ element_inside (argument n s e) limits a le h = record {
 }
 
 row_inside : (row : Row) (limits : Limits) (a : ℕ) → row_deep arrays row ≤ a → EachRow (Within limits) row
-    → EachRow (Fitting limits.depth limits.links (room false limits.subscripts a)) row
+    → EachRow (Fitting limits.bodies limits.depth limits.links (room false limits.subscripts a)) row
 row_inside (ended s) limits a le h = tt
 row_inside (only x s) limits a le h = element_inside x limits a le h
 row_inside (then x s xs) limits a le h = (
@@ -291,14 +293,14 @@ row_inside (then x s xs) limits a le h = (
       (omega (arith, le)) h.1,
 )
 
-array_read_in : (d n b a : ℕ) (x : Opened) (r : Items) → IsRow false of_items x.row → row_deep arrays x.row + 1 ≤ a
-    → EachRow (Within (record { depth = d; links = n; subscripts = b; arrays = a })) x.row
+array_read_in : (c d n b a : ℕ) (x : Opened) (r : Items) → IsRow false of_items x.row → row_deep arrays x.row + 1 ≤ a
+    → EachRow (Within (record { depth = d; links = n; subscripts = b; arrays = a; bodies = c })) x.row
     → (inside_array (room false b a) >>= λ v. row_of (fresh n (expr d)) v of_items (at 0 (row_yield of_items x.row r))) ≡ Some
     (x.row, at 0 r)
-array_read_in d n b zero x r is le fits = absurd (omega (arith, le))
-array_read_in d n b (suc a) x r is le fits =
-    let limits : Limits = record { depth = d; links = n; subscripts = b; arrays = suc a } in
-    let each = row_whole d n (room false b a) of_items x.row is (row_inside x.row limits a (omega (arith, le)) fits) in
+array_read_in c d n b zero x r is le fits = absurd (omega (arith, le))
+array_read_in c d n b (suc a) x r is le fits =
+    let limits : Limits = record { depth = d; links = n; subscripts = b; arrays = suc a; bodies = c } in
+    let each = row_whole c d n (room false b a) of_items x.row is (row_inside x.row limits a (omega (arith, le)) fits) in
     let paid : 0 ≡ row_toll no_toll x.row + 0 = sym (ap (λ i. i + 0) (row_free_toll x.row) ∙ omega arith) in
     rw (inside_array_read false b a)
     (ap (λ i. row_of (fresh n (expr d)) (room false b a) of_items (at i (row_yield of_items x.row r))) paid
@@ -318,7 +320,7 @@ literal_array_read limits x vs r is fits =
     (skip_mark LeftBracket refl 0 x.mark (row_yield of_items x.row r))
     ∙ bind_in (inside_array (widest limits false)) (λ v. row_of (outermost limits) v of_items (at 0 (row_yield of_items x.row r)))
     (λ r. with_array (record { mark = x.mark; row = r.0 }) r.1 (array_value (record { mark = x.mark; row = r.0 }))) (x.row, at 0 r)
-    (array_read_in limits.depth limits.links limits.subscripts limits.arrays x r is.0 fits.0 fits.1)
+    (array_read_in limits.bodies limits.depth limits.links limits.subscripts limits.arrays x r is.0 fits.0 fits.1)
     ∙ ap (with_array x (at 0 r)) is.1)
 
 pub literal_map_found : (limits : Limits) (items rest : Items) (x : Opened) (ps : values.Pairs)
@@ -331,7 +333,7 @@ literal_map_found limits items rest x ps h =
     let (us, value, made) = with_map_ok (record { mark = s.0; row = r.0 }) r.1 (map_value (record { mark = s.0; row = r.0 })) y
     two in
     let at_open = skip_ok LeftBrace (at 0 items) s begun in
-    let found = row_found no_toll (Fitting limits.depth limits.links) limits.depth (outermost limits) (outer_sound limits)
+    let found = row_found no_toll (Fitting limits.bodies limits.depth limits.links) limits.depth (outermost limits) (outer_sound limits)
     (widest limits false) of_entries s.1 r row in
     let same : ((record { mark = s.0; row = r.0 }, us), r.1.tokens) ≡ ((x, ps), rest) = ap
     (λ (z : (Opened × values.Pairs) × Place). (z.0, z.1.tokens)) made ∙ is in
@@ -343,7 +345,7 @@ pub literal_map_read : (limits : Limits) (x : Opened) (ps : values.Pairs) (r : I
     → literal_map_of limits (map_yield x r) ≡ Some ((x, ps), r)
 unfolding literal_map_of
 literal_map_read limits x ps r is fits =
-    let each = row_whole limits.depth limits.links (widest limits false) of_entries x.row is.0 fits in
+    let each = row_whole limits.bodies limits.depth limits.links (widest limits false) of_entries x.row is.0 fits in
     let paid : 0 ≡ row_toll no_toll x.row + 0 = sym (ap (λ i. i + 0) (row_free_toll x.row) ∙ omega arith) in
     let read : row_of (outermost limits) (widest limits false) of_entries (at 0 (row_yield of_entries x.row r)) ≡ Some
     (x.row, at 0 r) =

@@ -13,7 +13,8 @@ use Rattle.tera_grammar.specs.expressions.Marks.{Mark, mark, LeftParen, LeftBrac
 use Rattle.tera_grammar.specs.expressions.Concrete.{Name, Dotted, Tree, Row, Args, no_args, args, of_arguments, of_items, of_entries, named, dotted_yield, row_yield, args_yield}
 use Rattle.tera_grammar.specs.expressions.Words.{are_distinct}
 use Rattle.tera_grammar.specs.expressions.Conditions.{IsRow, names}
-use Rattle.tera_grammar.specs.expressions.Measures.{Limits, Within, EachRow, arrays, row_deep}
+use Rattle.tera_grammar.specs.Limits.{Limits}
+use Rattle.tera_grammar.specs.expressions.Measures.{Within, EachRow, arrays, row_deep}
 use Rattle.tera_grammar.specs.expressions.Spans.{spanning, args_end}
 use Rattle.tera_grammar.specs.expressions.Output.{arguments_output, args_output, items_output, entries_output, component_text, constant_items, constant_entries}
 

@@ -1,5 +1,6 @@
 -- How large an expression is, and the limits.
 use Rattle.std.specs.Prelude.{ℕ, suc, ◌+◌, max, ◌≤◌}
+use Rattle.tera_grammar.specs.Limits.{Limits}
 use Rattle.tera_grammar.specs.expressions.Concrete.{Tree, Atomic, Prefix, Suffixed, Infix, Atom, Literal, Chain, Call, Paren, Array, Comprehension, Map, Component, Links, no_links, field, item, Sub, index, slice, Part, absent, present, Extra, no_extra, extra, Row, ended, only, then, Element, plain, spread, pair, argument, Attributes, no_attributes, bare, quoted, valued, spreading, Suffix, Test, Filter, Subscript, Args, no_args, args, Operator, Binary, Condition}
 
 -- what counts in a depth: each expression that is opened, each subscript, each array
@@ -155,17 +156,7 @@ abbrev mutual
   operator_links (Binary o) = 1
   operator_links (Condition s c t) = links c
 
--- the limits of one outermost expression
-pub record Limits : Type 0 where
-  pub depth : ℕ
-  pub links : ℕ
-  pub subscripts : ℕ
-  pub arrays : ℕ
-
--- the limits that a program has where it names none
-abbrev pub usual : Limits
-usual = record { depth = 40; links = 256; subscripts = 4; arrays = 2 }
-
+-- one outermost expression within the limits
 pub record Within (limits : Limits) (t : Tree) : Type 0 where
   pub depth : height t ≤ limits.depth
   pub few_links : links t ≤ limits.links
