@@ -1,6 +1,7 @@
 //! Laws of the grammar: each function has the law as its promise and does nothing.
 
-ghost use Rattle.std.specs.Prelude.{◌≡◌, ℕ, List, Bool, Some};
+ghost use Rattle.std.specs.Prelude.{◌≡◌, ◌↔◌, ℕ, List, Bool, Some};
+ghost use Rattle.tera_lexer.specs.Marks.{Marks, IsValid};
 ghost use Rattle.tera_lexer.specs.Tokens.{Items, Ended};
 ghost use Rattle.tera_base.specs.Values.{Vals, Pairs};
 ghost use Rattle.tera_grammar.specs.expressions.Concrete.{Tree, Attributes, yield, attributes_yield};
@@ -34,6 +35,11 @@ ghost use Rattle.tera_grammar.specs.expressions.Reading.Whole.{
   literal_array_of,
   literal_map_of,
 };
+ghost use Rattle.tera_tree.specs.Tree.{Output};
+ghost use Rattle.tera_grammar.specs.statements.Grammar.{Body};
+ghost use Rattle.tera_grammar.specs.statements.Reading.{template};
+ghost use Rattle.tera_grammar.specs.statements.Top.{IsTemplate, Derives};
+ghost use Rattle.tera_grammar.specs.statements.Trees.{IsRight};
 
 /// What is read as an expression is one, within the limits, and its tokens are those that were taken. Each
 /// expression within the limits is read before a token that ends it. So no other has the same tokens.
@@ -122,4 +128,26 @@ pub fn literal_maps()
     ensures unique { (one other : Opened) (pairs others : Pairs) (rest last : Items) →
         IsMap one pairs → IsMap other others →
         map_yield one rest ≡ map_yield other last → (one ≡ other) × (pairs ≡ others) × (rest ≡ last) }
+{}
+
+/// A template is read from its tokens, and what is read from tokens is a template of them.
+pub fn each_is_read()
+    ensures { (l : Limits) (items : Items) (b : Body) → IsTemplate l items b ↔ (template l items ≡ Some b) }
+{}
+
+/// No list of tokens is that of two templates.
+pub fn one_template()
+    ensures { (l : Limits) (items : Items) (one other : Body) → IsTemplate l items one → IsTemplate l items other → one ≡ other }
+{}
+
+/// No source has derivations with two outputs.
+pub fn one_output()
+    ensures { (l : Limits) (m : Marks) → IsValid m → (source : List ℕ) (one other : Output) →
+        Derives l m source one → Derives l m source other → one ≡ other }
+{}
+
+/// The tree of a source has no two blocks and no two components of one name, each `break` and `continue` in a
+/// loop, and, where the source extends another template, texts of white space and blocks alone.
+pub fn right_trees()
+    ensures { (l : Limits) (m : Marks) (source : List ℕ) (output : Output) → Derives l m source output → IsRight output }
 {}

@@ -1,4 +1,4 @@
-//! The grammar of the expressions of the template engine Tera, and its laws. Nothing in it runs.
+//! The grammar of the templates of the template engine Tera, and its laws. Nothing in it runs.
 #![tactic(auto)]
 
 pub mod laws;

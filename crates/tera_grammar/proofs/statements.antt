@@ -1,0 +1,17 @@
+pub mod Steps
+pub mod Names
+pub mod Inside
+pub mod Expressions
+pub mod Parts
+pub mod Heads
+pub mod Components
+pub mod Found
+pub mod Unrolled
+pub mod Complete
+pub mod Tops
+pub mod Closed
+pub mod Wholes
+pub mod Loops
+pub mod Paths
+pub mod Trees
+mod Examples

@@ -1,0 +1,422 @@
+-- The definition of a component, but for its body: what is read of it is its tokens, and those are read as it.
+use Rattle.std.proofs.Common.{◌≡◌, ◌<◌, ◌≤◌, ℕ, zero, suc, Bool, true, false, List, [], ◌∷◌, ◌++◌, codes, Option, Some, None, refl, sym, ap, subst, ◌∙◌, append_assoc, append-nil, arith, le_refl}
+use Rattle.std.proofs.lemmas.Option.{same_Some}
+use Rattle.std.specs.Str.{bytes_eq}
+use Rattle.tera_base.specs.declared.utils.Span.{Span}
+use Rattle.tera_lexer.specs.Cursors.{size}
+use Rattle.tera_lexer.specs.Tokens as toks
+use Rattle.tera_lexer.specs.Tokens.{Tok, Items, Token, Ident, Str, Integer, Truth, Symbol}
+use Rattle.tera_grammar.specs.statements.Options.{◌>>=◌}
+use Rattle.tera_grammar.specs.statements.Names.{is_among, agrees, AreDistinct}
+use Rattle.tera_grammar.specs.statements.Parts.{Edge, Name, name_yield, Simple, Escaped, symbol_yield, is_symbol, OpensComponent, opener_token, AtEndComponent, closer_token, start_yield, finish_yield}
+use Rattle.tera_grammar.specs.statements.Expressions.{Limits, ComponentName, component_yield, component_text, LiteralMap, array_of, map_yield, map_of}
+use Rattle.tera_grammar.specs.statements.Components.{Default, TruthDefault, TextDefault, NumberDefault, MinusDefault, NothingDefault, ArrayDefault, MapDefault, FitsDefault, default_yield, Annotation, Assigned, Parameter, at_yield, annotation_yield, assigned_yield, parameter_yield, is_known, is_body, FitsAssigned, FitsParameter, Parameters, Closed, Rest, Final, More, parameters_yield, parameter_names, FitEach, FitParameters, Head, head_yield, ending_yield, metadata_yield, component_if_any_yield, component_texts, FitsMetadata, FitsHead}
+use Rattle.tera_grammar.specs.statements.Reading.Parts.{Takes, symbol}
+use Rattle.tera_grammar.specs.statements.Reading.Components.{minus_of, default_by, default_at, default_of, at_in, annotation_in, assigned_in, parameter, fresh_name, parameter_behind, parameter_of, parameters_behind, parameters_at, parameters_in, parameters_by, parameters_of, metadata_in, Opened, opened_of, is_name, end_name_in, head, ending_of}
+use Rattle.tera_grammar.proofs.statements.Steps.{bound, bind_both, guard_ok, guard_not, bytes_same}
+use Rattle.tera_grammar.proofs.statements.Names.{distinct-more, not-before}
+use Rattle.tera_grammar.proofs.statements.Expressions.{component_stands, component_found, component_size, component_begins, array_stands, array_found, array_size, array_begins, map_stands, map_found, map_size, map_begins}
+use Rattle.tera_grammar.proofs.statements.Parts.{symbol_stands, name_stands, finish_stands, closed_stands}
+
+-- no tokens are lost
+default_size : (d : Default) (rest : Items) → size rest ≤ size (default_yield d rest)
+default_size (TruthDefault b span) rest = omega arith
+default_size (TextDefault (Simple text span)) rest = omega arith
+default_size (TextDefault (Escaped text span)) rest = omega arith
+default_size (NumberDefault n span) rest = omega arith
+default_size (MinusDefault minus n span) rest = omega arith
+default_size (NothingDefault n) rest = omega arith
+default_size (ArrayDefault a) rest = array_size a rest
+default_size (MapDefault m) rest = map_size m rest
+
+assigned_size : (d : Option Assigned) (rest : Items) → size rest ≤ size (assigned_yield d rest)
+assigned_size None rest = le_refl _
+assigned_size (Some d) rest = omega (arith, default_size d.value rest)
+
+annotation_size : (t : Option Annotation) (rest : Items) → size rest ≤ size (annotation_yield t rest)
+annotation_size None rest = le_refl _
+annotation_size (Some a) rest = omega arith
+
+at_size : (at : Option Span) (rest : Items) → size rest ≤ size (at_yield at rest)
+at_size None rest = le_refl _
+at_size (Some span) rest = omega arith
+
+parameter_size : (p : Parameter) (rest : Items) → size rest ≤ size (parameter_yield p rest)
+parameter_size p rest =
+    omega (arith, assigned_size p.default rest, annotation_size p.type (assigned_yield p.default rest), at_size p.at (name_yield p.name (annotation_yield p.type (assigned_yield p.default rest))))
+
+parameters_size : (ps : Parameters) (rest : Items) → size rest ≤ size (parameters_yield ps rest)
+parameters_size (Closed end) rest = omega arith
+parameters_size (Rest dots n end) rest = omega arith
+parameters_size (Final p end) rest = omega (arith, parameter_size p (symbol_yield (codes ")") end rest))
+parameters_size (More p comma ps) rest = omega (arith, parameters_size ps rest, parameter_size p (symbol_yield (codes ",") comma (parameters_yield ps rest)))
+
+metadata_size : (m : Option LiteralMap) (rest : Items) → size rest ≤ size (metadata_yield m rest)
+metadata_size None rest = le_refl _
+metadata_size (Some m) rest = map_size m rest
+
+-- the tokens of an opening tag, behind its first word
+abbrev pub opened_yield : Opened → Items → Items
+opened_yield o items = component_yield o.name (symbol_yield (codes "(") o.paren (parameters_yield o.parameters (metadata_yield o.metadata (finish_yield o.finish items))))
+
+pub opened_size : (o : Opened) (rest : Items) → size rest ≤ size (opened_yield o rest)
+opened_size o rest =
+    let end = finish_yield o.finish rest in
+    let metadata = metadata_yield o.metadata end in
+    let parameters = symbol_yield (codes "(") o.paren (parameters_yield o.parameters metadata) in
+    omega (arith, metadata_size o.metadata end, parameters_size o.parameters metadata, component_size o.name parameters)
+
+-- the opening tag of a definition
+abbrev pub opened_part : Head → Opened
+opened_part h = record { name = h.name; paren = h.paren; parameters = h.parameters; metadata = h.metadata; finish = h.tag.finish }
+
+pub ending_size : (h : Head) (rest : Items) → size rest ≤ size (ending_yield h rest)
+ending_size h rest = omega (arith, name_size h.end_name (finish_yield h.ending.finish rest))
+  where
+    name_size : (n : Option ComponentName) (items : Items) → size items ≤ size (component_if_any_yield n items)
+    name_size None items = le_refl _
+    name_size (Some n) items = component_size n items
+
+module _ (l : Limits) where
+  -- defaults
+  abbrev DefaultStands : Items → Default × Items → Type 0
+  DefaultStands ts x = FitsDefault l x.0 × (ts ≡ default_yield x.0 x.1)
+
+  minus_stands : (minus : Span) (ts : Items) (x : Default × Items) → minus_of minus ts ≡ Some x → DefaultStands (symbol_yield (codes "-") minus ts) x
+  minus_stands minus (Token (Integer n) span items) x h = subst (DefaultStands (symbol_yield (codes "-") minus (Token (Integer n) span items))) (same_Some (MinusDefault minus n span, items) x h) (tt, refl)
+  minus_stands minus _ x h = cc
+
+  default_by_stands : (op : List ℕ) (span : Span) (items : Items) (a b c : Bool) (x : Default × Items) → bytes_eq op (codes "-") ≡ a
+      → default_by l op span items a b c ≡ Some x → DefaultStands (Token (Symbol op) span items) x
+  unfolding default_by
+  default_by_stands op span items true b c x is h =
+      subst (λ v. DefaultStands (Token (Symbol v) span items) x) (sym (bytes_same op (codes "-") is)) (minus_stands span items x h)
+  default_by_stands op span items false true c x is h =
+      bound _ _ _ h (λ a read made.
+      let found = array_stands l (Token (Symbol op) span items) a read in
+      subst (DefaultStands (Token (Symbol op) span items)) (same_Some (ArrayDefault a.0, a.1) x made) (found.0, found.1))
+  default_by_stands op span items false false true x is h =
+      bound _ _ _ h (λ m read made.
+      let found = map_stands l (Token (Symbol op) span items) m read in
+      subst (DefaultStands (Token (Symbol op) span items)) (same_Some (MapDefault m.0, m.1) x made) (found.0, found.1))
+  default_by_stands op span items false false false x is h = cc
+
+  default_stands : (ts : Items) (x : Default × Items) → default_of l ts ≡ Some x → DefaultStands ts x
+  unfolding default_of default_at
+  default_stands (Token (Truth b) span items) x h = subst (DefaultStands (Token (Truth b) span items)) (same_Some (TruthDefault b span, items) x h) (tt, refl)
+  default_stands (Token (Str text) span items) x h = subst (DefaultStands (Token (Str text) span items)) (same_Some (TextDefault (Simple text span), items) x h) (tt, refl)
+  default_stands (Token (toks.Escaped text) span items) x h = subst (DefaultStands (Token (toks.Escaped text) span items)) (same_Some (TextDefault (Escaped text span), items) x h) (tt, refl)
+  default_stands (Token (Integer n) span items) x h = subst (DefaultStands (Token (Integer n) span items)) (same_Some (NumberDefault n span, items) x h) (tt, refl)
+  default_stands (Token (Ident text) span items) x h =
+      bound _ _ _ h (λ u none made.
+      subst (DefaultStands (Token (Ident text) span items)) (same_Some (NothingDefault (record { text = text; span = span }), items) x made) (guard_ok _ u none, refl))
+  default_stands (Token (Symbol op) span items) x h = default_by_stands op span items (bytes_eq op (codes "-")) (bytes_eq op (codes "[")) (bytes_eq op (codes "{")) x refl h
+  default_stands _ x h = cc
+
+  begun_array : (ts : Items) (span : Span) (items : Items) → ts ≡ symbol_yield (codes "[") span items → default_of l ts ≡ (array_of l ts >>= λ a. Some (ArrayDefault a.0, a.1))
+  unfolding default_of default_at default_by
+  begun_array ts span items is = subst (λ v. default_of l v ≡ (array_of l v >>= λ a. Some (ArrayDefault a.0, a.1))) (sym is) refl
+
+  begun_map : (ts : Items) (span : Span) (items : Items) → ts ≡ symbol_yield (codes "{") span items → default_of l ts ≡ (map_of l ts >>= λ m. Some (MapDefault m.0, m.1))
+  unfolding default_of default_at default_by
+  begun_map ts span items is = subst (λ v. default_of l v ≡ (map_of l v >>= λ m. Some (MapDefault m.0, m.1))) (sym is) refl
+
+  default_found : (d : Default) (rest : Items) → FitsDefault l d → default_of l (default_yield d rest) ≡ Some (d, rest)
+  unfolding default_of default_at default_by
+  default_found (TruthDefault b span) rest fits = refl
+  default_found (TextDefault (Simple text span)) rest fits = refl
+  default_found (TextDefault (Escaped text span)) rest fits = refl
+  default_found (NumberDefault n span) rest fits = refl
+  default_found (MinusDefault minus n span) rest fits = refl
+  default_found (NothingDefault n) rest fits = rw fits refl
+  default_found (ArrayDefault a) rest fits =
+      let (span, items, is) = array_begins a rest in
+      begun_array _ span items is ∙ ap (λ o. o >>= λ b. Some (ArrayDefault b.0, b.1)) (array_found l a rest fits)
+  default_found (MapDefault m) rest fits =
+      let (span, items, is) = map_begins m rest in
+      begun_map _ span items is ∙ ap (λ o. o >>= λ b. Some (MapDefault b.0, b.1)) (map_found l m rest fits)
+
+  -- the parts of a parameter
+  at_stands : (ts : Items) (o : Option (Span × Items)) → symbol (codes "@") ts ≡ o → ts ≡ at_yield (at_in ts o).0 (at_in ts o).1
+  at_stands ts None is = refl
+  at_stands ts (Some x) is = symbol_stands _ ts x is
+
+  annotation_stands : (ts : Items) (o : Option (Span × Items)) (x : Option Annotation × Items) → symbol (codes ":") ts ≡ o → annotation_in ts o ≡ Some x
+      → (is_known x.0 ≡ true) × (ts ≡ annotation_yield x.0 x.1)
+  unfolding annotation_in
+  annotation_stands ts None x is h = subst (λ (y : Option Annotation × Items). (is_known y.0 ≡ true) × (ts ≡ annotation_yield y.0 y.1)) (same_Some (None, ts) x h) (refl, refl)
+  annotation_stands ts (Some colon) x is h =
+      bound _ _ _ h (λ n read more. bound _ _ _ more (λ u known made.
+      subst (λ (y : Option Annotation × Items). (is_known y.0 ≡ true) × (ts ≡ annotation_yield y.0 y.1)) (same_Some (Some (record { colon = colon.0; name = n.0 }), n.1) x made)
+      (guard_ok _ u known, symbol_stands _ ts colon is ∙ ap (symbol_yield (codes ":") colon.0) (name_stands colon.1 n read))))
+
+  annotation_found : (t : Option Annotation) (rest : Items) → is_known t ≡ true → symbol (codes ":") rest ≡ None → annotation_in (annotation_yield t rest) (symbol (codes ":") (annotation_yield t rest)) ≡ Some (t, rest)
+  unfolding annotation_in
+  annotation_found None rest known none = ap (annotation_in rest) none
+  annotation_found (Some a) rest known none = rw known refl
+
+  assigned_stands : (ts : Items) (o : Option (Span × Items)) (x : Option Assigned × Items) → symbol (codes "=") ts ≡ o → assigned_in l ts o ≡ Some x
+      → FitsAssigned l x.0 × (ts ≡ assigned_yield x.0 x.1)
+  unfolding assigned_in
+  assigned_stands ts None x is h = subst (λ (y : Option Assigned × Items). FitsAssigned l y.0 × (ts ≡ assigned_yield y.0 y.1)) (same_Some (None, ts) x h) (tt, refl)
+  assigned_stands ts (Some sign) x is h =
+      bound _ _ _ h (λ d read made.
+      let found = default_stands sign.1 d read in
+      subst (λ (y : Option Assigned × Items). FitsAssigned l y.0 × (ts ≡ assigned_yield y.0 y.1)) (same_Some (Some (record { sign = sign.0; value = d.0 }), d.1) x made)
+      (found.0, symbol_stands _ ts sign is ∙ ap (symbol_yield (codes "=") sign.0) found.1))
+
+  assigned_found : (d : Option Assigned) (rest : Items) → FitsAssigned l d → symbol (codes "=") rest ≡ None → assigned_in l (assigned_yield d rest) (symbol (codes "=") (assigned_yield d rest)) ≡ Some (d, rest)
+  unfolding assigned_in
+  assigned_found None rest fits none = ap (assigned_in l rest) none
+  assigned_found (Some d) rest fits none = rw (default_found d.value rest fits) refl
+
+  fresh_name_stands : (seen : List (List ℕ)) (ts : Items) (x : Name × Items) → fresh_name seen ts ≡ Some x → (is_body x.0.text ≡ false) × (is_among x.0.text seen ≡ false) × (ts ≡ name_yield x.0 x.1)
+  fresh_name_stands seen ts x h =
+      bound _ _ _ h (λ n read rest. bound _ _ _ rest (λ u other more. bound _ _ _ more (λ v fresh made.
+      subst (λ (y : Name × Items). (is_body y.0.text ≡ false) × (is_among y.0.text seen ≡ false) × (ts ≡ name_yield y.0 y.1)) (same_Some n x made)
+      (guard_not _ u other, guard_not _ v fresh, name_stands ts n read))))
+
+  -- a parameter
+  abbrev ParameterStands : List (List ℕ) → Items → Parameter × Items → Type 0
+  ParameterStands seen ts x = FitsParameter l x.0 × (is_among x.0.name.text seen ≡ false) × (ts ≡ parameter_yield x.0 x.1)
+
+  parameter_behind_stands : (seen : List (List ℕ)) (at : Option Span) (ts : Items) (x : Parameter × Items) → parameter_behind l seen at ts ≡ Some x → ParameterStands seen (at_yield at ts) x
+  unfolding parameter_behind
+  parameter_behind_stands seen at ts x h =
+      bound _ _ _ h (λ n named rest. bound _ _ _ rest (λ t typed rest'. bound _ _ _ rest' (λ d defaulted more. bound _ _ _ more (λ u fits made.
+      let name = fresh_name_stands seen ts n named in
+      let type = annotation_stands n.1 (symbol (codes ":") n.1) t refl typed in
+      let value = assigned_stands t.1 (symbol (codes "=") t.1) d refl defaulted in
+      subst (ParameterStands seen (at_yield at ts)) (same_Some (parameter at n.0 t.0 d.0, d.1) x made)
+      ((name.0, type.0, value.0, guard_ok _ u fits), name.1, ap (at_yield at) (name.2 ∙ ap (name_yield n.0) (type.1 ∙ ap (annotation_yield t.0) value.1)))))))
+
+  parameter_stands : (seen : List (List ℕ)) (ts : Items) (x : Parameter × Items) → parameter_of l seen ts ≡ Some x → ParameterStands seen ts x
+  parameter_stands seen ts x h =
+      let found = parameter_behind_stands seen (at_in ts (symbol (codes "@") ts)).0 (at_in ts (symbol (codes "@") ts)).1 x h in
+      (found.0, found.1, at_stands ts (symbol (codes "@") ts) refl ∙ found.2)
+
+  at_found : (at : Option Span) (n : Name) (rest : Items) → at_in (at_yield at (name_yield n rest)) (symbol (codes "@") (at_yield at (name_yield n rest))) ≡ (at, name_yield n rest)
+  at_found None n rest = refl
+  at_found (Some span) n rest = refl
+
+  no_colon : (d : Option Assigned) (rest : Items) → symbol (codes ":") rest ≡ None → symbol (codes ":") (assigned_yield d rest) ≡ None
+  no_colon None rest none = none
+  no_colon (Some d) rest none = refl
+
+  parameter_found : (seen : List (List ℕ)) (p : Parameter) (rest : Items) → FitsParameter l p → is_among p.name.text seen ≡ false → symbol (codes ":") rest ≡ None → symbol (codes "=") rest ≡ None
+      → parameter_of l seen (parameter_yield p rest) ≡ Some (p, rest)
+  unfolding parameter_behind
+  parameter_found seen p rest fits fresh colon sign =
+      ap (λ (y : Option Span × Items). parameter_behind l seen y.0 y.1) (at_found p.at p.name (annotation_yield p.type (assigned_yield p.default rest)))
+      ∙ rw (fits.0, fresh, annotation_found p.type (assigned_yield p.default rest) fits.1 (no_colon p.default rest colon), assigned_found p.default rest fits.2 sign, fits.3) refl
+
+  -- parameters
+  abbrev ParametersStand : List (List ℕ) → Items → Parameters × Items → Type 0
+  ParametersStand seen ts x = FitEach l x.0 × (AreDistinct seen → AreDistinct (seen ++ parameter_names x.0)) × (ts ≡ parameters_yield x.0 x.1)
+
+  abbrev AllStand : (List (List ℕ) → Items → Takes Parameters) → Type 0
+  AllStand again = (seen : List (List ℕ)) (ts : Items) (x : Parameters × Items) → again seen ts ≡ Some x → ParametersStand seen ts x
+
+  parameters_behind_stand : (again : List (List ℕ) → Items → Takes Parameters) → AllStand again → (seen : List (List ℕ)) (p : Parameter) (ts us : Items) (o : Option (Span × Items)) (x : Parameters × Items)
+      → ParameterStands seen ts (p, us) → symbol (codes ")") us ≡ o → parameters_behind again seen p us o ≡ Some x → ParametersStand seen ts x
+  unfolding parameters_behind
+  parameters_behind_stand again goes seen p ts us (Some end) x stands is h =
+      subst (ParametersStand seen ts) (same_Some (Final p end.0, end.1) x h)
+      (stands.0, λ d. distinct-more seen p.name.text stands.1 d, stands.2 ∙ ap (parameter_yield p) (symbol_stands _ us end is))
+  parameters_behind_stand again goes seen p ts us None x stands is h =
+      bound _ _ _ h (λ comma read more. bound _ _ _ more (λ ps others made.
+      let then = goes (seen ++ p.name.text ∷ []) comma.1 ps others in
+      subst (ParametersStand seen ts) (same_Some (More p comma.0 ps.0, ps.1) x made) (
+        (stands.0, then.0),
+        λ d. subst AreDistinct (append_assoc seen (p.name.text ∷ []) (parameter_names ps.0)) (then.1 (distinct-more seen p.name.text stands.1 d)),
+        stands.2 ∙ ap (parameter_yield p) (symbol_stands _ us comma read ∙ ap (symbol_yield (codes ",") comma.0) then.2),
+      )))
+
+  parameters_at_stand : (again : List (List ℕ) → Items → Takes Parameters) → AllStand again → (seen : List (List ℕ)) (ts : Items) (o : Option (Span × Items)) (x : Parameters × Items)
+      → symbol (codes "...") ts ≡ o → parameters_at again l seen ts o ≡ Some x → ParametersStand seen ts x
+  unfolding parameters_at
+  parameters_at_stand again goes seen ts (Some dots) x is h =
+      bound _ _ _ h (λ n named more. bound _ _ _ more (λ end ended made.
+      let name = fresh_name_stands seen dots.1 n named in
+      subst (ParametersStand seen ts) (same_Some (Rest dots.0 n.0 end.0, end.1) x made) (
+        name.0,
+        λ d. distinct-more seen n.0.text name.1 d,
+        symbol_stands _ ts dots is ∙ ap (symbol_yield (codes "...") dots.0) (name.2 ∙ ap (name_yield n.0) (symbol_stands _ n.1 end ended)),
+      )))
+  parameters_at_stand again goes seen ts None x is h =
+      bound _ _ _ h (λ p read more.
+      parameters_behind_stand again goes seen p.0 ts p.1 (symbol (codes ")") p.1) x (parameter_stands seen ts p read) refl more)
+
+  parameters_in_stand : (again : List (List ℕ) → Items → Takes Parameters) → AllStand again → (seen : List (List ℕ)) (ts : Items) (o : Option (Span × Items)) (x : Parameters × Items)
+      → symbol (codes ")") ts ≡ o → parameters_in again l seen ts o ≡ Some x → ParametersStand seen ts x
+  unfolding parameters_in
+  parameters_in_stand again goes seen ts (Some end) x is h =
+      subst (ParametersStand seen ts) (same_Some (Closed end.0, end.1) x h) (tt, λ d. subst AreDistinct (sym (append-nil seen)) d, symbol_stands _ ts end is)
+  parameters_in_stand again goes seen ts None x is h = parameters_at_stand again goes seen ts (symbol (codes "...") ts) x refl h
+
+  parameters_by_stand : (n : ℕ) → AllStand (parameters_by n l)
+  unfolding parameters_by
+  parameters_by_stand zero seen ts x h = cc
+  parameters_by_stand (suc n) seen ts x h = parameters_in_stand (parameters_by n l) (parameters_by_stand n) seen ts (symbol (codes ")") ts) x refl h
+
+  parameters_stand : AllStand (parameters_of l)
+  unfolding parameters_of
+  parameters_stand seen ts x h = parameters_by_stand (suc (size ts)) seen ts x h
+
+  -- the number that bounds them has no say
+  abbrev Agree : (List (List ℕ) → Items → Takes Parameters) → (List (List ℕ) → Items → Takes Parameters) → Items → Type 0
+  Agree again other ts = (seen : List (List ℕ)) (us : Items) → size us < size ts → again seen us ≡ other seen us
+
+  behind_agree : (again other : List (List ℕ) → Items → Takes Parameters) (seen : List (List ℕ)) (p : Parameter) (ts us : Items) → ts ≡ parameter_yield p us → Agree again other ts
+      → (o : Option (Span × Items)) → parameters_behind again seen p us o ≡ parameters_behind other seen p us o
+  unfolding parameters_behind
+  behind_agree again other seen p ts us is goes (Some end) = refl
+  behind_agree again other seen p ts us is goes None =
+      bind_both _ _ _ (λ comma read.
+      let shorter : size comma.1 < size ts =
+      subst (λ v. size comma.1 < size v) (sym (is ∙ ap (parameter_yield p) (symbol_stands _ us comma read))) (omega (arith, parameter_size p (symbol_yield (codes ",") comma.0 comma.1))) in
+      ap (λ r. r >>= λ ps. Some (More p comma.0 ps.0, ps.1)) (goes (seen ++ p.name.text ∷ []) comma.1 shorter))
+
+  at_agree : (again other : List (List ℕ) → Items → Takes Parameters) (seen : List (List ℕ)) (ts : Items) → Agree again other ts
+      → (o : Option (Span × Items)) → parameters_at again l seen ts o ≡ parameters_at other l seen ts o
+  unfolding parameters_at
+  at_agree again other seen ts goes (Some dots) = refl
+  at_agree again other seen ts goes None =
+      bind_both _ _ _ (λ p read. behind_agree again other seen p.0 ts p.1 (parameter_stands seen ts p read).2 goes (symbol (codes ")") p.1))
+
+  in_agree : (again other : List (List ℕ) → Items → Takes Parameters) (seen : List (List ℕ)) (ts : Items) → Agree again other ts
+      → (o : Option (Span × Items)) → parameters_in again l seen ts o ≡ parameters_in other l seen ts o
+  unfolding parameters_in
+  in_agree again other seen ts goes (Some end) = refl
+  in_agree again other seen ts goes None = at_agree again other seen ts goes (symbol (codes "...") ts)
+
+  parameters_agree : (n k : ℕ) (seen : List (List ℕ)) (ts : Items) → size ts < n → size ts < k → parameters_by n l seen ts ≡ parameters_by k l seen ts
+  unfolding parameters_by
+  parameters_agree zero k seen ts hn hk = absurd (omega arith)
+  parameters_agree (suc n) zero seen ts hn hk = absurd (omega arith)
+  parameters_agree (suc n) (suc k) seen ts hn hk =
+      in_agree (parameters_by n l) (parameters_by k l) seen ts (λ s us lt. parameters_agree n k s us (omega arith) (omega arith)) (symbol (codes ")") ts)
+
+  -- parameters, by what comes next
+  pub parameters_steps : (seen : List (List ℕ)) (ts : Items) → parameters_of l seen ts ≡ parameters_in (parameters_of l) l seen ts (symbol (codes ")") ts)
+  unfolding parameters_of parameters_by
+  parameters_steps seen ts =
+      in_agree (parameters_by (size ts) l) (parameters_of l) seen ts (λ s us lt. parameters_agree (size ts) (suc (size us)) s us lt (omega arith)) (symbol (codes ")") ts)
+
+  no_end : (at : Option Span) (n : Name) (rest : Items) → symbol (codes ")") (at_yield at (name_yield n rest)) ≡ None
+  no_end None n rest = refl
+  no_end (Some span) n rest = refl
+
+  no_dots : (at : Option Span) (n : Name) (rest : Items) → symbol (codes "...") (at_yield at (name_yield n rest)) ≡ None
+  no_dots None n rest = refl
+  no_dots (Some span) n rest = refl
+
+  -- what is read at a parameter
+  read_behind : (seen : List (List ℕ)) (p : Parameter) (us : Items) → FitsParameter l p → is_among p.name.text seen ≡ false → symbol (codes ":") us ≡ None → symbol (codes "=") us ≡ None
+      → parameters_of l seen (parameter_yield p us) ≡ parameters_behind (parameters_of l) seen p us (symbol (codes ")") us)
+  unfolding parameters_in parameters_at
+  read_behind seen p us fits fresh colon sign =
+      let behind = annotation_yield p.type (assigned_yield p.default us) in
+      parameters_steps seen (parameter_yield p us)
+      ∙ ap (parameters_in (parameters_of l) l seen (parameter_yield p us)) (no_end p.at p.name behind)
+      ∙ ap (parameters_at (parameters_of l) l seen (parameter_yield p us)) (no_dots p.at p.name behind)
+      ∙ ap (λ o. o >>= λ q. parameters_behind (parameters_of l) seen q.0 q.1 (symbol (codes ")") q.1)) (parameter_found seen p us fits fresh colon sign)
+
+  parameters_found : (ps : Parameters) (seen : List (List ℕ)) (rest : Items) → FitEach l ps → AreDistinct (seen ++ parameter_names ps) → parameters_of l seen (parameters_yield ps rest) ≡ Some (ps, rest)
+  unfolding parameters_in parameters_at parameters_behind
+  parameters_found (Closed end) seen rest fits distinct = parameters_steps seen _
+  parameters_found (Rest dots n end) seen rest fits distinct =
+      parameters_steps seen (parameters_yield (Rest dots n end) rest) ∙ rw (fits, not-before seen n.text [] distinct) refl
+  parameters_found (Final p end) seen rest fits distinct =
+      read_behind seen p (symbol_yield (codes ")") end rest) fits (not-before seen p.name.text [] distinct) refl refl
+  parameters_found (More p comma ps) seen rest fits distinct =
+      read_behind seen p (symbol_yield (codes ",") comma (parameters_yield ps rest)) fits.0 (not-before seen p.name.text (parameter_names ps) distinct) refl refl
+      ∙ ap (λ o. o >>= λ qs. Some (More p comma qs.0, qs.1))
+      (parameters_found ps (seen ++ p.name.text ∷ []) rest fits.1 (subst AreDistinct (sym (append_assoc seen (p.name.text ∷ []) (parameter_names ps))) distinct))
+
+  -- metadata
+  metadata_stands : (ts : Items) (b : Bool) (x : Option LiteralMap × Items) → metadata_in l ts b ≡ Some x → FitsMetadata l x.0 × (ts ≡ metadata_yield x.0 x.1)
+  unfolding metadata_in
+  metadata_stands ts false x h = subst (λ (y : Option LiteralMap × Items). FitsMetadata l y.0 × (ts ≡ metadata_yield y.0 y.1)) (same_Some (None, ts) x h) (tt, refl)
+  metadata_stands ts true x h =
+      bound _ _ _ h (λ m read made.
+      let found = map_stands l ts m read in
+      subst (λ (y : Option LiteralMap × Items). FitsMetadata l y.0 × (ts ≡ metadata_yield y.0 y.1)) (same_Some (Some m.0, m.1) x made) (found.0, found.1))
+
+  metadata_found : (m : Option LiteralMap) (rest : Items) → FitsMetadata l m → is_symbol (codes "{") rest ≡ false → metadata_in l (metadata_yield m rest) (is_symbol (codes "{") (metadata_yield m rest)) ≡ Some (m, rest)
+  unfolding metadata_in
+  metadata_found None rest fits none = ap (metadata_in l rest) none
+  metadata_found (Some m) rest fits none =
+      let (span, items, is) = map_begins m rest in
+      let begins : is_symbol (codes "{") (map_yield m rest) ≡ true = ap (is_symbol (codes "{")) is in
+      ap (metadata_in l (map_yield m rest)) begins ∙ ap (λ o. o >>= λ n. Some (Some n.0, n.1)) (map_found l m rest fits)
+
+  pub record OpenedStands (seen : List (List ℕ)) (ts : Items) (x : Opened × Items) : Type 0 where
+    pub fresh : is_among (component_text x.0.name) seen ≡ false
+    pub parameters : FitParameters l x.0.parameters
+    pub metadata : FitsMetadata l x.0.metadata
+    pub tokens : ts ≡ opened_yield x.0 x.1
+
+  pub opened_stands : (seen : List (List ℕ)) (ts : Items) (x : Opened × Items) → opened_of l seen ts ≡ Some x → OpenedStands seen ts x
+  unfolding opened_of
+  opened_stands seen ts x h =
+      bound _ _ _ h (λ n named rest1. bound _ _ _ rest1 (λ u fresh rest2. bound _ _ _ rest2 (λ paren opened rest3. bound _ _ _ rest3 (λ ps listed rest4. bound _ _ _ rest4 (λ m meant more. bound _ _ _ more (λ f ended made.
+      let parameters = parameters_stand [] paren.1 ps listed in
+      let metadata = metadata_stands ps.1 (is_symbol (codes "{") ps.1) m meant in
+      subst (OpenedStands seen ts) (same_Some (record { name = n.0; paren = paren.0; parameters = ps.0; metadata = m.0; finish = f.0 }, f.1) x made) (record {
+        fresh = guard_not _ u fresh;
+        parameters = (parameters.0, parameters.1 tt);
+        metadata = metadata.0;
+        tokens = component_stands ts n named ∙ ap (component_yield n.0) (symbol_stands _ n.1 paren opened ∙ ap (symbol_yield (codes "(") paren.0)
+            (parameters.2 ∙ ap (parameters_yield ps.0) (metadata.1 ∙ ap (metadata_yield m.0) (finish_stands m.1 f ended))));
+      })))))))
+
+  pub opened_found : (seen : List (List ℕ)) (o : Opened) (rest : Items) → is_among (component_text o.name) seen ≡ false → FitParameters l o.parameters → FitsMetadata l o.metadata
+      → opened_of l seen (opened_yield o rest) ≡ Some (o, rest)
+  unfolding opened_of
+  opened_found seen o rest fresh parameters metadata =
+      rw (
+        component_found o.name (symbol_yield (codes "(") o.paren (parameters_yield o.parameters (metadata_yield o.metadata (finish_yield o.finish rest)))) refl,
+        fresh,
+        parameters_found o.parameters [] (metadata_yield o.metadata (finish_yield o.finish rest)) parameters.0 parameters.1,
+        metadata_found o.metadata (finish_yield o.finish rest) metadata refl,
+      ) refl
+
+  -- the closing tag
+  end_name_stands : (ts : Items) (b : Bool) (x : Option ComponentName × Items) → end_name_in ts b ≡ Some x → ts ≡ component_if_any_yield x.0 x.1
+  unfolding end_name_in
+  end_name_stands ts false x h = subst (λ (y : Option ComponentName × Items). ts ≡ component_if_any_yield y.0 y.1) (same_Some (None, ts) x h) refl
+  end_name_stands ts true x h =
+      bound _ _ _ h (λ n read made.
+      subst (λ (y : Option ComponentName × Items). ts ≡ component_if_any_yield y.0 y.1) (same_Some (Some n.0, n.1) x made) (component_stands ts n read))
+
+  end_name_found : (n : Option ComponentName) (e : Edge) (rest : Items) →
+      end_name_in (component_if_any_yield n (finish_yield e rest)) (is_name (component_if_any_yield n (finish_yield e rest))) ≡ Some (n, finish_yield e rest)
+  unfolding end_name_in
+  end_name_found None e rest = refl
+  end_name_found (Some n) e rest =
+      let (text, span, items, is) = component_begins n (finish_yield e rest) in
+      let begins : is_name (component_yield n (finish_yield e rest)) ≡ true = ap is_name is in
+      ap (end_name_in (component_yield n (finish_yield e rest))) begins ∙ ap (λ o. o >>= λ m. Some (Some m.0, m.1)) (component_found n (finish_yield e rest) refl)
+
+  pub record EndingStands (start : Edge) (first : Span) (o : Opened) (ts : Items) (x : Head × Items) : Type 0 where
+    pub tokens : ts ≡ ending_yield x.0 x.1
+    pub opened : (items : Items) → start_yield start (Token (opener_token OpensComponent) first (opened_yield o items)) ≡ head_yield x.0 items
+    pub fits : FitParameters l o.parameters → FitsMetadata l o.metadata → FitsHead l x.0
+    pub name : component_text x.0.name ≡ component_text o.name
+
+  pub ending_stands : (start : Edge) (first : Span) (o : Opened) (ts : Items) (x : Head × Items) → ending_of start first o ts ≡ Some x → EndingStands start first o ts x
+  unfolding ending_of
+  ending_stands start first o ts x h =
+      bound _ _ _ h (λ e stands rest1. bound _ _ _ rest1 (λ n named rest2. bound _ _ _ rest2 (λ u agreed more. bound _ _ _ more (λ f ended made.
+      subst (EndingStands start first o ts) (same_Some (head start first o e.0.0 e.0.1 n.0 f.0, f.1) x made) (record {
+        tokens = closed_stands AtEndComponent ts e stands
+            ∙ ap (λ v. start_yield e.0.0 (Token (closer_token AtEndComponent) e.0.1 v)) (end_name_stands e.1 (is_name e.1) n named ∙ ap (component_if_any_yield n.0) (finish_stands n.1 f ended));
+        opened = λ items. refl;
+        fits = λ parameters metadata. (parameters, metadata, guard_ok _ u agreed);
+        name = refl;
+      })))))
+
+  pub ending_found : (h : Head) (rest : Items) → agrees (component_text h.name) (component_texts h.end_name) ≡ true → ending_of h.tag.start h.tag.first (opened_part h) (ending_yield h rest) ≡ Some (h, rest)
+  unfolding ending_of
+  ending_found h rest agreed = rw (end_name_found h.end_name h.ending.finish rest, agreed) refl

@@ -1,0 +1,49 @@
+-- From the tokens of a whole source to its derivation.
+use Rattle.std.proofs.Common.{◌≡◌, ℕ, List, [], Some, None, subst, sym, refl, ap, ◌∙◌}
+use Rattle.tera_lexer.specs.Marks.{Marks, IsValid}
+use Rattle.tera_lexer.specs.Division.{Nothing, IsDivision}
+use Rattle.tera_lexer.specs.Tokens.{Items, tokens_of, AreTokensOf}
+use Rattle.tera_lexer.proofs.Lefts.{tokens_one}
+use Rattle.tera_tree.specs.Tree.{Output}
+use Rattle.tera_grammar.specs.statements.Expressions.{Limits}
+use Rattle.tera_grammar.specs.statements.Grammar.{Body}
+use Rattle.tera_grammar.specs.statements.Output.{output_of}
+use Rattle.tera_grammar.specs.statements.Reading.{template}
+use Rattle.tera_grammar.specs.statements.Top.{IsTemplate, Derives}
+use Rattle.tera_grammar.proofs.statements.Closed.{ends_in_nothing}
+use Rattle.tera_grammar.proofs.statements.Tops.{template_sound, template_complete, one_template}
+
+none_some : {A : Type 0} {a : A} → None ≡ Some a → ⊥
+none_some e = cc
+
+module _ (l : Limits) (m : Marks) (valid : IsValid m) (source : List ℕ) where
+  -- what is derived is a template of the tokens of the source
+  derived_template : (items : Items) → AreTokensOf m source items → (output : Output) (d : Derives l m source output) → IsTemplate l items d.2.0
+  derived_template items are output (pieces, division, (b, is, same)) =
+      subst (λ ts. IsTemplate l ts b) (sym (tokens_one m valid source items (tokens_of m [] [] pieces Nothing) are (pieces, Nothing, division, refl))) is
+
+  pub derives_unique : (one other : Output) → Derives l m source one → Derives l m source other → one ≡ other
+  derives_unique one other d d' =
+      let same = derived_template (tokens_of m [] [] d.0 Nothing) (d.0, Nothing, d.1, refl) other d' in
+      d.2.2 ∙ ap output_of (one_template l (tokens_of m [] [] d.0 Nothing) d.2.0 d'.2.0 d.2.1 same) ∙ sym d'.2.2
+
+  -- of the tokens of the source
+  module _ (items : Items) (are : AreTokensOf m source items) where
+    -- what is read of them is derived
+    pub read_derives : (b : Body) → template l items ≡ Some b → Derives l m source (output_of b)
+    read_derives b read =
+        let (pieces, ending, division, same) = are in
+        let is = template_sound l items b read in
+        let nothing : ending ≡ Nothing = ends_in_nothing m pieces ending b (sym same ∙ is.tokens) in (
+          pieces,
+          subst (λ e. IsDivision m pieces e source) nothing division,
+          (b, subst (λ ts. IsTemplate l ts b) (same ∙ ap (tokens_of m [] [] pieces) nothing) is, refl),
+        )
+
+    -- what is derived is read
+    pub derives_read : (output : Output) → Derives l m source output → (b : Body) × (template l items ≡ Some b) × (output ≡ output_of b)
+    derives_read output d = (d.2.0, template_complete l items d.2.0 (derived_template items are output d), d.2.2)
+
+    -- so nothing is, where nothing is read
+    pub none_derived : template l items ≡ None → (output : Output) → Derives l m source output → ⊥
+    none_derived none output d = none_some (sym none ∙ template_complete l items d.2.0 (derived_template items are output d))

@@ -1,0 +1,13 @@
+pub mod Options
+pub mod Names
+pub mod Parts
+pub mod Expressions
+pub mod Types
+pub mod Components
+pub mod Heads
+pub mod Grammar
+pub mod Output
+pub mod Top
+pub mod Reading
+pub mod Loops
+pub mod Trees

@@ -1,0 +1,221 @@
+-- The definition of a component, but for its body: its name, its parameters and its metadata.
+use Rattle.std.specs.Prelude.{◌≡◌, ℕ, ℤ, Bool, true, false, ◌||◌, List, [], ◌∷◌, codes, Option, Some, None, is_some, neg_ℤ}
+use Rattle.std.specs.Str.{bytes_eq}
+use Rattle.tera_base.specs.declared.utils.Span.{Span}
+use Rattle.tera_lexer.specs.Tokens as toks
+use Rattle.tera_lexer.specs.Tokens.{Items, Token, Ident}
+use Rattle.tera_base.specs.Values as values
+use Rattle.tera_base.specs.Values.{Val, Pairs, NoPairs, OnePair}
+use Rattle.tera_tree.specs.Tree.{Argument, Definition, Stmt}
+use Rattle.tera_tree.specs.declared.ast.ArgType.{ArgType}
+use Rattle.tera_grammar.specs.statements.Types.{type_of, type_named, has_type, key_text, Sorted, put_name}
+use Rattle.tera_grammar.specs.expressions.Words.{is_none}
+use Rattle.tera_grammar.specs.statements.Names.{agrees, AreDistinct}
+use Rattle.tera_grammar.specs.statements.Parts.{Name, name_yield, Quote, quote_yield, quote_text, symbol_yield, Tag, OpensComponent, AtEndComponent, opening, closing, finish}
+use Rattle.tera_grammar.specs.statements.Expressions.{Limits, ComponentName, component_yield, component_text, LiteralArray, IsLiteralArray, array_yield, array_output, LiteralMap, IsLiteralMap, map_yield, map_output}
+
+-- the default of a parameter: one of the two truths; a string; a number; a minus and a number; a word for no
+-- value; a constant array; a constant map
+pub data Default : Type 0 where
+  TruthDefault : Bool → Span → Default
+  TextDefault : Quote → Default
+  NumberDefault : ℤ → Span → Default
+  MinusDefault : Span → ℤ → Span → Default
+  NothingDefault : Name → Default
+  ArrayDefault : LiteralArray → Default
+  MapDefault : LiteralMap → Default
+
+abbrev pub FitsDefault : Limits → Default → Type 0
+FitsDefault l (NothingDefault n) = is_none n.text ≡ true
+FitsDefault l (ArrayDefault a) = IsLiteralArray l a
+FitsDefault l (MapDefault m) = IsLiteralMap l m
+FitsDefault l d = Unit {0}
+
+abbrev pub default_yield : Default → Items → Items
+default_yield (TruthDefault b span) items = Token (toks.Truth b) span items
+default_yield (TextDefault q) items = quote_yield q items
+default_yield (NumberDefault n span) items = Token (toks.Integer n) span items
+default_yield (MinusDefault minus n span) items = symbol_yield (codes "-") minus (Token (toks.Integer n) span items)
+default_yield (NothingDefault n) items = name_yield n items
+default_yield (ArrayDefault a) items = array_yield a items
+default_yield (MapDefault m) items = map_yield m items
+
+abbrev pub default_output : Default → Val
+default_output (TruthDefault b span) = values.Truth b
+default_output (TextDefault q) = values.Text (quote_text q)
+default_output (NumberDefault n span) = values.I64 n
+default_output (MinusDefault minus n span) = values.I64 (neg_ℤ n)
+default_output (NothingDefault n) = values.Nothing
+default_output (ArrayDefault a) = values.Array (array_output a)
+default_output (MapDefault m) = values.Map (map_output m)
+
+-- the type of a parameter, behind a colon, and its default, behind an equals sign
+pub record Annotation : Type 0 where
+  pub colon : Span
+  pub name : Name
+
+pub record Assigned : Type 0 where
+  pub sign : Span
+  pub value : Default
+
+-- a parameter: where `@` stands before it, if it does; its name; its type and its default, if any
+pub record Parameter : Type 0 where
+  pub at : Option Span
+  pub name : Name
+  pub type : Option Annotation
+  pub default : Option Assigned
+
+abbrev pub at_yield : Option Span → Items → Items
+at_yield None items = items
+at_yield (Some span) items = symbol_yield (codes "@") span items
+
+abbrev pub annotation_yield : Option Annotation → Items → Items
+annotation_yield None items = items
+annotation_yield (Some a) items = symbol_yield (codes ":") a.colon (name_yield a.name items)
+
+abbrev pub assigned_yield : Option Assigned → Items → Items
+assigned_yield None items = items
+assigned_yield (Some d) items = symbol_yield (codes "=") d.sign (default_yield d.value items)
+
+abbrev pub parameter_yield : Parameter → Items → Items
+parameter_yield p items = at_yield p.at (name_yield p.name (annotation_yield p.type (assigned_yield p.default items)))
+
+abbrev pub default_of : Option Assigned → Option Val
+default_of None = None
+default_of (Some d) = Some (default_output d.value)
+
+-- the type that is written, or else that of the default
+abbrev pub type_of_argument : Option Annotation → Option Val → Option ArgType
+type_of_argument (Some a) d = type_named a.name.text
+type_of_argument None None = None
+type_of_argument None (Some v) = type_of v
+
+abbrev pub argument_of : Parameter → Argument
+argument_of p = record {
+  default = default_of p.default;
+  typ = type_of_argument p.type (default_of p.default);
+  implicit = is_some p.at;
+}
+
+-- a type that is written is one
+abbrev pub is_known : Option Annotation → Bool
+is_known None = true
+is_known (Some a) = is_some (type_named a.name.text)
+
+abbrev pub is_nothing : Val → Bool
+is_nothing values.Nothing = true
+is_nothing v = false
+
+-- a default that is a value is of its type
+abbrev pub default_has_type : Option ArgType → Option Val → Bool
+default_has_type (Some t) (Some v) = is_nothing v || has_type t v
+default_has_type type default = true
+
+abbrev pub FitsAssigned : Limits → Option Assigned → Type 0
+FitsAssigned l None = Unit {0}
+FitsAssigned l (Some d) = FitsDefault l d.value
+
+abbrev pub is_body : List ℕ → Bool
+is_body name = bytes_eq name (codes "body")
+
+abbrev pub FitsParameter : Limits → Parameter → Type 0
+FitsParameter l p =
+    (is_body p.name.text ≡ false) × (is_known p.type ≡ true) × FitsAssigned l p.default
+    × (default_has_type (argument_of p).typ (argument_of p).default ≡ true)
+
+-- The parameters, up to the closing parenthesis: none; the rest parameter; a last one; one more, with a comma.
+pub data Parameters : Type 0 where
+  Closed : Span → Parameters
+  Rest : Span → Name → Span → Parameters
+  Final : Parameter → Span → Parameters
+  More : Parameter → Span → Parameters → Parameters
+
+abbrev pub parameters_yield : Parameters → Items → Items
+parameters_yield (Closed end) items = symbol_yield (codes ")") end items
+parameters_yield (Rest dots n end) items = symbol_yield (codes "...") dots (name_yield n (symbol_yield (codes ")") end items))
+parameters_yield (Final p end) items = parameter_yield p (symbol_yield (codes ")") end items)
+parameters_yield (More p comma ps) items = parameter_yield p (symbol_yield (codes ",") comma (parameters_yield ps items))
+
+-- the names of all of them
+abbrev pub parameter_names : Parameters → List (List ℕ)
+parameter_names (Closed end) = []
+parameter_names (Rest dots n end) = n.text ∷ []
+parameter_names (Final p end) = p.name.text ∷ []
+parameter_names (More p comma ps) = p.name.text ∷ parameter_names ps
+
+abbrev pub FitEach : Limits → Parameters → Type 0
+FitEach l (Closed end) = Unit {0}
+FitEach l (Rest dots n end) = is_body n.text ≡ false
+FitEach l (Final p end) = FitsParameter l p
+FitEach l (More p comma ps) = FitsParameter l p × FitEach l ps
+
+-- each may stand there, and no two have one name
+abbrev pub FitParameters : Limits → Parameters → Type 0
+FitParameters l ps = FitEach l ps × AreDistinct (parameter_names ps)
+
+-- the arguments, put among others
+abbrev pub put_arguments : Parameters → Sorted Argument → Sorted Argument
+put_arguments (Closed end) args = args
+put_arguments (Rest dots n end) args = args
+put_arguments (Final p end) args = put_name p.name.text (argument_of p) args
+put_arguments (More p comma ps) args = put_arguments ps (put_name p.name.text (argument_of p) args)
+
+abbrev pub rest_of : Parameters → Option (List ℕ)
+rest_of (Closed end) = None
+rest_of (Rest dots n end) = Some n.text
+rest_of (Final p end) = None
+rest_of (More p comma ps) = rest_of ps
+
+-- The tags of a component's definition.
+pub record Head : Type 0 where
+  pub tag : Tag
+  pub name : ComponentName
+  pub paren : Span
+  pub parameters : Parameters
+  pub metadata : Option LiteralMap
+  pub ending : Tag
+  pub end_name : Option ComponentName
+
+abbrev pub metadata_yield : Option LiteralMap → Items → Items
+metadata_yield None items = items
+metadata_yield (Some m) items = map_yield m items
+
+abbrev pub component_if_any_yield : Option ComponentName → Items → Items
+component_if_any_yield None items = items
+component_if_any_yield (Some n) items = component_yield n items
+
+abbrev pub head_yield : Head → Items → Items
+head_yield h items =
+    opening OpensComponent h.tag (component_yield h.name (symbol_yield (codes "(") h.paren (parameters_yield h.parameters (metadata_yield h.metadata (finish h.tag items)))))
+
+abbrev pub ending_yield : Head → Items → Items
+ending_yield h items = closing AtEndComponent h.ending (component_if_any_yield h.end_name (finish h.ending items))
+
+abbrev pub FitsMetadata : Limits → Option LiteralMap → Type 0
+FitsMetadata l None = Unit {0}
+FitsMetadata l (Some m) = IsLiteralMap l m
+
+abbrev pub component_texts : Option ComponentName → Option (List ℕ)
+component_texts None = None
+component_texts (Some n) = Some (component_text n)
+
+abbrev pub FitsHead : Limits → Head → Type 0
+FitsHead l h = FitParameters l h.parameters × FitsMetadata l h.metadata × (agrees (component_text h.name) (component_texts h.end_name) ≡ true)
+
+-- each value under its key's text; of two keys with one text the later wins
+abbrev pub put_pairs : Pairs → Sorted Val → Sorted Val
+put_pairs NoPairs values = values
+put_pairs (OnePair k v ps) values = put_pairs ps (put_name (key_text k) v values)
+
+abbrev pub metadata_output : Option LiteralMap → Sorted Val
+metadata_output None = []
+metadata_output (Some m) = put_pairs (map_output m) []
+
+abbrev pub definition_of : Head → List Stmt → Definition
+definition_of h body = record {
+  name = component_text h.name;
+  arguments = put_arguments h.parameters [];
+  rest = rest_of h.parameters;
+  metadata = metadata_output h.metadata;
+  body = body;
+}

@@ -1,0 +1,157 @@
+-- Reading the definition of a component, but for its body.
+use Rattle.std.specs.Prelude.{ℕ, zero, suc, Bool, true, false, not, List, [], ◌∷◌, ◌++◌, codes, Option, Some, None}
+use Rattle.std.specs.Str.{bytes_eq}
+use Rattle.tera_base.specs.declared.utils.Span.{Span}
+use Rattle.tera_lexer.specs.Cursors.{size}
+use Rattle.tera_lexer.specs.Tokens as toks
+use Rattle.tera_lexer.specs.Tokens.{Tok, Items, Token, Ident, Str, Integer, Truth, Symbol}
+use Rattle.tera_grammar.specs.expressions.Words.{is_none}
+use Rattle.tera_grammar.specs.statements.Options.{◌>>=◌, guard}
+use Rattle.tera_grammar.specs.statements.Names.{is_among, agrees}
+use Rattle.tera_grammar.specs.statements.Parts.{Edge, Name, Simple, Escaped, is_symbol, AtEndComponent}
+use Rattle.tera_grammar.specs.statements.Expressions.{Limits, ComponentName, component_of, component_text, LiteralMap, array_of, map_of}
+use Rattle.tera_grammar.specs.statements.Components.{Default, TruthDefault, TextDefault, NumberDefault, MinusDefault, NothingDefault, ArrayDefault, MapDefault, Annotation, Assigned, Parameter, is_known, is_body, argument_of, default_has_type, Parameters, Closed, Rest, Final, More, component_texts, Head}
+use Rattle.tera_grammar.specs.statements.Reading.Parts.{Takes, symbol, name_of, finish_of, closed, tag}
+
+-- the number behind a minus
+abbrev pub minus_at : Span → Tok → Span → Items → Takes Default
+minus_at minus (Integer n) span items = Some (MinusDefault minus n span, items)
+minus_at minus t span items = None
+
+abbrev pub minus_of : Span → Items → Takes Default
+minus_of minus (Token t span items) = minus_at minus t span items
+minus_of minus items = None
+
+-- a default that begins with an operator: with a minus, an opening bracket, an opening brace
+unfoldable pub default_by : Limits → List ℕ → Span → Items → Bool → Bool → Bool → Takes Default
+default_by l op span items true b c = minus_of span items
+default_by l op span items false true c = array_of l (Token (Symbol op) span items) >>= λ a. Some (ArrayDefault a.0, a.1)
+default_by l op span items false false true = map_of l (Token (Symbol op) span items) >>= λ m. Some (MapDefault m.0, m.1)
+default_by l op span items false false false = None
+
+unfoldable pub default_at : Limits → Tok → Span → Items → Takes Default
+default_at l (Truth b) span items = Some (TruthDefault b span, items)
+default_at l (Str text) span items = Some (TextDefault (Simple text span), items)
+default_at l (toks.Escaped text) span items = Some (TextDefault (Escaped text span), items)
+default_at l (Integer n) span items = Some (NumberDefault n span, items)
+default_at l (Ident text) span items = guard (is_none text) >>= λ u. Some (NothingDefault (record { text = text; span = span }), items)
+default_at l (Symbol op) span items =
+    default_by l op span items (bytes_eq op (codes "-")) (bytes_eq op (codes "[")) (bytes_eq op (codes "{"))
+default_at l t span items = None
+
+unfoldable pub default_of : Limits → Items → Takes Default
+default_of l (Token t span items) = default_at l t span items
+default_of l items = None
+
+-- the parts of a parameter, where they stand there
+abbrev pub at_in : Items → Option (Span × Items) → Option Span × Items
+at_in items None = (None, items)
+at_in items (Some at) = (Some at.0, at.1)
+
+unfoldable pub annotation_in : Items → Option (Span × Items) → Takes (Option Annotation)
+annotation_in items None = Some (None, items)
+annotation_in items (Some colon) =
+    name_of colon.1 >>= λ n. guard (is_known (Some (record { colon = colon.0; name = n.0 }))) >>= λ u.
+    Some (Some (record { colon = colon.0; name = n.0 }), n.1)
+
+unfoldable pub assigned_in : Limits → Items → Option (Span × Items) → Takes (Option Assigned)
+assigned_in l items None = Some (None, items)
+assigned_in l items (Some sign) = default_of l sign.1 >>= λ d. Some (Some (record { sign = sign.0; value = d.0 }), d.1)
+
+abbrev pub parameter : Option Span → Name → Option Annotation → Option Assigned → Parameter
+parameter at name type default = record { at = at; name = name; type = type; default = default }
+
+-- a name that is neither `body` nor that of an earlier parameter
+abbrev pub fresh_name : List (List ℕ) → Items → Takes Name
+fresh_name seen items =
+    name_of items >>= λ n. guard (not (is_body n.0.text)) >>= λ u. guard (not (is_among n.0.text seen)) >>= λ v. Some n
+
+-- a parameter, behind `@`, if any
+unfoldable pub parameter_behind : Limits → List (List ℕ) → Option Span → Items → Takes Parameter
+parameter_behind l seen at items =
+    fresh_name seen items >>= λ n.
+    annotation_in n.1 (symbol (codes ":") n.1) >>= λ t.
+    assigned_in l t.1 (symbol (codes "=") t.1) >>= λ d.
+    guard (default_has_type (argument_of (parameter at n.0 t.0 d.0)).typ (argument_of (parameter at n.0 t.0 d.0)).default) >>= λ u.
+    Some (parameter at n.0 t.0 d.0, d.1)
+
+abbrev pub parameter_of : Limits → List (List ℕ) → Items → Takes Parameter
+parameter_of l seen items =
+    parameter_behind l seen (at_in items (symbol (codes "@") items)).0 (at_in items (symbol (codes "@") items)).1
+
+-- behind a parameter: the closing parenthesis, or a comma and others
+unfoldable pub parameters_behind : (List (List ℕ) → Items → Takes Parameters) → List (List ℕ) → Parameter → Items → Option (Span × Items) → Takes Parameters
+parameters_behind again seen p items (Some end) = Some (Final p end.0, end.1)
+parameters_behind again seen p items None =
+    symbol (codes ",") items >>= λ comma. again (seen ++ p.name.text ∷ []) comma.1 >>= λ ps. Some (More p comma.0 ps.0, ps.1)
+
+-- the rest parameter, or another
+unfoldable pub parameters_at : (List (List ℕ) → Items → Takes Parameters) → Limits → List (List ℕ) → Items → Option (Span × Items) → Takes Parameters
+parameters_at again l seen items (Some dots) =
+    fresh_name seen dots.1 >>= λ n. symbol (codes ")") n.1 >>= λ end. Some (Rest dots.0 n.0 end.0, end.1)
+parameters_at again l seen items None =
+    parameter_of l seen items >>= λ p. parameters_behind again seen p.0 p.1 (symbol (codes ")") p.1)
+
+-- none, where the closing parenthesis stands there
+unfoldable pub parameters_in : (List (List ℕ) → Items → Takes Parameters) → Limits → List (List ℕ) → Items → Option (Span × Items) → Takes Parameters
+parameters_in again l seen items (Some end) = Some (Closed end.0, end.1)
+parameters_in again l seen items None = parameters_at again l seen items (symbol (codes "...") items)
+
+-- The number bounds the parameters. One more than the tokens is enough.
+unfoldable pub parameters_by : ℕ → Limits → List (List ℕ) → Items → Takes Parameters
+parameters_by zero l seen items = None
+parameters_by (suc n) l seen items = parameters_in (parameters_by n l) l seen items (symbol (codes ")") items)
+
+unfoldable pub parameters_of : Limits → List (List ℕ) → Items → Takes Parameters
+parameters_of l seen items = parameters_by (suc (size items)) l seen items
+
+-- metadata, where it stands there
+unfoldable pub metadata_in : Limits → Items → Bool → Takes (Option LiteralMap)
+metadata_in l items false = Some (None, items)
+metadata_in l items true = map_of l items >>= λ m. Some (Some m.0, m.1)
+
+-- the parts of the opening tag, behind its first word
+pub record Opened : Type 0 where
+  pub name : ComponentName
+  pub paren : Span
+  pub parameters : Parameters
+  pub metadata : Option LiteralMap
+  pub finish : Edge
+
+unfoldable pub opened_of : Limits → List (List ℕ) → Items → Takes Opened
+opened_of l seen items =
+    component_of items >>= λ n. guard (not (is_among (component_text n.0) seen)) >>= λ u.
+    symbol (codes "(") n.1 >>= λ paren. parameters_of l [] paren.1 >>= λ ps.
+    metadata_in l ps.1 (is_symbol (codes "{") ps.1) >>= λ m. finish_of m.1 >>= λ f.
+    Some (record { name = n.0; paren = paren.0; parameters = ps.0; metadata = m.0; finish = f.0 }, f.1)
+
+-- whether a name stands there
+abbrev pub is_name_token : Tok → Bool
+is_name_token (Ident text) = true
+is_name_token t = false
+
+abbrev pub is_name : Items → Bool
+is_name (Token t span items) = is_name_token t
+is_name items = false
+
+unfoldable pub end_name_in : Items → Bool → Takes (Option ComponentName)
+end_name_in items false = Some (None, items)
+end_name_in items true = component_of items >>= λ n. Some (Some n.0, n.1)
+
+abbrev pub head : Edge → Span → Opened → Edge → Span → Option ComponentName → Edge → Head
+head start first o end_start end_first end_name end_finish = record {
+  tag = tag start first o.finish;
+  name = o.name;
+  paren = o.paren;
+  parameters = o.parameters;
+  metadata = o.metadata;
+  ending = tag end_start end_first end_finish;
+  end_name = end_name;
+}
+
+-- the closing tag
+unfoldable pub ending_of : Edge → Span → Opened → Items → Takes Head
+ending_of start first o items =
+    closed AtEndComponent items >>= λ x. end_name_in x.1 (is_name x.1) >>= λ n.
+    guard (agrees (component_text o.name) (component_texts n.0)) >>= λ u. finish_of n.1 >>= λ f.
+    Some (head start first o x.0.0 x.0.1 n.0 f.0, f.1)

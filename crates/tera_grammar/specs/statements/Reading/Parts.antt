@@ -1,0 +1,155 @@
+-- Reading the parts of tags.
+use Rattle.std.specs.Prelude.{ℕ, Bool, true, false, if◌then◌else◌, List, [], ◌∷◌, Option, Some, None}
+use Rattle.std.specs.Str.{bytes_eq}
+use Rattle.tera_base.specs.declared.utils.Span.{Span}
+use Rattle.tera_lexer.specs.Tokens as toks
+use Rattle.tera_lexer.specs.Tokens.{Tok, Items, Ended, Failed, Token, Content, Start, Finish, Ident, Str, Symbol}
+use Rattle.tera_lexer.specs.declared.lexer.delimiters.Kind.TheVariants as kind
+use Rattle.tera_grammar.specs.statements.Options.{◌>>=◌, guard}
+use Rattle.tera_grammar.specs.statements.Parts.{Edge, Name, Quote, Simple, Escaped, Tag, Opener, OpensSet, OpensInclude, OpensExtends, OpensBlock, OpensFor, OpensIf, OpensFilter, OpensComponent, OpensBreak, OpensContinue, OpensCall, opener_token, Closer, AtElif, AtElse, AtEndSet, AtEndBlock, AtEndFor, AtEndIf, AtEndFilter, AtEndComponent, AtEndCall, closer_token}
+
+-- what is read, and the tokens behind it
+abbrev pub Takes : Type 0 → Type 0
+Takes A = Option (A × Items)
+
+-- whether two words or two operators are the same
+abbrev pub same_token : Tok → Tok → Bool
+same_token (Ident a) (Ident b) = bytes_eq a b
+same_token (Symbol a) (Symbol b) = bytes_eq a b
+same_token a b = false
+
+abbrev pub openers : List Opener
+openers =
+    OpensSet false ∷ OpensSet true ∷ OpensInclude ∷ OpensExtends ∷ OpensBlock ∷ OpensFor ∷ OpensIf ∷ OpensFilter
+    ∷ OpensComponent ∷ OpensBreak ∷ OpensContinue ∷ OpensCall ∷ []
+
+abbrev pub closers : List Closer
+closers = AtElif ∷ AtElse ∷ AtEndSet ∷ AtEndBlock ∷ AtEndFor ∷ AtEndIf ∷ AtEndFilter ∷ AtEndComponent ∷ AtEndCall ∷ []
+
+abbrev pub opener_in : List Opener → Tok → Option Opener
+opener_in [] t = None
+opener_in (o ∷ os) t = if same_token t (opener_token o) then Some o else opener_in os t
+
+abbrev pub closer_in : List Closer → Tok → Option Closer
+closer_in [] t = None
+closer_in (c ∷ cs) t = if same_token t (closer_token c) then Some c else closer_in cs t
+
+-- what the first token of a tag does
+pub data Role : Type 0 where
+  Opening : Opener → Role
+  Closing : Closer → Role
+  Neither : Role
+
+abbrev pub role_by : Option Opener → Option Closer → Role
+role_by (Some o) c = Opening o
+role_by None (Some c) = Closing c
+role_by None None = Neither
+
+abbrev pub role : Tok → Role
+role t = role_by (opener_in openers t) (closer_in closers t)
+
+-- What the tokens of a body begin with: nothing more; a tag that ends a body; a text; the start of a variable
+-- tag; a tag that opens a statement; anything else.
+pub data Front : Type 0 where
+  Ends : Front
+  Closes : Closer → Edge → Span → Items → Front
+  Holds : List ℕ → Span → Items → Front
+  Shows : Edge → Items → Front
+  Opens : Opener → Edge → Span → Items → Front
+  Wrong : Front
+
+abbrev pub front_by : Role → Edge → Span → Items → Front
+front_by (Opening o) start span items = Opens o start span items
+front_by (Closing c) start span items = Closes c start span items
+front_by Neither start span items = Wrong
+
+abbrev pub front_tag : Edge → Items → Front
+front_tag start (Token t span items) = front_by (role t) start span items
+front_tag start items = Wrong
+
+abbrev pub front_at : Tok → Span → Items → Front
+front_at (Content text) span items = Holds text span items
+front_at (Start kind.Variable dash) span items = Shows (record { dash = dash; span = span }) items
+front_at (Start kind.Block dash) span items = front_tag (record { dash = dash; span = span }) items
+front_at t span items = Wrong
+
+abbrev pub front : Items → Front
+front Ended = Ends
+front (Failed text span) = Wrong
+front (Token t span items) = front_at t span items
+
+-- an operator, and a word
+abbrev pub symbol_at : List ℕ → Tok → Span → Items → Takes Span
+symbol_at op (Symbol text) span items = guard (bytes_eq text op) >>= λ u. Some (span, items)
+symbol_at op t span items = None
+
+abbrev pub symbol : List ℕ → Items → Takes Span
+symbol op (Token t span items) = symbol_at op t span items
+symbol op items = None
+
+abbrev pub word_at : List ℕ → Tok → Span → Items → Takes Span
+word_at word (Ident text) span items = guard (bytes_eq text word) >>= λ u. Some (span, items)
+word_at word t span items = None
+
+abbrev pub word : List ℕ → Items → Takes Span
+word text (Token t span items) = word_at text t span items
+word text items = None
+
+-- a name
+abbrev pub name_at : Tok → Span → Items → Takes Name
+name_at (Ident text) span items = Some (record { text = text; span = span }, items)
+name_at t span items = None
+
+abbrev pub name_of : Items → Takes Name
+name_of (Token t span items) = name_at t span items
+name_of items = None
+
+-- a name, where one stands there
+abbrev pub name_if_found : Items → Option (Name × Items) → Option Name × Items
+name_if_found items None = (None, items)
+name_if_found items (Some n) = (Some n.0, n.1)
+
+abbrev pub name_if_any : Items → Option Name × Items
+name_if_any items = name_if_found items (name_of items)
+
+-- a string
+abbrev pub quote_at : Tok → Span → Items → Takes Quote
+quote_at (Str text) span items = Some (Simple text span, items)
+quote_at (toks.Escaped text) span items = Some (Escaped text span, items)
+quote_at t span items = None
+
+abbrev pub quote_of : Items → Takes Quote
+quote_of (Token t span items) = quote_at t span items
+quote_of items = None
+
+-- the end of a tag, and of a variable tag
+abbrev pub finish_at : Tok → Span → Items → Takes Edge
+finish_at (Finish kind.Block dash) span items = Some (record { dash = dash; span = span }, items)
+finish_at t span items = None
+
+abbrev pub finish_of : Items → Takes Edge
+finish_of (Token t span items) = finish_at t span items
+finish_of items = None
+
+abbrev pub variable_end_at : Tok → Span → Items → Takes Edge
+variable_end_at (Finish kind.Variable dash) span items = Some (record { dash = dash; span = span }, items)
+variable_end_at t span items = None
+
+abbrev pub variable_end_of : Items → Takes Edge
+variable_end_of (Token t span items) = variable_end_at t span items
+variable_end_of items = None
+
+abbrev pub tag : Edge → Span → Edge → Tag
+tag start first finish = record { start = start; first = first; finish = finish }
+
+-- the start of a tag, with this closing token
+abbrev pub closed_at : Closer → Front → Takes (Edge × Span)
+closed_at c (Closes x start span items) = guard (same_token (closer_token x) (closer_token c)) >>= λ u. Some ((start, span), items)
+closed_at c front = None
+
+abbrev pub closed : Closer → Items → Takes (Edge × Span)
+closed c items = closed_at c (front items)
+
+-- a tag that holds this closing token alone
+abbrev pub closed_tag : Closer → Items → Takes Tag
+closed_tag c items = closed c items >>= λ x. finish_of x.1 >>= λ f. Some (tag x.0.0 x.0.1 f.0, f.1)

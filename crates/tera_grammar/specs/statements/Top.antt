@@ -1,0 +1,73 @@
+-- The conditions on the top level of a template, and whole templates.
+use Rattle.std.specs.Prelude.{◌≡◌, ◌≤◌, ℕ, Bool, true, false, List, [], ◌∷◌, ◌⊎◌}
+use Rattle.std.specs.Str.{trim_start}
+use Rattle.tera_lexer.specs.Marks.{Marks}
+use Rattle.tera_lexer.specs.Division.{Piece, Nothing, IsDivision}
+use Rattle.tera_lexer.specs.Tokens.{Items, Ended, tokens_of}
+use Rattle.tera_tree.specs.Tree.{Output}
+use Rattle.tera_grammar.specs.statements.Names.{NamesAreDistinct}
+use Rattle.tera_grammar.specs.statements.Parts.{Quote, Tag}
+use Rattle.tera_grammar.specs.statements.Expressions.{Limits}
+use Rattle.tera_grammar.specs.statements.Grammar.{Words, Extends, Body, Done, Then, Item, Single, Block, Define, yield, Fits, names, height}
+use Rattle.tera_grammar.specs.statements.Output.{output_of}
+
+abbrev pub is_empty : List ℕ → Bool
+is_empty [] = true
+is_empty (b ∷ bs) = false
+
+-- nothing, or nothing but white space
+abbrev pub is_blank : List ℕ → Bool
+is_blank [] = true
+is_blank (b ∷ bs) = is_empty (trim_start (b ∷ bs))
+
+-- a text of white space, or the definition of a component
+abbrev pub is_silent : Item → Bool
+is_silent (Single (Words text span)) = is_blank text
+is_silent (Define h b) = true
+is_silent i = false
+
+-- what may stand in a template that extends another
+abbrev pub is_kept : Item → Bool
+is_kept (Block t n b e m) = true
+is_kept i = is_silent i
+
+abbrev pub IsExtends : Item → Type 0
+IsExtends (Single (Extends t q)) = Unit {0}
+IsExtends i = ⊥
+
+-- each item of the body
+abbrev pub Each : (Item → Type 0) → Body → Type 0
+Each P Done = Unit {0}
+Each P (Then i b) = P i × Each P b
+
+-- one body, and then another
+abbrev pub join : Body → Body → Body
+join Done c = c
+join (Then i b) c = Then i (join b c)
+
+-- It extends another: with nothing but silence before, and only what is kept after.
+pub record Child (b : Body) : Type 0 where
+  pub before : Body
+  pub tag : Tag
+  pub parent : Quote
+  pub after : Body
+  pub is : b ≡ join before (Then (Single (Extends tag parent)) after)
+  pub silent : Each (λ i. is_silent i ≡ true) before
+  pub kept : Each (λ i. is_kept i ≡ true) after
+
+abbrev pub TopLevel : Body → Type 0
+TopLevel b = Each (λ i. IsExtends i → ⊥) b ⊎ Child b
+
+-- the tokens are those of this template, which meets the conditions within the limits
+pub record IsTemplate (l : Limits) (items : Items) (b : Body) : Type 0 where
+  pub tokens : items ≡ yield b Ended
+  pub fits : Fits l [] b
+  pub distinct : NamesAreDistinct (names b)
+  pub top : TopLevel b
+  pub low : height b ≤ l.bodies
+
+-- the source has a derivation with this output: it is divided into pieces alone, and their tokens are those
+-- of a template
+abbrev pub Derives : Limits → Marks → List ℕ → Output → Type 0
+Derives l m source output = (pieces : List Piece) × IsDivision m pieces Nothing source
+    × ((b : Body) × IsTemplate l (tokens_of m [] [] pieces Nothing) b × (output ≡ output_of b))

@@ -1,0 +1,57 @@
+-- What holds of the tree of every template.
+use Rattle.std.specs.Prelude.{◌≡◌, ℕ, Bool, true, false, List, [], ◌∷◌, ◌++◌, map, Some}
+use Rattle.std.specs.List.{AllByRecursion}
+use Rattle.tera_tree.specs.Tree as tree
+use Rattle.tera_tree.specs.Tree.{Stmt, Nodes, NoNodes, OneNode, Output}
+use Rattle.tera_tree.specs.View.{nodes_of}
+use Rattle.tera_grammar.specs.statements.Names.{AreDistinct}
+use Rattle.tera_grammar.specs.statements.Top.{is_blank}
+
+-- The names of the blocks, in order. A call of a component holds nodes where it is a node itself and does not
+-- close itself.
+abbrev mutual
+  pub blocks : Nodes → List (List ℕ)
+  blocks NoNodes = []
+  blocks (OneNode s ss) = stmt_blocks s ++ blocks ss
+
+  pub stmt_blocks : Stmt → List (List ℕ)
+  stmt_blocks (tree.Block name span body) = name ∷ blocks body
+  stmt_blocks (tree.BlockSet name filters body global) = blocks body
+  stmt_blocks (tree.ForLoop key value target body other) = blocks body ++ blocks other
+  stmt_blocks (tree.If e body other) = blocks body ++ blocks other
+  stmt_blocks (tree.FilterSection filters body) = blocks body
+  stmt_blocks (tree.Shown (tree.ComponentCall name es body false span)) = blocks body
+  stmt_blocks s = []
+
+-- Each `break` and `continue` stands in the body of a loop, with no capture between; around the whole there is
+-- such a loop, or none.
+abbrev mutual
+  pub BreaksStand : Bool → Nodes → Type 0
+  BreaksStand inside NoNodes = Unit {0}
+  BreaksStand inside (OneNode s ss) = BreakStands inside s × BreaksStand inside ss
+
+  pub BreakStands : Bool → Stmt → Type 0
+  BreakStands inside tree.Break = inside ≡ true
+  BreakStands inside tree.Continue = inside ≡ true
+  BreakStands inside (tree.Block name span body) = BreaksStand inside body
+  BreakStands inside (tree.BlockSet name filters body global) = BreaksStand false body
+  BreakStands inside (tree.ForLoop key value target body other) = BreaksStand true body × BreaksStand inside other
+  BreakStands inside (tree.If e body other) = BreaksStand inside body × BreaksStand inside other
+  BreakStands inside (tree.FilterSection filters body) = BreaksStand false body
+  BreakStands inside (tree.Shown (tree.ComponentCall name es body false span)) = BreaksStand false body
+  BreakStands inside s = Unit {0}
+
+-- a text of white space, or a block
+abbrev pub IsKeptNode : Stmt → Type 0
+IsKeptNode (tree.Content text) = is_blank text ≡ true
+IsKeptNode (tree.Block name span body) = Unit {0}
+IsKeptNode s = ⊥
+
+-- No two blocks have one name, nor two components; each `break` and `continue` stands in a loop; and a template
+-- that extends another holds nothing but texts of white space and blocks.
+pub record IsRight (out : Output) : Type 0 where
+  pub block_names : AreDistinct (blocks (nodes_of out.nodes))
+  pub component_names : AreDistinct (map (λ d. d.name) out.definitions)
+  pub breaks : BreaksStand false (nodes_of out.nodes)
+  pub breaks_inside : AllByRecursion (λ d. BreaksStand false (nodes_of d.body)) out.definitions
+  pub child : (name : List ℕ) → out.parent ≡ Some name → AllByRecursion IsKeptNode out.nodes
