@@ -1,2 +1,4 @@
+pub mod Options
+pub mod Words
 pub mod expressions
 pub mod statements

@@ -1,3 +1,5 @@
 pub mod Limits
+pub mod Options
+pub mod Words
 pub mod expressions
 pub mod statements

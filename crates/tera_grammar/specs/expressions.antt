@@ -4,7 +4,6 @@ pub mod Concrete
 pub mod Powers
 pub mod Measures
 pub mod Spans
-pub mod Words
 pub mod Output
 pub mod Conditions
 pub mod Constants

@@ -8,11 +8,12 @@ use Rattle.tera_grammar.specs.expressions.Operators.{BinaryOperator, Mul, Div, M
 use Rattle.tera_grammar.specs.expressions.Marks.{Mark, RightParen, LeftBracket, RightBracket, RightBrace, Comma, Colon, Dot, Spread, Not, If, Else, For, Operation, mark_token, mark}
 use Rattle.tera_grammar.specs.expressions.Concrete.{Name, Sign, Negative, Negates, plainly, negated, Second, Op, Single, NotIn, Kind, of_arguments, of_items, of_entries, Tree, Atomic, Prefix, Suffixed, Infix, Atom, Literal, Chain, Call, Paren, Array, Comprehension, Map, Component, Links, no_links, field, item, Sub, index, slice, Part, absent, present, Extra, no_extra, extra, Row, ended, only, then, Element, plain, spread, pair, argument, Attributes, no_attributes, bare, quoted, valued, spreading, Suffix, Test, Filter, Subscript, Args, no_args, args, Operator, Binary, Condition, literal_token, named, joint_yield, bracket_yield, negation_yield, second_yield, yield, atom_yield, links_yield, sub_yield, part_yield, extra_yield, row_yield, attributes_yield, suffix_yield, args_yield, operator_yield}
 use Rattle.tera_grammar.specs.expressions.Powers.{right_of, op_right, left_power, right_power, sign_power, AtLeast, Above, Carries}
-use Rattle.tera_grammar.specs.expressions.Words.{is_not, are_distinct}
+use Rattle.tera_grammar.specs.Words.{is_not, AreDistinct}
 use Rattle.tera_grammar.specs.expressions.Conditions.{AreVariables, names, is_refused, IsExpression, IsAtom, AreLinks, IsSub, IsPart, IsExtra, IsRow, IsElement, AreAttributes, IsSuffix, AreArgs, IsOperator}
 use Rattle.tera_grammar.specs.expressions.Measures.{deep, atom_deep, links_deep, sub_deep, part_deep, extra_deep, row_deep, element_deep, attributes_deep, suffix_deep, args_deep, operator_deep, openings, subscripts, arrays, links, atom_links, links_links, sub_links, part_links, extra_links, row_links, attributes_links, suffix_links, args_links, operator_links, EachElement, EachRow, EachAttribute}
 use Rattle.tera_grammar.specs.expressions.Output.{of_loop}
-use Rattle.tera_grammar.specs.expressions.Reading.Front.{◌>>=◌, Place, at, Reads, same_token, takes, skip, no_link, link_of, Lead, leads_binary, leads_condition, ends_test, ends_filter, ends_subscript, Front, nothing, joins, closes, misplaced, lead_power, keeps_out, front, head_mark}
+use Rattle.tera_grammar.specs.Options.{◌>>=◌}
+use Rattle.tera_grammar.specs.expressions.Reading.Front.{Place, at, Reads, same_token, takes, skip, no_link, link_of, Lead, leads_binary, leads_condition, ends_test, ends_filter, ends_subscript, Front, nothing, joins, closes, misplaced, lead_power, keeps_out, front, head_mark}
 use Rattle.tera_grammar.specs.expressions.Reading.Parts.{Room, room, extra_of, part_of, slice_of, sub_at, sub_of, row_of, arguments_of, args_of, links_by, links_of, attributes_of}
 use Rattle.tera_grammar.specs.expressions.Reading.Atoms.{array_at, head_of}
 use Rattle.tera_grammar.specs.expressions.Reading.Loop.{operator_of, test_at, suffix_in, by_operator, by_suffix, join_of, close_of, step, go_on, expr, loop}
@@ -281,7 +282,7 @@ unfolding links_of
 links_all ls d w c k r h = h
 
 arguments_are_read : (row : Row) (d : ℕ) (w : Room) (k : ℕ) (r : Items) → IsRow w.in_loop of_arguments row
-    → are_distinct (names row) ≡ true → EachRow (Whole (expr d) links w) row
+    → AreDistinct (names row) → EachRow (Whole (expr d) links w) row
     → arguments_of (expr d) w (at (row_links row + k) (row_yield of_arguments row r)) ≡ Some (row, at k r)
 arguments_are_read row d w k r is distinct each =
     ap (λ i. arguments_of (expr d) w (at (i + k) (row_yield of_arguments row r))) (sym (row_toll_links row))

@@ -13,7 +13,7 @@ use Rattle.tera_tree.specs.Tree.{Expr}
 use Rattle.tera_tree.specs.declared.ast.BinaryOperator.TheVariants.{Mul, Plus, Power, StrConcat, In}
 use Rattle.tera_grammar.specs.expressions.Concrete.{Tree}
 use Rattle.tera_grammar.specs.Limits.{usual}
-use Rattle.tera_grammar.specs.expressions.Words.{is_none, is_reserved, is_loop_field}
+use Rattle.tera_grammar.specs.Words.{is_none, is_reserved, is_loop_field}
 use Rattle.tera_grammar.specs.expressions.Output.{output}
 use Rattle.tera_grammar.specs.expressions.Reading.Front.{skip, bump, name_of, literal_by, link_of, front_of_token, head_mark, begins_sign}
 use Rattle.tera_grammar.specs.expressions.Reading.Parts.{inside_subscript, inside_array, extra_of, part_of, slice_of, sub_of, element_of, after_element, row_by, row_of, arguments_of, args_of, links_by, links_of, dotted_by, dotted_of, attributes_by, attributes_of}

@@ -9,14 +9,16 @@ use Rattle.tera_grammar.specs.expressions.Operators.{Div, Minus, LessThan, Great
 use Rattle.tera_grammar.specs.expressions.Marks.{Mark, LeftParen, RightParen, LeftBracket, RightBracket, LeftBrace, Comma, If, For, Operation, mark}
 use Rattle.tera_grammar.specs.expressions.Concrete.{Name, Lit, Number, Quoted, Escaped, Truth, Nothing, Sign, Negative, Negates, Second, no_second, second, of_items, of_entries, Tree, Atomic, Prefix, Suffixed, Infix, Literal, Chain, Call, Paren, Array, Comprehension, Map, Component, Row, ended, Element, plain, spread, pair, argument, literal_token, named, sign_yield, second_yield, dotted_yield, yield, extra_yield, attributes_yield}
 use Rattle.tera_grammar.specs.expressions.Powers.{sign_power, left_spine, BeginsPlain}
-use Rattle.tera_grammar.specs.expressions.Words.{is_none, is_not, is_reserved}
+use Rattle.tera_grammar.specs.Words.{is_none, is_not, is_reserved}
 use Rattle.tera_grammar.specs.expressions.Conditions.{IsLiteral, IsFirst, AreVariables, IsExpression}
 use Rattle.tera_grammar.specs.expressions.Measures.{deep, subscripts, arrays, height, links}
 use Rattle.tera_grammar.specs.expressions.Output.{of_loop}
-use Rattle.tera_grammar.specs.expressions.Reading.Front.{◌>>=◌, Place, at, Reads, among, skip, head_marks, head_mark, begins_sign}
+use Rattle.tera_grammar.specs.Options.{◌>>=◌}
+use Rattle.tera_grammar.specs.expressions.Reading.Front.{Place, at, Reads, among, skip, head_marks, head_mark, begins_sign}
 use Rattle.tera_grammar.specs.expressions.Reading.Parts.{Room, room, Reader, row_of}
 use Rattle.tera_grammar.specs.expressions.Reading.Atoms.{prefix_of, paren_of, second_at, variables_of, comprehension_of, items_from, for_at, array_from, array_at, array_of, map_of, component_of, called_at, chain_of, word_head, mark_head, head_token, head_in, head_of}
-use Rattle.tera_grammar.proofs.expressions.Fronts.{bound, cond_ok, fails_ok, among_is, skip_ok, name_of_ok}
+use Rattle.tera_grammar.proofs.Options.{bound}
+use Rattle.tera_grammar.proofs.expressions.Fronts.{cond_ok, fails_ok, among_is, skip_ok, name_of_ok}
 use Rattle.tera_grammar.proofs.expressions.Quiet.{Quiet}
 use Rattle.tera_grammar.proofs.expressions.FoundRows.{row_toll_links, attributes_toll_links, FoundElement, FoundRow, element_found, after_found, ended_found, row_found, arguments_found, attributes_found}
 use Rattle.tera_grammar.proofs.expressions.FoundParts.{Any, SoundTree, inside_array_ok, dotted_found, extra_found, links_found}

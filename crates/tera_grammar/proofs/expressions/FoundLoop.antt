@@ -8,13 +8,14 @@ use Rattle.tera_lexer.specs.Cursors.{size}
 use Rattle.tera_grammar.specs.expressions.Marks.{LeftBracket, Bar, Not, Is, If, Else, mark}
 use Rattle.tera_grammar.specs.expressions.Concrete.{Name, Negation, plainly, negated, Tree, Suffixed, Suffix, Test, Filter, Subscript, Operator, Binary, Condition, named, negation_yield, op_yield, yield, suffix_yield, operator_yield}
 use Rattle.tera_grammar.specs.expressions.Powers.{left_power, right_power, AtLeast, Above, Carries}
-use Rattle.tera_grammar.specs.expressions.Words.{is_not}
+use Rattle.tera_grammar.specs.Words.{is_not}
 use Rattle.tera_grammar.specs.expressions.Conditions.{NamesTest, names, is_refused, IsExpression, IsSuffix, IsOperator}
 use Rattle.tera_grammar.specs.expressions.Measures.{deep, suffix_deep, operator_deep, openings, subscripts, arrays, height, links, suffix_links, operator_links}
 use Rattle.tera_grammar.specs.expressions.Reading.Front.{Place, at, Reads, takes, skip, Lead, leads_binary, leads_condition, Ending, ends_test, ends_filter, ends_subscript, Front, nothing, joins, closes, misplaced, lead_power, keeps_out, front}
 use Rattle.tera_grammar.specs.expressions.Reading.Parts.{Room, Reader}
 use Rattle.tera_grammar.specs.expressions.Reading.Loop.{operator_of, test_named, test_at, suffix_in, Growth, by_operator, by_suffix, grow, join_of, close_of, grown, step, go_on, loop_by, expr}
-use Rattle.tera_grammar.proofs.expressions.Fronts.{bound, cond_ok, fails_ok, skip_ok, skip_none, bump_ok, name_of_ok, lead_tokens, ending_tokens, FrontOf, FrontOf-front}
+use Rattle.tera_grammar.proofs.Options.{bound}
+use Rattle.tera_grammar.proofs.expressions.Fronts.{cond_ok, fails_ok, skip_ok, skip_none, bump_ok, name_of_ok, lead_tokens, ending_tokens, FrontOf, FrontOf-front}
 use Rattle.tera_grammar.proofs.expressions.Quiet.{StopsAt, Stops, QuietSuffix, Quiet, Above-quiet, closed-quiet, bare-quiet}
 use Rattle.tera_grammar.proofs.expressions.Longer.{longer, longer_suffix, longer_operator}
 use Rattle.tera_grammar.proofs.expressions.FoundRows.{Found}

@@ -8,12 +8,14 @@ use Rattle.tera_lexer.specs.Cursors.{size}
 use Rattle.tera_grammar.specs.expressions.Marks.{LeftBrace, RightBrace, Comma, Colon, Spread, Assign, mark}
 use Rattle.tera_grammar.specs.expressions.Concrete.{Name, Lit, Kind, of_arguments, of_items, of_entries, Tree, Row, ended, only, then, Element, plain, spread, pair, argument, Attributes, no_attributes, bare, quoted, valued, spreading, literal_token, named, closing, yield, row_yield, element_yield, attributes_yield}
 use Rattle.tera_grammar.specs.expressions.Powers.{AtLeast}
-use Rattle.tera_grammar.specs.expressions.Words.{are_distinct}
+use Rattle.tera_grammar.specs.Words.{are_distinct, AreDistinct}
 use Rattle.tera_grammar.specs.expressions.Conditions.{is_key, is_text, is_element_of, names, IsExpression, IsRow, IsElement, AreAttributes}
 use Rattle.tera_grammar.specs.expressions.Measures.{deep, row_deep, element_deep, attributes_deep, openings, subscripts, arrays, height, links, row_links, element_links, attributes_links, EachElement, EachRow, EachAttribute}
 use Rattle.tera_grammar.specs.expressions.Reading.Front.{Place, Reads, skip, name_of, literal_by}
 use Rattle.tera_grammar.specs.expressions.Reading.Parts.{Room, Reader, spread_at, item_at, entry_at, element_of, comma_at, after_element, row_at, row_by, row_of, arguments_of, value_at, named_at, attribute_at, attributes_by, attributes_of}
-use Rattle.tera_grammar.proofs.expressions.Fronts.{bound, holds_ok, skip_ok, name_of_ok, literal_by_ok}
+use Rattle.tera_grammar.proofs.Words.{distinct_ok}
+use Rattle.tera_grammar.proofs.Options.{bound}
+use Rattle.tera_grammar.proofs.expressions.Fronts.{holds_ok, skip_ok, name_of_ok, literal_by_ok}
 use Rattle.tera_grammar.proofs.expressions.Quiet.{Stops, Quiet}
 
 -- What a reading of a whole expression has found, where d expressions may open in some room. What it costs is
@@ -255,14 +257,14 @@ module _ (toll : Tree → ℕ) (fits : Room → Tree → Type 0) (d : ℕ) (f : 
   row_found k p x h = row_by_found (suc (size p.tokens)) k p x h
 
   pub arguments_found : (p : Place) (x : Row × Place) → arguments_of f w p ≡ Some x → FoundRow toll fits d w of_arguments p x.0 x.1
-      × (are_distinct (names x.0) ≡ true)
+      × AreDistinct (names x.0)
   unfolding arguments_of
   arguments_found p x h =
       bound (row_of f w of_arguments p) (λ r. cond (are_distinct (names r.0)) (Some r) None) x h (λ r read rest.
       let (distinct, made) = holds_ok (are_distinct (names r.0)) (Some r) x rest in
       let e = same_Some r x made in (
         subst (λ (z : Row × Place). FoundRow toll fits d w of_arguments p z.0 z.1) e (row_found of_arguments p r read),
-        subst (λ (z : Row × Place). are_distinct (names z.0) ≡ true) e distinct,
+        subst (λ (z : Row × Place). AreDistinct (names z.0)) e (distinct_ok (names r.0) distinct),
       ))
 
   value_found : (more : Place → Reads Attributes) → SoundAttributes toll fits d w more → (p q r : Place) (n : Name) (s : Span)

@@ -9,18 +9,14 @@ use Rattle.tera_grammar.specs.expressions.Operators.{BinaryOperator, Mul, Div, M
 use Rattle.tera_grammar.specs.expressions.Marks.{Mark, LeftParen, RightParen, LeftBracket, RightBracket, QuestionBracket, RightBrace, Comma, Colon, Dot, QuestionDot, Bar, Not, Is, If, Else, For, Operation, Other, mark_token, mark}
 use Rattle.tera_grammar.specs.expressions.Concrete.{Name, Lit, Single, NotIn, literal_token, named, joint_yield, bracket_yield, op_yield}
 use Rattle.tera_grammar.specs.expressions.Conditions.{IsStopMark, IsStopToken, IsStop}
-use Rattle.tera_grammar.specs.expressions.Reading.Front.{◌>>=◌, Place, at, same_token, among, takes, moved, skip, lowered, bump, taken_name, name_of, literal_of, taken_literal, literal_by, Link, no_link, jointed, bracketed, called, link_marks, marked_link, link_of, Lead, leads_binary, leads_condition, Ending, ends_test, ends_filter, ends_subscript, Front, nothing, joins, closes, misplaced, front_marks, front_not, marked_front, front_of_token, front}
+use Rattle.tera_grammar.specs.Options.{◌>>=◌}
+use Rattle.tera_grammar.specs.expressions.Reading.Front.{Place, at, same_token, among, takes, moved, skip, lowered, bump, taken_name, name_of, literal_of, taken_literal, literal_by, Link, no_link, jointed, bracketed, called, link_marks, marked_link, link_of, Lead, leads_binary, leads_condition, Ending, ends_test, ends_filter, ends_subscript, Front, nothing, joins, closes, misplaced, front_marks, front_not, marked_front, front_of_token, front}
 
 -- the parts of a reading that succeeds
 pub bind_ok : {A B : Type 0} (o : Option A) (f : A → Option B) (y : B) → (o >>= f) ≡ Some y → (x : A) × (o ≡ Some x)
     × (f x ≡ Some y)
 bind_ok None f y h = cc
 bind_ok (Some x) f y h = (x, refl, h)
-
-pub bound : {A B C : Type 0} (o : Option A) (f : A → Option B) (y : B) → (o >>= f) ≡ Some y
-    → ((x : A) → o ≡ Some x → f x ≡ Some y → C) → C
-bound None f y h goes = cc
-bound (Some x) f y h goes = goes x refl h
 
 pub cond_ok : {A : Type 0} (b : Bool) (x y z : A) → cond b x y ≡ z → ((b ≡ true) × (x ≡ z)) ⊎ ((b ≡ false) × (y ≡ z))
 cond_ok true x y z h = inl (refl, h)
@@ -35,7 +31,7 @@ pub fails_ok : {A : Type 0} (b : Bool) (o : Option A) (x : A) → cond b None o 
 fails_ok true o x h = cc
 fails_ok false o x h = (refl, h)
 
-same_token_is : (t u : Tok) → same_token t u ≡ true → t ≡ u
+pub same_token_is : (t u : Tok) → same_token t u ≡ true → t ≡ u
 same_token_is (Ident a) (Ident b) h = ap Ident ((bytes_eq-Decides a b).0 h)
 same_token_is (Symbol a) (Symbol b) h = ap Symbol ((bytes_eq-Decides a b).0 h)
 same_token_is _ _ h = cc

@@ -11,7 +11,8 @@ use Rattle.tera_grammar.specs.expressions.Reading.Front.{Place, at}
 use Rattle.tera_grammar.specs.expressions.Reading.Parts.{Room, Reader}
 use Rattle.tera_grammar.specs.expressions.Reading.Loop.{expr, fresh}
 use Rattle.tera_grammar.specs.expressions.Reading.Whole.{widest}
-use Rattle.tera_grammar.proofs.expressions.Fronts.{bound, Ends, ends_mark}
+use Rattle.tera_grammar.proofs.Options.{bound}
+use Rattle.tera_grammar.proofs.expressions.Fronts.{Ends, ends_mark}
 use Rattle.tera_grammar.proofs.expressions.Quiet.{Quiet-ends, ends_stops}
 use Rattle.tera_grammar.proofs.expressions.FoundRows.{Found, Sound, element_toll, row_toll, attributes_toll}
 use Rattle.tera_grammar.proofs.expressions.FoundParts.{SoundTree}

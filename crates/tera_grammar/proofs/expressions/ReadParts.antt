@@ -8,7 +8,7 @@ use Rattle.tera_grammar.specs.expressions.Operators.{Div, Minus, LessThan, Great
 use Rattle.tera_grammar.specs.expressions.Marks.{Mark, LeftParen, RightParen, LeftBracket, RightBracket, LeftBrace, Comma, Colon, Spread, Not, If, For, Operation, mark_token, mark}
 use Rattle.tera_grammar.specs.expressions.Concrete.{Name, Lit, Number, Quoted, Escaped, Truth, Nothing, Sign, Negative, Negates, Joint, plain_dot, optional_dot, Bracket, plain_bracket, optional_bracket, Second, no_second, second, Dotted, of_arguments, of_items, of_entries, Tree, Atomic, Prefix, Suffixed, Infix, Atom, Literal, Chain, Call, Paren, Array, Comprehension, Map, Component, Links, no_links, field, item, Sub, index, slice, Part, absent, present, Extra, no_extra, extra, Row, ended, only, then, Element, plain, spread, pair, argument, Attributes, no_args, args, literal_token, named, sign_yield, joint_yield, bracket_yield, second_yield, dotted_yield, yield, atom_yield, links_yield, part_yield, extra_yield, row_yield, element_yield, attributes_yield}
 use Rattle.tera_grammar.specs.expressions.Powers.{sign_power, BeginsPlain}
-use Rattle.tera_grammar.specs.expressions.Words.{is_none, is_not}
+use Rattle.tera_grammar.specs.Words.{is_none, is_not}
 use Rattle.tera_grammar.specs.expressions.Conditions.{IsLiteral, IsFirst, is_field_of, AreVariables, IsExpression, IsAtom, IsRow, IsStopMark}
 use Rattle.tera_grammar.specs.expressions.Measures.{links, part_links, extra_links, EachRow}
 use Rattle.tera_grammar.specs.expressions.Output.{of_loop}

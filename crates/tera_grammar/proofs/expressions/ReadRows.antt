@@ -6,11 +6,12 @@ use Rattle.tera_lexer.specs.Tokens.{Items, Token}
 use Rattle.tera_lexer.specs.Cursors.{size}
 use Rattle.tera_grammar.specs.expressions.Marks.{Mark, RightParen, RightBracket, LeftBrace, RightBrace, Comma, Colon, Dot, Spread, Assign, mark_token, mark}
 use Rattle.tera_grammar.specs.expressions.Concrete.{Name, Lit, Number, Quoted, Escaped, Truth, Nothing, Dotted, no_dots, dots, Kind, of_arguments, of_items, of_entries, Tree, Row, ended, only, then, Element, plain, spread, pair, argument, Attributes, no_attributes, bare, quoted, valued, spreading, literal_token, named, dotted_yield, closing, yield, row_yield, element_yield, attributes_yield}
-use Rattle.tera_grammar.specs.expressions.Words.{are_distinct}
+use Rattle.tera_grammar.specs.Words.{AreDistinct}
 use Rattle.tera_grammar.specs.expressions.Conditions.{is_key, is_text, is_element_of, names, IsRow, IsElement, AreAttributes, IsStopMark}
 use Rattle.tera_grammar.specs.expressions.Measures.{EachElement, EachRow, EachAttribute}
 use Rattle.tera_grammar.specs.expressions.Reading.Front.{Place, at, Reads, same_token, takes, skip, taken_name, name_of, literal_by}
 use Rattle.tera_grammar.specs.expressions.Reading.Parts.{Room, Reader, item_at, entry_at, element_of, after_element, row_at, row_by, row_of, arguments_of, dotted_by, dotted_of, attributes_by, attributes_of}
+use Rattle.tera_grammar.proofs.Words.{distinct_true}
 use Rattle.tera_grammar.proofs.expressions.Fronts.{takes_ok, none_skip, skip_mark, name_read}
 use Rattle.tera_grammar.proofs.expressions.Longer.{longer, longer_element}
 use Rattle.tera_grammar.proofs.expressions.FoundRows.{element_toll, row_toll, attributes_toll}
@@ -241,11 +242,11 @@ module _ (f : Reader) (toll : Tree → ℕ) (bars : Bars f) (w : Room) where
   unfolding row_of
   row_read row k j r is whole = row_by_read row (suc (size (row_yield k row r))) k j r (omega arith) is whole
 
-  pub arguments_read : (row : Row) (j : ℕ) (r : Items) → IsRow w.in_loop of_arguments row → are_distinct (names row) ≡ true
+  pub arguments_read : (row : Row) (j : ℕ) (r : Items) → IsRow w.in_loop of_arguments row → AreDistinct (names row)
       → EachRow (Whole f toll w) row
       → arguments_of f w (at (row_toll toll row + j) (row_yield of_arguments row r)) ≡ Some (row, at j r)
   unfolding arguments_of
-  arguments_read row j r is distinct whole = rw (row_read row of_arguments j r is whole, distinct)
+  arguments_read row j r is distinct whole = rw (row_read row of_arguments j r is whole, distinct_true (names row) distinct)
 
   attributes_end : (n j : ℕ) (r : Items) → NoAttribute r → attributes_by (suc n) f w (at j r) ≡ Some (no_attributes, at j r)
   unfolding attributes_by name_of skip

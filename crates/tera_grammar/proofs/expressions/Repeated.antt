@@ -4,8 +4,9 @@ use Rattle.std.proofs.lemmas.Slice.Eq.{bytes_eq-Decides}
 use Rattle.std.proofs.lemmas.List.Folds.{list_any-append}
 use Rattle.tera_base.specs.declared.utils.Span.{Span}
 use Rattle.tera_grammar.specs.expressions.Concrete.{Name, Row, then, argument, Tree}
-use Rattle.tera_grammar.specs.expressions.Words.{is_one_of, are_distinct}
+use Rattle.tera_grammar.specs.Words.{is_one_of, are_distinct}
 use Rattle.tera_grammar.specs.expressions.Conditions.{names}
+use Rattle.tera_grammar.proofs.Options.{not_ok, or_false, and_ok}
 
 and_false : (b : Bool) → (b && false) ≡ false
 and_false true = refl
@@ -15,21 +16,9 @@ or_either : (a b : Bool) → (a || b) ≡ true → (a ≡ true) ⊎ (b ≡ true)
 or_either true b h = inl refl
 or_either false b h = inr h
 
-or_neither : (a b : Bool) → (a || b) ≡ false → (a ≡ false) × (b ≡ false)
-or_neither true b h = cc
-or_neither false b h = (refl, h)
-
 or_second : (a b : Bool) → b ≡ true → (a || b) ≡ true
 or_second true b h = refl
 or_second false b h = h
-
-and_both : (a b : Bool) → (a && b) ≡ true → (a ≡ true) × (b ≡ true)
-and_both true b h = (refl, h)
-and_both false b h = cc
-
-not_true : (b : Bool) → not b ≡ true → b ≡ false
-not_true true h = cc
-not_true false h = refl
 
 same_both : (a b : List ℕ) → bytes_eq a b ≡ true → bytes_eq b a ≡ true
 same_both a b h = (bytes_eq-Decides b a).1 (sym ((bytes_eq-Decides a b).0 h))
@@ -61,9 +50,9 @@ not_behind ds n d none other = list_any-append (λ m. bytes_eq d m) ds (n ∷ []
 pub once : (done : List (List ℕ)) (n : List ℕ) → are_distinct done ≡ true → is_one_of done n ≡ false → are_distinct (done ++ n ∷ []) ≡ true
 once [] n distinct h = refl
 once (d ∷ ds) n distinct h =
-    let (first, rest) = and_both (not (is_one_of ds d)) (are_distinct ds) distinct in
-    let (other, none) = or_neither (bytes_eq n d) (is_one_of ds n) h in
-    ap (λ b. not b && are_distinct (ds ++ n ∷ [])) (not_behind ds n d (not_true (is_one_of ds d) first) other) ∙ once ds n rest none
+    let (first, rest) = and_ok (not (is_one_of ds d)) (are_distinct ds) distinct in
+    let (other, none) = or_false (bytes_eq n d) (is_one_of ds n) h in
+    ap (λ b. not b && are_distinct (ds ++ n ∷ [])) (not_behind ds n d (not_ok (is_one_of ds d) first) other) ∙ once ds n rest none
 
 -- an argument in front of others
 pub record Given : Type 0 where

@@ -6,7 +6,8 @@ use Rattle.tera_lexer.specs.Cursors.{size}
 use Rattle.tera_grammar.specs.expressions.Marks.{LeftBrace, RightBrace, Comma, Dot, Spread, Assign, mark}
 use Rattle.tera_grammar.specs.expressions.Concrete.{Name, Lit, Dotted, dots, Kind, Tree, Links, field, item, Row, then, Element, Attributes, bare, quoted, valued, spreading, named, joint_yield, bracket_yield, closing, yield, sub_yield}
 use Rattle.tera_grammar.specs.expressions.Conditions.{is_text, is_field_of}
-use Rattle.tera_grammar.specs.expressions.Reading.Front.{◌>>=◌, Place, at, Reads, skip, bump, name_of, literal_by, Link, no_link, jointed, bracketed, called, link_of}
+use Rattle.tera_grammar.specs.Options.{◌>>=◌}
+use Rattle.tera_grammar.specs.expressions.Reading.Front.{Place, at, Reads, skip, bump, name_of, literal_by, Link, no_link, jointed, bracketed, called, link_of}
 use Rattle.tera_grammar.specs.expressions.Reading.Parts.{Room, Reader, sub_of, element_of, comma_at, after_element, row_at, row_by, row_of, links_at, links_by, links_of, dotted_at, dotted_by, dotted_of, value_at, named_at, attribute_at, attributes_by, attributes_of}
 use Rattle.tera_grammar.proofs.expressions.Fronts.{skip_ok, bump_ok, name_of_ok, literal_by_ok, LinkOf, LinkOf-link_of}
 use Rattle.tera_grammar.proofs.expressions.Longer.{longer_joint, longer_bracket, longer, longer_sub, longer_element}

@@ -2,7 +2,8 @@
 use Rattle.std.proofs.Common.{◌≡◌, ℕ, zero, suc, ◌<◌, Option, Some, None, refl, ap, ◌∙◌, arith}
 use Rattle.tera_lexer.specs.Cursors.{size}
 use Rattle.tera_grammar.specs.expressions.Concrete.{Tree}
-use Rattle.tera_grammar.specs.expressions.Reading.Front.{◌>>=◌, Place, Reads, front}
+use Rattle.tera_grammar.specs.Options.{◌>>=◌}
+use Rattle.tera_grammar.specs.expressions.Reading.Front.{Place, Reads, front}
 use Rattle.tera_grammar.specs.expressions.Reading.Parts.{Room, Reader}
 use Rattle.tera_grammar.specs.expressions.Reading.Loop.{Growth, grow, step, go_on, loop_by, expr, loop}
 use Rattle.tera_grammar.proofs.expressions.FoundParts.{SoundTree}

@@ -3,8 +3,9 @@ use Rattle.std.proofs.Common.{◌≡◌, ℕ, zero, suc, ◌≤◌, true, false,
 use Rattle.tera_lexer.specs.Tokens as toks
 use Rattle.tera_lexer.specs.Tokens.{Items, Token}
 use Rattle.tera_lexer.specs.declared.lexer.delimiters.Kind.TheVariants as kind
-use Rattle.tera_grammar.specs.statements.Options.{◌>>=◌}
-use Rattle.tera_grammar.specs.statements.Names.{Names, is_among, agrees, block_named, component_named, ◌and_then◌, NamesAreDistinct}
+use Rattle.tera_grammar.specs.Options.{◌>>=◌}
+use Rattle.tera_grammar.specs.Words.{is_one_of}
+use Rattle.tera_grammar.specs.statements.Names.{Names, agrees, block_named, component_named, ◌and_then◌, NamesAreDistinct}
 use Rattle.tera_grammar.specs.statements.Parts.{Name, name_yield, name_if_any_yield, Simple, Escaped, quote_yield, symbol_yield, Tag, Opener, OpensSet, OpensInclude, OpensExtends, OpensBlock, OpensFor, OpensIf, OpensFilter, OpensComponent, OpensBreak, OpensContinue, OpensCall, Closer, AtElif, AtElse, AtEndSet, AtEndBlock, AtEndFor, AtEndIf, AtEndFilter, AtEndComponent, AtEndCall, opening, closing, finish}
 use Rattle.tera_grammar.specs.statements.Expressions.{Limits, Expression, IsExpression, expression_yield, attributes_yield, component_text}
 use Rattle.tera_grammar.specs.statements.Components.{Head, ending_yield, FitsHead}
@@ -107,13 +108,13 @@ module _ (l : Limits) (f : Reader) (path : Path) (seen : Names) where
   block_end_found n None e r agreed = refl
   block_end_found n (Some m) e r agreed = rw agreed refl
 
-  block_found : (new : Names) (t : Tag) (n : Name) (b : Body) (e : Tag) (m : Option Name) (r : Items) → may_block path ≡ true → is_among n.text seen.blocks ≡ false → agrees n.text (text_if_any m) ≡ true →
+  block_found : (new : Names) (t : Tag) (n : Name) (b : Body) (e : Tag) (m : Option Name) (r : Items) → may_block path ≡ true → is_one_of seen.blocks n.text ≡ false → agrees n.text (text_if_any m) ≡ true →
       f (InBlock ∷ path) (at (seen and_then block_named n.text) (yield b (closing AtEndBlock e (name_if_any_yield m (finish e r))))) ≡ Some (b, at new (closing AtEndBlock e (name_if_any_yield m (finish e r)))) →
       step l f path seen (front (item_yield (Block t n b e m) r)) ≡ Some (Some (Block t n b e m, at new r))
   unfolding block_of
   block_found new t n b e m r may fresh agreed read = step_opens OpensBlock t _ _ (rw (may, fresh, read, block_end_found n m e r agreed) refl)
 
-  define_found : (new : Names) (h : Head) (b : Body) (r : Items) → is_outermost path ≡ true → is_among (component_text h.name) seen.components ≡ false → FitsHead l h →
+  define_found : (new : Names) (h : Head) (b : Body) (r : Items) → is_outermost path ≡ true → is_one_of seen.components (component_text h.name) ≡ false → FitsHead l h →
       f (InComponent ∷ path) (at (seen and_then component_named (component_text h.name)) (yield b (ending_yield h r))) ≡ Some (b, at new (ending_yield h r)) →
       step l f path seen (front (item_yield (Define h b) r)) ≡ Some (Some (Define h b, at new r))
   unfolding component_def_of

@@ -6,14 +6,16 @@ use Rattle.tera_base.specs.declared.utils.Span.{Span}
 use Rattle.tera_lexer.specs.Cursors.{size}
 use Rattle.tera_lexer.specs.Tokens as toks
 use Rattle.tera_lexer.specs.Tokens.{Tok, Items, Token, Ident, Str, Integer, Truth, Symbol}
-use Rattle.tera_grammar.specs.statements.Options.{◌>>=◌}
-use Rattle.tera_grammar.specs.statements.Names.{is_among, agrees, AreDistinct}
+use Rattle.tera_grammar.specs.Options.{◌>>=◌}
+use Rattle.tera_grammar.specs.Words.{is_one_of}
+use Rattle.tera_grammar.specs.Words.{AreDistinct}
+use Rattle.tera_grammar.specs.statements.Names.{agrees}
 use Rattle.tera_grammar.specs.statements.Parts.{Edge, Name, name_yield, Simple, Escaped, symbol_yield, is_symbol, OpensComponent, opener_token, AtEndComponent, closer_token, start_yield, finish_yield}
 use Rattle.tera_grammar.specs.statements.Expressions.{Limits, ComponentName, component_yield, component_text, LiteralMap, array_of, map_yield, map_of}
 use Rattle.tera_grammar.specs.statements.Components.{Default, TruthDefault, TextDefault, NumberDefault, MinusDefault, NothingDefault, ArrayDefault, MapDefault, FitsDefault, default_yield, Annotation, Assigned, Parameter, at_yield, annotation_yield, assigned_yield, parameter_yield, is_known, is_body, FitsAssigned, FitsParameter, Parameters, Closed, Rest, Final, More, parameters_yield, parameter_names, FitEach, FitParameters, Head, head_yield, ending_yield, metadata_yield, component_if_any_yield, component_texts, FitsMetadata, FitsHead}
 use Rattle.tera_grammar.specs.statements.Reading.Parts.{Takes, symbol}
 use Rattle.tera_grammar.specs.statements.Reading.Components.{minus_of, default_by, default_at, default_of, at_in, annotation_in, assigned_in, parameter, fresh_name, parameter_behind, parameter_of, parameters_behind, parameters_at, parameters_in, parameters_by, parameters_of, metadata_in, Opened, opened_of, is_name, end_name_in, head, ending_of}
-use Rattle.tera_grammar.proofs.statements.Steps.{bound, bind_both, guard_ok, guard_not, bytes_same}
+use Rattle.tera_grammar.proofs.Options.{bound, bind_both, guard_ok, guard_not, bytes_same}
 use Rattle.tera_grammar.proofs.statements.Names.{distinct-more, not-before}
 use Rattle.tera_grammar.proofs.statements.Expressions.{component_stands, component_found, component_size, component_begins, array_stands, array_found, array_size, array_begins, map_stands, map_found, map_size, map_begins}
 use Rattle.tera_grammar.proofs.statements.Parts.{symbol_stands, name_stands, finish_stands, closed_stands}
@@ -170,15 +172,15 @@ module _ (l : Limits) where
   assigned_found None rest fits none = ap (assigned_in l rest) none
   assigned_found (Some d) rest fits none = rw (default_found d.value rest fits) refl
 
-  fresh_name_stands : (seen : List (List ℕ)) (ts : Items) (x : Name × Items) → fresh_name seen ts ≡ Some x → (is_body x.0.text ≡ false) × (is_among x.0.text seen ≡ false) × (ts ≡ name_yield x.0 x.1)
+  fresh_name_stands : (seen : List (List ℕ)) (ts : Items) (x : Name × Items) → fresh_name seen ts ≡ Some x → (is_body x.0.text ≡ false) × (is_one_of seen x.0.text ≡ false) × (ts ≡ name_yield x.0 x.1)
   fresh_name_stands seen ts x h =
       bound _ _ _ h (λ n read rest. bound _ _ _ rest (λ u other more. bound _ _ _ more (λ v fresh made.
-      subst (λ (y : Name × Items). (is_body y.0.text ≡ false) × (is_among y.0.text seen ≡ false) × (ts ≡ name_yield y.0 y.1)) (same_Some n x made)
+      subst (λ (y : Name × Items). (is_body y.0.text ≡ false) × (is_one_of seen y.0.text ≡ false) × (ts ≡ name_yield y.0 y.1)) (same_Some n x made)
       (guard_not _ u other, guard_not _ v fresh, name_stands ts n read))))
 
   -- a parameter
   abbrev ParameterStands : List (List ℕ) → Items → Parameter × Items → Type 0
-  ParameterStands seen ts x = FitsParameter l x.0 × (is_among x.0.name.text seen ≡ false) × (ts ≡ parameter_yield x.0 x.1)
+  ParameterStands seen ts x = FitsParameter l x.0 × (is_one_of seen x.0.name.text ≡ false) × (ts ≡ parameter_yield x.0 x.1)
 
   parameter_behind_stands : (seen : List (List ℕ)) (at : Option Span) (ts : Items) (x : Parameter × Items) → parameter_behind l seen at ts ≡ Some x → ParameterStands seen (at_yield at ts) x
   unfolding parameter_behind
@@ -203,7 +205,7 @@ module _ (l : Limits) where
   no_colon None rest none = none
   no_colon (Some d) rest none = refl
 
-  parameter_found : (seen : List (List ℕ)) (p : Parameter) (rest : Items) → FitsParameter l p → is_among p.name.text seen ≡ false → symbol (codes ":") rest ≡ None → symbol (codes "=") rest ≡ None
+  parameter_found : (seen : List (List ℕ)) (p : Parameter) (rest : Items) → FitsParameter l p → is_one_of seen p.name.text ≡ false → symbol (codes ":") rest ≡ None → symbol (codes "=") rest ≡ None
       → parameter_of l seen (parameter_yield p rest) ≡ Some (p, rest)
   unfolding parameter_behind
   parameter_found seen p rest fits fresh colon sign =
@@ -312,7 +314,7 @@ module _ (l : Limits) where
   no_dots (Some span) n rest = refl
 
   -- what is read at a parameter
-  read_behind : (seen : List (List ℕ)) (p : Parameter) (us : Items) → FitsParameter l p → is_among p.name.text seen ≡ false → symbol (codes ":") us ≡ None → symbol (codes "=") us ≡ None
+  read_behind : (seen : List (List ℕ)) (p : Parameter) (us : Items) → FitsParameter l p → is_one_of seen p.name.text ≡ false → symbol (codes ":") us ≡ None → symbol (codes "=") us ≡ None
       → parameters_of l seen (parameter_yield p us) ≡ parameters_behind (parameters_of l) seen p us (symbol (codes ")") us)
   unfolding parameters_in parameters_at
   read_behind seen p us fits fresh colon sign =
@@ -352,7 +354,7 @@ module _ (l : Limits) where
       ap (metadata_in l (map_yield m rest)) begins ∙ ap (λ o. o >>= λ n. Some (Some n.0, n.1)) (map_found l m rest fits)
 
   pub record OpenedStands (seen : List (List ℕ)) (ts : Items) (x : Opened × Items) : Type 0 where
-    pub fresh : is_among (component_text x.0.name) seen ≡ false
+    pub fresh : is_one_of seen (component_text x.0.name) ≡ false
     pub parameters : FitParameters l x.0.parameters
     pub metadata : FitsMetadata l x.0.metadata
     pub tokens : ts ≡ opened_yield x.0 x.1
@@ -371,7 +373,7 @@ module _ (l : Limits) where
             (parameters.2 ∙ ap (parameters_yield ps.0) (metadata.1 ∙ ap (metadata_yield m.0) (finish_stands m.1 f ended))));
       })))))))
 
-  pub opened_found : (seen : List (List ℕ)) (o : Opened) (rest : Items) → is_among (component_text o.name) seen ≡ false → FitParameters l o.parameters → FitsMetadata l o.metadata
+  pub opened_found : (seen : List (List ℕ)) (o : Opened) (rest : Items) → is_one_of seen (component_text o.name) ≡ false → FitParameters l o.parameters → FitsMetadata l o.metadata
       → opened_of l seen (opened_yield o rest) ≡ Some (o, rest)
   unfolding opened_of
   opened_found seen o rest fresh parameters metadata =

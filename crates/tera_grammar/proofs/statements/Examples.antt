@@ -12,13 +12,13 @@ use Rattle.tera_tree.specs.declared.ast.ArgType.TheVariants as types
 use Rattle.tera_tree.specs.Tree as tree
 use Rattle.tera_tree.specs.Tree.{Output, Stmt, Argument}
 use Rattle.tera_tree.specs.View.{nodes_of}
-use Rattle.tera_grammar.specs.expressions.Words.{is_none, is_reserved, is_loop_field}
+use Rattle.tera_grammar.specs.Words.{is_none, is_reserved, is_loop_field}
 use Rattle.tera_grammar.specs.expressions.Reading.Front.{skip, bump, name_of, literal_by, link_of, front_of_token, head_mark, begins_sign}
 use Rattle.tera_grammar.specs.expressions.Reading.Parts.{inside_subscript, inside_array, extra_of, part_of, slice_of, sub_of, element_of, after_element, row_by, row_of, arguments_of, args_of, links_by, links_of, dotted_by, dotted_of, attributes_by, attributes_of}
 use Rattle.tera_grammar.specs.expressions.Reading.Atoms.{prefix_of, paren_of, variables_of, comprehension_of, items_from, array_of, map_of, component_of, chain_of, word_head}
 use Rattle.tera_grammar.specs.expressions.Reading.Loop.{operator_of, suffix_in, join_of, close_of, step as inner_step, loop_by, expr, fresh}
 use Rattle.tera_grammar.specs.expressions.Reading.Whole.{expression_of, filter_of, all_attributes, path_of, literal_array_of, literal_map_of}
-use Rattle.tera_grammar.specs.statements.Options.{◌>>=◌}
+use Rattle.tera_grammar.specs.Options.{◌>>=◌}
 use Rattle.tera_grammar.specs.statements.Expressions.{expression_output, filter_output, attributes_output, component_text, array_output, map_output}
 use Rattle.tera_grammar.specs.statements.Output.{output_of}
 use Rattle.tera_grammar.specs.statements.Reading.{else_in, branch_in, branches_by, branches, set_behind, set_of, include_of, extends_of, break_of, block_end, block_of, component_def_of, section_of, call_end, call_of, for_of, if_of, shown_of, step, items_by, items, body, template}

@@ -1,7 +1,7 @@
 -- The laws of what the statements use of expressions: what is read meets its condition and its tokens were
 -- there (`.._stands`); what meets its condition is read from its tokens, whatever else stands there
 -- (`.._found`); no tokens are lost (`.._size`); none is a marker (`.._closed`); and what some of them begin with.
-use Rattle.std.proofs.Common.{◌≡◌, ◌≤◌, ℕ, Bool, true, false, ◌||◌, List, codes, Option, Some, None, inl, inr, refl, sym, ap, subst, arith, le_refl}
+use Rattle.std.proofs.Common.{◌≡◌, ◌≤◌, ℕ, Bool, true, false, ◌||◌, List, codes, Some, None, inl, inr, refl, sym, ap, subst, arith, le_refl}
 use Rattle.std.specs.Str.{bytes_eq}
 use Rattle.tera_base.specs.declared.utils.Span.{Span}
 use Rattle.tera_lexer.specs.Cursors.{size}
@@ -19,7 +19,7 @@ use Rattle.tera_grammar.proofs.expressions.Wholes as wholes
 use Rattle.tera_grammar.specs.statements.Parts.{symbol_yield, is_symbol}
 use Rattle.tera_grammar.specs.statements.Expressions.{Limits, Expression, IsExpression, expression_yield, expression_output, ends_expression, expression_of, Filtering, IsFilter, filter_yield, ends_filter, filter_of, Attributes, AreAttributes, attributes_yield, ends_attributes, attributes_of, ComponentName, component_yield, component_of, LiteralArray, IsLiteralArray, array_yield, array_of, LiteralMap, IsLiteralMap, map_yield, map_of}
 use Rattle.tera_grammar.proofs.statements.Inside.{IsClosed}
-use Rattle.tera_grammar.proofs.statements.Steps.{bytes_same}
+use Rattle.tera_grammar.proofs.Options.{bytes_same}
 
 -- what passes on to a token in front that is no marker: no fewer tokens than these, and to be closed
 abbrev IsLonger : Items → Items → Type 0

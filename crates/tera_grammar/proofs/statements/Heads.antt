@@ -4,14 +4,14 @@ use Rattle.std.proofs.lemmas.Option.{same_Some}
 use Rattle.tera_base.specs.declared.utils.Span.{Span}
 use Rattle.tera_lexer.specs.Cursors.{size}
 use Rattle.tera_lexer.specs.Tokens.{Items}
-use Rattle.tera_grammar.specs.statements.Options.{◌>>=◌}
-use Rattle.tera_grammar.specs.statements.Names.{is_reserved}
+use Rattle.tera_grammar.specs.Options.{◌>>=◌}
+use Rattle.tera_grammar.specs.Words.{is_reserved}
 use Rattle.tera_grammar.specs.statements.Parts.{Name, name_yield, symbol_yield}
 use Rattle.tera_grammar.specs.statements.Expressions.{Limits, ends_expression, filter_yield, ends_filter}
 use Rattle.tera_grammar.specs.statements.Heads.{Loop, Over, OverPairs, in_yield, loop_yield, FitsLoop, Filters, NoFilters, Piped, filters_yield, AreFilters}
 use Rattle.tera_grammar.specs.statements.Reading.Parts.{Takes, symbol}
 use Rattle.tera_grammar.specs.statements.Reading.Heads.{free_name, loop_behind, loop_of, filters_in, filters_by, filters_of}
-use Rattle.tera_grammar.proofs.statements.Steps.{bound, bind_both, guard_not}
+use Rattle.tera_grammar.proofs.Options.{bound, bind_both, guard_not}
 use Rattle.tera_grammar.proofs.statements.Expressions.{expression_stands, expression_found, expression_size, filter_stands, filter_found, filter_size}
 use Rattle.tera_grammar.proofs.statements.Parts.{symbol_stands, word_stands, name_stands}
 

@@ -8,7 +8,7 @@ use Rattle.tera_tree.specs.Tree as tree
 use Rattle.tera_tree.specs.Tree.{Expr, Stmt, Argument, Output}
 use Rattle.tera_tree.specs.View.{nodes_of}
 use Rattle.tera_grammar.specs.statements.Types.{Sorted, put_name}
-use Rattle.tera_grammar.specs.statements.Options.{◌>>=◌, guard}
+use Rattle.tera_grammar.specs.Options.{◌>>=◌, guard}
 use Rattle.tera_grammar.specs.statements.Names.{Names, no_names}
 use Rattle.tera_grammar.specs.statements.Parts.{Edge, Quote, AtElif, OpensExtends}
 use Rattle.tera_grammar.specs.statements.Expressions.{Limits, Expression, expression_of, expression_output, Filtering, filter_of, filter_output}
@@ -22,7 +22,7 @@ use Rattle.tera_grammar.specs.statements.Reading.Heads.{filters_in, filters_of}
 use Rattle.tera_grammar.specs.statements.Reading.Components.{parameter_of, parameters_behind, parameters_at, parameters_in, parameters_of}
 use Rattle.tera_grammar.specs.statements.Reading.Parts.{Front, Closes, Opens, front, symbol, quote_of, finish_of, tag}
 use Rattle.tera_grammar.specs.statements.Top.{is_blank, join}
-use Rattle.tera_grammar.proofs.statements.Steps.{bound}
+use Rattle.tera_grammar.proofs.Options.{bound}
 use Rattle.tera_grammar.proofs.statements.Parts.{front_is}
 use Rattle.tera_grammar.proofs.statements.Heads.{filters_steps}
 use Rattle.tera_grammar.proofs.statements.Components.{parameters_steps}

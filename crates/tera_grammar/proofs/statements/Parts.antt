@@ -8,7 +8,8 @@ use Rattle.tera_lexer.specs.Tokens.{Tok, Items, Ended, Failed, Token, Content, S
 use Rattle.tera_lexer.specs.declared.lexer.delimiters.Kind.TheVariants as kind
 use Rattle.tera_grammar.specs.statements.Parts.{Edge, Name, name_yield, name_if_any_yield, Quote, quote_yield, symbol_yield, is_symbol, Tag, Opener, opener_token, Closer, closer_token, start_yield, finish_yield, closing, finish}
 use Rattle.tera_grammar.specs.statements.Reading.Parts.{same_token, openers, closers, opener_in, closer_in, role_by, Front, Ends, Closes, Holds, Shows, Opens, Wrong, front_by, front_tag, front, symbol, word, name_of, name_if_any, quote_of, finish_of, variable_end_of, tag, closed_at, closed, closed_tag}
-use Rattle.tera_grammar.proofs.statements.Steps.{bound, guard_ok, bytes_same}
+use Rattle.tera_grammar.proofs.expressions.Fronts.{same_token_is}
+use Rattle.tera_grammar.proofs.Options.{bound, guard_ok, bytes_same}
 
 pub symbol_stands : (op : List ℕ) (ts : Items) (x : Span × Items) → symbol op ts ≡ Some x → ts ≡ symbol_yield op x.0 x.1
 symbol_stands op (Token (Symbol text) span items) x h =
@@ -55,17 +56,12 @@ pub variable_end_stands : (ts : Items) (x : Edge × Items) → variable_end_of t
 variable_end_stands (Token (Finish kind.Variable dash) span items) x h = ap (λ (y : Edge × Items). variable_end_yield y.0 y.1) (same_Some _ _ h)
 variable_end_stands _ x h = cc
 
-same_ok : (a b : Tok) → same_token a b ≡ true → a ≡ b
-same_ok (Ident a) (Ident b) h = ap Ident (bytes_same a b h)
-same_ok (Symbol a) (Symbol b) h = ap Symbol (bytes_same a b h)
-same_ok a b h = cc
-
 opener_in_ok : (os : List Opener) (t : Tok) (o : Opener) → opener_in os t ≡ Some o → t ≡ opener_token o
 opener_in_ok [] t o h = cc
 opener_in_ok (x ∷ os) t o h = goes (same_token t (opener_token x)) refl (opener_in_ok os t o) h
   where
     goes : (b : Bool) → same_token t (opener_token x) ≡ b → (opener_in os t ≡ Some o → t ≡ opener_token o) → (if b then Some x else opener_in os t) ≡ Some o → t ≡ opener_token o
-    goes true is again h = same_ok t (opener_token x) is ∙ ap opener_token (same_Some _ _ h)
+    goes true is again h = same_token_is t (opener_token x) is ∙ ap opener_token (same_Some _ _ h)
     goes false is again h = again h
 
 closer_in_ok : (cs : List Closer) (t : Tok) (c : Closer) → closer_in cs t ≡ Some c → t ≡ closer_token c
@@ -73,7 +69,7 @@ closer_in_ok [] t c h = cc
 closer_in_ok (x ∷ cs) t c h = goes (same_token t (closer_token x)) refl (closer_in_ok cs t c) h
   where
     goes : (b : Bool) → same_token t (closer_token x) ≡ b → (closer_in cs t ≡ Some c → t ≡ closer_token c) → (if b then Some x else closer_in cs t) ≡ Some c → t ≡ closer_token c
-    goes true is again h = same_ok t (closer_token x) is ∙ ap closer_token (same_Some _ _ h)
+    goes true is again h = same_token_is t (closer_token x) is ∙ ap closer_token (same_Some _ _ h)
     goes false is again h = again h
 
 -- the tokens that a front stands for
@@ -108,7 +104,7 @@ closed_at_ok : (c : Closer) (ts : Items) (fr : Front) (x : (Edge × Span) × Ite
 closed_at_ok c ts (Closes d start first us) x is h =
     bound _ _ _ h (λ u same made.
     subst (λ (y : (Edge × Span) × Items). ts ≡ start_yield y.0.0 (Token (closer_token c) y.0.1 y.1)) (same_Some ((start, first), us) x made)
-    (is ∙ ap (λ t. start_yield start (Token t first us)) (same_ok (closer_token d) (closer_token c) (guard_ok _ u same))))
+    (is ∙ ap (λ t. start_yield start (Token t first us)) (same_token_is (closer_token d) (closer_token c) (guard_ok _ u same))))
 closed_at_ok c ts _ x is h = cc
 
 pub closed_stands : (c : Closer) (ts : Items) (x : (Edge × Span) × Items) → closed c ts ≡ Some x → ts ≡ start_yield x.0.0 (Token (closer_token c) x.0.1 x.1)

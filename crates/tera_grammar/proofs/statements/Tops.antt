@@ -3,14 +3,14 @@ use Rattle.std.proofs.Common.{◌≡◌, Bool, true, false, [], Option, Some, No
 use Rattle.std.proofs.lemmas.Option.{same_Some}
 use Rattle.tera_lexer.specs.Cursors.{is_end}
 use Rattle.tera_lexer.specs.Tokens.{Items, Ended, Failed, Token}
-use Rattle.tera_grammar.specs.statements.Options.{◌>>=◌}
+use Rattle.tera_grammar.specs.Options.{◌>>=◌}
 use Rattle.tera_grammar.specs.statements.Names.{no_names, NamesAreDistinct}
 use Rattle.tera_grammar.specs.statements.Parts.{Tag, Quote}
 use Rattle.tera_grammar.specs.statements.Expressions.{Limits}
 use Rattle.tera_grammar.specs.statements.Grammar.{Words, Shown, Set, Include, Extends, Break, Continue, Body, Done, Then, Item, Single, Block, Define, Capturing, For, If, yield}
 use Rattle.tera_grammar.specs.statements.Reading.{at, Phase, Starting, Standing, Extending, behind_text, from_start, next_phase, phases, template}
 use Rattle.tera_grammar.specs.statements.Top.{is_blank, is_silent, is_kept, IsExtends, Each, join, Child, TopLevel, IsTemplate}
-use Rattle.tera_grammar.proofs.statements.Steps.{bound, guard_ok}
+use Rattle.tera_grammar.proofs.Options.{bound, guard_ok}
 use Rattle.tera_grammar.proofs.statements.Found.{body_sound}
 use Rattle.tera_grammar.proofs.statements.Complete.{whole}
 

@@ -6,8 +6,9 @@ use Rattle.tera_lexer.specs.Tokens.{Items}
 use Rattle.tera_tree.specs.Tree as tree
 use Rattle.tera_tree.specs.Tree.{Expr, Stmt, Definition, Output}
 use Rattle.tera_tree.specs.View.{nodes_of}
+use Rattle.tera_grammar.proofs.Options.{none_some}
 use Rattle.tera_grammar.proofs.expressions.Bodiless.{has_body}
-use Rattle.tera_grammar.specs.statements.Names.{AreDistinct}
+use Rattle.tera_grammar.specs.Words.{AreDistinct}
 use Rattle.tera_grammar.specs.statements.Expressions.{Limits, expression_output, component_text}
 use Rattle.tera_grammar.specs.statements.Heads.{SetBody, Section, CallBody, Over, OverPairs}
 use Rattle.tera_grammar.specs.statements.Grammar.{Words, Shown, Set, Include, Extends, Break, Continue, Body, Done, Then, Item, Single, Block, Define, Capturing, For, If, Branches, Elif, Last, Else, NoElse, Otherwise, InFor, InForElse, InBlock, InIf, InComponent, InCapture, Path, may_block, may_break, is_outermost, Fits, FitsItem, FitsBranches, FitsElse, names, item_names, branch_names, else_names}
@@ -262,9 +263,6 @@ all_silent (Then i b) h = all-append IsKeptNode (added_nodes (added_by false i))
 all_kept : (b : Body) → Each (λ i. is_kept i ≡ true) b → AllByRecursion IsKeptNode (output false b)
 all_kept Done h = tt
 all_kept (Then i b) h = all-append IsKeptNode (added_nodes (added_by false i)) (output false b) (item_kept i h.0) (all_kept b h.1)
-
-none_some : {A : Type 0} {a : A} → None ≡ Some a → ⊥
-none_some e = cc
 
 child_kept : (b : Body) → TopLevel b → (name : List ℕ) → parent_of b ≡ Some name → AllByRecursion IsKeptNode (output false b)
 child_kept b top name parent =

@@ -4,7 +4,7 @@ use Rattle.tera_lexer.specs.Cursors.{size}
 use Rattle.tera_lexer.specs.Tokens as toks
 use Rattle.tera_lexer.specs.Tokens.{Items, Token}
 use Rattle.tera_lexer.specs.declared.lexer.delimiters.Kind.TheVariants as kind
-use Rattle.tera_grammar.specs.statements.Options.{◌>>=◌}
+use Rattle.tera_grammar.specs.Options.{◌>>=◌}
 use Rattle.tera_grammar.specs.statements.Names.{Names}
 use Rattle.tera_grammar.specs.statements.Parts.{Name, name_if_any_yield, Simple, Escaped, symbol_yield, AtElif, AtEndBlock, AtEndFor, AtEndIf, closer_token, start_yield, closing, finish}
 use Rattle.tera_grammar.specs.statements.Expressions.{Limits, expression_yield, attributes_yield}
@@ -13,7 +13,7 @@ use Rattle.tera_grammar.specs.statements.Heads.{filters_yield, Capture, SetBody,
 use Rattle.tera_grammar.specs.statements.Grammar.{Plain, Words, Shown, Set, Include, Extends, Break, Continue, plain_yield, Body, Done, Then, Item, Single, Block, Define, Capturing, For, If, Branches, Elif, Last, Else, NoElse, Otherwise, yield, item_yield, branches_yield, else_yield, Path, in_loop}
 use Rattle.tera_grammar.specs.statements.Reading.{Place, at, Reads, Reader, branch_in, branches_by, branches, step, go_on, items_by, items, body}
 use Rattle.tera_grammar.specs.statements.Reading.Parts.{Front, Closes, front, tag}
-use Rattle.tera_grammar.proofs.statements.Steps.{bind_both}
+use Rattle.tera_grammar.proofs.Options.{bind_both}
 use Rattle.tera_grammar.proofs.statements.Expressions.{expression_stands, expression_size, filter_size, attributes_size, component_size}
 use Rattle.tera_grammar.proofs.statements.Parts.{finish_stands, FrontOf, front_is}
 use Rattle.tera_grammar.proofs.statements.Heads.{filters_size, loop_size}

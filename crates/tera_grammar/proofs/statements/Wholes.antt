@@ -10,11 +10,9 @@ use Rattle.tera_grammar.specs.statements.Grammar.{Body}
 use Rattle.tera_grammar.specs.statements.Output.{output_of}
 use Rattle.tera_grammar.specs.statements.Reading.{template}
 use Rattle.tera_grammar.specs.statements.Top.{IsTemplate, Derives}
+use Rattle.tera_grammar.proofs.Options.{none_some}
 use Rattle.tera_grammar.proofs.statements.Closed.{ends_in_nothing}
 use Rattle.tera_grammar.proofs.statements.Tops.{template_sound, template_complete, one_template}
-
-none_some : {A : Type 0} {a : A} → None ≡ Some a → ⊥
-none_some e = cc
 
 module _ (l : Limits) (m : Marks) (valid : IsValid m) (source : List ℕ) where
   -- what is derived is a template of the tokens of the source

@@ -1,6 +1,6 @@
 -- What stands outside of expressions but is made of them: arguments, a filter, attributes, the name of a
 -- component, arrays and maps of constants. Each value in them is an outermost expression.
-use Rattle.std.specs.Prelude.{◌≡◌, ◌⊎◌, ℕ, ◌+◌, ◌≤◌, Bool, true, false, List, Option, Some}
+use Rattle.std.specs.Prelude.{◌≡◌, ◌⊎◌, ℕ, ◌+◌, ◌≤◌, Bool, false, List, Option, Some}
 use Rattle.tera_base.specs.Values as values
 use Rattle.tera_base.specs.declared.utils.Span.{Span}
 use Rattle.tera_lexer.specs.Tokens.{Items, Token, Finish}
@@ -11,7 +11,7 @@ use Rattle.tera_tree.specs.Tree.{Expr}
 use Rattle.tera_grammar.specs.expressions.Operators.{Div, GreaterThan}
 use Rattle.tera_grammar.specs.expressions.Marks.{Mark, mark, LeftParen, LeftBracket, LeftBrace, Bar, Dot, Operation}
 use Rattle.tera_grammar.specs.expressions.Concrete.{Name, Dotted, Tree, Row, Args, no_args, args, of_arguments, of_items, of_entries, named, dotted_yield, row_yield, args_yield}
-use Rattle.tera_grammar.specs.expressions.Words.{are_distinct}
+use Rattle.tera_grammar.specs.Words.{AreDistinct}
 use Rattle.tera_grammar.specs.expressions.Conditions.{IsRow, names}
 use Rattle.tera_grammar.specs.Limits.{Limits}
 use Rattle.tera_grammar.specs.expressions.Measures.{Within, EachRow, arrays, row_deep}
@@ -28,7 +28,7 @@ abbrev pub kwargs_yield : Opened → Items → Items
 kwargs_yield x r = mark LeftParen x.mark (row_yield of_arguments x.row r)
 
 abbrev pub AreKwargs : Bool → Opened → Type 0
-AreKwargs l x = IsRow l of_arguments x.row × (are_distinct (names x.row) ≡ true)
+AreKwargs l x = IsRow l of_arguments x.row × AreDistinct (names x.row)
 
 abbrev pub kwargs_output : Bool → Opened → tree.Args
 kwargs_output l x = arguments_output l x.row tree.NoArgs

@@ -5,7 +5,7 @@ use Rattle.tera_grammar.specs.expressions.Operators.{StrConcat}
 use Rattle.tera_grammar.specs.expressions.Marks.{Mark, mark_token, RightParen, RightBracket, RightBrace, Comma, Colon, Else, For}
 use Rattle.tera_grammar.specs.expressions.Concrete.{Name, Lit, Quoted, Escaped, Nothing, Negation, plainly, negated, Second, no_second, second, Single, Kind, of_arguments, of_items, of_entries, Tree, Atomic, Prefix, Suffixed, Infix, Atom, Literal, Chain, Call, Paren, Array, Comprehension, Map, Component, Links, no_links, field, item, Sub, index, slice, Part, absent, present, Extra, no_extra, extra, Row, ended, only, then, Element, plain, spread, pair, argument, Attributes, no_attributes, bare, quoted, valued, spreading, Suffix, Test, Filter, Subscript, Args, no_args, args, Operator, Binary, Condition}
 use Rattle.tera_grammar.specs.expressions.Powers.{sign_power, left_power, right_power, AtLeast, Above, Carries, BeginsPlain}
-use Rattle.tera_grammar.specs.expressions.Words.{is_none, is_not, is_reserved, is_loop_field, are_distinct}
+use Rattle.tera_grammar.specs.Words.{is_none, is_not, is_reserved, is_loop_field, AreDistinct}
 use Rattle.tera_grammar.specs.expressions.Output.{of_loop, output, is_unary}
 
 -- a literal is a word for no value, or needs no condition
@@ -76,7 +76,7 @@ abbrev mutual
   pub IsAtom : Bool → Atom → Type 0
   IsAtom l (Literal x s) = IsLiteral x
   IsAtom l (Chain n ls) = IsFirst n × AreLinks l (of_loop l n) ls
-  IsAtom l (Call n s row) = IsFirst n × IsRow l of_arguments row × (are_distinct (names row) ≡ true)
+  IsAtom l (Call n s row) = IsFirst n × IsRow l of_arguments row × AreDistinct (names row)
   IsAtom l (Paren s e t) = IsExpression l e
   IsAtom l (Array s row) = IsRow l of_items row
   IsAtom l (Comprehension s e f n m i t g c) = AreVariables n m × AtLeast 1 t × IsExpression l e × IsExpression l t × IsExtra l 1 g
@@ -126,7 +126,7 @@ abbrev mutual
 
   pub AreArgs : Bool → Args → Type 0
   AreArgs l no_args = Unit {0}
-  AreArgs l (args s row) = IsRow l of_arguments row × (are_distinct (names row) ≡ true)
+  AreArgs l (args s row) = IsRow l of_arguments row × AreDistinct (names row)
 
   pub IsOperator : Bool → Operator → Type 0
   IsOperator l (Binary o) = Unit {0}

@@ -14,7 +14,7 @@ use Rattle.tera_tree.specs.Tree.{Expr}
 use Rattle.tera_grammar.specs.expressions.Operators.{operator_made}
 use Rattle.tera_grammar.specs.expressions.Concrete.{Name, Lit, Number, Quoted, Escaped, Truth, Nothing, Sign, Negative, Negates, Joint, plain_dot, optional_dot, Bracket, plain_bracket, optional_bracket, Negation, plainly, negated, Second, no_second, second, Dotted, no_dots, dots, Op, Single, NotIn, Tree, Atomic, Prefix, Suffixed, Infix, Atom, Literal, Chain, Call, Paren, Array, Comprehension, Map, Component, Links, no_links, field, item, Sub, index, slice, Part, absent, present, Extra, no_extra, extra, Row, ended, only, then, Element, plain, spread, pair, argument, Attributes, no_attributes, bare, quoted, valued, spreading, Suffix, Test, Filter, Subscript, Args, no_args, args, Operator, Binary, Condition}
 use Rattle.tera_grammar.specs.expressions.Spans.{spanning, sign_span, row_end, args_end, first, last}
-use Rattle.tera_grammar.specs.expressions.Words.{is_loop}
+use Rattle.tera_grammar.specs.Words.{is_loop}
 
 abbrev pub literal_value : Lit → Val
 literal_value (Number n) = values.I64 n

@@ -9,8 +9,9 @@ use Rattle.tera_base.specs.Values.{Val, Pairs, NoPairs, OnePair}
 use Rattle.tera_tree.specs.Tree.{Argument, Definition, Stmt}
 use Rattle.tera_tree.specs.declared.ast.ArgType.{ArgType}
 use Rattle.tera_grammar.specs.statements.Types.{type_of, type_named, has_type, key_text, Sorted, put_name}
-use Rattle.tera_grammar.specs.expressions.Words.{is_none}
-use Rattle.tera_grammar.specs.statements.Names.{agrees, AreDistinct}
+use Rattle.tera_grammar.specs.Words.{is_none}
+use Rattle.tera_grammar.specs.Words.{AreDistinct}
+use Rattle.tera_grammar.specs.statements.Names.{agrees}
 use Rattle.tera_grammar.specs.statements.Parts.{Name, name_yield, Quote, quote_yield, quote_text, symbol_yield, Tag, OpensComponent, AtEndComponent, opening, closing, finish}
 use Rattle.tera_grammar.specs.statements.Expressions.{Limits, ComponentName, component_yield, component_text, LiteralArray, IsLiteralArray, array_yield, array_output, LiteralMap, IsLiteralMap, map_yield, map_output}
 

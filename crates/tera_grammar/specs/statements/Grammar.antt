@@ -4,7 +4,8 @@ use Rattle.tera_base.specs.declared.utils.Span.{Span}
 use Rattle.tera_lexer.specs.Tokens as toks
 use Rattle.tera_lexer.specs.Tokens.{Items, Token}
 use Rattle.tera_lexer.specs.declared.lexer.delimiters.Kind.TheVariants as kind
-use Rattle.tera_grammar.specs.statements.Names.{is_reserved, agrees, Names, no_names, block_named, component_named, ◌and_then◌}
+use Rattle.tera_grammar.specs.Words.{is_reserved}
+use Rattle.tera_grammar.specs.statements.Names.{agrees, Names, no_names, block_named, component_named, ◌and_then◌}
 use Rattle.tera_grammar.specs.statements.Parts.{Edge, Name, name_yield, name_if_any_yield, Quote, quote_yield, symbol_yield, Tag, OpensSet, OpensInclude, OpensExtends, OpensBlock, OpensFor, OpensIf, OpensBreak, OpensContinue, AtElif, AtElse, AtEndBlock, AtEndFor, AtEndIf, opening, closing, finish}
 use Rattle.tera_grammar.specs.statements.Expressions.{Limits, Expression, IsExpression, expression_yield, component_text}
 use Rattle.tera_grammar.specs.statements.Components.{Head, head_yield, ending_yield, FitsHead}

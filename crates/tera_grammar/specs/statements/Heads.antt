@@ -7,7 +7,8 @@ use Rattle.tera_lexer.specs.Tokens.{Items, Token, Ident}
 use Rattle.tera_tree.specs.Tree as tree
 use Rattle.tera_tree.specs.Tree.{Expr, Stmt, Nodes}
 use Rattle.tera_tree.specs.View.{filters_of}
-use Rattle.tera_grammar.specs.statements.Names.{is_reserved}
+use Rattle.tera_grammar.specs.Words.{is_reserved}
+use Rattle.tera_grammar.specs.expressions.Spans.{spanning}
 use Rattle.tera_grammar.specs.statements.Parts.{Name, name_yield, symbol_yield, Tag, OpensSet, OpensFilter, OpensCall, AtEndSet, AtEndFilter, AtEndCall, opening, closing, finish}
 use Rattle.tera_grammar.specs.statements.Expressions.{Limits, Expression, IsExpression, expression_yield, expression_output, Filtering, IsFilter, filter_yield, filter_output, Attributes, AreAttributes, attributes_yield, attributes_output, ComponentName, component_yield, component_text}
 
@@ -74,19 +75,9 @@ FitsCapture l in_loop (SetBody global t n fs e) = (is_reserved n.text ≡ false)
 FitsCapture l in_loop (Section t f fs e) = IsFilter l in_loop f × AreFilters l in_loop fs
 FitsCapture l in_loop (CallBody t n a last e m end) = AreAttributes l in_loop a × (bytes_eq (component_text m) (component_text n) ≡ true)
 
--- from the start of the first to the end of the last
-abbrev pub span_to : Span → Span → Span
-span_to first last = record {
-  start_line = first.start_line;
-  start_col = first.start_col;
-  end_line = last.end_line;
-  end_col = last.end_col;
-  range = record { start = first.range.start; end = last.range.end };
-}
-
 abbrev pub capture_output : Bool → Capture → Nodes → Stmt
 capture_output in_loop (SetBody global t n fs e) body = tree.BlockSet n.text (filters_of (filters_output in_loop fs)) body global
 capture_output in_loop (Section t f fs e) body =
     tree.FilterSection (filters_of (filter_output in_loop t.first f ∷ filters_output in_loop fs)) body
 capture_output in_loop (CallBody t n a last e m end) body =
-    tree.Shown (tree.ComponentCall (component_text n) (attributes_output in_loop a) body false (span_to t.first end))
+    tree.Shown (tree.ComponentCall (component_text n) (attributes_output in_loop a) body false (spanning t.first end))

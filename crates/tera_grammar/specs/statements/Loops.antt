@@ -6,7 +6,7 @@ use Rattle.tera_tree.specs.Tree as tree
 use Rattle.tera_tree.specs.Tree.{Expr, Stmt, Argument, Output}
 use Rattle.tera_tree.specs.View.{nodes_of}
 use Rattle.tera_grammar.specs.statements.Types.{Sorted}
-use Rattle.tera_grammar.specs.statements.Options.{◌>>=◌}
+use Rattle.tera_grammar.specs.Options.{◌>>=◌}
 use Rattle.tera_grammar.specs.statements.Parts.{Tag}
 use Rattle.tera_grammar.specs.statements.Expressions.{Limits, Expression, expression_output, Filtering, filter_output}
 use Rattle.tera_grammar.specs.statements.Components.{Parameter, Parameters, More, put_arguments}

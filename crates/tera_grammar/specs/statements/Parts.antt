@@ -5,15 +5,11 @@ use Rattle.tera_base.specs.declared.utils.Span.{Span}
 use Rattle.tera_lexer.specs.Tokens as toks
 use Rattle.tera_lexer.specs.Tokens.{Tok, Items, Ended, Failed, Token, Start, Finish, Ident, Str, Symbol}
 use Rattle.tera_lexer.specs.declared.lexer.delimiters.Kind.TheVariants as kind
+pub use Rattle.tera_grammar.specs.expressions.Concrete.{Name, named as name_yield}
 
 -- the marker at the start or the end of a tag: whether it has a dash, and where it stands
 pub record Edge : Type 0 where
   pub dash : Bool
-  pub span : Span
-
--- a name, and where it stands
-pub record Name : Type 0 where
-  pub text : List ℕ
   pub span : Span
 
 -- a string without escapes, and one with some, by its value
@@ -95,9 +91,6 @@ closing c t items = start_yield t.start (Token (closer_token c) t.first items)
 -- the end of a tag
 abbrev pub finish : Tag → Items → Items
 finish t items = finish_yield t.finish items
-
-abbrev pub name_yield : Name → Items → Items
-name_yield n items = Token (Ident n.text) n.span items
 
 -- a name, where there is one
 abbrev pub name_if_any_yield : Option Name → Items → Items

@@ -4,8 +4,9 @@ use Rattle.std.specs.Str.{bytes_eq}
 use Rattle.tera_base.specs.declared.utils.Span.{Span}
 use Rattle.tera_lexer.specs.Cursors.{size, is_end}
 use Rattle.tera_lexer.specs.Tokens.{Items}
-use Rattle.tera_grammar.specs.statements.Options.{◌>>=◌, guard}
-use Rattle.tera_grammar.specs.statements.Names.{is_among, agrees, Names, no_names, block_named, component_named, ◌and_then◌}
+use Rattle.tera_grammar.specs.Options.{◌>>=◌, guard}
+use Rattle.tera_grammar.specs.Words.{is_one_of}
+use Rattle.tera_grammar.specs.statements.Names.{agrees, Names, no_names, block_named, component_named, ◌and_then◌}
 use Rattle.tera_grammar.specs.statements.Parts.{Edge, Name, Tag, Opener, OpensSet, OpensInclude, OpensExtends, OpensBlock, OpensFor, OpensIf, OpensFilter, OpensComponent, OpensBreak, OpensContinue, OpensCall, AtElif, AtElse, AtEndSet, AtEndBlock, AtEndFor, AtEndIf, AtEndFilter, AtEndCall}
 use Rattle.tera_grammar.specs.statements.Expressions.{Limits, expression_of, Filtering, filter_of, Attributes, attributes_of, ComponentName, component_of, component_text}
 use Rattle.tera_grammar.specs.statements.Heads.{Filters, Capture, SetBody, Section, CallBody}
@@ -93,7 +94,7 @@ block_end n items =
 
 unfoldable pub block_of : Reader → Path → Edge → Span → Names → Items → Reads Item
 block_of self path start first seen items =
-    guard (may_block path) >>= λ u. name_of items >>= λ n. guard (not (is_among n.0.text seen.blocks)) >>= λ v.
+    guard (may_block path) >>= λ u. name_of items >>= λ n. guard (not (is_one_of seen.blocks n.0.text)) >>= λ v.
     finish_of n.1 >>= λ f. self (InBlock ∷ path) (at (seen and_then block_named n.0.text) f.1) >>= λ b.
     block_end n.0 b.1.tokens >>= λ e.
     Some (Block (tag start first f.0) n.0 b.0 e.0.0 e.0.1, at b.1.seen e.1)

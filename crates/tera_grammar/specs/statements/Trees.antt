@@ -4,7 +4,7 @@ use Rattle.std.specs.List.{AllByRecursion}
 use Rattle.tera_tree.specs.Tree as tree
 use Rattle.tera_tree.specs.Tree.{Stmt, Nodes, NoNodes, OneNode, Output}
 use Rattle.tera_tree.specs.View.{nodes_of}
-use Rattle.tera_grammar.specs.statements.Names.{AreDistinct}
+use Rattle.tera_grammar.specs.Words.{AreDistinct}
 use Rattle.tera_grammar.specs.statements.Top.{is_blank}
 
 -- The names of the blocks, in order. A call of a component holds nodes where it is a node itself and does not
@@ -16,10 +16,10 @@ abbrev mutual
 
   pub stmt_blocks : Stmt → List (List ℕ)
   stmt_blocks (tree.Block name span body) = name ∷ blocks body
-  stmt_blocks (tree.BlockSet name filters body global) = blocks body
+  stmt_blocks (tree.BlockSet name fs body global) = blocks body
   stmt_blocks (tree.ForLoop key value target body other) = blocks body ++ blocks other
   stmt_blocks (tree.If e body other) = blocks body ++ blocks other
-  stmt_blocks (tree.FilterSection filters body) = blocks body
+  stmt_blocks (tree.FilterSection fs body) = blocks body
   stmt_blocks (tree.Shown (tree.ComponentCall name es body false span)) = blocks body
   stmt_blocks s = []
 
@@ -34,10 +34,10 @@ abbrev mutual
   BreakStands inside tree.Break = inside ≡ true
   BreakStands inside tree.Continue = inside ≡ true
   BreakStands inside (tree.Block name span body) = BreaksStand inside body
-  BreakStands inside (tree.BlockSet name filters body global) = BreaksStand false body
+  BreakStands inside (tree.BlockSet name fs body global) = BreaksStand false body
   BreakStands inside (tree.ForLoop key value target body other) = BreaksStand true body × BreaksStand inside other
   BreakStands inside (tree.If e body other) = BreaksStand inside body × BreaksStand inside other
-  BreakStands inside (tree.FilterSection filters body) = BreaksStand false body
+  BreakStands inside (tree.FilterSection fs body) = BreaksStand false body
   BreakStands inside (tree.Shown (tree.ComponentCall name es body false span)) = BreaksStand false body
   BreakStands inside s = Unit {0}
 

@@ -6,9 +6,10 @@ use Rattle.tera_grammar.specs.expressions.Operators.{Minus, LessThan, Div, Great
 use Rattle.tera_grammar.specs.expressions.Marks.{Mark, LeftParen, RightParen, LeftBracket, RightBracket, LeftBrace, Comma, For, If, Operation}
 use Rattle.tera_grammar.specs.expressions.Concrete.{Name, Lit, Nothing, Sign, Negative, Negates, Second, no_second, second, of_items, of_entries, Tree, Atomic, Prefix, Literal, Chain, Call, Paren, Array, Comprehension, Map, Component, ended, Element, plain}
 use Rattle.tera_grammar.specs.expressions.Powers.{sign_power}
-use Rattle.tera_grammar.specs.expressions.Words.{is_none, is_not, is_reserved}
+use Rattle.tera_grammar.specs.Words.{is_none, is_not, is_reserved}
 use Rattle.tera_grammar.specs.expressions.Output.{of_loop}
-use Rattle.tera_grammar.specs.expressions.Reading.Front.{◌>>=◌, Place, at, Reads, skip, name_of, literal_of, head_mark, begins_sign}
+use Rattle.tera_grammar.specs.Options.{◌>>=◌}
+use Rattle.tera_grammar.specs.expressions.Reading.Front.{Place, at, Reads, skip, name_of, literal_of, head_mark, begins_sign}
 use Rattle.tera_grammar.specs.expressions.Reading.Parts.{Room, Reader, inside_array, extra_of, element_of, after_element, row_of, arguments_of, links_of, dotted_of, attributes_of}
 
 unfoldable pub prefix_of : Reader → Room → Sign → Place → Reads Tree

@@ -7,12 +7,8 @@ use Rattle.tera_lexer.specs.Tokens.{Tok, Items, Token, Ident, Symbol}
 use Rattle.tera_grammar.specs.expressions.Operators.{Mul, Div, Mod, Plus, Minus, FloorDiv, Power, LessThan, GreaterThan, LessThanOrEqual, GreaterThanOrEqual, Equal, NotEqual, And, Or, StrConcat, In}
 use Rattle.tera_grammar.specs.expressions.Marks.{Mark, mark_token, LeftParen, LeftBracket, QuestionBracket, LeftBrace, Dot, QuestionDot, Bar, Not, Is, If, Operation, Other}
 use Rattle.tera_grammar.specs.expressions.Concrete.{Name, Lit, Number, Quoted, Escaped, Truth, Op, Single, NotIn, Joint, plain_dot, optional_dot, Bracket, plain_bracket, optional_bracket}
+use Rattle.tera_grammar.specs.Options.{◌>>=◌}
 use Rattle.tera_grammar.specs.expressions.Powers.{op_left}
-
-infixl 10 ◌>>=◌
-abbrev pub ◌>>=◌ : {A B : Type 0} → Option A → (A → Option B) → Option B
-None >>= f = None
-(Some x) >>= f = f x
 
 -- Where the reading stands: how many links may still come, and the tokens that are not yet taken.
 pub record Place : Type 0 where

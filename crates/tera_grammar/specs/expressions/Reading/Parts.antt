@@ -5,9 +5,10 @@ use Rattle.tera_base.specs.declared.utils.Span.{Span}
 use Rattle.tera_lexer.specs.Cursors.{size}
 use Rattle.tera_grammar.specs.expressions.Marks.{Mark, LeftParen, RightBracket, LeftBrace, RightBrace, Comma, Colon, Dot, Spread, Assign}
 use Rattle.tera_grammar.specs.expressions.Concrete.{Name, Lit, Kind, of_arguments, of_items, of_entries, closing, Tree, Links, no_links, field, item, Sub, index, slice, Part, absent, present, Extra, no_extra, extra, Row, ended, only, then, Element, plain, spread, pair, argument, Args, no_args, args, Dotted, no_dots, dots, Attributes, no_attributes, bare, quoted, valued, spreading}
-use Rattle.tera_grammar.specs.expressions.Words.{are_distinct}
+use Rattle.tera_grammar.specs.Words.{are_distinct}
 use Rattle.tera_grammar.specs.expressions.Conditions.{is_key, is_text, is_field_of, names}
-use Rattle.tera_grammar.specs.expressions.Reading.Front.{◌>>=◌, Place, at, Reads, skip, lowered, bump, name_of, literal_by, Link, no_link, jointed, bracketed, called, link_of}
+use Rattle.tera_grammar.specs.Options.{◌>>=◌}
+use Rattle.tera_grammar.specs.expressions.Reading.Front.{Place, at, Reads, skip, lowered, bump, name_of, literal_by, Link, no_link, jointed, bracketed, called, link_of}
 
 -- whether the expression stands in a loop, and how many subscripts and arrays may still open
 pub record Room : Type 0 where

@@ -5,9 +5,10 @@ use Rattle.tera_base.specs.declared.utils.Span.{Span}
 use Rattle.tera_lexer.specs.Cursors.{size}
 use Rattle.tera_lexer.specs.Tokens as toks
 use Rattle.tera_lexer.specs.Tokens.{Tok, Items, Token, Ident, Str, Integer, Truth, Symbol}
-use Rattle.tera_grammar.specs.expressions.Words.{is_none}
-use Rattle.tera_grammar.specs.statements.Options.{◌>>=◌, guard}
-use Rattle.tera_grammar.specs.statements.Names.{is_among, agrees}
+use Rattle.tera_grammar.specs.Words.{is_none}
+use Rattle.tera_grammar.specs.Options.{◌>>=◌, guard}
+use Rattle.tera_grammar.specs.Words.{is_one_of}
+use Rattle.tera_grammar.specs.statements.Names.{agrees}
 use Rattle.tera_grammar.specs.statements.Parts.{Edge, Name, Simple, Escaped, is_symbol, AtEndComponent}
 use Rattle.tera_grammar.specs.statements.Expressions.{Limits, ComponentName, component_of, component_text, LiteralMap, array_of, map_of}
 use Rattle.tera_grammar.specs.statements.Components.{Default, TruthDefault, TextDefault, NumberDefault, MinusDefault, NothingDefault, ArrayDefault, MapDefault, Annotation, Assigned, Parameter, is_known, is_body, argument_of, default_has_type, Parameters, Closed, Rest, Final, More, component_texts, Head}
@@ -64,7 +65,7 @@ parameter at name type default = record { at = at; name = name; type = type; def
 -- a name that is neither `body` nor that of an earlier parameter
 abbrev pub fresh_name : List (List ℕ) → Items → Takes Name
 fresh_name seen items =
-    name_of items >>= λ n. guard (not (is_body n.0.text)) >>= λ u. guard (not (is_among n.0.text seen)) >>= λ v. Some n
+    name_of items >>= λ n. guard (not (is_body n.0.text)) >>= λ u. guard (not (is_one_of seen n.0.text)) >>= λ v. Some n
 
 -- a parameter, behind `@`, if any
 unfoldable pub parameter_behind : Limits → List (List ℕ) → Option Span → Items → Takes Parameter
@@ -120,7 +121,7 @@ pub record Opened : Type 0 where
 
 unfoldable pub opened_of : Limits → List (List ℕ) → Items → Takes Opened
 opened_of l seen items =
-    component_of items >>= λ n. guard (not (is_among (component_text n.0) seen)) >>= λ u.
+    component_of items >>= λ n. guard (not (is_one_of seen (component_text n.0))) >>= λ u.
     symbol (codes "(") n.1 >>= λ paren. parameters_of l [] paren.1 >>= λ ps.
     metadata_in l ps.1 (is_symbol (codes "{") ps.1) >>= λ m. finish_of m.1 >>= λ f.
     Some (record { name = n.0; paren = paren.0; parameters = ps.0; metadata = m.0; finish = f.0 }, f.1)

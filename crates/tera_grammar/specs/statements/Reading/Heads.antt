@@ -3,8 +3,8 @@ use Rattle.std.specs.Prelude.{ℕ, zero, suc, Bool, true, not, codes, Option, So
 use Rattle.tera_base.specs.declared.utils.Span.{Span}
 use Rattle.tera_lexer.specs.Cursors.{size}
 use Rattle.tera_lexer.specs.Tokens.{Items}
-use Rattle.tera_grammar.specs.statements.Options.{◌>>=◌, guard}
-use Rattle.tera_grammar.specs.statements.Names.{is_reserved}
+use Rattle.tera_grammar.specs.Options.{◌>>=◌, guard}
+use Rattle.tera_grammar.specs.Words.{is_reserved}
 use Rattle.tera_grammar.specs.statements.Parts.{Name}
 use Rattle.tera_grammar.specs.statements.Expressions.{Limits, expression_of, filter_of}
 use Rattle.tera_grammar.specs.statements.Heads.{Loop, Over, OverPairs, Filters, NoFilters, Piped}

@@ -1,22 +1,17 @@
 -- Reading the parts of tags.
-use Rattle.std.specs.Prelude.{ℕ, Bool, true, false, if◌then◌else◌, List, [], ◌∷◌, Option, Some, None}
+use Rattle.std.specs.Prelude.{ℕ, true, false, if◌then◌else◌, List, [], ◌∷◌, Option, Some, None}
 use Rattle.std.specs.Str.{bytes_eq}
 use Rattle.tera_base.specs.declared.utils.Span.{Span}
 use Rattle.tera_lexer.specs.Tokens as toks
 use Rattle.tera_lexer.specs.Tokens.{Tok, Items, Ended, Failed, Token, Content, Start, Finish, Ident, Str, Symbol}
 use Rattle.tera_lexer.specs.declared.lexer.delimiters.Kind.TheVariants as kind
-use Rattle.tera_grammar.specs.statements.Options.{◌>>=◌, guard}
+use Rattle.tera_grammar.specs.Options.{◌>>=◌, guard}
 use Rattle.tera_grammar.specs.statements.Parts.{Edge, Name, Quote, Simple, Escaped, Tag, Opener, OpensSet, OpensInclude, OpensExtends, OpensBlock, OpensFor, OpensIf, OpensFilter, OpensComponent, OpensBreak, OpensContinue, OpensCall, opener_token, Closer, AtElif, AtElse, AtEndSet, AtEndBlock, AtEndFor, AtEndIf, AtEndFilter, AtEndComponent, AtEndCall, closer_token}
+pub use Rattle.tera_grammar.specs.expressions.Reading.Front.{same_token}
 
 -- what is read, and the tokens behind it
 abbrev pub Takes : Type 0 → Type 0
 Takes A = Option (A × Items)
-
--- whether two words or two operators are the same
-abbrev pub same_token : Tok → Tok → Bool
-same_token (Ident a) (Ident b) = bytes_eq a b
-same_token (Symbol a) (Symbol b) = bytes_eq a b
-same_token a b = false
 
 abbrev pub openers : List Opener
 openers =

@@ -1,7 +1,7 @@
 -- The names that mean something.
-use Rattle.std.specs.Prelude.{ℕ, Bool, true, not, ◌&&◌, List, [], ◌∷◌, codes}
+use Rattle.std.specs.Prelude.{◌≢◌, ℕ, Bool, true, not, ◌&&◌, List, [], ◌∷◌, codes}
 use Rattle.std.specs.Str.{bytes_eq}
-use Rattle.std.specs.List.{list_any}
+use Rattle.std.specs.List.{list_any, AllByRecursion}
 
 abbrev pub is_one_of : List (List ℕ) → List ℕ → Bool
 is_one_of names name = list_any (λ n. bytes_eq name n) names
@@ -26,7 +26,12 @@ is_loop name = bytes_eq name (codes "loop")
 unfoldable pub is_loop_field : List ℕ → Bool
 is_loop_field name = is_one_of (codes "index" ∷ codes "index0" ∷ codes "first" ∷ codes "last" ∷ codes "length" ∷ []) name
 
--- no two names are the same
+-- whether no two names are the same
 abbrev pub are_distinct : List (List ℕ) → Bool
 are_distinct [] = true
 are_distinct (n ∷ ns) = not (is_one_of ns n) && are_distinct ns
+
+-- no two names are the same
+abbrev pub AreDistinct : List (List ℕ) → Type 0
+AreDistinct [] = Unit {0}
+AreDistinct (name ∷ names) = AllByRecursion (λ other. name ≢ other) names × AreDistinct names

@@ -1,8 +1,8 @@
 -- The parts of readings that succeed, and tests on texts.
-use Rattle.std.proofs.Common.{◌≡◌, ◌≢◌, ℕ, Bool, true, false, not, ◌||◌, List, Option, Some, None, refl}
+use Rattle.std.proofs.Common.{◌≡◌, ◌≢◌, ℕ, Bool, true, false, not, ◌&&◌, ◌||◌, List, Option, Some, None, refl}
 use Rattle.std.specs.Str.{bytes_eq}
 use Rattle.std.proofs.lemmas.Slice.Eq.{bytes_eq-Decides}
-use Rattle.tera_grammar.specs.statements.Options.{◌>>=◌, guard}
+use Rattle.tera_grammar.specs.Options.{◌>>=◌, guard}
 
 -- the parts of a reading that succeeds, as a step of a proof
 pub bound : {A B : Type 0} {G : Type 0} (o : Option A) (f : A → Option B) (y : B) → (o >>= f) ≡ Some y → ((x : A) → o ≡ Some x → f x ≡ Some y → G) → G
@@ -13,6 +13,9 @@ bound (Some x) f y h then = then x refl h
 pub bind_both : {A B : Type 0} (o : Option A) (f g : A → Option B) → ((x : A) → o ≡ Some x → f x ≡ g x) → (o >>= f) ≡ (o >>= g)
 bind_both None f g same = refl
 bind_both (Some x) f g same = same x refl
+
+pub none_some : {A : Type 0} {a : A} → None ≡ Some a → ⊥
+none_some e = cc
 
 pub guard_ok : (b : Bool) (u : Unit {0}) → guard b ≡ Some u → b ≡ true
 guard_ok true u h = refl
@@ -28,6 +31,10 @@ guard_not b u h = not_ok b (guard_ok (not b) u h)
 pub or_false : (a b : Bool) → (a || b) ≡ false → (a ≡ false) × (b ≡ false)
 or_false true b h = cc
 or_false false b h = (refl, h)
+
+pub and_ok : (a b : Bool) → (a && b) ≡ true → (a ≡ true) × (b ≡ true)
+and_ok true b h = (refl, h)
+and_ok false b h = cc
 
 pub bytes_same : (a b : List ℕ) → bytes_eq a b ≡ true → a ≡ b
 bytes_same a b h = (bytes_eq-Decides a b).0 h
