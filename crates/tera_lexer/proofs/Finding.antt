@@ -1,11 +1,13 @@
--- The first marker in some bytes, and the end of a raw piece.
-use Rattle.std.proofs.Common.{◌≡◌, ℕ, ◌+◌, ◌<◌, ◌≤◌, true, false, List, [], ◌∷◌, ◌++◌, length, take, drop, get_or, Option, Some, None, ⊎_elim, sym, ap, ◌∙◌, refl, subst, arith}
-use Rattle.std.proofs.lemmas.Bool.{cases_Bool}
-use Rattle.std.proofs.lemmas.List.{append-nil, drop_more, drop_all}
+-- The first marker in some bytes.
+use Rattle.std.proofs.Common.{◌≡◌, ℕ, ◌+◌, ◌-◌, ◌<◌, ◌≤◌, true, false, List, [], ◌∷◌, ◌++◌, length, take, drop, Option, Some, None, ⊎_elim, sym, ap, ◌∙◌, refl, subst, arith}
+use Rattle.std.proofs.lemmas.Bool.{cases_Bool, cases_lt, false≢true}
+use Rattle.std.proofs.lemmas.List.{append-nil, drop_all, take_all, take_at, take-append-drop, drop-drop, length-append, length-drop, length-take-le}
+use Rattle.memchr.specs.Find.{OccursAt, FindsNeedle, Nowhere}
+use Rattle.memchr.proofs.lemmas.MatchLemmas.{OccursAt-from_part, OccursAt-split}
 use Rattle.tera_lexer.specs.Marks.{begins, NowhereIn}
 use Rattle.tera_lexer.specs.Front.{more, find_marker}
+use Rattle.tera_lexer.proofs.Texts.{nowhere_before}
 use Rattle.tera_lexer.proofs.Markers.{begins_splits, splits_begins}
-use Rattle.tera_lexer.proofs.Closings.{further, further_more, further_none}
 
 -- what is behind a marker that stands behind so many bytes
 abbrev pub behind_at : List ℕ → ℕ → List ℕ → List ℕ
@@ -45,29 +47,67 @@ find_none marker (b ∷ bs) none =
     let here : begins marker (b ∷ bs) ≡ false = subst (λ l. begins marker (b ∷ l) ≡ false) (append-nil bs) none.0 in
     rw here (ap more (find_none marker bs none.1))
 
--- one byte after another
-pub find_start : (marker bytes : List ℕ) → find_marker marker bytes ≡ further 0 (find_marker marker bytes)
-find_start marker bytes = further_none (find_marker marker bytes)
+-- where the marker begins, a search of the bytes meets it, and the other way round
+pub occurs_where_begins : (marker bytes : List ℕ) (k : ℕ) → length marker ≡ 2 → begins marker (drop k bytes) ≡ true → OccursAt bytes marker k
+occurs_where_begins marker bytes k two here =
+    let rest : List ℕ = drop (length marker) (drop k bytes) in
+    let e = begins_splits marker (drop k bytes) here in
+    let fits : k + length marker ≤ length bytes = omega (arith, ap length e, length-append marker rest, length-drop k bytes) in
+    OccursAt-from_part bytes marker k fits (ap (take (length marker)) e ∙ take_at marker rest (length marker) refl)
 
-module _ (marker bytes : List ℕ) (i : ℕ) (e : find_marker marker bytes ≡ further i (find_marker marker (drop i bytes))) where
-  pub find_nowhere : length bytes ≤ i → None ≡ find_marker marker bytes
-  unfolding further
-  find_nowhere le = sym (e ∙ ap (λ l. further i (find_marker marker l)) (drop_all i bytes le))
+pub begins_where_occurs : (marker bytes : List ℕ) (k : ℕ) → OccursAt bytes marker k → begins marker (drop k bytes) ≡ true
+begins_where_occurs marker bytes k occurs = splits_begins marker (drop k bytes) (drop (k + length marker) bytes) (OccursAt-split bytes marker k occurs)
 
-  module _ (lt : i < length bytes) where
-    at_byte : drop i bytes ≡ get_or bytes i 0 ∷ drop (i + 1) bytes
-    at_byte = drop_more bytes i 0 lt
+-- it begins at no place before the one that is found
+pub begins_nowhere : (marker bytes : List ℕ) (n : ℕ) → length marker ≡ 2 → n ≤ length bytes + 1 → Nowhere (OccursAt bytes marker) 0 n → (k : ℕ) → k < n → begins marker (drop k bytes) ≡ false
+begins_nowhere marker bytes n two le nowhere k lt =
+    ⊎_elim (λ here. absurd (nowhere k (omega arith) lt (occurs_where_begins marker bytes k two here))) (λ none. none) (cases_Bool (begins marker (drop k bytes)))
 
-    pub find_more : begins marker (drop i bytes) ≡ false → find_marker marker bytes ≡ further (i + 1) (find_marker marker (drop (i + 1) bytes))
-    find_more other =
-        let here : begins marker (get_or bytes i 0 ∷ drop (i + 1) bytes) ≡ false = subst (λ l. begins marker l ≡ false) at_byte other in
-        let step : find_marker marker (drop i bytes) ≡ more (find_marker marker (drop (i + 1) bytes)) = ap (find_marker marker) at_byte ∙ rw here refl in
-        e ∙ ap (further i) step ∙ further_more i (find_marker marker (drop (i + 1) bytes))
+-- what a search finds is the first marker
+pub find_is : (marker bytes : List ℕ) (found : Option ℕ) → length marker ≡ 2 → FindsNeedle bytes marker 0 found → found ≡ find_marker marker bytes
+find_is marker bytes None two nowhere =
+    let n : ℕ = length bytes in
+    let none = nowhere_before (begins marker) bytes n (omega arith) (λ k lt. begins_nowhere marker bytes (n + 1) two (omega arith) nowhere k (omega arith)) in
+    let whole : take n bytes ≡ bytes = take_all n bytes (omega arith) in
+    let rest : drop n bytes ≡ [] = drop_all n bytes (omega arith) in
+    sym (find_none marker bytes (subst (λ l. NowhereIn (begins marker) l []) whole (subst (NowhereIn (begins marker) (take n bytes)) rest none)))
+find_is marker bytes (Some n) two is =
+    let rest : List ℕ = drop (n + length marker) bytes in
+    let e : drop n bytes ≡ marker ++ rest = OccursAt-split bytes marker n is.1 in
+    let fits : n ≤ length bytes = omega (arith, is.1.fits) in
+    let none = nowhere_before (begins marker) bytes n fits (begins_nowhere marker bytes n two (omega arith) is.0.before) in
+    let split : take n bytes ++ (marker ++ rest) ≡ bytes = ap (λ l. take n bytes ++ l) (sym e) ∙ take-append-drop n bytes in
+    let found = find_found marker (take n bytes) rest two (subst (NowhereIn (begins marker) (take n bytes)) e none) in
+    sym (sym (ap (find_marker marker) split) ∙ found ∙ ap Some (length-take-le n bytes fits))
 
-    pub find_here : begins marker (drop i bytes) ≡ true → Some i ≡ find_marker marker bytes
-    unfolding further
-    find_here here =
-        let here' : begins marker (get_or bytes i 0 ∷ drop (i + 1) bytes) ≡ true = subst (λ l. begins marker l ≡ true) at_byte here in
-        let step : find_marker marker (drop i bytes) ≡ Some 0 = ap (find_marker marker) at_byte ∙ rw here' refl in
-        let there : i + 0 ≡ i = omega arith in
-        sym (e ∙ ap (further i) step ∙ ap Some there)
+-- the marker stands at no place up to this one, and is sought from here on
+module _ (marker bytes : List ℕ) (n : ℕ) (nowhere : Nowhere (OccursAt bytes marker) 0 n) where
+  pub found_near : n ≤ length bytes → begins marker (drop n bytes) ≡ true → length marker ≡ 2 → FindsNeedle bytes marker 0 (Some n)
+  found_near le here two = (record { low = omega arith; high = omega arith; before = nowhere }, occurs_where_begins marker bytes n two here)
+
+  pub nowhere_near : begins marker (drop n bytes) ≡ false → Nowhere (OccursAt bytes marker) 0 (n + 1)
+  nowhere_near none k low lt occurs =
+      ⊎_elim
+      (λ less. nowhere k low less occurs)
+      (λ le.
+      let same : k ≡ n = omega arith in
+      false≢true (sym none ∙ subst (λ i. begins marker (drop i bytes) ≡ true) same (begins_where_occurs marker bytes k occurs)))
+      (cases_lt k n)
+
+  nowhere_far : (m : ℕ) → length marker ≡ 2 → Nowhere (OccursAt (drop n bytes) marker) 0 m → Nowhere (OccursAt bytes marker) 0 (n + m)
+  nowhere_far m two far k low lt occurs =
+      ⊎_elim
+      (λ less. nowhere k low less occurs)
+      (λ le.
+      let there : drop (k - n) (drop n bytes) ≡ drop k bytes = drop-drop (k - n) n bytes ∙ ap (λ i. drop i bytes) (omega arith) in
+      far (k - n) (omega arith) (omega arith) (occurs_where_begins marker (drop n bytes) (k - n) two (ap (begins marker) there ∙ begins_where_occurs marker bytes k occurs)))
+      (cases_lt k n)
+
+  pub found_far : (at : ℕ) → n ≤ length bytes → length marker ≡ 2 → FindsNeedle (drop n bytes) marker 0 (Some at) → FindsNeedle bytes marker 0 (Some (n + at))
+  found_far at le two is =
+      let there : drop at (drop n bytes) ≡ drop (n + at) bytes = drop-drop at n bytes in
+      let here : OccursAt bytes marker (n + at) = occurs_where_begins marker bytes (n + at) two (ap (begins marker) (sym there) ∙ begins_where_occurs marker (drop n bytes) at is.1) in
+      (record { low = omega arith; high = omega (arith, here.fits); before = nowhere_far at two is.0.before }, here)
+
+  pub found_nowhere : n ≤ length bytes → length marker ≡ 2 → FindsNeedle (drop n bytes) marker 0 None → FindsNeedle bytes marker 0 None
+  found_nowhere le two is k low lt occurs = nowhere_far (length (drop n bytes) + 1) two is k low (omega (arith, length-drop n bytes)) occurs

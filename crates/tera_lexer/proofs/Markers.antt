@@ -1,6 +1,6 @@
 -- Where markers stand.
 use Rattle.std.proofs.Common.{◌≡◌, ℕ, ◌<◌, ◌≤◌, Bool, true, false, ◌||◌, List, [], ◌∷◌, ◌++◌, length, take, drop, get_or, add-zero, subst, ⊎_elim, inl, inr, sym, refl, ap, ◌∙◌, arith, IsUtf8}
-use Rattle.std.specs.Prelude.{◌⊎◌}
+use Rattle.std.specs.Prelude.{◌⊎◌, ◌==◌, ◌≢◌}
 use Rattle.std.specs.Str.{IsCharBoundary}
 use Rattle.std.proofs.lemmas.List.{take_at, drop_at, length-append, get_or-drop, get_or_append_left}
 use Rattle.std.proofs.lemmas.Slice.Eq.{starts_is}
@@ -9,7 +9,7 @@ use Rattle.std.proofs.lemmas.Str.{IsCharBoundary-from_take, IsCharBoundary-start
 use Rattle.tera_lexer.specs.Marks.{Marks, IsValid, AreTexts, begins, dash_bytes, TakesDash}
 use Rattle.tera_lexer.specs.Division.{is_at_start, Starts}
 use Rattle.tera_lexer.specs.Front.{at_dash, behind_dash, behind_marker}
-use Rattle.std.proofs.lemmas.Bool.{cases_Bool}
+use Rattle.std.proofs.lemmas.Bool.{cases_Bool, eqb-true, eq-eqb, ne_eqb, false≢true}
 
 -- a marker that begins the bytes stands before the rest of them, and the other way round
 pub begins_splits : (marker bytes : List ℕ) → begins marker bytes ≡ true → bytes ≡ marker ++ drop (length marker) bytes
@@ -71,3 +71,31 @@ dash_found false inside takes = (takes, rw takes refl)
 
 pub behind_is : (marker bytes rest : List ℕ) → bytes ≡ marker ++ rest → behind_marker marker bytes ≡ rest
 behind_is marker bytes rest e = ap (drop (length marker)) e ∙ drop_at marker rest (length marker) refl
+
+-- a marker of two bytes begins those that are its bytes, and no others
+pub first_bytes : (marker bytes : List ℕ) → length marker ≡ 2 → begins marker bytes ≡ true → (get_or bytes 0 0 ≡ get_or marker 0 0) × (get_or bytes 1 0 ≡ get_or marker 1 0)
+first_bytes marker bytes two here =
+    let e = begins_splits marker bytes here in
+    let rest : List ℕ = drop (length marker) bytes in (
+      ap (λ l. get_or l 0 0) e ∙ get_or_append_left marker rest 0 0 (omega arith),
+      ap (λ l. get_or l 1 0) e ∙ get_or_append_left marker rest 0 1 (omega arith),
+    )
+
+both_begin : (marker bytes : List ℕ) → length marker ≡ 2 → 2 ≤ length bytes → get_or bytes 0 0 ≡ get_or marker 0 0 → get_or bytes 1 0 ≡ get_or marker 1 0 → begins marker bytes ≡ true
+both_begin (x ∷ y ∷ []) (a ∷ b ∷ bs) two fits first second = splits_begins (x ∷ y ∷ []) (a ∷ b ∷ bs) bs (λ i. first i ∷ second i ∷ bs)
+both_begin [] bytes two fits first second = absurd (omega arith)
+both_begin (x ∷ []) bytes two fits first second = absurd (omega arith)
+both_begin (x ∷ y ∷ z ∷ zs) bytes two fits first second = absurd (omega arith)
+both_begin (x ∷ y ∷ []) [] two fits first second = absurd (omega arith)
+both_begin (x ∷ y ∷ []) (a ∷ []) two fits first second = absurd (omega arith)
+
+pub first_differs : (marker bytes : List ℕ) → length marker ≡ 2 → get_or bytes 0 0 ≢ get_or marker 0 0 → (get_or bytes 0 0 == get_or marker 0 0) ≡ begins marker bytes
+first_differs marker bytes two other =
+    ne_eqb (get_or bytes 0 0) (get_or marker 0 0) other ∙ ⊎_elim (λ here. absurd (other (first_bytes marker bytes two here).0)) (λ no. sym no) (cases_Bool (begins marker bytes))
+
+pub second_decides : (marker bytes : List ℕ) → length marker ≡ 2 → 2 ≤ length bytes → get_or bytes 0 0 ≡ get_or marker 0 0 → (get_or bytes 1 0 == get_or marker 1 0) ≡ begins marker bytes
+second_decides marker bytes two fits first =
+    ⊎_elim
+    (λ same. same ∙ sym (both_begin marker bytes two fits first (eqb-true (get_or bytes 1 0) (get_or marker 1 0) same)))
+    (λ other. other ∙ ⊎_elim (λ here. absurd (false≢true (sym other ∙ eq-eqb (get_or bytes 1 0) (get_or marker 1 0) (first_bytes marker bytes two here).1))) (λ no. sym no) (cases_Bool (begins marker bytes)))
+    (cases_Bool (get_or bytes 1 0 == get_or marker 1 0))

@@ -6,6 +6,7 @@ use Rattle.std.specs.Char.{is_ascii_digit}
 use Rattle.std.proofs.lemmas.Bool.{cases_Bool}
 use Rattle.std.proofs.lemmas.Bool.Decides.{nat_tests, Decides-ltb}
 use Rattle.tera_lexer.specs.Marks.{begins}
+use Rattle.tera_lexer.specs.Front.{begins_long_operator}
 use Rattle.tera_lexer.specs.Lexeme.{is_short_operator, short_operator, first_of, long_operators, long_operator_at, operator_at, begins_name, is_quote}
 use Rattle.tera_lexer.proofs.Markers.{begins_splits}
 
@@ -14,6 +15,9 @@ digit_no_operator b bs h = grind (arith, nat_tests)
 
 pub name_no_operator : (b : ℕ) (bs : List ℕ) → begins_name b ≡ true → operator_at (b ∷ bs) ≡ None
 name_no_operator b bs h = grind (arith, nat_tests)
+
+pub long_begins : (b : ℕ) (bs : List ℕ) → begins_long_operator b ≡ false → long_operator_at (b ∷ bs) ≡ None
+long_begins b bs h = grind (arith, nat_tests)
 
 pub quote_no_operator : (b : ℕ) (bs : List ℕ) → is_quote b ≡ true → operator_at (b ∷ bs) ≡ None
 quote_no_operator b bs h = grind (arith, nat_tests)

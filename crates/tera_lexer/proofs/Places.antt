@@ -1,12 +1,14 @@
 -- The counters of the program are those of the place.
-use Rattle.std.proofs.Common.{◌≡◌, ℕ, ◌+◌, ◌-◌, ◌≤◌, Bool, true, false, cond, List, [], ◌∷◌, ◌++◌, length, take, drop, subst, ⊎_elim, inl, inr, sym, refl, ap, ◌∙◌, append_assoc, arith}
+use Rattle.std.proofs.Common.{◌≡◌, ℕ, suc, ◌+◌, ◌-◌, ◌<◌, ◌≤◌, Bool, true, false, cond, List, [], ◌∷◌, ◌++◌, length, take, drop, get_or, subst, ⊎_elim, inl, inr, sym, refl, ap, ◌∙◌, append_assoc, arith}
 use Rattle.std.specs.Prelude.{count_by, ◌⊎◌, not, if◌then◌else◌}
 use Rattle.std.specs.List.{after_last, suffix_len}
 use Rattle.std.specs.Str.{IsCharBoundary}
-use Rattle.std.proofs.lemmas.List.{append-nil, drop_all, drop-append-le, length-append, length-drop, reverse-append, take-append-drop, take_at, drop-drop, length-take-le, length-take}
-use Rattle.std.proofs.lemmas.List.Sums.{count_by-le-length, suffix_len-le-length, sum_by_push}
+use Rattle.std.proofs.lemmas.List.{append-nil, drop_all, drop-append-le, length-append, length-drop, reverse-append, take-append-drop, take_at, take_more, drop-drop, get_or-drop, length-take-le, length-take}
+use Rattle.std.proofs.lemmas.List.Sums.{count_by-le-length, suffix_len-le-length, sum_by-cons, sum_by_push}
+use Rattle.std.proofs.lemmas.Bool.{eqb-true}
+use Rattle.std.proofs.lemmas.Bool.Decides.{nat_tests}
 use Rattle.std.proofs.lemmas.Str.{IsCharBoundary-from_rest}
-use Rattle.tera_lexer.specs.Place.{is_line_feed, begins_character, place_after, span_of, IsWithin, stepped, moved}
+use Rattle.tera_lexer.specs.Place.{is_line_feed, begins_character, ArePrintable, place_after, span_of, IsWithin, stepped, moved}
 use Rattle.tera_lexer.specs.declared.lexer.place.Place.{Place}
 
 is_either : (v : Bool) → (v ≡ true) ⊎ (v ≡ false)
@@ -59,6 +61,79 @@ pub moved_is : (front text : List ℕ) → moved (place_after front) text ≡ pl
 moved_is front [] = ap place_after (sym (append-nil front))
 moved_is front (b ∷ bs) =
     ap (λ p. moved p bs) (step_is front b) ∙ moved_is (front ++ b ∷ []) bs ∙ ap place_after (append_assoc front (b ∷ []) bs)
+
+-- the program's steps, all at once
+step_line : (p : Place) (b : ℕ) → (stepped p b).line ≡ p.line + cond (is_line_feed b) 1 0
+step_line p b = ⊎_elim (λ here. rw here refl) (λ other. rw other (omega arith)) (is_either (is_line_feed b))
+
+step_column : (p : Place) (b : ℕ) → is_line_feed b ≡ false → (stepped p b).column ≡ p.column + cond (begins_character b) 1 0
+step_column p b other = rw other (⊎_elim (λ begins. rw begins refl) (λ goes_on. rw goes_on (omega arith)) (is_either (begins_character b)))
+
+moved_line : (p : Place) (text : List ℕ) → (moved p text).line ≡ p.line + count_by is_line_feed text
+moved_line p [] = omega arith
+moved_line p (b ∷ bs) = omega (arith, moved_line (stepped p b) bs, step_line p b, sum_by-cons (λ x. cond (is_line_feed x) 1 0) b bs)
+
+moved_byte : (p : Place) (text : List ℕ) → (moved p text).byte ≡ p.byte + length text
+moved_byte p [] = omega arith
+moved_byte p (b ∷ bs) = omega (arith, moved_byte (stepped p b) bs)
+
+-- no line feed stands at these places of a text
+abbrev pub NoLineFeed : List ℕ → ℕ → Type 0
+NoLineFeed text from = (k : ℕ) → from ≤ k → k < length text → ¬ (is_line_feed (get_or text k 0) ≡ true)
+
+moved_column : (p : Place) (text : List ℕ) → NoLineFeed text 0 → (moved p text).column ≡ p.column + count_by begins_character text
+moved_column p [] none = omega arith
+moved_column p (b ∷ bs) none =
+    let other : is_line_feed b ≡ false = ⊎_elim (λ here. absurd (none 0 (omega arith) (omega arith) here)) (λ no. no) (is_either (is_line_feed b)) in
+    omega (arith, moved_column (stepped p b) bs (λ k le lt. none (suc k) (omega arith) (omega arith)), step_column p b other, sum_by-cons (λ x. cond (begins_character x) 1 0) b bs)
+
+none_counted : (text : List ℕ) → NoLineFeed text 0 → count_by is_line_feed text ≡ 0
+none_counted [] none = refl
+none_counted (b ∷ bs) none =
+    let other : is_line_feed b ≡ false = ⊎_elim (λ here. absurd (none 0 (omega arith) (omega arith) here)) (λ no. no) (is_either (is_line_feed b)) in
+    let here : ◌≡◌ {A = ℕ} (cond (is_line_feed b) 1 0) 0 = rw other refl in
+    omega (arith, none_counted bs (λ k le lt. none (suc k) (omega arith) (omega arith)), here, sum_by-cons (λ x. cond (is_line_feed x) 1 0) b bs)
+
+moved_append : (p : Place) (xs ys : List ℕ) → moved p (xs ++ ys) ≡ moved (moved p xs) ys
+moved_append p [] ys = refl
+moved_append p (x ∷ xs) ys = moved_append (stepped p x) xs ys
+
+module _ (p : Place) (text : List ℕ) (line column byte : ℕ) (byte_is : byte ≡ p.byte + length text) where
+  counted : line ≡ p.line + count_by is_line_feed text → column ≡ (moved p text).column → record { line = line; column = column; byte = byte } ≡ moved p text
+  counted line_is column_is = λ i. record { line = (line_is ∙ sym (moved_line p text)) i; column = column_is i; byte = (byte_is ∙ sym (moved_byte p text)) i }
+
+  -- a text without a line feed
+  pub after_part : NoLineFeed text 0 → line ≡ p.line → column ≡ p.column + count_by begins_character text → record { line = line; column = column; byte = byte } ≡ moved p text
+  after_part none line_is column_is = counted (omega (arith, none_counted text none)) (column_is ∙ sym (moved_column p text none))
+
+  -- a text with its last line feed
+  pub after_lines : (last : ℕ) → last < length text → is_line_feed (get_or text last 0) ≡ true → NoLineFeed text (last + 1) → line ≡ p.line + count_by is_line_feed text → column ≡ count_by begins_character (drop (last + 1) text)
+      → record { line = line; column = column; byte = byte } ≡ moved p text
+  after_lines last lt feed none line_is column_is =
+      let front : List ℕ = take last text in
+      let rest : List ℕ = drop (last + 1) text in
+      let q : Place = stepped (moved p front) (get_or text last 0) in
+      let start : q.column ≡ 0 = rw feed refl in
+      let split : (front ++ get_or text last 0 ∷ []) ++ rest ≡ text = ap (λ l. l ++ rest) (sym (take_more text last 0 lt)) ∙ take-append-drop (last + 1) text in
+      let there : moved q rest ≡ moved p text
+      = sym (ap (λ r. moved r rest) (moved_append p front (get_or text last 0 ∷ []))) ∙ sym (moved_append p (front ++ get_or text last 0 ∷ []) rest) ∙ ap (moved p) split in
+      let alone : NoLineFeed rest 0
+      = λ k le in_rest here. none (last + 1 + k) (omega arith) (omega (arith, length-drop (last + 1) text)) (subst (λ b. is_line_feed b ≡ true) (get_or-drop (last + 1) text k 0) here) in
+      counted line_is (omega (arith, column_is, moved_column q rest alone, start) ∙ ap (λ (r : Place). r.column) there)
+
+-- each byte of a text without control bytes is a character of the line
+begins_each : (text : List ℕ) → ArePrintable text → count_by begins_character text ≡ length text
+begins_each [] are = refl
+begins_each (b ∷ bs) are =
+    let low : b < 128 = (are 0 (omega arith)).1 in
+    let begins : begins_character b ≡ true = grind (arith, nat_tests) in
+    let one : ◌≡◌ {A = ℕ} (cond (begins_character b) 1 0) 1 = rw begins refl in
+    omega (arith, begins_each bs (λ k lt. are (suc k) (omega arith)), one, sum_by-cons (λ x. cond (begins_character x) 1 0) b bs)
+
+pub after_printable : (p : Place) (text : List ℕ) (n : ℕ) → n ≡ length text → ArePrintable text → record { line = p.line; column = p.column + n; byte = p.byte + n } ≡ moved p text
+after_printable p text n len are =
+    let none : NoLineFeed text 0 = λ k le lt here. let feed = eqb-true (get_or text k 0) 10 here in absurd (omega (arith, (are k lt).0, feed)) in
+    after_part p text p.line (p.column + n) (p.byte + n) (omega arith) none refl (omega (arith, begins_each text are))
 
 -- n bytes further in a source
 pub take_on : (source : List ℕ) (byte n : ℕ) → byte ≤ length source → n ≤ length (drop byte source) → take (byte + n) source ≡ take byte source ++ take n (drop byte source)

@@ -1,13 +1,13 @@
 -- The end of a raw piece.
-use Rattle.std.proofs.Common.{◌≡◌, ℕ, zero, suc, ◌+◌, ◌<◌, ◌≤◌, true, false, List, [], ◌∷◌, ◌++◌, length, drop, get_or, Option, Some, None, ⊎_elim, sym, ap, ◌∙◌, refl, subst, arith, append_assoc}
-use Rattle.std.specs.Prelude.{nat_lt}
+use Rattle.std.proofs.Common.{◌≡◌, ℕ, zero, suc, ◌+◌, ◌<◌, ◌≤◌, true, false, List, [], ◌∷◌, ◌++◌, length, drop, Option, Some, None, ⊎_elim, sym, ap, ◌∙◌, refl, subst, arith, append_assoc}
 use Rattle.std.proofs.lemmas.Bool.{cases_Bool}
-use Rattle.std.proofs.lemmas.List.{append-nil, drop_more, drop_all, drop-drop, length-append}
-use Rattle.std.proofs.lemmas.Bool.Decides.{nat_tests, Decides-ltb}
+use Rattle.std.proofs.lemmas.List.{append-nil, drop_all, drop-drop, length-append}
+use Rattle.memchr.specs.Find.{OccursAt, Nowhere}
 use Rattle.tera_lexer.specs.Marks.{Marks, begins, NowhereIn}
 use Rattle.tera_lexer.specs.Raw.{WordTag, endraw_word, IsPart, ClosesRaw, ClosesNothing, body_of, AreParts, IsBody, AreOpen, IsOpenBody}
 use Rattle.tera_lexer.specs.Front.{behind_marker, word_tag_at, RawEnd, longer, closed_or, raw_end}
 use Rattle.tera_lexer.proofs.Markers.{begins_splits, splits_begins, behind_is}
+use Rattle.tera_lexer.proofs.Finding.{begins_nowhere, begins_where_occurs}
 use Rattle.tera_lexer.proofs.WordTags.{IsTagAt, word_tag_stands, word_tag_found, word_tag_none}
 
 -- a marker of two bytes
@@ -170,61 +170,77 @@ module _ (m : Marks) (two : length m.block_start ≡ 2) where
         closes,
       )
 
--- one byte after another
-nat_less : (a b : ℕ) → a < b → nat_lt a b ≡ true
-nat_less a b lt = (Decides-ltb a b).1 lt
+-- block starts, one after another
+module _ (start end : List ℕ) where
+  -- bytes at which none begins
+  raw_skips : (n : ℕ) (bytes : List ℕ) → n ≤ length bytes → ((k : ℕ) → k < n → begins start (drop k bytes) ≡ false) → raw_end start end false bytes ≡ further_end n (raw_end start end false (drop n bytes))
+  raw_skips zero bytes le none = sym (further_zero (raw_end start end false bytes))
+  raw_skips (suc n) [] le none = absurd (omega arith)
+  raw_skips (suc n) (b ∷ bs) le none =
+      let here : begins start (b ∷ bs) ≡ false = none 0 (omega arith) in
+      let step : raw_end start end false (b ∷ bs) ≡ longer (raw_end start end false bs) = rw here refl in
+      step ∙ ap longer (raw_skips n bs (omega arith) (λ k lt. none (suc k) (omega arith))) ∙ further_suc n (raw_end start end false (drop n bs))
 
-not_less : (a b : ℕ) → b ≤ a → nat_lt a b ≡ false
-not_less a b le = grind (arith, nat_tests)
+  -- one that begins them
+  raw_starts : (bytes : List ℕ) → length start ≡ 2 → begins start bytes ≡ true → raw_end start end false bytes ≡ closed_or (word_tag_at endraw_word end (drop 2 bytes)) (longer (longer (raw_end start end false (drop 2 bytes))))
+  raw_starts bytes two here = by bytes refl
+    where
+      long : 2 ≤ length bytes
+      long = omega (arith, ap length (begins_splits start bytes here), length-append start (drop (length start) bytes))
+
+      by : (l : List ℕ) → bytes ≡ l → raw_end start end false l ≡ closed_or (word_tag_at endraw_word end (drop 2 l)) (longer (longer (raw_end start end false (drop 2 l))))
+      by [] e = absurd (omega (arith, ap length e, long))
+      by (b ∷ []) e = absurd (omega (arith, ap length e, long))
+      by (b ∷ c ∷ cs) e =
+          let here' : begins start (b ∷ c ∷ cs) ≡ true = subst (λ l. begins start l ≡ true) e here in
+          let behind : behind_marker start (b ∷ c ∷ cs) ≡ cs = ap (λ n. drop n (b ∷ c ∷ cs)) two in
+          rw here' (ap (λ l. closed_or (word_tag_at endraw_word end l) (longer (longer (raw_end start end false cs)))) behind)
+
+further_both : (a b : ℕ) (o : Option RawEnd) → further_end a (further_end b o) ≡ further_end (a + b) o
+unfolding further_end
+further_both a b None = refl
+further_both a b (Some e) = let same : a + (b + e.len) ≡ a + b + e.len = omega arith in ap (λ k. Some (record e { len = k })) same
 
 module _ (start end bytes : List ℕ) where
-  pub raw_start : raw_end start end false bytes ≡ further_end 0 (raw_end start end (nat_lt 0 0) (drop 0 bytes))
+  pub raw_start : raw_end start end false bytes ≡ further_end 0 (raw_end start end false bytes)
   raw_start = sym (further_zero (raw_end start end false bytes))
 
-  module _ (i from : ℕ) (e : raw_end start end false bytes ≡ further_end i (raw_end start end (nat_lt i from) (drop i bytes))) where
-    pub raw_nowhere : length bytes ≤ i → raw_end start end false bytes ≡ None
+  module _ (from : ℕ) (two : length start ≡ 2) (e : raw_end start end false bytes ≡ further_end from (raw_end start end false (drop from bytes))) where
+    -- no block start is left
+    pub raw_nowhere : Nowhere (OccursAt (drop from bytes) start) 0 (length (drop from bytes) + 1) → raw_end start end false bytes ≡ None
     unfolding further_end
-    raw_nowhere le = e ∙ ap (λ l. further_end i (raw_end start end (nat_lt i from) l)) (drop_all i bytes le)
+    raw_nowhere nowhere =
+        let rest : List ℕ = drop from bytes in
+        let n : ℕ = length rest in
+        let skips = raw_skips start end n rest (omega arith) (λ k lt. begins_nowhere start rest (n + 1) two (omega arith) nowhere k (omega arith)) in
+        e ∙ ap (further_end from) (skips ∙ ap (λ l. further_end n (raw_end start end false l)) (drop_all n rest (omega arith)))
 
-    module _ (lt : i < length bytes) where
-      at_byte : drop i bytes ≡ get_or bytes i 0 ∷ drop (i + 1) bytes
-      at_byte = drop_more bytes i 0 lt
+    -- the next one
+    module _ (len : ℕ) (before : Nowhere (OccursAt (drop from bytes) start) 0 len) (occurs : OccursAt (drop from bytes) start len) where
+      behind : List ℕ
+      behind = drop (from + len + 2) bytes
 
-      -- the next byte is passed over, as the second of a block start
-      pub raw_second : i < from → from ≤ i + 1 → raw_end start end false bytes ≡ further_end (i + 1) (raw_end start end (nat_lt (i + 1) from) (drop (i + 1) bytes))
-      raw_second second near =
-          e ∙ (λ k. further_end i (raw_end start end (nat_less i from second k) (at_byte k))) ∙ further_longer i (raw_end start end false (drop (i + 1) bytes))
-          ∙ ap (λ b. further_end (i + 1) (raw_end start end b (drop (i + 1) bytes))) (sym (not_less (i + 1) from near))
+      found : raw_end start end false bytes ≡ further_end (from + len) (closed_or (word_tag_at endraw_word end behind) (longer (longer (raw_end start end false behind))))
+      unfolding behind
+      found =
+          let rest : List ℕ = drop from bytes in
+          let fits : len ≤ length rest = omega (arith, occurs.fits) in
+          let skips = raw_skips start end len rest fits (begins_nowhere start rest len two (omega arith) before) in
+          let starts = raw_starts start end (drop len rest) two (begins_where_occurs start rest len occurs) in
+          let there : drop 2 (drop len rest) ≡ drop (from + len + 2) bytes = ap (drop 2) (drop-drop len from bytes) ∙ drop-drop 2 (from + len) bytes in
+          e ∙ ap (further_end from) (skips ∙ ap (further_end len) (starts ∙ ap (λ l. closed_or (word_tag_at endraw_word end l) (longer (longer (raw_end start end false l)))) there))
+          ∙ further_both from len (closed_or (word_tag_at endraw_word end (drop (from + len + 2) bytes)) (longer (longer (raw_end start end false (drop (from + len + 2) bytes)))))
 
-      module _ (le : from ≤ i) where
-        first : raw_end start end false bytes ≡ further_end i (raw_end start end false (get_or bytes i 0 ∷ drop (i + 1) bytes))
-        first = e ∙ (λ k. further_end i (raw_end start end (not_less i from le k) (at_byte k)))
+      pub raw_missed : word_tag_at endraw_word end (drop (from + len + 2) bytes) ≡ None → raw_end start end false bytes ≡ further_end (from + len + 2) (raw_end start end false (drop (from + len + 2) bytes))
+      unfolding behind
+      raw_missed none =
+          let left : Option RawEnd = raw_end start end false (drop (from + len + 2) bytes) in
+          let twice : from + len + 1 + 1 ≡ from + len + 2 = omega arith in
+          found ∙ ap (λ o. further_end (from + len) (closed_or o (longer (longer left)))) none ∙ further_longer (from + len) (longer left) ∙ further_longer (from + len + 1) left ∙ ap (λ n. further_end n left) twice
 
-        -- or because no block start begins there
-        pub raw_plain : begins start (drop i bytes) ≡ false → raw_end start end false bytes ≡ further_end (i + 1) (raw_end start end (nat_lt (i + 1) from) (drop (i + 1) bytes))
-        raw_plain other =
-            let here : begins start (get_or bytes i 0 ∷ drop (i + 1) bytes) ≡ false = subst (λ l. begins start l ≡ false) at_byte other in
-            let step : raw_end start end false (get_or bytes i 0 ∷ drop (i + 1) bytes) ≡ longer (raw_end start end false (drop (i + 1) bytes)) = rw here refl in
-            first ∙ ap (further_end i) step ∙ further_longer i (raw_end start end false (drop (i + 1) bytes))
-            ∙ ap (λ b. further_end (i + 1) (raw_end start end b (drop (i + 1) bytes))) (sym (not_less (i + 1) from (omega arith)))
-
-        -- a block start
-        module _ (two : length start ≡ 2) (here : begins start (drop i bytes) ≡ true) where
-          starts : raw_end start end false (get_or bytes i 0 ∷ drop (i + 1) bytes)
-              ≡ closed_or (word_tag_at endraw_word end (drop (i + 2) bytes)) (longer (raw_end start end true (drop (i + 1) bytes)))
-          starts =
-              let here' : begins start (get_or bytes i 0 ∷ drop (i + 1) bytes) ≡ true = subst (λ l. begins start l ≡ true) at_byte here in
-              let behind : behind_marker start (get_or bytes i 0 ∷ drop (i + 1) bytes) ≡ drop (i + 2) bytes
-              = ap (behind_marker start) (sym at_byte) ∙ ap (λ n. drop n (drop i bytes)) two ∙ drop-drop 2 i bytes in
-              rw here' (ap (λ l. closed_or (word_tag_at endraw_word end l) (longer (raw_end start end true (drop (i + 1) bytes)))) behind)
-
-          pub raw_missed : word_tag_at endraw_word end (drop (i + 2) bytes) ≡ None → raw_end start end false bytes ≡ further_end (i + 1) (raw_end start end (nat_lt (i + 1) (i + 2)) (drop (i + 1) bytes))
-          raw_missed none =
-              first ∙ ap (further_end i) (starts ∙ ap (λ o. closed_or o (longer (raw_end start end true (drop (i + 1) bytes)))) none) ∙ further_longer i (raw_end start end true (drop (i + 1) bytes))
-              ∙ ap (λ b. further_end (i + 1) (raw_end start end b (drop (i + 1) bytes))) (sym (nat_less (i + 1) (i + 2) (omega arith)))
-
-          pub raw_closed : (p : WordTag × List ℕ) → word_tag_at endraw_word end (drop (i + 2) bytes) ≡ Some p → raw_end start end false bytes ≡ Some (record { len = i; close = p.0; rest = p.1 })
-          unfolding further_end
-          raw_closed p some =
-              let len : i + 0 ≡ i = omega arith in
-              first ∙ ap (further_end i) (starts ∙ ap (λ o. closed_or o (longer (raw_end start end true (drop (i + 1) bytes)))) some) ∙ ap (λ n. Some (record { len = n; close = p.0; rest = p.1 })) len
+      pub raw_closed : (p : WordTag × List ℕ) → word_tag_at endraw_word end (drop (from + len + 2) bytes) ≡ Some p → raw_end start end false bytes ≡ Some (record { len = from + len; close = p.0; rest = p.1 })
+      unfolding behind further_end
+      raw_closed p some =
+          let left : Option RawEnd = raw_end start end false (drop (from + len + 2) bytes) in
+          let same : from + len + 0 ≡ from + len = omega arith in
+          found ∙ ap (λ o. further_end (from + len) (closed_or o (longer (longer left)))) some ∙ ap (λ n. Some (record { len = n; close = p.0; rest = p.1 })) same

@@ -10,7 +10,7 @@ use Rattle.tera_lexer.specs.Front.{run_of, behind_run}
 pub run_grows : (p : ℕ → Bool) (b : ℕ) (bs : List ℕ) → p b ≡ true → prefix_len p (b ∷ bs) ≡ suc (prefix_len p bs)
 run_grows p b bs here = rw here (one-add (prefix_len p bs))
 
-run_ends : (p : ℕ → Bool) (b : ℕ) (bs : List ℕ) → p b ≡ false → prefix_len p (b ∷ bs) ≡ 0
+pub run_ends : (p : ℕ → Bool) (b : ℕ) (bs : List ℕ) → p b ≡ false → prefix_len p (b ∷ bs) ≡ 0
 run_ends p b bs other = rw other refl
 
 pub run_stands : (p : ℕ → Bool) (bytes : List ℕ) → IsRun p (run_of p bytes) (behind_run p bytes)

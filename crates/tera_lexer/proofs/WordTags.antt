@@ -1,13 +1,14 @@
 -- The tags of raw pieces.
-use Rattle.std.proofs.Common.{◌≡◌, ℕ, ◌-◌, Bool, true, List, ◌++◌, length, Option, Some, None, ⊎_elim, sym, ap, ◌∙◌, refl, subst, arith, append_assoc}
+use Rattle.std.proofs.Common.{◌≡◌, ℕ, ◌+◌, ◌-◌, ◌<◌, ◌≤◌, zero, suc, Bool, true, false, List, [], ◌∷◌, ◌++◌, length, drop, Option, Some, None, ⊎_elim, sym, ap, ◌∙◌, refl, subst, arith, append_assoc}
 use Rattle.std.specs.Char.{is_ascii_whitespace}
+use Rattle.std.specs.List.{prefix_len}
 use Rattle.std.proofs.lemmas.Bool.{cases_Bool}
-use Rattle.std.proofs.lemmas.List.{length-append}
+use Rattle.std.proofs.lemmas.List.{length-append, drop-drop}
 use Rattle.tera_lexer.specs.Marks.{begins, dash_bytes, TakesDash}
 use Rattle.tera_lexer.specs.Lexeme.{IsGap}
 use Rattle.tera_lexer.specs.Raw.{WordTag, word_tag_bytes, IsWordTag}
-use Rattle.tera_lexer.specs.Front.{run_of, behind_run, at_dash, behind_dash, behind_marker, word_tag_at}
-use Rattle.tera_lexer.proofs.Runs.{run_stands, run_splits, run_found, behind_found}
+use Rattle.tera_lexer.specs.Front.{run_of, behind_run, gap_len, at_dash, behind_dash, behind_marker, word_tag_at}
+use Rattle.tera_lexer.proofs.Runs.{run_grows, run_ends, run_stands, run_splits, run_found, behind_found}
 use Rattle.tera_lexer.specs.Markers.{IsWordTagOf}
 use Rattle.tera_lexer.proofs.Markers.{begins_splits, splits_begins, dash_stands, dash_found, behind_is}
 
@@ -106,3 +107,58 @@ module _ (word end bytes : List ℕ) where
       let splits = word_tag_splits word end t bytes after (tag_stands word end bytes here ends) in
       let len : length bytes - length rest ≡ length (word_tag_bytes word end t) = omega (arith, ap length splits, length-append (word_tag_bytes word end t) after, ap length rest_is) in
       subst (IsWordTagOf word end (Some (record { dash_in = dash_in; dash_out = dash_out; len = length bytes - length rest }))) (sym found) (in_is, out_is, len)
+
+dash_short : (dash : Bool) → length (dash_bytes dash) ≤ 1
+dash_short true = omega arith
+dash_short false = omega arith
+
+-- a tag that is missed behind white space is missed from each place in it
+module _ (word end : List ℕ) where
+  gap_ends : (bytes : List ℕ) → tag_at word end bytes ≡ drop (gap_len bytes) bytes
+  gap_ends bytes = drop-drop (prefix_len is_ascii_whitespace (behind_dash bytes)) (length (dash_bytes (at_dash bytes))) bytes
+
+  none_alike : (bytes other : List ℕ) → tag_at word end bytes ≡ tag_at word end other → word_tag_at word end bytes ≡ None → word_tag_at word end other ≡ None
+  none_alike bytes other same none =
+      let at : List ℕ = tag_at word end other in
+      let last : List ℕ = tag_last word end other in
+      let word_same : begins word (tag_at word end bytes) ≡ begins word at = ap (begins word) same in
+      let end_same : begins end (behind_dash (tag_last word end bytes)) ≡ begins end (behind_dash last) = ap (λ l. begins end (behind_dash (behind_run is_ascii_whitespace (behind_marker word l)))) same in
+      ⊎_elim
+      (λ here. ⊎_elim
+      (λ ends.
+      let begins_word : begins word (tag_at word end bytes) ≡ true = word_same ∙ here in
+      let begins_end : begins end (behind_dash (tag_last word end bytes)) ≡ true = end_same ∙ ends in
+      let some : word_tag_at word end bytes ≡ Some (tag_read word end bytes, behind_marker end (behind_dash (tag_last word end bytes))) = rw (begins_word, begins_end) refl in
+      absurd (none_some (sym none ∙ some)))
+      (λ no_end. rw here (rw no_end refl))
+      (cases_Bool (begins end (behind_dash last))))
+      (λ no_word. rw no_word refl)
+      (cases_Bool (begins word at))
+
+  run_left : (p : ℕ → Bool) (bytes : List ℕ) (q : ℕ) → q ≤ prefix_len p bytes → q + prefix_len p (drop q bytes) ≡ prefix_len p bytes
+  run_left p bytes zero le = omega arith
+  run_left p [] (suc q) le = absurd (omega arith)
+  run_left p (b ∷ bs) (suc q) le =
+      ⊎_elim
+      (λ here.
+      let grows = run_grows p b bs here in
+      let rec = run_left p bs q (omega arith) in
+      omega arith)
+      (λ other. absurd (omega (arith, run_ends p b bs other)))
+      (cases_Bool (p b))
+
+  pub missed_within : (bytes : List ℕ) (from to : ℕ) → word_tag_at word end (drop from bytes) ≡ None → to ≡ from + gap_len (drop from bytes)
+      → (k : ℕ) → from < k → k ≤ to → at_dash (drop k bytes) ≡ false → word_tag_at word end (drop k bytes) ≡ None
+  missed_within bytes from to none to_is k after within no_dash =
+      let dash : ℕ = length (dash_bytes (at_dash (drop from bytes))) in
+      let inner : List ℕ = behind_dash (drop from bytes) in
+      let one : dash ≤ 1 = dash_short (at_dash (drop from bytes)) in
+      let q : ℕ = k - (from + dash) in
+      let left = run_left is_ascii_whitespace inner q (omega arith) in
+      let inner_is : inner ≡ drop (from + dash) bytes = drop-drop dash from bytes in
+      let there : drop q inner ≡ drop k bytes = ap (drop q) inner_is ∙ drop-drop q (from + dash) bytes ∙ ap (λ n. drop n bytes) (omega arith) in
+      let run : prefix_len is_ascii_whitespace (drop k bytes) ≡ prefix_len is_ascii_whitespace (drop q inner) = ap (prefix_len is_ascii_whitespace) (sym there) in
+      let here : gap_len (drop k bytes) ≡ prefix_len is_ascii_whitespace (drop q inner) = rw no_dash (omega arith) in
+      let ends : tag_at word end (drop from bytes) ≡ tag_at word end (drop k bytes)
+      = gap_ends (drop from bytes) ∙ drop-drop (gap_len (drop from bytes)) from bytes ∙ ap (λ n. drop n bytes) (omega arith) ∙ sym (gap_ends (drop k bytes) ∙ drop-drop (gap_len (drop k bytes)) k bytes) in
+      none_alike (drop from bytes) (drop k bytes) ends none

@@ -1,7 +1,7 @@
 -- What stands at the front of some bytes, as a function: the reading that the definitions of lexemes and
 -- pieces allow. The contract of `Parser::parse` does not name it.
-use Rattle.std.specs.Prelude.{ℕ, zero, suc, ◌^◌, Bool, true, false, not, if◌then◌else◌, nat_lt, ◌==◌, List, [], ◌∷◌, length, take, drop, Option, Some, None}
-use Rattle.std.specs.List.{prefix_len}
+use Rattle.std.specs.Prelude.{ℕ, zero, suc, ◌+◌, ◌^◌, Bool, true, false, not, if◌then◌else◌, nat_lt, ◌==◌, List, [], ◌∷◌, length, take, drop, codes, Option, Some, None}
+use Rattle.std.specs.List.{prefix_len, list_any}
 use Rattle.std.specs.Char.{is_ascii_digit, is_ascii_whitespace}
 use Rattle.tera_lexer.specs.Marks.{Marks, end_marker, begins, dash_bytes}
 use Rattle.tera_lexer.specs.Lexeme.{begins_name, goes_on_name, is_quote, Inner, Plain, Escape, is_known, escaped, has_unknown_escape, operator_at, decimal, Lexeme, Name, Number, Quoted, Operator, Fault, Unexpected, Unclosed, UnknownEscape, TooGreat, Float, Item, Close, End, Open, Bad}
@@ -70,6 +70,10 @@ number_front b bs rest =
     if begins (46 ∷ []) rest then Breaks (Float b bs (run_of is_ascii_digit (drop 1 rest)))
     else (if nat_lt (decimal (b ∷ bs)) (2 ^ 63) then Reads (Number b bs) rest else Breaks (TooGreat b bs))
 
+-- an operator of more than one byte begins with the byte
+abbrev pub begins_long_operator : ℕ → Bool
+begins_long_operator b = list_any (λ c. c == b) (codes "./*=!><?")
+
 abbrev pub operator_front : List ℕ → Option (List ℕ) → Front
 operator_front bytes None = Breaks Unexpected
 operator_front bytes (Some op) = Reads (Operator op) (drop (length op) bytes)
@@ -137,6 +141,10 @@ at_dash bytes = begins (45 ∷ []) bytes
 
 abbrev pub behind_dash : List ℕ → List ℕ
 behind_dash bytes = drop (length (dash_bytes (at_dash bytes))) bytes
+
+-- how many bytes a dash or none and then white space take
+abbrev pub gap_len : List ℕ → ℕ
+gap_len bytes = length (dash_bytes (at_dash bytes)) + prefix_len is_ascii_whitespace (behind_dash bytes)
 
 -- a tag of a raw piece, and what is behind it
 abbrev pub word_tag_end : List ℕ → WordTag → List ℕ → Option (WordTag × List ℕ)

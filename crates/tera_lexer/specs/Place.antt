@@ -1,5 +1,5 @@
 -- Places and spans of a source.
-use Rattle.std.specs.Prelude.{ℕ, ◌+◌, ◌≤◌, Bool, ◌||◌, ◌==◌, nat_lt, nat_le, if◌then◌else◌, List, [], ◌∷◌, ◌++◌, length, count_by}
+use Rattle.std.specs.Prelude.{ℕ, ◌+◌, ◌<◌, ◌≤◌, slice_index, Bool, ◌||◌, ◌==◌, nat_lt, nat_le, if◌then◌else◌, List, [], ◌∷◌, ◌++◌, length, count_by}
 use Rattle.std.specs.List.{after_last}
 use Rattle.std.specs.Str.{IsCharBoundary}
 use Rattle.tera_lexer.specs.declared.lexer.place.Place.{Place}
@@ -11,6 +11,10 @@ is_line_feed b = b == 10
 -- the byte begins a character: it is no continuation byte
 abbrev pub begins_character : ℕ → Bool
 begins_character b = nat_lt b 0x80 || nat_le 0xC0 b
+
+-- ASCII without control bytes
+abbrev pub ArePrintable : List ℕ → Type 0
+ArePrintable bytes = (k : ℕ) → k < length bytes → (32 ≤ slice_index bytes k) × (slice_index bytes k < 128)
 
 -- the place behind these first bytes of a source: its line is one more than there are line feeds, its
 -- column the number of characters behind the last of them, and its byte the number of bytes

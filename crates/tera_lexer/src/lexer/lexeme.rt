@@ -7,7 +7,7 @@ ghost use Rattle.tera_lexer.specs.Lexeme.{begins_name, is_quote, is_known, escap
 ghost use Rattle.tera_lexer.specs.Tokens.{name_token, unclosed};
 ghost use Rattle.tera_lexer.specs.Seen.{seen};
 ghost use Rattle.std.specs.Str.{IsCharBoundary};
-ghost use Rattle.tera_lexer.specs.Front.{front_of, closing_at, is_plain, unescaped, unknown_in};
+ghost use Rattle.tera_lexer.specs.Front.{front_of, begins_long_operator, closing_at, is_plain, unescaped, unknown_in};
 ghost use Rattle.tera_lexer.specs.Found.{passes, BeginsBy, IsFound, IsOperatorOf, IsTokenOf};
 
 use crate::lexer::tokens::Token;
@@ -267,15 +267,25 @@ fn unclosed(quote: u8) -> &'static str
 }
 
 // The operator that begins the bytes, with its length: the longest that does.
+#[tactic(auto, using(crate::proofs::Operators::long_begins))]
 fn operator_at(bytes: &[u8]) -> Option<(Token<'static>, usize)>
     requires { 0 < length bytes.now }
     ensures { IsOperatorOf result (operator_at bytes.now) }
 {
-    if let Some(found) = long_operator_at(bytes) {
-        return Some(found);
+    if begins_long_operator(bytes[0]) {
+        if let Some(found) = long_operator_at(bytes) {
+            return Some(found);
+        }
     }
     let token = short_operator(bytes[0])?;
     Some((token, 1))
+}
+
+// Whether an operator of more than one byte begins with the byte.
+fn begins_long_operator(b: u8) -> bool
+    ensures { result ≡ begins_long_operator b }
+{
+    matches!(b, b'.' | b'/' | b'*' | b'=' | b'!' | b'>' | b'<' | b'?')
 }
 
 fn long_operator_at(bytes: &[u8]) -> Option<(Token<'static>, usize)>

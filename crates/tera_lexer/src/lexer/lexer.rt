@@ -119,6 +119,7 @@ impl<'a> Tokens<'a> {
     }
 
     // The next bytes, and the place behind them.
+    #[inline(always)]
     fn ahead(&self, n: usize) -> (&'a str, Place)
         requires { IsCharBoundary self.now.rest n }
         ensures text { result.0.now ≡ take n self.now.rest }
@@ -131,6 +132,7 @@ impl<'a> Tokens<'a> {
     }
 
     // Takes the next bytes, and says which they are and where they stand.
+    #[inline(always)]
     fn advance(&mut self, n: usize) -> (&'a str, Span)
         requires { IsCharBoundary self.old.rest n }
         ensures state { self.new ≡ record self.old { front = self.old.front ++ take n self.old.rest; rest = drop n self.old.rest } }

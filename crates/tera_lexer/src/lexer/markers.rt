@@ -1,16 +1,18 @@
 //! Where markers stand.
 
-ghost use Rattle.std.specs.Prelude.{◌≡◌, ◌∷◌, ◌+◌, false, IfSome, length, take, drop};
+ghost use Rattle.std.specs.Prelude.{◌≡◌, ◌≤◌, ◌∷◌, ◌+◌, false, IfSome, length, take, drop, get_or};
 ghost use Rattle.std.specs.Bool.{OnTrue};
 ghost use Rattle.std.specs.Str.{IsCharBoundary};
+ghost use Rattle.memchr.specs.Find.{IsFirstByte, FindsNeedle, is_byte3};
 ghost use Rattle.tera_lexer.specs.Marks.{marks_of, AreTexts, IsValid, begins, NowhereIn, dash_bytes};
 ghost use Rattle.tera_lexer.specs.Division.{is_at_start, EndsText};
-ghost use Rattle.tera_lexer.specs.Front.{find_marker, word_tag_at, raw_end};
+ghost use Rattle.tera_lexer.specs.Front.{find_marker, gap_len, word_tag_at, raw_end};
 ghost use Rattle.tera_lexer.specs.Left.{starts_dashed};
 ghost use Rattle.tera_lexer.specs.Markers.{IsStartOf, IsEndOf, IsWordTagOf, IsRawEndOf, IsRawCut, is_block_piece, is_comment};
 
 use crate::lexer::delimiters::Delimiters;
 use crate::lexer::lexeme::{Class, run_len};
+use memchr::{memchr3, memmem};
 
 /// How many bytes a dash takes, or none.
 pub(crate) fn dash_len(dash: bool) -> usize
@@ -19,12 +21,22 @@ pub(crate) fn dash_len(dash: bool) -> usize
     usize::from(dash)
 }
 
+// Whether the marker begins the bytes.
+fn begins(bytes: &[u8], marker: &[u8]) -> bool
+    ensures { result ≡ begins marker.now bytes.now }
+{
+    if marker.len() == 2 && bytes.len() >= 2 {
+        return bytes[0] == marker[0] && bytes[1] == marker[1];
+    }
+    bytes.starts_with(marker)
+}
+
 /// Whether the marker begins the text, which may then be cut behind it.
 pub(crate) fn at_marker(rest: &str, marker: &str) -> bool
     ensures test { result ≡ begins marker.now rest.now }
     ensures cut { OnTrue result (IsCharBoundary rest.now (length marker.now)) }
 {
-    rest.as_bytes().starts_with(marker.as_bytes())
+    begins(rest.as_bytes(), marker.as_bytes())
 }
 
 /// Whether a dash stands behind the start marker that begins the text, if it does.
@@ -44,7 +56,7 @@ fn at_dashed(rest: &str, marker: &str) -> bool
     ensures cut { OnTrue result (IsCharBoundary rest.now (length marker.now + 1)) }
 {
     let bytes = rest.as_bytes();
-    bytes.starts_with(b"-") && bytes[1..].starts_with(marker.as_bytes())
+    bytes.starts_with(b"-") && begins(&bytes[1..], marker.as_bytes())
 }
 
 /// Whether a dash stands before the end marker that begins the text, if it does.
@@ -69,11 +81,19 @@ fn at_start(bytes: &[u8], delimiters: &Delimiters) -> bool
     let variable = delimiters.variable_start.as_str().as_bytes();
     let block = delimiters.block_start.as_str().as_bytes();
     let comment = delimiters.comment_start.as_str().as_bytes();
-    bytes.starts_with(variable) || bytes.starts_with(block) || bytes.starts_with(comment)
+    begins(bytes, variable) || begins(bytes, block) || begins(bytes, comment)
+}
+
+// The first byte of a marker.
+fn first_byte(marker: &str) -> u8
+    requires { length marker.now ≡ 2 }
+    ensures { result ≡ get_or marker.now 0 0 }
+{
+    marker.as_bytes()[0]
 }
 
 /// How many bytes stand before the first start marker.
-#[tactic(auto, using(crate::proofs::Texts::text_more, crate::proofs::Texts::text_ends_here, crate::proofs::Texts::text_ends_all))]
+#[tactic(auto, using(crate::proofs::Texts::text_ends_here, crate::proofs::Texts::text_ends_all))]
 pub(crate) fn text_len(rest: &str, delimiters: &Delimiters) -> usize
     requires { IsValid (marks_of delimiters.now) }
     ensures cut { IsCharBoundary rest.now result }
@@ -81,24 +101,41 @@ pub(crate) fn text_len(rest: &str, delimiters: &Delimiters) -> usize
     ensures stops { EndsText (marks_of delimiters.now) (drop result rest.now) }
 {
     let bytes = rest.as_bytes();
-    for i in 0..bytes.len() {
-        if at_start(&bytes[i..], delimiters) {
-            return i;
+    let variable = first_byte(delimiters.variable_start.as_str());
+    let block = first_byte(delimiters.block_start.as_str());
+    let comment = first_byte(delimiters.comment_start.as_str());
+    let mut from = 0;
+    while let Some(len) = next_of(variable, block, comment, &bytes[from..]) {
+        let at = from + len;
+        if at_start(&bytes[at..], delimiters) {
+            return at;
         }
+        from = at + 1;
     }
     bytes.len()
 }
 
-/// How many bytes stand before the first such marker.
-pub(crate) fn find_marker(bytes: &[u8], marker: &[u8]) -> Option<usize>
-    ensures { result ≡ find_marker marker.now bytes.now }
+// Where the first of three bytes stands. It is looked for nearby first, where the search would cost more.
+fn next_of(a: u8, b: u8, c: u8, bytes: &[u8]) -> Option<usize>
+    ensures { IsFirstByte (is_byte3 a b c) bytes.now result }
 {
-    for i in 0..bytes.len() {
-        if bytes[i..].starts_with(marker) {
+    let near = bytes.len().min(4);
+    for i in 0..near {
+        if bytes[i] == a || bytes[i] == b || bytes[i] == c {
             return Some(i);
         }
     }
-    None
+    let (_, far) = bytes.split_at(near);
+    let at = memchr3(a, b, c, far)?;
+    Some(near + at)
+}
+
+/// How many bytes stand before the first such marker.
+pub(crate) fn find_marker(bytes: &[u8], marker: &[u8]) -> Option<usize>
+    requires { length marker.now ≡ 2 }
+    ensures { result ≡ find_marker marker.now bytes.now }
+{
+    memmem::find(bytes, marker)
 }
 
 /// Whether the piece that begins the text begins with a dash. A tag is one even where it never ends or a fault
@@ -139,6 +176,7 @@ fn is_block_piece(bytes: &[u8], delimiters: &Delimiters) -> bool
 
 // Whether these bytes behind a comment start and its dash make it a piece: they close it.
 fn is_comment(bytes: &[u8], delimiters: &Delimiters) -> bool
+    requires { IsValid (marks_of delimiters.now) }
     ensures { result ≡ is_comment (marks_of delimiters.now) bytes.now }
 {
     let end = delimiters.comment_end.as_str().as_bytes();
@@ -191,18 +229,55 @@ pub(crate) fn raw_end(text: &str, delimiters: &Delimiters) -> Option<(usize, Wor
 }
 
 // The same, by the two markers.
+//
+// Block starts may themselves be white space. Where a tag is missed behind a run of it, none stands at any place of
+// the run: so no run is read again at each block start in it.
 fn end_between(bytes: &[u8], start: &[u8], end: &[u8]) -> Option<(usize, WordTag)>
     requires start { length start.now ≡ 2 }
     ensures { IsRawEndOf end.now result (raw_end start.now end.now false bytes.now) }
 {
+    let starts = memmem::Finder::new(start);
     let mut from = 0;
-    for i in 0..bytes.len() {
-        if i >= from && bytes[i..].starts_with(start) {
-            if let Some(tag) = word_tag_at(&bytes[i + 2..], b"endraw", end) {
-                return Some((i, tag));
+    let mut missed = 0;
+    while let Some(len) = next_start(&starts, &bytes[from..]) {
+        let at = from + len;
+        let (_, behind) = bytes.split_at(at + 2);
+        if missed < at + 2 || behind.starts_with(b"-") {
+            if let Some(tag) = word_tag_at(behind, b"endraw", end) {
+                return Some((at, tag));
             }
-            from = i + 2;
+            missed = at + 2 + gap_len(behind);
         }
+        from = at + 2;
     }
     None
+}
+
+// Where the next block start stands. It is looked for nearby first, where the search would cost more.
+fn next_start(starts: &memmem::Finder<'_>, bytes: &[u8]) -> Option<usize>
+    requires { length starts.now ≡ 2 }
+    ensures { FindsNeedle bytes.now starts.now 0 result }
+{
+    let start = starts.needle();
+    let near = bytes.len().min(2);
+    for i in 0..near {
+        if begins(&bytes[i..], start) {
+            return Some(i);
+        }
+    }
+    let (_, far) = bytes.split_at(near);
+    match starts.find(far) {
+        Some(at) => Some(near + at),
+        None => None,
+    }
+}
+
+// How many bytes a dash or none and then white space take.
+fn gap_len(bytes: &[u8]) -> usize
+    ensures len { result ≡ gap_len bytes.now }
+    ensures within { result ≤ length bytes.now }
+{
+    let dash = dash_len(bytes.starts_with(b"-"));
+    let (_, inner) = bytes.split_at(dash);
+    dash + run_len(inner, Class::Space)
 }

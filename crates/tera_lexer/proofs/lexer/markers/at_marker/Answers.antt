@@ -11,4 +11,4 @@ if_begins bytes marker true utf8 text e = marker_cut bytes marker utf8 text (sym
 if_begins bytes marker false utf8 text e = tt
 
 pub returns-clause-cut : goal.returns-clause-cut
-returns-clause-cut c = if_begins _ _ _ c.utf8.rest c.utf8.marker (c.starts_with.ensures.value ∙ (λ i. begins (c.as_bytes-2.ensures.value i) (c.as_bytes.ensures.value i)))
+returns-clause-cut c = if_begins _ _ _ c.utf8.rest c.utf8.marker (c.begins.ensures ∙ (λ i. begins (c.as_bytes-2.ensures.value i) (c.as_bytes.ensures.value i)))

@@ -1,17 +1,17 @@
-use Rattle.std.proofs.Common.{◌≡◌, ℕ, ◌+◌, false, List, drop, sym, subst, ◌∙◌, Option, Some, None, arith, refl}
-use Rattle.std.proofs.lemmas.List.{take_rest}
-use Rattle.tera_lexer.specs.Marks.{begins}
+use Rattle.std.proofs.Common.{◌≡◌, ◌≤◌, ℕ, ◌+◌, false, List, length, drop, sym, subst, ap, ◌∙◌, Option, Some, None, arith, refl}
+use Rattle.std.proofs.lemmas.List.{take_rest, length-drop}
 use Rattle.tera_lexer.specs.Raw as raw
 use Rattle.tera_lexer.specs.Raw.{endraw_word}
-use Rattle.tera_lexer.specs.Front.{RawEnd, word_tag_at, raw_end}
+use Rattle.tera_lexer.specs.Front.{RawEnd, at_dash, word_tag_at, raw_end}
 use Rattle.tera_lexer.specs.Markers.{IsWordTagOf, IsRawEndOf}
 use Rattle.tera_lexer.specs.declared.lexer.markers.WordTag.{WordTag}
-use Rattle.tera_lexer.proofs.RawEnds.{raw_start, raw_nowhere, raw_second, raw_plain, raw_missed, raw_closed}
+use Rattle.tera_lexer.proofs.RawEnds.{raw_start, raw_nowhere, raw_missed, raw_closed}
+use Rattle.tera_lexer.proofs.WordTags.{missed_within}
 use Rattle.tera_lexer.proofs.lexer.markers.end_between.Goals as goal
-use Rattle.tera_lexer.proofs.lexer.markers.end_between.Goals.{then-i-from+then-starts_with+in_default, else-i-from, else-i-from-via-then-i-from+else-starts_with, else-i-from-via-else-i-from}
+use Rattle.tera_lexer.proofs.lexer.markers.end_between.Goals.{then-missed-at+in_default-word_tag_at, else-missed-at+else-starts_with}
 
-pub loop-i-init : goal.loop-i-init
-loop-i-init c = record { near = omega arith; left = raw_start c.args.start.now c.args.end.now c.args.bytes.now }
+pub loop-len-init : goal.loop-len-init
+loop-len-init c = record { within = omega arith; reached = omega arith; left = raw_start c.args.start.now c.args.end.now c.args.bytes.now; none = λ k after within. absurd (omega arith) }
 
 closed_by : (end : List ℕ) (tag : WordTag) (i : ℕ) (o : Option (raw.WordTag × List ℕ)) (found : Option RawEnd) → IsWordTagOf endraw_word end (Some tag) o
     → ((p : raw.WordTag × List ℕ) → o ≡ Some p → found ≡ Some (record { len = i; close = p.0; rest = p.1 })) → IsRawEndOf end (Some (i, tag)) found
@@ -22,34 +22,39 @@ missed_by : (end : List ℕ) (o : Option (raw.WordTag × List ℕ)) → IsWordTa
 missed_by end None is = refl
 missed_by end (Some p) is = absurd is
 
-pub returns-in-Some : goal.returns-in-Some
-returns-in-Some c =
-    let test : c.starts_with.result ≡ begins c.args.start.now (drop c.loop-i.i c.args.bytes.now) = rw take_rest at c.starts_with.ensures.value in
-    let here = sym test ∙ c.if-starts_with.true in
-    let tag : IsWordTagOf endraw_word c.args.end.now (Some c.in-Some.tag) (word_tag_at endraw_word c.args.end.now (drop (c.loop-i.i + 2) c.args.bytes.now)) = rw c.in-Some.is at (rw take_rest at c.word_tag_at.ensures) in
-    closed_by c.args.end.now c.in-Some.tag c.loop-i.i (word_tag_at endraw_word c.args.end.now (drop (c.loop-i.i + 2) c.args.bytes.now)) (raw_end c.args.start.now c.args.end.now false c.args.bytes.now) tag
-    (λ p is. raw_closed c.args.start.now c.args.end.now c.args.bytes.now c.loop-i.i c.loop-i.from c.loop-i.invariant.left c.loop-i-test.true c.if-i-from.true c.requires.start here p is)
+pub returns-in-Some-word_tag_at : goal.returns-in-Some-word_tag_at
+returns-in-Some-word_tag_at c =
+    let found = rw c.new-starts.ensures at (rw take_rest at c.in-Some.ensures) in
+    let at : ℕ = c.loop-len.from + c.in-Some.len in
+    let tag : IsWordTagOf endraw_word c.args.end.now (Some c.in-Some-word_tag_at.tag) (word_tag_at endraw_word c.args.end.now (drop (at + 2) c.args.bytes.now)) = rw c.in-Some-word_tag_at.is at (rw c.split_at.ensures.back at c.word_tag_at.ensures) in
+    closed_by c.args.end.now c.in-Some-word_tag_at.tag at (word_tag_at endraw_word c.args.end.now (drop (at + 2) c.args.bytes.now)) (raw_end c.args.start.now c.args.end.now false c.args.bytes.now) tag
+    (λ p is. raw_closed c.args.start.now c.args.end.now c.args.bytes.now c.loop-len.from c.requires.start c.loop-len.invariant.left c.in-Some.len found.0.before found.1 p is)
 
-pub loop-i-preserved : goal.loop-i-preserved
-loop-i-preserved c =
-    elim c.if-i-from.branch [
-      | then-i-from+then-starts_with+in_default w ↦
-          let test : w.starts_with.result ≡ begins c.args.start.now (drop c.loop-i.i c.args.bytes.now) = rw take_rest at w.starts_with.ensures.value in
-          let tag : IsWordTagOf endraw_word c.args.end.now None (word_tag_at endraw_word c.args.end.now (drop (c.loop-i.i + 2) c.args.bytes.now)) = rw w.in_default.is at (rw take_rest at w.word_tag_at.ensures) in
-          let missed = raw_missed c.args.start.now c.args.end.now c.args.bytes.now c.loop-i.i c.loop-i.from c.loop-i.invariant.left c.loop-i-test.true w.if-i-from.true c.requires.start
-          (sym test ∙ w.if-starts_with.true) (missed_by c.args.end.now (word_tag_at endraw_word c.args.end.now (drop (c.loop-i.i + 2) c.args.bytes.now)) tag) in
-          rw w.from-is (record { near = omega arith; left = missed })
-      | else-i-from w ↦
-          elim w.else-i-from.branch [
-            | else-i-from-via-then-i-from+else-starts_with w' ↦
-                let test : w'.starts_with.result ≡ begins c.args.start.now (drop c.loop-i.i c.args.bytes.now) = rw take_rest at w'.starts_with.ensures.value in
-                let plain = raw_plain c.args.start.now c.args.end.now c.args.bytes.now c.loop-i.i c.loop-i.from c.loop-i.invariant.left c.loop-i-test.true w'.if-i-from.true (sym test ∙ w'.if-starts_with.false) in
-                rw w.from-is (record { near = omega (arith, c.loop-i.invariant.near); left = plain })
-            | else-i-from-via-else-i-from w' ↦
-                let second = raw_second c.args.start.now c.args.end.now c.args.bytes.now c.loop-i.i c.loop-i.from c.loop-i.invariant.left c.loop-i-test.true w'.if-i-from.false c.loop-i.invariant.near in
-                rw w.from-is (record { near = omega (arith, c.loop-i.invariant.near); left = second })
-          ]
+pub loop-len-preserved : goal.loop-len-preserved
+loop-len-preserved c =
+    let found = rw c.new-starts.ensures at (rw take_rest at c.in-Some.ensures) in
+    let at : ℕ = c.loop-len.from + c.in-Some.len in
+    let missed = raw_missed c.args.start.now c.args.end.now c.args.bytes.now c.loop-len.from c.requires.start c.loop-len.invariant.left c.in-Some.len found.0.before found.1 in
+    let fits : at + 2 ≤ length c.args.bytes.now = omega (arith, found.1.fits, length-drop c.loop-len.from c.args.bytes.now, c.requires.start, c.loop-len.invariant.within) in
+    elim c.if-missed-at.branch [
+      | then-missed-at+in_default-word_tag_at w ↦
+          let tag : IsWordTagOf endraw_word c.args.end.now None (word_tag_at endraw_word c.args.end.now (drop (at + 2) c.args.bytes.now)) = rw w.in_default-word_tag_at.is at (rw c.split_at.ensures.back at w.word_tag_at.ensures) in
+          let none = missed_by c.args.end.now (word_tag_at endraw_word c.args.end.now (drop (at + 2) c.args.bytes.now)) tag in
+          let len = rw c.split_at.ensures.back at w.gap_len.ensures.len in
+          let room = rw c.split_at.ensures.back at w.gap_len.ensures.within in
+          rw w.missed-is (record {
+            within = fits;
+            reached = omega (arith, room, length-drop (at + 2) c.args.bytes.now);
+            left = missed none;
+            none = missed_within endraw_word c.args.end.now c.args.bytes.now (at + 2) (at + 2 + w.gap_len.result) none (ap (λ n. at + 2 + n) len);
+          })
+      | else-missed-at+else-starts_with w ↦
+          let dash : at_dash (drop (at + 2) c.args.bytes.now) ≡ false = sym (rw c.split_at.ensures.back at w.starts_with.ensures.value) ∙ w.if-starts_with.false in
+          let none = c.loop-len.invariant.none (at + 2) (omega arith) w.if-missed-at.false dash in
+          rw w.missed-is (record { within = fits; reached = c.loop-len.invariant.reached; left = missed none; none = λ k after within. c.loop-len.invariant.none k (omega arith) within })
     ]
 
 pub returns : goal.returns
-returns c = rw (raw_nowhere c.args.start.now c.args.end.now c.args.bytes.now c.loop-i.i c.loop-i.from c.loop-i.invariant.left c.loop-i-test.false) tt
+returns c =
+    let nowhere = rw c.new-starts.ensures at (rw take_rest at c.in_default.ensures) in
+    rw (raw_nowhere c.args.start.now c.args.end.now c.args.bytes.now c.loop-len.from c.requires.start c.loop-len.invariant.left nowhere) tt

@@ -1,12 +1,17 @@
-use Rattle.std.proofs.Common.{◌≡◌, ◌+◌, ◌≤◌, drop, false}
-use Rattle.std.specs.Prelude.{nat_lt}
-use Rattle.tera_lexer.specs.Front.{raw_end}
+use Rattle.std.proofs.Common.{◌≡◌, ◌<◌, ◌≤◌, ◌-◌, ℕ, false, None, length, drop}
+use Rattle.tera_lexer.specs.Raw.{endraw_word}
+use Rattle.tera_lexer.specs.Front.{at_dash, word_tag_at, raw_end}
 use Rattle.tera_lexer.proofs.RawEnds.{further_end}
 use Rattle.tera_lexer.proofs.lexer.markers.end_between.Given as goal
 
--- the end is sought in what is left, of which the second byte of a block start may come first
-abbrev pub invariant-loop-i : goal.invariant-loop-i
-invariant-loop-i l = record {
-  near : l.from ≤ l.i + 1;
-  left : raw_end l.start l.end false l.bytes ≡ further_end l.i (raw_end l.start l.end (nat_lt l.i l.from) (drop l.i l.bytes));
+-- the end is sought in what is left, and no tag without a dash stands there before the place that is kept
+abbrev pub invariant-loop-len : goal.invariant-loop-len
+invariant-loop-len l = record {
+  within : l.from ≤ length l.bytes;
+  reached : l.missed ≤ length l.bytes;
+  left : raw_end l.start l.end false l.bytes ≡ further_end l.from (raw_end l.start l.end false (drop l.from l.bytes));
+  none : (k : ℕ) → l.from < k → k ≤ l.missed → at_dash (drop k l.bytes) ≡ false → word_tag_at endraw_word l.end (drop k l.bytes) ≡ None;
 }
+
+abbrev pub decreases-loop-len : goal.decreases-loop-len
+decreases-loop-len l = length l.bytes - l.from

@@ -1,8 +1,14 @@
-use Rattle.std.proofs.Common.{take, drop}
-use Rattle.tera_lexer.specs.Marks.{marks_of, NowhereIn}
+use Rattle.std.proofs.Common.{◌≡◌, ◌<◌, ◌≤◌, ◌-◌, ℕ, false, length, drop}
+use Rattle.tera_lexer.specs.Marks.{marks_of}
 use Rattle.tera_lexer.specs.Division.{is_at_start}
 use Rattle.tera_lexer.proofs.lexer.markers.text_len.Given as goal
 
 -- no marker begins before here
-abbrev pub invariant-loop-i : goal.invariant-loop-i
-invariant-loop-i l = NowhereIn (is_at_start (marks_of l.delimiters)) (take l.i l.rest) (drop l.i l.rest)
+abbrev pub invariant-loop-len : goal.invariant-loop-len
+invariant-loop-len l = record {
+  within : l.from ≤ length l.rest;
+  none : (k : ℕ) → k < l.from → is_at_start (marks_of l.delimiters) (drop k l.rest) ≡ false;
+}
+
+abbrev pub decreases-loop-len : goal.decreases-loop-len
+decreases-loop-len l = length l.rest - l.from
