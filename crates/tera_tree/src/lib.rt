@@ -3,6 +3,7 @@
 
 mod ast;
 pub mod build;
+mod drops;
 mod parts;
 mod show;
 
@@ -14,4 +15,5 @@ pub use ast::{
     ListComprehensionOf, Map, MapEntry, MapEntryOf, MapOf, Node, Set, SetOf, Slice, SliceOf,
     Ternary, TernaryOf, Test, TestOf, UnaryOperation, UnaryOperationOf, UnaryOperator, Var,
 };
+pub use drops::{dismantle, dismantle_definitions};
 pub use parts::{WithArguments, WithAttributes};
