@@ -1,2 +1,2 @@
-pub mod LoneIf
+pub mod Elifs
 pub mod Calls

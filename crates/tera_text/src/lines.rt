@@ -1,16 +1,15 @@
 //! The lines of nodes, at the end of a text.
 
-ghost use Rattle.std.specs.Prelude.{◌≡◌, ◌++◌, [], false, true, not, if◌then◌else◌, codes, string_bytes, IfOk, OnOk};
-ghost use Rattle.tera_tree.specs.View.{expression_view, node_view, name_view, filters_view, args_view, entries_view, nodes_view};
+ghost use Rattle.std.specs.Prelude.{◌≡◌, ◌++◌, [], ◌∷◌, false, true, not, if◌then◌else◌, codes, string_bytes, IfOk, OnOk, IfSome, IfNone};
+ghost use Rattle.tera_tree.specs.View.{expression_view, node_view, if_view, name_view, filters_view, args_view, entries_view, nodes_view};
 ghost use Rattle.tera_tree.specs.Text.{text, names_text, call_text, args_text, entries_text};
 ghost use Rattle.tera_base.specs.Spanned.{node_of};
 ghost use Rattle.tera_tree.specs.declared.ast.BlockSet.{out-BlockSet};
 ghost use Rattle.tera_tree.specs.declared.ast.ComponentCall.{out-ComponentCall};
 ghost use Rattle.tera_tree.specs.declared.ast.FilterSection.{out-FilterSection};
 ghost use Rattle.tera_tree.specs.declared.ast.ForLoop.{out-ForLoop};
-ghost use Rattle.tera_tree.specs.declared.ast.If.{out-If};
 ghost use Rattle.tera_text.specs.Quoted.{quoted};
-ghost use Rattle.tera_text.specs.TreeText.{line, deeper, filter_text, filters_text, set_text, is_if, is_lone_if, has_nodes, false_text, else_text, node_text, shown_text, nodes_text};
+ghost use Rattle.tera_text.specs.TreeText.{line, deeper, filter_text, filters_text, set_text, is_lone_if, has_nodes, else_text, node_text, shown_text, nodes_text};
 
 use crate::quoted::push_quoted;
 use std::alloc::AllocError;
@@ -322,7 +321,7 @@ fn push_for(out: &mut String, indent: &str, parts: &ForLoop) -> Result<(), Alloc
     push_else(out, indent, &parts.else_body)
 }
 
-// What stands behind the body of a loop.
+// What stands behind the body of a loop, or of the last `If` of a chain.
 #[cycle(lines)]
 fn push_else(out: &mut String, indent: &str, nodes: &Vec<Node>) -> Result<(), AllocError>
     ensures { let ns = nodes_view nodes.now.items in OnOk result (string_bytes out.new ≡ string_bytes out.old ++ else_text ns indent.now (nodes_text (codes "if ") (deeper indent.now) ns)) }
@@ -334,50 +333,43 @@ fn push_else(out: &mut String, indent: &str, nodes: &Vec<Node>) -> Result<(), Al
     push_body(out, indent, nodes)
 }
 
+// An `If`, and the `elif`s behind it.
 #[cycle(lines)]
+#[tactic(auto, using(crate::proofs::Elifs::elif_text, crate::proofs::Elifs::last_text))]
 fn push_if(out: &mut String, word: &str, indent: &str, parts: &If) -> Result<(), AllocError>
-    ensures { let p = out-If parts.now in let other = nodes_view p.false_body.items in OnOk result (string_bytes out.new ≡ string_bytes out.old
-        ++ (line indent.now (word.now ++ text (expression_view p.expr))
-        ++ (nodes_text (codes "if ") (deeper indent.now) (nodes_view p.body.items) ++ false_text other indent.now (nodes_text (codes "elif ") indent.now other) (nodes_text (codes "if ") (deeper indent.now) other)))) }
+    ensures { OnOk result (string_bytes out.new ≡ string_bytes out.old ++ node_text word.now indent.now (if_view parts.now)) }
 {
-    push_worded(out, indent, word, &parts.expr)?;
-    push_body(out, indent, &parts.body)?;
-    push_false(out, indent, &parts.false_body)
+    let mut word = word;
+    let mut parts = parts;
+    loop {
+        push_worded(out, indent, word, &parts.expr)?;
+        push_body(out, indent, &parts.body)?;
+        match elif_of(&parts.false_body) {
+            Some(next) => {
+                word = "elif ";
+                parts = next;
+            }
+            None => return push_else(out, indent, &parts.false_body),
+        }
+    }
 }
 
-// What stands behind the body of an `If`.
-#[cycle(lines)]
-fn push_false(out: &mut String, indent: &str, nodes: &Vec<Node>) -> Result<(), AllocError>
-    ensures { let ns = nodes_view nodes.now.items in OnOk result (string_bytes out.new ≡ string_bytes out.old
-        ++ false_text ns indent.now (nodes_text (codes "elif ") indent.now ns) (nodes_text (codes "if ") (deeper indent.now) ns)) }
-{
-    if is_lone_if(nodes) {
-        return push_nodes(out, "elif ", indent, nodes);
-    }
-    if has_none(nodes) {
-        return Ok(());
-    }
-    push_line(out, indent, "else")?;
-    push_body(out, indent, nodes)
-}
-
-#[tactic(auto, using(crate::proofs::LoneIf::not_lone, crate::proofs::LoneIf::one))]
-fn is_lone_if(nodes: &Vec<Node>) -> bool
-    ensures { result ≡ is_lone_if (nodes_view nodes.now.items) }
+// The `If` that stands alone in a body.
+#[tactic(auto, using(crate::proofs::Elifs::not_lone, crate::proofs::Elifs::one))]
+fn elif_of(nodes: &Vec<Node>) -> Option<&If>
+    ensures some { IfSome result (λ next. nodes.now.items ≡ Node.If next.now ∷ []) }
+    ensures none { IfNone result (is_lone_if (nodes_view nodes.now.items) ≡ false) }
 {
     match nodes.as_slice() {
-        [only] => is_if(only),
-        _ => false,
+        [only] => match only {
+            Node::If(parts) => Some(parts),
+            _ => None,
+        },
+        _ => None,
     }
 }
 
-fn is_if(node: &Node) -> bool
-    ensures { result ≡ is_if (node_view node.now) }
-{
-    matches!(node, Node::If(_))
-}
-
-#[tactic(auto, using(crate::proofs::LoneIf::not_none))]
+#[tactic(auto, using(crate::proofs::Elifs::not_none))]
 fn has_none(nodes: &Vec<Node>) -> bool
     ensures { result ≡ not (has_nodes (nodes_view nodes.now.items)) }
 {

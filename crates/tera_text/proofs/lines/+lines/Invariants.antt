@@ -1,6 +1,7 @@
-use Rattle.std.proofs.Common.{◌≡◌, ◌++◌, drop, string_bytes, ◌*◌, ◌+◌}
-use Rattle.tera_tree.specs.View.{nodes_view}
-use Rattle.tera_text.specs.TreeText.{nodes_text}
+use Rattle.std.proofs.Common.{◌≡◌, ◌++◌, drop, string_bytes, ◌*◌, ◌+◌, ◌≤◌, IsUtf8}
+use Rattle.tera_tree.specs.View.{nodes_view, if_view}
+use Rattle.tera_text.specs.TreeText.{nodes_text, node_text}
+use Rattle.tera_tree.specs.declared.ast.If.{size-If}
 use Rattle.tera_text.proofs.lines.+lines.Given as goal
 
 abbrev pub invariant-push_nodes-loop-node : goal.invariant-push_nodes-loop-node
@@ -40,5 +41,8 @@ decreases-push_else l = 10 * goal.size-push_else l + 4
 abbrev pub decreases-push_if : goal.decreases-push_if
 decreases-push_if l = 10 * goal.size-push_if l + 5
 
-abbrev pub decreases-push_false : goal.decreases-push_false
-decreases-push_false l = 10 * goal.size-push_false l + 4
+abbrev pub invariant-push_if-loop-out : goal.invariant-push_if-loop-out
+invariant-push_if-loop-out l =
+    (string_bytes l.initial.out ++ node_text l.initial.word l.indent (if_view l.initial.parts) ≡ string_bytes l.out ++ node_text l.word l.indent (if_view l.parts))
+    × (size-If l.parts ≤ size-If l.initial.parts)
+    × IsUtf8 l.word
