@@ -1,6 +1,7 @@
 //! Spans, errors and values of the template engine Tera.
 #![tactic(auto)]
 
+mod copies;
 mod errors;
 mod show;
 mod utils;

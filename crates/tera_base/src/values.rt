@@ -1,6 +1,10 @@
 //! Values, and the keys of their maps.
 
+ghost use Rattle.std.specs.Prelude.{◌≡◌, IfOk, length, map};
+ghost use Rattle.tera_base.specs.ValueView.{key_view};
+
 use indexmap::IndexSet;
+use std::alloc::{AllocError, Global};
 use std::marker::Model;
 
 /// What a value of a map is found by.
@@ -55,7 +59,6 @@ impl<V> Model for MapOf<V> {
 }
 
 impl<V> MapOf<V> {
-    ghost use Rattle.std.specs.Prelude.{◌≡◌, length};
     ghost use Rattle.std.specs.Map.{keys_of, values_of};
 
     /// How many pairs there are.
@@ -78,4 +81,30 @@ impl<V> MapOf<V> {
     {
         self.values.as_slice()
     }
+
+    /// The allocator with which it grows.
+    pub(crate) fn allocator(&self) -> Global {
+        *self.values.allocator()
+    }
+
+    /// Copies of the keys, each with what stands at its place.
+    pub(crate) fn with_values(&self, values: Vec<V>) -> Result<MapOf<V>, AllocError>
+    where
+        V: Drop,
+        requires { length values.items ≡ length self.now }
+        ensures keys { IfOk result (λ m. map key_view (keys_of m) ≡ map key_view (keys_of self.now)) }
+        ensures values { IfOk result (λ m. values_of m ≡ values.items) }
+    {
+        let keys = copy_keys(&self.keys)?;
+        Ok(MapOf { keys, values })
+    }
+}
+
+#[tactic(auto, using(crate::proofs::Rows::copied_keys, crate::proofs::Rows::copied_len))]
+fn copy_keys(keys: &IndexSet<Key>) -> Result<IndexSet<Key>, AllocError>
+    ensures same { IfOk result (λ c. map key_view c.keys ≡ map key_view keys.now.keys) }
+    ensures len { IfOk result (λ c. length c.keys ≡ length keys.now.keys) }
+{
+    let copies = keys.clone()?;
+    Ok(copies)
 }

@@ -2,7 +2,7 @@
 use Rattle.std.specs.Prelude.{ℕ, List, [], ◌∷◌, map, Option, None, Some, String, string_bytes}
 use Rattle.std.specs.declared.alloc.Global.{Global}
 use Rattle.tera_base.specs.Spanned.{node_of, span_of}
-use Rattle.tera_base.specs.Values.{Val}
+use Rattle.tera_base.specs.Values.{KeyVal, Val}
 use Rattle.tera_base.specs.ValueView.{key_view, value_view}
 use Rattle.tera_base.specs.declared.utils.Span.{Span}
 use Rattle.tera_base.specs.declared.values.Value.{Value}
@@ -164,3 +164,8 @@ definition_view d = record {
   metadata = map (λ m. (string_bytes m.0, value_view m.1)) d.metadata.entries;
   body = map node_view d.body.items;
 }
+
+-- an entry by what its key stands for
+abbrev pub keyed_view : MapEntryOf Expression → Option KeyVal × Expr
+keyed_view (entries.KeyValue k e) = (Some (key_view k), expression_view e)
+keyed_view (entries.Spread e) = (None, expression_view e)

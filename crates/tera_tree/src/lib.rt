@@ -3,6 +3,7 @@
 
 mod ast;
 pub mod build;
+mod copies;
 mod drops;
 mod parts;
 mod show;
