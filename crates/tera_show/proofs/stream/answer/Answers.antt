@@ -19,11 +19,11 @@ job name a b s t j is marks source P =
       λ p. subst (λ m. P m j.source) (sym first) (subst (λ x. P b x) (sym second) p),
     )
 
-pub returns-in-Ok-tree_text-clause-ok : goal.returns-in-Ok-tree_text-clause-ok
-returns-in-Ok-tree_text-clause-ok c =
+pub returns-in-Ok-spent-clause-ok : goal.returns-in-Ok-spent-clause-ok
+returns-in-Ok-spent-clause-ok c =
     let text = c.in-Ok.ensures.cases in
     let same = job _ _ default_marks _ c.args.input.now c.new.result c.new.ensures c.default.ensures.0 text.0 in
-    (text.1, (output_view c.in-Ok-parse.output, (same (λ m s. Derives m s (output_view c.in-Ok-parse.output))).0 c.in-Ok-parse.ensures.sound, c.in-Ok-tree_text.ensures.ok))
+    (text.1, (output_view c.in-Ok-parse.output, (same (λ m s. Derives m s (output_view c.in-Ok-parse.output))).0 c.in-Ok-parse.ensures.sound, c.in-Ok-spent.ensures))
 
 pub returns-in-SyntaxError-clause-ok : goal.returns-in-SyntaxError-clause-ok
 returns-in-SyntaxError-clause-ok c =
