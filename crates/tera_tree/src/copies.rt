@@ -67,7 +67,15 @@ fn copy(e: &Expression) -> Result<Expression, AllocError>
             let start = copy_maybe(&node.start)?;
             let end = copy_maybe(&node.end)?;
             let step = copy_maybe(&node.step)?;
-            build::slice(alloc, expr, start, end, step, node.optional, s.span().copied())
+            build::slice(
+                alloc,
+                expr,
+                start,
+                end,
+                step,
+                node.optional,
+                s.span().copied(),
+            )
         }
         Expression::Filter(s) => {
             let node = s.node();
@@ -101,7 +109,15 @@ fn copy(e: &Expression) -> Result<Expression, AllocError>
             let value = node.value.clone()?;
             let target = copy(&node.target)?;
             let condition = copy_maybe(&node.condition)?;
-            build::comprehension(alloc, expr, key, value, target, condition, s.span().copied())
+            build::comprehension(
+                alloc,
+                expr,
+                key,
+                value,
+                target,
+                condition,
+                s.span().copied(),
+            )
         }
         Expression::ComponentCall(s) => {
             let node = s.node();
@@ -109,7 +125,14 @@ fn copy(e: &Expression) -> Result<Expression, AllocError>
             let name = node.name.clone()?;
             let kwargs = copy_attributes(alloc, &node.kwargs)?;
             let body = copy_nodes(alloc, &node.body)?;
-            build::component_call(alloc, name, kwargs, body, node.self_closing, s.span().copied())
+            build::component_call(
+                alloc,
+                name,
+                kwargs,
+                body,
+                node.self_closing,
+                s.span().copied(),
+            )
         }
         Expression::FunctionCall(s) => {
             let node = s.node();
@@ -154,7 +177,10 @@ fn copy_maybe(e: &Option<Expression>) -> Result<Option<Expression>, AllocError>
 }
 
 #[cycle(copy)]
-fn copy_args(alloc: Global, args: &BTreeMap<String, Expression>) -> Result<BTreeMap<String, Expression>, AllocError>
+fn copy_args(
+    alloc: Global,
+    args: &BTreeMap<String, Expression>,
+) -> Result<BTreeMap<String, Expression>, AllocError>
     ensures { IfOk result (λ c. args_view c.entries ≡ args_view args.now.entries) }
 {
     let mut copies = BTreeMap::new(alloc);

@@ -20,7 +20,7 @@ show_values-loop-value-preserved g t c =
       l.invariant.0 ++ (comma_text l.later ++ inner_text (value_view x)),
       λ q. has_written_append _ _ _ _ _ _ (l.invariant.1 q) (c.show_value.ensures (l.invariant.1 q).plain ok),
       shown_more (λ ys. vals_text l.later (vals_view ys)) (λ ys. vals_text true (vals_view ys)) _ _ (comma_text l.later) (inner_text (value_view x)) _ l.value-index x
-        l.invariant.2 (search rules) c.value-item.is refl,
+          l.invariant.2 (search rules) c.value-item.is refl,
     )
 
 pub show_pairs-loop-value-init : goal.show_pairs-loop-value-init
