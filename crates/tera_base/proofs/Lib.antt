@@ -2,3 +2,5 @@ pub mod Tellings
 pub mod ValueViews
 pub mod Showing
 pub mod Rows
+pub mod Puts
+pub mod Equals

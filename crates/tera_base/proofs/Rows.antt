@@ -30,11 +30,11 @@ copied_keys (k ∷ ks) (l ∷ ls) h = rw (h.0, copied_keys ks ls h.1)
 pub copied_len : (ks ls : List Key) → AllZip (λ k l. key_view l ≡ key_view k) ks ls → length ls ≡ length ks
 copied_len ks ls h = let n = ap length (copied_keys ks ls h) in sym (length-map ls key_view) ∙ n ∙ length-map ks key_view
 
-abbrev rest : {A : Type 0} → List A → List A
+abbrev pub rest : {A : Type 0} → List A → List A
 rest [] = []
 rest (x ∷ xs) = xs
 
-abbrev first : {A : Type 0} → A → List A → A
+abbrev pub first : {A : Type 0} → A → List A → A
 first d [] = d
 first d (x ∷ xs) = x
 

@@ -4,3 +4,8 @@ pub mod Values
 pub mod ValueView
 pub mod Text
 pub mod formers
+pub mod Pairs
+pub mod Same
+pub mod SameLaws
+pub mod Kinds
+pub mod ErrorView

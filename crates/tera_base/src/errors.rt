@@ -1,19 +1,22 @@
 //! Errors with texts and spans.
 
-ghost use Rattle.std.specs.Prelude.{◌≡◌, IfOk, MatchResult, codes, string_bytes};
+ghost use Rattle.std.specs.Prelude.{◌≡◌, MatchResult, Some, codes, string_bytes};
 ghost use Rattle.tera_base.specs.Errors.{IsMemory, Tells, HasNoNotes};
+ghost use Rattle.tera_base.specs.ErrorView.{error_view, error_text};
 
 use crate::utils::Span;
 use std::alloc::{AllocError, AllocFailed, Global};
+use std::fmt;
+use std::fmt::{Display, Formatter, Write};
 
 /// An error of this layer.
-#[derive(Debug, Drop)]
+#[derive(Debug, PartialEq, Eq, Drop)]
 pub struct Error {
     pub kind: ErrorKind,
 }
 
 /// What went wrong.
-#[derive(Debug, Drop)]
+#[derive(Debug, PartialEq, Eq, Drop)]
 pub enum ErrorKind {
     /// No memory was found.
     Memory,
@@ -24,7 +27,7 @@ pub enum ErrorKind {
 }
 
 /// A fault in a source: its text, where it stands, and notes on other places.
-#[derive(Debug, Drop)]
+#[derive(Debug, PartialEq, Eq, Drop)]
 pub struct ReportError {
     pub message: String,
     pub span: Span,
@@ -32,7 +35,7 @@ pub struct ReportError {
 }
 
 /// A place that explains a fault, in the file that is named.
-#[derive(Debug, Drop)]
+#[derive(Debug, PartialEq, Eq, Drop)]
 pub struct Note {
     pub label: String,
     pub filename: String,
@@ -106,8 +109,40 @@ impl Error {
     }
 }
 
+impl Display for Error {
+    ghost output = { λ e. Some (error_text (error_view e)) };
+
+    fn fmt<W: Write>(&self, f: &mut Formatter<W>) -> fmt::Result {
+        match &self.kind {
+            ErrorKind::Memory => f.write_str("out of memory"),
+            ErrorKind::Message(message) => f.write_str(message.as_str()),
+            ErrorKind::SyntaxError(report) => f.write_str(report.message.as_str()),
+        }
+    }
+}
+
 impl ReportError {
+    ghost use Rattle.std.specs.Prelude.{IfErr, OnErr, OnOk};
     ghost use Rattle.tera_base.specs.Errors.{end_of};
+    ghost use Rattle.tera_base.specs.ErrorView.{NoteOf, report_view, with_note};
+
+    /// Adds a note behind the others. The only refusal is `Memory`.
+    pub fn add_note(&mut self, label: &str, filename: &str, span: &Span) -> Result<(), Error>
+        ensures added { OnOk result (report_view self.new ≡ with_note (report_view self.old) (NoteOf label.now filename.now span.now)) }
+        ensures unchanged { OnErr result (report_view self.new ≡ report_view self.old) }
+        ensures refusal { IfErr result IsMemory }
+    {
+        let alloc = *self.notes.allocator();
+        let label = String::from_str(alloc, label)?;
+        let filename = String::from_str(alloc, filename)?;
+        let span = span.copied();
+        self.notes.push(Note {
+            label,
+            filename,
+            span,
+        })?;
+        Ok(())
+    }
 
     /// The end of the input, behind the token at this span: a syntax error that begins where the token
     /// ends, in whose range the token stands.

@@ -2,11 +2,15 @@
 #![tactic(auto)]
 
 mod copies;
+mod equality;
 mod errors;
+mod kinds;
+pub mod laws;
 mod show;
 mod utils;
 mod values;
 
 pub use errors::{Error, ErrorKind, Note, ReportError};
+pub use kinds::ValueKind;
 pub use utils::{Span, Spanned};
 pub use values::{Key, Map, MapOf, Value};

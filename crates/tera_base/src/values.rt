@@ -1,11 +1,21 @@
 //! Values, and the keys of their maps.
 
-ghost use Rattle.std.specs.Prelude.{◌≡◌, IfOk, length, map};
+ghost use Rattle.std.specs.Prelude.{◌≡◌, ◌↔◌, [], ◌∷◌, ◌++◌, false, IsTrue, IfOk, OnOk, OnErr, IfErr, length, map, position, option_copied};
+ghost use Rattle.std.specs.Iterator.Adapters.{zip_first, zip_second};
+ghost use Rattle.std.specs.List.{zip, list_any, IsDistinct};
+ghost use Rattle.std.specs.Option.{is_some};
+ghost use Rattle.std.specs.Slice.Iter.{iter_rest};
+ghost use Rattle.tera_base.specs.Errors.{IsMemory};
+ghost use Rattle.tera_base.specs.Pairs.{same_key, put, value_at};
 ghost use Rattle.tera_base.specs.ValueView.{key_view};
 
-use indexmap::IndexSet;
+use crate::errors::Error;
+use indexmap::{IndexSet, set};
 use std::alloc::{AllocError, Global};
+use std::iter::Zip;
 use std::marker::Model;
+use std::mem::replace;
+use std::slice;
 
 /// What a value of a map is found by.
 #[derive(Debug, PartialEq, Eq, Hash, Drop)]
@@ -61,11 +71,59 @@ impl<V> Model for MapOf<V> {
 impl<V> MapOf<V> {
     ghost use Rattle.std.specs.Map.{keys_of, values_of};
 
+    /// A map without pairs.
+    pub fn new(alloc: Global) -> MapOf<V>
+        ensures { result ≡ [] }
+    {
+        MapOf {
+            keys: IndexSet::new(alloc),
+            values: Vec::new(alloc),
+        }
+    }
+
+    /// Puts a pair: a new key goes last; a key that is there keeps its place and takes the value, and the
+    /// value before is answered. The only refusal is `Memory`: it drops the pair, and nothing changes.
+    pub fn insert(&mut self, key: Key, value: V) -> Result<Option<V>, Error>
+    where
+        V: Drop,
+        ensures before { IfOk result (λ before. before ≡ value_at key self.old) }
+        ensures pairs { OnOk result (self.new ≡ put key value self.old) }
+        ensures unchanged { OnErr result (self.new ≡ self.old) }
+        ensures refusal { IfErr result IsMemory }
+    {
+        put_pair(&mut self.keys, &mut self.values, key, value)
+    }
+
+    /// What belongs to the key.
+    pub fn get(&self, key: &Key) -> Option<&V>
+        ensures { option_copied result ≡ value_at key.now self.now }
+    {
+        match place_of(&self.keys, key) {
+            Some(place) => Some(&self.values[place]),
+            None => None,
+        }
+    }
+
+    /// Whether there is no pair.
+    pub fn is_empty(&self) -> bool
+        ensures { IsTrue result ↔ (self.now ≡ []) }
+    {
+        self.len() == 0
+    }
+
     /// How many pairs there are.
     pub fn len(&self) -> usize
         ensures { result ≡ length self.now }
     {
         self.keys.len()
+    }
+
+    /// The pairs, in the order in which their keys came. No key comes twice.
+    pub fn iter(&self) -> Zip<set::Iter<'_, Key>, slice::Iter<'_, V>>
+        ensures pairs { zip (zip_first result) (iter_rest (zip_second result)) ≡ self.now }
+        ensures distinct { IsDistinct same_key (keys_of self.now) }
+    {
+        self.keys.iter().zip(self.values.iter())
     }
 
     /// The keys, in the order in which they came.
@@ -98,6 +156,62 @@ impl<V> MapOf<V> {
         let keys = copy_keys(&self.keys)?;
         Ok(MapOf { keys, values })
     }
+}
+
+// The place of a key.
+#[tactic(auto, using(crate::proofs::Puts::place_derived, crate::proofs::Puts::found_derived))]
+fn place_of(keys: &IndexSet<Key>, key: &Key) -> Option<usize>
+    ensures place { result ≡ position (same_key key.now) keys.now.keys }
+    ensures found { is_some result ≡ list_any (same_key key.now) keys.now.keys }
+{
+    keys.get_index_of(key)
+}
+
+// Puts a pair among keys and values that stand at the same places.
+#[tactic(auto, using(crate::proofs::Puts::put_found, crate::proofs::Puts::put_new, crate::proofs::Puts::value_found, crate::proofs::Puts::value_new, crate::proofs::Puts::place_within))]
+fn put_pair<V: Drop>(
+    keys: &mut IndexSet<Key>,
+    values: &mut Vec<V>,
+    key: Key,
+    value: V,
+) -> Result<Option<V>, Error>
+    requires { length values.old.items ≡ length keys.old.keys }
+    ensures beside { length values.new.items ≡ length keys.new.keys }
+    ensures before { IfOk result (λ before. before ≡ value_at key (zip keys.old.keys values.old.items)) }
+    ensures pairs { OnOk result (zip keys.new.keys values.new.items ≡ put key value (zip keys.old.keys values.old.items)) }
+    ensures unchanged { OnErr result (zip keys.new.keys values.new.items ≡ zip keys.old.keys values.old.items) }
+    ensures refusal { IfErr result IsMemory }
+{
+    match place_of(keys, &key) {
+        Some(place) => {
+            drop(key);
+            Ok(Some(replace(&mut values[place], value)))
+        }
+        None => {
+            push_pair(keys, values, key, value)?;
+            Ok(None)
+        }
+    }
+}
+
+// Puts a new key and its value last.
+#[tactic(auto, using(crate::proofs::Puts::new_key))]
+fn push_pair<V: Drop>(
+    keys: &mut IndexSet<Key>,
+    values: &mut Vec<V>,
+    key: Key,
+    value: V,
+) -> Result<(), AllocError>
+    requires { list_any (same_key key) keys.old.keys ≡ false }
+    ensures keys { OnOk result (keys.new.keys ≡ keys.old.keys ++ key ∷ []) }
+    ensures values { OnOk result (values.new.items ≡ values.old.items ++ value ∷ []) }
+    ensures same_keys { OnErr result (keys.new.keys ≡ keys.old.keys) }
+    ensures same_values { OnErr result (values.new.items ≡ values.old.items) }
+{
+    values.reserve(1)?;
+    keys.insert(key)?;
+    values.push(value)?;
+    Ok(())
 }
 
 #[tactic(auto, using(crate::proofs::Rows::copied_keys, crate::proofs::Rows::copied_len))]

@@ -1,10 +1,10 @@
-use Rattle.std.proofs.Common.{rules, true, ◌≡◌, List, [], ◌∷◌, ◌++◌, codes, refl}
+use Rattle.std.proofs.Common.{rules, true, ◌≡◌, [], ◌∷◌, ◌++◌, codes, refl}
 use Rattle.std.specs.Result.{IsOk}
 use Rattle.std.proofs.Output.{has_written_append}
 use Rattle.std.specs.Map.{keys_of, values_of}
 use Rattle.std.proofs.lemmas.Map.Entries.{length-keys_of, length-values_of}
-use Rattle.tera_base.specs.ValueView.{key_view, value_view, vals_view, pairs_view}
-use Rattle.tera_base.specs.Text.{inner_text, inner_key_text, vals_text, pairs_text, comma_text}
+use Rattle.tera_base.specs.ValueView.{key_view, value_view, vals_view}
+use Rattle.tera_base.specs.Text.{inner_text, inner_key_text, vals_text, comma_text}
 use Rattle.tera_base.proofs.Showing.{shown_more, one_pair, one_less}
 use Rattle.tera_base.proofs.Rows.{zip_rows}
 use Rattle.tera_base.proofs.show.+show.Goals as goal
