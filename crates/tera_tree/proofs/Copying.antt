@@ -1,5 +1,5 @@
 -- Arguments that are put one after another, and entries by what their keys stand for.
-use Rattle.std.proofs.Common.{◌≡◌, List, [], ◌∷◌, ◌++◌, map, length, Some, None, String, Global, string_bytes, refl, sym, ap, ◌∙◌, arith}
+use Rattle.std.proofs.Common.{◌≡◌, List, [], ◌∷◌, ◌++◌, map, Some, None, String, Global, string_bytes, refl, sym, ap, ◌∙◌}
 use Rattle.std.proofs.Common.{Ordering, Less, Equal, Greater, string_cmp, nat_cmp, ℕ}
 use Rattle.std.specs.List.Sorted.{IsStrictlySortedBy}
 use Rattle.std.specs.List.{AllByRecursion}

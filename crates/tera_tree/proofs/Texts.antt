@@ -1,9 +1,10 @@
 -- The text of a list, from its first element.
-use Rattle.std.proofs.Common.{◌≡◌, ℕ, Bool, true, List, ◌∷◌, ◌++◌, Global, String, string_bytes, codes, refl, ◌∙◌, append_assoc}
+use Rattle.std.proofs.Common.{◌≡◌, ℕ, suc, Bool, true, List, [], ◌∷◌, ◌++◌, length, ap, Global, String, string_bytes, codes, refl, ◌∙◌, append_assoc}
 use Rattle.tera_base.specs.Text.{comma_text}
-use Rattle.tera_tree.specs.View.{expression_view, args_view, item_view, items_view, entry_view, entries_view}
-use Rattle.tera_tree.specs.Text.{text, args_text, item_text, items_text, entry_text, entries_text}
+use Rattle.tera_tree.specs.View.{expression_view, args_view, item_view, items_view, entry_view, entries_view, nodes_view}
+use Rattle.tera_tree.specs.Text.{text, args_text, item_text, items_text, entry_text, entries_text, count_of}
 use Rattle.tera_tree.specs.declared.ast.Expression.{Expression}
+use Rattle.tera_tree.specs.declared.ast.Node.{Node}
 use Rattle.tera_tree.specs.declared.ast.ArrayEntryOf.{ArrayEntryOf}
 use Rattle.tera_tree.specs.declared.ast.ArrayEntryOf.TheVariants.{Item, Spread}
 use Rattle.tera_tree.specs.declared.ast.MapEntryOf.{MapEntryOf}
@@ -23,3 +24,7 @@ one_entry later (entries.Spread e) rest = refl
 pub one_arg : (all p : List ℕ) (later : Bool) (x : Argument) (es rest : List Argument) → all ≡ p ++ args_text later (args_view es) → es ≡ x ∷ rest
     → all ≡ (p ++ (comma_text later ++ (string_bytes x.0 ++ (codes "=" ++ text (expression_view x.1))))) ++ args_text true (args_view rest)
 one_arg all p later x es rest start is = start ∙ rw is (simp append_assoc)
+
+pub count_of_nodes_view : (ns : List Node) → length ns ≡ count_of (nodes_view ns)
+count_of_nodes_view [] = refl
+count_of_nodes_view (n ∷ ns) = ap suc (count_of_nodes_view ns)

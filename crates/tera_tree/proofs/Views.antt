@@ -1,5 +1,5 @@
 -- A tree, level by level.
-use Rattle.std.proofs.Common.{◌≡◌, List, [], ◌∷◌, map, string_bytes, refl, ap, ◌∙◌, rules}
+use Rattle.std.proofs.Common.{◌≡◌, string_bytes, ◌∙◌, rules}
 use Rattle.tera_base.specs.Spanned.{node_of, span_of}
 use Rattle.tera_base.specs.ValueView.{value_view}
 use Rattle.tera_base.specs.declared.utils.Span.{Span}

@@ -1,7 +1,8 @@
 -- The printed text of an expression.
-use Rattle.std.specs.Prelude.{ℕ, List, [], ◌∷◌, ◌++◌, Bool, true, false, Option, None, Some, codes, if◌then◌else◌}
+use Rattle.std.specs.Prelude.{ℕ, suc, List, [], ◌++◌, Bool, true, false, Option, None, Some, codes, if◌then◌else◌}
+use Rattle.std.specs.Fmt.{decimal}
 use Rattle.tera_base.specs.Text.{key_text, comma_text, const_text}
-use Rattle.tera_tree.specs.Tree.{Expr, Const, Array, Map, Var, GetAttr, GetItem, Slice, Filter, Test, Ternary, ListComprehension, ComponentCall, FunctionCall, UnaryOperation, BinaryOperation, MaybeExpr, NoExpr, OneExpr, Args, NoArgs, Arg, Items, NoItems, Item, SpreadItem, Entries, NoEntries, Entry, SpreadEntry}
+use Rattle.tera_tree.specs.Tree.{Nodes, NoNodes, OneNode, Expr, Const, Array, Map, Var, GetAttr, GetItem, Slice, Filter, Test, Ternary, ListComprehension, ComponentCall, FunctionCall, UnaryOperation, BinaryOperation, MaybeExpr, NoExpr, OneExpr, Args, NoArgs, Arg, Items, NoItems, Item, SpreadItem, Entries, NoEntries, Entry, SpreadEntry}
 use Rattle.tera_base.specs.ValueView.{key_view}
 use Rattle.tera_tree.specs.declared.ast.ArrayEntryOf.{ArrayEntryOf}
 use Rattle.tera_tree.specs.declared.ast.ArrayEntryOf.TheVariants as items
@@ -53,6 +54,14 @@ abbrev pub names_text : Option (List ℕ) → List ℕ → List ℕ
 names_text None value = value
 names_text (Some key) value = key ++ (codes ", " ++ value)
 
+abbrev pub count_of : Nodes → ℕ
+count_of NoNodes = 0
+count_of (OneNode n ns) = suc (count_of ns)
+
+-- what stands behind the attributes of a component call: a body is told by the number of its nodes
+abbrev pub closing_text : List ℕ → Bool → ℕ → List ℕ
+closing_text name closed n = if closed then codes "/>" else (codes ">[nodes: " ++ (decimal n ++ (codes "]<" ++ (name ++ codes "/>"))))
+
 abbrev mutual
   pub text : Expr → List ℕ
   text (Const v span) = const_text v
@@ -68,8 +77,7 @@ abbrev mutual
   text (Ternary e given other span) = text given ++ (codes " if " ++ (text e ++ (codes " else " ++ text other)))
   text (ListComprehension e key value target condition span) =
       codes "[" ++ (text e ++ (codes " for " ++ (names_text key value ++ (codes " in " ++ (text target ++ (maybe_text (codes " if ") condition ++ codes "]"))))))
-  -- a call with a body has no text: nothing is promised of it
-  text (ComponentCall name es body closed span) = codes "<" ++ (call_text name (entries_text false es) ++ codes "/>")
+  text (ComponentCall name es body closed span) = codes "<" ++ (call_text name (entries_text false es) ++ closing_text name closed (count_of body))
   text (FunctionCall name args span) = call_text name (args_text false args)
   text (UnaryOperation op e span) = codes "(" ++ (unary_text op ++ (codes " " ++ (text e ++ codes ")")))
   text (BinaryOperation op l r span) = codes "(" ++ (binary_text op ++ (codes " " ++ (text l ++ (codes " " ++ (text r ++ codes ")")))))

@@ -124,39 +124,39 @@ pub struct FilterSection {
 }
 
 /// A variable.
-#[derive(Debug, Drop)]
+#[derive(Clone, Debug, PartialEq, Eq, Drop)]
 pub struct Var {
     pub name: String,
 }
 
 /// An item of an array, or a spread of them.
-#[derive(Debug, Drop)]
+#[derive(Clone, Debug, PartialEq, Eq, Drop)]
 pub enum ArrayEntryOf<E> {
     Item(E),
     Spread(E),
 }
 
 /// An array.
-#[derive(Debug, Drop)]
+#[derive(Clone, Debug, PartialEq, Eq, Drop)]
 pub struct ArrayOf<E> {
     pub items: Vec<ArrayEntryOf<E>>,
 }
 
 /// A pair of a map, or a spread of them.
-#[derive(Debug, Drop)]
+#[derive(Clone, Debug, PartialEq, Eq, Drop)]
 pub enum MapEntryOf<E> {
     KeyValue { key: Key, value: E },
     Spread(E),
 }
 
 /// A map.
-#[derive(Debug, Drop)]
+#[derive(Clone, Debug, PartialEq, Eq, Drop)]
 pub struct MapOf<E> {
     pub entries: Vec<MapEntryOf<E>>,
 }
 
 /// A field by its name.
-#[derive(Debug, Drop)]
+#[derive(Clone, Debug, PartialEq, Eq, Drop)]
 pub struct GetAttrOf<E> {
     pub expr: E,
     pub name: String,
@@ -164,7 +164,7 @@ pub struct GetAttrOf<E> {
 }
 
 /// A field by an expression.
-#[derive(Debug, Drop)]
+#[derive(Clone, Debug, PartialEq, Eq, Drop)]
 pub struct GetItemOf<E> {
     pub expr: E,
     pub sub_expr: E,
@@ -172,7 +172,7 @@ pub struct GetItemOf<E> {
 }
 
 /// A part of a list.
-#[derive(Debug, Drop)]
+#[derive(Clone, Debug, PartialEq, Eq, Drop)]
 pub struct SliceOf<E> {
     pub expr: E,
     pub start: Option<E>,
@@ -182,7 +182,7 @@ pub struct SliceOf<E> {
 }
 
 /// A filter on an expression.
-#[derive(Debug, Drop)]
+#[derive(Clone, Debug, PartialEq, Eq, Drop)]
 pub struct FilterOf<E> {
     pub expr: E,
     pub name: String,
@@ -190,7 +190,7 @@ pub struct FilterOf<E> {
 }
 
 /// A test of an expression.
-#[derive(Debug, Drop)]
+#[derive(Clone, Debug, PartialEq, Eq, Drop)]
 pub struct TestOf<E> {
     pub expr: E,
     pub name: String,
@@ -198,7 +198,7 @@ pub struct TestOf<E> {
 }
 
 /// One of two expressions, by the condition `expr`.
-#[derive(Debug, Drop)]
+#[derive(Clone, Debug, PartialEq, Eq, Drop)]
 pub struct TernaryOf<E> {
     pub expr: E,
     pub true_expr: E,
@@ -206,7 +206,7 @@ pub struct TernaryOf<E> {
 }
 
 /// An expression for each item of the target that meets the condition.
-#[derive(Debug, Drop)]
+#[derive(Clone, Debug, PartialEq, Eq, Drop)]
 pub struct ListComprehensionOf<E> {
     pub expr: E,
     pub key: Option<String>,
@@ -216,21 +216,21 @@ pub struct ListComprehensionOf<E> {
 }
 
 /// A call of a function.
-#[derive(Debug, Drop)]
+#[derive(Clone, Debug, PartialEq, Eq, Drop)]
 pub struct FunctionCallOf<E> {
     pub name: String,
     pub kwargs: BTreeMap<String, E>,
 }
 
 /// An operator and its operand.
-#[derive(Debug, Drop)]
+#[derive(Clone, Debug, PartialEq, Eq, Drop)]
 pub struct UnaryOperationOf<E> {
     pub op: UnaryOperator,
     pub expr: E,
 }
 
 /// An operator between its operands.
-#[derive(Debug, Drop)]
+#[derive(Clone, Debug, PartialEq, Eq, Drop)]
 pub struct BinaryOperationOf<E> {
     pub op: BinaryOperator,
     pub left: E,
@@ -238,7 +238,7 @@ pub struct BinaryOperationOf<E> {
 }
 
 /// A variable that takes a value.
-#[derive(Debug, Drop)]
+#[derive(Clone, Debug, PartialEq, Eq, Drop)]
 pub struct SetOf<E> {
     pub name: String,
     pub value: E,
@@ -246,13 +246,13 @@ pub struct SetOf<E> {
 }
 
 /// Another template at this place.
-#[derive(Debug, Drop)]
+#[derive(Clone, Debug, PartialEq, Eq, Drop)]
 pub struct Include {
     pub name: Spanned<String>,
 }
 
 /// A body with a name.
-#[derive(Debug, Drop)]
+#[derive(Clone, Debug, PartialEq, Eq, Drop)]
 pub struct BlockOf<N> {
     pub name: Spanned<String>,
     pub body: Vec<N>,

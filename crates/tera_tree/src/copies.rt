@@ -1,5 +1,7 @@
 //! Copies of expressions and nodes, which may find no memory.
 
+mod bodies;
+
 ghost use Rattle.std.specs.Prelude.{◌≡◌, IfOk, map, string_bytes};
 ghost use Rattle.tera_tree.specs.View.{expression_view, node_view, name_view, maybe_view, args_view, item_view, keyed_view, entries_view};
 ghost use Rattle.tera_base.specs.Spanned.{node_of, span_of};

@@ -4,9 +4,14 @@
 mod ast;
 pub mod build;
 mod copies;
+mod definitions;
 mod drops;
+mod equality;
+pub mod laws;
 mod parts;
+mod read;
 mod show;
+mod types;
 
 pub use ast::{
     ArgType, Array, ArrayEntry, ArrayEntryOf, ArrayOf, BinaryOperation, BinaryOperationOf,

@@ -1,8 +1,8 @@
 //! The parts of expressions as they are shown.
 
 ghost use Rattle.std.specs.Prelude.{Some, false, ◌++◌, [], codes, string_bytes};
-ghost use Rattle.tera_tree.specs.View.{expression_view, name_view, maybe_view, args_view, item_view, items_view, entry_view, entries_view};
-ghost use Rattle.tera_tree.specs.Text.{text, unary_text, binary_text, dot_text, bracket_text, names_text, call_text, maybe_text, args_text, item_text, items_text, entry_text, entries_text};
+ghost use Rattle.tera_tree.specs.View.{expression_view, name_view, maybe_view, args_view, item_view, items_view, entry_view, entries_view, nodes_view};
+ghost use Rattle.tera_tree.specs.Text.{text, unary_text, binary_text, dot_text, bracket_text, names_text, call_text, closing_text, count_of, maybe_text, args_text, item_text, items_text, entry_text, entries_text};
 ghost use Rattle.tera_tree.specs.declared.ast.ComponentCall.{out-ComponentCall};
 
 use crate::ast::{
@@ -112,7 +112,7 @@ impl Display for ListComprehensionOf<Expression> {
 }
 
 impl Display for ComponentCall {
-    ghost output = { λ x. let c = out-ComponentCall x in Some (codes "<" ++ (call_text (string_bytes c.name) (entries_text false (entries_view c.kwargs.items)) ++ codes "/>")) };
+    ghost output = { λ x. let c = out-ComponentCall x in Some (codes "<" ++ (call_text (string_bytes c.name) (entries_text false (entries_view c.kwargs.items)) ++ closing_text (string_bytes c.name) c.self_closing (count_of (nodes_view c.body.items)))) };
 
     fn fmt<W: Write>(&self, f: &mut Formatter<W>) -> fmt::Result {
         show::show_component_call(self, f)

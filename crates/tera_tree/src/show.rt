@@ -1,16 +1,16 @@
 //! Expressions as they are shown.
 
-ghost use Rattle.std.specs.Prelude.{Some, false, ◌++◌, [], codes, string_bytes};
+ghost use Rattle.std.specs.Prelude.{◌≡◌, Some, false, ◌++◌, [], codes, string_bytes};
 ghost use Rattle.std.specs.Fmt.{WritesOnOk};
 ghost use Rattle.tera_base.specs.ValueView.{key_view, value_view};
 ghost use Rattle.tera_base.specs.Text.{key_text, const_text, comma_text};
-ghost use Rattle.tera_tree.specs.View.{expression_view, name_view, maybe_view, args_view, item_view, items_view, entry_view, entries_view};
-ghost use Rattle.tera_tree.specs.Text.{text, unary_text, binary_text, dot_text, bracket_text, names_text, call_text, maybe_text, args_text, item_text, items_text, entry_text, entries_text};
+ghost use Rattle.tera_tree.specs.View.{expression_view, name_view, maybe_view, args_view, item_view, items_view, entry_view, entries_view, nodes_view};
+ghost use Rattle.tera_tree.specs.Text.{text, unary_text, binary_text, dot_text, bracket_text, names_text, call_text, closing_text, count_of, maybe_text, args_text, item_text, items_text, entry_text, entries_text};
 ghost use Rattle.tera_tree.specs.declared.ast.ComponentCall.{out-ComponentCall};
 
 use crate::ast::{
     Array, ArrayEntry, BinaryOperation, BinaryOperator, ComponentCall, Expression, Filter,
-    FunctionCall, GetAttr, GetItem, ListComprehension, Map, MapEntry, Slice, Ternary, Test,
+    FunctionCall, GetAttr, GetItem, ListComprehension, Map, MapEntry, Node, Slice, Ternary, Test,
     UnaryOperation, UnaryOperator,
 };
 use std::collections::BTreeMap;
@@ -126,6 +126,32 @@ fn show_names<W: Write>(key: &Option<String>, value: &str, f: &mut Formatter<W>)
     f.write_str(value)
 }
 
+#[tactic(auto, using(crate::proofs::Texts::count_of_nodes_view))]
+fn count(nodes: &Vec<Node>) -> usize
+    ensures { result ≡ count_of (nodes_view nodes.now.items) }
+{
+    nodes.len()
+}
+
+// What stands behind the attributes of a component call with so many nodes in its body.
+fn show_closing<W: Write>(
+    name: &str,
+    self_closing: bool,
+    nodes: usize,
+    f: &mut Formatter<W>,
+) -> fmt::Result
+    ensures { WritesOnOk W.write_str_gives f.old result (closing_text name.now self_closing nodes) f.new }
+{
+    if self_closing {
+        return f.write_str("/>");
+    }
+    f.write_str(">[nodes: ")?;
+    nodes.fmt(f)?;
+    f.write_str("]<")?;
+    f.write_str(name)?;
+    f.write_str("/>")
+}
+
 #[cycle(show)]
 pub(crate) fn show_array<W: Write>(array: &Array, f: &mut Formatter<W>) -> fmt::Result
     ensures { WritesOnOk W.write_str_gives f.old result (codes "[" ++ (items_text false (items_view array.now.items.items) ++ codes "]")) f.new }
@@ -238,11 +264,11 @@ pub(crate) fn show_component_call<W: Write>(
     call: &ComponentCall,
     f: &mut Formatter<W>,
 ) -> fmt::Result
-    ensures { let c = out-ComponentCall call.now in WritesOnOk W.write_str_gives f.old result (codes "<" ++ (call_text (string_bytes c.name) (entries_text false (entries_view c.kwargs.items)) ++ codes "/>")) f.new }
+    ensures { let c = out-ComponentCall call.now in WritesOnOk W.write_str_gives f.old result (codes "<" ++ (call_text (string_bytes c.name) (entries_text false (entries_view c.kwargs.items)) ++ closing_text (string_bytes c.name) c.self_closing (count_of (nodes_view c.body.items)))) f.new }
 {
     f.write_str("<")?;
     show_attributes(call.name.as_str(), &call.kwargs, f)?;
-    f.write_str("/>")
+    show_closing(call.name.as_str(), call.self_closing, count(&call.body), f)
 }
 
 #[cycle(show)]

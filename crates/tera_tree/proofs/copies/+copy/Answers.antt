@@ -2,7 +2,7 @@ use Rattle.std.proofs.Common.{◌≡◌, [], ◌∷◌, ◌++◌, string_bytes, 
 use Rattle.std.specs.List.Sorted.{IsStrictlySortedBy}
 use Rattle.std.specs.Map.{keys_of}
 use Rattle.std.specs.String.{string_cmp}
-use Rattle.tera_tree.specs.View.{expression_view, args_view}
+use Rattle.tera_tree.specs.View.{args_view}
 use Rattle.tera_tree.proofs.Texts.{Argument}
 use Rattle.tera_tree.proofs.Copying.{args_view_insert_entry, put_last}
 use Rattle.tera_tree.proofs.copies.+copy.Goals as goal

@@ -1,9 +1,9 @@
-use Rattle.std.proofs.Common.{rules, true, ◌≡◌, List, [], ◌++◌, codes, string_bytes, sym, refl}
+use Rattle.std.proofs.Common.{rules, true, [], ◌++◌, codes, string_bytes}
 use Rattle.std.specs.Result.{IsOk}
 use Rattle.std.proofs.Output.{has_written_append}
 use Rattle.tera_base.specs.Text.{comma_text}
-use Rattle.tera_tree.specs.View.{expression_view, args_view, item_view, items_view, entry_view, entries_view}
-use Rattle.tera_tree.specs.Text.{text, args_text, item_text, items_text, entry_text, entries_text}
+use Rattle.tera_tree.specs.View.{expression_view, item_view, items_view, entry_view, entries_view}
+use Rattle.tera_tree.specs.Text.{text, item_text, items_text, entry_text, entries_text}
 use Rattle.tera_base.proofs.Showing.{shown_more}
 use Rattle.tera_tree.proofs.Texts.{Argument, one_item, one_entry, one_arg}
 use Rattle.tera_tree.proofs.show.+show.Goals as goal
