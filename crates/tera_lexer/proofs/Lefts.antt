@@ -1,5 +1,5 @@
 -- The tokens that are left, one after another.
-use Rattle.std.proofs.Common.{◌≡◌, ◌≢◌, ℕ, suc, ◌<◌, ◌≤◌, Bool, true, false, ◌||◌, List, [], ◌∷◌, ◌++◌, length, Option, ⊎_elim, ap, sym, ◌∙◌, refl, subst, arith}
+use Rattle.std.proofs.Common.{◌≡◌, ◌≢◌, ℕ, suc, ◌<◌, ◌≤◌, Bool, true, false, ◌||◌, List, [], ◌∷◌, ◌++◌, length, Option, Some, None, ⊎_elim, ap, sym, ◌∙◌, refl, subst, arith}
 use Rattle.std.specs.Char.{is_ascii_whitespace}
 use Rattle.std.proofs.lemmas.Bool.{cases_Bool}
 use Rattle.std.proofs.lemmas.List.{append-nil, length-append}
@@ -12,7 +12,7 @@ use Rattle.tera_lexer.specs.Trimming.{ends_dashed, trims_start, trims_end, trimm
 use Rattle.tera_lexer.specs.Tokens.{Items, Ended, Failed, Token, Content, token_of, started, finished, failed, open_raw, open_comment, comment_bytes, raw_bytes, piece_tokens, tokens_of, AreTokensOf}
 use Rattle.tera_lexer.specs.Front.{Front, Reads, Breaks, front_of, Next, Ends, Closes, Stands, next_at, inside_step, inside_by, inside_of, division_of}
 use Rattle.tera_lexer.specs.State.{Reading}
-use Rattle.tera_lexer.specs.Left.{start_of, trims_behind, tokens_by, starts_dashed, left_outside, left_by, left_inside, left_in, ahead_of, left_of}
+use Rattle.tera_lexer.specs.Left.{start_of, trims_behind, tokens_by, starts_dashed, left_outside, left_by, left_inside, left_in, ahead_of, left_of, whole_of, stream_of}
 use Rattle.tera_lexer.specs.declared.lexer.delimiters.Kind.{Kind}
 use Rattle.tera_lexer.proofs.Insides.{spelled_some, inside_stands, inside_found, at_gap, next_stands, next_closes}
 use Rattle.tera_lexer.proofs.Pieces.{end_two}
@@ -199,6 +199,12 @@ going_is r going = rw going refl
 
 pub failed_is : (r : Reading) → r.failed ≡ true → left_of r ≡ Ended
 failed_is r over = rw over refl
+
+pub going_stream : (r : Reading) → r.failed ≡ false → stream_of r ≡ record { source = whole_of r; left = ahead_of r; stopped = None }
+going_stream r going = rw going refl
+
+pub failed_stream : (r : Reading) → r.failed ≡ true → stream_of r ≡ record { source = whole_of r; left = Ended; stopped = Some (ahead_of r) }
+failed_stream r over = rw over refl
 
 pub ahead_failed : (r : Reading) → ahead_of (record r { failed = true }) ≡ ahead_of r
 unfolding ahead_of

@@ -5,7 +5,7 @@ use Rattle.std.specs.Char.{is_ascii_whitespace}
 use Rattle.std.proofs.lemmas.List.{take-append-drop, length-append, take_at, drop_at}
 use Rattle.tera_lexer.specs.Marks.{Marks, IsValid, start_marker, end_marker, begins, NowhereIn, dash_bytes}
 use Rattle.tera_lexer.specs.Place.{span_of, IsWithin}
-use Rattle.tera_lexer.specs.Lexeme.{StopsAt, IsGap, Lexeme, Name, Number, Quoted, Operator, quoted, spelled, value_of, Fault, Unexpected, Unclosed, UnknownEscape, TooGreat, Float, told, IsFault, is_at_end, IsEnd}
+use Rattle.tera_lexer.specs.Lexeme.{StopsAt, IsGap, Lexeme, Name, Number, Quoted, Operator, quoted, spelled, value_of, Fault, Unexpected, Unclosed, UnknownEscape, TooGreat, Float, told, IsFault, IsLexeme, is_at_end, IsEnd}
 use Rattle.tera_lexer.specs.Raw as raw
 use Rattle.tera_lexer.specs.Raw.{word_tag_bytes, raw_word, endraw_word, OpensRaw, IsBody}
 use Rattle.tera_lexer.specs.Division.{is_at_start, EndsText, Starts, OpensTag}
@@ -14,11 +14,12 @@ use Rattle.tera_lexer.specs.Tokens as toks
 use Rattle.tera_lexer.specs.Tokens.{Items, Ended, Failed, text_of, token_of, open_raw, open_comment, comment_bytes, raw_bytes}
 use Rattle.tera_lexer.specs.Front.{Front, Reads, Breaks, front_of, find_marker, RawEnd, raw_end, unescaped}
 use Rattle.tera_lexer.specs.State.{Reading}
-use Rattle.tera_lexer.specs.Left.{starts_dashed, left_outside, left_inside, left_in, ahead_of, left_of}
+use Rattle.tera_lexer.specs.Left.{starts_dashed, left_outside, left_inside, left_in, ahead_of, whole_of, stream_of}
+use Rattle.tera_lexer.specs.Stream.{Stream}
 use Rattle.tera_lexer.specs.Seen.{seen}
 use Rattle.tera_lexer.specs.Found.{IsTokenAt, IsEscapedAt, IsFaultAt}
 use Rattle.tera_lexer.specs.Markers.{marker_len, IsStartOf, IsEndOf, OpensBy, IsRawEndOf}
-use Rattle.tera_lexer.specs.Steps.{whole_of, IsPart, StandsIn, StandsAt, Stops, Steps}
+use Rattle.tera_lexer.specs.Steps.{IsPart, StandsIn, Stops, Steps}
 use Rattle.tera_base.specs.Errors.{IsMemory, Tells}
 use Rattle.tera_base.specs.declared.utils.Span.{Span}
 use Rattle.tera_base.specs.declared.errors.Error.{Error}
@@ -35,7 +36,7 @@ use Rattle.tera_lexer.proofs.Tilings.{before_body, behind_body, raw_around, lexe
 use Rattle.tera_lexer.proofs.Finding.{IsMarkerAt, behind_at, find_stands}
 use Rattle.tera_lexer.proofs.WordTags.{IsTagAt, word_tag_stands, word_tag_splits}
 use Rattle.tera_lexer.proofs.RawEnds.{IsEndAt, raw_stands}
-use Rattle.tera_lexer.proofs.Lefts.{gap_left, end_left, lexeme_left, fault_left, gap_ends, nothing_left, text_left, comment_left, open_comment_left, raw_left, open_raw_left, start_left, ahead_in, going_is, failed_is, ahead_failed}
+use Rattle.tera_lexer.proofs.Lefts.{gap_left, end_left, lexeme_left, fault_left, gap_ends, nothing_left, text_left, comment_left, open_comment_left, raw_left, open_raw_left, start_left, ahead_in, going_is, going_stream, failed_stream, ahead_failed}
 
 -- n bytes further
 abbrev pub forward : Reading → ℕ → Reading
@@ -70,44 +71,47 @@ text_some m [] n some nowhere ends e = omega arith
 text_some m (b ∷ bs) zero some nowhere ends e = let clash : false ≡ true = sym nowhere ∙ ends in cc
 text_some m (b ∷ bs) (suc n) some nowhere ends e = cc
 
+-- a step between streams that are these
+steps_same : (old from new to : Stream) (result : Option (Result (Token × Span) Error)) → old ≡ from → new ≡ to → Steps from result to → Steps old result new
+steps_same old from new to result a b steps = subst (λ (s : Stream). Steps s result new) (sym a) (subst (λ (s : Stream). Steps from result s) (sym b) steps)
+
 -- the bytes of a token were taken; or those of a fault were told; or no memory was found
 module _ (r new : Reading) (going : r.failed ≡ false) where
+  stopped : (e : Error) (items : Items) → new ≡ record r { failed = true } → ahead_of r ≡ items → Stops (whole_of r) items e → Steps (stream_of r) (Some (Err e)) (stream_of new)
+  stopped e items new_is is stops =
+      let stream : stream_of new ≡ record { source = whole_of r; left = Ended; stopped = Some items }
+      = ap stream_of new_is ∙ failed_stream (record r { failed = true }) refl ∙ (λ i. record { source = whole_of r; left = Ended; stopped = Some ((ahead_failed r ∙ is) i) }) in
+      let here : stream_of r ≡ record { source = whole_of r; left = items; stopped = None }
+      = going_stream r going ∙ (λ i. record { source = whole_of r; left = is i; stopped = None }) in
+      steps_same _ _ _ _ (Some (Err e)) here stream (refl, stops)
+
   module _ (n : ℕ) (bytes behind : List ℕ) (splits : r.rest ≡ bytes ++ behind) (len : n ≡ length bytes) where
     pub took : (t : Token) (span : Span) (tag : Option Kind) (trim : Bool) → new ≡ record (forward r n) { tag = tag; trim = trim } → span ≡ span_of r.front (take n r.rest) → IsWithin (whole_of r) span → StandsIn (seen t) bytes
-        → ahead_of r ≡ toks.Token (seen t) (span_of r.front bytes) (left_in r.marks tag (r.front ++ bytes) trim behind) → Steps r (Some (Ok (t, span))) new
+        → ahead_of r ≡ toks.Token (seen t) (span_of r.front bytes) (left_in r.marks tag (r.front ++ bytes) trim behind) → Steps (stream_of r) (Some (Ok (t, span))) (stream_of new)
     took t span tag trim new_is span_is within stands is =
         let front : take n r.rest ≡ bytes = cut_front r.rest bytes behind n splits len in
         let rest : drop n r.rest ≡ behind = cut_rest r.rest bytes behind n splits len in
         let at : Reading = record (forward r n) { tag = tag; trim = trim } in
-        let next : left_of new ≡ left_in r.marks tag (r.front ++ bytes) trim behind
-        = ap left_of new_is ∙ going_is at going ∙ ahead_in at tag refl ∙ (λ i. left_in r.marks tag (r.front ++ front i) trim (rest i)) in
         let spans : span ≡ span_of r.front bytes = span_is ∙ ap (span_of r.front) front in
         let slice : slice_range (whole_of r) span.range.start span.range.end ≡ bytes
-        = (λ i. slice_range (r.front ++ splits i) (spans i).range.start (spans i).range.end) ∙ span_slice r.front bytes behind in (
-          going_is r going ∙ is ∙ (λ i. toks.Token (seen t) (sym spans i) (sym next i)),
-          (ap (λ (k : Reading). k.marks) new_is, ap (λ (k : Reading). whole_of k) new_is ∙ forward_whole r n),
-          (within, subst (StandsIn (seen t)) (sym slice) stands),
-        )
+        = (λ i. slice_range (r.front ++ splits i) (spans i).range.start (spans i).range.end) ∙ span_slice r.front bytes behind in
+        let stream : stream_of new ≡ record { source = whole_of r; left = left_in r.marks tag (r.front ++ bytes) trim behind; stopped = None }
+        = ap stream_of new_is ∙ going_stream at going
+        ∙ (λ i. record { source = forward_whole r n i; left = (ahead_in at tag refl ∙ (λ j. left_in r.marks tag (r.front ++ front j) trim (rest j))) i; stopped = None }) in
+        let here : stream_of r ≡ record { source = whole_of r; left = toks.Token (seen t) span (left_in r.marks tag (r.front ++ bytes) trim behind); stopped = None }
+        = going_stream r going ∙ (λ i. record { source = whole_of r; left = (is ∙ (λ j. toks.Token (seen t) (sym spans j) (left_in r.marks tag (r.front ++ bytes) trim behind))) i; stopped = None }) in
+        steps_same _ _ _ _ (Some (Ok (t, span))) here stream (refl, refl, (within, subst (StandsIn (seen t)) (sym slice) stands))
 
     pub told_fault : (e : Error) (text : List ℕ) → new ≡ record r { failed = true } → Tells text (span_of r.front (take n r.rest)) e → IsWithin (whole_of r) (span_of r.front (take n r.rest))
-        → ahead_of r ≡ Failed text (span_of r.front bytes) → Steps r (Some (Err e)) new
+        → ahead_of r ≡ Failed text (span_of r.front bytes) → Steps (stream_of r) (Some (Err e)) (stream_of new)
     told_fault e text new_is tells within is =
         let front : take n r.rest ≡ bytes = cut_front r.rest bytes behind n splits len in
-        let ahead : ahead_of new ≡ Failed text (span_of r.front (take n r.rest)) = ap ahead_of new_is ∙ ahead_failed r ∙ is ∙ ap (λ l. Failed text (span_of r.front l)) (sym front) in (
-          failed_is new (ap (λ (k : Reading). k.failed) new_is),
-          going_is r going ∙ sym (ap ahead_of new_is ∙ ahead_failed r),
-          (ap (λ (k : Reading). k.marks) new_is, ap (λ (k : Reading). whole_of k) new_is),
-          subst (λ (items : Items). Stops (whole_of r) items e) (sym ahead) (within, tells),
-        )
+        let ahead : ahead_of r ≡ Failed text (span_of r.front (take n r.rest)) = is ∙ ap (λ l. Failed text (span_of r.front l)) (sym front) in
+        stopped e (Failed text (span_of r.front (take n r.rest))) new_is ahead (within, tells)
 
-  pub no_memory : (e : Error) (text : List ℕ) (span : Span) (items : Items) → new ≡ record r { failed = true } → IsMemory e → ahead_of r ≡ toks.Token (toks.Escaped text) span items → Steps r (Some (Err e)) new
+  pub no_memory : (e : Error) (text : List ℕ) (span : Span) (items : Items) → new ≡ record r { failed = true } → IsMemory e → ahead_of r ≡ toks.Token (toks.Escaped text) span items → Steps (stream_of r) (Some (Err e)) (stream_of new)
   no_memory e text span items new_is memory is =
-      let ahead : ahead_of new ≡ toks.Token (toks.Escaped text) span items = ap ahead_of new_is ∙ ahead_failed r ∙ is in (
-        failed_is new (ap (λ (k : Reading). k.failed) new_is),
-        going_is r going ∙ sym (ap ahead_of new_is ∙ ahead_failed r),
-        (ap (λ (k : Reading). k.marks) new_is, ap (λ (k : Reading). whole_of k) new_is),
-        subst (λ (items : Items). Stops (whole_of r) items e) (sym ahead) (tt, memory),
-      )
+      stopped e (toks.Token (toks.Escaped text) span items) new_is is (tt, memory)
 
 -- a start marker with its dash
 start_splits : (marker rest behind : List ℕ) (dash : Bool) → Starts marker dash rest behind → rest ≡ (marker ++ dash_bytes dash) ++ behind
@@ -120,12 +124,12 @@ module _ (r : Reading) (going : r.failed ≡ false) (outside : r.tag ≡ None) (
   ahead_outside : (k : Items) → left_outside r.marks r.front r.trim r.rest ≡ k → ahead_of r ≡ k
   ahead_outside k e = ahead_in r None outside ∙ e
 
-  pub outside_ends : r.rest ≡ [] → Steps r None r
+  pub outside_ends : r.rest ≡ [] → Steps (stream_of r) None (stream_of r)
   outside_ends e = (refl, going_is r going ∙ ahead_outside Ended (nothing_left r.marks valid r.front r.trim r.rest e))
 
   pub outside_starts : (new : Reading) (t : Token) (span : Span) (kind : Kind) (dash : Bool) (n : ℕ) → IsStartOf (start_marker kind r.marks) r.rest (Some dash) → OpensTag r.marks kind (drop (marker_len (start_marker kind r.marks) dash) r.rest)
       → n ≡ marker_len (start_marker kind r.marks) dash → seen t ≡ toks.Start kind dash
-      → new ≡ record (forward r n) { tag = Some kind } → span ≡ span_of r.front (take n r.rest) → IsWithin (whole_of r) span → Steps r (Some (Ok (t, span))) new
+      → new ≡ record (forward r n) { tag = Some kind } → span ≡ span_of r.front (take n r.rest) → IsWithin (whole_of r) span → Steps (stream_of r) (Some (Ok (t, span))) (stream_of new)
   outside_starts new t span kind dash n starts opens n_is t_is new_is span_is within =
       let marker : List ℕ = start_marker kind r.marks in
       let inside : List ℕ = drop (marker_len marker dash) r.rest in
@@ -136,7 +140,7 @@ module _ (r : Reading) (going : r.failed ≡ false) (outside : r.tag ≡ None) (
   pub outside_text : (new : Reading) (text : Bor (List ℕ)) (span : Span) (n : ℕ) → 0 < length r.rest → begins r.marks.variable_start r.rest ≡ false → begins r.marks.block_start r.rest ≡ false → begins r.marks.comment_start r.rest ≡ false
       → NowhereIn (is_at_start r.marks) (take n r.rest) (drop n r.rest) → EndsText r.marks (drop n r.rest)
       → new ≡ record (forward r n) { trim = false } → text.now ≡ trimmed r.trim (starts_dashed r.marks (drop n r.rest)) (take n r.rest) → IsPart text.now (take n r.rest) → length (take n r.rest) ≡ n
-      → span ≡ span_of r.front (take n r.rest) → IsWithin (whole_of r) span → Steps r (Some (Ok (Content text, span))) new
+      → span ≡ span_of r.front (take n r.rest) → IsWithin (whole_of r) span → Steps (stream_of r) (Some (Ok (Content text, span))) (stream_of new)
   outside_text new text span n some variable block comment none ends new_is text_is part len span_is within =
       let nowhere : is_at_start r.marks r.rest ≡ false = rw (variable, block, comment) refl in
       let splits = sym (take-append-drop n r.rest) in
@@ -161,7 +165,7 @@ module _ (r : Reading) (going : r.failed ≡ false) (outside : r.tag ≡ None) (
         ∙ sym (append_assoc m.comment_start (dash_bytes dash ++ (inside ++ m.comment_end)) rest ∙ ap (λ l. m.comment_start ++ l) (append_assoc (dash_bytes dash) (inside ++ m.comment_end) rest))
 
     pub comment_step : (new : Reading) (span : Span) (len n : ℕ) → find_marker r.marks.comment_end behind_comment ≡ Some len → n ≡ marker_len r.marks.comment_start dash + (len + length r.marks.comment_end) → length (take len behind_comment) ≡ len
-        → new ≡ record (forward r n) { trim = r.trim || ends_dashed (take len behind_comment) } → span ≡ span_of r.front (take n r.rest) → IsWithin (whole_of r) span → Steps r (Some (Ok (Content no_text, span))) new
+        → new ≡ record (forward r n) { trim = r.trim || ends_dashed (take len behind_comment) } → span ≡ span_of r.front (take n r.rest) → IsWithin (whole_of r) span → Steps (stream_of r) (Some (Ok (Content no_text, span))) (stream_of new)
     comment_step new span len n found n_is taken new_is span_is within =
         let inside : List ℕ = take len behind_comment in
         let rest : List ℕ = behind_at r.marks.comment_end len behind_comment in
@@ -175,7 +179,7 @@ module _ (r : Reading) (going : r.failed ≡ false) (outside : r.tag ≡ None) (
         (comment_left r.marks valid r.front r.trim dash inside rest r.rest behind_comment starts.0 stands.0 stands.1))
 
     pub open_comment_step : (new : Reading) (e : Error) (n : ℕ) → find_marker r.marks.comment_end behind_comment ≡ None → n ≡ marker_len r.marks.comment_start dash
-        → new ≡ record r { failed = true } → Tells (open_comment r.marks) (span_of r.front (take n r.rest)) e → IsWithin (whole_of r) (span_of r.front (take n r.rest)) → Steps r (Some (Err e)) new
+        → new ≡ record r { failed = true } → Tells (open_comment r.marks) (span_of r.front (take n r.rest)) e → IsWithin (whole_of r) (span_of r.front (take n r.rest)) → Steps (stream_of r) (Some (Err e)) (stream_of new)
     open_comment_step new e n none n_is new_is tells within =
         let stands : IsMarkerAt r.marks.comment_end behind_comment None = subst (IsMarkerAt r.marks.comment_end behind_comment) none (find_stands r.marks.comment_end behind_comment) in
         told_fault r new going n (r.marks.comment_start ++ dash_bytes dash) behind_comment (start_splits r.marks.comment_start r.rest behind_comment dash starts.0) (start_len r.marks.comment_start dash n n_is) e (open_comment r.marks) new_is tells within
@@ -206,7 +210,7 @@ module _ (r : Reading) (going : r.failed ≡ false) (outside : r.tag ≡ None) (
         (omega (arith, opens.2.2, length-append start tag, length-append r.marks.block_start (dash_bytes dash)))
 
     pub open_raw_step : (new : Reading) (e : Error) (n : ℕ) → raw_end r.marks.block_start r.marks.block_end false raw_inside ≡ None → n ≡ marker_len r.marks.block_start dash
-        → new ≡ record r { failed = true } → Tells open_raw (span_of r.front (take n r.rest)) e → IsWithin (whole_of r) (span_of r.front (take n r.rest)) → Steps r (Some (Err e)) new
+        → new ≡ record r { failed = true } → Tells open_raw (span_of r.front (take n r.rest)) e → IsWithin (whole_of r) (span_of r.front (take n r.rest)) → Steps (stream_of r) (Some (Err e)) (stream_of new)
     unfolding IsEndAt
     open_raw_step new e n none n_is new_is tells within =
         let is : IsEndAt r.marks valid.block_start raw_inside None = subst (IsEndAt r.marks valid.block_start raw_inside) none (raw_stands r.marks valid.block_start (suc (length raw_inside)) raw_inside (omega arith)) in
@@ -228,7 +232,7 @@ module _ (r : Reading) (going : r.failed ≡ false) (outside : r.tag ≡ None) (
 
     raw_by : (new : Reading) (text : Bor (List ℕ)) (span : Span) (len n : ℕ) (closing : WordTag) (o : Option RawEnd) → IsRawEndOf r.marks.block_end (Some (len, closing)) o → IsEndAt r.marks valid.block_start raw_inside o
         → n ≡ marker_len r.marks.block_start dash + opening.len + (len + (length r.marks.block_start + closing.len)) → text.now ≡ trimmed (opening.dash_out || r.trim) (closing.dash_in || starts_dashed r.marks (drop n r.rest)) (take len raw_inside)
-        → IsPart text.now (take len raw_inside) → new ≡ record (forward r n) { trim = closing.dash_out } → span ≡ span_of r.front (take n r.rest) → IsWithin (whole_of r) span → Steps r (Some (Ok (Content text, span))) new
+        → IsPart text.now (take len raw_inside) → new ≡ record (forward r n) { trim = closing.dash_out } → span ≡ span_of r.front (take n r.rest) → IsWithin (whole_of r) span → Steps (stream_of r) (Some (Ok (Content text, span))) (stream_of new)
     unfolding IsEndAt
     raw_by new text span len n closing None ends is n_is text_is part new_is span_is within = absurd ends
     raw_by new text span len n closing (Some e) ends (body, body_len, is) n_is text_is part new_is span_is within =
@@ -249,7 +253,7 @@ module _ (r : Reading) (going : r.failed ≡ false) (outside : r.tag ≡ None) (
 
     pub raw_step : (new : Reading) (text : Bor (List ℕ)) (span : Span) (len n : ℕ) (closing : WordTag) → IsRawEndOf r.marks.block_end (Some (len, closing)) (raw_end r.marks.block_start r.marks.block_end false raw_inside)
         → n ≡ marker_len r.marks.block_start dash + opening.len + (len + (length r.marks.block_start + closing.len)) → text.now ≡ trimmed (opening.dash_out || r.trim) (closing.dash_in || starts_dashed r.marks (drop n r.rest)) (take len raw_inside)
-        → IsPart text.now (take len raw_inside) → new ≡ record (forward r n) { trim = closing.dash_out } → span ≡ span_of r.front (take n r.rest) → IsWithin (whole_of r) span → Steps r (Some (Ok (Content text, span))) new
+        → IsPart text.now (take len raw_inside) → new ≡ record (forward r n) { trim = closing.dash_out } → span ≡ span_of r.front (take n r.rest) → IsWithin (whole_of r) span → Steps (stream_of r) (Some (Ok (Content text, span))) (stream_of new)
     raw_step new text span len n closing ends n_is text_is part new_is span_is within =
         raw_by new text span len n closing (raw_end r.marks.block_start r.marks.block_end false raw_inside) ends (raw_stands r.marks valid.block_start (suc (length raw_inside)) raw_inside (omega arith)) n_is text_is part new_is span_is within
 
@@ -257,28 +261,22 @@ module _ (r : Reading) (going : r.failed ≡ false) (kind : Kind) (inside : r.ta
   ahead_inside : (k : Items) → left_inside r.marks kind r.front r.rest ≡ k → ahead_of r ≡ k
   ahead_inside k e = ahead_in r (Some kind) inside ∙ e
 
-  pub inside_ends : IsGap r.rest [] → Steps r None r
+  pub inside_ends : IsGap r.rest [] → Steps (stream_of r) None (stream_of r)
   inside_ends is_gap = (refl, going_is r going ∙ ahead_inside Ended (gap_ends r.marks valid kind r.front r.rest is_gap))
 
   -- the gap is passed over
-  pub gap_step : (mid new : Reading) (result : Result (Token × Span) Error) (g : ℕ) → IsGap (take g r.rest) (drop g r.rest) → mid ≡ forward r g → Steps mid (Some result) new → Steps r (Some result) new
-  gap_step mid new result g is_gap mid_is steps = by result steps
-    where
-      whole : whole_of mid ≡ whole_of r
-      whole = ap (λ (k : Reading). whole_of k) mid_is ∙ forward_whole r g
-
-      same : left_of r ≡ left_of mid
-      same =
-          going_is r going ∙ ahead_inside (left_inside r.marks kind (r.front ++ take g r.rest) (drop g r.rest)) (gap_left r.marks valid kind r.front (take g r.rest) (drop g r.rest) r.rest (sym (take-append-drop g r.rest)) is_gap)
-          ∙ sym (ap left_of mid_is ∙ going_is (forward r g) going ∙ ahead_in (forward r g) (Some kind) inside)
-
-      by : (result : Result (Token × Span) Error) → Steps mid (Some result) new → Steps r (Some result) new
-      by (Ok p) (left, goes_on, at) = (same ∙ left, (goes_on.0 ∙ ap (λ (k : Reading). k.marks) mid_is, goes_on.1 ∙ whole), subst (λ l. StandsAt l (seen p.0) p.1) whole at)
-      by (Err e) (over, left, goes_on, stops) = (over, same ∙ left, (goes_on.0 ∙ ap (λ (k : Reading). k.marks) mid_is, goes_on.1 ∙ whole), subst (λ l. Stops l (ahead_of new) e) whole stops)
+  pub gap_step : (mid new : Reading) (result : Result (Token × Span) Error) (g : ℕ) → IsGap (take g r.rest) (drop g r.rest) → mid ≡ forward r g → Steps (stream_of mid) (Some result) (stream_of new) → Steps (stream_of r) (Some result) (stream_of new)
+  gap_step mid new result g is_gap mid_is steps =
+      let same : ahead_of r ≡ ahead_of (forward r g)
+      = ahead_inside (left_inside r.marks kind (r.front ++ take g r.rest) (drop g r.rest)) (gap_left r.marks valid kind r.front (take g r.rest) (drop g r.rest) r.rest (sym (take-append-drop g r.rest)) is_gap)
+      ∙ sym (ahead_in (forward r g) (Some kind) inside) in
+      let stream : stream_of mid ≡ stream_of r
+      = ap stream_of mid_is ∙ going_stream (forward r g) going ∙ (λ i. record { source = forward_whole r g i; left = sym same i; stopped = None }) ∙ sym (going_stream r going) in
+      subst (λ (s : Stream). Steps s (Some result) (stream_of new)) stream steps
 
   module _ (stops : StopsAt is_ascii_whitespace r.rest) where
     pub end_step : (new : Reading) (t : Token) (span : Span) (dash : Bool) (n : ℕ) → IsEndOf (end_marker kind r.marks) r.rest (Some dash) → n ≡ marker_len (end_marker kind r.marks) dash → seen t ≡ toks.Finish kind dash
-        → new ≡ record (forward r n) { tag = None; trim = dash } → span ≡ span_of r.front (take n r.rest) → IsWithin (whole_of r) span → Steps r (Some (Ok (t, span))) new
+        → new ≡ record (forward r n) { tag = None; trim = dash } → span ≡ span_of r.front (take n r.rest) → IsWithin (whole_of r) span → Steps (stream_of r) (Some (Ok (t, span))) (stream_of new)
     end_step new t span dash n ends n_is t_is new_is span_is within =
         let end : List ℕ = end_marker kind r.marks in
         let marker : List ℕ = dash_bytes dash ++ end in
@@ -292,31 +290,31 @@ module _ (r : Reading) (going : r.failed ≡ false) (kind : Kind) (inside : r.ta
         end_splits false behind is = is.0
 
     module _ (some : 0 < length r.rest) (no_end : is_at_end (end_marker kind r.marks) r.rest ≡ false) where
-      lexeme_by : (new : Reading) (t : Token) (span : Span) (n : ℕ) (lexeme : Lexeme) (behind : List ℕ) → front_of r.rest ≡ Reads lexeme behind → r.rest ≡ spelled lexeme ++ behind → seen t ≡ token_of lexeme → n ≡ length (spelled lexeme)
-          → new ≡ forward r n → span ≡ span_of r.front (take n r.rest) → IsWithin (whole_of r) span → Steps r (Some (Ok (t, span))) new
-      lexeme_by new t span n lexeme behind is splits seen_is len new_is span_is within =
-          took r new going n (spelled lexeme) behind splits len t span (Some kind) r.trim (new_is ∙ (λ i. record (forward r n) { tag = inside i })) span_is within (subst (λ k. StandsIn k (spelled lexeme)) (sym seen_is) (lexeme_stands lexeme))
+      lexeme_by : (new : Reading) (t : Token) (span : Span) (n : ℕ) (lexeme : Lexeme) (behind : List ℕ) → front_of r.rest ≡ Reads lexeme behind → r.rest ≡ spelled lexeme ++ behind → IsLexeme lexeme behind → seen t ≡ token_of lexeme → n ≡ length (spelled lexeme)
+          → new ≡ forward r n → span ≡ span_of r.front (take n r.rest) → IsWithin (whole_of r) span → Steps (stream_of r) (Some (Ok (t, span))) (stream_of new)
+      lexeme_by new t span n lexeme behind is splits here seen_is len new_is span_is within =
+          took r new going n (spelled lexeme) behind splits len t span (Some kind) r.trim (new_is ∙ (λ i. record (forward r n) { tag = inside i })) span_is within (subst (λ k. StandsIn k (spelled lexeme)) (sym seen_is) (lexeme_stands lexeme behind here))
           (ahead_inside (toks.Token (seen t) (span_of r.front (spelled lexeme)) (left_inside r.marks kind (r.front ++ spelled lexeme) behind))
           (lexeme_left r.marks valid kind r.front r.rest stops lexeme behind some no_end is ∙ ap (λ k. toks.Token k (span_of r.front (spelled lexeme)) (left_inside r.marks kind (r.front ++ spelled lexeme) behind)) (sym seen_is)))
 
       pub lexeme_step : (new : Reading) (t : Token) (span : Span) (n : ℕ) (front : Front) → front_of r.rest ≡ front → IsFront r.rest front → IsTokenAt (seen t) n front
-          → new ≡ forward r n → span ≡ span_of r.front (take n r.rest) → IsWithin (whole_of r) span → Steps r (Some (Ok (t, span))) new
-      lexeme_step new t span n (Reads lexeme behind) is stands found new_is span_is within = lexeme_by new t span n lexeme behind is stands.0 found.0 found.1 new_is span_is within
+          → new ≡ forward r n → span ≡ span_of r.front (take n r.rest) → IsWithin (whole_of r) span → Steps (stream_of r) (Some (Ok (t, span))) (stream_of new)
+      lexeme_step new t span n (Reads lexeme behind) is stands found new_is span_is within = lexeme_by new t span n lexeme behind is stands.0 stands.1 found.0 found.1 new_is span_is within
       lexeme_step new t span n (Breaks fault) is stands found new_is span_is within = absurd found
 
       -- a string with escapes
       pub escaped_step : (new : Reading) (t : Token) (text within_quotes : List ℕ) (span : Span) (n : ℕ) (front : Front) → front_of r.rest ≡ front → IsFront r.rest front → IsEscapedAt within_quotes n front → seen t ≡ toks.Escaped text → text ≡ unescaped within_quotes
-          → new ≡ forward r n → span ≡ span_of r.front (take n r.rest) → IsWithin (whole_of r) span → Steps r (Some (Ok (t, span))) new
+          → new ≡ forward r n → span ≡ span_of r.front (take n r.rest) → IsWithin (whole_of r) span → Steps (stream_of r) (Some (Ok (t, span))) (stream_of new)
       escaped_step new t text within_quotes span n (Reads (Quoted quote is) behind) front_is stands (inside_is, escape, len) t_is text_is new_is span_is within =
           let value : seen t ≡ token_of (Quoted quote is)
           = t_is ∙ ap toks.Escaped (text_is ∙ ap unescaped inside_is ∙ unescaped_written quote is stands.1.0.1) ∙ rw escape refl in
-          lexeme_by new t span n (Quoted quote is) behind front_is stands.0 value len new_is span_is within
+          lexeme_by new t span n (Quoted quote is) behind front_is stands.0 stands.1 value len new_is span_is within
       escaped_step new t text within_quotes span n (Reads (Name b bs) behind) front_is stands found t_is text_is new_is span_is within = absurd found
       escaped_step new t text within_quotes span n (Reads (Number b bs) behind) front_is stands found t_is text_is new_is span_is within = absurd found
       escaped_step new t text within_quotes span n (Reads (Operator op) behind) front_is stands found t_is text_is new_is span_is within = absurd found
       escaped_step new t text within_quotes span n (Breaks fault) front_is stands found t_is text_is new_is span_is within = absurd found
 
-      pub escaped_memory : (new : Reading) (e : Error) (within_quotes : List ℕ) (n : ℕ) (front : Front) → front_of r.rest ≡ front → IsEscapedAt within_quotes n front → new ≡ record r { failed = true } → IsMemory e → Steps r (Some (Err e)) new
+      pub escaped_memory : (new : Reading) (e : Error) (within_quotes : List ℕ) (n : ℕ) (front : Front) → front_of r.rest ≡ front → IsEscapedAt within_quotes n front → new ≡ record r { failed = true } → IsMemory e → Steps (stream_of r) (Some (Err e)) (stream_of new)
       escaped_memory new e within_quotes n (Reads (Quoted quote is) behind) front_is (inside_is, escape, len) new_is memory =
           let text : token_of (Quoted quote is) ≡ toks.Escaped (value_of is) = rw escape refl in
           no_memory r new going e (value_of is) (span_of r.front (quoted quote is)) (left_inside r.marks kind (r.front ++ quoted quote is) behind) new_is memory
@@ -328,7 +326,7 @@ module _ (r : Reading) (going : r.failed ≡ false) (kind : Kind) (inside : r.ta
       escaped_memory new e within_quotes n (Breaks fault) front_is found new_is memory = absurd found
 
       pub fault_step : (new : Reading) (e : Error) (text : List ℕ) (n : ℕ) (front : Front) → front_of r.rest ≡ front → IsFront r.rest front → IsFaultAt text n front
-          → new ≡ record r { failed = true } → Tells text (span_of r.front (take n r.rest)) e → IsWithin (whole_of r) (span_of r.front (take n r.rest)) → Steps r (Some (Err e)) new
+          → new ≡ record r { failed = true } → Tells text (span_of r.front (take n r.rest)) e → IsWithin (whole_of r) (span_of r.front (take n r.rest)) → Steps (stream_of r) (Some (Err e)) (stream_of new)
       fault_step new e text n (Reads lexeme behind) is stands found new_is tells within = absurd found
       fault_step new e text n (Breaks fault) is stands found new_is tells within =
           let (behind, splits) = fault_splits fault r.rest stands in

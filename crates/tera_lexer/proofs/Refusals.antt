@@ -1,14 +1,15 @@
 -- Which faults are told of which tokens.
-use Rattle.std.proofs.Common.{◌≡◌, ℕ, List, inl, inr, ⊎_elim, subst, sym, ◌∙◌, refl}
+use Rattle.std.proofs.Common.{◌≡◌, ℕ, zero, suc, ◌+◌, List, inl, inr, ⊎_elim, subst, sym, ◌∙◌, refl, arith}
 use Rattle.std.specs.Prelude.{codes}
 use Rattle.tera_lexer.specs.Place.{IsWithin}
 use Rattle.tera_lexer.specs.Tokens.{Tok, Items, Ended, Failed, Token}
 use Rattle.tera_base.specs.Errors.{Tells, IsMemory, end_of}
 use Rattle.tera_lexer.specs.Faults.{Faults}
 use Rattle.tera_lexer.specs.Steps.{Stops}
-use Rattle.tera_lexer.specs.Cursors.{Position, IsAt, FaultsFrom, RefusesFrom, IsLater, TellsAt, TellsEnd}
+use Rattle.tera_lexer.specs.Cursors.{Position, IsAt, FaultsFrom, RefusesFrom, Passes, IsLater, TellsAt, TakesOne}
 use Rattle.tera_base.specs.declared.utils.Span.{Span}
 use Rattle.tera_base.specs.declared.errors.Error.{Error}
+use Rattle.std.specs.Prelude.{Err}
 use Rattle.tera_base.proofs.Tellings.{tells_weaker, tells_memory}
 
 -- a fault at the next token
@@ -37,8 +38,9 @@ stops_refuses old (Failed told here) e is (within, tells) =
     (λ text span at. rw at.1 (within, inr (rw is (inl (at.0, refl))))) tells
 stops_refuses old (Token t here items) e is (takes, memory) = memory_refuses old e memory
 
-pub ended_refuses : (old : Position) (e : Error) → IsWithin old.source old.span → TellsEnd old e → RefusesFrom old e
-ended_refuses old e within told = ⊎_elim (λ end. end_refuses old e within end.1) (λ stops. stops_refuses old old.left e refl stops) told
+pub untaken_refuses : (old new : Position) (e : Error) → IsWithin old.source old.span → TakesOne old (Err e) new → RefusesFrom old e
+untaken_refuses old new e within told =
+    ⊎_elim (λ end. end_refuses old e within end.1) (λ stops. stops_refuses old old.left e refl stops.1) told
 
 -- a fault from the next token on is one of the tokens
 pub lift_faults : (t : Tok) (here : Span) (items : Items) (text : List ℕ) (span : Span) → FaultsFrom here items text span → Faults (Token t here items) text span
@@ -48,16 +50,42 @@ lift_faults t here items text span f =
 pub later_faults : (t : Tok) (here : Span) (items : Items) (text : List ℕ) (span : Span) → Faults items text span → Faults (Token t here items) text span
 later_faults t here items text span f = ⊎_elim (λ lexical. inl lexical) (λ covers. inr (inr covers)) f
 
--- a cursor that took the next token went on
-pub token_later : (old mid : Position) (t : Tok) (here : Span) → old.left ≡ Token t here mid.left → mid.span ≡ here → mid.source ≡ old.source → IsLater old mid
-token_later old mid t here is last source =
-    (source, λ text span f. inr (rw is (lift_faults t here mid.left text span (subst (λ s. FaultsFrom s mid.left text span) last f))))
+-- a fault behind tokens that were taken is one from these on
+passes_faults : (n : ℕ) (items : Items) (last : Span) (left : Items) (here : Span) → Passes n items last left here → (text : List ℕ) (span : Span) → FaultsFrom here left text span → FaultsFrom last items text span
+passes_faults zero items last left here (left_is, span_is) text span f = subst (λ l. FaultsFrom last l text span) left_is (subst (λ s. FaultsFrom s left text span) span_is f)
+passes_faults (suc n) Ended last left here passes text span f = absurd passes
+passes_faults (suc n) (Failed told at) last left here passes text span f = absurd passes
+passes_faults (suc n) (Token t at items) last left here passes text span f = inr (lift_faults t at items text span (passes_faults n items at left here passes text span f))
+
+passes_on : (n k : ℕ) (items : Items) (last : Span) (mid : Items) (there : Span) (left : Items) (here : Span) → Passes n items last mid there → Passes k mid there left here → Passes (n + k) items last left here
+passes_on zero k items last mid there left here (left_is, span_is) more =
+    let same : k ≡ zero + k = omega arith in
+    subst (λ j. Passes j items last left here) same (subst (λ l. Passes k l last left here) left_is (subst (λ s. Passes k mid s left here) span_is more))
+passes_on (suc n) k Ended last mid there left here passes more = absurd passes
+passes_on (suc n) k (Failed told at) last mid there left here passes more = absurd passes
+passes_on (suc n) k (Token t at items) last mid there left here passes more =
+    let same : suc (n + k) ≡ suc n + k = omega arith in
+    subst (λ j. Passes j (Token t at items) last left here) same (passes_on n k items at mid there left here passes more)
+
+-- a cursor that stayed, that took the next token, that went on twice
+pub stays_later : (old : Position) → IsLater old old
+stays_later old = record { count = 0; source = refl; taken = omega arith; passes = (refl, refl) }
+
+pub token_later : (old mid : Position) (t : Tok) (here : Span) → old.left ≡ Token t here mid.left → mid.span ≡ here → mid.source ≡ old.source → mid.taken ≡ old.taken + 1 → IsLater old mid
+token_later old mid t here is last source taken =
+    record { count = 1; source = source; taken = taken; passes = subst (λ items. Passes 1 items old.span mid.left mid.span) (sym is) (refl, last) }
 
 pub later_later : (old mid new : Position) → IsLater old mid → IsLater mid new → IsLater old new
-later_later old mid new a b = (b.0 ∙ a.0, λ text span f. a.1 text span (b.1 text span f))
+later_later old mid new a b =
+    record {
+      count = a.count + b.count;
+      source = b.source ∙ a.source;
+      taken = omega (arith, a.taken, b.taken);
+      passes = passes_on a.count b.count old.left old.span mid.left mid.span new.left new.span a.passes b.passes;
+    }
 
 -- what is refused from there on is refused from here on
 pub refuses_later : (old mid : Position) (e : Error) → IsLater old mid → RefusesFrom mid e → RefusesFrom old e
 refuses_later old mid e later told =
     tells_weaker (λ text span. IsWithin mid.source span × FaultsFrom mid.span mid.left text span) (λ text span. IsWithin old.source span × FaultsFrom old.span old.left text span) e
-    (λ text span f. (subst (λ s. IsWithin s span) later.0 f.0, later.1 text span f.1)) told
+    (λ text span f. (subst (λ s. IsWithin s span) later.source f.0, passes_faults later.count old.left old.span mid.left mid.span later.passes text span f.1)) told

@@ -6,18 +6,20 @@ use Rattle.std.proofs.lemmas.Bool.{cases_Bool}
 use Rattle.std.proofs.lemmas.List.{append-nil, length-append}
 use Rattle.tera_lexer.specs.Marks.{Marks, IsValid, start_marker, end_marker, dash_bytes}
 use Rattle.tera_lexer.specs.Place.{place_after, span_of}
-use Rattle.tera_lexer.specs.Lexeme.{Lexeme, Name, Number, Quoted, Operator, spelled, has_escape, IsLexeme, Fault, told, IsFault, Item, Close, End, Open, Bad, IsEnd, IsInside}
+use Rattle.tera_lexer.specs.Lexeme.{Lexeme, Name, Number, Quoted, Operator, spelled, has_escape, decimal, IsLexeme, Fault, told, IsFault, Item, Close, End, Open, Bad, IsEnd, IsInside}
 use Rattle.tera_lexer.specs.Raw.{WordTag, word_tag_bytes, raw_word, endraw_word}
 use Rattle.tera_lexer.specs.Division.{Piece, Text, Comment, Raw, Tag, Ending, Nothing, OpenTag, BadTag, OpenRaw, OpenComment, Starts, IsPiece, IsEnding, IsDivision}
 use Rattle.tera_lexer.specs.Trimming.{trims_end, trimmed}
-use Rattle.tera_lexer.specs.Tokens.{Tok, Content, Start, Items, Ended, Failed, Token, name_token, token_of, lexemes, started, finished, failed, open_raw, open_comment, comment_bytes, raw_bytes, piece_tokens, ending_tokens, AreTokensOf}
+use Rattle.tera_lexer.specs.Tokens.{Tok, Content, Start, Integer, Items, Ended, Failed, Token, name_token, token_of, lexemes, started, finished, failed, open_raw, open_comment, comment_bytes, raw_bytes, piece_tokens, ending_tokens, AreTokensOf}
 use Rattle.tera_lexer.specs.Front.{inside_of, division_of}
 use Rattle.tera_lexer.specs.State.{Reading}
-use Rattle.tera_lexer.specs.Steps.{whole_of, StandsIn}
+use Rattle.tera_lexer.specs.Steps.{StandsIn}
 use Rattle.tera_lexer.specs.Cursors.{size}
-use Rattle.tera_lexer.specs.Left.{trims_behind, tokens_by, left_outside, left_by, left_in, ahead_of, left_of, item_count}
-use Rattle.tera_lexer.specs.Tiling.{Shows, in_tag_behind, Tile}
+use Rattle.tera_lexer.specs.Left.{trims_behind, tokens_by, left_outside, left_by, left_in, ahead_of, left_of, whole_of, item_count}
+use Rattle.tera_lexer.specs.Tiling.{Belongs, Shows, in_tag_behind, Tile}
+use Rattle.tera_lexer.specs.Lexed.{EachNumber, IsCount, AreNested, AreLexed}
 use Rattle.tera_lexer.specs.declared.lexer.delimiters.Kind.{Kind}
+use Rattle.tera_base.specs.declared.utils.Span.{Span}
 use Rattle.tera_lexer.proofs.Insides.{spelled_some, fault_some, inside_stands}
 use Rattle.tera_lexer.proofs.Pieces.{start_two, end_two, body_splits}
 use Rattle.tera_lexer.proofs.Divisions.{division_stands}
@@ -32,9 +34,9 @@ unfolding place_after
 span_start front bytes = refl
 
 -- a token or a fault outside a tag, where no gap comes first
-tile_here : (t : Tok) (front bytes behind rest : List ℕ) (items : Items) → rest ≡ bytes ++ behind → bytes ≢ [] → Shows t bytes → Tile (in_tag_behind false t) (front ++ bytes) behind items → Tile false front rest (Token t (span_of front bytes) items)
-tile_here t front bytes behind rest items e some shows tile =
-    ([], bytes, behind, e, refl, some, shows, ap (λ f. span_of f bytes) (sym (append-nil front)), subst (λ f. Tile (in_tag_behind false t) (f ++ bytes) behind items) (sym (append-nil front)) tile)
+tile_here : (t : Tok) (front bytes behind rest : List ℕ) (items : Items) → rest ≡ bytes ++ behind → bytes ≢ [] → Belongs false t → Shows t bytes → Tile (in_tag_behind false t) (front ++ bytes) behind items → Tile false front rest (Token t (span_of front bytes) items)
+tile_here t front bytes behind rest items e some belongs shows tile =
+    ([], bytes, behind, e, refl, some, belongs, shows, ap (λ f. span_of f bytes) (sym (append-nil front)), subst (λ f. Tile (in_tag_behind false t) (f ++ bytes) behind items) (sym (append-nil front)) tile)
 
 fault_here : (front told rest text : List ℕ) → rest ≢ [] → Tile false front rest (Failed text (span_of front told))
 fault_here front told rest text some = ([], rest, refl, refl, some, span_start front told ∙ ap length (sym (append-nil front)))
@@ -51,11 +53,11 @@ name_shows name =
     (λ other. rw other (⊎_elim (λ here. rw here tt) (λ other'. rw other' refl) (cases_Bool (either (codes "false") (codes "False") name))))
     (cases_Bool (either (codes "true") (codes "True") name))
 
-lexeme_shows : (l : Lexeme) → Shows (token_of l) (spelled l)
-lexeme_shows (Name b bs) = name_shows (b ∷ bs)
-lexeme_shows (Number b bs) = tt
-lexeme_shows (Quoted quote is) = ⊎_elim (λ escape. rw escape tt) (λ plain. rw plain (quote, refl)) (cases_Bool (has_escape is))
-lexeme_shows (Operator op) = refl
+lexeme_shows : (l : Lexeme) (rest : List ℕ) → IsLexeme l rest → Shows (token_of l) (spelled l)
+lexeme_shows (Name b bs) rest here = name_shows (b ∷ bs)
+lexeme_shows (Number b bs) rest (digits, no_point, fits) = (refl, fits)
+lexeme_shows (Quoted quote is) rest here = ⊎_elim (λ escape. rw escape tt) (λ plain. rw plain (quote, refl)) (cases_Bool (has_escape is))
+lexeme_shows (Operator op) rest here = refl
 
 name_stands : (name : List ℕ) → StandsIn (name_token name) name
 unfolding either
@@ -65,11 +67,11 @@ name_stands name =
     (λ other. rw other (⊎_elim (λ here. rw here tt) (λ other'. rw other' refl) (cases_Bool (either (codes "false") (codes "False") name))))
     (cases_Bool (either (codes "true") (codes "True") name))
 
-pub lexeme_stands : (l : Lexeme) → StandsIn (token_of l) (spelled l)
-lexeme_stands (Name b bs) = name_stands (b ∷ bs)
-lexeme_stands (Number b bs) = tt
-lexeme_stands (Quoted quote is) = ⊎_elim (λ escape. rw escape tt) (λ plain. rw plain (quote, refl)) (cases_Bool (has_escape is))
-lexeme_stands (Operator op) = refl
+pub lexeme_stands : (l : Lexeme) (rest : List ℕ) → IsLexeme l rest → StandsIn (token_of l) (spelled l)
+lexeme_stands (Name b bs) rest here = name_stands (b ∷ bs)
+lexeme_stands (Number b bs) rest (digits, no_point, fits) = (refl, fits)
+lexeme_stands (Quoted quote is) rest here = ⊎_elim (λ escape. rw escape tt) (λ plain. rw plain (quote, refl)) (cases_Bool (has_escape is))
+lexeme_stands (Operator op) rest here = refl
 
 -- inside a tag a lexeme leaves the tag open
 name_inside : (name : List ℕ) → in_tag_behind true (name_token name) ≡ true
@@ -80,18 +82,32 @@ name_inside name =
     (λ other. rw other (⊎_elim (λ here. rw here refl) (λ other'. rw other' refl) (cases_Bool (either (codes "false") (codes "False") name))))
     (cases_Bool (either (codes "true") (codes "True") name))
 
-lexeme_inside : (l : Lexeme) → in_tag_behind true (token_of l) ≡ true
+pub lexeme_inside : (l : Lexeme) → in_tag_behind true (token_of l) ≡ true
 lexeme_inside (Name b bs) = name_inside (b ∷ bs)
 lexeme_inside (Number b bs) = refl
 lexeme_inside (Quoted quote is) = ⊎_elim (λ escape. rw escape refl) (λ plain. rw plain refl) (cases_Bool (has_escape is))
 lexeme_inside (Operator op) = refl
+
+name_belongs : (name : List ℕ) → Belongs true (name_token name)
+unfolding either
+name_belongs name =
+    ⊎_elim
+    (λ here. rw here refl)
+    (λ other. rw other (⊎_elim (λ here. rw here refl) (λ other'. rw other' refl) (cases_Bool (either (codes "false") (codes "False") name))))
+    (cases_Bool (either (codes "true") (codes "True") name))
+
+lexeme_belongs : (l : Lexeme) → Belongs true (token_of l)
+lexeme_belongs (Name b bs) = name_belongs (b ∷ bs)
+lexeme_belongs (Number b bs) = refl
+lexeme_belongs (Quoted quote is) = ⊎_elim (λ escape. rw escape refl) (λ plain. rw plain refl) (cases_Bool (has_escape is))
+lexeme_belongs (Operator op) = refl
 
 -- lexemes, and what follows them
 module _ (end : List ℕ) where
   tile_lexeme : (i : Item) (front rest bytes : List ℕ) (items : Items) → bytes ≡ i.gap ++ (spelled i.lexeme ++ rest) → Tile true [] i.gap Ended → IsLexeme i.lexeme rest → Tile true ((front ++ i.gap) ++ spelled i.lexeme) rest items
       → Tile true front bytes (Token (token_of i.lexeme) (span_of (front ++ i.gap) (spelled i.lexeme)) items)
   tile_lexeme i front rest bytes items e gap here tile =
-      (i.gap, spelled i.lexeme, rest, e, gap, some_bytes (spelled i.lexeme) (spelled_some i.lexeme rest here), lexeme_shows i.lexeme, refl, subst (λ b. Tile b ((front ++ i.gap) ++ spelled i.lexeme) rest items) (sym (lexeme_inside i.lexeme)) tile)
+      (i.gap, spelled i.lexeme, rest, e, gap, some_bytes (spelled i.lexeme) (spelled_some i.lexeme rest here), lexeme_belongs i.lexeme, lexeme_shows i.lexeme rest here, refl, subst (λ b. Tile b ((front ++ i.gap) ++ spelled i.lexeme) rest items) (sym (lexeme_inside i.lexeme)) tile)
 
   tile_open : (is : List Item) (gap front bytes : List ℕ) → IsInside end is (Open gap) bytes → Tile true front bytes (lexemes front is (λ g. Ended))
   tile_open [] gap front bytes (e, is_gap) = subst (λ l. Tile true front l Ended) (sym e) is_gap.0
@@ -129,7 +145,7 @@ module _ (m : Marks) (valid : IsValid m) where
       let end : List ℕ = end_marker kind m in
       let marker : List ℕ = dash_bytes dash ++ end in
       let some : 0 < length marker = omega (arith, length-append (dash_bytes dash) end, end_two m valid kind) in
-      (gap, marker, rest, e ∙ ap (λ l. gap ++ l) (end_splits end dash at rest ends), is_gap.0, some_bytes marker some, tt, refl, tile ((front ++ gap) ++ marker))
+      (gap, marker, rest, e ∙ ap (λ l. gap ++ l) (end_splits end dash at rest ends), is_gap.0, some_bytes marker some, refl, tt, refl, tile ((front ++ gap) ++ marker))
   tile_end kind (i ∷ is) gap dash rest front bytes follows (behind, e, is_gap, no_end, here, inside) tile =
       tile_lexeme (end_marker kind m) i front behind bytes _ e is_gap.0 here (tile_end kind is gap dash rest ((front ++ i.gap) ++ spelled i.lexeme) behind follows inside tile)
 
@@ -138,7 +154,7 @@ module _ (m : Marks) (valid : IsValid m) where
   tile_start kind front dash bytes inside follows starts tile =
       let marker : List ℕ = start_marker kind m ++ dash_bytes dash in
       let some : 0 < length marker = omega (arith, length-append (start_marker kind m) (dash_bytes dash), start_two m valid kind) in
-      tile_here (Start kind dash) front marker inside bytes (follows (front ++ marker)) (starts.0 ∙ sym (append_assoc (start_marker kind m) (dash_bytes dash) inside)) (some_bytes marker some) tt (tile (front ++ marker))
+      tile_here (Start kind dash) front marker inside bytes (follows (front ++ marker)) (starts.0 ∙ sym (append_assoc (start_marker kind m) (dash_bytes dash) inside)) (some_bytes marker some) refl tt (tile (front ++ marker))
 
   starts_some : (marker : List ℕ) (dash : Bool) (bytes behind : List ℕ) → length marker ≡ 2 → Starts marker dash bytes behind → bytes ≢ []
   starts_some marker dash bytes behind two starts = some_bytes bytes (omega (arith, ap length starts.0, length-append marker (dash_bytes dash ++ behind)))
@@ -155,14 +171,14 @@ module _ (m : Marks) (valid : IsValid m) where
   -- a piece, trimmed or not, and what follows it
   tile_piece : (start end : Bool) (p : Piece) (front bytes rest : List ℕ) (follows : List ℕ → Items) → IsPiece m p bytes rest → ((f : List ℕ) → Tile false f rest (follows f)) → Tile false front bytes (piece_tokens m front start end p follows)
   tile_piece start end (Text text) front bytes rest follows (e, some, none, ends) tile =
-      tile_here (Content (trimmed start end text)) front text rest bytes (follows (front ++ text)) e some ([], text, [], start, end, sym (append-nil text), refl) (tile (front ++ text))
+      tile_here (Content (trimmed start end text)) front text rest bytes (follows (front ++ text)) e some refl ([], text, [], start, end, sym (append-nil text), refl) (tile (front ++ text))
   tile_piece start end (Comment dash inside) front bytes rest follows (behind, starts, e, none) tile =
       let text : List ℕ = comment_bytes m dash inside in
       let splits : bytes ≡ text ++ rest
       = starts.0 ∙ ap (λ l. m.comment_start ++ (dash_bytes dash ++ l)) (e ∙ sym (append_assoc inside m.comment_end rest))
       ∙ sym (append_assoc m.comment_start (dash_bytes dash ++ (inside ++ m.comment_end)) rest ∙ ap (λ l. m.comment_start ++ l) (append_assoc (dash_bytes dash) (inside ++ m.comment_end) rest)) in
       let some : 0 < length text = omega (arith, length-append m.comment_start (dash_bytes dash ++ (inside ++ m.comment_end)), valid.comment_start) in
-      tile_here (Content []) front text rest bytes (follows (front ++ text)) splits (some_bytes text some) ([], [], text, false, false, refl, refl) (tile (front ++ text))
+      tile_here (Content []) front text rest bytes (follows (front ++ text)) splits (some_bytes text some) refl ([], [], text, false, false, refl, refl) (tile (front ++ text))
   tile_piece start end (Raw dash opening body closing) front bytes rest follows (behind, inside, starts, opens, is) tile =
       let text : List ℕ = raw_bytes m dash opening body closing in
       let close : List ℕ = word_tag_bytes endraw_word m.block_end closing in
@@ -176,7 +192,7 @@ module _ (m : Marks) (valid : IsValid m) where
       ∙ ap (λ l. open_tag ++ l) (append_assoc body (m.block_start ++ close) rest
       ∙ ap (λ l. body ++ l) (append_assoc m.block_start close rest))))) in
       let some : 0 < length text = omega (arith, length-append m.block_start (dash_bytes dash ++ (open_tag ++ (body ++ (m.block_start ++ close)))), valid.block_start) in
-      tile_here (Content (trimmed (opening.dash_out || start) (closing.dash_in || end) body)) front text rest bytes (follows (front ++ text)) splits (some_bytes text some)
+      tile_here (Content (trimmed (opening.dash_out || start) (closing.dash_in || end) body)) front text rest bytes (follows (front ++ text)) splits (some_bytes text some) refl
       (before_body m dash opening, body, behind_body m closing, opening.dash_out || start, closing.dash_in || end, raw_around m dash opening body closing, refl) (tile (front ++ text))
   tile_piece start end (Tag kind dash items gap last) front bytes rest follows (inside, starts, opens, here) tile =
       tile_start kind front dash bytes inside (λ f. lexemes f items (λ g. finished m (g ++ gap) kind last follows)) starts
@@ -219,7 +235,7 @@ length_some (b ∷ bs) some = omega arith
 pub tiles_count : (items : Items) (inside : Bool) (front rest : List ℕ) → Tile inside front rest items → item_count items ≤ length rest
 tiles_count Ended inside front rest tile = omega arith
 tiles_count (Failed text span) inside front rest (gap, at, e, between, some, start) = omega (arith, ap length e, length-append gap at, length_some at some)
-tiles_count (Token t span items) inside front rest (gap, bytes, behind, e, between, some, shows, is, tile) =
+tiles_count (Token t span items) inside front rest (gap, bytes, behind, e, between, some, belongs, shows, is, tile) =
     omega (arith, ap length e, length-append gap (bytes ++ behind), length-append bytes behind, length_some bytes some, tiles_count items (in_tag_behind inside t) ((front ++ gap) ++ bytes) behind tile)
 
 pub left_count : (r : Reading) → IsValid r.marks → item_count (left_of r) ≤ length (whole_of r)
@@ -229,6 +245,42 @@ left_count r valid =
     (λ over. rw over (omega arith))
     (λ going. rw going (omega (arith, tiles_count (left_in r.marks r.tag r.front r.trim r.rest) (is_open r.tag) r.front r.rest (tile_in r.marks valid r.tag r.front r.trim r.rest), length-append r.front r.rest)))
     (cases_Bool r.failed)
+
+-- what is so of them from any place on
+tiles_nested : (items : Items) (inside : Bool) (front rest : List ℕ) → Tile inside front rest items → AreNested inside items
+tiles_nested Ended inside front rest tile = tt
+tiles_nested (Failed text span) inside front rest tile = tt
+tiles_nested (Token t span items) inside front rest (gap, bytes, behind, e, between, some, belongs, shows, is, tile) =
+    (belongs, tiles_nested items (in_tag_behind inside t) ((front ++ gap) ++ bytes) behind tile)
+
+number_more : (t : Tok) (span : Span) (items : Items) (bytes : List ℕ) → Shows t bytes → EachNumber IsCount items → EachNumber IsCount (Token t span items)
+number_more (Integer n) span items bytes (is, fits) each = ((decimal bytes, is, fits), each)
+number_more t span items bytes shows each = each
+
+tiles_numbers : (items : Items) (inside : Bool) (front rest : List ℕ) → Tile inside front rest items → EachNumber IsCount items
+tiles_numbers Ended inside front rest tile = tt
+tiles_numbers (Failed text span) inside front rest tile = tt
+tiles_numbers (Token t span items) inside front rest (gap, bytes, behind, e, between, some, belongs, shows, is, tile) =
+    number_more t span items bytes shows (tiles_numbers items (in_tag_behind inside t) ((front ++ gap) ++ bytes) behind tile)
+
+tiles_lexed : (items : Items) (inside : Bool) (front rest : List ℕ) → Tile inside front rest items → AreLexed items
+tiles_lexed items inside front rest tile = record { numbers = tiles_numbers items inside front rest tile; inside = inside; nested = tiles_nested items inside front rest tile }
+
+pub left_lexed : (r : Reading) → IsValid r.marks → AreLexed (left_of r)
+unfolding ahead_of
+left_lexed r valid =
+    ⊎_elim
+    (λ over. rw over (record { numbers = tt; inside = false; nested = tt }))
+    (λ going. rw going (tiles_lexed (left_in r.marks r.tag r.front r.trim r.rest) (is_open r.tag) r.front r.rest (tile_in r.marks valid r.tag r.front r.trim r.rest)))
+    (cases_Bool r.failed)
+
+-- behind the first of them too
+pub lexed_behind : (t : Tok) (span : Span) (items : Items) → AreLexed (Token t span items) → AreLexed items
+lexed_behind t span items lexed = record { numbers = numbers_behind t lexed.numbers; inside = in_tag_behind lexed.inside t; nested = lexed.nested.1 }
+  where
+    numbers_behind : (t : Tok) → EachNumber IsCount (Token t span items) → EachNumber IsCount items
+    numbers_behind (Integer n) each = each.1
+    numbers_behind t each = each
 
 -- a fault is no token
 pub size_count : (items : Items) → size items ≤ item_count items

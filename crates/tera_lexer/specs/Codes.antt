@@ -1,8 +1,9 @@
--- The position of a cursor as numbers and lists, by which a proof tells two of them apart.
+-- What a `Tokens` and a `Cursor` have left as numbers and lists, by which a proof tells two of them apart.
 use Rattle.std.specs.Prelude.{◌≡◌, ℕ, zero, suc, ℤ, pos, Bool, true, false, List, [], ◌∷◌, Option, Some, None, refl}
 use Rattle.std.specs.Coded.{Coded, code_by, coded×, coded_ℕ, coded_ℤ, coded_bool, coded_list, coded_option}
 use Rattle.tera_base.specs.declared.utils.Span.{Span}
 use Rattle.tera_lexer.specs.Tokens.{Tok, Content, RawContent, Remark, Start, Finish, Ident, Str, Escaped, Integer, Truth, Symbol, Items, Ended, Failed, Token}
+use Rattle.tera_lexer.specs.Stream.{Stream}
 use Rattle.tera_lexer.specs.Cursors.{Position}
 use Rattle.tera_lexer.specs.declared.lexer.delimiters.Kind.{Kind}
 use Rattle.tera_lexer.specs.declared.lexer.delimiters.Kind.TheVariants.{Variable, Block}
@@ -98,6 +99,11 @@ abbrev items_code : Coded Items
 items_code =
     code_by Listed (coded× (coded_list (coded× tok_code span_code)) (coded_option (coded× (coded_list coded_ℕ) span_code)))
     listed (λ p. items_by p.0 p.1) items_back
+
+abbrev pub stream_code : Coded Stream
+stream_code =
+    code_by (List ℕ × (Items × Option Items)) (coded× (coded_list coded_ℕ) (coded× items_code (coded_option items_code)))
+    (λ s. (s.source, (s.left, s.stopped))) (λ p. record { source = p.0; left = p.1.0; stopped = p.1.1 }) (λ _. refl)
 
 abbrev pub position_code : Coded Position
 position_code =

@@ -5,23 +5,31 @@ use Rattle.tera_base.specs.declared.errors.Error.{Error}
 use Rattle.tera_lexer.specs.Place.{IsWithin}
 use Rattle.tera_lexer.specs.Tokens as toks
 use Rattle.tera_lexer.specs.Tokens.{Items, Ended}
-use Rattle.tera_lexer.specs.State.{Reading}
-use Rattle.tera_lexer.specs.Left.{ahead_of, left_of}
-use Rattle.tera_lexer.specs.Steps.{whole_of, Stops}
+use Rattle.tera_lexer.specs.Lexed.{AreLexed}
+use Rattle.tera_lexer.specs.Stream.{Stream}
+use Rattle.tera_lexer.specs.Steps.{Stops}
 use Rattle.tera_lexer.specs.Seen.{seen}
 use Rattle.tera_lexer.specs.Cursors.{Position, size}
 use Rattle.tera_lexer.specs.declared.lexer.tokens.Token.{Token}
 use Rattle.tera_lexer.specs.declared.lexer.cursor.Cursor.TheInside.{Inside}
 
--- an item that was read ahead: a token comes before what follows; where reading stopped, what it stopped at
+-- what reading stopped before, where it did
+abbrev pub items_or_end : Option Items → Items
+items_or_end None = Ended
+items_or_end (Some items) = items
+
+abbrev pub stopped_before : Stream → Items
+stopped_before s = items_or_end s.stopped
+
+-- an item that was read ahead: a token comes before what follows; where reading stopped, what it stopped before
 -- comes; and where there was none, only what follows
 abbrev pub with_item : Items → Option (Result (Token × Span) Error) → Items → Items
 with_item stopped None items = items
 with_item stopped (Some (Ok p)) items = toks.Token (seen p.0) p.1 items
 with_item stopped (Some (Err e)) items = stopped
 
-abbrev pub left_behind : Reading → Option (Result (Token × Span) Error) → Option (Result (Token × Span) Error) → Items
-left_behind r first second = with_item (ahead_of r) first (with_item (ahead_of r) second (left_of r))
+abbrev pub left_behind : Stream → Option (Result (Token × Span) Error) → Option (Result (Token × Span) Error) → Items
+left_behind s first second = with_item (stopped_before s) first (with_item (stopped_before s) second s.left)
 
 -- a token that was read ahead can be shown
 abbrev pub in_sight : Option (Result (Token × Span) Error) → ℕ → ℕ
@@ -31,19 +39,19 @@ in_sight (Some (Err e)) n = 0
 
 abbrev pub position_of : Inside → Position
 position_of c = record {
-  source = whole_of c.tokens;
+  source = c.tokens.source;
   left = left_behind c.tokens c.first c.second;
   sight = in_sight c.first (in_sight c.second 0);
   taken = c.taken;
   span = c.current_span;
 }
 
--- an item that was read ahead of this place: a token lies in the source; reading stopped at what is told; and
+-- an item that was read ahead of what is left: a token lies in the source; reading stopped at what is told; and
 -- where there was none, or reading stopped, nothing more is given
-abbrev pub IsReadAhead : Reading → Option (Result (Token × Span) Error) → Type 0
-IsReadAhead r None = left_of r ≡ Ended
-IsReadAhead r (Some (Ok p)) = IsWithin (whole_of r) p.1
-IsReadAhead r (Some (Err e)) = (left_of r ≡ Ended) × Stops (whole_of r) (ahead_of r) e
+abbrev pub IsReadAhead : Stream → Option (Result (Token × Span) Error) → Type 0
+IsReadAhead s None = s.left ≡ Ended
+IsReadAhead s (Some (Ok p)) = IsWithin s.source p.1
+IsReadAhead s (Some (Err e)) = (s.left ≡ Ended) × Stops s.source (stopped_before s) e
 
 -- behind an item that is no token none was read
 abbrev pub Follows : Option (Result (Token × Span) Error) → Option (Result (Token × Span) Error) → Type 0
@@ -55,9 +63,10 @@ pub record AreReadAhead (c : Inside) : Type 0 where
   pub first : IsReadAhead c.tokens c.first
   pub second : IsReadAhead c.tokens c.second
   pub follows : Follows c.first c.second
-  pub count : c.taken + size (left_behind c.tokens c.first c.second) ≤ length (whole_of c.tokens)
-  pub fits : length (whole_of c.tokens) < 2 ^ 64
-  pub span : IsWithin (whole_of c.tokens) c.current_span
+  pub tokens : AreLexed (left_behind c.tokens c.first c.second)
+  pub count : c.taken + size (left_behind c.tokens c.first c.second) ≤ length c.tokens.source
+  pub fits : length c.tokens.source < 2 ^ 64
+  pub span : IsWithin c.tokens.source c.current_span
 
 -- the token of an item that was read ahead, with its span
 abbrev pub IsShown : Option (Result (Token × Span) Error) → Option (Token × Span) → Type 0

@@ -1,5 +1,5 @@
 -- What a cursor has left, what it shows, and which faults it meets.
-use Rattle.std.specs.Prelude.{◌≡◌, ◌⊎◌, ℕ, zero, suc, ◌+◌, ◌<◌, Bool, true, false, List, Option, Some, None, Result, Ok, Err, codes}
+use Rattle.std.specs.Prelude.{◌≡◌, ◌⊎◌, ◌↔◌, ℕ, zero, suc, ◌+◌, ◌<◌, Bool, true, false, List, Option, Some, None, Result, Ok, Err, codes}
 use Rattle.tera_base.specs.Errors.{Tells, TellsBy, end_of}
 use Rattle.tera_base.specs.declared.utils.Span.{Span}
 use Rattle.tera_base.specs.declared.errors.Error.{Error}
@@ -52,9 +52,9 @@ is_end Ended = true
 is_end (Failed text span) = false
 is_end (toks.Token t span items) = false
 
--- the cursor goes on in the same source
-abbrev pub Keeps : Position → Position → Type 0
-Keeps old new = (new.source ≡ old.source) × (new.taken ≡ old.taken) × (new.span ≡ old.span)
+-- behind the token that was taken the next is shown where it was
+abbrev pub KeepsSight : Position → Position → Type 0
+KeepsSight old new = (1 < old.sight) ↔ (0 < new.sight)
 
 -- the next token was taken; or none is left; or the fault is told, or no memory was found for the next
 -- token, after which none is left
@@ -62,8 +62,8 @@ abbrev pub Takes : Position → Result (Option (Token × Span)) Error → Positi
 Takes old (Ok None) new = (old.left ≡ Ended) × (new ≡ old)
 Takes old (Ok (Some p)) new =
     (0 < old.sight) × (old.left ≡ toks.Token (seen p.0) p.1 new.left) × IsWithin old.source p.1
-    × (new.source ≡ old.source) × (new.taken ≡ old.taken + 1) × (new.span ≡ p.1)
-Takes old (Err e) new = (old.sight ≡ 0) × Stops old.source old.left e × (new.left ≡ Ended) × Keeps old new
+    × (new.source ≡ old.source) × (new.taken ≡ old.taken + 1) × (new.span ≡ p.1) × KeepsSight old new
+Takes old (Err e) new = (old.sight ≡ 0) × Stops old.source old.left e × (new ≡ record old { left = Ended })
 
 -- the range of the token at this span, with the place where it ends
 abbrev pub IsAt : Span → Span → Type 0
@@ -77,21 +77,28 @@ FaultsFrom last items text span = IsAt last span ⊎ Faults items text span
 abbrev pub RefusesFrom : Position → Error → Type 0
 RefusesFrom old e = TellsBy (λ text span. IsWithin old.source span × FaultsFrom old.span old.left text span) e
 
--- a cursor went on over tokens: a fault that it meets from here on is one that it meets from there on
-abbrev pub IsLater : Position → Position → Type 0
-IsLater old new =
-    (new.source ≡ old.source)
-    × ((text : List ℕ) (span : Span) → FaultsFrom new.span new.left text span → FaultsFrom old.span old.left text span)
+-- these tokens were taken up to those, so many, and the last span is now that of the last of them
+abbrev pub Passes : ℕ → Items → Span → Items → Span → Type 0
+Passes zero items last left span = (left ≡ items) × (span ≡ last)
+Passes (suc n) Ended last left span = ⊥
+Passes (suc n) (Failed text here) last left span = ⊥
+Passes (suc n) (toks.Token t here items) last left span = Passes n items here left span
 
--- no token was taken: none is left, which is the end of the input behind the token at this span; or reading
--- stopped
-abbrev pub TellsEnd : Position → Error → Type 0
-TellsEnd old e = ((old.left ≡ Ended) × Tells (codes "Unexpected end of input") (end_of old.span) e) ⊎ Stops old.source old.left e
+-- a cursor took some tokens, or none
+pub record IsLater (old new : Position) : Type 0 where
+  pub count : ℕ
+  pub source : new.source ≡ old.source
+  pub taken : new.taken ≡ old.taken + count
+  pub passes : Passes count old.left old.span new.left new.span
 
--- a cursor took the next token, or told that there is none
+-- none is left, which is the end of the input behind the token taken last
+abbrev pub MeetsEnd : Position → Error → Position → Type 0
+MeetsEnd old e new = (old.left ≡ Ended) × Tells (codes "Unexpected end of input") (end_of old.span) e × (new ≡ old)
+
+-- a cursor took the next token, or told that there is none, or that reading stopped
 abbrev pub TakesOne : Position → Result (Token × Span) Error → Position → Type 0
 TakesOne old (Ok p) new = Takes old (Ok (Some p)) new
-TakesOne old (Err e) new = TellsEnd old e
+TakesOne old (Err e) new = MeetsEnd old e new ⊎ Takes old (Err e) new
 
 -- a syntax error at this span, unless no memory was found
 abbrev pub TellsAt : Span → Error → Type 0

@@ -7,6 +7,7 @@ use Rattle.tera_lexer.specs.Trimming.{ends_dashed, trims_end}
 use Rattle.tera_lexer.specs.Tokens.{Items, Ended, Failed, Token, lexemes, finished, failed, piece_tokens, ending_tokens}
 use Rattle.tera_lexer.specs.Front.{inside_of, division_of}
 use Rattle.tera_lexer.specs.State.{Reading}
+use Rattle.tera_lexer.specs.Stream.{Stream}
 use Rattle.tera_lexer.specs.declared.lexer.delimiters.Kind.{Kind}
 
 -- before the first token
@@ -55,6 +56,14 @@ ahead_of r = left_in r.marks r.tag r.front r.trim r.rest
 -- those that are still given: none after a fault
 abbrev pub left_of : Reading → Items
 left_of r = if r.failed then Ended else ahead_of r
+
+-- the whole source
+abbrev pub whole_of : Reading → List ℕ
+whole_of r = r.front ++ r.rest
+
+-- what a reading still gives
+abbrev pub stream_of : Reading → Stream
+stream_of r = record { source = whole_of r; left = left_of r; stopped = if r.failed then Some (ahead_of r) else None }
 
 -- how many items that are: a fault is one too
 abbrev pub item_count : Items → ℕ

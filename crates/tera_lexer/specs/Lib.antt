@@ -6,9 +6,11 @@ pub mod Division
 pub mod Trimming
 pub mod Tokens
 pub mod Tiling
+pub mod Lexed
 pub mod Faults
 pub mod Front
 pub mod State
+pub mod Stream
 pub mod Left
 pub mod Seen
 pub mod Found

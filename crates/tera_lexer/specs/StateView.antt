@@ -4,7 +4,7 @@ use Rattle.std.specs.Str.{IsCharBoundary}
 use Rattle.tera_lexer.specs.Marks.{marks_of, IsValid}
 use Rattle.tera_lexer.specs.Place.{place_after}
 use Rattle.tera_lexer.specs.State.{Reading}
-use Rattle.tera_lexer.specs.declared.lexer.lexer.Tokens.TheInside.{Inside}
+use Rattle.tera_lexer.specs.declared.lexer.reader.Reader.TheInside.{Inside}
 
 abbrev pub reading_of : Inside → Reading
 reading_of t = record {

@@ -1,24 +1,15 @@
--- A step of a reading.
+-- A step over the tokens of a source.
 use Rattle.std.specs.Prelude.{◌≡◌, ℕ, List, ◌++◌, Option, Some, None, Result, Ok, Err, slice_range}
 use Rattle.tera_lexer.specs.Place.{IsWithin}
 use Rattle.tera_lexer.specs.Tokens as toks
 use Rattle.tera_lexer.specs.Tokens.{Tok, Items, Ended, Failed, Content, Escaped}
 use Rattle.tera_lexer.specs.Tiling.{Shows}
 use Rattle.tera_base.specs.Errors.{IsMemory, Tells}
-use Rattle.tera_lexer.specs.State.{Reading}
-use Rattle.tera_lexer.specs.Left.{ahead_of, left_of}
+use Rattle.tera_lexer.specs.Stream.{Stream}
 use Rattle.tera_lexer.specs.Seen.{seen}
 use Rattle.tera_base.specs.declared.utils.Span.{Span}
 use Rattle.tera_base.specs.declared.errors.Error.{Error}
 use Rattle.tera_lexer.specs.declared.lexer.tokens.Token.{Token}
-
--- the whole source
-abbrev pub whole_of : Reading → List ℕ
-whole_of r = r.front ++ r.rest
-
--- the reading goes on in the same source
-abbrev pub GoesOn : Reading → Reading → Type 0
-GoesOn old new = (new.marks ≡ old.marks) × (whole_of new ≡ whole_of old)
 
 -- the token takes memory: it is a string with an escape
 abbrev pub TakesMemory : Tok → Type 0
@@ -45,9 +36,11 @@ StandsIn t bytes = Shows t bytes
 abbrev pub StandsAt : List ℕ → Tok → Span → Type 0
 StandsAt source t span = IsWithin source span × StandsIn t (slice_range source span.range.start span.range.end)
 
--- the first of the tokens that are left was taken; or they end; or reading stops, after which none is given
-abbrev pub Steps : Reading → Option (Result (Token × Span) Error) → Reading → Type 0
-Steps old None new = (new ≡ old) × (left_of old ≡ Ended)
-Steps old (Some (Ok p)) new = (left_of old ≡ toks.Token (seen p.0) p.1 (left_of new)) × GoesOn old new × StandsAt (whole_of old) (seen p.0) p.1
+-- the first of the tokens that are left was taken; or they end; or reading stopped before those that were left,
+-- and none is left
+abbrev pub Steps : Stream → Option (Result (Token × Span) Error) → Stream → Type 0
+Steps old None new = (new ≡ old) × (old.left ≡ Ended)
+Steps old (Some (Ok p)) new =
+    (old.left ≡ toks.Token (seen p.0) p.1 new.left) × (new ≡ record old { left = new.left }) × StandsAt old.source (seen p.0) p.1
 Steps old (Some (Err e)) new =
-    (left_of new ≡ Ended) × (left_of old ≡ ahead_of new) × GoesOn old new × Stops (whole_of old) (ahead_of new) e
+    (new ≡ record { source = old.source; left = Ended; stopped = Some old.left }) × Stops old.source old.left e

@@ -6,4 +6,5 @@ mod lexeme;
 pub mod lexer;
 mod markers;
 mod place;
+mod reader;
 pub mod tokens;

@@ -1,9 +1,8 @@
 //! A cursor over the tokens of a source.
 
-ghost use Rattle.std.specs.Prelude.{◌≡◌, ◌≤◌, IfOk, IfErr, MatchOption, length, codes};
+ghost use Rattle.std.specs.Prelude.{◌≡◌, ◌<◌, ◌≤◌, IfOk, IfErr, MatchOption, length, codes};
 ghost use Rattle.tera_lexer.specs.Place.{IsWithin};
-ghost use Rattle.tera_lexer.specs.Left.{left_of};
-ghost use Rattle.tera_lexer.specs.Steps.{whole_of};
+ghost use Rattle.tera_lexer.specs.Lexed.{AreLexed};
 ghost use Rattle.tera_lexer.specs.Seen.{seen};
 ghost use Rattle.std.specs.Option.{option_map};
 ghost use Rattle.tera_lexer.specs.CursorView.{IsShown};
@@ -49,10 +48,12 @@ impl<'a> Cursor<'a> {
 
     /// A cursor before the next of the tokens. The next two are read.
     pub fn new(tokens: Tokens<'a>) -> Cursor<'a>
-        ensures source { result.source ≡ whole_of tokens.entry }
-        ensures left { result.left ≡ left_of tokens.entry }
+        ensures source { result.source ≡ tokens.entry.source }
+        ensures left { result.left ≡ tokens.entry.left }
         ensures taken { result.taken ≡ 0 }
         ensures span { result.span ≡ nowhere }
+        ensures sight { SeesTwo result }
+        ensures tokens { AreLexed result.left }
     {
         let alloc = tokens.alloc();
         let mut tokens = tokens;
@@ -70,11 +71,13 @@ impl<'a> Cursor<'a> {
 
     /// Takes the next token; `None` is the end of the tokens.
     ///
-    /// An error is that of the tokens: the lexical fault, or `Memory` at a string with escapes. After an error
-    /// none is left.
+    /// An error is that of the tokens: the lexical fault, or `Memory` at a string with escapes or where the
+    /// fault finds none. A token that `first` showed is taken without an error. After an error none is left.
     pub fn next(&mut self) -> Result<Option<(Token<'a>, Span)>, Error>
         ensures takes { Takes self.old result self.new }
+        ensures sight { SeesTwo self.new }
         ensures count { self.new.taken ≤ length self.new.source }
+        ensures tokens { AreLexed self.old.left }
     {
         let third = self.tokens.next();
         let second = mem::replace(&mut self.second, third);
@@ -91,8 +94,9 @@ impl<'a> Cursor<'a> {
 
     /// The next token. There is none at the end, at a fault, and where no memory was found for it.
     pub fn first(&self) -> Option<&Token<'a>>
-        ensures shows { MatchOption result (self.now.sight ≡ 0) (λ t. FirstIs self.now.left (seen t.now)) }
+        ensures shows { MatchOption result (self.now.sight ≡ 0) (λ t. (0 < self.now.sight) × FirstIs self.now.left (seen t.now)) }
         ensures sight { SeesTwo self.now }
+        ensures tokens { AreLexed self.now.left }
     {
         let (token, _) = shown(&self.first)?;
         Some(token)
@@ -100,7 +104,7 @@ impl<'a> Cursor<'a> {
 
     /// The token behind the next one. There is none where either is not shown.
     pub fn second(&self) -> Option<&Token<'a>>
-        ensures shows { MatchOption result (self.now.sight ≤ 1) (λ t. SecondIs self.now.left (seen t.now)) }
+        ensures shows { MatchOption result (self.now.sight ≤ 1) (λ t. (1 < self.now.sight) × SecondIs self.now.left (seen t.now)) }
         ensures sight { SeesTwo self.now }
     {
         let _ = shown(&self.first)?;
@@ -108,9 +112,10 @@ impl<'a> Cursor<'a> {
         Some(token)
     }
 
-    /// The span of the next token, where that is shown.
+    /// The span of the next token, where `first` shows that.
     pub fn first_span(&self) -> Option<&Span>
-        ensures { MatchOption result (self.now.sight ≡ 0) (λ s. FirstStandsAt self.now.left s.now × IsWithin self.now.source s.now) }
+        ensures shows { MatchOption result (self.now.sight ≡ 0) (λ s. (0 < self.now.sight) × FirstStandsAt self.now.left s.now × IsWithin self.now.source s.now) }
+        ensures sight { SeesTwo self.now }
     {
         let (_, span) = shown(&self.first)?;
         Some(span)
@@ -140,8 +145,11 @@ impl<'a> Cursor<'a> {
     }
 
     /// Takes the next token, where one has to come: that none does is the end of the input.
+    ///
+    /// An error is that of `next`, after which none is left, or the end of the input, at which the cursor stays.
     pub fn next_or_eoi(&mut self) -> Result<(Token<'a>, Span), Error>
         ensures takes { TakesOne self.old result self.new }
+        ensures tokens { AreLexed self.old.left }
         ensures later { IfOk result (λ _. IsLater self.old self.new) }
         ensures refusal { IfErr result (RefusesFrom self.old) }
     {

@@ -4,7 +4,7 @@ ghost use Rattle.tera_lexer.specs.Rules.{Checks, two_bytes, differ};
 
 use std::alloc::{AllocError, Global};
 use std::borrow::CowStr;
-use tera_base::{Error, ErrorKind};
+use tera_base::Error;
 
 /// The six markers between which a template's tags stand.
 ///
@@ -113,9 +113,7 @@ fn check_two_bytes(alloc: Global, name: &str, marker: &str) -> Result<(), Error>
         return Ok(());
     }
     let text = format!(in alloc; "`{name}` delimiter must be 2 bytes long")?;
-    Err(Error {
-        kind: ErrorKind::Message(text),
-    })
+    Err(Error::message(alloc, text.as_str()))
 }
 
 // Whether the markers of these names differ.
@@ -132,7 +130,5 @@ fn check_differ(
         return Ok(());
     }
     let text = format!(in alloc; "`{name}` and `{other}` cannot have the same value")?;
-    Err(Error {
-        kind: ErrorKind::Message(text),
-    })
+    Err(Error::message(alloc, text.as_str()))
 }

@@ -1,9 +1,9 @@
 //! Where markers stand.
 
-ghost use Rattle.std.specs.Prelude.{◌≡◌, ◌≤◌, ◌∷◌, ◌+◌, false, IfSome, length, take, drop, get_or};
+ghost use Rattle.std.specs.Prelude.{◌≡◌, ◌≤◌, ◌∷◌, ◌+◌, false, Some, IfSome, MatchOption, length, take, drop, get_or};
 ghost use Rattle.std.specs.Bool.{OnTrue};
 ghost use Rattle.std.specs.Str.{IsCharBoundary};
-ghost use Rattle.memchr.specs.Find.{IsFirstByte, FindsNeedle, is_byte3};
+ghost use Rattle.memchr.specs.Find.{IsFirstByte, FindsNeedle, Nowhere, OccursAt, is_byte3};
 ghost use Rattle.tera_lexer.specs.Marks.{marks_of, AreTexts, IsValid, begins, NowhereIn, dash_bytes};
 ghost use Rattle.tera_lexer.specs.Division.{is_at_start, EndsText};
 ghost use Rattle.tera_lexer.specs.Front.{find_marker, gap_len, word_tag_at, raw_end};
@@ -135,7 +135,37 @@ pub(crate) fn find_marker(bytes: &[u8], marker: &[u8]) -> Option<usize>
     requires { length marker.now ≡ 2 }
     ensures { result ≡ find_marker marker.now bytes.now }
 {
-    memmem::find(bytes, marker)
+    first_marker(bytes, marker)
+}
+
+// The same, where the marker stands. It is looked for nearby first, where the search would cost more.
+fn first_marker(bytes: &[u8], marker: &[u8]) -> Option<usize>
+    requires { length marker.now ≡ 2 }
+    ensures { FindsNeedle bytes.now marker.now 0 result }
+{
+    let near = bytes.len().min(16);
+    if let Some(at) = near_marker(bytes, near, marker) {
+        return Some(at);
+    }
+    let (_, far) = bytes.split_at(near);
+    match memmem::find(far, marker) {
+        Some(at) => Some(near + at),
+        None => None,
+    }
+}
+
+// Where the marker stands among the first places.
+fn near_marker(bytes: &[u8], near: usize, marker: &[u8]) -> Option<usize>
+    requires two { length marker.now ≡ 2 }
+    requires near { near ≤ length bytes.now }
+    ensures { MatchOption result (Nowhere (OccursAt bytes.now marker.now) 0 near) (λ i. FindsNeedle bytes.now marker.now 0 (Some i)) }
+{
+    for i in 0..near {
+        if begins(&bytes[i..], marker) {
+            return Some(i);
+        }
+    }
+    None
 }
 
 /// Whether the piece that begins the text begins with a dash. A tag is one even where it never ends or a fault
@@ -258,12 +288,9 @@ fn next_start(starts: &memmem::Finder<'_>, bytes: &[u8]) -> Option<usize>
     requires { length starts.now ≡ 2 }
     ensures { FindsNeedle bytes.now starts.now 0 result }
 {
-    let start = starts.needle();
     let near = bytes.len().min(2);
-    for i in 0..near {
-        if begins(&bytes[i..], start) {
-            return Some(i);
-        }
+    if let Some(at) = near_marker(bytes, near, starts.needle()) {
+        return Some(at);
     }
     let (_, far) = bytes.split_at(near);
     match starts.find(far) {

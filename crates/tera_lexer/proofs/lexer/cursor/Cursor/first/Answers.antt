@@ -1,14 +1,17 @@
-use Rattle.std.proofs.Common.{ap, sym, ◌∙◌}
-use Rattle.tera_lexer.specs.Left.{ahead_of, left_of}
+use Rattle.std.proofs.Common.{◌≡◌, suc, arith, ap, sym, ◌∙◌}
 use Rattle.tera_lexer.specs.Cursors.{Position}
-use Rattle.tera_lexer.specs.CursorView.{with_item, left_behind}
+use Rattle.tera_lexer.specs.CursorView.{stopped_before, with_item, left_behind, in_sight}
 use Rattle.tera_lexer.proofs.CursorSteps.{shown_is}
 use Rattle.tera_lexer.proofs.lexer.cursor.Cursor.first.Goals as goal
 
 pub returns-clause-shows : goal.returns-clause-shows
 returns-clause-shows c =
-    let first = shown_is c.self.inside.first c.in_ok-token.field-0.now c.in_ok-token.ensures in (
-      c.in_ok-token.field-0.now.1,
-      with_item (ahead_of c.self.inside.tokens) c.self.inside.second (left_of c.self.inside.tokens),
-      sym (ap (λ (p : Position). p.left) c.self.view_is) ∙ ap (λ o. left_behind c.self.inside.tokens o c.self.inside.second) first,
+    let first = shown_is c.self.inside.first c.in_ok-token.field-0.now c.in_ok-token.ensures in
+    let sight : in_sight c.self.inside.first (in_sight c.self.inside.second 0) ≡ suc (in_sight c.self.inside.second 0) = ap (λ o. in_sight o (in_sight c.self.inside.second 0)) first in (
+      omega (arith, sight, ap (λ (p : Position). p.sight) c.self.view_is),
+      (
+        c.in_ok-token.field-0.now.1,
+        with_item (stopped_before c.self.inside.tokens) c.self.inside.second c.self.inside.tokens.left,
+        sym (ap (λ (p : Position). p.left) c.self.view_is) ∙ ap (λ o. left_behind c.self.inside.tokens o c.self.inside.second) first,
+      ),
     )

@@ -1,7 +1,6 @@
 use Rattle.std.proofs.Common.{◌≡◌, IsUtf8, ap, sym, subst, ◌∙◌, List, ℕ, ◌<◌, ◌^◌, length, arith}
 use Rattle.std.proofs.lemmas.Str.{IsCharBoundary-start}
-use Rattle.tera_lexer.specs.Left.{left_of}
-use Rattle.tera_lexer.specs.Steps.{whole_of}
+use Rattle.tera_lexer.specs.Lexed.{AreLexed}
 use Rattle.tera_lexer.specs.Cursors.{size}
 use Rattle.std.specs.Str.{IsCharBoundary}
 use Rattle.tera_lexer.specs.Place.{IsWithin}
@@ -24,15 +23,16 @@ pub invariant_of-result : goal.invariant_of-result
 invariant_of-result c =
     let on = further_is (goal.at.invariant_of-result c).After-next-second in
     let first = steps_whole c.args.tokens c.next-first.new.self c.next-first.result c.next-first.ensures.steps in
-    let whole : whole_of c.next-second.new.self ≡ whole_of c.args.tokens = on.whole ∙ first in
+    let whole : c.next-second.new.self.source ≡ c.args.tokens.source = on.whole ∙ first in
     let left = left_on c.args.tokens c.next-first.new.self c.next-first.result c.next-first.ensures.steps ∙ on.left in
     record {
       first = on.near;
       second = on.far;
       follows = on.follows;
-      count = omega (arith, ap size left, size_count (left_of c.args.tokens), c.alloc-alloc.ensures.count, ap length whole);
+      tokens = subst AreLexed left c.alloc-alloc.ensures.tokens;
+      count = omega (arith, ap size left, size_count c.args.tokens.left, c.alloc-alloc.ensures.count, ap length whole);
       fits = subst (λ (l : List ℕ). length l < 2 ^ 64) (sym whole) c.alloc-alloc.ensures.fits;
-      span = within (whole_of c.next-second.new.self) c.default.result (subst IsUtf8 (sym whole) c.alloc-alloc.ensures.text) c.default.ensures.1.1.1.1.0 c.default.ensures.1.1.1.1.1;
+      span = within c.next-second.new.self.source c.default.result (subst IsUtf8 (sym whole) c.alloc-alloc.ensures.text) c.default.ensures.1.1.1.1.0 c.default.ensures.1.1.1.1.1;
     }
 
 pub returns-clause-left : goal.returns-clause-left

@@ -1,6 +1,0 @@
-use Rattle.memchr.specs.Find.{Nowhere, OccursAt}
-use Rattle.tera_lexer.proofs.lexer.markers.next_start.Given as goal
-
--- none was passed
-abbrev pub invariant-loop-i : goal.invariant-loop-i
-invariant-loop-i l = Nowhere (OccursAt l.bytes l.starts) 0 l.i
