@@ -6,6 +6,7 @@ pub mod FoundParts
 pub mod FoundAtoms
 pub mod FoundLoop
 pub mod Unrolled
+pub mod Stack
 pub mod ReadRows
 pub mod ReadParts
 pub mod Complete

@@ -14,3 +14,4 @@ pub mod Loops
 pub mod Paths
 pub mod Trees
 mod Examples
+pub mod Numbers

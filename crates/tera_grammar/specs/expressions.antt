@@ -6,6 +6,8 @@ pub mod Measures
 pub mod Spans
 pub mod Output
 pub mod Conditions
-pub mod Constants
 pub mod Companions
+pub mod Ends
+pub mod Constants
 pub mod Reading
+pub mod Stack

@@ -8,5 +8,5 @@ pub mod Grammar
 pub mod Output
 pub mod Top
 pub mod Reading
-pub mod Loops
 pub mod Trees
+pub mod Constants

@@ -5,7 +5,8 @@ ghost use Rattle.tera_lexer.specs.Marks.{Marks, IsValid};
 ghost use Rattle.tera_lexer.specs.Tokens.{Items, Ended};
 ghost use Rattle.tera_base.specs.Values.{Vals, Pairs};
 ghost use Rattle.tera_grammar.specs.expressions.Concrete.{Tree, Attributes, yield, attributes_yield};
-ghost use Rattle.tera_grammar.specs.expressions.Conditions.{IsExpression, AreArgs, AreAttributes, IsStop};
+ghost use Rattle.tera_grammar.specs.expressions.Conditions.{IsExpression, AreArgs, AreAttributes};
+ghost use Rattle.tera_grammar.specs.expressions.Ends.{IsStop, EndsAttributes, EndsFilter, EndsPath};
 ghost use Rattle.tera_grammar.specs.Limits.{Limits};
 ghost use Rattle.tera_grammar.specs.expressions.Measures.{Within, EachRow, EachAttribute};
 ghost use Rattle.tera_grammar.specs.expressions.Companions.{
@@ -22,10 +23,9 @@ ghost use Rattle.tera_grammar.specs.expressions.Companions.{
   ArrayWithin,
   map_yield,
   IsMap,
-  EndsAttributes,
-  EndsFilter,
-  EndsPath,
 };
+ghost use Rattle.tera_grammar.specs.expressions.Output.{output};
+ghost use Rattle.tera_grammar.specs.expressions.Constants.{IsLiteralNumber, EachNumber, EachConstant};
 ghost use Rattle.tera_grammar.specs.expressions.Reading.Whole.{
   expression_of,
   kwargs_of,
@@ -36,7 +36,9 @@ ghost use Rattle.tera_grammar.specs.expressions.Reading.Whole.{
   literal_map_of,
 };
 ghost use Rattle.tera_tree.specs.Tree.{Output};
+ghost use Rattle.tera_grammar.specs.statements.Constants.{EachOfOutput};
 ghost use Rattle.tera_grammar.specs.statements.Grammar.{Body};
+ghost use Rattle.tera_grammar.specs.statements.Output.{output_of};
 ghost use Rattle.tera_grammar.specs.statements.Reading.{template};
 ghost use Rattle.tera_grammar.specs.statements.Top.{IsTemplate, Derives};
 ghost use Rattle.tera_grammar.specs.statements.Trees.{IsRight};
@@ -128,6 +130,18 @@ pub fn literal_maps()
     ensures unique { (one other : Opened) (pairs others : Pairs) (rest last : Items) →
         IsMap one pairs → IsMap other others →
         map_yield one rest ≡ map_yield other last → (one ≡ other) × (pairs ≡ others) × (rest ≡ last) }
+{}
+
+/// Each number among the constants of an expression, and of a template, is a number of its tokens or the negation of
+/// one. So where these are at most the greatest `i64`, as those of every source are, each is greater than the least
+/// `i64`, and no minus overflows.
+pub fn constants()
+    ensures of_expressions { (in_loop : Bool) (e : Tree) (rest : Items) → EachNumber IsLiteralNumber (yield e rest) →
+        EachConstant IsLiteralNumber (output in_loop e) }
+    ensures of_templates { (l : Limits) (items : Items) (b : Body) → IsTemplate l items b → EachNumber IsLiteralNumber items →
+        EachOfOutput IsLiteralNumber (output_of b) }
+    ensures of_sources { (l : Limits) (m : Marks) → IsValid m → (source : List ℕ) (output : Output) →
+        Derives l m source output → EachOfOutput IsLiteralNumber output }
 {}
 
 /// A template is read from its tokens, and what is read from tokens is a template of them.

@@ -6,17 +6,17 @@ use Rattle.tera_lexer.specs.Tokens.{Items, Token, Ident}
 use Rattle.tera_lexer.specs.Cursors.{size}
 use Rattle.tera_grammar.specs.expressions.Operators.{BinaryOperator, Mul, Div, Mod, Plus, Minus, FloorDiv, Power, LessThan, GreaterThan, LessThanOrEqual, GreaterThanOrEqual, Equal, NotEqual, And, Or, StrConcat, In}
 use Rattle.tera_grammar.specs.expressions.Marks.{Mark, RightParen, LeftBracket, RightBracket, RightBrace, Comma, Colon, Dot, Spread, Not, If, Else, For, Operation, mark_token, mark}
-use Rattle.tera_grammar.specs.expressions.Concrete.{Name, Sign, Negative, Negates, plainly, negated, Second, Op, Single, NotIn, Kind, of_arguments, of_items, of_entries, Tree, Atomic, Prefix, Suffixed, Infix, Atom, Literal, Chain, Call, Paren, Array, Comprehension, Map, Component, Links, no_links, field, item, Sub, index, slice, Part, absent, present, Extra, no_extra, extra, Row, ended, only, then, Element, plain, spread, pair, argument, Attributes, no_attributes, bare, quoted, valued, spreading, Suffix, Test, Filter, Subscript, Args, no_args, args, Operator, Binary, Condition, literal_token, named, joint_yield, bracket_yield, negation_yield, second_yield, yield, atom_yield, links_yield, sub_yield, part_yield, extra_yield, row_yield, attributes_yield, suffix_yield, args_yield, operator_yield}
+use Rattle.tera_grammar.specs.expressions.Concrete.{Name, Sign, Negative, Negates, plainly, negated, Second, Op, Single, NotIn, Kind, of_arguments, of_items, of_entries, Tree, Atomic, Prefix, Suffixed, Infix, Atom, Literal, Nothing, Chain, Call, Paren, Array, Comprehension, Map, Component, Links, no_links, field, item, Sub, index, slice, Part, absent, present, Extra, no_extra, extra, Row, ended, only, then, Element, plain, spread, pair, argument, Attributes, no_attributes, bare, quoted, valued, spreading, Suffix, Test, Filter, Subscript, Args, no_args, args, Operator, Binary, Condition, literal_token, name_yield, joint_yield, bracket_yield, negation_yield, second_yield, yield, atom_yield, links_yield, sub_yield, part_yield, extra_yield, row_yield, attributes_yield, suffix_yield, args_yield, operator_yield}
 use Rattle.tera_grammar.specs.expressions.Powers.{right_of, op_right, left_power, right_power, sign_power, AtLeast, Above, Carries}
 use Rattle.tera_grammar.specs.Words.{is_not, AreDistinct}
-use Rattle.tera_grammar.specs.expressions.Conditions.{AreVariables, names, is_refused, IsExpression, IsAtom, AreLinks, IsSub, IsPart, IsExtra, IsRow, IsElement, AreAttributes, IsSuffix, AreArgs, IsOperator}
+use Rattle.tera_grammar.specs.expressions.Conditions.{AreVariables, argument_names, is_refused, IsExpression, IsAtom, AreLinks, IsSub, IsPart, IsExtra, IsRow, IsElement, AreAttributes, IsSuffix, AreArgs, IsOperator}
 use Rattle.tera_grammar.specs.expressions.Measures.{deep, atom_deep, links_deep, sub_deep, part_deep, extra_deep, row_deep, element_deep, attributes_deep, suffix_deep, args_deep, operator_deep, openings, subscripts, arrays, links, atom_links, links_links, sub_links, part_links, extra_links, row_links, attributes_links, suffix_links, args_links, operator_links, EachElement, EachRow, EachAttribute}
 use Rattle.tera_grammar.specs.expressions.Output.{of_loop}
 use Rattle.tera_grammar.specs.Options.{◌>>=◌}
 use Rattle.tera_grammar.specs.expressions.Reading.Front.{Place, at, Reads, same_token, takes, skip, no_link, link_of, Lead, leads_binary, leads_condition, ends_test, ends_filter, ends_subscript, Front, nothing, joins, closes, misplaced, lead_power, keeps_out, front, head_mark}
 use Rattle.tera_grammar.specs.expressions.Reading.Parts.{Room, room, extra_of, part_of, slice_of, sub_at, sub_of, row_of, arguments_of, args_of, links_by, links_of, attributes_of}
 use Rattle.tera_grammar.specs.expressions.Reading.Atoms.{array_at, head_of}
-use Rattle.tera_grammar.specs.expressions.Reading.Loop.{operator_of, test_at, suffix_in, by_operator, by_suffix, join_of, close_of, step, go_on, expr, loop}
+use Rattle.tera_grammar.specs.expressions.Reading.Loop.{operator_of, test_at, suffix_in, by_operator, by_suffix, grow, join_of, close_of, step, go_on, expr, loop_with, loop}
 use Rattle.tera_grammar.proofs.expressions.Fronts.{skip_mark, skip_past, bump_read, name_read, lead_tokens, front_lead, front_ending, apart_lead, apart_test, apart_filter, ends_mark}
 use Rattle.tera_grammar.proofs.expressions.Quiet.{StopsAt, Stops, QuietAtom, QuietArgs, QuietSuffix, Quiet, Quiet-above, Quiet-ends, ends_stops, Quiet-closed}
 use Rattle.tera_grammar.proofs.expressions.Longer.{longer_joint, longer_bracket, longer_sub}
@@ -24,7 +24,7 @@ use Rattle.tera_grammar.proofs.expressions.FoundRows.{row_toll_links, attributes
 use Rattle.tera_grammar.proofs.expressions.FoundLoop.{ending_of}
 use Rattle.tera_grammar.proofs.expressions.Unrolled.{loop_steps}
 use Rattle.tera_grammar.proofs.expressions.ReadRows.{Whole, Bars, free, NoAttribute, dotted_read, row_read, arguments_read, attributes_read}
-use Rattle.tera_grammar.proofs.expressions.ReadParts.{EachPart, within, extra_read, no_extra_read, part_read, slice_read, index_read, start_read, sub_read, no_args_read, args_read, no_links_read, field_read, item_link_read, prefix_read, sign_head, paren_read, map_read, array_head, array_row, comprehension_read, component_read, literal_head_read, chain_read, call_read, chain_open, plain_to}
+use Rattle.tera_grammar.proofs.expressions.ReadParts.{EachPart, within, extra_read, no_extra_read, part_read, slice_read, index_read, start_read, sub_read, no_args_read, args_read, no_links_read, field_read, item_link_read, prefix_read, sign_head, paren_read, map_read, array_head, array_row, comprehension_read, component_read, literal_head_read, nothing_read, chain_read, call_read, chain_open, plain_to}
 
 -- what is this deep fits where so many expressions may open, in some room
 abbrev pub Fits : ℕ → Room → ℕ → ℕ → ℕ → Type 0
@@ -58,12 +58,12 @@ step_stops_at d w m k (closes (ends_subscript s) us) h = absurd h
 step_stops_at d w m k misplaced h = rw (lt-ltb _ _ h)
 
 pub loop_stops : (d : ℕ) (w : Room) (m : ℕ) (l : Tree) (p : Place) → Stops m p.tokens → loop d w m l p ≡ Some (l, p)
-loop_stops d w m l p h = loop_steps d w m l p ∙ ap (λ o. o >>= λ g. go_on (loop d w m) l p g)
+loop_stops d w m l p h = loop_steps d w m l p ∙ ap (λ o. o >>= λ g. go_on grow (loop d w m) l p g)
     (step_stops_at d w m p.links (front p.tokens) h)
 
 head_done : (d : ℕ) (w : Room) (m : ℕ) (p : Place) (t : Tree) (q : Place) → head_of (expr d) w p ≡ Some (t, q)
     → expr (suc d) w m p ≡ loop d w m t q
-unfolding expr loop
+unfolding expr loop_with
 head_done d w m p t q h = ap (λ o. o >>= λ x. loop d w m x.0 x.1) h
 
 lead_of : Operator → Lead
@@ -75,8 +75,8 @@ operator_rest (Binary o) r = r
 operator_rest (Condition s c t) r = yield c (mark Else t r)
 
 suffix_rest : Suffix → Items → Items
-suffix_rest (Test s n x g) r = negation_yield n (named x (args_yield g r))
-suffix_rest (Filter s x g) r = named x (args_yield g r)
+suffix_rest (Test s n x g) r = negation_yield n (name_yield x (args_yield g r))
+suffix_rest (Filter s x g) r = name_yield x (args_yield g r)
 suffix_rest (Subscript s b) r = sub_yield b r
 
 suffix_cost : Suffix → ℕ
@@ -103,10 +103,10 @@ lead_power_is (Condition s c t) = refl
 -- what stands behind an operand lets it end
 before_suffix : (a : Tree) (s : Suffix) (r : Items) → Carries a s → Quiet a (suffix_yield s r)
 before_suffix a (Test s n x g) r h =
-    Quiet-above a 5 _ (λ m k. subst (StopsAt m) (sym (front_ending (ends_test s) (negation_yield n (named x (args_yield g r))))) k)
+    Quiet-above a 5 _ (λ m k. subst (StopsAt m) (sym (front_ending (ends_test s) (negation_yield n (name_yield x (args_yield g r))))) k)
     (apart_test s _) h
 before_suffix a (Filter s x g) r h = Quiet-above a 17 _ (λ m k. subst (StopsAt m)
-    (sym (front_ending (ends_filter s) (named x (args_yield g r)))) k) (apart_filter s _) h
+    (sym (front_ending (ends_filter s) (name_yield x (args_yield g r)))) k) (apart_filter s _) h
 before_suffix a (Subscript s b) r h = Quiet-closed a _ refl h.1 h.0
 
 before_lead : (a : Tree) (e : Lead) (us : Items) → Above (lead_power e) a → Quiet a (lead_tokens e us)
@@ -133,8 +133,8 @@ goes_on_suffix : (d : ℕ) (w : Room) (m : ℕ) (a : Tree) (s : Suffix) (j k : �
     → loop d w m a (at (suc j) (suffix_yield s r)) ≡ loop d w m (Suffixed a s) (at k r)
 goes_on_suffix d w m a s j k r inside read =
     loop_steps d w m a _
-    ∙ ap (λ fr. step (expr d) w m (suc j) fr >>= λ g. go_on (loop d w m) a (at (suc j) (suffix_yield s r)) g) (front_suffix s r)
-    ∙ ap (λ o. o >>= λ g. go_on (loop d w m) a (at (suc j) (suffix_yield s r)) g)
+    ∙ ap (λ fr. step (expr d) w m (suc j) fr >>= λ g. go_on grow (loop d w m) a (at (suc j) (suffix_yield s r)) g) (front_suffix s r)
+    ∙ ap (λ o. o >>= λ g. go_on grow (loop d w m) a (at (suc j) (suffix_yield s r)) g)
     (step_suffix d w m s j k (suffix_rest s r) r inside read)
 
 step_operator : (d : ℕ) (w : Room) (m : ℕ) (o : Operator) (e : Tree) (i j k : ℕ) (us vs r : Items) → m ≤ lead_power (lead_of o)
@@ -150,28 +150,28 @@ goes_on_operator : (d : ℕ) (w : Room) (m : ℕ) (a : Tree) (o : Operator) (e :
     → loop d w m a (at i (operator_yield o (yield e r))) ≡ loop d w m (Infix a o e) (at k r)
 goes_on_operator d w m a o e i j k r inside read right fits =
     loop_steps d w m a _
-    ∙ ap (λ fr. step (expr d) w m i fr >>= λ g. go_on (loop d w m) a (at i (operator_yield o (yield e r))) g)
+    ∙ ap (λ fr. step (expr d) w m i fr >>= λ g. go_on grow (loop d w m) a (at i (operator_yield o (yield e r))) g)
     (front_operator o (yield e r))
-    ∙ ap (λ x. x >>= λ g. go_on (loop d w m) a (at i (operator_yield o (yield e r))) g)
+    ∙ ap (λ x. x >>= λ g. go_on grow (loop d w m) a (at i (operator_yield o (yield e r))) g)
     (step_operator d w m o e i j k (operator_rest o (yield e r)) (yield e r) r (subst (λ p. m ≤ p) (sym (lead_power_is o)) inside)
     read right fits)
 
 test_plain : (d : ℕ) (w : Room) (s : Span) (x : Name) (g : Args) (j k : ℕ) (us r : Items) → is_not x.text ≡ false
     → args_of (expr d) w (at j us) ≡ Some (g, at k r)
-    → suffix_in (expr d) w (ends_test s) (at j (named x us)) ≡ Some (Test s plainly x g, at k r)
+    → suffix_in (expr d) w (ends_test s) (at j (name_yield x us)) ≡ Some (Test s plainly x g, at k r)
 unfolding suffix_in
-test_plain d w s x g j k us r names h = ap (test_at (expr d) w s _) (skip_past Not j (Ident x.text) x.span us names)
+test_plain d w s x g j k us r argument_names h = ap (test_at (expr d) w s _) (skip_past Not j (Ident x.text) x.span us argument_names)
     ∙ rw (name_read x j us, h)
 
 test_negated : (d : ℕ) (w : Room) (s t : Span) (x : Name) (g : Args) (j k : ℕ) (us r : Items)
     → args_of (expr d) w (at j us) ≡ Some (g, at k r)
-    → suffix_in (expr d) w (ends_test s) (at j (mark Not t (named x us))) ≡ Some (Test s (negated t) x g, at k r)
+    → suffix_in (expr d) w (ends_test s) (at j (mark Not t (name_yield x us))) ≡ Some (Test s (negated t) x g, at k r)
 unfolding suffix_in
-test_negated d w s t x g j k us r h = ap (test_at (expr d) w s _) (skip_mark Not refl j t (named x us)) ∙ rw (name_read x j us, h)
+test_negated d w s t x g j k us r h = ap (test_at (expr d) w s _) (skip_mark Not refl j t (name_yield x us)) ∙ rw (name_read x j us, h)
 
 filter_read : (d : ℕ) (w : Room) (s : Span) (x : Name) (g : Args) (j k : ℕ) (us r : Items)
     → args_of (expr d) w (at j us) ≡ Some (g, at k r)
-    → suffix_in (expr d) w (ends_filter s) (at j (named x us)) ≡ Some (Filter s x g, at k r)
+    → suffix_in (expr d) w (ends_filter s) (at j (name_yield x us)) ≡ Some (Filter s x g, at k r)
 unfolding suffix_in
 filter_read d w s x g j k us r h = rw (name_read x j us, h)
 
@@ -282,7 +282,7 @@ unfolding links_of
 links_all ls d w c k r h = h
 
 arguments_are_read : (row : Row) (d : ℕ) (w : Room) (k : ℕ) (r : Items) → IsRow w.in_loop of_arguments row
-    → AreDistinct (names row) → EachRow (Whole (expr d) links w) row
+    → AreDistinct (argument_names row) → EachRow (Whole (expr d) links w) row
     → arguments_of (expr d) w (at (row_links row + k) (row_yield of_arguments row r)) ≡ Some (row, at k r)
 arguments_are_read row d w k r is distinct each =
     ap (λ i. arguments_of (expr d) w (at (i + k) (row_yield of_arguments row r))) (sym (row_toll_links row))
@@ -315,7 +315,7 @@ comprehension_in : (s : Span) (e : Tree) (g : Span) (n : Name) (m : Second) (i :
     (atom_yield (Comprehension s e g n m i t x c) r)) ≡ Some (Atomic (Comprehension s e g n m i t x c), at k r)
 comprehension_in s e g n m i t x c d l b zero k r vars element target guard fits = absurd (omega (arith, fits.2))
 comprehension_in s e g n m i t x c d l b (suc a) k r vars element target guard fits =
-    let us = named n (second_yield m (mark (Operation In) i (yield t (extra_yield If x (mark RightBracket c r))))) in
+    let us = name_yield n (second_yield m (mark (Operation In) i (yield t (extra_yield If x (mark RightBracket c r))))) in
     let whole = element a (fits.0, fits.1, omega (arith, fits.2)) For tt g (links t + (extra_links x + k)) us in
     ap (λ j. head_of (expr d) (room l b (suc a)) (at j (atom_yield (Comprehension s e g n m i t x c) r))) (omega arith)
     ∙ array_head (expr d) (expr_bars d) l b a s (at 0 r) (links e + (links t + (extra_links x + k))) (yield e (mark For g us))
@@ -377,7 +377,9 @@ mutual
       → Fits d w (atom_deep openings a) (atom_deep subscripts a) (atom_deep arrays a)
       → head_of (expr d) w (at (atom_links a + k) (atom_yield a r)) ≡ Some (Atomic a, at k r)
   atom_read (Literal l s) d w k r is quiet fits = ap (λ i. head_of (expr d) w (at i (Token (literal_token l) s r))) (omega arith)
-      ∙ literal_head_read (expr d) (expr_bars d) w l s k r is
+      ∙ literal_head_read (expr d) (expr_bars d) w l s k r
+  atom_read (Nothing n) d w k r is quiet fits = ap (λ i. head_of (expr d) w (at i (name_yield n r))) (omega arith)
+      ∙ nothing_read (expr d) (expr_bars d) w n k r is
   atom_read (Chain n ls) d w k r is quiet fits =
       chain_read (expr d) (expr_bars d) w n ls (links_links ls + k) k (links_yield ls r) r is.0 (chain_open ls _ r quiet)
       (links_all ls d w (of_loop w.in_loop n) k r
@@ -433,7 +435,7 @@ mutual
       → EachAttribute (Whole (expr d) links w) x
   each_attribute no_attributes d w is fits = tt
   each_attribute (bare n ats) d w is fits = each_attribute ats d w is fits
-  each_attribute (quoted n s l t ats) d w is fits = each_attribute ats d w is.1 fits
+  each_attribute (quoted n s l t ats) d w is fits = each_attribute ats d w is fits
   each_attribute (valued n s b e c ats) d w is fits = (
     inside e (reached e) d w is.0 (omega (arith, fits.0), omega (arith, fits.1), omega (arith, fits.2)),
     each_attribute ats d w
@@ -453,8 +455,8 @@ mutual
   links_are_read no_links d w c (suc n) k r enough is quiet fits = ap (λ i. links_by (suc n) (expr d) w c (at i r)) (omega arith)
       ∙ no_links_read (expr d) (expr_bars d) n w c k r quiet
   links_are_read (field j m ls) d w c (suc n) k r enough is quiet fits =
-      let less = longer_joint j (named m (links_yield ls r)) in
-      ap (λ i. links_by (suc n) (expr d) w c (at i (joint_yield j (named m (links_yield ls r))))) (omega arith)
+      let less = longer_joint j (name_yield m (links_yield ls r)) in
+      ap (λ i. links_by (suc n) (expr d) w c (at i (joint_yield j (name_yield m (links_yield ls r))))) (omega arith)
       ∙ field_read (expr d) (expr_bars d) n w c j m ls (links_links ls + k) (links_yield ls r) (at k r) is.0
       (links_are_read ls d w c n k r (omega arith) is.1 quiet fits)
   links_are_read (item b s ls) d w c (suc n) k r enough is quiet fits =

@@ -7,10 +7,10 @@ use Rattle.tera_lexer.specs.Tokens as toks
 use Rattle.tera_lexer.specs.Tokens.{Tok, Items, Token, Ident, Symbol}
 use Rattle.tera_grammar.specs.expressions.Operators.{Div, Minus, LessThan, GreaterThan, In}
 use Rattle.tera_grammar.specs.expressions.Marks.{Mark, LeftParen, RightParen, LeftBracket, RightBracket, LeftBrace, Comma, If, For, Operation, mark}
-use Rattle.tera_grammar.specs.expressions.Concrete.{Name, Lit, Number, Quoted, Escaped, Truth, Nothing, Sign, Negative, Negates, Second, no_second, second, of_items, of_entries, Tree, Atomic, Prefix, Suffixed, Infix, Literal, Chain, Call, Paren, Array, Comprehension, Map, Component, Row, ended, Element, plain, spread, pair, argument, literal_token, named, sign_yield, second_yield, dotted_yield, yield, extra_yield, attributes_yield}
+use Rattle.tera_grammar.specs.expressions.Concrete.{Name, Simple, Escaped, Lit, Number, Quoted, Truth, Sign, Negative, Negates, Second, no_second, second, of_items, of_entries, Tree, Atomic, Prefix, Suffixed, Infix, Literal, Nothing, Chain, Call, Paren, Array, Comprehension, Map, Component, Row, ended, Element, plain, spread, pair, argument, literal_token, name_yield, sign_yield, second_yield, dotted_yield, yield, extra_yield, attributes_yield}
 use Rattle.tera_grammar.specs.expressions.Powers.{sign_power, left_spine, BeginsPlain}
 use Rattle.tera_grammar.specs.Words.{is_none, is_not, is_reserved}
-use Rattle.tera_grammar.specs.expressions.Conditions.{IsLiteral, IsFirst, AreVariables, IsExpression}
+use Rattle.tera_grammar.specs.expressions.Conditions.{IsFirst, AreVariables, IsExpression}
 use Rattle.tera_grammar.specs.expressions.Measures.{deep, subscripts, arrays, height, links}
 use Rattle.tera_grammar.specs.expressions.Output.{of_loop}
 use Rattle.tera_grammar.specs.Options.{◌>>=◌}
@@ -43,23 +43,23 @@ plain_from (Infix a o b) r h = plain_from a _ h
 
 second_found : (n : Name) (p : Place) (o : Reads Span) → skip Comma p ≡ o → is_reserved n.text ≡ false
     → (x : (Name × Second) × Place) → second_at n p o ≡ Some x
-    → (named n p.tokens ≡ named x.0.0 (second_yield x.0.1 x.1.tokens)) × (p.links ≡ x.1.links) × AreVariables x.0.0 x.0.1
+    → (name_yield n p.tokens ≡ name_yield x.0.0 (second_yield x.0.1 x.1.tokens)) × (p.links ≡ x.1.links) × AreVariables x.0.0 x.0.1
 second_found n p None is free x h =
     let e = same_Some ((n, no_second), p) x h in
-    subst (λ (y : (Name × Second) × Place). (named n p.tokens ≡ named y.0.0 (second_yield y.0.1 y.1.tokens))
+    subst (λ (y : (Name × Second) × Place). (name_yield n p.tokens ≡ name_yield y.0.0 (second_yield y.0.1 y.1.tokens))
     × (p.links ≡ y.1.links) × AreVariables y.0.0 y.0.1) e (refl, refl, free)
 second_found n p (Some s) is free x h =
     bound _ _ _ h (λ m name more.
     let (free_too, made) = fails_ok (is_reserved m.0.text) (Some ((n, second s.0 m.0), m.1)) x more in
     let at_comma = skip_ok Comma p s is in
     let at_name = name_of_ok s.1 m name in
-    subst (λ (y : (Name × Second) × Place). (named n p.tokens ≡ named y.0.0 (second_yield y.0.1 y.1.tokens))
+    subst (λ (y : (Name × Second) × Place). (name_yield n p.tokens ≡ name_yield y.0.0 (second_yield y.0.1 y.1.tokens))
     × (p.links ≡ y.1.links) × AreVariables y.0.0 y.0.1)
     (same_Some ((n, second s.0 m.0), m.1) x made)
-    (ap (named n) (at_comma.0 ∙ ap (mark Comma s.0) at_name.0), at_comma.1 ∙ at_name.1, (free, free_too)))
+    (ap (name_yield n) (at_comma.0 ∙ ap (mark Comma s.0) at_name.0), at_comma.1 ∙ at_name.1, (free, free_too)))
 
-variables_found : (p : Place) (x : (Name × Second) × Place) → variables_of p ≡ Some x
-    → (p.tokens ≡ named x.0.0 (second_yield x.0.1 x.1.tokens)) × (p.links ≡ x.1.links) × AreVariables x.0.0 x.0.1
+pub variables_found : (p : Place) (x : (Name × Second) × Place) → variables_of p ≡ Some x
+    → (p.tokens ≡ name_yield x.0.0 (second_yield x.0.1 x.1.tokens)) × (p.links ≡ x.1.links) × AreVariables x.0.0 x.0.1
 unfolding variables_of
 variables_found p x h =
     bound _ _ _ h (λ n name more.
@@ -151,7 +151,7 @@ module _ (d : ℕ) (f : Reader) (sound : SoundTree d f) (w : Room) where
         subst (λ (z : Tree × Place). FoundHead d w (at p.links (mark LeftBracket s p.tokens)) z.0 z.1)
         (same_Some (Atomic (Comprehension s e y.0 v.0.0 v.0.1 i.0 t.0 g.0 c.0), c.1) x made) (record {
           spelled = ap (mark LeftBracket s) (one.spelled ∙ ap (yield e) (at_for.0 ∙ ap (mark For y.0) (vars.0
-              ∙ ap (λ r. named v.0.0 (second_yield v.0.1 r)) (at_in.0
+              ∙ ap (λ r. name_yield v.0.0 (second_yield v.0.1 r)) (at_in.0
               ∙ ap (mark (Operation In) i.0) (target.spelled
               ∙ ap (yield t.0) (guard.spelled ∙ ap (extra_yield If g.0) at_close.0))))));
           counted = omega (arith, one.counted, at_for.1, vars.1, at_in.1, target.counted, guard.counted, at_close.1);
@@ -230,7 +230,7 @@ module _ (d : ℕ) (f : Reader) (sound : SoundTree d f) (w : Room) where
       subst (λ (y : Tree × Place). FoundHead d w (at p.links (mark (Operation LessThan) s p.tokens)) y.0 y.1)
       (same_Some (Atomic (Component s n.0 ds.0 r.0 t.0 u.0), u.1) x made) (record {
         spelled = ap (mark (Operation LessThan) s) (at_name.0
-            ∙ ap (named n.0) (further.spelled ∙ ap (dotted_yield ds.0) (found.spelled
+            ∙ ap (name_yield n.0) (further.spelled ∙ ap (dotted_yield ds.0) (found.spelled
             ∙ ap (attributes_yield r.0) (at_slash.0 ∙ ap (mark (Operation Div) t.0) at_close.0))));
         counted = omega (arith, at_name.1, further.counted, found.counted, attributes_toll_links r.0, at_slash.1, at_close.1);
         is = found.is;
@@ -241,15 +241,30 @@ module _ (d : ℕ) (f : Reader) (sound : SoundTree d f) (w : Room) where
         inner = omega (arith, found.inner);
       }))))))
 
-  literal_found : (l : Lit) (s : Span) (p : Place) (x : Tree × Place) → IsLiteral l → Some (Atomic (Literal l s), p) ≡ Some x
+  literal_found : (l : Lit) (s : Span) (p : Place) (x : Tree × Place) → Some (Atomic (Literal l s), p) ≡ Some x
       → FoundHead d w (at p.links (Token (literal_token l) s p.tokens)) x.0 x.1
-  literal_found l s p x is h =
+  literal_found l s p x h =
       subst (λ (y : Tree × Place). FoundHead d w (at p.links (Token (literal_token l) s p.tokens)) y.0 y.1)
       (same_Some (Atomic (Literal l s), p) x h)
       (record {
         spelled = refl;
         counted = omega arith;
-        is = is;
+        is = tt;
+        left = refl;
+        quiet = tt;
+        high = omega arith;
+        nested = omega arith;
+        inner = omega arith;
+      })
+
+  nothing_found : (n : Name) (p : Place) (x : Tree × Place) → is_none n.text ≡ true → Some (Atomic (Nothing n), p) ≡ Some x
+      → FoundHead d w (at p.links (name_yield n p.tokens)) x.0 x.1
+  nothing_found n p x none h =
+      subst (λ (y : Tree × Place). FoundHead d w (at p.links (name_yield n p.tokens)) y.0 y.1) (same_Some (Atomic (Nothing n), p) x h)
+      (record {
+        spelled = refl;
+        counted = omega arith;
+        is = none;
         left = refl;
         quiet = tt;
         high = omega arith;
@@ -259,13 +274,13 @@ module _ (d : ℕ) (f : Reader) (sound : SoundTree d f) (w : Room) where
 
   chain_found : (n : Name) → IsFirst n → (p : Place) (o : Reads Span) → skip LeftParen p ≡ o → (x : Tree × Place)
       → called_at f w n p o ≡ Some x
-      → FoundHead d w (at p.links (named n p.tokens)) x.0 x.1
+      → FoundHead d w (at p.links (name_yield n p.tokens)) x.0 x.1
   chain_found n is_first p None is x h =
       bound _ _ _ h (λ ls read made.
       let found = links_found d f sound w (of_loop w.in_loop n) p ls read in
-      subst (λ (y : Tree × Place). FoundHead d w (at p.links (named n p.tokens)) y.0 y.1)
+      subst (λ (y : Tree × Place). FoundHead d w (at p.links (name_yield n p.tokens)) y.0 y.1)
       (same_Some (Atomic (Chain n ls.0), ls.1) x made) (record {
-        spelled = ap (named n) found.spelled;
+        spelled = ap (name_yield n) found.spelled;
         counted = found.counted;
         is = (is_first, found.is);
         left = refl;
@@ -278,9 +293,9 @@ module _ (d : ℕ) (f : Reader) (sound : SoundTree d f) (w : Room) where
       bound _ _ _ h (λ r read made.
       let at_open = skip_ok LeftParen p y is in
       let (found, distinct) = arguments_found links Any d f sound w y.1 r read in
-      subst (λ (z : Tree × Place). FoundHead d w (at p.links (named n p.tokens)) z.0 z.1)
+      subst (λ (z : Tree × Place). FoundHead d w (at p.links (name_yield n p.tokens)) z.0 z.1)
       (same_Some (Atomic (Call n y.0 r.0), r.1) x made) (record {
-        spelled = ap (named n) (at_open.0 ∙ ap (mark LeftParen y.0) found.spelled);
+        spelled = ap (name_yield n) (at_open.0 ∙ ap (mark LeftParen y.0) found.spelled);
         counted = omega (arith, at_open.1, found.counted, row_toll_links r.0);
         is = (is_first, found.is, distinct);
         left = refl;
@@ -291,11 +306,10 @@ module _ (d : ℕ) (f : Reader) (sound : SoundTree d f) (w : Room) where
       }))
 
   word_found : (n : Name) (p : Place) (x : Tree × Place) → word_head f w n p ≡ Some x
-      → FoundHead d w (at p.links (named n p.tokens)) x.0 x.1
+      → FoundHead d w (at p.links (name_yield n p.tokens)) x.0 x.1
   unfolding word_head chain_of
   word_found n p x h =
-      ⊎_elim (λ (none : (is_none n.text ≡ true) × (Some (Atomic (Literal (Nothing n.text) n.span), p) ≡ Some x)). literal_found
-      (Nothing n.text) n.span p x none.0 none.1)
+      ⊎_elim (λ (none : (is_none n.text ≡ true) × (Some (Atomic (Nothing n), p) ≡ Some x)). nothing_found n p x none.0 none.1)
       (λ (some : (is_none n.text ≡ false) × (cond (is_not n.text) (prefix_of f w (Negates n.span) p)
       (called_at f w n p (skip LeftParen p)) ≡ Some x)).
       ⊎_elim (λ (negation : (is_not n.text ≡ true) × (prefix_of f w (Negates n.span) p ≡ Some x)).
@@ -325,10 +339,10 @@ module _ (d : ℕ) (f : Reader) (sound : SoundTree d f) (w : Room) where
   unfolding head_mark
   token_found (Ident n) s p x h = word_found (record { text = n; span = s }) p x h
   token_found (Symbol op) s p x h = mark_found (among head_marks (Symbol op)) (Symbol op) refl s p x h
-  token_found (toks.Integer n) s p x h = literal_found (Number n) s p x tt h
-  token_found (toks.Str text) s p x h = literal_found (Quoted text) s p x tt h
-  token_found (toks.Escaped text) s p x h = literal_found (Escaped text) s p x tt h
-  token_found (toks.Truth b) s p x h = literal_found (Truth b) s p x tt h
+  token_found (toks.Integer n) s p x h = literal_found (Number n) s p x h
+  token_found (toks.Str text) s p x h = literal_found (Quoted (Simple text)) s p x h
+  token_found (toks.Escaped text) s p x h = literal_found (Quoted (Escaped text)) s p x h
+  token_found (toks.Truth b) s p x h = literal_found (Truth b) s p x h
   token_found _ s p x h = cc
 
   head_in_found : (k : ℕ) (ts : Items) (x : Tree × Place) → head_in f w k ts ≡ Some x → FoundHead d w (at k ts) x.0 x.1

@@ -6,10 +6,10 @@ use Rattle.tera_base.specs.declared.utils.Span.{Span}
 use Rattle.tera_lexer.specs.Tokens.{Items}
 use Rattle.tera_lexer.specs.Cursors.{size}
 use Rattle.tera_grammar.specs.expressions.Marks.{LeftBracket, Bar, Not, Is, If, Else, mark}
-use Rattle.tera_grammar.specs.expressions.Concrete.{Name, Negation, plainly, negated, Tree, Suffixed, Suffix, Test, Filter, Subscript, Operator, Binary, Condition, named, negation_yield, op_yield, yield, suffix_yield, operator_yield}
+use Rattle.tera_grammar.specs.expressions.Concrete.{Name, Negation, plainly, negated, Tree, Suffixed, Suffix, Test, Filter, Subscript, Operator, Binary, Condition, name_yield, negation_yield, op_yield, yield, suffix_yield, operator_yield}
 use Rattle.tera_grammar.specs.expressions.Powers.{left_power, right_power, AtLeast, Above, Carries}
 use Rattle.tera_grammar.specs.Words.{is_not}
-use Rattle.tera_grammar.specs.expressions.Conditions.{NamesTest, names, is_refused, IsExpression, IsSuffix, IsOperator}
+use Rattle.tera_grammar.specs.expressions.Conditions.{NamesTest, argument_names, is_refused, IsExpression, IsSuffix, IsOperator}
 use Rattle.tera_grammar.specs.expressions.Measures.{deep, suffix_deep, operator_deep, openings, subscripts, arrays, height, links, suffix_links, operator_links}
 use Rattle.tera_grammar.specs.expressions.Reading.Front.{Place, at, Reads, takes, skip, Lead, leads_binary, leads_condition, Ending, ends_test, ends_filter, ends_subscript, Front, nothing, joins, closes, misplaced, lead_power, keeps_out, front}
 use Rattle.tera_grammar.specs.expressions.Reading.Parts.{Room, Reader}
@@ -126,26 +126,26 @@ module _ (d : ℕ) (f : Reader) (sound : SoundTree d f) (w : Room) where
 
   test_named_found : (s : Span) (n : Negation) (p q : Place) → mark Is s p.tokens ≡ mark Is s (negation_yield n q.tokens)
       → p.links ≡ q.links
-      → ((m : Name) (r : Items) → q.tokens ≡ named m r → NamesTest n m) → (x : Suffix × Place) → test_named f w s n q ≡ Some x
+      → ((m : Name) (r : Items) → q.tokens ≡ name_yield m r → NamesTest n m) → (x : Suffix × Place) → test_named f w s n q ≡ Some x
       → FoundSuffix d w (ends_test s) p x.0 x.1
-  test_named_found s n p q begun kept names x h =
+  test_named_found s n p q begun kept argument_names x h =
       bound _ _ _ h (λ m name more. bound _ _ _ more (λ g read made.
       let at_name = name_of_ok q m name in
       let found = args_found d f sound w m.1 g read in
       subst (λ (y : Suffix × Place). FoundSuffix d w (ends_test s) p y.0 y.1) (same_Some (Test s n m.0 g.0, g.1) x made) (record {
-        spelled = begun ∙ ap (λ r. mark Is s (negation_yield n r)) (at_name.0 ∙ ap (named m.0) found.spelled);
+        spelled = begun ∙ ap (λ r. mark Is s (negation_yield n r)) (at_name.0 ∙ ap (name_yield m.0) found.spelled);
         counted = omega (arith, kept, at_name.1, found.counted);
         kind = refl;
-        is = (names m.0 m.1.tokens at_name.0, found.is);
+        is = (argument_names m.0 m.1.tokens at_name.0, found.is);
         quiet = found.quiet;
         high = found.high;
         nested = found.nested;
         inner = found.inner;
       })))
 
-  no_negation : (ts : Items) → takes Not ts ≡ None → (m : Name) (r : Items) → ts ≡ named m r → is_not m.text ≡ false
+  no_negation : (ts : Items) → takes Not ts ≡ None → (m : Name) (r : Items) → ts ≡ name_yield m r → is_not m.text ≡ false
   no_negation ts none m r is =
-      let e : takes Not (named m r) ≡ None = subst (λ v. takes Not v ≡ None) is none in
+      let e : takes Not (name_yield m r) ≡ None = subst (λ v. takes Not v ≡ None) is none in
       ⊎_elim (λ (p : (is_not m.text ≡ true) × (Some (m.span, r) ≡ None)). absurd (none-some _ (sym p.1)))
       (λ (p : (is_not m.text ≡ false) × (None ≡ None)). p.0)
       (cond_ok (is_not m.text) (Some (m.span, r)) None None e)
@@ -165,7 +165,7 @@ module _ (d : ℕ) (f : Reader) (sound : SoundTree d f) (w : Room) where
       let at_name = name_of_ok p m name in
       let found = args_found d f sound w m.1 g read in
       subst (λ (y : Suffix × Place). FoundSuffix d w (ends_filter s) p y.0 y.1) (same_Some (Filter s m.0 g.0, g.1) x made) (record {
-        spelled = ap (mark Bar s) (at_name.0 ∙ ap (named m.0) found.spelled);
+        spelled = ap (mark Bar s) (at_name.0 ∙ ap (name_yield m.0) found.spelled);
         counted = omega (arith, at_name.1, found.counted);
         kind = refl;
         is = found.is;
@@ -301,7 +301,7 @@ go_on_found : (d : ℕ) (w : Room) (m : ℕ) (again : Tree → Place → Reads T
     → Operand d w m l p.tokens
     → (g : Option (Growth × Place)) → (g ≡ None → Stops m p.tokens)
     → ((x : Growth × Place) → g ≡ Some x → FoundGrowth d w m p x.0 x.1)
-    → (x : Tree × Place) → go_on again l p g ≡ Some x → Found links Any (suc d) w m (before l p) x.0 x.1
+    → (x : Tree × Place) → go_on grow again l p g ≡ Some x → Found links Any (suc d) w m (before l p) x.0 x.1
 go_on_found d w m again goes l p o None stops found x h =
     subst (λ (y : Tree × Place). Found links Any (suc d) w m (before l p) y.0 y.1) (same_Some (l, p) x h)
     (record {
@@ -320,12 +320,12 @@ go_on_found d w m again goes l p o (Some g) stops found x h =
     let grows = found g refl in
     subst (λ v. Found links Any (suc d) w m v x.0 x.1) (grows.begun l) (goes (grow l g.0) g.1 x (grows.next l o) h)
 
-loop_found : (n d : ℕ) (f : Reader) → SoundTree d f → (w : Room) (m : ℕ) → SoundAgain d w m (loop_by n f w m)
+loop_found : (n d : ℕ) (f : Reader) → SoundTree d f → (w : Room) (m : ℕ) → SoundAgain d w m (loop_by grow n f w m)
 unfolding loop_by
 loop_found zero d f sound w m l p x o h = cc
 loop_found (suc n) d f sound w m l p x o h =
     bound _ _ _ h (λ g read more.
-    go_on_found d w m (loop_by n f w m) (loop_found n d f sound w m) l p o g
+    go_on_found d w m (loop_by grow n f w m) (loop_found n d f sound w m) l p o g
     (λ e. step_stops d f sound w m p (front p.tokens) (read ∙ ap Some e)) (λ y e. step_found d f sound w m p y (read ∙ ap Some e))
     x more)
 

@@ -4,7 +4,7 @@ use Rattle.std.proofs.lemmas.Option.{same_Some}
 use Rattle.tera_base.specs.declared.utils.Span.{Span}
 use Rattle.tera_lexer.specs.Cursors.{size}
 use Rattle.tera_grammar.specs.expressions.Marks.{Mark, LeftParen, RightBracket, Colon, Dot, mark}
-use Rattle.tera_grammar.specs.expressions.Concrete.{Dotted, no_dots, dots, Tree, Links, no_links, field, item, Sub, index, slice, Part, absent, present, Extra, no_extra, extra, Args, no_args, args, named, joint_yield, bracket_yield, dotted_yield, yield, links_yield, sub_yield, part_yield, extra_yield, args_yield}
+use Rattle.tera_grammar.specs.expressions.Concrete.{Dotted, no_dots, dots, Tree, Links, no_links, field, item, Sub, index, slice, Part, absent, present, Extra, no_extra, extra, Args, no_args, args, name_yield, joint_yield, bracket_yield, dotted_yield, yield, links_yield, sub_yield, part_yield, extra_yield, args_yield}
 use Rattle.tera_grammar.specs.expressions.Conditions.{is_field_of, AreLinks, IsSub, IsPart, IsExtra, AreArgs}
 use Rattle.tera_grammar.specs.expressions.Measures.{links_deep, sub_deep, part_deep, extra_deep, args_deep, openings, subscripts, arrays, links, links_links, sub_links, part_links, extra_links, args_links}
 use Rattle.tera_grammar.specs.Options.{◌>>=◌}
@@ -91,7 +91,7 @@ dotted_at_found more goes p (Some y) is x h =
     let at_name = name_of_ok y.1 n name in
     let others = goes n.1 ds read in
     subst (λ (z : Dotted × Place). FoundDotted p z.0 z.1) (same_Some (dots y.0 n.0 ds.0, ds.1) x made) (record {
-      spelled = at_dot.0 ∙ ap (mark Dot y.0) (at_name.0 ∙ ap (named n.0) others.spelled);
+      spelled = at_dot.0 ∙ ap (mark Dot y.0) (at_name.0 ∙ ap (name_yield n.0) others.spelled);
       counted = at_dot.1 ∙ at_name.1 ∙ others.counted;
     })))
 
@@ -272,7 +272,7 @@ module _ (d : ℕ) (f : Reader) (sound : SoundTree d f) where
       let at_name = name_of_ok q n name in
       let others = goes n.1 ls read in
       subst (λ (y : Links × Place). FoundLinks d w c p y.0 y.1) (same_Some (field j n.0 ls.0, ls.1) x made) (record {
-        spelled = is ∙ ap (joint_yield j) (low.1 ∙ at_name.0 ∙ ap (named n.0) others.spelled);
+        spelled = is ∙ ap (joint_yield j) (low.1 ∙ at_name.0 ∙ ap (name_yield n.0) others.spelled);
         counted = omega (arith, low.0, at_name.1, others.counted);
         is = (fits, others.is);
         quiet = others.quiet;

@@ -6,16 +6,16 @@ use Rattle.tera_base.specs.declared.utils.Span.{Span}
 use Rattle.tera_lexer.specs.Tokens.{Token}
 use Rattle.tera_lexer.specs.Cursors.{size}
 use Rattle.tera_grammar.specs.expressions.Marks.{LeftBrace, RightBrace, Comma, Colon, Spread, Assign, mark}
-use Rattle.tera_grammar.specs.expressions.Concrete.{Name, Lit, Kind, of_arguments, of_items, of_entries, Tree, Row, ended, only, then, Element, plain, spread, pair, argument, Attributes, no_attributes, bare, quoted, valued, spreading, literal_token, named, closing, yield, row_yield, element_yield, attributes_yield}
+use Rattle.tera_grammar.specs.expressions.Concrete.{Name, Quote, Kind, of_arguments, of_items, of_entries, Tree, Row, ended, only, then, Element, plain, spread, pair, argument, Attributes, no_attributes, bare, quoted, valued, spreading, quote_token, literal_token, name_yield, closing, yield, row_yield, element_yield, attributes_yield}
 use Rattle.tera_grammar.specs.expressions.Powers.{AtLeast}
 use Rattle.tera_grammar.specs.Words.{are_distinct, AreDistinct}
-use Rattle.tera_grammar.specs.expressions.Conditions.{is_key, is_text, is_element_of, names, IsExpression, IsRow, IsElement, AreAttributes}
+use Rattle.tera_grammar.specs.expressions.Conditions.{is_element_of, argument_names, IsExpression, IsRow, IsElement, AreAttributes}
 use Rattle.tera_grammar.specs.expressions.Measures.{deep, row_deep, element_deep, attributes_deep, openings, subscripts, arrays, height, links, row_links, element_links, attributes_links, EachElement, EachRow, EachAttribute}
-use Rattle.tera_grammar.specs.expressions.Reading.Front.{Place, Reads, skip, name_of, literal_by}
+use Rattle.tera_grammar.specs.expressions.Reading.Front.{Place, Reads, skip, name_of, quote_at}
 use Rattle.tera_grammar.specs.expressions.Reading.Parts.{Room, Reader, spread_at, item_at, entry_at, element_of, comma_at, after_element, row_at, row_by, row_of, arguments_of, value_at, named_at, attribute_at, attributes_by, attributes_of}
 use Rattle.tera_grammar.proofs.Words.{distinct_ok}
 use Rattle.tera_grammar.proofs.Options.{bound}
-use Rattle.tera_grammar.proofs.expressions.Fronts.{holds_ok, skip_ok, name_of_ok, literal_by_ok}
+use Rattle.tera_grammar.proofs.expressions.Fronts.{holds_ok, skip_ok, name_of_ok, literal_at_ok, quote_at_ok}
 use Rattle.tera_grammar.proofs.expressions.Quiet.{Stops, Quiet}
 
 -- What a reading of a whole expression has found, where d expressions may open in some room. What it costs is
@@ -152,14 +152,14 @@ module _ (toll : Tree → ℕ) (fits : Room → Tree → Type 0) (d : ℕ) (f : 
       bound _ _ _ h (λ l key more.
       bound _ _ _ more (λ s colon rest.
       bound _ _ _ rest (λ e read made.
-      let at_key = literal_by_ok is_key p l key in
+      let at_key = literal_at_ok p l key in
       let at_colon = skip_ok Colon l.1 s colon in
       let found = sound w 0 s.1 e read in
       subst (λ (y : Element × Place). FoundElement toll fits d w of_entries p y.0 y.1) (same_Some _ _ made) (record {
-        spelled = at_key.1 ∙ ap (Token (literal_token l.0.0) l.0.1) (at_colon.0 ∙ ap (mark Colon s.0) found.spelled);
-        counted = omega (arith, at_key.2, at_colon.1, found.counted);
+        spelled = at_key.0 ∙ ap (Token (literal_token l.0.0) l.0.1) (at_colon.0 ∙ ap (mark Colon s.0) found.spelled);
+        counted = omega (arith, at_key.1, at_colon.1, found.counted);
         each = found.each;
-        is = (at_key.0, found.is);
+        is = (refl, found.is);
         high = omega (arith, found.high);
         nested = omega (arith, found.nested);
         inner = omega (arith, found.inner);
@@ -178,7 +178,7 @@ module _ (toll : Tree → ℕ) (fits : Room → Tree → Type 0) (d : ℕ) (f : 
       let at_assign = skip_ok Assign n.1 s assigned in
       let found = sound w 0 s.1 e read in
       subst (λ (y : Element × Place). FoundElement toll fits d w of_arguments p y.0 y.1) (same_Some _ _ made) (record {
-        spelled = at_name.0 ∙ ap (named n.0) (at_assign.0 ∙ ap (mark Assign s.0) found.spelled);
+        spelled = at_name.0 ∙ ap (name_yield n.0) (at_assign.0 ∙ ap (mark Assign s.0) found.spelled);
         counted = omega (arith, at_name.1, at_assign.1, found.counted);
         each = found.each;
         is = (refl, found.is);
@@ -257,32 +257,32 @@ module _ (toll : Tree → ℕ) (fits : Room → Tree → Type 0) (d : ℕ) (f : 
   row_found k p x h = row_by_found (suc (size p.tokens)) k p x h
 
   pub arguments_found : (p : Place) (x : Row × Place) → arguments_of f w p ≡ Some x → FoundRow toll fits d w of_arguments p x.0 x.1
-      × AreDistinct (names x.0)
+      × AreDistinct (argument_names x.0)
   unfolding arguments_of
   arguments_found p x h =
-      bound (row_of f w of_arguments p) (λ r. cond (are_distinct (names r.0)) (Some r) None) x h (λ r read rest.
-      let (distinct, made) = holds_ok (are_distinct (names r.0)) (Some r) x rest in
+      bound (row_of f w of_arguments p) (λ r. cond (are_distinct (argument_names r.0)) (Some r) None) x h (λ r read rest.
+      let (distinct, made) = holds_ok (are_distinct (argument_names r.0)) (Some r) x rest in
       let e = same_Some r x made in (
         subst (λ (z : Row × Place). FoundRow toll fits d w of_arguments p z.0 z.1) e (row_found of_arguments p r read),
-        subst (λ (z : Row × Place). AreDistinct (names z.0)) e (distinct_ok (names r.0) distinct),
+        subst (λ (z : Row × Place). AreDistinct (argument_names z.0)) e (distinct_ok (argument_names r.0) distinct),
       ))
 
   value_found : (more : Place → Reads Attributes) → SoundAttributes toll fits d w more → (p q r : Place) (n : Name) (s : Span)
-      → p.tokens ≡ named n q.tokens → p.links ≡ q.links
+      → p.tokens ≡ name_yield n q.tokens → p.links ≡ q.links
       → q.tokens ≡ mark Assign s r.tokens → q.links ≡ r.links
-      → (o : Reads (Lit × Span)) → literal_by is_text r ≡ o → (x : Attributes × Place) → value_at more f w n s r o ≡ Some x
+      → (o : Reads (Quote × Span)) → quote_at r ≡ o → (x : Attributes × Place) → value_at more f w n s r o ≡ Some x
       → FoundAttributes toll fits d w p x.0 x.1
   value_found more goes p q r n s at_name kept at_assign same (Some l) is x h =
       bound (more l.1) (λ a. Some (quoted n s l.0.0 l.0.1 a.0, a.1)) x h (λ a read made.
-      let at_text = literal_by_ok is_text r l is in
+      let at_text = quote_at_ok r l is in
       let others = goes l.1 a read in
       subst (λ (y : Attributes × Place). FoundAttributes toll fits d w p y.0 y.1)
       (same_Some (quoted n s l.0.0 l.0.1 a.0, a.1) x made) (record {
-        spelled = at_name ∙ ap (named n) (at_assign ∙ ap (mark Assign s)
-            (at_text.1 ∙ ap (Token (literal_token l.0.0) l.0.1) others.spelled));
-        counted = omega (arith, kept, same, at_text.2, others.counted);
+        spelled = at_name ∙ ap (name_yield n) (at_assign ∙ ap (mark Assign s)
+            (at_text.0 ∙ ap (Token (quote_token l.0.0) l.0.1) others.spelled));
+        counted = omega (arith, kept, same, at_text.1, others.counted);
         each = others.each;
-        is = (at_text.0, others.is);
+        is = others.is;
         high = others.high;
         nested = others.nested;
         inner = others.inner;
@@ -297,7 +297,7 @@ module _ (toll : Tree → ℕ) (fits : Room → Tree → Type 0) (d : ℕ) (f : 
       let at_close = skip_ok RightBrace e.1 c closed in
       let others = goes c.1 a rest in
       subst (λ (y : Attributes × Place). FoundAttributes toll fits d w p y.0 y.1) (same_Some _ _ made) (record {
-        spelled = at_name ∙ ap (named n) (at_assign ∙ ap (mark Assign s)
+        spelled = at_name ∙ ap (name_yield n) (at_assign ∙ ap (mark Assign s)
             (at_brace.0 ∙ ap (mark LeftBrace b.0) (found.spelled
             ∙ ap (yield e.0) (at_close.0 ∙ ap (mark RightBrace c.0) others.spelled))));
         counted = omega (arith, kept, same, at_brace.1, found.counted, at_close.1, others.counted);
@@ -309,14 +309,14 @@ module _ (toll : Tree → ℕ) (fits : Room → Tree → Type 0) (d : ℕ) (f : 
       })))))
 
   named_found : (more : Place → Reads Attributes) → SoundAttributes toll fits d w more → (p q : Place) (n : Name)
-      → p.tokens ≡ named n q.tokens → p.links ≡ q.links
+      → p.tokens ≡ name_yield n q.tokens → p.links ≡ q.links
       → (o : Reads Span) → skip Assign q ≡ o → (x : Attributes × Place) → named_at more f w n q o ≡ Some x
       → FoundAttributes toll fits d w p x.0 x.1
   named_found more goes p q n at_name kept None is x h =
       bound (more q) (λ a. Some (bare n a.0, a.1)) x h (λ a read made.
       let others = goes q a read in
       subst (λ (y : Attributes × Place). FoundAttributes toll fits d w p y.0 y.1) (same_Some (bare n a.0, a.1) x made) (record {
-        spelled = at_name ∙ ap (named n) others.spelled;
+        spelled = at_name ∙ ap (name_yield n) others.spelled;
         counted = omega (arith, kept, others.counted);
         each = others.each;
         is = others.is;
@@ -326,7 +326,7 @@ module _ (toll : Tree → ℕ) (fits : Room → Tree → Type 0) (d : ℕ) (f : 
       }))
   named_found more goes p q n at_name kept (Some y) is x h =
       let at_assign = skip_ok Assign q y is in
-      value_found more goes p q y.1 n y.0 at_name kept at_assign.0 at_assign.1 (literal_by is_text y.1) refl x h
+      value_found more goes p q y.1 n y.0 at_name kept at_assign.0 at_assign.1 (quote_at y.1) refl x h
 
   attribute_found : (more : Place → Reads Attributes) → SoundAttributes toll fits d w more → (p : Place)
       → (o : Reads Name) → name_of p ≡ o → (b : Reads Span) → skip LeftBrace p ≡ b → (x : Attributes × Place)

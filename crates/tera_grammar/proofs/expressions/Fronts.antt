@@ -7,10 +7,10 @@ use Rattle.tera_lexer.specs.Tokens as toks
 use Rattle.tera_lexer.specs.Tokens.{Tok, Items, Token, Finish, Ident, Symbol}
 use Rattle.tera_grammar.specs.expressions.Operators.{BinaryOperator, Mul, Div, Mod, Plus, Minus, FloorDiv, Power, LessThan, GreaterThan, LessThanOrEqual, GreaterThanOrEqual, Equal, NotEqual, And, Or, StrConcat, In}
 use Rattle.tera_grammar.specs.expressions.Marks.{Mark, LeftParen, RightParen, LeftBracket, RightBracket, QuestionBracket, RightBrace, Comma, Colon, Dot, QuestionDot, Bar, Not, Is, If, Else, For, Operation, Other, mark_token, mark}
-use Rattle.tera_grammar.specs.expressions.Concrete.{Name, Lit, Single, NotIn, literal_token, named, joint_yield, bracket_yield, op_yield}
-use Rattle.tera_grammar.specs.expressions.Conditions.{IsStopMark, IsStopToken, IsStop}
+use Rattle.tera_grammar.specs.expressions.Concrete.{Name, Quote, Lit, Single, NotIn, quote_token, literal_token, name_yield, joint_yield, bracket_yield, op_yield}
 use Rattle.tera_grammar.specs.Options.{◌>>=◌}
-use Rattle.tera_grammar.specs.expressions.Reading.Front.{Place, at, same_token, among, takes, moved, skip, lowered, bump, taken_name, name_of, literal_of, taken_literal, literal_by, Link, no_link, jointed, bracketed, called, link_marks, marked_link, link_of, Lead, leads_binary, leads_condition, Ending, ends_test, ends_filter, ends_subscript, Front, nothing, joins, closes, misplaced, front_marks, front_not, marked_front, front_of_token, front}
+use Rattle.tera_grammar.specs.expressions.Reading.Front.{Place, at, same_token, among, takes, moved, skip, lowered, bump, taken_name, name_of, literal_of, quote_of, taken_as, taken_quote, literal_at, quote_at, Link, no_link, jointed, bracketed, called, link_marks, marked_link, link_of, Lead, leads_binary, leads_condition, Ending, ends_test, ends_filter, ends_subscript, Front, nothing, joins, closes, misplaced, front_marks, front_not, marked_front, front_of_token, front}
+use Rattle.tera_grammar.specs.expressions.Ends.{IsStopMark, IsStopToken, IsStop}
 
 -- the parts of a reading that succeeds
 pub bind_ok : {A B : Type 0} (o : Option A) (f : A → Option B) (y : B) → (o >>= f) ≡ Some y → (x : A) × (o ≡ Some x)
@@ -98,16 +98,16 @@ pub bump_read : (k : ℕ) (r : Items) → bump (at (suc k) r) ≡ Some (at k r)
 unfolding bump
 bump_read k r = refl
 
-pub taken_name_ok : (ts : Items) (x : Name × Items) → taken_name ts ≡ Some x → ts ≡ named x.0 x.1
-taken_name_ok (Token (Ident w) s us) x h = ap (λ (y : Name × Items). named y.0 y.1) (same_Some _ _ h)
+pub taken_name_ok : (ts : Items) (x : Name × Items) → taken_name ts ≡ Some x → ts ≡ name_yield x.0 x.1
+taken_name_ok (Token (Ident w) s us) x h = ap (λ (y : Name × Items). name_yield y.0 y.1) (same_Some _ _ h)
 taken_name_ok _ x h = cc
 
-pub name_of_ok : (p : Place) (x : Name × Place) → name_of p ≡ Some x → (p.tokens ≡ named x.0 x.1.tokens) × (p.links ≡ x.1.links)
+pub name_of_ok : (p : Place) (x : Name × Place) → name_of p ≡ Some x → (p.tokens ≡ name_yield x.0 x.1.tokens) × (p.links ≡ x.1.links)
 unfolding name_of
 name_of_ok p x h = let (taken, kept) = moved_ok p.links (taken_name p.tokens) x h
     in (taken_name_ok p.tokens (x.0, x.1.tokens) taken, kept)
 
-pub name_read : (n : Name) (k : ℕ) (r : Items) → name_of (at k (named n r)) ≡ Some (n, at k r)
+pub name_read : (n : Name) (k : ℕ) (r : Items) → name_of (at k (name_yield n r)) ≡ Some (n, at k r)
 unfolding name_of
 name_read n k r = refl
 
@@ -127,24 +127,32 @@ literal_of_ok (toks.Escaped text) l h = ap literal_token (same_Some _ _ h)
 literal_of_ok (toks.Truth b) l h = ap literal_token (same_Some _ _ h)
 literal_of_ok _ l h = cc
 
-taken_literal_ok : (test : Lit → Bool) (ts : Items) (x : (Lit × Span) × Items) → taken_literal test ts ≡ Some x
-    → (test x.0.0 ≡ true) × (ts ≡ Token (literal_token x.0.0) x.0.1 x.1)
-taken_literal_ok test (Token t s us) x h =
-    let (l, read, more) = bind_ok (literal_of t) (λ l. cond (test l) (Some ((l, s), us)) None) x h in
-    let (fits, made) = holds_ok (test l) (Some ((l, s), us)) x more in
-    let e = same_Some ((l, s), us) x made in (
-      subst (λ (y : (Lit × Span) × Items). test y.0.0 ≡ true) e fits,
-      ap (λ u. Token u s us) (literal_of_ok t l read) ∙ ap (λ (y : (Lit × Span) × Items). Token (literal_token y.0.0) y.0.1 y.1) e,
-    )
-taken_literal_ok test _ x h = cc
+pub quote_of_ok : (t : Tok) (q : Quote) → quote_of t ≡ Some q → t ≡ quote_token q
+quote_of_ok (toks.Str text) q h = ap quote_token (same_Some _ _ h)
+quote_of_ok (toks.Escaped text) q h = ap quote_token (same_Some _ _ h)
+quote_of_ok _ q h = cc
 
-pub literal_by_ok : (test : Lit → Bool) (p : Place) (x : (Lit × Span) × Place) → literal_by test p ≡ Some x
-    → (test x.0.0 ≡ true) × (p.tokens ≡ Token (literal_token x.0.0) x.0.1 x.1.tokens) × (p.links ≡ x.1.links)
-unfolding literal_by
-literal_by_ok test p x h =
-    let (taken, kept) = moved_ok p.links (taken_literal test p.tokens) x h in
-    let (fits, is) = taken_literal_ok test p.tokens (x.0, x.1.tokens) taken in
-    (fits, is, kept)
+pub taken_as_ok : {A : Type 0} (kind : Tok → Option A) (token : A → Tok) → ((t : Tok) (x : A) → kind t ≡ Some x → t ≡ token x)
+    → (ts : Items) (x : (A × Span) × Items) → taken_as kind ts ≡ Some x → ts ≡ Token (token x.0.0) x.0.1 x.1
+taken_as_ok {A} kind token is (Token t s us) x h =
+    let (y, read, made) = bind_ok (kind t) (λ y. Some ((y, s), us)) x h in
+    ap (λ u. Token u s us) (is t y read)
+    ∙ ap (λ (z : (A × Span) × Items). Token (token z.0.0) z.0.1 z.1) (same_Some ((y, s), us) x made)
+taken_as_ok kind token is _ x h = cc
+
+pub literal_at_ok : (p : Place) (x : (Lit × Span) × Place) → literal_at p ≡ Some x
+    → (p.tokens ≡ Token (literal_token x.0.0) x.0.1 x.1.tokens) × (p.links ≡ x.1.links)
+unfolding literal_at
+literal_at_ok p x h =
+    let (taken, kept) = moved_ok p.links (taken_as literal_of p.tokens) x h in
+    (taken_as_ok literal_of literal_token literal_of_ok p.tokens (x.0, x.1.tokens) taken, kept)
+
+pub quote_at_ok : (p : Place) (x : (Quote × Span) × Place) → quote_at p ≡ Some x
+    → (p.tokens ≡ Token (quote_token x.0.0) x.0.1 x.1.tokens) × (p.links ≡ x.1.links)
+unfolding quote_at
+quote_at_ok p x h =
+    let (taken, kept) = moved_ok p.links (taken_quote p.tokens) x h in
+    (taken_as_ok quote_of quote_token quote_of_ok p.tokens (x.0, x.1.tokens) taken, kept)
 
 -- how a link begins
 abbrev pub LinkOf : Items → Link → Type 0

@@ -5,8 +5,8 @@ use Rattle.tera_base.specs.declared.utils.Span.{Span}
 use Rattle.tera_lexer.specs.Tokens.{Tok, Items, Token}
 use Rattle.tera_lexer.specs.Tiling.{in_tag_behind}
 use Rattle.tera_grammar.specs.expressions.Operators.{BinaryOperator, Mul, Div, Mod, Plus, Minus, FloorDiv, Power, LessThan, GreaterThan, LessThanOrEqual, GreaterThanOrEqual, Equal, NotEqual, And, Or, StrConcat, In}
-use Rattle.tera_grammar.specs.expressions.Marks.{Mark, LeftParen, RightParen, LeftBracket, RightBracket, QuestionBracket, LeftBrace, RightBrace, Comma, Colon, Dot, QuestionDot, Spread, Assign, Bar, Not, Is, If, Else, For, Operation, Other, operator_token, mark_token}
-use Rattle.tera_grammar.specs.expressions.Concrete.{Lit, Number, Quoted, Escaped, Truth, Nothing, literal_token, closing, Sign, Negative, Negates, Joint, plain_dot, optional_dot, Bracket, plain_bracket, optional_bracket, Negation, plainly, negated, Second, no_second, second, Dotted, no_dots, dots, Op, Single, NotIn, Kind, of_arguments, of_items, of_entries, Tree, Atomic, Prefix, Suffixed, Infix, Atom, Literal, Chain, Call, Paren, Array, Comprehension, Map, Component, Links, no_links, field, item, Sub, index, slice, Part, absent, present, Extra, no_extra, extra, Row, ended, only, then, Element, plain, spread, pair, argument, Attributes, no_attributes, bare, quoted, valued, spreading, Suffix, Test, Filter, Subscript, Args, no_args, args, Operator, Binary, Condition, sign_yield, joint_yield, bracket_yield, negation_yield, second_yield, dotted_yield, op_yield, yield, atom_yield, links_yield, sub_yield, part_yield, extra_yield, row_yield, element_yield, attributes_yield, suffix_yield, args_yield, operator_yield}
+use Rattle.tera_grammar.specs.expressions.Marks.{Mark, LeftParen, RightParen, LeftBracket, RightBracket, QuestionBracket, LeftBrace, RightBrace, Comma, Colon, Dot, QuestionDot, Spread, Assign, Bar, At, Not, Is, If, Else, For, Operation, Other, operator_token, mark_token}
+use Rattle.tera_grammar.specs.expressions.Concrete.{Quote, Simple, Escaped, Lit, Number, Quoted, Truth, quote_token, literal_token, closing, Sign, Negative, Negates, Joint, plain_dot, optional_dot, Bracket, plain_bracket, optional_bracket, Negation, plainly, negated, Second, no_second, second, Dotted, no_dots, dots, Op, Single, NotIn, Kind, of_arguments, of_items, of_entries, Tree, Atomic, Prefix, Suffixed, Infix, Atom, Literal, Nothing, Chain, Call, Paren, Array, Comprehension, Map, Component, Links, no_links, field, item, Sub, index, slice, Part, absent, present, Extra, no_extra, extra, Row, ended, only, then, Element, plain, spread, pair, argument, Attributes, no_attributes, bare, quoted, valued, spreading, Suffix, Test, Filter, Subscript, Args, no_args, args, Operator, Binary, Condition, sign_yield, joint_yield, bracket_yield, negation_yield, second_yield, dotted_yield, op_yield, yield, atom_yield, links_yield, sub_yield, part_yield, extra_yield, row_yield, element_yield, attributes_yield, suffix_yield, args_yield, operator_yield}
 
 -- a token that is no marker
 abbrev pub IsInside : Tok → Type 0
@@ -46,6 +46,7 @@ mark_inside QuestionDot = refl
 mark_inside Spread = refl
 mark_inside Assign = refl
 mark_inside Bar = refl
+mark_inside At = refl
 mark_inside Not = refl
 mark_inside Is = refl
 mark_inside If = refl
@@ -54,12 +55,14 @@ mark_inside For = refl
 mark_inside (Operation o) = operator_inside o
 mark_inside Other = refl
 
+quote_inside : (q : Quote) → IsInside (quote_token q)
+quote_inside (Simple text) = refl
+quote_inside (Escaped text) = refl
+
 literal_inside : (l : Lit) → IsInside (literal_token l)
 literal_inside (Number n) = refl
-literal_inside (Quoted text) = refl
-literal_inside (Escaped text) = refl
+literal_inside (Quoted q) = quote_inside q
 literal_inside (Truth b) = refl
-literal_inside (Nothing word) = refl
 
 module _ (P : Items → Type 0) (later : (t : Tok) (s : Span) (r : Items) → IsInside t → P r → P (Token t s r)) where
   sign_later : (x : Sign) (r : Items) → P r → P (sign_yield x r)
@@ -99,6 +102,7 @@ module _ (P : Items → Type 0) (later : (t : Tok) (s : Span) (r : Items) → Is
 
     atom_later : (a : Atom) (r : Items) → P r → P (atom_yield a r)
     atom_later (Literal l s) r h = later _ s r (literal_inside l) h
+    atom_later (Nothing n) r h = later _ n.span r refl h
     atom_later (Chain n ls) r h = later _ n.span _ refl (links_later ls r h)
     atom_later (Call n s row) r h = later _ n.span _ refl (later _ s _ refl (row_later of_arguments row r h))
     atom_later (Paren s e t) r h = later _ s _ refl (yield_later e _ (later _ t r refl h))
@@ -141,7 +145,7 @@ module _ (P : Items → Type 0) (later : (t : Tok) (s : Span) (r : Items) → Is
     pub attributes_later : (x : Attributes) (r : Items) → P r → P (attributes_yield x r)
     attributes_later no_attributes r h = h
     attributes_later (bare n ats) r h = later _ n.span _ refl (attributes_later ats r h)
-    attributes_later (quoted n s l t ats) r h = later _ n.span _ refl (later _ s _ refl (later _ t _ (literal_inside l) (attributes_later ats r h)))
+    attributes_later (quoted n s q t ats) r h = later _ n.span _ refl (later _ s _ refl (later _ t _ (quote_inside q) (attributes_later ats r h)))
     attributes_later (valued n s b e c ats) r h = later _ n.span _ refl
         (later _ s _ refl (later _ b _ refl (yield_later e _ (later _ c _ refl (attributes_later ats r h)))))
     attributes_later (spreading b s e c ats) r h = later _ b _ refl

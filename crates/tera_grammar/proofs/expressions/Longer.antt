@@ -4,7 +4,7 @@ use Rattle.tera_lexer.specs.Tokens.{Items}
 use Rattle.tera_lexer.specs.Cursors.{size}
 use Rattle.tera_grammar.specs.expressions.Operators.{Div, GreaterThan, In}
 use Rattle.tera_grammar.specs.expressions.Marks.{Mark, RightParen, RightBracket, RightBrace, Comma, Colon, If, Else, For, Operation, mark}
-use Rattle.tera_grammar.specs.expressions.Concrete.{Sign, Negative, Negates, Joint, plain_dot, optional_dot, Bracket, plain_bracket, optional_bracket, Negation, plainly, negated, Second, no_second, second, Dotted, no_dots, dots, Op, Single, NotIn, Kind, of_arguments, of_items, of_entries, Tree, Atomic, Prefix, Suffixed, Infix, Atom, Literal, Chain, Call, Paren, Array, Comprehension, Map, Component, Links, no_links, field, item, Sub, index, slice, Part, absent, present, Extra, no_extra, extra, Row, ended, only, then, Element, plain, spread, pair, argument, Attributes, no_attributes, bare, quoted, valued, spreading, Suffix, Test, Filter, Subscript, Args, no_args, args, Operator, Binary, Condition, named, sign_yield, joint_yield, bracket_yield, negation_yield, second_yield, dotted_yield, op_yield, closing, yield, atom_yield, links_yield, sub_yield, part_yield, extra_yield, row_yield, element_yield, attributes_yield, suffix_yield, args_yield, operator_yield}
+use Rattle.tera_grammar.specs.expressions.Concrete.{Sign, Negative, Negates, Joint, plain_dot, optional_dot, Bracket, plain_bracket, optional_bracket, Negation, plainly, negated, Second, no_second, second, Dotted, no_dots, dots, Op, Single, NotIn, Kind, of_arguments, of_items, of_entries, Tree, Atomic, Prefix, Suffixed, Infix, Atom, Literal, Nothing, Chain, Call, Paren, Array, Comprehension, Map, Component, Links, no_links, field, item, Sub, index, slice, Part, absent, present, Extra, no_extra, extra, Row, ended, only, then, Element, plain, spread, pair, argument, Attributes, no_attributes, bare, quoted, valued, spreading, Suffix, Test, Filter, Subscript, Args, no_args, args, Operator, Binary, Condition, name_yield, sign_yield, joint_yield, bracket_yield, negation_yield, second_yield, dotted_yield, op_yield, closing, yield, atom_yield, links_yield, sub_yield, part_yield, extra_yield, row_yield, element_yield, attributes_yield, suffix_yield, args_yield, operator_yield}
 
 longer_sign : (x : Sign) (r : Items) → size r < size (sign_yield x r)
 longer_sign (Negative s) r = omega arith
@@ -26,7 +26,7 @@ longer_negation : (x : Negation) (r : Items) → size r ≤ size (negation_yield
 longer_negation plainly r = omega arith
 longer_negation (negated s) r = omega arith
 
-longer_second : (x : Second) (r : Items) → size r ≤ size (second_yield x r)
+pub longer_second : (x : Second) (r : Items) → size r ≤ size (second_yield x r)
 longer_second no_second r = omega arith
 longer_second (second s n) r = omega arith
 
@@ -44,6 +44,7 @@ mutual
 
   longer_atom : (a : Atom) (r : Items) → size r < size (atom_yield a r)
   longer_atom (Literal l s) r = omega arith
+  longer_atom (Nothing n) r = omega arith
   longer_atom (Chain n ls) r = let h = longer_links ls r in omega arith
   longer_atom (Call n s row) r = let h = longer_row of_arguments row r in omega arith
   longer_atom (Paren s e t) r = let h = longer e (mark RightParen t r) in omega arith
@@ -52,7 +53,7 @@ mutual
       let a = longer_extra If g (mark RightBracket c r) in
       let b = longer t (extra_yield If g (mark RightBracket c r)) in
       let d = longer_second m (mark (Operation In) i (yield t (extra_yield If g (mark RightBracket c r)))) in
-      let h = longer e (mark For f (named n (second_yield m (mark (Operation In) i
+      let h = longer e (mark For f (name_yield n (second_yield m (mark (Operation In) i
       (yield t (extra_yield If g (mark RightBracket c r))))))) in
       omega arith
   longer_atom (Map s row) r = let h = longer_row of_entries row r in omega arith
@@ -63,7 +64,7 @@ mutual
 
   pub longer_links : (ls : Links) (r : Items) → size r ≤ size (links_yield ls r)
   longer_links no_links r = omega arith
-  longer_links (field d n ls) r = let h = longer_links ls r in let k = longer_joint d (named n (links_yield ls r)) in omega arith
+  longer_links (field d n ls) r = let h = longer_links ls r in let k = longer_joint d (name_yield n (links_yield ls r)) in omega arith
   longer_links (item b s ls) r =
       let h = longer_links ls r in let k = longer_sub s (links_yield ls r) in let j = longer_bracket b
       (sub_yield s (links_yield ls r)) in omega arith
@@ -106,7 +107,7 @@ mutual
       (mark RightBrace c (attributes_yield ats r)) in omega arith
 
   pub longer_suffix : (s : Suffix) (r : Items) → size r < size (suffix_yield s r)
-  longer_suffix (Test s n w g) r = let h = longer_args g r in let k = longer_negation n (named w (args_yield g r)) in omega arith
+  longer_suffix (Test s n w g) r = let h = longer_args g r in let k = longer_negation n (name_yield w (args_yield g r)) in omega arith
   longer_suffix (Filter s w g) r = let h = longer_args g r in omega arith
   longer_suffix (Subscript s b) r = let h = longer_sub b r in omega arith
 

@@ -113,7 +113,7 @@ pub attributes_whole : (c d n : ℕ) (w : Room) (x : Attributes) → AreAttribut
     → EachAttribute (Whole (fresh n (expr d)) no_toll w) x
 attributes_whole c d n w no_attributes is h = tt
 attributes_whole c d n w (bare m ats) is h = attributes_whole c d n w ats is h
-attributes_whole c d n w (quoted m s l t ats) is h = attributes_whole c d n w ats is.1 h
+attributes_whole c d n w (quoted m s l t ats) is h = attributes_whole c d n w ats is h
 attributes_whole c d n w (valued m s b e t ats) is h = (fresh_whole c d n w e is.0 h.0, attributes_whole c d n w ats is.1 h.1)
 attributes_whole c d n w (spreading b s e t ats) is h = (fresh_whole c d n w e is.0 h.0, attributes_whole c d n w ats is.1 h.1)
 

@@ -6,15 +6,16 @@ use Rattle.tera_base.specs.declared.utils.Span.{Span}
 use Rattle.tera_lexer.specs.Tokens.{Items, Token}
 use Rattle.tera_grammar.specs.expressions.Operators.{Div, Minus, LessThan, GreaterThan, In}
 use Rattle.tera_grammar.specs.expressions.Marks.{Mark, LeftParen, RightParen, LeftBracket, RightBracket, LeftBrace, Comma, Colon, Spread, Not, If, For, Operation, mark_token, mark}
-use Rattle.tera_grammar.specs.expressions.Concrete.{Name, Lit, Number, Quoted, Escaped, Truth, Nothing, Sign, Negative, Negates, Joint, plain_dot, optional_dot, Bracket, plain_bracket, optional_bracket, Second, no_second, second, Dotted, of_arguments, of_items, of_entries, Tree, Atomic, Prefix, Suffixed, Infix, Atom, Literal, Chain, Call, Paren, Array, Comprehension, Map, Component, Links, no_links, field, item, Sub, index, slice, Part, absent, present, Extra, no_extra, extra, Row, ended, only, then, Element, plain, spread, pair, argument, Attributes, no_args, args, literal_token, named, sign_yield, joint_yield, bracket_yield, second_yield, dotted_yield, yield, atom_yield, links_yield, part_yield, extra_yield, row_yield, element_yield, attributes_yield}
+use Rattle.tera_grammar.specs.expressions.Concrete.{Name, Simple, Escaped, Lit, Number, Quoted, Truth, Sign, Negative, Negates, Joint, plain_dot, optional_dot, Bracket, plain_bracket, optional_bracket, Second, no_second, second, Dotted, of_arguments, of_items, of_entries, Tree, Atomic, Prefix, Suffixed, Infix, Atom, Literal, Nothing, Chain, Call, Paren, Array, Comprehension, Map, Component, Links, no_links, field, item, Sub, index, slice, Part, absent, present, Extra, no_extra, extra, Row, ended, only, then, Element, plain, spread, pair, argument, Attributes, no_args, args, literal_token, name_yield, sign_yield, joint_yield, bracket_yield, second_yield, dotted_yield, yield, atom_yield, links_yield, part_yield, extra_yield, row_yield, element_yield, attributes_yield}
 use Rattle.tera_grammar.specs.expressions.Powers.{sign_power, BeginsPlain}
 use Rattle.tera_grammar.specs.Words.{is_none, is_not}
-use Rattle.tera_grammar.specs.expressions.Conditions.{IsLiteral, IsFirst, is_field_of, AreVariables, IsExpression, IsAtom, IsRow, IsStopMark}
+use Rattle.tera_grammar.specs.expressions.Conditions.{IsFirst, is_field_of, AreVariables, IsExpression, IsAtom, IsRow}
 use Rattle.tera_grammar.specs.expressions.Measures.{links, part_links, extra_links, EachRow}
 use Rattle.tera_grammar.specs.expressions.Output.{of_loop}
 use Rattle.tera_grammar.specs.expressions.Reading.Front.{Place, at, Reads, same_token, takes, moved, skip, name_of, no_link, jointed, bracketed, link_of, head_mark, begins_sign}
 use Rattle.tera_grammar.specs.expressions.Reading.Parts.{Room, room, Reader, inside_subscript, inside_array, extra_at, extra_of, part_at, part_of, slice_of, sub_at, sub_of, element_of, after_element, row_of, arguments_of, args_at, args_of, links_at, links_by, links_of, dotted_of, attributes_of}
 use Rattle.tera_grammar.specs.expressions.Reading.Atoms.{prefix_of, paren_of, variables_of, comprehension_of, items_from, for_at, array_from, array_at, array_of, map_of, component_of, called_at, chain_of, word_head, head_of}
+use Rattle.tera_grammar.specs.expressions.Ends.{IsStopMark}
 use Rattle.tera_grammar.proofs.expressions.Fronts.{none_skip, skip_mark, skip_past, bump_read, name_read, unlinked_apart}
 use Rattle.tera_grammar.proofs.expressions.FoundRows.{row_toll}
 use Rattle.tera_grammar.proofs.expressions.ReadRows.{Whole, Bars, free, after_end, after_comma, element_read, element_free, row_read}
@@ -134,11 +135,11 @@ module _ (f : Reader) (bars : Bars f) where
 
   pub field_read : (n : ℕ) (w : Room) (c : Bool) (d : Joint) (m : Name) (ls : Links) (j : ℕ) (us : Items) (q : Place)
       → is_field_of c m.text ≡ true → links_by n f w c (at j us) ≡ Some (ls, q)
-      → links_by (suc n) f w c (at (suc j) (joint_yield d (named m us))) ≡ Some (field d m ls, q)
+      → links_by (suc n) f w c (at (suc j) (joint_yield d (name_yield m us))) ≡ Some (field d m ls, q)
   unfolding links_by
   field_read n w c d m ls j us q fits h =
-      ap (links_at (links_by n f w c) f w c (at (suc j) (joint_yield d (named m us)))) (joint_front d (named m us))
-      ∙ rw (bump_read j (named m us), name_read m j us, fits, h)
+      ap (links_at (links_by n f w c) f w c (at (suc j) (joint_yield d (name_yield m us)))) (joint_front d (name_yield m us))
+      ∙ rw (bump_read j (name_yield m us), name_read m j us, fits, h)
 
   pub item_link_read : (n : ℕ) (w : Room) (c : Bool) (b : Bracket) (s : Sub) (ls : Links) (i j : ℕ) (vs us : Items) (q : Place)
       → sub_of f w (at i vs) ≡ Some (s, at j us) → links_by n f w c (at j us) ≡ Some (ls, q)
@@ -233,33 +234,33 @@ module _ (f : Reader) (bars : Bars f) where
 
   -- a comprehension
   pub second_read : (n : Name) (m : Second) (k : ℕ) (i : Span) (r : Items) → AreVariables n m
-      → variables_of (at k (named n (second_yield m (mark (Operation In) i r)))) ≡ Some ((n, m), at k (mark (Operation In) i r))
+      → variables_of (at k (name_yield n (second_yield m (mark (Operation In) i r)))) ≡ Some ((n, m), at k (mark (Operation In) i r))
   unfolding variables_of name_of skip
   second_read n no_second k i r free_name = rw free_name
   second_read n (second s m) k i r free_names = rw (free_names.0, free_names.1)
 
   pub comprehension_read : (w v : Room) (s : Span) (e : Tree) (g : Span) (n : Name) (m : Second) (i : Span) (t : Tree) (x : Extra)
       (c : Span) (h j k : ℕ) (r : Items)
-      → f v 0 (at h (yield e (mark For g (named n (second_yield m
+      → f v 0 (at h (yield e (mark For g (name_yield n (second_yield m
       (mark (Operation In) i (yield t (extra_yield If x (mark RightBracket c r)))))))))
       ≡ Some (
         e,
-        at j (mark For g (named n (second_yield m (mark (Operation In) i
+        at j (mark For g (name_yield n (second_yield m (mark (Operation In) i
             (yield t (extra_yield If x (mark RightBracket c r))))))),
       )
       → AreVariables n m → f w 1 (at j (yield t (extra_yield If x (mark RightBracket c r)))) ≡ Some
       (t, at (extra_links x + k) (extra_yield If x (mark RightBracket c r)))
       → extra_of f w If 1 (at (extra_links x + k) (extra_yield If x (mark RightBracket c r))) ≡ Some
       (x, at k (mark RightBracket c r))
-      → array_at f w v s (at h (yield e (mark For g (named n (second_yield m
+      → array_at f w v s (at h (yield e (mark For g (name_yield n (second_yield m
       (mark (Operation In) i (yield t (extra_yield If x (mark RightBracket c r)))))))))
-      (skip RightBracket (at h (yield e (mark For g (named n (second_yield m
+      (skip RightBracket (at h (yield e (mark For g (name_yield n (second_yield m
       (mark (Operation In) i (yield t (extra_yield If x (mark RightBracket c r)))))))))) ≡ Some
       (Atomic (Comprehension s e g n m i t x c), at k r)
   unfolding comprehension_of element_of
   comprehension_read w v s e g n m i t x c h j k r element vars target guard =
       let vs = yield t (extra_yield If x (mark RightBracket c r)) in
-      let us = named n (second_yield m (mark (Operation In) i vs)) in
+      let us = name_yield n (second_yield m (mark (Operation In) i vs)) in
       rw (
         free f bars RightBracket tt v 0 h (yield e (mark For g us)) _ element,
         free f bars Spread tt v 0 h (yield e (mark For g us)) _ element,
@@ -277,7 +278,7 @@ module _ (f : Reader) (bars : Bars f) where
       (ds, at j (attributes_yield x (mark (Operation Div) t (mark (Operation GreaterThan) u r))))
       → attributes_of f w (at j (attributes_yield x (mark (Operation Div) t (mark (Operation GreaterThan) u r)))) ≡ Some
       (x, at k (mark (Operation Div) t (mark (Operation GreaterThan) u r)))
-      → head_of f w (at j (mark (Operation LessThan) s (named n
+      → head_of f w (at j (mark (Operation LessThan) s (name_yield n
       (dotted_yield ds (attributes_yield x (mark (Operation Div) t (mark (Operation GreaterThan) u r))))))) ≡ Some
       (Atomic (Component s n ds x t u), at k r)
   unfolding head_mark component_of
@@ -290,28 +291,31 @@ module _ (f : Reader) (bars : Bars f) where
         skip_mark (Operation GreaterThan) refl k u r,
       )
 
-  pub literal_head_read : (w : Room) (l : Lit) (s : Span) (k : ℕ) (r : Items) → IsLiteral l
+  pub literal_head_read : (w : Room) (l : Lit) (s : Span) (k : ℕ) (r : Items)
       → head_of f w (at k (Token (literal_token l) s r)) ≡ Some (Atomic (Literal l s), at k r)
+  literal_head_read w (Number n) s k r = refl
+  literal_head_read w (Quoted (Simple text)) s k r = refl
+  literal_head_read w (Quoted (Escaped text)) s k r = refl
+  literal_head_read w (Truth b) s k r = refl
+
+  pub nothing_read : (w : Room) (n : Name) (k : ℕ) (r : Items) → is_none n.text ≡ true
+      → head_of f w (at k (name_yield n r)) ≡ Some (Atomic (Nothing n), at k r)
   unfolding word_head
-  literal_head_read w (Number n) s k r is = refl
-  literal_head_read w (Quoted text) s k r is = refl
-  literal_head_read w (Escaped text) s k r is = refl
-  literal_head_read w (Truth b) s k r is = refl
-  literal_head_read w (Nothing word) s k r is = rw is
+  nothing_read w n k r is = rw is
 
   chain_head : (w : Room) (n : Name) (k : ℕ) (us : Items) → IsFirst n
-      → head_of f w (at k (named n us)) ≡ called_at f w n (at k us) (skip LeftParen (at k us))
+      → head_of f w (at k (name_yield n us)) ≡ called_at f w n (at k us) (skip LeftParen (at k us))
   unfolding word_head chain_of
   chain_head w n k us is = rw (is.0, is.1)
 
   pub chain_read : (w : Room) (n : Name) (ls : Links) (j k : ℕ) (us r : Items) → IsFirst n → skip LeftParen (at j us) ≡ None
       → links_of f w (of_loop w.in_loop n) (at j us) ≡ Some (ls, at k r)
-      → head_of f w (at j (named n us)) ≡ Some (Atomic (Chain n ls), at k r)
+      → head_of f w (at j (name_yield n us)) ≡ Some (Atomic (Chain n ls), at k r)
   chain_read w n ls j k us r is none h = chain_head w n j us is ∙ ap (called_at f w n (at j us)) none ∙ rw h
 
   pub call_read : (w : Room) (n : Name) (s : Span) (row : Row) (j k : ℕ) (us r : Items) → IsFirst n
       → arguments_of f w (at j us) ≡ Some (row, at k r)
-      → head_of f w (at j (named n (mark LeftParen s us))) ≡ Some (Atomic (Call n s row), at k r)
+      → head_of f w (at j (name_yield n (mark LeftParen s us))) ≡ Some (Atomic (Call n s row), at k r)
   call_read w n s row j k us r is h = chain_head w n j (mark LeftParen s us) is
       ∙ ap (called_at f w n _) (skip_mark LeftParen refl j s us) ∙ rw h
 
@@ -337,21 +341,25 @@ none_not word h =
     (cases_Bool (bytes_eq word (codes "None"))))
     (cases_Bool (bytes_eq word (codes "none")))
 
-literal_plain : (l : Lit) (s : Span) (r : Items) → IsLiteral l → begins_sign (Token (literal_token l) s r) ≡ false
+literal_plain : (l : Lit) (s : Span) (r : Items) → begins_sign (Token (literal_token l) s r) ≡ false
 unfolding begins_sign
-literal_plain (Number n) s r h = refl
-literal_plain (Quoted text) s r h = refl
-literal_plain (Escaped text) s r h = refl
-literal_plain (Truth b) s r h = refl
-literal_plain (Nothing word) s r h = rw (none_not word h)
+literal_plain (Number n) s r = refl
+literal_plain (Quoted (Simple text)) s r = refl
+literal_plain (Quoted (Escaped text)) s r = refl
+literal_plain (Truth b) s r = refl
 
-name_plain : (n : Name) (r : Items) → IsFirst n → begins_sign (named n r) ≡ false
+nothing_plain : (n : Name) (r : Items) → is_none n.text ≡ true → begins_sign (name_yield n r) ≡ false
+unfolding begins_sign
+nothing_plain n r h = rw (none_not n.text h)
+
+name_plain : (n : Name) (r : Items) → IsFirst n → begins_sign (name_yield n r) ≡ false
 unfolding begins_sign
 name_plain n r h = rw h.1
 
 atom_plain : (l : Bool) (a : Atom) (r : Items) → IsAtom l a → begins_sign (atom_yield a r) ≡ false
 unfolding begins_sign
-atom_plain l (Literal x s) r is = literal_plain x s r is
+atom_plain l (Literal x s) r is = literal_plain x s r
+atom_plain l (Nothing n) r is = nothing_plain n r is
 atom_plain l (Chain n ls) r is = name_plain n (links_yield ls r) is.0
 atom_plain l (Call n s row) r is = name_plain n (mark LeftParen s (row_yield of_arguments row r)) is.0
 atom_plain l (Paren s e t) r is = refl

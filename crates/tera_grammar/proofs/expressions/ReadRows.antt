@@ -1,16 +1,17 @@
--- Rows, attributes and names are read from their tokens, for any way to count links.
-use Rattle.std.proofs.Common.{◌≡◌, ℕ, zero, suc, ◌+◌, ◌<◌, Bool, true, false, Option, Some, None, refl, sym, ap, subst, ◌∙◌, arith}
+-- Rows, attributes and argument_names are read from their tokens, for any way to count links.
+use Rattle.std.proofs.Common.{◌≡◌, ℕ, zero, suc, ◌+◌, ◌<◌, true, false, Option, Some, None, refl, sym, ap, subst, ◌∙◌, arith}
 use Rattle.std.proofs.lemmas.Option.{none-some}
 use Rattle.tera_base.specs.declared.utils.Span.{Span}
 use Rattle.tera_lexer.specs.Tokens.{Items, Token}
 use Rattle.tera_lexer.specs.Cursors.{size}
 use Rattle.tera_grammar.specs.expressions.Marks.{Mark, RightParen, RightBracket, LeftBrace, RightBrace, Comma, Colon, Dot, Spread, Assign, mark_token, mark}
-use Rattle.tera_grammar.specs.expressions.Concrete.{Name, Lit, Number, Quoted, Escaped, Truth, Nothing, Dotted, no_dots, dots, Kind, of_arguments, of_items, of_entries, Tree, Row, ended, only, then, Element, plain, spread, pair, argument, Attributes, no_attributes, bare, quoted, valued, spreading, literal_token, named, dotted_yield, closing, yield, row_yield, element_yield, attributes_yield}
+use Rattle.tera_grammar.specs.expressions.Concrete.{Name, Quote, Simple, Escaped, Lit, Number, Quoted, Truth, Dotted, no_dots, dots, Kind, of_arguments, of_items, of_entries, Tree, Row, ended, only, then, Element, plain, spread, pair, argument, Attributes, no_attributes, bare, quoted, valued, spreading, quote_token, literal_token, name_yield, dotted_yield, closing, yield, row_yield, element_yield, attributes_yield}
 use Rattle.tera_grammar.specs.Words.{AreDistinct}
-use Rattle.tera_grammar.specs.expressions.Conditions.{is_key, is_text, is_element_of, names, IsRow, IsElement, AreAttributes, IsStopMark}
+use Rattle.tera_grammar.specs.expressions.Conditions.{is_element_of, argument_names, IsRow, IsElement, AreAttributes}
 use Rattle.tera_grammar.specs.expressions.Measures.{EachElement, EachRow, EachAttribute}
-use Rattle.tera_grammar.specs.expressions.Reading.Front.{Place, at, Reads, same_token, takes, skip, taken_name, name_of, literal_by}
+use Rattle.tera_grammar.specs.expressions.Reading.Front.{Place, at, Reads, same_token, takes, skip, taken_name, name_of, literal_at, quote_at}
 use Rattle.tera_grammar.specs.expressions.Reading.Parts.{Room, Reader, item_at, entry_at, element_of, after_element, row_at, row_by, row_of, arguments_of, dotted_by, dotted_of, attributes_by, attributes_of}
+use Rattle.tera_grammar.specs.expressions.Ends.{IsStopMark}
 use Rattle.tera_grammar.proofs.Words.{distinct_true}
 use Rattle.tera_grammar.proofs.expressions.Fronts.{takes_ok, none_skip, skip_mark, name_read}
 use Rattle.tera_grammar.proofs.expressions.Longer.{longer, longer_element}
@@ -46,27 +47,24 @@ pub free : (f : Reader) → Bars f → (m : Mark) → IsBarred m → (w : Room) 
     → f w n (at k ts) ≡ Some x → skip m (at k ts) ≡ None
 free f bars m barred w n k ts x h = none_skip m k ts (free_of f bars m barred w n k ts x h (takes m ts) refl)
 
-literal_read : (test : Lit → Bool) (l : Lit) (s : Span) (k : ℕ) (r : Items) → is_key l ≡ true → test l ≡ true
-    → literal_by test (at k (Token (literal_token l) s r)) ≡ Some ((l, s), at k r)
-unfolding literal_by
-literal_read test (Number n) s k r key h = rw h
-literal_read test (Quoted text) s k r key h = rw h
-literal_read test (Escaped text) s k r key h = rw h
-literal_read test (Truth b) s k r key h = rw h
-literal_read test (Nothing word) s k r key h = cc
+literal_read : (l : Lit) (s : Span) (k : ℕ) (r : Items) → literal_at (at k (Token (literal_token l) s r)) ≡ Some ((l, s), at k r)
+unfolding literal_at
+literal_read (Number n) s k r = refl
+literal_read (Quoted (Simple text)) s k r = refl
+literal_read (Quoted (Escaped text)) s k r = refl
+literal_read (Truth b) s k r = refl
 
-literal_past : (m : Mark) (l : Lit) (s : Span) (k : ℕ) (r : Items) → is_key l ≡ true
-    → skip m (at k (Token (literal_token l) s r)) ≡ None
+quote_read : (q : Quote) (s : Span) (k : ℕ) (r : Items) → quote_at (at k (Token (quote_token q) s r)) ≡ Some ((q, s), at k r)
+unfolding quote_at
+quote_read (Simple text) s k r = refl
+quote_read (Escaped text) s k r = refl
+
+literal_past : (m : Mark) (l : Lit) (s : Span) (k : ℕ) (r : Items) → skip m (at k (Token (literal_token l) s r)) ≡ None
 unfolding skip
-literal_past m (Number n) s k r key = refl
-literal_past m (Quoted text) s k r key = refl
-literal_past m (Escaped text) s k r key = refl
-literal_past m (Truth b) s k r key = refl
-literal_past m (Nothing word) s k r key = cc
-
-text_is_key : (l : Lit) → is_text l ≡ true → is_key l ≡ true
-text_is_key (Nothing word) h = cc
-text_is_key _ h = refl
+literal_past m (Number n) s k r = refl
+literal_past m (Quoted (Simple text)) s k r = refl
+literal_past m (Quoted (Escaped text)) s k r = refl
+literal_past m (Truth b) s k r = refl
 
 pub closing_own : (k : Kind) → same_token (mark_token (closing k)) (mark_token (closing k)) ≡ true
 closing_own of_arguments = refl
@@ -83,7 +81,7 @@ closing_stops of_arguments = tt
 closing_stops of_items = tt
 closing_stops of_entries = tt
 
-name_past : (k : Kind) (n : Name) (j : ℕ) (r : Items) → skip (closing k) (at j (named n r)) ≡ None
+name_past : (k : Kind) (n : Name) (j : ℕ) (r : Items) → skip (closing k) (at j (name_yield n r)) ≡ None
 unfolding skip
 name_past of_arguments n j r = refl
 name_past of_items n j r = refl
@@ -123,7 +121,7 @@ no_assign (valued n s b e c ats) k r h = refl
 no_assign (spreading b s e c ats) k r h = refl
 
 dotted_more : (n : ℕ) (s : Span) (m : Name) (ds : Dotted) (k : ℕ) (us r : Items) → dotted_by n (at k us) ≡ Some (ds, at k r)
-    → dotted_by (suc n) (at k (mark Dot s (named m us))) ≡ Some (dots s m ds, at k r)
+    → dotted_by (suc n) (at k (mark Dot s (name_yield m us))) ≡ Some (dots s m ds, at k r)
 unfolding dotted_by skip name_of
 dotted_more n s m ds k us r h = rw h
 
@@ -158,21 +156,21 @@ module _ (f : Reader) (toll : Tree → ℕ) (bars : Bars f) (w : Room) where
   spread_read of_items b e may m stop s j r whole = ap (item_at f w _) (skip_mark Spread refl _ b _) ∙ rw (whole m stop s j r)
   spread_read of_entries b e may m stop s j r whole = ap (entry_at f w _) (skip_mark Spread refl _ b _) ∙ rw (whole m stop s j r)
 
-  pair_read : (l : Lit) (a b : Span) (e : Tree) → is_key l ≡ true → (m : Mark) → IsStopMark m → (s : Span) (j : ℕ) (r : Items)
+  pair_read : (l : Lit) (a b : Span) (e : Tree) (m : Mark) → IsStopMark m → (s : Span) (j : ℕ) (r : Items)
       → Whole f toll w e
       → element_of f w of_entries (at (toll e + j) (Token (literal_token l) a (mark Colon b (yield e (mark m s r))))) ≡ Some
       (pair l a b e, at j (mark m s r))
   unfolding element_of
-  pair_read l a b e key m stop s j r whole =
-      ap (entry_at f w _) (literal_past Spread l a _ _ key) ∙ rw (
-        literal_read is_key l a (toll e + j) (mark Colon b (yield e (mark m s r))) key key,
+  pair_read l a b e m stop s j r whole =
+      ap (entry_at f w _) (literal_past Spread l a _ _) ∙ rw (
+        literal_read l a (toll e + j) (mark Colon b (yield e (mark m s r))),
         skip_mark Colon refl (toll e + j) b
             (yield e (mark m s r)),
         whole m stop s j r,
       )
 
   argument_read : (n : Name) (b : Span) (e : Tree) (m : Mark) → IsStopMark m → (s : Span) (j : ℕ) (r : Items) → Whole f toll w e
-      → element_of f w of_arguments (at (toll e + j) (named n (mark Assign b (yield e (mark m s r))))) ≡ Some
+      → element_of f w of_arguments (at (toll e + j) (name_yield n (mark Assign b (yield e (mark m s r))))) ≡ Some
       (argument n b e, at j (mark m s r))
   unfolding element_of
   argument_read n b e m stop s j r whole =
@@ -190,7 +188,7 @@ module _ (f : Reader) (toll : Tree → ℕ) (bars : Bars f) (w : Room) where
   element_read of_entries (plain e) is whole m stop s j r = let clash : false ≡ true = is.0 in cc
   element_read of_arguments (plain e) is whole m stop s j r = let clash : false ≡ true = is.0 in cc
   element_read k (spread b e) is whole m stop s j r = spread_read k b e is.0 m stop s j r whole
-  element_read of_entries (pair l a b e) is whole m stop s j r = pair_read l a b e is.0 m stop s j r whole
+  element_read of_entries (pair l a b e) is whole m stop s j r = pair_read l a b e m stop s j r whole
   element_read of_items (pair l a b e) is whole m stop s j r = let clash : false ≡ true = is.0 in cc
   element_read of_arguments (pair l a b e) is whole m stop s j r = let clash : false ≡ true = is.0 in cc
   element_read of_arguments (argument n b e) is whole m stop s j r = argument_read n b e m stop s j r whole
@@ -203,7 +201,7 @@ module _ (f : Reader) (toll : Tree → ℕ) (bars : Bars f) (w : Room) where
       → skip (closing k) (at (element_toll toll x + j) (element_yield x (mark m s r))) ≡ None
   element_free k (plain e) is whole m stop s j r = free f bars (closing k) (closing_barred k) w 0 _ _ _ (whole m stop s j r)
   element_free k (spread b e) is whole m stop s j r = spread_past k b _ _
-  element_free of_entries (pair l a b e) is whole m stop s j r = literal_past RightBrace l a _ _ is.0
+  element_free of_entries (pair l a b e) is whole m stop s j r = literal_past RightBrace l a _ _
   element_free of_items (pair l a b e) is whole m stop s j r = let clash : false ≡ true = is.0 in cc
   element_free of_arguments (pair l a b e) is whole m stop s j r = let clash : false ≡ true = is.0 in cc
   element_free k (argument n b e) is whole m stop s j r = name_past k n _ _
@@ -242,11 +240,11 @@ module _ (f : Reader) (toll : Tree → ℕ) (bars : Bars f) (w : Room) where
   unfolding row_of
   row_read row k j r is whole = row_by_read row (suc (size (row_yield k row r))) k j r (omega arith) is whole
 
-  pub arguments_read : (row : Row) (j : ℕ) (r : Items) → IsRow w.in_loop of_arguments row → AreDistinct (names row)
+  pub arguments_read : (row : Row) (j : ℕ) (r : Items) → IsRow w.in_loop of_arguments row → AreDistinct (argument_names row)
       → EachRow (Whole f toll w) row
       → arguments_of f w (at (row_toll toll row + j) (row_yield of_arguments row r)) ≡ Some (row, at j r)
   unfolding arguments_of
-  arguments_read row j r is distinct whole = rw (row_read row of_arguments j r is whole, distinct_true (names row) distinct)
+  arguments_read row j r is distinct whole = rw (row_read row of_arguments j r is whole, distinct_true (argument_names row) distinct)
 
   attributes_end : (n j : ℕ) (r : Items) → NoAttribute r → attributes_by (suc n) f w (at j r) ≡ Some (no_attributes, at j r)
   unfolding attributes_by name_of skip
@@ -254,24 +252,23 @@ module _ (f : Reader) (toll : Tree → ℕ) (bars : Bars f) (w : Room) where
 
   bare_read : (n : ℕ) (x : Name) (ats : Attributes) (i : ℕ) (us : Items) (q : Place) → skip Assign (at i us) ≡ None
       → attributes_by n f w (at i us) ≡ Some (ats, q)
-      → attributes_by (suc n) f w (at i (named x us)) ≡ Some (bare x ats, q)
+      → attributes_by (suc n) f w (at i (name_yield x us)) ≡ Some (bare x ats, q)
   unfolding attributes_by name_of
   bare_read n x ats i us q none h = rw (none, h)
 
-  quoted_read : (n : ℕ) (x : Name) (s : Span) (l : Lit) (t : Span) (ats : Attributes) (i : ℕ) (us : Items) (q : Place)
-      → is_text l ≡ true → attributes_by n f w (at i us) ≡ Some (ats, q)
-      → attributes_by (suc n) f w (at i (named x (mark Assign s (Token (literal_token l) t us)))) ≡ Some (quoted x s l t ats, q)
+  quoted_read : (n : ℕ) (x : Name) (s : Span) (l : Quote) (t : Span) (ats : Attributes) (i : ℕ) (us : Items) (q : Place)
+      → attributes_by n f w (at i us) ≡ Some (ats, q)
+      → attributes_by (suc n) f w (at i (name_yield x (mark Assign s (Token (quote_token l) t us)))) ≡ Some (quoted x s l t ats, q)
   unfolding attributes_by name_of
-  quoted_read n x s l t ats i us q text h =
-      rw (skip_mark Assign refl i s (Token (literal_token l) t us), literal_read is_text l t i us (text_is_key l text) text, h)
+  quoted_read n x s l t ats i us q h = rw (skip_mark Assign refl i s (Token (quote_token l) t us), quote_read l t i us, h)
 
-  no_text : (b : Span) (k : ℕ) (r : Items) → literal_by is_text (at k (mark LeftBrace b r)) ≡ None
-  unfolding literal_by
+  no_text : (b : Span) (k : ℕ) (r : Items) → quote_at (at k (mark LeftBrace b r)) ≡ None
+  unfolding quote_at
   no_text b k r = refl
 
   valued_read : (n : ℕ) (x : Name) (s b : Span) (e : Tree) (c : Span) (ats : Attributes) (i : ℕ) (us : Items) (q : Place)
       → Whole f toll w e → attributes_by n f w (at i us) ≡ Some (ats, q)
-      → attributes_by (suc n) f w (at (toll e + i) (named x (mark Assign s (mark LeftBrace b (yield e (mark RightBrace c us))))))
+      → attributes_by (suc n) f w (at (toll e + i) (name_yield x (mark Assign s (mark LeftBrace b (yield e (mark RightBrace c us))))))
       ≡ Some (valued x s b e c ats, q)
   unfolding attributes_by name_of
   valued_read n x s b e c ats i us q whole h =
@@ -313,8 +310,8 @@ module _ (f : Reader) (toll : Tree → ℕ) (bars : Bars f) (w : Room) where
       bare_read n x ats (attributes_toll toll ats + j) (attributes_yield ats r) (at j r) (no_assign ats _ r none.assign)
       (attributes_by_read ats n j r (omega arith) is whole none)
   attributes_by_read (quoted x s l t ats) (suc n) j r enough is whole none =
-      quoted_read n x s l t ats (attributes_toll toll ats + j) (attributes_yield ats r) (at j r) is.0
-      (attributes_by_read ats n j r (omega arith) is.1 whole none)
+      quoted_read n x s l t ats (attributes_toll toll ats + j) (attributes_yield ats r) (at j r)
+      (attributes_by_read ats n j r (omega arith) is whole none)
   attributes_by_read (valued x s b e c ats) (suc n) j r enough is whole none =
       let less = longer e (mark RightBrace c (attributes_yield ats r)) in
       ap (λ i. attributes_by (suc n) f w (at i (attributes_yield (valued x s b e c ats) r))) (omega arith)

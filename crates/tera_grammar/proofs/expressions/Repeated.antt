@@ -5,7 +5,7 @@ use Rattle.std.proofs.lemmas.List.Folds.{list_any-append}
 use Rattle.tera_base.specs.declared.utils.Span.{Span}
 use Rattle.tera_grammar.specs.expressions.Concrete.{Name, Row, then, argument, Tree}
 use Rattle.tera_grammar.specs.Words.{is_one_of, are_distinct}
-use Rattle.tera_grammar.specs.expressions.Conditions.{names}
+use Rattle.tera_grammar.specs.expressions.Conditions.{argument_names}
 use Rattle.tera_grammar.proofs.Options.{not_ok, or_false, and_ok}
 
 and_false : (b : Bool) → (b && false) ≡ false
@@ -70,7 +70,7 @@ pub given_names : List Given → List (List ℕ)
 given_names [] = []
 given_names (g ∷ gs) = g.name.text ∷ given_names gs
 
-pub names_in_front : (gs : List Given) (row : Row) → names (in_front gs row) ≡ given_names gs ++ names row
+pub names_in_front : (gs : List Given) (row : Row) → argument_names (in_front gs row) ≡ given_names gs ++ argument_names row
 unfolding in_front given_names
 names_in_front [] row = refl
 names_in_front (g ∷ gs) row = ap (λ ns. g.name.text ∷ ns) (names_in_front gs row)

@@ -1,15 +1,15 @@
--- The numbers that bound rows, links, attributes and names have no say: equations without them, for the loops
+-- The numbers that bound rows, links, attributes and argument_names have no say: equations without them, for the loops
 -- of a program.
 use Rattle.std.proofs.Common.{◌≡◌, ℕ, zero, suc, ◌<◌, ◌≤◌, Bool, cond, Some, None, refl, sym, ap, subst, ◌∙◌, arith, lt_trans}
 use Rattle.tera_base.specs.declared.utils.Span.{Span}
 use Rattle.tera_lexer.specs.Cursors.{size}
 use Rattle.tera_grammar.specs.expressions.Marks.{LeftBrace, RightBrace, Comma, Dot, Spread, Assign, mark}
-use Rattle.tera_grammar.specs.expressions.Concrete.{Name, Lit, Dotted, dots, Kind, Tree, Links, field, item, Row, then, Element, Attributes, bare, quoted, valued, spreading, named, joint_yield, bracket_yield, closing, yield, sub_yield}
-use Rattle.tera_grammar.specs.expressions.Conditions.{is_text, is_field_of}
+use Rattle.tera_grammar.specs.expressions.Concrete.{Name, Quote, Dotted, dots, Kind, Tree, Links, field, item, Row, then, Element, Attributes, bare, quoted, valued, spreading, name_yield, joint_yield, bracket_yield, closing, yield, sub_yield}
+use Rattle.tera_grammar.specs.expressions.Conditions.{is_field_of}
 use Rattle.tera_grammar.specs.Options.{◌>>=◌}
-use Rattle.tera_grammar.specs.expressions.Reading.Front.{Place, at, Reads, skip, bump, name_of, literal_by, Link, no_link, jointed, bracketed, called, link_of}
+use Rattle.tera_grammar.specs.expressions.Reading.Front.{Place, at, Reads, skip, bump, name_of, quote_at, Link, no_link, jointed, bracketed, called, link_of}
 use Rattle.tera_grammar.specs.expressions.Reading.Parts.{Room, Reader, sub_of, element_of, comma_at, after_element, row_at, row_by, row_of, links_at, links_by, links_of, dotted_at, dotted_by, dotted_of, value_at, named_at, attribute_at, attributes_by, attributes_of}
-use Rattle.tera_grammar.proofs.expressions.Fronts.{skip_ok, bump_ok, name_of_ok, literal_by_ok, LinkOf, LinkOf-link_of}
+use Rattle.tera_grammar.proofs.expressions.Fronts.{skip_ok, bump_ok, name_of_ok, quote_at_ok, LinkOf, LinkOf-link_of}
 use Rattle.tera_grammar.proofs.expressions.Longer.{longer_joint, longer_bracket, longer, longer_sub, longer_element}
 use Rattle.tera_grammar.proofs.expressions.FoundRows.{Sound, element_found}
 use Rattle.tera_grammar.proofs.expressions.FoundParts.{SoundTree, sub_found}
@@ -55,12 +55,12 @@ module _ (toll : Tree → ℕ) (fits : Room → Tree → Type 0) (d : ℕ) (f : 
       row_at_agree k (row_by (size p.tokens) f w k) (row_of f w k) p (skip (closing k) p)
       (λ q h. row_agree (size p.tokens) (suc (size q.tokens)) k q h (omega arith))
 
-  value_agree : (more other : Place → Reads Attributes) (n : Name) (s : Span) (p : Place) (o : Reads (Lit × Span))
-      → literal_by is_text p ≡ o
+  value_agree : (more other : Place → Reads Attributes) (n : Name) (s : Span) (p : Place) (o : Reads (Quote × Span))
+      → quote_at p ≡ o
       → ((q : Place) → size q.tokens < size p.tokens → more q ≡ other q) → value_at more f w n s p o ≡ value_at other f w n s p o
   value_agree more other n s p (Some l) is same =
-      let at_text = literal_by_ok is_text p l is in
-      let less : size l.1.tokens < size p.tokens = subst (λ v. size l.1.tokens < size v) (sym at_text.1) (omega arith) in
+      let at_text = quote_at_ok p l is in
+      let less : size l.1.tokens < size p.tokens = subst (λ v. size l.1.tokens < size v) (sym at_text.0) (omega arith) in
       ap (λ o. o >>= λ r. Some (quoted n s l.0.0 l.0.1 r.0, r.1)) (same l.1 less)
   value_agree more other n s p None is same =
       bind_both (skip LeftBrace p) _ _ (λ b braced. bind_both (f w 0 b.1) _ _
@@ -80,7 +80,7 @@ module _ (toll : Tree → ℕ) (fits : Room → Tree → Type 0) (d : ℕ) (f : 
   named_agree more other n p (Some y) is same =
       let at_assign = skip_ok Assign p y is in
       let less : size y.1.tokens < size p.tokens = subst (λ v. size y.1.tokens < size v) (sym at_assign.0) (omega arith) in
-      value_agree more other n y.0 y.1 (literal_by is_text y.1) refl (λ q h. same q (omega (arith, h, less)))
+      value_agree more other n y.0 y.1 (quote_at y.1) refl (λ q h. same q (omega (arith, h, less)))
 
   attribute_agree : (more other : Place → Reads Attributes) (p : Place) (o : Reads Name) → name_of p ≡ o → (b : Reads Span)
       → skip LeftBrace p ≡ b
@@ -125,7 +125,7 @@ dotted_at_agree more other p (Some y) is same =
     bind_both (name_of y.1) _ _ (λ n name.
     let at_dot = skip_ok Dot p y is in
     let at_name = name_of_ok y.1 n name in
-    let all : p.tokens ≡ mark Dot y.0 (named n.0 n.1.tokens) = at_dot.0 ∙ ap (mark Dot y.0) at_name.0 in
+    let all : p.tokens ≡ mark Dot y.0 (name_yield n.0 n.1.tokens) = at_dot.0 ∙ ap (mark Dot y.0) at_name.0 in
     let less : size n.1.tokens < size p.tokens = subst (λ v. size n.1.tokens < size v) (sym all) (omega arith) in
     ap (λ o. o >>= λ ds. Some (dots y.0 n.0 ds.0, ds.1)) (same n.1 less))
 
@@ -151,8 +151,8 @@ module _ (d : ℕ) (f : Reader) (sound : SoundTree d f) (w : Room) (c : Bool) wh
       bind_both (bump (at p.links us)) _ _ (λ q bumped. bind_both (name_of q) _ _ (λ n name.
       let low = bump_ok (at p.links us) q bumped in
       let at_name = name_of_ok q n name in
-      let all : p.tokens ≡ joint_yield j (named n.0 n.1.tokens) = is ∙ ap (joint_yield j) (low.1 ∙ at_name.0) in
-      let long = longer_joint j (named n.0 n.1.tokens) in
+      let all : p.tokens ≡ joint_yield j (name_yield n.0 n.1.tokens) = is ∙ ap (joint_yield j) (low.1 ∙ at_name.0) in
+      let long = longer_joint j (name_yield n.0 n.1.tokens) in
       let less : size n.1.tokens < size p.tokens = subst (λ v. size n.1.tokens < size v) (sym all) (omega arith) in
       ap (λ o. cond (is_field_of c n.0.text) (o >>= λ ls. Some (field j n.0 ls.0, ls.1)) None) (same n.1 less)))
   links_at_agree more other p (bracketed b us) is same =

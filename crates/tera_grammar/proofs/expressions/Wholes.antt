@@ -5,7 +5,7 @@ use Rattle.tera_base.specs.Values as values
 use Rattle.tera_base.specs.declared.utils.Span.{Span}
 use Rattle.tera_lexer.specs.Tokens.{Items, Ended}
 use Rattle.tera_grammar.specs.expressions.Marks.{LeftParen, LeftBracket, LeftBrace, Dot, mark}
-use Rattle.tera_grammar.specs.expressions.Concrete.{of_arguments, of_items, of_entries, Tree, Row, ended, only, then, Element, plain, spread, pair, argument, Attributes, Args, no_args, args, named, dotted_yield, yield, row_yield, attributes_yield, args_yield}
+use Rattle.tera_grammar.specs.expressions.Concrete.{of_arguments, of_items, of_entries, Tree, Row, ended, only, then, Element, plain, spread, pair, argument, Attributes, Args, no_args, args, name_yield, dotted_yield, yield, row_yield, attributes_yield, args_yield}
 use Rattle.tera_grammar.specs.expressions.Conditions.{IsExpression, IsRow, AreAttributes, AreArgs}
 use Rattle.tera_grammar.specs.Limits.{Limits}
 use Rattle.tera_grammar.specs.expressions.Measures.{deep, row_deep, element_deep, subscripts, arrays, height, links, Within, EachElement, EachRow, EachAttribute}
@@ -25,7 +25,7 @@ use Rattle.tera_grammar.proofs.expressions.ReadParts.{within, inside_array_read,
 use Rattle.tera_grammar.proofs.expressions.Complete.{expr_bars}
 use Rattle.tera_grammar.proofs.expressions.Outermost.{no_toll, Fitting, fresh_sound, fresh_bars, ends_read, row_map, row_whole, attributes_whole, row_free_toll, attributes_free_toll}
 
-left_over_ok : {A : Type 0} (o : Reads A) (x : A × Items) → left_over o ≡ Some x → (y : A × Place) × (o ≡ Some y)
+pub left_over_ok : {A : Type 0} (o : Reads A) (x : A × Items) → left_over o ≡ Some x → (y : A × Place) × (o ≡ Some y)
     × ((y.0, y.1.tokens) ≡ x)
 left_over_ok None x h = cc
 left_over_ok (Some y) x h = (y, refl, same_Some _ _ h)
@@ -145,7 +145,7 @@ filter_found limits l items rest x h =
     let same : (record { name = n.0; args = g.0 }, g.1.tokens) ≡ (x, rest) = ap (λ (z : Filtering × Place). (z.0, z.1.tokens))
     (same_Some _ _ made) ∙ is in
     subst (λ (z : Filtering × Items). (items ≡ filter_yield z.0 z.1) × AreArgs l z.0.args × EachArgs (Within limits) z.0.args) same
-    (at_name.0 ∙ ap (named n.0) found.0, found.1, found.2)))
+    (at_name.0 ∙ ap (name_yield n.0) found.0, found.1, found.2)))
 
 args_read_outer : (limits : Limits) (l : Bool) (g : Args) (r : Items) → AreArgs l g → EachArgs (Within limits) g
     → takes LeftParen r ≡ None
@@ -201,7 +201,7 @@ path_found items rest x h =
     let found = dotted_found n.1 ds dotted in
     let same : (record { name = n.0; further = ds.0 }, ds.1.tokens) ≡ (x, rest) = ap (λ (z : Path × Place). (z.0, z.1.tokens))
     (same_Some _ _ made) ∙ is in
-    subst (λ (z : Path × Items). items ≡ path_yield z.0 z.1) same (at_name.0 ∙ ap (named n.0) found.spelled)))
+    subst (λ (z : Path × Items). items ≡ path_yield z.0 z.1) same (at_name.0 ∙ ap (name_yield n.0) found.spelled)))
 
 pub path_read : (x : Path) (r : Items) → takes Dot r ≡ None → path_of (path_yield x r) ≡ Some (x, r)
 unfolding path_of

@@ -1,33 +1,37 @@
 -- The tokens of a template leave no tag unclosed, so they are those of pieces alone.
-use Rattle.std.proofs.Common.{◌≡◌, ℕ, Bool, true, false, List, [], ◌∷◌, ◌++◌, codes, Option, Some, None, subst, sym, refl}
-use Rattle.std.specs.Prelude.{if◌then◌else◌}
+use Rattle.std.proofs.Common.{◌≡◌, Bool, true, false, List, [], Option, Some, None, subst, sym, refl}
 use Rattle.tera_base.specs.declared.utils.Span.{Span}
-use Rattle.tera_lexer.specs.Marks.{Marks, start_marker, end_marker, dash_bytes}
-use Rattle.tera_lexer.specs.Lexeme.{Item, Lexeme, Name, Number, Quoted, Operator, spelled, has_escape, written, value_of}
-use Rattle.tera_lexer.specs.Division.{Piece, Text, Comment, Raw, Tag, Ending, Nothing, OpenTag, BadTag, OpenRaw, OpenComment}
-use Rattle.tera_lexer.specs.Trimming.{trims_start, trims_end}
+use Rattle.tera_lexer.specs.Marks.{Marks}
+use Rattle.tera_lexer.specs.Division.{Piece, Ending, Nothing}
 use Rattle.tera_lexer.specs.Tokens as toks
 use Rattle.tera_lexer.specs.Tokens.{Items, Ended, Token, token_of, lexemes, piece_tokens, ending_tokens, tokens_of}
-use Rattle.tera_lexer.specs.Tiling.{in_tag_behind}
+use Rattle.tera_lexer.proofs.Closed.{pieces_closed}
 use Rattle.tera_lexer.specs.declared.lexer.delimiters.Kind.TheVariants as kind
+use Rattle.tera_grammar.specs.expressions.Operators.{GreaterThan}
+use Rattle.tera_grammar.specs.expressions.Concrete.{Quote, Simple, Escaped, Lit, quote_token, literal_token}
+use Rattle.tera_grammar.specs.expressions.Marks.{mark, LeftParen, RightParen, Comma, Assign, Operation}
 use Rattle.tera_grammar.specs.statements.Parts as parts
-use Rattle.tera_grammar.specs.statements.Parts.{name_yield, name_if_any_yield, Quote, Simple, Escaped, quote_yield, symbol_yield, OpensSet, AtElif, AtElse, AtEndBlock, AtEndFor, AtEndIf, opening, closing, finish}
+use Rattle.tera_grammar.specs.expressions.Concrete as concrete
+use Rattle.tera_grammar.specs.statements.Parts.{name_yield, name_if_any_yield, OpensSet, AtElif, AtElse, AtEndBlock, AtEndFor, AtEndIf, opening, closing, finish}
 use Rattle.tera_grammar.specs.statements.Expressions.{expression_yield, attributes_yield, ComponentName, LiteralMap}
-use Rattle.tera_grammar.specs.statements.Components.{Default, TruthDefault, TextDefault, NumberDefault, MinusDefault, NothingDefault, ArrayDefault, MapDefault, default_yield, Annotation, Assigned, Parameter, at_yield, annotation_yield, assigned_yield, parameter_yield, Parameters, Closed, Rest, Final, More, parameters_yield, Head, head_yield, ending_yield, metadata_yield, component_if_any_yield}
-use Rattle.tera_grammar.specs.statements.Heads.{Loop, Over, OverPairs, loop_yield, Filters, NoFilters, Piped, filters_yield, Capture, SetBody, Section, CallBody, capture_yield, capture_end}
+use Rattle.tera_grammar.specs.statements.Components.{Default, LiteralDefault, MinusDefault, NothingDefault, ArrayDefault, MapDefault, default_yield, Annotation, Assigned, Parameter, at_yield, annotation_yield, assigned_yield, parameter_yield, Parameters, Closed, Rest, Final, More, parameters_yield, Head, head_yield, ending_yield, metadata_yield, component_if_any_yield}
+use Rattle.tera_grammar.specs.statements.Heads.{Loop, loop_yield, Filters, NoFilters, Piped, filters_yield, Capture, SetBody, Section, CallBody, capture_yield, capture_end}
 use Rattle.tera_grammar.specs.statements.Grammar as grammar
-use Rattle.tera_grammar.specs.statements.Grammar.{Plain, Words, Shown, Set, Include, Extends, Break, Continue, plain_yield, Body, Done, Then, Single, Block, Define, Capturing, For, If, Branches, Elif, Last, Else, NoElse, Otherwise, yield, item_yield, branches_yield, else_yield}
+use Rattle.tera_grammar.specs.statements.Grammar.{Plain, Shown, Set, Include, Extends, Break, Continue, plain_yield, Body, Done, Then, Single, Block, Define, Capturing, For, If, Branches, Elif, Last, Else, NoElse, Otherwise, yield, item_yield, branches_yield, else_yield}
 use Rattle.tera_grammar.proofs.statements.Inside.{IsClosed}
 use Rattle.tera_grammar.proofs.statements.Expressions.{expression_closed, filter_closed, attributes_closed, component_closed, array_closed, map_closed}
 
-quote_closed : (q : Quote) (r : Items) → IsClosed true r → IsClosed true (quote_yield q r)
-quote_closed (Simple text span) r is = is
-quote_closed (Escaped text span) r is = is
+quote_closed : (q : Quote) (span : Span) (r : Items) → IsClosed true r → IsClosed true (Token (quote_token q) span r)
+quote_closed (Simple text) span r is = is
+quote_closed (Escaped text) span r is = is
+
+literal_closed : (x : Lit) (span : Span) (r : Items) → IsClosed true r → IsClosed true (Token (literal_token x) span r)
+literal_closed (concrete.Number n) span r is = is
+literal_closed (concrete.Quoted q) span r is = quote_closed q span r is
+literal_closed (concrete.Truth b) span r is = is
 
 default_closed : (d : Default) (r : Items) → IsClosed true r → IsClosed true (default_yield d r)
-default_closed (TruthDefault b span) r is = is
-default_closed (TextDefault q) r is = quote_closed q r is
-default_closed (NumberDefault n span) r is = is
+default_closed (LiteralDefault x span) r is = literal_closed x span r is
 default_closed (MinusDefault minus n span) r is = is
 default_closed (NothingDefault n) r is = is
 default_closed (ArrayDefault a) r is = array_closed a r is
@@ -53,8 +57,8 @@ parameter_closed p r is =
 parameters_closed : (ps : Parameters) (r : Items) → IsClosed true r → IsClosed true (parameters_yield ps r)
 parameters_closed (Closed end) r is = is
 parameters_closed (Rest dots n end) r is = is
-parameters_closed (Final p end) r is = parameter_closed p (symbol_yield (codes ")") end r) is
-parameters_closed (More p comma ps) r is = parameter_closed p (symbol_yield (codes ",") comma (parameters_yield ps r)) (parameters_closed ps r is)
+parameters_closed (Final p end) r is = parameter_closed p (mark RightParen end r) is
+parameters_closed (More p comma ps) r is = parameter_closed p (mark Comma comma (parameters_yield ps r)) (parameters_closed ps r is)
 
 metadata_closed : (h : Head) (r : Items) → IsClosed true r → IsClosed true (metadata_yield h.metadata r)
 metadata_closed h r is = goes h.metadata
@@ -70,15 +74,18 @@ component_if_any_closed (Some n) r is = component_closed n r is
 head_closed : (h : Head) (r : Items) → IsClosed false r → IsClosed false (head_yield h r)
 head_closed h r is =
     let metadata = metadata_yield h.metadata (finish h.tag r) in
-    component_closed h.name (symbol_yield (codes "(") h.paren (parameters_yield h.parameters metadata))
+    component_closed h.name (mark LeftParen h.paren (parameters_yield h.parameters metadata))
     (parameters_closed h.parameters metadata (metadata_closed h (finish h.tag r) is))
 
 ending_closed : (h : Head) (r : Items) → IsClosed false r → IsClosed false (ending_yield h r)
 ending_closed h r is = component_if_any_closed h.end_name (finish h.ending r) is
 
 loop_closed : (lp : Loop) (r : Items) → IsClosed true r → IsClosed true (loop_yield lp r)
-loop_closed (Over value w target) r is = expression_closed target r is
-loop_closed (OverPairs key comma value w target) r is = expression_closed target r is
+loop_closed lp r is = second_closed lp.second _ (expression_closed lp.target r is)
+  where
+    second_closed : (m : concrete.Second) (items : Items) → IsClosed true items → IsClosed true (concrete.second_yield m items)
+    second_closed concrete.no_second items h = h
+    second_closed (concrete.second s n) items h = h
 
 filters_closed : (fs : Filters) (r : Items) → IsClosed true r → IsClosed true (filters_yield fs r)
 filters_closed NoFilters r is = is
@@ -92,25 +99,25 @@ capture_closed : (c : Capture) (r : Items) → IsClosed false r → IsClosed fal
 capture_closed (SetBody global t n fs e) r is = set_opening_closed global t (name_yield n (filters_yield fs (finish t r))) (filters_closed fs (finish t r) is)
 capture_closed (Section t f fs e) r is = filter_closed f (filters_yield fs (finish t r)) (filters_closed fs (finish t r) is)
 capture_closed (CallBody t n a last e m end) r is =
-    let tail = symbol_yield (codes ">") last (finish t r) in
+    let tail = mark (Operation GreaterThan) last (finish t r) in
     component_closed n (attributes_yield a tail) (attributes_closed a tail is)
 
 capture_end_closed : (c : Capture) (r : Items) → IsClosed false r → IsClosed false (capture_end c r)
 capture_end_closed (SetBody global t n fs e) r is = is
 capture_end_closed (Section t f fs e) r is = is
-capture_end_closed (CallBody t n a last e m end) r is = component_closed m (symbol_yield (codes ">") end (finish e r)) is
+capture_end_closed (CallBody t n a last e m end) r is = component_closed m (mark (Operation GreaterThan) end (finish e r)) is
 
 name_if_any_closed : (m : Option parts.Name) (r : Items) → IsClosed true r → IsClosed true (name_if_any_yield m r)
 name_if_any_closed None r is = is
 name_if_any_closed (Some n) r is = is
 
 plain_closed : (p : Plain) (r : Items) → IsClosed false r → IsClosed false (plain_yield p r)
-plain_closed (Words text span) r is = is
+plain_closed (grammar.Text text span) r is = is
 plain_closed (Shown a e b) r is = expression_closed e (Token (toks.Finish kind.Variable b.dash) b.span r) is
 plain_closed (Set global t n sign e) r is =
-    set_opening_closed global t (name_yield n (symbol_yield (codes "=") sign (expression_yield e (finish t r)))) (expression_closed e (finish t r) is)
-plain_closed (Include t q) r is = quote_closed q (finish t r) is
-plain_closed (Extends t q) r is = quote_closed q (finish t r) is
+    set_opening_closed global t (name_yield n (mark Assign sign (expression_yield e (finish t r)))) (expression_closed e (finish t r) is)
+plain_closed (Include t q span) r is = quote_closed q span (finish t r) is
+plain_closed (Extends t q span) r is = quote_closed q span (finish t r) is
 plain_closed (Break t) r is = is
 plain_closed (Continue t) r is = is
 
@@ -140,49 +147,6 @@ mutual
   else_closed : (o : Else) (r : Items) → IsClosed false r → IsClosed false (else_yield o r)
   else_closed NoElse r is = is
   else_closed (Otherwise t b) r is = body_closed b r is
-
-choice_in_tag : (a b : Bool) (name : List ℕ) (inside : Bool) → in_tag_behind inside (if a then toks.Truth true else (if b then toks.Truth false else toks.Ident name)) ≡ inside
-choice_in_tag true b name inside = refl
-choice_in_tag false true name inside = refl
-choice_in_tag false false name inside = refl
-
-string_in_tag : (escape : Bool) (text value : List ℕ) (inside : Bool) → in_tag_behind inside (if escape then toks.Escaped value else toks.Str text) ≡ inside
-string_in_tag true text value inside = refl
-string_in_tag false text value inside = refl
-
-lexeme_in_tag : (l : Lexeme) (inside : Bool) → in_tag_behind inside (token_of l) ≡ inside
-lexeme_in_tag (Number b bs) inside = refl
-lexeme_in_tag (Quoted q is) inside = string_in_tag (has_escape is) (written is) (value_of is) inside
-lexeme_in_tag (Operator op) inside = refl
-lexeme_in_tag (Name b bs) inside = choice_in_tag _ _ (b ∷ bs) inside
-
-lexemes_closed : (front : List ℕ) (is : List Item) (follows : List ℕ → Items) → IsClosed true (lexemes front is follows) → (f : List ℕ) × IsClosed true (follows f)
-lexemes_closed front [] follows closed = (front, closed)
-lexemes_closed front (i ∷ is) follows closed =
-    lexemes_closed ((front ++ i.gap) ++ spelled i.lexeme) is follows (subst (λ b. IsClosed b (lexemes ((front ++ i.gap) ++ spelled i.lexeme) is follows)) (lexeme_in_tag i.lexeme true) closed)
-
--- what follows the tokens of a piece leaves no tag unclosed where they do not
-piece_closed : (m : Marks) (front : List ℕ) (start end : Bool) (p : Piece) (follows : List ℕ → Items) → IsClosed false (piece_tokens m front start end p follows) → (f : List ℕ) × IsClosed false (follows f)
-piece_closed m front start end (Text t) follows closed = (_, closed)
-piece_closed m front start end (Comment dash inside) follows closed = (_, closed)
-piece_closed m front start end (Raw dash opening body closing) follows closed = (_, closed)
-piece_closed m front start end (Tag k dash is gap last) follows closed =
-    let (f, rest) = lexemes_closed (front ++ (start_marker k m ++ dash_bytes dash)) is _ closed in
-    ((f ++ gap) ++ (dash_bytes last ++ end_marker k m), rest)
-
-pieces_end_closed : (m : Marks) (front : List ℕ) (ending : Ending) → IsClosed false (ending_tokens m front ending) → ending ≡ Nothing
-pieces_end_closed m front Nothing closed = refl
-pieces_end_closed m front (OpenTag k dash is gap) closed = let (f, clash) = lexemes_closed (front ++ (start_marker k m ++ dash_bytes dash)) is (λ g. Ended) closed in cc
-pieces_end_closed m front (BadTag k dash is gap fault at) closed = absurd (lexemes_closed (front ++ (start_marker k m ++ dash_bytes dash)) is _ closed).1
-pieces_end_closed m front (OpenRaw dash) closed = absurd closed
-pieces_end_closed m front (OpenComment dash) closed = absurd closed
-
--- tokens that leave no tag unclosed, and end in no fault, are those of pieces alone
-pieces_closed : (m : Marks) (front : List ℕ) (left ps : List Piece) (ending : Ending) → IsClosed false (tokens_of m front left ps ending) → ending ≡ Nothing
-pieces_closed m front left [] ending closed = pieces_end_closed m front ending closed
-pieces_closed m front left (p ∷ ps) ending closed =
-    let (f, rest) = piece_closed m front (trims_start left) (trims_end ps ending) p (λ f. tokens_of m f (p ∷ left) ps ending) closed in
-    pieces_closed m f (p ∷ left) ps ending rest
 
 pub ends_in_nothing : (m : Marks) (ps : List Piece) (ending : Ending) (b : Body) → tokens_of m [] [] ps ending ≡ yield b Ended → ending ≡ Nothing
 ends_in_nothing m ps ending b e = pieces_closed m [] [] ps ending (subst (IsClosed false) (sym e) (body_closed b Ended refl))

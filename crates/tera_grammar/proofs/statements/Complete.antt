@@ -1,18 +1,22 @@
 -- Each template that meets its conditions is read from its tokens, so no other has the same tokens.
-use Rattle.std.proofs.Common.{◌≡◌, ℕ, zero, suc, ◌≤◌, true, false, ◌∷◌, codes, Option, Some, None, refl, sym, ap, ◌∙◌, arith}
+use Rattle.std.proofs.Common.{◌≡◌, ℕ, zero, suc, ◌≤◌, true, false, ◌∷◌, Option, Some, None, refl, sym, ap, ◌∙◌, arith}
 use Rattle.tera_lexer.specs.Tokens as toks
 use Rattle.tera_lexer.specs.Tokens.{Items, Token}
 use Rattle.tera_lexer.specs.declared.lexer.delimiters.Kind.TheVariants as kind
+use Rattle.tera_grammar.specs.expressions.Reading.Front.{takes}
+use Rattle.tera_grammar.specs.expressions.Operators.{GreaterThan}
+use Rattle.tera_grammar.specs.expressions.Concrete.{Simple, Escaped, quote_token}
+use Rattle.tera_grammar.specs.expressions.Marks.{mark, Assign, Operation}
 use Rattle.tera_grammar.specs.Options.{◌>>=◌}
 use Rattle.tera_grammar.specs.Words.{is_one_of}
 use Rattle.tera_grammar.specs.statements.Names.{Names, agrees, block_named, component_named, ◌and_then◌, NamesAreDistinct}
-use Rattle.tera_grammar.specs.statements.Parts.{Name, name_yield, name_if_any_yield, Simple, Escaped, quote_yield, symbol_yield, Tag, Opener, OpensSet, OpensInclude, OpensExtends, OpensBlock, OpensFor, OpensIf, OpensFilter, OpensComponent, OpensBreak, OpensContinue, OpensCall, Closer, AtElif, AtElse, AtEndSet, AtEndBlock, AtEndFor, AtEndIf, AtEndFilter, AtEndComponent, AtEndCall, opening, closing, finish}
+use Rattle.tera_grammar.specs.statements.Parts.{Name, name_yield, name_if_any_yield, Tag, Opener, OpensSet, OpensInclude, OpensExtends, OpensBlock, OpensFor, OpensIf, OpensFilter, OpensComponent, OpensBreak, OpensContinue, OpensCall, Closer, AtElif, AtElse, AtEndSet, AtEndBlock, AtEndFor, AtEndIf, AtEndFilter, AtEndComponent, AtEndCall, opening, closing, finish}
 use Rattle.tera_grammar.specs.statements.Expressions.{Limits, Expression, IsExpression, expression_yield, attributes_yield, component_text}
 use Rattle.tera_grammar.specs.statements.Components.{Head, ending_yield, FitsHead}
 use Rattle.tera_grammar.specs.statements.Heads.{Loop, loop_yield, FitsLoop, Filters, NoFilters, Piped, filters_yield, Capture, SetBody, Section, CallBody, capture_end, FitsCapture}
-use Rattle.tera_grammar.specs.statements.Grammar.{Plain, Words, Shown, Set, Include, Extends, Break, Continue, plain_yield, FitsPlain, Body, Done, Then, Item, Single, Block, Define, Capturing, For, If, Branches, Elif, Last, Else, NoElse, Otherwise, yield, item_yield, branches_yield, else_yield, InFor, InForElse, InBlock, InIf, InComponent, InCapture, Path, may_block, in_loop, is_outermost, text_if_any, Fits, FitsItem, FitsBranches, FitsElse, names, item_names, branch_names, else_names, height, item_height, branch_height, else_height}
+use Rattle.tera_grammar.specs.statements.Grammar.{Plain, Text, Shown, Set, Include, Extends, Break, Continue, plain_yield, FitsPlain, Body, Done, Then, Item, Single, Block, Define, Capturing, For, If, Branches, Elif, Last, Else, NoElse, Otherwise, yield, item_yield, branches_yield, else_yield, InFor, InForElse, InBlock, InIf, InComponent, InCapture, Path, may_block, in_loop, is_outermost, text_if_any, Fits, FitsItem, FitsBranches, FitsElse, names, item_names, branch_names, else_names, height, item_height, branch_height, else_height}
 use Rattle.tera_grammar.specs.statements.Reading.{Place, at, Reads, Reader, else_in, branch_in, branches, set_behind, set_of, include_of, extends_of, break_of, block_end, block_of, component_def_of, section_of, call_end, call_of, for_of, if_of, tag_of, shown_of, step, go_on, body}
-use Rattle.tera_grammar.specs.statements.Reading.Parts.{Front, Ends, Closes, Opens, front, symbol, closed_tag}
+use Rattle.tera_grammar.specs.statements.Reading.Parts.{Front, Ends, Closes, Opens, front, closed_tag}
 use Rattle.tera_grammar.proofs.statements.Names.{and_then_assoc, and_then_none, not-before, first_names, then_names}
 use Rattle.tera_grammar.proofs.statements.Expressions.{expression_found, filter_found, attributes_found, attributes_begin, component_found}
 use Rattle.tera_grammar.proofs.statements.Heads.{loop_found, filters_end, filters_found}
@@ -91,15 +95,15 @@ module _ (l : Limits) (f : Reader) (path : Path) (seen : Names) where
 
   plain_found : (p : Plain) (r : Items) → FitsPlain l path p → step l f path seen (front (plain_yield p r)) ≡ Some (Some (Single p, at seen r))
   unfolding step shown_of set_of set_behind include_of extends_of break_of
-  plain_found (Words text span) r fits = refl
+  plain_found (Text text span) r fits = refl
   plain_found (Shown a e b) r fits = rw (expression_found l (in_loop path) e (Token (toks.Finish kind.Variable b.dash) b.span r) fits refl) refl
   plain_found (Set global t n sign e) r fits =
-      step_opens (OpensSet global) t (name_yield n (symbol_yield (codes "=") sign (expression_yield e (finish t r)))) (Single (Set global t n sign e), at seen r)
+      step_opens (OpensSet global) t (name_yield n (mark Assign sign (expression_yield e (finish t r)))) (Single (Set global t n sign e), at seen r)
       (rw (fits.0, expression_found l (in_loop path) e (finish t r) fits.1 refl) refl)
-  plain_found (Include t (Simple text span)) r fits = step_opens OpensInclude t (quote_yield (Simple text span) (finish t r)) _ refl
-  plain_found (Include t (Escaped text span)) r fits = step_opens OpensInclude t (quote_yield (Escaped text span) (finish t r)) _ refl
-  plain_found (Extends t (Simple text span)) r fits = step_opens OpensExtends t (quote_yield (Simple text span) (finish t r)) (Single (Extends t (Simple text span)), at seen r) (rw fits refl)
-  plain_found (Extends t (Escaped text span)) r fits = step_opens OpensExtends t (quote_yield (Escaped text span) (finish t r)) (Single (Extends t (Escaped text span)), at seen r) (rw fits refl)
+  plain_found (Include t (Simple text) span) r fits = step_opens OpensInclude t (Token (quote_token (Simple text)) span (finish t r)) _ refl
+  plain_found (Include t (Escaped text) span) r fits = step_opens OpensInclude t (Token (quote_token (Escaped text)) span (finish t r)) _ refl
+  plain_found (Extends t (Simple text) span) r fits = step_opens OpensExtends t (Token (quote_token (Simple text)) span (finish t r)) (Single (Extends t (Simple text) span), at seen r) (rw fits refl)
+  plain_found (Extends t (Escaped text) span) r fits = step_opens OpensExtends t (Token (quote_token (Escaped text)) span (finish t r)) (Single (Extends t (Escaped text) span), at seen r) (rw fits refl)
   plain_found (Break t) r fits = step_opens OpensBreak t (finish t r) (Single (Break t), at seen r) (rw fits refl)
   plain_found (Continue t) r fits = step_opens OpensContinue t (finish t r) (Single (Continue t), at seen r) (rw fits refl)
 
@@ -121,7 +125,7 @@ module _ (l : Limits) (f : Reader) (path : Path) (seen : Names) where
   define_found new h b r may fresh fits read =
       step_opens OpensComponent h.tag _ _ (rw (may, opened_found l seen.components (opened_part h) (yield b (ending_yield h r)) fresh fits.0 fits.1, read, ending_found l h r fits.2) refl)
 
-  no_sign : (fs : Filters) (t : Tag) (r : Items) → symbol (codes "=") (filters_yield fs (finish t r)) ≡ None
+  no_sign : (fs : Filters) (t : Tag) (r : Items) → takes Assign (filters_yield fs (finish t r)) ≡ None
   no_sign NoFilters t r = refl
   no_sign (Piped bar g fs) t r = refl
 
@@ -136,8 +140,8 @@ module _ (l : Limits) (f : Reader) (path : Path) (seen : Names) where
       let tail = finish t (yield b (capture_end (Section t g fs e) r)) in
       step_opens OpensFilter t _ _ (rw (filter_found l (in_loop path) g (filters_yield fs tail) fits.0 (filters_end l (in_loop path) fs tail refl), filters_found l (in_loop path) fs tail fits.1 refl refl, read) refl)
   capture_found new (CallBody t n a last e m end) b r fits read =
-      let tail = symbol_yield (codes ">") last (finish t (yield b (capture_end (CallBody t n a last e m end) r))) in
-      step_opens OpensCall t _ _ (rw (component_found n (attributes_yield a tail) (attributes_begin a tail refl), attributes_found l (in_loop path) a tail fits.0 refl, read, component_found m (symbol_yield (codes ">") end (finish e r)) refl, fits.1) refl)
+      let tail = mark (Operation GreaterThan) last (finish t (yield b (capture_end (CallBody t n a last e m end) r))) in
+      step_opens OpensCall t _ _ (rw (component_found n (attributes_yield a tail) (attributes_begin a tail refl), attributes_found l (in_loop path) a tail fits.0 refl, read, component_found m (mark (Operation GreaterThan) end (finish e r)) refl, fits.1) refl)
 
   for_found : (mid new : Names) (t : Tag) (lp : Loop) (b : Body) (o : Else) (e : Tag) (r ts : Items) → FitsLoop l lp →
       f (InFor ∷ path) (at seen (yield b ts)) ≡ Some (b, at mid ts) → else_in f (InForElse ∷ path) mid ts (front ts) ≡ Some (o, at new (closing AtEndFor e (finish e r))) →

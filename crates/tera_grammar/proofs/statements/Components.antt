@@ -1,31 +1,31 @@
 -- The definition of a component, but for its body: what is read of it is its tokens, and those are read as it.
-use Rattle.std.proofs.Common.{◌≡◌, ◌<◌, ◌≤◌, ℕ, zero, suc, Bool, true, false, List, [], ◌∷◌, ◌++◌, codes, Option, Some, None, refl, sym, ap, subst, ◌∙◌, append_assoc, append-nil, arith, le_refl}
+use Rattle.std.proofs.Common.{◌≡◌, ◌<◌, ◌≤◌, ℕ, zero, suc, Bool, true, false, List, [], ◌∷◌, ◌++◌, Option, Some, None, refl, sym, ap, subst, ◌∙◌, append_assoc, append-nil, arith, le_refl}
 use Rattle.std.proofs.lemmas.Option.{same_Some}
-use Rattle.std.specs.Str.{bytes_eq}
 use Rattle.tera_base.specs.declared.utils.Span.{Span}
 use Rattle.tera_lexer.specs.Cursors.{size}
 use Rattle.tera_lexer.specs.Tokens as toks
-use Rattle.tera_lexer.specs.Tokens.{Tok, Items, Token, Ident, Str, Integer, Truth, Symbol}
+use Rattle.tera_lexer.specs.Tokens.{Tok, Items, Token, Ident, Integer, Symbol}
+use Rattle.tera_grammar.proofs.expressions.Fronts.{takes_ok, taken_name_ok, among_is}
+use Rattle.tera_grammar.specs.expressions.Reading.Front.{takes, begins, Takes, among}
+use Rattle.tera_grammar.specs.expressions.Operators.{Minus}
+use Rattle.tera_grammar.specs.expressions.Marks.{mark, Mark, LeftParen, RightParen, LeftBracket, LeftBrace, Comma, Colon, Spread, Assign, At, Operation}
 use Rattle.tera_grammar.specs.Options.{◌>>=◌}
+use Rattle.tera_grammar.specs.expressions.Concrete.{Number, Quoted, Truth, Simple, Escaped}
 use Rattle.tera_grammar.specs.Words.{is_one_of}
 use Rattle.tera_grammar.specs.Words.{AreDistinct}
 use Rattle.tera_grammar.specs.statements.Names.{agrees}
-use Rattle.tera_grammar.specs.statements.Parts.{Edge, Name, name_yield, Simple, Escaped, symbol_yield, is_symbol, OpensComponent, opener_token, AtEndComponent, closer_token, start_yield, finish_yield}
+use Rattle.tera_grammar.specs.statements.Parts.{Edge, Name, name_yield, OpensComponent, opener_token, AtEndComponent, closer_token, start_yield, finish_yield}
 use Rattle.tera_grammar.specs.statements.Expressions.{Limits, ComponentName, component_yield, component_text, LiteralMap, array_of, map_yield, map_of}
-use Rattle.tera_grammar.specs.statements.Components.{Default, TruthDefault, TextDefault, NumberDefault, MinusDefault, NothingDefault, ArrayDefault, MapDefault, FitsDefault, default_yield, Annotation, Assigned, Parameter, at_yield, annotation_yield, assigned_yield, parameter_yield, is_known, is_body, FitsAssigned, FitsParameter, Parameters, Closed, Rest, Final, More, parameters_yield, parameter_names, FitEach, FitParameters, Head, head_yield, ending_yield, metadata_yield, component_if_any_yield, component_texts, FitsMetadata, FitsHead}
-use Rattle.tera_grammar.specs.statements.Reading.Parts.{Takes, symbol}
-use Rattle.tera_grammar.specs.statements.Reading.Components.{minus_of, default_by, default_at, default_of, at_in, annotation_in, assigned_in, parameter, fresh_name, parameter_behind, parameter_of, parameters_behind, parameters_at, parameters_in, parameters_by, parameters_of, metadata_in, Opened, opened_of, is_name, end_name_in, head, ending_of}
-use Rattle.tera_grammar.proofs.Options.{bound, bind_both, guard_ok, guard_not, bytes_same}
+use Rattle.tera_grammar.specs.statements.Components.{Default, LiteralDefault, MinusDefault, NothingDefault, ArrayDefault, MapDefault, FitsDefault, default_yield, Annotation, Assigned, Parameter, at_yield, annotation_yield, assigned_yield, parameter_yield, is_known, is_body, FitsAssigned, FitsParameter, Parameters, Closed, Rest, Final, More, parameters_yield, parameter_names, FitEach, FitParameters, Head, head_yield, ending_yield, metadata_yield, component_if_any_yield, component_texts, FitsMetadata, FitsHead}
+use Rattle.tera_grammar.specs.statements.Reading.Components.{minus_of, default_marks, default_by, default_at, default_of, at_in, annotation_in, assigned_in, parameter, fresh_name, parameter_behind, parameter_of, parameters_behind, parameters_at, parameters_in, parameters_by, parameters_of, metadata_in, Opened, opened_of, is_name, end_name_in, head, ending_of}
+use Rattle.tera_grammar.proofs.Options.{bound, bind_both, guard_ok, guard_not}
 use Rattle.tera_grammar.proofs.statements.Names.{distinct-more, not-before}
 use Rattle.tera_grammar.proofs.statements.Expressions.{component_stands, component_found, component_size, component_begins, array_stands, array_found, array_size, array_begins, map_stands, map_found, map_size, map_begins}
-use Rattle.tera_grammar.proofs.statements.Parts.{symbol_stands, name_stands, finish_stands, closed_stands}
+use Rattle.tera_grammar.proofs.statements.Parts.{finish_stands, closed_stands}
 
 -- no tokens are lost
 default_size : (d : Default) (rest : Items) → size rest ≤ size (default_yield d rest)
-default_size (TruthDefault b span) rest = omega arith
-default_size (TextDefault (Simple text span)) rest = omega arith
-default_size (TextDefault (Escaped text span)) rest = omega arith
-default_size (NumberDefault n span) rest = omega arith
+default_size (LiteralDefault x span) rest = omega arith
 default_size (MinusDefault minus n span) rest = omega arith
 default_size (NothingDefault n) rest = omega arith
 default_size (ArrayDefault a) rest = array_size a rest
@@ -50,8 +50,8 @@ parameter_size p rest =
 parameters_size : (ps : Parameters) (rest : Items) → size rest ≤ size (parameters_yield ps rest)
 parameters_size (Closed end) rest = omega arith
 parameters_size (Rest dots n end) rest = omega arith
-parameters_size (Final p end) rest = omega (arith, parameter_size p (symbol_yield (codes ")") end rest))
-parameters_size (More p comma ps) rest = omega (arith, parameters_size ps rest, parameter_size p (symbol_yield (codes ",") comma (parameters_yield ps rest)))
+parameters_size (Final p end) rest = omega (arith, parameter_size p (mark RightParen end rest))
+parameters_size (More p comma ps) rest = omega (arith, parameters_size ps rest, parameter_size p (mark Comma comma (parameters_yield ps rest)))
 
 metadata_size : (m : Option LiteralMap) (rest : Items) → size rest ≤ size (metadata_yield m rest)
 metadata_size None rest = le_refl _
@@ -59,13 +59,13 @@ metadata_size (Some m) rest = map_size m rest
 
 -- the tokens of an opening tag, behind its first word
 abbrev pub opened_yield : Opened → Items → Items
-opened_yield o items = component_yield o.name (symbol_yield (codes "(") o.paren (parameters_yield o.parameters (metadata_yield o.metadata (finish_yield o.finish items))))
+opened_yield o items = component_yield o.name (mark LeftParen o.paren (parameters_yield o.parameters (metadata_yield o.metadata (finish_yield o.finish items))))
 
 pub opened_size : (o : Opened) (rest : Items) → size rest ≤ size (opened_yield o rest)
 opened_size o rest =
     let end = finish_yield o.finish rest in
     let metadata = metadata_yield o.metadata end in
-    let parameters = symbol_yield (codes "(") o.paren (parameters_yield o.parameters metadata) in
+    let parameters = mark LeftParen o.paren (parameters_yield o.parameters metadata) in
     omega (arith, metadata_size o.metadata end, parameters_size o.parameters metadata, component_size o.name parameters)
 
 -- the opening tag of a definition
@@ -84,51 +84,53 @@ module _ (l : Limits) where
   abbrev DefaultStands : Items → Default × Items → Type 0
   DefaultStands ts x = FitsDefault l x.0 × (ts ≡ default_yield x.0 x.1)
 
-  minus_stands : (minus : Span) (ts : Items) (x : Default × Items) → minus_of minus ts ≡ Some x → DefaultStands (symbol_yield (codes "-") minus ts) x
-  minus_stands minus (Token (Integer n) span items) x h = subst (DefaultStands (symbol_yield (codes "-") minus (Token (Integer n) span items))) (same_Some (MinusDefault minus n span, items) x h) (tt, refl)
+  minus_stands : (minus : Span) (ts : Items) (x : Default × Items) → minus_of minus ts ≡ Some x → DefaultStands (mark (Operation Minus) minus ts) x
+  minus_stands minus (Token (Integer n) span items) x h = subst (DefaultStands (mark (Operation Minus) minus (Token (Integer n) span items))) (same_Some (MinusDefault minus n span, items) x h) (tt, refl)
   minus_stands minus _ x h = cc
 
-  default_by_stands : (op : List ℕ) (span : Span) (items : Items) (a b c : Bool) (x : Default × Items) → bytes_eq op (codes "-") ≡ a
-      → default_by l op span items a b c ≡ Some x → DefaultStands (Token (Symbol op) span items) x
+  default_by_stands : (m : Mark) (t : Tok) → among default_marks t ≡ m → (span : Span) (items : Items) (x : Default × Items)
+      → default_by l m span items ≡ Some x → DefaultStands (Token t span items) x
   unfolding default_by
-  default_by_stands op span items true b c x is h =
-      subst (λ v. DefaultStands (Token (Symbol v) span items) x) (sym (bytes_same op (codes "-") is)) (minus_stands span items x h)
-  default_by_stands op span items false true c x is h =
-      bound _ _ _ h (λ a read made.
-      let found = array_stands l (Token (Symbol op) span items) a read in
-      subst (DefaultStands (Token (Symbol op) span items)) (same_Some (ArrayDefault a.0, a.1) x made) (found.0, found.1))
-  default_by_stands op span items false false true x is h =
-      bound _ _ _ h (λ m read made.
-      let found = map_stands l (Token (Symbol op) span items) m read in
-      subst (DefaultStands (Token (Symbol op) span items)) (same_Some (MapDefault m.0, m.1) x made) (found.0, found.1))
-  default_by_stands op span items false false false x is h = cc
+  default_by_stands (Operation Minus) t is span items x h =
+      subst (λ v. DefaultStands (Token v span items) x) (sym (among_is default_marks t (Operation Minus) is (λ c. cc))) (minus_stands span items x h)
+  default_by_stands LeftBracket t is span items x h =
+      subst (λ v. DefaultStands (Token v span items) x) (sym (among_is default_marks t LeftBracket is (λ c. cc)))
+      (bound _ _ _ h (λ a read made.
+      let found = array_stands l (mark LeftBracket span items) a read in
+      subst (DefaultStands (mark LeftBracket span items)) (same_Some (ArrayDefault a.0, a.1) x made) (found.0, found.1)))
+  default_by_stands LeftBrace t is span items x h =
+      subst (λ v. DefaultStands (Token v span items) x) (sym (among_is default_marks t LeftBrace is (λ c. cc)))
+      (bound _ _ _ h (λ m read made.
+      let found = map_stands l (mark LeftBrace span items) m read in
+      subst (DefaultStands (mark LeftBrace span items)) (same_Some (MapDefault m.0, m.1) x made) (found.0, found.1)))
+  default_by_stands _ t is span items x h = cc
 
   default_stands : (ts : Items) (x : Default × Items) → default_of l ts ≡ Some x → DefaultStands ts x
   unfolding default_of default_at
-  default_stands (Token (Truth b) span items) x h = subst (DefaultStands (Token (Truth b) span items)) (same_Some (TruthDefault b span, items) x h) (tt, refl)
-  default_stands (Token (Str text) span items) x h = subst (DefaultStands (Token (Str text) span items)) (same_Some (TextDefault (Simple text span), items) x h) (tt, refl)
-  default_stands (Token (toks.Escaped text) span items) x h = subst (DefaultStands (Token (toks.Escaped text) span items)) (same_Some (TextDefault (Escaped text span), items) x h) (tt, refl)
-  default_stands (Token (Integer n) span items) x h = subst (DefaultStands (Token (Integer n) span items)) (same_Some (NumberDefault n span, items) x h) (tt, refl)
+  default_stands (Token (toks.Truth b) span items) x h = subst (DefaultStands (Token (toks.Truth b) span items)) (same_Some (LiteralDefault (Truth b) span, items) x h) (tt, refl)
+  default_stands (Token (toks.Str text) span items) x h = subst (DefaultStands (Token (toks.Str text) span items)) (same_Some (LiteralDefault (Quoted (Simple text)) span, items) x h) (tt, refl)
+  default_stands (Token (toks.Escaped text) span items) x h = subst (DefaultStands (Token (toks.Escaped text) span items)) (same_Some (LiteralDefault (Quoted (Escaped text)) span, items) x h) (tt, refl)
+  default_stands (Token (Integer n) span items) x h = subst (DefaultStands (Token (Integer n) span items)) (same_Some (LiteralDefault (Number n) span, items) x h) (tt, refl)
   default_stands (Token (Ident text) span items) x h =
       bound _ _ _ h (λ u none made.
       subst (DefaultStands (Token (Ident text) span items)) (same_Some (NothingDefault (record { text = text; span = span }), items) x made) (guard_ok _ u none, refl))
-  default_stands (Token (Symbol op) span items) x h = default_by_stands op span items (bytes_eq op (codes "-")) (bytes_eq op (codes "[")) (bytes_eq op (codes "{")) x refl h
+  default_stands (Token (Symbol op) span items) x h = default_by_stands (among default_marks (Symbol op)) (Symbol op) refl span items x h
   default_stands _ x h = cc
 
-  begun_array : (ts : Items) (span : Span) (items : Items) → ts ≡ symbol_yield (codes "[") span items → default_of l ts ≡ (array_of l ts >>= λ a. Some (ArrayDefault a.0, a.1))
+  begun_array : (ts : Items) (span : Span) (items : Items) → ts ≡ mark LeftBracket span items → default_of l ts ≡ (array_of l ts >>= λ a. Some (ArrayDefault a.0, a.1))
   unfolding default_of default_at default_by
   begun_array ts span items is = subst (λ v. default_of l v ≡ (array_of l v >>= λ a. Some (ArrayDefault a.0, a.1))) (sym is) refl
 
-  begun_map : (ts : Items) (span : Span) (items : Items) → ts ≡ symbol_yield (codes "{") span items → default_of l ts ≡ (map_of l ts >>= λ m. Some (MapDefault m.0, m.1))
+  begun_map : (ts : Items) (span : Span) (items : Items) → ts ≡ mark LeftBrace span items → default_of l ts ≡ (map_of l ts >>= λ m. Some (MapDefault m.0, m.1))
   unfolding default_of default_at default_by
   begun_map ts span items is = subst (λ v. default_of l v ≡ (map_of l v >>= λ m. Some (MapDefault m.0, m.1))) (sym is) refl
 
   default_found : (d : Default) (rest : Items) → FitsDefault l d → default_of l (default_yield d rest) ≡ Some (d, rest)
   unfolding default_of default_at default_by
-  default_found (TruthDefault b span) rest fits = refl
-  default_found (TextDefault (Simple text span)) rest fits = refl
-  default_found (TextDefault (Escaped text span)) rest fits = refl
-  default_found (NumberDefault n span) rest fits = refl
+  default_found (LiteralDefault (Number n) span) rest fits = refl
+  default_found (LiteralDefault (Quoted (Simple text)) span) rest fits = refl
+  default_found (LiteralDefault (Quoted (Escaped text)) span) rest fits = refl
+  default_found (LiteralDefault (Truth b) span) rest fits = refl
   default_found (MinusDefault minus n span) rest fits = refl
   default_found (NothingDefault n) rest fits = rw fits refl
   default_found (ArrayDefault a) rest fits =
@@ -139,25 +141,25 @@ module _ (l : Limits) where
       begun_map _ span items is ∙ ap (λ o. o >>= λ b. Some (MapDefault b.0, b.1)) (map_found l m rest fits)
 
   -- the parts of a parameter
-  at_stands : (ts : Items) (o : Option (Span × Items)) → symbol (codes "@") ts ≡ o → ts ≡ at_yield (at_in ts o).0 (at_in ts o).1
+  at_stands : (ts : Items) (o : Option (Span × Items)) → takes At ts ≡ o → ts ≡ at_yield (at_in ts o).0 (at_in ts o).1
   at_stands ts None is = refl
-  at_stands ts (Some x) is = symbol_stands _ ts x is
+  at_stands ts (Some x) is = takes_ok At ts x is
 
-  annotation_stands : (ts : Items) (o : Option (Span × Items)) (x : Option Annotation × Items) → symbol (codes ":") ts ≡ o → annotation_in ts o ≡ Some x
+  annotation_stands : (ts : Items) (o : Option (Span × Items)) (x : Option Annotation × Items) → takes Colon ts ≡ o → annotation_in ts o ≡ Some x
       → (is_known x.0 ≡ true) × (ts ≡ annotation_yield x.0 x.1)
   unfolding annotation_in
   annotation_stands ts None x is h = subst (λ (y : Option Annotation × Items). (is_known y.0 ≡ true) × (ts ≡ annotation_yield y.0 y.1)) (same_Some (None, ts) x h) (refl, refl)
   annotation_stands ts (Some colon) x is h =
       bound _ _ _ h (λ n read more. bound _ _ _ more (λ u known made.
       subst (λ (y : Option Annotation × Items). (is_known y.0 ≡ true) × (ts ≡ annotation_yield y.0 y.1)) (same_Some (Some (record { colon = colon.0; name = n.0 }), n.1) x made)
-      (guard_ok _ u known, symbol_stands _ ts colon is ∙ ap (symbol_yield (codes ":") colon.0) (name_stands colon.1 n read))))
+      (guard_ok _ u known, takes_ok Colon ts colon is ∙ ap (mark Colon colon.0) (taken_name_ok colon.1 n read))))
 
-  annotation_found : (t : Option Annotation) (rest : Items) → is_known t ≡ true → symbol (codes ":") rest ≡ None → annotation_in (annotation_yield t rest) (symbol (codes ":") (annotation_yield t rest)) ≡ Some (t, rest)
+  annotation_found : (t : Option Annotation) (rest : Items) → is_known t ≡ true → takes Colon rest ≡ None → annotation_in (annotation_yield t rest) (takes Colon (annotation_yield t rest)) ≡ Some (t, rest)
   unfolding annotation_in
   annotation_found None rest known none = ap (annotation_in rest) none
   annotation_found (Some a) rest known none = rw known refl
 
-  assigned_stands : (ts : Items) (o : Option (Span × Items)) (x : Option Assigned × Items) → symbol (codes "=") ts ≡ o → assigned_in l ts o ≡ Some x
+  assigned_stands : (ts : Items) (o : Option (Span × Items)) (x : Option Assigned × Items) → takes Assign ts ≡ o → assigned_in l ts o ≡ Some x
       → FitsAssigned l x.0 × (ts ≡ assigned_yield x.0 x.1)
   unfolding assigned_in
   assigned_stands ts None x is h = subst (λ (y : Option Assigned × Items). FitsAssigned l y.0 × (ts ≡ assigned_yield y.0 y.1)) (same_Some (None, ts) x h) (tt, refl)
@@ -165,9 +167,9 @@ module _ (l : Limits) where
       bound _ _ _ h (λ d read made.
       let found = default_stands sign.1 d read in
       subst (λ (y : Option Assigned × Items). FitsAssigned l y.0 × (ts ≡ assigned_yield y.0 y.1)) (same_Some (Some (record { sign = sign.0; value = d.0 }), d.1) x made)
-      (found.0, symbol_stands _ ts sign is ∙ ap (symbol_yield (codes "=") sign.0) found.1))
+      (found.0, takes_ok Assign ts sign is ∙ ap (mark Assign sign.0) found.1))
 
-  assigned_found : (d : Option Assigned) (rest : Items) → FitsAssigned l d → symbol (codes "=") rest ≡ None → assigned_in l (assigned_yield d rest) (symbol (codes "=") (assigned_yield d rest)) ≡ Some (d, rest)
+  assigned_found : (d : Option Assigned) (rest : Items) → FitsAssigned l d → takes Assign rest ≡ None → assigned_in l (assigned_yield d rest) (takes Assign (assigned_yield d rest)) ≡ Some (d, rest)
   unfolding assigned_in
   assigned_found None rest fits none = ap (assigned_in l rest) none
   assigned_found (Some d) rest fits none = rw (default_found d.value rest fits) refl
@@ -176,7 +178,7 @@ module _ (l : Limits) where
   fresh_name_stands seen ts x h =
       bound _ _ _ h (λ n read rest. bound _ _ _ rest (λ u other more. bound _ _ _ more (λ v fresh made.
       subst (λ (y : Name × Items). (is_body y.0.text ≡ false) × (is_one_of seen y.0.text ≡ false) × (ts ≡ name_yield y.0 y.1)) (same_Some n x made)
-      (guard_not _ u other, guard_not _ v fresh, name_stands ts n read))))
+      (guard_not _ u other, guard_not _ v fresh, taken_name_ok ts n read))))
 
   -- a parameter
   abbrev ParameterStands : List (List ℕ) → Items → Parameter × Items → Type 0
@@ -187,25 +189,25 @@ module _ (l : Limits) where
   parameter_behind_stands seen at ts x h =
       bound _ _ _ h (λ n named rest. bound _ _ _ rest (λ t typed rest'. bound _ _ _ rest' (λ d defaulted more. bound _ _ _ more (λ u fits made.
       let name = fresh_name_stands seen ts n named in
-      let type = annotation_stands n.1 (symbol (codes ":") n.1) t refl typed in
-      let value = assigned_stands t.1 (symbol (codes "=") t.1) d refl defaulted in
+      let type = annotation_stands n.1 (takes Colon n.1) t refl typed in
+      let value = assigned_stands t.1 (takes Assign t.1) d refl defaulted in
       subst (ParameterStands seen (at_yield at ts)) (same_Some (parameter at n.0 t.0 d.0, d.1) x made)
       ((name.0, type.0, value.0, guard_ok _ u fits), name.1, ap (at_yield at) (name.2 ∙ ap (name_yield n.0) (type.1 ∙ ap (annotation_yield t.0) value.1)))))))
 
   parameter_stands : (seen : List (List ℕ)) (ts : Items) (x : Parameter × Items) → parameter_of l seen ts ≡ Some x → ParameterStands seen ts x
   parameter_stands seen ts x h =
-      let found = parameter_behind_stands seen (at_in ts (symbol (codes "@") ts)).0 (at_in ts (symbol (codes "@") ts)).1 x h in
-      (found.0, found.1, at_stands ts (symbol (codes "@") ts) refl ∙ found.2)
+      let found = parameter_behind_stands seen (at_in ts (takes At ts)).0 (at_in ts (takes At ts)).1 x h in
+      (found.0, found.1, at_stands ts (takes At ts) refl ∙ found.2)
 
-  at_found : (at : Option Span) (n : Name) (rest : Items) → at_in (at_yield at (name_yield n rest)) (symbol (codes "@") (at_yield at (name_yield n rest))) ≡ (at, name_yield n rest)
+  at_found : (at : Option Span) (n : Name) (rest : Items) → at_in (at_yield at (name_yield n rest)) (takes At (at_yield at (name_yield n rest))) ≡ (at, name_yield n rest)
   at_found None n rest = refl
   at_found (Some span) n rest = refl
 
-  no_colon : (d : Option Assigned) (rest : Items) → symbol (codes ":") rest ≡ None → symbol (codes ":") (assigned_yield d rest) ≡ None
+  no_colon : (d : Option Assigned) (rest : Items) → takes Colon rest ≡ None → takes Colon (assigned_yield d rest) ≡ None
   no_colon None rest none = none
   no_colon (Some d) rest none = refl
 
-  parameter_found : (seen : List (List ℕ)) (p : Parameter) (rest : Items) → FitsParameter l p → is_one_of seen p.name.text ≡ false → symbol (codes ":") rest ≡ None → symbol (codes "=") rest ≡ None
+  parameter_found : (seen : List (List ℕ)) (p : Parameter) (rest : Items) → FitsParameter l p → is_one_of seen p.name.text ≡ false → takes Colon rest ≡ None → takes Assign rest ≡ None
       → parameter_of l seen (parameter_yield p rest) ≡ Some (p, rest)
   unfolding parameter_behind
   parameter_found seen p rest fits fresh colon sign =
@@ -220,22 +222,22 @@ module _ (l : Limits) where
   AllStand again = (seen : List (List ℕ)) (ts : Items) (x : Parameters × Items) → again seen ts ≡ Some x → ParametersStand seen ts x
 
   parameters_behind_stand : (again : List (List ℕ) → Items → Takes Parameters) → AllStand again → (seen : List (List ℕ)) (p : Parameter) (ts us : Items) (o : Option (Span × Items)) (x : Parameters × Items)
-      → ParameterStands seen ts (p, us) → symbol (codes ")") us ≡ o → parameters_behind again seen p us o ≡ Some x → ParametersStand seen ts x
+      → ParameterStands seen ts (p, us) → takes RightParen us ≡ o → parameters_behind again seen p us o ≡ Some x → ParametersStand seen ts x
   unfolding parameters_behind
   parameters_behind_stand again goes seen p ts us (Some end) x stands is h =
       subst (ParametersStand seen ts) (same_Some (Final p end.0, end.1) x h)
-      (stands.0, λ d. distinct-more seen p.name.text stands.1 d, stands.2 ∙ ap (parameter_yield p) (symbol_stands _ us end is))
+      (stands.0, λ d. distinct-more seen p.name.text stands.1 d, stands.2 ∙ ap (parameter_yield p) (takes_ok RightParen us end is))
   parameters_behind_stand again goes seen p ts us None x stands is h =
       bound _ _ _ h (λ comma read more. bound _ _ _ more (λ ps others made.
       let then = goes (seen ++ p.name.text ∷ []) comma.1 ps others in
       subst (ParametersStand seen ts) (same_Some (More p comma.0 ps.0, ps.1) x made) (
         (stands.0, then.0),
         λ d. subst AreDistinct (append_assoc seen (p.name.text ∷ []) (parameter_names ps.0)) (then.1 (distinct-more seen p.name.text stands.1 d)),
-        stands.2 ∙ ap (parameter_yield p) (symbol_stands _ us comma read ∙ ap (symbol_yield (codes ",") comma.0) then.2),
+        stands.2 ∙ ap (parameter_yield p) (takes_ok Comma us comma read ∙ ap (mark Comma comma.0) then.2),
       )))
 
   parameters_at_stand : (again : List (List ℕ) → Items → Takes Parameters) → AllStand again → (seen : List (List ℕ)) (ts : Items) (o : Option (Span × Items)) (x : Parameters × Items)
-      → symbol (codes "...") ts ≡ o → parameters_at again l seen ts o ≡ Some x → ParametersStand seen ts x
+      → takes Spread ts ≡ o → parameters_at again l seen ts o ≡ Some x → ParametersStand seen ts x
   unfolding parameters_at
   parameters_at_stand again goes seen ts (Some dots) x is h =
       bound _ _ _ h (λ n named more. bound _ _ _ more (λ end ended made.
@@ -243,23 +245,23 @@ module _ (l : Limits) where
       subst (ParametersStand seen ts) (same_Some (Rest dots.0 n.0 end.0, end.1) x made) (
         name.0,
         λ d. distinct-more seen n.0.text name.1 d,
-        symbol_stands _ ts dots is ∙ ap (symbol_yield (codes "...") dots.0) (name.2 ∙ ap (name_yield n.0) (symbol_stands _ n.1 end ended)),
+        takes_ok Spread ts dots is ∙ ap (mark Spread dots.0) (name.2 ∙ ap (name_yield n.0) (takes_ok RightParen n.1 end ended)),
       )))
   parameters_at_stand again goes seen ts None x is h =
       bound _ _ _ h (λ p read more.
-      parameters_behind_stand again goes seen p.0 ts p.1 (symbol (codes ")") p.1) x (parameter_stands seen ts p read) refl more)
+      parameters_behind_stand again goes seen p.0 ts p.1 (takes RightParen p.1) x (parameter_stands seen ts p read) refl more)
 
   parameters_in_stand : (again : List (List ℕ) → Items → Takes Parameters) → AllStand again → (seen : List (List ℕ)) (ts : Items) (o : Option (Span × Items)) (x : Parameters × Items)
-      → symbol (codes ")") ts ≡ o → parameters_in again l seen ts o ≡ Some x → ParametersStand seen ts x
+      → takes RightParen ts ≡ o → parameters_in again l seen ts o ≡ Some x → ParametersStand seen ts x
   unfolding parameters_in
   parameters_in_stand again goes seen ts (Some end) x is h =
-      subst (ParametersStand seen ts) (same_Some (Closed end.0, end.1) x h) (tt, λ d. subst AreDistinct (sym (append-nil seen)) d, symbol_stands _ ts end is)
-  parameters_in_stand again goes seen ts None x is h = parameters_at_stand again goes seen ts (symbol (codes "...") ts) x refl h
+      subst (ParametersStand seen ts) (same_Some (Closed end.0, end.1) x h) (tt, λ d. subst AreDistinct (sym (append-nil seen)) d, takes_ok RightParen ts end is)
+  parameters_in_stand again goes seen ts None x is h = parameters_at_stand again goes seen ts (takes Spread ts) x refl h
 
   parameters_by_stand : (n : ℕ) → AllStand (parameters_by n l)
   unfolding parameters_by
   parameters_by_stand zero seen ts x h = cc
-  parameters_by_stand (suc n) seen ts x h = parameters_in_stand (parameters_by n l) (parameters_by_stand n) seen ts (symbol (codes ")") ts) x refl h
+  parameters_by_stand (suc n) seen ts x h = parameters_in_stand (parameters_by n l) (parameters_by_stand n) seen ts (takes RightParen ts) x refl h
 
   parameters_stand : AllStand (parameters_of l)
   unfolding parameters_of
@@ -276,7 +278,7 @@ module _ (l : Limits) where
   behind_agree again other seen p ts us is goes None =
       bind_both _ _ _ (λ comma read.
       let shorter : size comma.1 < size ts =
-      subst (λ v. size comma.1 < size v) (sym (is ∙ ap (parameter_yield p) (symbol_stands _ us comma read))) (omega (arith, parameter_size p (symbol_yield (codes ",") comma.0 comma.1))) in
+      subst (λ v. size comma.1 < size v) (sym (is ∙ ap (parameter_yield p) (takes_ok Comma us comma read))) (omega (arith, parameter_size p (mark Comma comma.0 comma.1))) in
       ap (λ r. r >>= λ ps. Some (More p comma.0 ps.0, ps.1)) (goes (seen ++ p.name.text ∷ []) comma.1 shorter))
 
   at_agree : (again other : List (List ℕ) → Items → Takes Parameters) (seen : List (List ℕ)) (ts : Items) → Agree again other ts
@@ -284,45 +286,45 @@ module _ (l : Limits) where
   unfolding parameters_at
   at_agree again other seen ts goes (Some dots) = refl
   at_agree again other seen ts goes None =
-      bind_both _ _ _ (λ p read. behind_agree again other seen p.0 ts p.1 (parameter_stands seen ts p read).2 goes (symbol (codes ")") p.1))
+      bind_both _ _ _ (λ p read. behind_agree again other seen p.0 ts p.1 (parameter_stands seen ts p read).2 goes (takes RightParen p.1))
 
   in_agree : (again other : List (List ℕ) → Items → Takes Parameters) (seen : List (List ℕ)) (ts : Items) → Agree again other ts
       → (o : Option (Span × Items)) → parameters_in again l seen ts o ≡ parameters_in other l seen ts o
   unfolding parameters_in
   in_agree again other seen ts goes (Some end) = refl
-  in_agree again other seen ts goes None = at_agree again other seen ts goes (symbol (codes "...") ts)
+  in_agree again other seen ts goes None = at_agree again other seen ts goes (takes Spread ts)
 
   parameters_agree : (n k : ℕ) (seen : List (List ℕ)) (ts : Items) → size ts < n → size ts < k → parameters_by n l seen ts ≡ parameters_by k l seen ts
   unfolding parameters_by
   parameters_agree zero k seen ts hn hk = absurd (omega arith)
   parameters_agree (suc n) zero seen ts hn hk = absurd (omega arith)
   parameters_agree (suc n) (suc k) seen ts hn hk =
-      in_agree (parameters_by n l) (parameters_by k l) seen ts (λ s us lt. parameters_agree n k s us (omega arith) (omega arith)) (symbol (codes ")") ts)
+      in_agree (parameters_by n l) (parameters_by k l) seen ts (λ s us lt. parameters_agree n k s us (omega arith) (omega arith)) (takes RightParen ts)
 
   -- parameters, by what comes next
-  pub parameters_steps : (seen : List (List ℕ)) (ts : Items) → parameters_of l seen ts ≡ parameters_in (parameters_of l) l seen ts (symbol (codes ")") ts)
+  pub parameters_steps : (seen : List (List ℕ)) (ts : Items) → parameters_of l seen ts ≡ parameters_in (parameters_of l) l seen ts (takes RightParen ts)
   unfolding parameters_of parameters_by
   parameters_steps seen ts =
-      in_agree (parameters_by (size ts) l) (parameters_of l) seen ts (λ s us lt. parameters_agree (size ts) (suc (size us)) s us lt (omega arith)) (symbol (codes ")") ts)
+      in_agree (parameters_by (size ts) l) (parameters_of l) seen ts (λ s us lt. parameters_agree (size ts) (suc (size us)) s us lt (omega arith)) (takes RightParen ts)
 
-  no_end : (at : Option Span) (n : Name) (rest : Items) → symbol (codes ")") (at_yield at (name_yield n rest)) ≡ None
+  no_end : (at : Option Span) (n : Name) (rest : Items) → takes RightParen (at_yield at (name_yield n rest)) ≡ None
   no_end None n rest = refl
   no_end (Some span) n rest = refl
 
-  no_dots : (at : Option Span) (n : Name) (rest : Items) → symbol (codes "...") (at_yield at (name_yield n rest)) ≡ None
+  no_dots : (at : Option Span) (n : Name) (rest : Items) → takes Spread (at_yield at (name_yield n rest)) ≡ None
   no_dots None n rest = refl
   no_dots (Some span) n rest = refl
 
   -- what is read at a parameter
-  read_behind : (seen : List (List ℕ)) (p : Parameter) (us : Items) → FitsParameter l p → is_one_of seen p.name.text ≡ false → symbol (codes ":") us ≡ None → symbol (codes "=") us ≡ None
-      → parameters_of l seen (parameter_yield p us) ≡ parameters_behind (parameters_of l) seen p us (symbol (codes ")") us)
+  read_behind : (seen : List (List ℕ)) (p : Parameter) (us : Items) → FitsParameter l p → is_one_of seen p.name.text ≡ false → takes Colon us ≡ None → takes Assign us ≡ None
+      → parameters_of l seen (parameter_yield p us) ≡ parameters_behind (parameters_of l) seen p us (takes RightParen us)
   unfolding parameters_in parameters_at
   read_behind seen p us fits fresh colon sign =
       let behind = annotation_yield p.type (assigned_yield p.default us) in
       parameters_steps seen (parameter_yield p us)
       ∙ ap (parameters_in (parameters_of l) l seen (parameter_yield p us)) (no_end p.at p.name behind)
       ∙ ap (parameters_at (parameters_of l) l seen (parameter_yield p us)) (no_dots p.at p.name behind)
-      ∙ ap (λ o. o >>= λ q. parameters_behind (parameters_of l) seen q.0 q.1 (symbol (codes ")") q.1)) (parameter_found seen p us fits fresh colon sign)
+      ∙ ap (λ o. o >>= λ q. parameters_behind (parameters_of l) seen q.0 q.1 (takes RightParen q.1)) (parameter_found seen p us fits fresh colon sign)
 
   parameters_found : (ps : Parameters) (seen : List (List ℕ)) (rest : Items) → FitEach l ps → AreDistinct (seen ++ parameter_names ps) → parameters_of l seen (parameters_yield ps rest) ≡ Some (ps, rest)
   unfolding parameters_in parameters_at parameters_behind
@@ -330,9 +332,9 @@ module _ (l : Limits) where
   parameters_found (Rest dots n end) seen rest fits distinct =
       parameters_steps seen (parameters_yield (Rest dots n end) rest) ∙ rw (fits, not-before seen n.text [] distinct) refl
   parameters_found (Final p end) seen rest fits distinct =
-      read_behind seen p (symbol_yield (codes ")") end rest) fits (not-before seen p.name.text [] distinct) refl refl
+      read_behind seen p (mark RightParen end rest) fits (not-before seen p.name.text [] distinct) refl refl
   parameters_found (More p comma ps) seen rest fits distinct =
-      read_behind seen p (symbol_yield (codes ",") comma (parameters_yield ps rest)) fits.0 (not-before seen p.name.text (parameter_names ps) distinct) refl refl
+      read_behind seen p (mark Comma comma (parameters_yield ps rest)) fits.0 (not-before seen p.name.text (parameter_names ps) distinct) refl refl
       ∙ ap (λ o. o >>= λ qs. Some (More p comma qs.0, qs.1))
       (parameters_found ps (seen ++ p.name.text ∷ []) rest fits.1 (subst AreDistinct (sym (append_assoc seen (p.name.text ∷ []) (parameter_names ps))) distinct))
 
@@ -345,12 +347,12 @@ module _ (l : Limits) where
       let found = map_stands l ts m read in
       subst (λ (y : Option LiteralMap × Items). FitsMetadata l y.0 × (ts ≡ metadata_yield y.0 y.1)) (same_Some (Some m.0, m.1) x made) (found.0, found.1))
 
-  metadata_found : (m : Option LiteralMap) (rest : Items) → FitsMetadata l m → is_symbol (codes "{") rest ≡ false → metadata_in l (metadata_yield m rest) (is_symbol (codes "{") (metadata_yield m rest)) ≡ Some (m, rest)
+  metadata_found : (m : Option LiteralMap) (rest : Items) → FitsMetadata l m → begins LeftBrace rest ≡ false → metadata_in l (metadata_yield m rest) (begins LeftBrace (metadata_yield m rest)) ≡ Some (m, rest)
   unfolding metadata_in
   metadata_found None rest fits none = ap (metadata_in l rest) none
   metadata_found (Some m) rest fits none =
       let (span, items, is) = map_begins m rest in
-      let begins : is_symbol (codes "{") (map_yield m rest) ≡ true = ap (is_symbol (codes "{")) is in
+      let begins : begins LeftBrace (map_yield m rest) ≡ true = ap (begins LeftBrace) is in
       ap (metadata_in l (map_yield m rest)) begins ∙ ap (λ o. o >>= λ n. Some (Some n.0, n.1)) (map_found l m rest fits)
 
   pub record OpenedStands (seen : List (List ℕ)) (ts : Items) (x : Opened × Items) : Type 0 where
@@ -364,12 +366,12 @@ module _ (l : Limits) where
   opened_stands seen ts x h =
       bound _ _ _ h (λ n named rest1. bound _ _ _ rest1 (λ u fresh rest2. bound _ _ _ rest2 (λ paren opened rest3. bound _ _ _ rest3 (λ ps listed rest4. bound _ _ _ rest4 (λ m meant more. bound _ _ _ more (λ f ended made.
       let parameters = parameters_stand [] paren.1 ps listed in
-      let metadata = metadata_stands ps.1 (is_symbol (codes "{") ps.1) m meant in
+      let metadata = metadata_stands ps.1 (begins LeftBrace ps.1) m meant in
       subst (OpenedStands seen ts) (same_Some (record { name = n.0; paren = paren.0; parameters = ps.0; metadata = m.0; finish = f.0 }, f.1) x made) (record {
         fresh = guard_not _ u fresh;
         parameters = (parameters.0, parameters.1 tt);
         metadata = metadata.0;
-        tokens = component_stands ts n named ∙ ap (component_yield n.0) (symbol_stands _ n.1 paren opened ∙ ap (symbol_yield (codes "(") paren.0)
+        tokens = component_stands ts n named ∙ ap (component_yield n.0) (takes_ok LeftParen n.1 paren opened ∙ ap (mark LeftParen paren.0)
             (parameters.2 ∙ ap (parameters_yield ps.0) (metadata.1 ∙ ap (metadata_yield m.0) (finish_stands m.1 f ended))));
       })))))))
 
@@ -378,7 +380,7 @@ module _ (l : Limits) where
   unfolding opened_of
   opened_found seen o rest fresh parameters metadata =
       rw (
-        component_found o.name (symbol_yield (codes "(") o.paren (parameters_yield o.parameters (metadata_yield o.metadata (finish_yield o.finish rest)))) refl,
+        component_found o.name (mark LeftParen o.paren (parameters_yield o.parameters (metadata_yield o.metadata (finish_yield o.finish rest)))) refl,
         fresh,
         parameters_found o.parameters [] (metadata_yield o.metadata (finish_yield o.finish rest)) parameters.0 parameters.1,
         metadata_found o.metadata (finish_yield o.finish rest) metadata refl,

@@ -13,7 +13,7 @@ use Rattle.tera_tree.specs.Tree as tree
 use Rattle.tera_tree.specs.Tree.{Output, Stmt, Argument}
 use Rattle.tera_tree.specs.View.{nodes_of}
 use Rattle.tera_grammar.specs.Words.{is_none, is_reserved, is_loop_field}
-use Rattle.tera_grammar.specs.expressions.Reading.Front.{skip, bump, name_of, literal_by, link_of, front_of_token, head_mark, begins_sign}
+use Rattle.tera_grammar.specs.expressions.Reading.Front.{skip, bump, name_of, literal_at, quote_at, link_of, front_of_token, head_mark, begins_sign}
 use Rattle.tera_grammar.specs.expressions.Reading.Parts.{inside_subscript, inside_array, extra_of, part_of, slice_of, sub_of, element_of, after_element, row_by, row_of, arguments_of, args_of, links_by, links_of, dotted_by, dotted_of, attributes_by, attributes_of}
 use Rattle.tera_grammar.specs.expressions.Reading.Atoms.{prefix_of, paren_of, variables_of, comprehension_of, items_from, array_of, map_of, component_of, chain_of, word_head}
 use Rattle.tera_grammar.specs.expressions.Reading.Loop.{operator_of, suffix_in, join_of, close_of, step as inner_step, loop_by, expr, fresh}
@@ -21,13 +21,15 @@ use Rattle.tera_grammar.specs.expressions.Reading.Whole.{expression_of, filter_o
 use Rattle.tera_grammar.specs.Options.{◌>>=◌}
 use Rattle.tera_grammar.specs.statements.Expressions.{expression_output, filter_output, attributes_output, component_text, array_output, map_output}
 use Rattle.tera_grammar.specs.statements.Output.{output_of}
+use Rattle.tera_grammar.specs.statements.Types.{Sorted}
+use Rattle.tera_grammar.specs.statements.Top.{is_blank}
 use Rattle.tera_grammar.specs.statements.Reading.{else_in, branch_in, branches_by, branches, set_behind, set_of, include_of, extends_of, break_of, block_end, block_of, component_def_of, section_of, call_end, call_of, for_of, if_of, shown_of, step, items_by, items, body, template}
-use Rattle.tera_grammar.specs.statements.Reading.Heads.{loop_behind, loop_of, filters_in, filters_by, filters_of}
+use Rattle.tera_grammar.specs.statements.Reading.Heads.{loop_of, filters_in, filters_by, filters_of}
 use Rattle.tera_grammar.specs.statements.Reading.Components.{default_by, default_at, default_of, annotation_in, assigned_in, parameter_behind, parameters_behind, parameters_at, parameters_in, parameters_by, parameters_of, metadata_in, opened_of, end_name_in, ending_of}
 
 -- what the tokens are read as, with room for three bodies
 read : Items → Option Output
-unfolding expression_output filter_output attributes_output component_text array_output map_output else_in branch_in branches_by branches set_behind set_of include_of extends_of break_of block_end block_of component_def_of section_of call_end call_of for_of if_of shown_of step items_by items body template loop_behind loop_of filters_in filters_by filters_of default_by default_at default_of annotation_in assigned_in parameter_behind parameters_behind parameters_at parameters_in parameters_by parameters_of metadata_in opened_of end_name_in ending_of is_none is_reserved is_loop_field skip bump name_of literal_by link_of front_of_token head_mark begins_sign inside_subscript inside_array extra_of part_of slice_of sub_of element_of after_element row_by row_of arguments_of args_of links_by links_of dotted_by dotted_of attributes_by attributes_of prefix_of paren_of variables_of comprehension_of items_from array_of map_of component_of chain_of word_head operator_of suffix_in join_of close_of inner_step loop_by expr fresh expression_of filter_of all_attributes path_of literal_array_of literal_map_of
+unfolding expression_output filter_output attributes_output component_text array_output map_output else_in branch_in branches_by branches set_behind set_of include_of extends_of break_of block_end block_of component_def_of section_of call_end call_of for_of if_of shown_of step items_by items body template loop_of filters_in filters_by filters_of default_by default_at default_of annotation_in assigned_in parameter_behind parameters_behind parameters_at parameters_in parameters_by parameters_of metadata_in opened_of end_name_in ending_of is_none is_reserved is_loop_field skip bump name_of literal_at quote_at link_of front_of_token head_mark begins_sign inside_subscript inside_array extra_of part_of slice_of sub_of element_of after_element row_by row_of arguments_of args_of links_by links_of dotted_by dotted_of attributes_by attributes_of prefix_of paren_of variables_of comprehension_of items_from array_of map_of component_of chain_of word_head operator_of suffix_in join_of close_of inner_step loop_by expr fresh expression_of filter_of all_attributes path_of literal_array_of literal_map_of
 read ts = template (record { depth = 3; links = 3; subscripts = 1; arrays = 1; bodies = 3 }) ts >>= λ b. Some (output_of b)
 
 module _ (s : Span) where
@@ -239,3 +241,148 @@ module _ (s : Span) where
   no_variable_in_a_default : read (component (word (codes "a") ∷ op (codes "=") ∷ op (codes "[") ∷ word (codes "x") ∷ op (codes "]") ∷ op (codes ")") ∷ [])) ≡ None
   unfolding read
   no_variable_in_a_default = refl
+
+  -- What may stand where.
+
+  no_block_in_a_loop : read (tag (word (codes "for") ∷ word (codes "a") ∷ word (codes "in") ∷ word (codes "b") ∷ []) (tag (word (codes "block") ∷ word (codes "c") ∷ []) (tag (word (codes "endblock") ∷ []) (tag (word (codes "endfor") ∷ []) Ended)))) ≡ None
+  unfolding read
+  no_block_in_a_loop = refl
+
+  no_break_alone : read (tag (word (codes "break") ∷ []) Ended) ≡ None
+  unfolding read
+  no_break_alone = refl
+
+  no_break_in_an_else : read (tag (word (codes "for") ∷ word (codes "a") ∷ word (codes "in") ∷ word (codes "b") ∷ []) (tag (word (codes "else") ∷ []) (tag (word (codes "break") ∷ []) (tag (word (codes "endfor") ∷ []) Ended)))) ≡ None
+  unfolding read
+  no_break_in_an_else = refl
+
+  break_of_the_outer_loop : read (tag (word (codes "for") ∷ word (codes "a") ∷ word (codes "in") ∷ word (codes "b") ∷ []) (tag (word (codes "for") ∷ word (codes "a") ∷ word (codes "in") ∷ word (codes "b") ∷ []) (tag (word (codes "else") ∷ []) (tag (word (codes "break") ∷ []) (tag (word (codes "endfor") ∷ []) (tag (word (codes "endfor") ∷ []) Ended))))))
+      ≡ nodes (tree.ForLoop None (codes "a") (var (codes "b")) (nodes_of (tree.ForLoop None (codes "a") (var (codes "b")) (nodes_of []) (nodes_of (tree.Break ∷ [])) ∷ [])) (nodes_of []) ∷ [])
+  unfolding read
+  break_of_the_outer_loop = refl
+
+  no_definition_in_an_if : read (tag (word (codes "if") ∷ word (codes "a") ∷ []) (tag (word (codes "component") ∷ word (codes "c") ∷ op (codes "(") ∷ op (codes ")") ∷ []) (tag (word (codes "endcomponent") ∷ []) (tag (word (codes "endif") ∷ []) Ended)))) ≡ None
+  unfolding read
+  no_definition_in_an_if = refl
+
+  no_extends_in_an_if : read (tag (word (codes "if") ∷ word (codes "a") ∷ []) (tag (word (codes "extends") ∷ toks.Str (codes "p") ∷ []) (tag (word (codes "endif") ∷ []) Ended))) ≡ None
+  unfolding read
+  no_extends_in_an_if = refl
+
+  no_block_in_a_definition : read (tag (word (codes "component") ∷ word (codes "c") ∷ op (codes "(") ∷ op (codes ")") ∷ []) (tag (word (codes "block") ∷ word (codes "a") ∷ []) (tag (word (codes "endblock") ∷ []) (tag (word (codes "endcomponent") ∷ []) Ended)))) ≡ None
+  unfolding read
+  no_block_in_a_definition = refl
+
+  no_other_end_of_a_block : read (tag (word (codes "block") ∷ word (codes "a") ∷ []) (tag (word (codes "endblock") ∷ word (codes "b") ∷ []) Ended)) ≡ None
+  unfolding read
+  no_other_end_of_a_block = refl
+
+  no_other_end_of_a_definition : read (tag (word (codes "component") ∷ word (codes "c") ∷ op (codes "(") ∷ op (codes ")") ∷ []) (tag (word (codes "endcomponent") ∷ word (codes "d") ∷ []) Ended)) ≡ None
+  unfolding read
+  no_other_end_of_a_definition = refl
+
+  no_reserved_set : read (tag (word (codes "set") ∷ word (codes "loop") ∷ op (codes "=") ∷ toks.Integer (pos 1) ∷ []) Ended) ≡ None
+  unfolding read
+  no_reserved_set = refl
+
+  no_two_components : read (tag (word (codes "component") ∷ word (codes "c") ∷ op (codes "(") ∷ op (codes ")") ∷ []) (tag (word (codes "endcomponent") ∷ []) (tag (word (codes "component") ∷ word (codes "c") ∷ op (codes "(") ∷ op (codes ")") ∷ []) (tag (word (codes "endcomponent") ∷ []) Ended)))) ≡ None
+  unfolding read
+  no_two_components = refl
+
+  no_such_tag : read (tag (word (codes "foo") ∷ []) Ended) ≡ None
+  unfolding read
+  no_such_tag = refl
+
+  -- A template that extends another; what white space is, is not computed here.
+
+  definition_before_extends : is_blank (codes " ") ≡ true → read (tag (word (codes "component") ∷ word (codes "c") ∷ op (codes "(") ∷ op (codes ")") ∷ []) (tag (word (codes "endcomponent") ∷ []) (text (codes " ") (tag (word (codes "extends") ∷ toks.Str (codes "p") ∷ []) Ended))))
+      ≡ Some (record {
+        parent = Some (codes "p");
+        nodes = tree.Content (codes " ") ∷ [];
+        definitions = record { name = codes "c"; arguments = []; rest = None; metadata = []; body = [] } ∷ [];
+      })
+  unfolding read
+  definition_before_extends blank = rw blank refl
+
+  white_space_in_a_child : is_blank (codes " ") ≡ true → read (tag (word (codes "extends") ∷ toks.Str (codes "p") ∷ []) (text (codes " ") (tag (word (codes "block") ∷ word (codes "a") ∷ []) (text (codes "x") (tag (word (codes "endblock") ∷ word (codes "a") ∷ []) Ended)))))
+      ≡ Some (record {
+        parent = Some (codes "p");
+        nodes = tree.Content (codes " ") ∷ tree.Block (codes "a") s (nodes_of (tree.Content (codes "x") ∷ [])) ∷ [];
+        definitions = [];
+      })
+  unfolding read
+  white_space_in_a_child blank = rw blank refl
+
+  no_text_in_a_child : is_blank (codes "hi") ≡ false → read (tag (word (codes "extends") ∷ toks.Str (codes "p") ∷ []) (text (codes "hi") Ended)) ≡ None
+  unfolding read
+  no_text_in_a_child blank = rw blank refl
+
+  no_loop_in_a_child : read (tag (word (codes "extends") ∷ toks.Str (codes "p") ∷ []) (tag (word (codes "for") ∷ word (codes "a") ∷ word (codes "in") ∷ word (codes "b") ∷ []) (tag (word (codes "endfor") ∷ []) Ended))) ≡ None
+  unfolding read
+  no_loop_in_a_child = refl
+
+  no_text_before_extends : is_blank (codes "hi") ≡ false → read (text (codes "hi") (tag (word (codes "extends") ∷ toks.Str (codes "p") ∷ []) Ended)) ≡ None
+  unfolding read
+  no_text_before_extends blank = rw blank refl
+
+  -- The branches of an `if` lie on one level: with three bodies, two of them around.
+
+  many_branches : read (tag (word (codes "if") ∷ word (codes "a") ∷ []) (tag (word (codes "if") ∷ word (codes "a") ∷ []) (tag (word (codes "elif") ∷ word (codes "b") ∷ []) (tag (word (codes "elif") ∷ word (codes "c") ∷ []) (tag (word (codes "else") ∷ []) (tag (word (codes "endif") ∷ []) (tag (word (codes "endif") ∷ []) Ended)))))))
+      ≡ nodes (tree.If (var (codes "a")) (nodes_of (tree.If (var (codes "a")) (nodes_of []) (nodes_of (tree.If (var (codes "b")) (nodes_of []) (nodes_of (tree.If (var (codes "c")) (nodes_of []) (nodes_of []) ∷ [])) ∷ [])) ∷ [])) (nodes_of []) ∷ [])
+  unfolding read
+  many_branches = refl
+
+  -- Parameters, defaults and metadata.
+  abbrev defined : Sorted Argument → Option (List ℕ) → Sorted values.Val → Option Output
+  defined arguments rest metadata = Some (record {
+    parent = None;
+    nodes = [];
+    definitions = record { name = codes "b"; arguments = arguments; rest = rest; metadata = metadata; body = tree.Content (codes "t") ∷ [] } ∷ [];
+  })
+
+  comma_behind_the_last : read (component (word (codes "a") ∷ op (codes ",") ∷ op (codes ")") ∷ []))
+      ≡ defined ((codes "a", argument None None false) ∷ []) None []
+  unfolding read
+  comma_behind_the_last = refl
+
+  rest_alone : read (component (op (codes "...") ∷ word (codes "r") ∷ op (codes ")") ∷ []))
+      ≡ defined [] (Some (codes "r")) []
+  unfolding read
+  rest_alone = refl
+
+  implicit_first : read (component (op (codes "@") ∷ word (codes "user") ∷ op (codes ",") ∷ word (codes "n") ∷ op (codes ":") ∷ word (codes "number") ∷ op (codes "=") ∷ toks.Integer (pos 2) ∷ op (codes ")") ∷ []))
+      ≡ defined ((codes "n", argument (Some (values.I64 (pos 2))) (Some types.Number) false) ∷ (codes "user", argument None None true) ∷ []) None []
+  unfolding read
+  implicit_first = refl
+
+  no_value_of_any_type : read (component (word (codes "a") ∷ op (codes ":") ∷ word (codes "string") ∷ op (codes "=") ∷ word (codes "none") ∷ op (codes ")") ∷ []))
+      ≡ defined ((codes "a", argument (Some values.Nothing) (Some types.String) false) ∷ []) None []
+  unfolding read
+  no_value_of_any_type = refl
+
+  no_value_gives_no_type : read (component (word (codes "a") ∷ op (codes "=") ∷ word (codes "null") ∷ op (codes ")") ∷ []))
+      ≡ defined ((codes "a", argument (Some values.Nothing) None false) ∷ []) None []
+  unfolding read
+  no_value_gives_no_type = refl
+
+  negative_map : read (component (word (codes "m") ∷ op (codes "=") ∷ op (codes "{") ∷ toks.Str (codes "foo") ∷ op (codes ":") ∷ op (codes "-") ∷ toks.Integer (pos 1) ∷ op (codes "}") ∷ op (codes ")") ∷ []))
+      ≡ defined ((codes "m", argument (Some (values.Map (values.OnePair (values.TextKey (codes "foo")) (values.I64 (negsuc 0)) values.NoPairs))) (Some types.Map) false) ∷ []) None []
+  unfolding read
+  negative_map = refl
+
+  later_key_of_one_text : read (component (op (codes ")") ∷ op (codes "{") ∷ toks.Truth true ∷ op (codes ":") ∷ toks.Str (codes "x") ∷ op (codes ",") ∷ toks.Str (codes "a") ∷ op (codes ":") ∷ toks.Integer (pos 5) ∷ op (codes ",") ∷ toks.Str (codes "true") ∷ op (codes ":") ∷ toks.Str (codes "y") ∷ op (codes "}") ∷ []))
+      ≡ defined [] None ((codes "a", values.I64 (pos 5)) ∷ (codes "true", values.Text (codes "y")) ∷ [])
+  unfolding read
+  later_key_of_one_text = refl
+
+  no_unknown_type : read (component (word (codes "a") ∷ op (codes ":") ∷ word (codes "float") ∷ op (codes ")") ∷ [])) ≡ None
+  unfolding read
+  no_unknown_type = refl
+
+  no_sum_as_a_default : read (component (word (codes "a") ∷ op (codes "=") ∷ toks.Integer (pos 1) ∷ op (codes "+") ∷ toks.Integer (pos 1) ∷ op (codes ")") ∷ [])) ≡ None
+  unfolding read
+  no_sum_as_a_default = refl
+
+  no_variable_in_metadata : read (component (op (codes ")") ∷ op (codes "{") ∷ toks.Str (codes "k") ∷ op (codes ":") ∷ word (codes "x") ∷ op (codes "}") ∷ [])) ≡ None
+  unfolding read
+  no_variable_in_metadata = refl

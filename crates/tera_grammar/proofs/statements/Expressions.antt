@@ -6,20 +6,34 @@ use Rattle.std.specs.Str.{bytes_eq}
 use Rattle.tera_base.specs.declared.utils.Span.{Span}
 use Rattle.tera_lexer.specs.Cursors.{size}
 use Rattle.tera_lexer.specs.Tokens.{Tok, Items, Token, Ident, Finish, Symbol}
-use Rattle.tera_grammar.specs.expressions.Marks.{LeftParen, Dot}
+use Rattle.tera_grammar.specs.expressions.Operators.{GreaterThan, Div}
+use Rattle.tera_grammar.specs.expressions.Marks.{LeftParen, Dot, mark, LeftBracket, LeftBrace, Bar, Operation}
 use Rattle.tera_grammar.specs.expressions.Concrete.{no_attributes, bare, quoted, valued, spreading, dotted_yield, row_yield, of_items, of_entries}
-use Rattle.tera_grammar.specs.expressions.Conditions.{IsStop}
-use Rattle.tera_grammar.specs.expressions.Reading.Front.{takes}
+use Rattle.tera_grammar.specs.expressions.Reading.Front.{takes, begins}
 use Rattle.tera_grammar.proofs.expressions.Fronts.{ends_stop}
 use Rattle.tera_grammar.proofs.expressions.ReadRows.{NoAttribute}
 use Rattle.tera_grammar.proofs.expressions.Only.{attributes_end}
 use Rattle.tera_grammar.proofs.expressions.Later.{IsInside, yield_later, args_later, attributes_later, dotted_later, row_later}
 use Rattle.tera_grammar.proofs.expressions.Bodiless.{has_body, output_bodiless}
 use Rattle.tera_grammar.proofs.expressions.Wholes as wholes
-use Rattle.tera_grammar.specs.statements.Parts.{symbol_yield, is_symbol}
-use Rattle.tera_grammar.specs.statements.Expressions.{Limits, Expression, IsExpression, expression_yield, expression_output, ends_expression, expression_of, Filtering, IsFilter, filter_yield, ends_filter, filter_of, Attributes, AreAttributes, attributes_yield, ends_attributes, attributes_of, ComponentName, component_yield, component_of, LiteralArray, IsLiteralArray, array_yield, array_of, LiteralMap, IsLiteralMap, map_yield, map_of}
+use Rattle.tera_grammar.specs.statements.Expressions.{Limits, Expression, IsExpression, expression_yield, expression_output, expression_of, Filtering, IsFilter, filter_yield, filter_of, Attributes, AreAttributes, attributes_yield, attributes_of, ComponentName, component_yield, component_of, LiteralArray, IsLiteralArray, array_yield, array_of, LiteralMap, IsLiteralMap, map_yield, map_of}
+use Rattle.tera_grammar.specs.expressions.Ends.{IsStop}
 use Rattle.tera_grammar.proofs.statements.Inside.{IsClosed}
 use Rattle.tera_grammar.proofs.Options.{bytes_same}
+
+-- what stands behind an expression of a tag, a filter, attributes
+abbrev pub is_finish : Items → Bool
+is_finish (Token (Finish kind dash) span items) = true
+is_finish items = false
+
+abbrev pub ends_expression : Items → Bool
+ends_expression items = is_finish items
+
+abbrev pub ends_filter : Items → Bool
+ends_filter items = is_finish items || begins Bar items
+
+abbrev pub ends_attributes : Items → Bool
+ends_attributes items = begins (Operation Div) items || begins (Operation GreaterThan) items
 
 -- what passes on to a token in front that is no marker: no fewer tokens than these, and to be closed
 abbrev IsLonger : Items → Items → Type 0
@@ -50,8 +64,8 @@ no_attribute : (r : Items) → ends_attributes r ≡ true → NoAttribute r
 no_attribute (Token (Symbol op) s r) h = no_attribute_by op s r (bytes_eq op (codes "/")) (bytes_eq op (codes ">")) refl refl h
 no_attribute _ h = cc
 
-no_dot : (r : Items) → is_symbol (codes ".") r ≡ false → takes Dot r ≡ None
-no_dot (Token (Symbol op) s r) h = rw h refl
+no_dot : (r : Items) → begins Dot r ≡ false → takes Dot r ≡ None
+no_dot (Token t s r) h = rw h
 no_dot _ h = refl
 
 -- expressions, before the end of a tag
@@ -110,7 +124,7 @@ pub attributes_closed : (a : Attributes) (rest : Items) → IsClosed true rest �
 unfolding attributes_yield
 attributes_closed a rest is = attributes_later (IsClosed true) closed_later a rest is
 
-pub attributes_begin : (a : Attributes) (rest : Items) → is_symbol (codes ".") rest ≡ false → is_symbol (codes ".") (attributes_yield a rest) ≡ false
+pub attributes_begin : (a : Attributes) (rest : Items) → begins Dot rest ≡ false → begins Dot (attributes_yield a rest) ≡ false
 unfolding attributes_yield
 attributes_begin no_attributes rest h = h
 attributes_begin (bare n a) rest h = refl
@@ -123,7 +137,7 @@ pub component_stands : (items : Items) (x : ComponentName × Items) → componen
 unfolding component_yield
 component_stands items x h = wholes.path_found items x.1 x.0 h
 
-pub component_found : (n : ComponentName) (rest : Items) → is_symbol (codes ".") rest ≡ false → component_of (component_yield n rest) ≡ Some (n, rest)
+pub component_found : (n : ComponentName) (rest : Items) → begins Dot rest ≡ false → component_of (component_yield n rest) ≡ Some (n, rest)
 unfolding component_yield
 component_found n rest ends = wholes.path_read n rest (no_dot rest ends)
 
@@ -156,7 +170,7 @@ pub array_closed : (a : LiteralArray) (rest : Items) → IsClosed true rest → 
 unfolding array_yield
 array_closed a rest is = row_later (IsClosed true) closed_later of_items a.0.row rest is
 
-pub array_begins : (a : LiteralArray) (rest : Items) → (span : Span) × (items : Items) × (array_yield a rest ≡ symbol_yield (codes "[") span items)
+pub array_begins : (a : LiteralArray) (rest : Items) → (span : Span) × (items : Items) × (array_yield a rest ≡ mark LeftBracket span items)
 unfolding array_yield
 array_begins a rest = (a.0.mark, row_yield of_items a.0.row rest, refl)
 
@@ -176,6 +190,6 @@ pub map_closed : (m : LiteralMap) (rest : Items) → IsClosed true rest → IsCl
 unfolding map_yield
 map_closed m rest is = row_later (IsClosed true) closed_later of_entries m.0.row rest is
 
-pub map_begins : (m : LiteralMap) (rest : Items) → (span : Span) × (items : Items) × (map_yield m rest ≡ symbol_yield (codes "{") span items)
+pub map_begins : (m : LiteralMap) (rest : Items) → (span : Span) × (items : Items) × (map_yield m rest ≡ mark LeftBrace span items)
 unfolding map_yield
 map_begins m rest = (m.0.mark, row_yield of_entries m.0.row rest, refl)

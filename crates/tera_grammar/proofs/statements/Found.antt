@@ -1,5 +1,5 @@
 -- What the reading function gives is a template that meets its conditions, and the tokens behind it.
-use Rattle.std.proofs.Common.{◌≡◌, ℕ, zero, suc, ◌≤◌, zero-le, Bool, true, false, ◌∷◌, codes, Option, Some, None, refl, sym, ap, subst, ◌∙◌, arith}
+use Rattle.std.proofs.Common.{◌≡◌, ℕ, zero, suc, ◌≤◌, zero-le, Bool, true, false, ◌∷◌, Option, Some, None, refl, sym, ap, subst, ◌∙◌, arith}
 use Rattle.std.proofs.lemmas.Option.{same_Some}
 use Rattle.std.specs.Str.{bytes_eq}
 use Rattle.tera_base.specs.declared.utils.Span.{Span}
@@ -7,19 +7,24 @@ use Rattle.tera_lexer.specs.Cursors.{size}
 use Rattle.tera_lexer.specs.Tokens as toks
 use Rattle.tera_lexer.specs.Tokens.{Items, Token}
 use Rattle.tera_lexer.specs.declared.lexer.delimiters.Kind.TheVariants as kind
+use Rattle.tera_grammar.proofs.expressions.Fronts.{takes_ok, taken_name_ok}
+use Rattle.tera_grammar.specs.expressions.Reading.Front.{takes}
+use Rattle.tera_grammar.specs.expressions.Operators.{GreaterThan}
+use Rattle.tera_grammar.specs.expressions.Concrete.{quote_token}
+use Rattle.tera_grammar.specs.expressions.Marks.{mark, Assign, Operation}
 use Rattle.tera_grammar.specs.Options.{◌>>=◌}
 use Rattle.tera_grammar.specs.Words.{is_reserved}
 use Rattle.tera_grammar.specs.statements.Names.{Names, agrees, block_named, component_named, ◌and_then◌}
-use Rattle.tera_grammar.specs.statements.Parts.{Edge, Name, name_yield, name_if_any_yield, quote_yield, symbol_yield, Tag, Opener, OpensSet, OpensInclude, OpensExtends, OpensBlock, OpensFor, OpensIf, OpensFilter, OpensComponent, OpensBreak, OpensContinue, OpensCall, opener_token, AtElif, AtElse, AtEndSet, AtEndBlock, AtEndFor, AtEndIf, AtEndFilter, AtEndCall, closer_token, start_yield, opening, closing, finish}
+use Rattle.tera_grammar.specs.statements.Parts.{Edge, Name, name_yield, name_if_any_yield, Tag, Opener, OpensSet, OpensInclude, OpensExtends, OpensBlock, OpensFor, OpensIf, OpensFilter, OpensComponent, OpensBreak, OpensContinue, OpensCall, opener_token, AtElif, AtElse, AtEndSet, AtEndBlock, AtEndFor, AtEndIf, AtEndFilter, AtEndCall, closer_token, start_yield, opening, closing, finish}
 use Rattle.tera_grammar.specs.statements.Expressions.{Limits, expression_yield, filter_yield, attributes_yield, ComponentName, component_yield, component_text}
 use Rattle.tera_grammar.specs.statements.Heads.{loop_yield, filters_yield, Capture, SetBody, Section, CallBody, capture_yield, capture_end, FitsCapture}
-use Rattle.tera_grammar.specs.statements.Grammar.{Plain, Words, Shown, Set, Include, Extends, Break, Continue, plain_yield, FitsPlain, Body, Then, Item, Single, Block, Define, Capturing, For, If, Branches, Elif, Last, Else, NoElse, Otherwise, yield, item_yield, branches_yield, else_yield, InFor, InForElse, InBlock, InIf, InComponent, InCapture, Path, may_break, in_loop, text_if_any, Fits, FitsItem, FitsBranches, FitsElse, names, item_names, branch_names, else_names, height, item_height, branch_height, else_height}
+use Rattle.tera_grammar.specs.statements.Grammar.{Plain, Text, Shown, Set, Include, Extends, Break, Continue, plain_yield, FitsPlain, Body, Then, Item, Single, Block, Define, Capturing, For, If, Branches, Elif, Last, Else, NoElse, Otherwise, yield, item_yield, branches_yield, else_yield, InFor, InForElse, InBlock, InIf, InComponent, InCapture, Path, may_break, in_loop, text_if_any, Fits, FitsItem, FitsBranches, FitsElse, names, item_names, branch_names, else_names, height, item_height, branch_height, else_height}
 use Rattle.tera_grammar.specs.statements.Reading.{Place, at, Reads, Reader, else_in, branch_in, branches_by, branches, set_behind, set_of, include_of, extends_of, break_of, block_end, block_of, component_def_of, section_of, call_end, call_of, for_of, if_of, tag_of, shown_of, step, go_on, items_by, items, body}
-use Rattle.tera_grammar.specs.statements.Reading.Parts.{Front, Ends, Closes, Holds, Shows, Opens, Wrong, front, symbol, name_if_any, tag}
+use Rattle.tera_grammar.specs.statements.Reading.Parts.{Front, Ends, Closes, Holds, Shows, Opens, Wrong, front, name_if_any, tag}
 use Rattle.tera_grammar.proofs.Options.{bound, guard_ok, guard_not}
 use Rattle.tera_grammar.proofs.statements.Names.{Named, named_nothing, named_both, named_block, named_component}
 use Rattle.tera_grammar.proofs.statements.Expressions.{expression_stands, filter_stands, attributes_stands, component_stands}
-use Rattle.tera_grammar.proofs.statements.Parts.{symbol_stands, name_stands, name_if_any_stands, quote_stands, finish_stands, variable_end_stands, FrontOf, front_is, closed_stands, closed_tag_stands}
+use Rattle.tera_grammar.proofs.statements.Parts.{name_if_any_stands, quote_stands, finish_stands, variable_end_stands, FrontOf, front_is, closed_stands, closed_tag_stands}
 use Rattle.tera_grammar.proofs.statements.Heads.{free_name_stands, loop_stands, filters_stand}
 use Rattle.tera_grammar.proofs.statements.Components.{opened_yield, opened_stands, ending_stands}
 
@@ -126,13 +131,13 @@ module _ (l : Limits) (d : ℕ) (f : Reader) (sound : Sound l d f) where
       })
 
   set_behind_found : (path : Path) (global : Bool) (start : Edge) (first : Span) (seen : Names) (ts us : Items) (n : Name) (sign : Option (Span × Items)) (x : Item × Place)
-      → ts ≡ begun start (OpensSet global) first (name_yield n us) → is_reserved n.text ≡ false → symbol (codes "=") us ≡ sign → set_behind l f path global start first seen n us sign ≡ Some x → Finds path seen ts x
+      → ts ≡ begun start (OpensSet global) first (name_yield n us) → is_reserved n.text ≡ false → takes Assign us ≡ sign → set_behind l f path global start first seen n us sign ≡ Some x → Finds path seen ts x
   unfolding set_behind
   set_behind_found path global start first seen ts us n (Some sign) x is free stands h =
       bound _ _ _ h (λ e read more. bound _ _ _ more (λ g ended made.
       let value = expression_stands l (in_loop path) sign.1 e read in
       single_found path seen ts g.1 (Set global (tag start first g.0) n sign.0 e.0) x
-      (is ∙ ap (λ v. begun start (OpensSet global) first (name_yield n v)) (symbol_stands _ us sign stands ∙ ap (symbol_yield (codes "=") sign.0) (value.1 ∙ ap (expression_yield e.0) (finish_stands e.1 g ended))))
+      (is ∙ ap (λ v. begun start (OpensSet global) first (name_yield n v)) (takes_ok Assign us sign stands ∙ ap (mark Assign sign.0) (value.1 ∙ ap (expression_yield e.0) (finish_stands e.1 g ended))))
       (free, value.0) made))
   set_behind_found path global start first seen ts us n None x is free stands h =
       bound _ _ _ h (λ fs piped rest1. bound _ _ _ rest1 (λ g ended rest2. bound _ _ _ rest2 (λ b read more. bound _ _ _ more (λ e closed made.
@@ -147,23 +152,23 @@ module _ (l : Limits) (d : ℕ) (f : Reader) (sound : Sound l d f) where
   set_found path global start first seen ts us x is h =
       bound _ _ _ h (λ n named more.
       let name = free_name_stands us n named in
-      set_behind_found path global start first seen ts n.1 n.0 (symbol (codes "=") n.1) x (is ∙ ap (begun start (OpensSet global) first) name.1) name.0 refl more)
+      set_behind_found path global start first seen ts n.1 n.0 (takes Assign n.1) x (is ∙ ap (begun start (OpensSet global) first) name.1) name.0 refl more)
 
   include_found : (path : Path) (start : Edge) (first : Span) (seen : Names) (ts us : Items) (x : Item × Place)
       → ts ≡ begun start OpensInclude first us → include_of start first seen us ≡ Some x → Finds path seen ts x
   unfolding include_of
   include_found path start first seen ts us x is h =
       bound _ _ _ h (λ q read more. bound _ _ _ more (λ g ended made.
-      single_found path seen ts g.1 (Include (tag start first g.0) q.0) x
-      (is ∙ ap (begun start OpensInclude first) (quote_stands us q read ∙ ap (quote_yield q.0) (finish_stands q.1 g ended))) tt made))
+      single_found path seen ts g.1 (Include (tag start first g.0) q.0.0 q.0.1) x
+      (is ∙ ap (begun start OpensInclude first) (quote_stands us q read ∙ ap (Token (quote_token q.0.0) q.0.1) (finish_stands q.1 g ended))) tt made))
 
   extends_found : (path : Path) (start : Edge) (first : Span) (seen : Names) (ts us : Items) (x : Item × Place)
       → ts ≡ begun start OpensExtends first us → extends_of path start first seen us ≡ Some x → Finds path seen ts x
   unfolding extends_of
   extends_found path start first seen ts us x is h =
       bound _ _ _ h (λ q read rest. bound _ _ _ rest (λ u may more. bound _ _ _ more (λ g ended made.
-      single_found path seen ts g.1 (Extends (tag start first g.0) q.0) x
-      (is ∙ ap (begun start OpensExtends first) (quote_stands us q read ∙ ap (quote_yield q.0) (finish_stands q.1 g ended))) (guard_ok _ u may) made)))
+      single_found path seen ts g.1 (Extends (tag start first g.0) q.0.0 q.0.1) x
+      (is ∙ ap (begun start OpensExtends first) (quote_stands us q read ∙ ap (Token (quote_token q.0.0) q.0.1) (finish_stands q.1 g ended))) (guard_ok _ u may) made)))
 
   break_found : (path : Path) (o : Opener) (make : Tag → Plain) → ((t : Tag) (vs : Items) → opening o t (finish t vs) ≡ plain_yield (make t) vs) → ((t : Tag) → may_break path ≡ true → FitsPlain l path (make t))
       → (start : Edge) (first : Span) (seen : Names) (ts us : Items) (x : Item × Place) → ts ≡ begun start o first us → break_of path make start first seen us ≡ Some x → Finds path seen ts x
@@ -193,7 +198,7 @@ module _ (l : Limits) (d : ℕ) (f : Reader) (sound : Sound l d f) where
       let found = sound (InBlock ∷ path) (at (seen and_then block_named n.0.text) g.1) b read in
       let end = block_end_stands n.0 b.1.tokens e closed in
       subst (Finds path seen ts) (same_Some (Block (tag start first g.0) n.0 b.0 e.0.0 e.0.1, at b.1.seen e.1) x made) (record {
-        tokens = is ∙ ap (begun start OpensBlock first) (name_stands us n named ∙ ap (name_yield n.0) (finish_stands n.1 g ended
+        tokens = is ∙ ap (begun start OpensBlock first) (taken_name_ok us n named ∙ ap (name_yield n.0) (finish_stands n.1 g ended
             ∙ ap (finish (tag start first g.0)) (found.tokens ∙ ap (yield b.0) end.1)));
         named = named_block n.0.text (names b.0) (guard_not _ v fresh) found.named;
         fits = (guard_ok _ u may, end.0, found.fits);
@@ -227,16 +232,16 @@ module _ (l : Limits) (d : ℕ) (f : Reader) (sound : Sound l d f) where
       (filter.0, filters.0) read (closed_tag_stands AtEndFilter b.1.tokens e closed) made)))))
 
   call_end_stands : (n : ComponentName) (ts : Items) (x : (Tag × ComponentName × Span) × Items) → call_end n ts ≡ Some x
-      → (bytes_eq (component_text x.0.1) (component_text n) ≡ true) × (ts ≡ closing AtEndCall x.0.0 (component_yield x.0.1 (symbol_yield (codes ">") x.0.2 (finish x.0.0 x.1))))
+      → (bytes_eq (component_text x.0.1) (component_text n) ≡ true) × (ts ≡ closing AtEndCall x.0.0 (component_yield x.0.1 (mark (Operation GreaterThan) x.0.2 (finish x.0.0 x.1))))
   unfolding call_end
   call_end_stands n ts x h =
       bound _ _ _ h (λ e stands rest1. bound _ _ _ rest1 (λ m named rest2. bound _ _ _ rest2 (λ u agreed rest3. bound _ _ _ rest3 (λ end last more. bound _ _ _ more (λ g ended made.
       subst (λ (y : (Tag × ComponentName × Span) × Items). (bytes_eq (component_text y.0.1) (component_text n) ≡ true)
-      × (ts ≡ closing AtEndCall y.0.0 (component_yield y.0.1 (symbol_yield (codes ">") y.0.2 (finish y.0.0 y.1)))))
+      × (ts ≡ closing AtEndCall y.0.0 (component_yield y.0.1 (mark (Operation GreaterThan) y.0.2 (finish y.0.0 y.1)))))
       (same_Some ((tag e.0.0 e.0.1 g.0, m.0, end.0), g.1) x made) (
         guard_ok _ u agreed,
         closed_stands AtEndCall ts e stands
-            ∙ ap (λ v. start_yield e.0.0 (Token (closer_token AtEndCall) e.0.1 v)) (component_stands e.1 m named ∙ ap (component_yield m.0) (symbol_stands _ m.1 end last ∙ ap (symbol_yield (codes ">") end.0) (finish_stands end.1 g ended))),
+            ∙ ap (λ v. start_yield e.0.0 (Token (closer_token AtEndCall) e.0.1 v)) (component_stands e.1 m named ∙ ap (component_yield m.0) (takes_ok (Operation GreaterThan) m.1 end last ∙ ap (mark (Operation GreaterThan) end.0) (finish_stands end.1 g ended))),
       ))))))
 
   call_found : (path : Path) (start : Edge) (first : Span) (seen : Names) (ts us : Items) (x : Item × Place)
@@ -247,7 +252,7 @@ module _ (l : Limits) (d : ℕ) (f : Reader) (sound : Sound l d f) where
       let attributes = attributes_stands l (in_loop path) n.1 a given in
       let end = call_end_stands n.0 b.1.tokens e closed in
       capture_found path seen ts g.1 (CallBody (tag start first g.0) n.0 a.0 last.0 e.0.0 e.0.1 e.0.2) b e.1 x
-      (is ∙ ap (begun start OpensCall first) (component_stands us n named ∙ ap (component_yield n.0) (attributes.1 ∙ ap (attributes_yield a.0) (symbol_stands _ a.1 last shut ∙ ap (symbol_yield (codes ">") last.0) (finish_stands last.1 g ended)))))
+      (is ∙ ap (begun start OpensCall first) (component_stands us n named ∙ ap (component_yield n.0) (attributes.1 ∙ ap (attributes_yield a.0) (takes_ok (Operation GreaterThan) a.1 last shut ∙ ap (mark (Operation GreaterThan) last.0) (finish_stands last.1 g ended)))))
       (attributes.0, end.0) read end.1 made))))))
 
   for_found : (path : Path) (start : Edge) (first : Span) (seen : Names) (ts us : Items) (x : Item × Place)
@@ -309,7 +314,7 @@ module _ (l : Limits) (d : ℕ) (f : Reader) (sound : Sound l d f) where
   unfolding step
   step_found path seen ts Ends x is h = cc
   step_found path seen ts (Closes c start first us) x is h = cc
-  step_found path seen ts (Holds text span us) x is h = single_found path seen ts us (Words text span) x is tt (same_Some _ _ h)
+  step_found path seen ts (Holds text span us) x is h = single_found path seen ts us (Text text span) x is tt (same_Some _ _ h)
   step_found path seen ts (Shows start us) x is h =
       bound _ _ _ h (λ y read made. shown_found path start seen ts us x is (read ∙ same_Some _ _ made))
   step_found path seen ts (Opens o start first us) x is h =

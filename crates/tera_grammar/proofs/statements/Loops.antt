@@ -1,5 +1,5 @@
 -- How loops begin, go on and end.
-use Rattle.std.proofs.Common.{◌≡◌, ℕ, suc, ◌<◌, Bool, true, false, List, [], ◌∷◌, ◌++◌, codes, Option, Some, None, refl, sym, ap, subst, ◌∙◌, append_assoc, append-nil}
+use Rattle.std.proofs.Common.{◌≡◌, ℕ, suc, ◌<◌, Bool, true, false, List, [], ◌∷◌, ◌++◌, Option, Some, None, refl, sym, ap, subst, ◌∙◌, append_assoc, append-nil}
 use Rattle.std.proofs.lemmas.Option.{same_Some}
 use Rattle.tera_base.specs.declared.utils.Span.{Span}
 use Rattle.tera_lexer.specs.Cursors.{size, is_end}
@@ -7,20 +7,23 @@ use Rattle.tera_lexer.specs.Tokens.{Items}
 use Rattle.tera_tree.specs.Tree as tree
 use Rattle.tera_tree.specs.Tree.{Expr, Stmt, Argument, Output}
 use Rattle.tera_tree.specs.View.{nodes_of}
+use Rattle.tera_grammar.specs.expressions.Reading.Front.{takes, taken_quote}
+use Rattle.tera_grammar.specs.expressions.Concrete.{Quote}
+use Rattle.tera_grammar.specs.expressions.Marks.{RightParen, Comma, Spread, Bar}
 use Rattle.tera_grammar.specs.statements.Types.{Sorted, put_name}
 use Rattle.tera_grammar.specs.Options.{◌>>=◌, guard}
 use Rattle.tera_grammar.specs.statements.Names.{Names, no_names}
-use Rattle.tera_grammar.specs.statements.Parts.{Edge, Quote, AtElif, OpensExtends}
+use Rattle.tera_grammar.specs.statements.Parts.{Edge, AtElif, OpensExtends}
 use Rattle.tera_grammar.specs.statements.Expressions.{Limits, Expression, expression_of, expression_output, Filtering, filter_of, filter_output}
 use Rattle.tera_grammar.specs.statements.Components.{Parameter, argument_of, Parameters, put_arguments, rest_of, More}
-use Rattle.tera_grammar.specs.statements.Heads.{Filters, NoFilters, Piped, filters_output, SetBody, Section, CallBody, Over, OverPairs}
-use Rattle.tera_grammar.specs.statements.Grammar.{is_outermost, Words, Shown, Set, Include, Extends, Break, Continue, Body, Done, Then, Item, Single, Block, Define, Capturing, For, If, Branches, Elif, Last, Else, Path, in_loop}
-use Rattle.tera_grammar.specs.statements.Loops.{Going, Branch, chain, chain_output, nest, Branching, pipe, pipe_output, Piping, list, Listing, with_added, text_weight, weight, Parent, turn, Topping}
+use Rattle.tera_grammar.specs.statements.Heads.{Filters, NoFilters, Piped, filters_output, SetBody, Section, CallBody}
+use Rattle.tera_grammar.specs.statements.Grammar.{is_outermost, Text, Shown, Set, Include, Extends, Break, Continue, Body, Done, Then, Item, Single, Block, Define, Capturing, For, If, Branches, Elif, Last, Else, Path, in_loop}
+use Rattle.tera_grammar.specs.statements.Reading.Loops.{Going, Branch, chain, chain_output, nest, Branching, pipe, pipe_output, Piping, list, Listing, with_added, text_weight, weight, Parent, turn, Topping}
 use Rattle.tera_grammar.specs.statements.Output.{added_nodes, added_by, output, branch_output, else_output, later, parent_by, definitions_by, parent_of, definitions_of, output_of}
 use Rattle.tera_grammar.specs.statements.Reading.{extends_of, Place, at, Reads, else_in, else_of, branch_in, branches, step, go_on, body, Phase, Starting, Standing, Extending, behind_text, next_phase, phases, template}
 use Rattle.tera_grammar.specs.statements.Reading.Heads.{filters_in, filters_of}
 use Rattle.tera_grammar.specs.statements.Reading.Components.{parameter_of, parameters_behind, parameters_at, parameters_in, parameters_of}
-use Rattle.tera_grammar.specs.statements.Reading.Parts.{Front, Closes, Opens, front, symbol, quote_of, finish_of, tag}
+use Rattle.tera_grammar.specs.statements.Reading.Parts.{Front, Closes, Opens, front, finish_of, tag}
 use Rattle.tera_grammar.specs.statements.Top.{is_blank, join}
 use Rattle.tera_grammar.proofs.Options.{bound}
 use Rattle.tera_grammar.proofs.statements.Parts.{front_is}
@@ -218,19 +221,19 @@ module _ (l : Limits) (f : Bool) (start here : Items) (gathered : List Expr) whe
     shows = none;
   }
 
-  piping_steps : (g : Piping l f start here gathered) (bar : Option (Span × Items)) → symbol (codes "|") here ≡ bar
+  piping_steps : (g : Piping l f start here gathered) (bar : Option (Span × Items)) → takes Bar here ≡ bar
       → filters_of l f start ≡ (filters_in (filters_of l f) l f here bar >>= λ fs. Some (pipe g.before fs.0, fs.1))
   piping_steps g bar is = g.reads ∙ ap (λ o. o >>= λ fs. Some (pipe g.before fs.0, fs.1)) (filters_steps l f here ∙ ap (filters_in (filters_of l f) l f here) is)
 
-  pub piping_ends : Piping l f start here gathered → symbol (codes "|") here ≡ None → (fs : Filters) × (filters_of l f start ≡ Some (fs, here)) × (gathered ≡ filters_output f fs)
+  pub piping_ends : Piping l f start here gathered → takes Bar here ≡ None → (fs : Filters) × (filters_of l f start ≡ Some (fs, here)) × (gathered ≡ filters_output f fs)
   unfolding filters_in
   piping_ends g none = (pipe g.before NoFilters, piping_steps g None none, g.shows ∙ sym (filters_output-pipe f g.before))
 
-  pub piping_refused : Piping l f start here gathered → (bar : Span × Items) → symbol (codes "|") here ≡ Some bar → filter_of l f bar.1 ≡ None → filters_of l f start ≡ None
+  pub piping_refused : Piping l f start here gathered → (bar : Span × Items) → takes Bar here ≡ Some bar → filter_of l f bar.1 ≡ None → filters_of l f start ≡ None
   unfolding filters_in
   piping_refused g bar is none = piping_steps g (Some bar) is ∙ rw none refl
 
-  pub piping_on : (more : List Expr) → Piping l f start here gathered → (bar : Span × Items) → symbol (codes "|") here ≡ Some bar → (x : Filtering × Items) → filter_of l f bar.1 ≡ Some x
+  pub piping_on : (more : List Expr) → Piping l f start here gathered → (bar : Span × Items) → takes Bar here ≡ Some bar → (x : Filtering × Items) → filter_of l f bar.1 ≡ Some x
       → more ≡ gathered ++ filter_output f bar.0 x.0 ∷ [] → Piping l f start x.1 more
   unfolding filters_in
   piping_on more g bar is x read grown = record {
@@ -259,28 +262,28 @@ module _ (l : Limits) (start here : Items) (seen : List (List ℕ)) (gathered : 
   }
 
   -- what is left comes to what stands next
-  pub listing_steps : (g : Listing l start here seen gathered) → parameters_of l [] start ≡ (parameters_in (parameters_of l) l seen here (symbol (codes ")") here) >>= λ ps. Some (list g.before ps.0, ps.1))
+  pub listing_steps : (g : Listing l start here seen gathered) → parameters_of l [] start ≡ (parameters_in (parameters_of l) l seen here (takes RightParen here) >>= λ ps. Some (list g.before ps.0, ps.1))
   listing_steps g = g.reads ∙ ap (λ o. o >>= λ ps. Some (list g.before ps.0, ps.1)) (parameters_steps l seen here)
 
-  pub listing_ends : (x : Parameters × Items) (g : Listing l start here seen gathered) → parameters_in (parameters_of l) l seen here (symbol (codes ")") here) ≡ Some x
+  pub listing_ends : (x : Parameters × Items) (g : Listing l start here seen gathered) → parameters_in (parameters_of l) l seen here (takes RightParen here) ≡ Some x
       → (ps : Parameters) × (parameters_of l [] start ≡ Some (ps, x.1)) × (put_arguments x.0 gathered ≡ put_arguments ps []) × (rest_of ps ≡ rest_of x.0)
   listing_ends x g read =
       (list g.before x.0, listing_steps g ∙ ap (λ o. o >>= λ ps. Some (list g.before ps.0, ps.1)) read, sym (g.shows x.0), rest_of-list g.before x.0)
 
-  pub listing_refused : (g : Listing l start here seen gathered) → parameters_in (parameters_of l) l seen here (symbol (codes ")") here) ≡ None → parameters_of l [] start ≡ None
+  pub listing_refused : (g : Listing l start here seen gathered) → parameters_in (parameters_of l) l seen here (takes RightParen here) ≡ None → parameters_of l [] start ≡ None
   listing_refused g none = listing_steps g ∙ ap (λ o. o >>= λ ps. Some (list g.before ps.0, ps.1)) none
 
-  pub listing_on : (g : Listing l start here seen gathered) → symbol (codes ")") here ≡ None → symbol (codes "...") here ≡ None → (p : Parameter × Items) → parameter_of l seen here ≡ Some p
-      → symbol (codes ")") p.1 ≡ None → (comma : Span × Items) → symbol (codes ",") p.1 ≡ Some comma
+  pub listing_on : (g : Listing l start here seen gathered) → takes RightParen here ≡ None → takes Spread here ≡ None → (p : Parameter × Items) → parameter_of l seen here ≡ Some p
+      → takes RightParen p.1 ≡ None → (comma : Span × Items) → takes Comma p.1 ≡ Some comma
       → Listing l start comma.1 (seen ++ p.0.name.text ∷ []) (put_name p.0.name.text (argument_of p.0) gathered)
   unfolding parameters_in parameters_at parameters_behind
   listing_on g no_end no_dots p read no_last comma stands = record {
     before = g.before ++ (p.0, comma.0) ∷ [];
     reads =
         let next = seen ++ p.0.name.text ∷ [] in
-        let steps : parameters_in (parameters_of l) l seen here (symbol (codes ")") here) ≡ (parameters_of l next comma.1 >>= λ ps. Some (More p.0 comma.0 ps.0, ps.1)) =
+        let steps : parameters_in (parameters_of l) l seen here (takes RightParen here) ≡ (parameters_of l next comma.1 >>= λ ps. Some (More p.0 comma.0 ps.0, ps.1)) =
         ap (parameters_in (parameters_of l) l seen here) no_end ∙ ap (parameters_at (parameters_of l) l seen here) no_dots
-        ∙ ap (λ o. o >>= λ q. parameters_behind (parameters_of l) seen q.0 q.1 (symbol (codes ")") q.1)) read
+        ∙ ap (λ o. o >>= λ q. parameters_behind (parameters_of l) seen q.0 q.1 (takes RightParen q.1)) read
         ∙ ap (parameters_behind (parameters_of l) seen p.0 p.1) no_last
         ∙ ap (λ o. o >>= λ c. parameters_of l next c.1 >>= λ ps. Some (More p.0 c.0 ps.0, ps.1)) stands in
         listing_steps g ∙ ap (λ o. o >>= λ ps. Some (list g.before ps.0, ps.1)) steps
@@ -303,12 +306,12 @@ blank_extends true = refl
 blank_extends false = refl
 
 pub phase_turns : (ph : Phase) (i : Item) → next_phase ph i ≡ turn ph (weight (added_by false i))
-phase_turns Starting (Single (Words [] span)) = refl
-phase_turns Starting (Single (Words (b ∷ bs) span)) = blank_starts (is_blank (b ∷ bs))
+phase_turns Starting (Single (Text [] span)) = refl
+phase_turns Starting (Single (Text (b ∷ bs) span)) = blank_starts (is_blank (b ∷ bs))
 phase_turns Starting (Single (Shown a e b)) = refl
 phase_turns Starting (Single (Set g t n s e)) = refl
-phase_turns Starting (Single (Include t q)) = refl
-phase_turns Starting (Single (Extends t q)) = refl
+phase_turns Starting (Single (Include t q span)) = refl
+phase_turns Starting (Single (Extends t q span)) = refl
 phase_turns Starting (Single (Break t)) = refl
 phase_turns Starting (Single (Continue t)) = refl
 phase_turns Starting (Block t n b e m) = refl
@@ -316,15 +319,14 @@ phase_turns Starting (Define h b) = refl
 phase_turns Starting (Capturing (SetBody g t n fs e) b) = refl
 phase_turns Starting (Capturing (Section t g fs e) b) = refl
 phase_turns Starting (Capturing (CallBody t n a last e m end) b) = refl
-phase_turns Starting (For t (Over value w target) b o e) = refl
-phase_turns Starting (For t (OverPairs key comma value w target) b o e) = refl
+phase_turns Starting (For t lp b o e) = refl
 phase_turns Starting (If t c b bs e) = refl
-phase_turns Standing (Single (Words [] span)) = refl
-phase_turns Standing (Single (Words (b ∷ bs) span)) = blank_stands (is_blank (b ∷ bs))
+phase_turns Standing (Single (Text [] span)) = refl
+phase_turns Standing (Single (Text (b ∷ bs) span)) = blank_stands (is_blank (b ∷ bs))
 phase_turns Standing (Single (Shown a e b)) = refl
 phase_turns Standing (Single (Set g t n s e)) = refl
-phase_turns Standing (Single (Include t q)) = refl
-phase_turns Standing (Single (Extends t q)) = refl
+phase_turns Standing (Single (Include t q span)) = refl
+phase_turns Standing (Single (Extends t q span)) = refl
 phase_turns Standing (Single (Break t)) = refl
 phase_turns Standing (Single (Continue t)) = refl
 phase_turns Standing (Block t n b e m) = refl
@@ -332,15 +334,14 @@ phase_turns Standing (Define h b) = refl
 phase_turns Standing (Capturing (SetBody g t n fs e) b) = refl
 phase_turns Standing (Capturing (Section t g fs e) b) = refl
 phase_turns Standing (Capturing (CallBody t n a last e m end) b) = refl
-phase_turns Standing (For t (Over value w target) b o e) = refl
-phase_turns Standing (For t (OverPairs key comma value w target) b o e) = refl
+phase_turns Standing (For t lp b o e) = refl
 phase_turns Standing (If t c b bs e) = refl
-phase_turns Extending (Single (Words [] span)) = refl
-phase_turns Extending (Single (Words (b ∷ bs) span)) = blank_extends (is_blank (b ∷ bs))
+phase_turns Extending (Single (Text [] span)) = refl
+phase_turns Extending (Single (Text (b ∷ bs) span)) = blank_extends (is_blank (b ∷ bs))
 phase_turns Extending (Single (Shown a e b)) = refl
 phase_turns Extending (Single (Set g t n s e)) = refl
-phase_turns Extending (Single (Include t q)) = refl
-phase_turns Extending (Single (Extends t q)) = refl
+phase_turns Extending (Single (Include t q span)) = refl
+phase_turns Extending (Single (Extends t q span)) = refl
 phase_turns Extending (Single (Break t)) = refl
 phase_turns Extending (Single (Continue t)) = refl
 phase_turns Extending (Block t n b e m) = refl
@@ -348,8 +349,7 @@ phase_turns Extending (Define h b) = refl
 phase_turns Extending (Capturing (SetBody g t n fs e) b) = refl
 phase_turns Extending (Capturing (Section t g fs e) b) = refl
 phase_turns Extending (Capturing (CallBody t n a last e m end) b) = refl
-phase_turns Extending (For t (Over value w target) b o e) = refl
-phase_turns Extending (For t (OverPairs key comma value w target) b o e) = refl
+phase_turns Extending (For t lp b o e) = refl
 phase_turns Extending (If t c b bs e) = refl
 
 abbrev last_steps : Body × Place → Option Body
@@ -370,11 +370,11 @@ stops w h (Some b) = none_left (is_end b.1.tokens) (join w b.0) (phases-join w b
 extends_adds : (path : Path) (start : Edge) (first : Span) (seen : Names) (us : Items) (x : Item × Place) → extends_of path start first seen us ≡ Some x → weight (added_by false x.0) ≡ Parent
 unfolding extends_of
 extends_adds path start first seen us x h =
-    let made : Quote × Items → Edge × Items → Option (Item × Place) = λ q f. Some (Single (Extends (tag start first f.0) q.0), at seen f.1) in
-    bound (quote_of us) (λ q. guard (is_outermost path) >>= λ u. finish_of q.1 >>= λ f. made q f) x h
+    let made : (Quote × Span) × Items → Edge × Items → Option (Item × Place) = λ q f. Some (Single (Extends (tag start first f.0) q.0.0 q.0.1), at seen f.1) in
+    bound (taken_quote us) (λ q. guard (is_outermost path) >>= λ u. finish_of q.1 >>= λ f. made q f) x h
     (λ q read rest. bound (guard (is_outermost path)) (λ u. finish_of q.1 >>= λ f. made q f) x rest
     (λ u may more. bound (finish_of q.1) (λ f. made q f) x more
-    (λ f ended is. subst (λ (y : Item × Place). weight (added_by false y.0) ≡ Parent) (same_Some (Single (Extends (tag start first f.0) q.0), at seen f.1) x is) refl)))
+    (λ f ended is. subst (λ (y : Item × Place). weight (added_by false y.0) ≡ Parent) (same_Some (Single (Extends (tag start first f.0) q.0.0 q.0.1), at seen f.1) x is) refl)))
 
 module _ (l : Limits) (d : ℕ) (opens : l.bodies ≡ suc d) (ts : Items) (here : Place) (out : Output) (ph : Phase) where
   abbrev First : Place

@@ -1,49 +1,23 @@
 -- What the readers of the parts of tags have taken.
-use Rattle.std.proofs.Common.{◌≡◌, ℕ, Bool, true, false, List, [], ◌∷◌, Option, Some, None, refl, ap, subst, ◌∙◌}
+use Rattle.std.proofs.Common.{◌≡◌, Bool, true, false, List, [], ◌∷◌, Option, Some, None, refl, ap, subst, ◌∙◌}
 use Rattle.std.specs.Prelude.{if◌then◌else◌}
 use Rattle.std.proofs.lemmas.Option.{same_Some}
 use Rattle.tera_base.specs.declared.utils.Span.{Span}
-use Rattle.tera_lexer.specs.Tokens as toks
-use Rattle.tera_lexer.specs.Tokens.{Tok, Items, Ended, Failed, Token, Content, Start, Finish, Ident, Str, Symbol}
+use Rattle.tera_lexer.specs.Tokens.{Tok, Items, Ended, Failed, Token, Content, Start, Finish, Ident}
 use Rattle.tera_lexer.specs.declared.lexer.delimiters.Kind.TheVariants as kind
-use Rattle.tera_grammar.specs.statements.Parts.{Edge, Name, name_yield, name_if_any_yield, Quote, quote_yield, symbol_yield, is_symbol, Tag, Opener, opener_token, Closer, closer_token, start_yield, finish_yield, closing, finish}
-use Rattle.tera_grammar.specs.statements.Reading.Parts.{same_token, openers, closers, opener_in, closer_in, role_by, Front, Ends, Closes, Holds, Shows, Opens, Wrong, front_by, front_tag, front, symbol, word, name_of, name_if_any, quote_of, finish_of, variable_end_of, tag, closed_at, closed, closed_tag}
-use Rattle.tera_grammar.proofs.expressions.Fronts.{same_token_is}
-use Rattle.tera_grammar.proofs.Options.{bound, guard_ok, bytes_same}
-
-pub symbol_stands : (op : List ℕ) (ts : Items) (x : Span × Items) → symbol op ts ≡ Some x → ts ≡ symbol_yield op x.0 x.1
-symbol_stands op (Token (Symbol text) span items) x h =
-    bound _ _ _ h (λ u same made. subst (λ (y : Span × Items). Token (Symbol text) span items ≡ symbol_yield op y.0 y.1) (same_Some (span, items) x made)
-    (ap (λ t. Token (Symbol t) span items) (bytes_same text op (guard_ok _ u same))))
-symbol_stands op _ x h = cc
-
--- an operator that is seen is read, and none else
-pub symbol_seen : (op : List ℕ) (ts : Items) → is_symbol op ts ≡ true → (x : Span × Items) × (symbol op ts ≡ Some x)
-symbol_seen op (Token (Symbol text) span items) h = ((span, items), rw h refl)
-symbol_seen op _ h = cc
-
-pub symbol_unseen : (op : List ℕ) (ts : Items) → is_symbol op ts ≡ false → symbol op ts ≡ None
-symbol_unseen op (Token (Symbol text) span items) h = rw h refl
-symbol_unseen op _ h = refl
-
-pub word_stands : (text : List ℕ) (ts : Items) (x : Span × Items) → word text ts ≡ Some x → ts ≡ Token (Ident text) x.0 x.1
-word_stands text (Token (Ident name) span items) x h =
-    bound _ _ _ h (λ u same made. subst (λ (y : Span × Items). Token (Ident name) span items ≡ Token (Ident text) y.0 y.1) (same_Some (span, items) x made)
-    (ap (λ t. Token (Ident t) span items) (bytes_same name text (guard_ok _ u same))))
-word_stands text _ x h = cc
-
-pub name_stands : (ts : Items) (x : Name × Items) → name_of ts ≡ Some x → ts ≡ name_yield x.0 x.1
-name_stands (Token (Ident text) span items) x h = ap (λ (y : Name × Items). name_yield y.0 y.1) (same_Some _ _ h)
-name_stands _ x h = cc
+use Rattle.tera_grammar.specs.expressions.Reading.Front.{same_token, quote_of, taken_quote}
+use Rattle.tera_grammar.specs.expressions.Concrete.{Quote, quote_token}
+use Rattle.tera_grammar.specs.statements.Parts.{Edge, name_if_any_yield, Tag, Opener, opener_token, Closer, closer_token, start_yield, finish_yield, closing, finish}
+use Rattle.tera_grammar.specs.statements.Reading.Parts.{openers, closers, opener_in, closer_in, role_by, Front, Ends, Closes, Holds, Shows, Opens, Wrong, front_by, front_tag, front, name_if_any, finish_of, variable_end_of, tag, closed_at, closed, closed_tag}
+use Rattle.tera_grammar.proofs.expressions.Fronts.{same_token_is, taken_as_ok, quote_of_ok}
+use Rattle.tera_grammar.proofs.Options.{bound, guard_ok}
 
 pub name_if_any_stands : (ts : Items) → ts ≡ name_if_any_yield (name_if_any ts).0 (name_if_any ts).1
 name_if_any_stands (Token (Ident text) span items) = refl
 name_if_any_stands _ = refl
 
-pub quote_stands : (ts : Items) (x : Quote × Items) → quote_of ts ≡ Some x → ts ≡ quote_yield x.0 x.1
-quote_stands (Token (Str text) span items) x h = ap (λ (y : Quote × Items). quote_yield y.0 y.1) (same_Some _ _ h)
-quote_stands (Token (toks.Escaped text) span items) x h = ap (λ (y : Quote × Items). quote_yield y.0 y.1) (same_Some _ _ h)
-quote_stands _ x h = cc
+pub quote_stands : (ts : Items) (x : (Quote × Span) × Items) → taken_quote ts ≡ Some x → ts ≡ Token (quote_token x.0.0) x.0.1 x.1
+quote_stands ts x h = taken_as_ok quote_of quote_token quote_of_ok ts x h
 
 pub finish_stands : (ts : Items) (x : Edge × Items) → finish_of ts ≡ Some x → ts ≡ finish_yield x.0 x.1
 finish_stands (Token (Finish kind.Block dash) span items) x h = ap (λ (y : Edge × Items). finish_yield y.0 y.1) (same_Some _ _ h)

@@ -1,13 +1,15 @@
 -- The top level, declared and read in order; whole templates.
 use Rattle.std.proofs.Common.{◌≡◌, Bool, true, false, [], Option, Some, None, refl, sym, ap, subst, ◌∙◌, inl, inr, ⊎_elim}
 use Rattle.std.proofs.lemmas.Option.{same_Some}
+use Rattle.tera_base.specs.declared.utils.Span.{Span}
 use Rattle.tera_lexer.specs.Cursors.{is_end}
 use Rattle.tera_lexer.specs.Tokens.{Items, Ended, Failed, Token}
+use Rattle.tera_grammar.specs.expressions.Concrete.{Quote}
 use Rattle.tera_grammar.specs.Options.{◌>>=◌}
 use Rattle.tera_grammar.specs.statements.Names.{no_names, NamesAreDistinct}
-use Rattle.tera_grammar.specs.statements.Parts.{Tag, Quote}
+use Rattle.tera_grammar.specs.statements.Parts.{Tag}
 use Rattle.tera_grammar.specs.statements.Expressions.{Limits}
-use Rattle.tera_grammar.specs.statements.Grammar.{Words, Shown, Set, Include, Extends, Break, Continue, Body, Done, Then, Item, Single, Block, Define, Capturing, For, If, yield}
+use Rattle.tera_grammar.specs.statements.Grammar.{Text, Shown, Set, Include, Extends, Break, Continue, Body, Done, Then, Item, Single, Block, Define, Capturing, For, If, yield}
 use Rattle.tera_grammar.specs.statements.Reading.{at, Phase, Starting, Standing, Extending, behind_text, from_start, next_phase, phases, template}
 use Rattle.tera_grammar.specs.statements.Top.{is_blank, is_silent, is_kept, IsExtends, Each, join, Child, TopLevel, IsTemplate}
 use Rattle.tera_grammar.proofs.Options.{bound, guard_ok}
@@ -16,20 +18,20 @@ use Rattle.tera_grammar.proofs.statements.Complete.{whole}
 
 -- what an item comes to at the start
 data Start (i : Item) : Type 0 where
-  by_parent : (t : Tag) (q : Quote) → i ≡ Single (Extends t q) → Start i
+  by_parent : (t : Tag) (q : Quote) (span : Span) → i ≡ Single (Extends t q span) → Start i
   by_silence : is_silent i ≡ true → (IsExtends i → ⊥) → from_start i ≡ Starting → Start i
   by_others : (IsExtends i → ⊥) → from_start i ≡ Standing → Start i
 
 start_of : (i : Item) → Start i
-start_of (Single (Extends t q)) = by_parent t q refl
-start_of (Single (Words text span)) = goes (is_blank text) refl
+start_of (Single (Extends t q span)) = by_parent t q span refl
+start_of (Single (Text text span)) = goes (is_blank text) refl
   where
-    goes : (b : Bool) → is_blank text ≡ b → Start (Single (Words text span))
+    goes : (b : Bool) → is_blank text ≡ b → Start (Single (Text text span))
     goes true is = by_silence is (λ h. h) (ap behind_text is)
     goes false is = by_others (λ h. h) (ap behind_text is)
 start_of (Single (Shown a e b)) = by_others (λ h. h) refl
 start_of (Single (Set g t n s e)) = by_others (λ h. h) refl
-start_of (Single (Include t q)) = by_others (λ h. h) refl
+start_of (Single (Include t q span)) = by_others (λ h. h) refl
 start_of (Single (Break t)) = by_others (λ h. h) refl
 start_of (Single (Continue t)) = by_others (λ h. h) refl
 start_of (Define h b) = by_silence refl (λ h. h) refl
@@ -45,7 +47,7 @@ extending_ok (Then i b) ph h =
     (guard_ok _ u held, extending_ok b ph (subst (λ x. phases x b ≡ Some ph) (sym (same_Some _ _ made)) more))))
 
 stands : (i : Item) (ph : Phase) → next_phase Standing i ≡ Some ph → (IsExtends i → ⊥) × (ph ≡ Standing)
-stands (Single (Extends t q)) ph h = cc
+stands (Single (Extends t q span)) ph h = cc
 stands i ph h = (λ e. e, sym (same_Some _ _ h))
 
 standing_ok : (b : Body) (ph : Phase) → phases Standing b ≡ Some ph → Each (λ i. IsExtends i → ⊥) b
@@ -58,7 +60,7 @@ standing_ok (Then i b) ph h =
 after_silence : (i : Item) (b : Body) → is_silent i ≡ true → (IsExtends i → ⊥) → TopLevel b → TopLevel (Then i b)
 after_silence i b silent other top =
     ⊎_elim (λ (plain : Each (λ i. IsExtends i → ⊥) b). inl (other, plain))
-    (λ (c : Child b). inr (record { before = Then i c.before; tag = c.tag; parent = c.parent; after = c.after; is = ap (Then i) c.is; silent = (silent, c.silent); kept = c.kept }))
+    (λ (c : Child b). inr (record { before = Then i c.before; tag = c.tag; parent = c.parent; span = c.span; after = c.after; is = ap (Then i) c.is; silent = (silent, c.silent); kept = c.kept }))
     top
 
 pub top_found : (b : Body) (ph : Phase) → phases Starting b ≡ Some ph → TopLevel b
@@ -66,8 +68,8 @@ top_found Done ph h = inl tt
 top_found (Then i b) ph h = goes (start_of i) (top_found b ph)
   where
     goes : Start i → (phases Starting b ≡ Some ph → TopLevel b) → TopLevel (Then i b)
-    goes (by_parent t q is) again =
-        inr (record { before = Done; tag = t; parent = q; after = b; is = ap (λ j. Then j b) is; silent = tt; kept = extending_ok b ph (subst (λ j. phases (from_start j) b ≡ Some ph) is h) })
+    goes (by_parent t q span is) again =
+        inr (record { before = Done; tag = t; parent = q; span = span; after = b; is = ap (λ j. Then j b) is; silent = tt; kept = extending_ok b ph (subst (λ j. phases (from_start j) b ≡ Some ph) is h) })
     goes (by_silence silent other is) again = after_silence i b silent other (again (subst (λ x. phases x b ≡ Some ph) is h))
     goes (by_others other is) again = inl (other, standing_ok b ph (subst (λ x. phases x b ≡ Some ph) is h))
 
@@ -76,7 +78,7 @@ extending_read Done h = refl
 extending_read (Then i b) h = rw (h.0, extending_read b h.1) refl
 
 stands_on : (i : Item) → (IsExtends i → ⊥) → next_phase Standing i ≡ Some Standing
-stands_on (Single (Extends t q)) h = absurd (h tt)
+stands_on (Single (Extends t q span)) h = absurd (h tt)
 stands_on i h = refl
 
 standing_read : (b : Body) → Each (λ i. IsExtends i → ⊥) b → phases Standing b ≡ Some Standing
@@ -88,23 +90,23 @@ plain_read Done h = (Starting, refl)
 plain_read (Then i b) h = goes (start_of i) (plain_read b h.1)
   where
     goes : Start i → (ph : Phase) × (phases Starting b ≡ Some ph) → (ph : Phase) × (phases Starting (Then i b) ≡ Some ph)
-    goes (by_parent t q is) more = absurd (h.0 (subst IsExtends (sym is) tt))
+    goes (by_parent t q span is) more = absurd (h.0 (subst IsExtends (sym is) tt))
     goes (by_silence silent other is) more = (more.0, ap (λ x. phases x b) is ∙ more.1)
     goes (by_others other is) more = (Standing, ap (λ x. phases x b) is ∙ standing_read b h.1)
 
 silent_starts : (i : Item) → is_silent i ≡ true → from_start i ≡ Starting
-silent_starts (Single (Words text span)) h = ap behind_text h
+silent_starts (Single (Text text span)) h = ap behind_text h
 silent_starts (Define head b) h = refl
 silent_starts _ h = cc
 
-child_read : (before : Body) (t : Tag) (q : Quote) (after : Body) → Each (λ i. is_silent i ≡ true) before → Each (λ i. is_kept i ≡ true) after
-    → phases Starting (join before (Then (Single (Extends t q)) after)) ≡ Some Extending
-child_read Done t q after silent kept = extending_read after kept
-child_read (Then i b) t q after silent kept = ap (λ x. phases x (join b (Then (Single (Extends t q)) after))) (silent_starts i silent.0) ∙ child_read b t q after silent.1 kept
+child_read : (before : Body) (t : Tag) (q : Quote) (span : Span) (after : Body) → Each (λ i. is_silent i ≡ true) before → Each (λ i. is_kept i ≡ true) after
+    → phases Starting (join before (Then (Single (Extends t q span)) after)) ≡ Some Extending
+child_read Done t q span after silent kept = extending_read after kept
+child_read (Then i b) t q span after silent kept = ap (λ x. phases x (join b (Then (Single (Extends t q span)) after))) (silent_starts i silent.0) ∙ child_read b t q span after silent.1 kept
 
 pub top_read : (b : Body) → TopLevel b → (ph : Phase) × (phases Starting b ≡ Some ph)
 top_read b top =
-    ⊎_elim (plain_read b) (λ (c : Child b). (Extending, ap (phases Starting) c.is ∙ child_read c.before c.tag c.parent c.after c.silent c.kept)) top
+    ⊎_elim (plain_read b) (λ (c : Child b). (Extending, ap (phases Starting) c.is ∙ child_read c.before c.tag c.parent c.span c.after c.silent c.kept)) top
 
 -- so what is refused in the middle is refused as a whole
 pub phases-join : (a b : Body) (ph : Phase) → phases ph (join a b) ≡ (phases ph a >>= λ q. phases q b)

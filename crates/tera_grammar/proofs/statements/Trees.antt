@@ -10,8 +10,8 @@ use Rattle.tera_grammar.proofs.Options.{none_some}
 use Rattle.tera_grammar.proofs.expressions.Bodiless.{has_body}
 use Rattle.tera_grammar.specs.Words.{AreDistinct}
 use Rattle.tera_grammar.specs.statements.Expressions.{Limits, expression_output, component_text}
-use Rattle.tera_grammar.specs.statements.Heads.{SetBody, Section, CallBody, Over, OverPairs}
-use Rattle.tera_grammar.specs.statements.Grammar.{Words, Shown, Set, Include, Extends, Break, Continue, Body, Done, Then, Item, Single, Block, Define, Capturing, For, If, Branches, Elif, Last, Else, NoElse, Otherwise, InFor, InForElse, InBlock, InIf, InComponent, InCapture, Path, may_block, may_break, is_outermost, Fits, FitsItem, FitsBranches, FitsElse, names, item_names, branch_names, else_names}
+use Rattle.tera_grammar.specs.statements.Heads.{SetBody, Section, CallBody}
+use Rattle.tera_grammar.specs.statements.Grammar.{Text, Shown, Set, Include, Extends, Break, Continue, Body, Done, Then, Item, Single, Block, Define, Capturing, For, If, Branches, Elif, Last, Else, NoElse, Otherwise, InFor, InForElse, InBlock, InIf, InComponent, InCapture, Path, may_block, may_break, is_outermost, Fits, FitsItem, FitsBranches, FitsElse, names, item_names, branch_names, else_names}
 use Rattle.tera_grammar.specs.statements.Output.{text_adds, added_nodes, added_by, later, parent_by, definitions_by, output, branch_output, else_output, parent_of, definitions_of, output_of}
 use Rattle.tera_grammar.specs.statements.Top.{is_blank, is_silent, is_kept, IsExtends, Each, Child, TopLevel, IsTemplate}
 use Rattle.tera_grammar.specs.statements.Trees.{blocks, stmt_blocks, BreaksStand, BreakStands, IsKeptNode, IsRight}
@@ -91,11 +91,11 @@ mutual
       blocks-append (added_nodes (added_by f i)) (output f b) ∙ both_same (same_item_blocks i l path f fits.0) (same_blocks b l path f fits.1)
 
   same_item_blocks : (i : Item) (l : Limits) (path : Path) (f : Bool) → FitsItem l path i → blocks (nodes_of (added_nodes (added_by f i))) ≡ (item_names i).blocks
-  same_item_blocks (Single (Words text span)) l path f fits = text_blocks text
+  same_item_blocks (Single (Text text span)) l path f fits = text_blocks text
   same_item_blocks (Single (Shown a e b)) l path f fits = append-nil (stmt_blocks (tree.Shown (expression_output f e))) ∙ plain_blocks (expression_output f e) (expression_plain f e)
   same_item_blocks (Single (Set g t n s e)) l path f fits = refl
-  same_item_blocks (Single (Include t q)) l path f fits = refl
-  same_item_blocks (Single (Extends t q)) l path f fits = refl
+  same_item_blocks (Single (Include t q span)) l path f fits = refl
+  same_item_blocks (Single (Extends t q span)) l path f fits = refl
   same_item_blocks (Single (Break t)) l path f fits = refl
   same_item_blocks (Single (Continue t)) l path f fits = refl
   same_item_blocks (Block t n b e m) l path f fits = append-nil (n.text ∷ blocks (nodes_of (output f b))) ∙ ap (λ v. n.text ∷ v) (same_blocks b l (InBlock ∷ path) f fits.2)
@@ -103,9 +103,7 @@ mutual
   same_item_blocks (Capturing (SetBody g t n fs e) b) l path f fits = append-nil (blocks (nodes_of (output f b))) ∙ same_blocks b l (InCapture ∷ path) f fits.1
   same_item_blocks (Capturing (Section t g fs e) b) l path f fits = append-nil (blocks (nodes_of (output f b))) ∙ same_blocks b l (InCapture ∷ path) f fits.1
   same_item_blocks (Capturing (CallBody t n a last e m end) b) l path f fits = append-nil (blocks (nodes_of (output f b))) ∙ same_blocks b l (InCapture ∷ path) f fits.1
-  same_item_blocks (For t (Over value w target) b o e) l path f fits =
-      append-nil (blocks (nodes_of (output true b)) ++ blocks (nodes_of (else_output f o))) ∙ both_same (same_blocks b l (InFor ∷ path) true fits.1) (same_else_blocks o l (InForElse ∷ path) f fits.2)
-  same_item_blocks (For t (OverPairs key comma value w target) b o e) l path f fits =
+  same_item_blocks (For t lp b o e) l path f fits =
       append-nil (blocks (nodes_of (output true b)) ++ blocks (nodes_of (else_output f o))) ∙ both_same (same_blocks b l (InFor ∷ path) true fits.1) (same_else_blocks o l (InForElse ∷ path) f fits.2)
   same_item_blocks (If t c b bs e) l path f fits =
       append-nil (blocks (nodes_of (output f b)) ++ blocks (nodes_of (branch_output f bs))) ∙ both_same (same_blocks b l (InIf ∷ path) f fits.1) (same_branch_blocks bs l (InIf ∷ path) f fits.2)
@@ -139,11 +137,11 @@ mutual
       stand-append (may_break path) (added_nodes (added_by f i)) (output f b) (item_stands i l path f fits.0) (breaks_stand b l path f fits.1)
 
   item_stands : (i : Item) (l : Limits) (path : Path) (f : Bool) → FitsItem l path i → BreaksStand (may_break path) (nodes_of (added_nodes (added_by f i)))
-  item_stands (Single (Words text span)) l path f fits = text_stands (may_break path) text
+  item_stands (Single (Text text span)) l path f fits = text_stands (may_break path) text
   item_stands (Single (Shown a e b)) l path f fits = (plain_stands (may_break path) (expression_output f e) (expression_plain f e), tt)
   item_stands (Single (Set g t n s e)) l path f fits = (tt, tt)
-  item_stands (Single (Include t q)) l path f fits = (tt, tt)
-  item_stands (Single (Extends t q)) l path f fits = tt
+  item_stands (Single (Include t q span)) l path f fits = (tt, tt)
+  item_stands (Single (Extends t q span)) l path f fits = tt
   item_stands (Single (Break t)) l path f fits = (fits, tt)
   item_stands (Single (Continue t)) l path f fits = (fits, tt)
   item_stands (Block t n b e m) l path f fits = (breaks_stand b l (InBlock ∷ path) f fits.2, tt)
@@ -151,8 +149,7 @@ mutual
   item_stands (Capturing (SetBody g t n fs e) b) l path f fits = (breaks_stand b l (InCapture ∷ path) f fits.1, tt)
   item_stands (Capturing (Section t g fs e) b) l path f fits = (breaks_stand b l (InCapture ∷ path) f fits.1, tt)
   item_stands (Capturing (CallBody t n a last e m end) b) l path f fits = (breaks_stand b l (InCapture ∷ path) f fits.1, tt)
-  item_stands (For t (Over value w target) b o e) l path f fits = ((breaks_stand b l (InFor ∷ path) true fits.1, else_stands o l (InForElse ∷ path) f fits.2), tt)
-  item_stands (For t (OverPairs key comma value w target) b o e) l path f fits = ((breaks_stand b l (InFor ∷ path) true fits.1, else_stands o l (InForElse ∷ path) f fits.2), tt)
+  item_stands (For t lp b o e) l path f fits = ((breaks_stand b l (InFor ∷ path) true fits.1, else_stands o l (InForElse ∷ path) f fits.2), tt)
   item_stands (If t c b bs e) l path f fits = ((breaks_stand b l (InIf ∷ path) f fits.1, branches_stand bs l (InIf ∷ path) f fits.2), tt)
 
   branches_stand : (bs : Branches) (l : Limits) (path : Path) (f : Bool) → FitsBranches l path bs → BreaksStand (may_break path) (nodes_of (branch_output f bs))
@@ -175,11 +172,11 @@ text_defines [] = refl
 text_defines (b ∷ bs) = refl
 
 item_components : (i : Item) (l : Limits) → FitsItem l [] i → map definition_name (definitions_by (added_by false i)) ≡ (item_names i).components
-item_components (Single (Words text span)) l fits = ap (map definition_name) (text_defines text)
+item_components (Single (Text text span)) l fits = ap (map definition_name) (text_defines text)
 item_components (Single (Shown a e b)) l fits = refl
 item_components (Single (Set g t n s e)) l fits = refl
-item_components (Single (Include t q)) l fits = refl
-item_components (Single (Extends t q)) l fits = refl
+item_components (Single (Include t q span)) l fits = refl
+item_components (Single (Extends t q span)) l fits = refl
 item_components (Single (Break t)) l fits = refl
 item_components (Single (Continue t)) l fits = refl
 item_components (Block t n b e m) l fits = sym (no_components b l (InBlock ∷ []) refl fits.2)
@@ -200,11 +197,11 @@ all-append P [] ys a b = b
 all-append P (x ∷ xs) ys a b = (a.0, all-append P xs ys a.1 b)
 
 item_stands_alone : (i : Item) (l : Limits) → FitsItem l [] i → AllByRecursion StandsAlone (definitions_by (added_by false i))
-item_stands_alone (Single (Words text span)) l fits = subst (AllByRecursion StandsAlone) (sym (text_defines text)) tt
+item_stands_alone (Single (Text text span)) l fits = subst (AllByRecursion StandsAlone) (sym (text_defines text)) tt
 item_stands_alone (Single (Shown a e b)) l fits = tt
 item_stands_alone (Single (Set g t n s e)) l fits = tt
-item_stands_alone (Single (Include t q)) l fits = tt
-item_stands_alone (Single (Extends t q)) l fits = tt
+item_stands_alone (Single (Include t q span)) l fits = tt
+item_stands_alone (Single (Extends t q span)) l fits = tt
 item_stands_alone (Single (Break t)) l fits = tt
 item_stands_alone (Single (Continue t)) l fits = tt
 item_stands_alone (Block t n b e m) l fits = tt
@@ -224,11 +221,11 @@ text_parent [] = refl
 text_parent (b ∷ bs) = refl
 
 item_parent : (i : Item) → (IsExtends i → ⊥) → parent_by (added_by false i) ≡ None
-item_parent (Single (Words text span)) h = text_parent text
+item_parent (Single (Text text span)) h = text_parent text
 item_parent (Single (Shown a e b)) h = refl
 item_parent (Single (Set g t n s e)) h = refl
-item_parent (Single (Include t q)) h = refl
-item_parent (Single (Extends t q)) h = absurd (h tt)
+item_parent (Single (Include t q span)) h = refl
+item_parent (Single (Extends t q span)) h = absurd (h tt)
 item_parent (Single (Break t)) h = refl
 item_parent (Single (Continue t)) h = refl
 item_parent (Block t n b e m) h = refl
@@ -246,7 +243,7 @@ text_kept [] h = tt
 text_kept (b ∷ bs) h = (h, tt)
 
 silent_kept : (i : Item) → is_silent i ≡ true → AllByRecursion IsKeptNode (added_nodes (added_by false i))
-silent_kept (Single (Words text span)) h = text_kept text h
+silent_kept (Single (Text text span)) h = text_kept text h
 silent_kept (Define head b) h = tt
 silent_kept _ h = cc
 
@@ -268,7 +265,7 @@ child_kept : (b : Body) → TopLevel b → (name : List ℕ) → parent_of b ≡
 child_kept b top name parent =
     ⊎_elim (λ (plain : Each (λ i. IsExtends i → ⊥) b). absurd (none_some (sym (no_parent b plain) ∙ parent)))
     (λ (c : Child b).
-    let extending = Then (Single (Extends c.tag c.parent)) c.after in
+    let extending = Then (Single (Extends c.tag c.parent c.span)) c.after in
     subst (AllByRecursion IsKeptNode) (sym (ap (output false) c.is ∙ output-join false c.before extending))
     (all-append IsKeptNode (output false c.before) (output false extending) (all_silent c.before c.silent) (all_kept c.after c.kept)))
     top

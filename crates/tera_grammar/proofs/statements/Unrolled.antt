@@ -1,16 +1,18 @@
 -- The numbers that bound the loops have no say, so the loops obey equations without them.
-use Rattle.std.proofs.Common.{◌≡◌, ℕ, zero, suc, ◌<◌, ◌≤◌, codes, Option, Some, None, refl, sym, ap, subst, ◌∙◌, arith, le_refl}
+use Rattle.std.proofs.Common.{◌≡◌, ℕ, zero, suc, ◌<◌, ◌≤◌, Option, Some, None, refl, sym, ap, subst, ◌∙◌, arith, le_refl}
 use Rattle.tera_lexer.specs.Cursors.{size}
 use Rattle.tera_lexer.specs.Tokens as toks
 use Rattle.tera_lexer.specs.Tokens.{Items, Token}
 use Rattle.tera_lexer.specs.declared.lexer.delimiters.Kind.TheVariants as kind
+use Rattle.tera_grammar.specs.expressions.Operators.{GreaterThan}
+use Rattle.tera_grammar.specs.expressions.Marks.{mark, Operation}
 use Rattle.tera_grammar.specs.Options.{◌>>=◌}
 use Rattle.tera_grammar.specs.statements.Names.{Names}
-use Rattle.tera_grammar.specs.statements.Parts.{Name, name_if_any_yield, Simple, Escaped, symbol_yield, AtElif, AtEndBlock, AtEndFor, AtEndIf, closer_token, start_yield, closing, finish}
+use Rattle.tera_grammar.specs.statements.Parts.{Name, name_if_any_yield, AtElif, AtEndBlock, AtEndFor, AtEndIf, closer_token, start_yield, closing, finish}
 use Rattle.tera_grammar.specs.statements.Expressions.{Limits, expression_yield, attributes_yield}
 use Rattle.tera_grammar.specs.statements.Components.{ending_yield}
 use Rattle.tera_grammar.specs.statements.Heads.{filters_yield, Capture, SetBody, Section, CallBody, capture_yield, capture_end}
-use Rattle.tera_grammar.specs.statements.Grammar.{Plain, Words, Shown, Set, Include, Extends, Break, Continue, plain_yield, Body, Done, Then, Item, Single, Block, Define, Capturing, For, If, Branches, Elif, Last, Else, NoElse, Otherwise, yield, item_yield, branches_yield, else_yield, Path, in_loop}
+use Rattle.tera_grammar.specs.statements.Grammar.{Plain, Text, Shown, Set, Include, Extends, Break, Continue, plain_yield, Body, Done, Then, Item, Single, Block, Define, Capturing, For, If, Branches, Elif, Last, Else, NoElse, Otherwise, yield, item_yield, branches_yield, else_yield, Path, in_loop}
 use Rattle.tera_grammar.specs.statements.Reading.{Place, at, Reads, Reader, branch_in, branches_by, branches, step, go_on, items_by, items, body}
 use Rattle.tera_grammar.specs.statements.Reading.Parts.{Front, Closes, front, tag}
 use Rattle.tera_grammar.proofs.Options.{bind_both}
@@ -21,13 +23,11 @@ use Rattle.tera_grammar.proofs.statements.Components.{opened_part, opened_size, 
 use Rattle.tera_grammar.proofs.statements.Found.{Sound, step_found, body_sound}
 
 plain_size : (p : Plain) (r : Items) → size r < size (plain_yield p r)
-plain_size (Words text span) r = omega arith
+plain_size (Text text span) r = omega arith
 plain_size (Shown a e b) r = omega (arith, expression_size e (Token (toks.Finish kind.Variable b.dash) b.span r))
 plain_size (Set global t n sign e) r = omega (arith, expression_size e (finish t r))
-plain_size (Include t (Simple text span)) r = omega arith
-plain_size (Include t (Escaped text span)) r = omega arith
-plain_size (Extends t (Simple text span)) r = omega arith
-plain_size (Extends t (Escaped text span)) r = omega arith
+plain_size (Include t q span) r = omega arith
+plain_size (Extends t q span) r = omega arith
 plain_size (Break t) r = omega arith
 plain_size (Continue t) r = omega arith
 
@@ -35,13 +35,13 @@ capture_size : (c : Capture) (r : Items) → size r < size (capture_yield c r)
 capture_size (SetBody global t n fs e) r = omega (arith, filters_size fs (finish t r))
 capture_size (Section t f fs e) r = omega (arith, filters_size fs (finish t r), filter_size f (filters_yield fs (finish t r)))
 capture_size (CallBody t n a last e m end) r =
-    let tail = symbol_yield (codes ">") last (finish t r) in
+    let tail = mark (Operation GreaterThan) last (finish t r) in
     omega (arith, attributes_size a tail, component_size n (attributes_yield a tail))
 
 capture_end_size : (c : Capture) (r : Items) → size r ≤ size (capture_end c r)
 capture_end_size (SetBody global t n fs e) r = omega arith
 capture_end_size (Section t f fs e) r = omega arith
-capture_end_size (CallBody t n a last e m end) r = omega (arith, component_size m (symbol_yield (codes ">") end (finish e r)))
+capture_end_size (CallBody t n a last e m end) r = omega (arith, component_size m (mark (Operation GreaterThan) end (finish e r)))
 
 name_if_any_size : (m : Option Name) (r : Items) → size r ≤ size (name_if_any_yield m r)
 name_if_any_size None r = le_refl _

@@ -1,18 +1,16 @@
--- What stands outside of expressions but is made of them: arguments, a filter, attributes, the name of a
--- component, arrays and maps of constants. Each value in them is an outermost expression.
-use Rattle.std.specs.Prelude.{◌≡◌, ◌⊎◌, ℕ, ◌+◌, ◌≤◌, Bool, false, List, Option, Some}
+-- What stands in tags and is made of expressions: arguments, a filter, the name of a component, arrays and maps of
+-- constants. Each value in them is an outermost expression, with limits of its own.
+use Rattle.std.specs.Prelude.{◌≡◌, ℕ, ◌+◌, ◌≤◌, Bool, false, List, Option, Some}
 use Rattle.tera_base.specs.Values as values
 use Rattle.tera_base.specs.declared.utils.Span.{Span}
-use Rattle.tera_lexer.specs.Tokens.{Items, Token, Finish}
-use Rattle.tera_lexer.specs.declared.lexer.delimiters.Kind as kinds
+use Rattle.tera_lexer.specs.Tokens.{Items}
 use Rattle.tera_tree.specs.Tree as tree
 use Rattle.tera_base.specs.Values.{NoPairs}
 use Rattle.tera_tree.specs.Tree.{Expr}
-use Rattle.tera_grammar.specs.expressions.Operators.{Div, GreaterThan}
-use Rattle.tera_grammar.specs.expressions.Marks.{Mark, mark, LeftParen, LeftBracket, LeftBrace, Bar, Dot, Operation}
-use Rattle.tera_grammar.specs.expressions.Concrete.{Name, Dotted, Tree, Row, Args, no_args, args, of_arguments, of_items, of_entries, named, dotted_yield, row_yield, args_yield}
+use Rattle.tera_grammar.specs.expressions.Marks.{mark, LeftParen, LeftBracket, LeftBrace}
+use Rattle.tera_grammar.specs.expressions.Concrete.{Name, Dotted, Tree, Row, Args, no_args, args, of_arguments, of_items, of_entries, name_yield, dotted_yield, row_yield, args_yield}
 use Rattle.tera_grammar.specs.Words.{AreDistinct}
-use Rattle.tera_grammar.specs.expressions.Conditions.{IsRow, names}
+use Rattle.tera_grammar.specs.expressions.Conditions.{IsRow, argument_names}
 use Rattle.tera_grammar.specs.Limits.{Limits}
 use Rattle.tera_grammar.specs.expressions.Measures.{Within, EachRow, arrays, row_deep}
 use Rattle.tera_grammar.specs.expressions.Spans.{spanning, args_end}
@@ -28,10 +26,10 @@ abbrev pub kwargs_yield : Opened → Items → Items
 kwargs_yield x r = mark LeftParen x.mark (row_yield of_arguments x.row r)
 
 abbrev pub AreKwargs : Bool → Opened → Type 0
-AreKwargs l x = IsRow l of_arguments x.row × AreDistinct (names x.row)
+AreKwargs in_loop x = IsRow in_loop of_arguments x.row × AreDistinct (argument_names x.row)
 
 abbrev pub kwargs_output : Bool → Opened → tree.Args
-kwargs_output l x = arguments_output l x.row tree.NoArgs
+kwargs_output in_loop x = arguments_output in_loop x.row tree.NoArgs
 
 -- a filter: its name and its arguments; what it filters stands elsewhere
 pub record Filtering : Type 0 where
@@ -39,7 +37,7 @@ pub record Filtering : Type 0 where
   pub args : Args
 
 abbrev pub filter_yield : Filtering → Items → Items
-filter_yield x r = named x.name (args_yield x.args r)
+filter_yield x r = name_yield x.name (args_yield x.args r)
 
 abbrev pub EachArgs : (Tree → Type 0) → Args → Type 0
 EachArgs P no_args = Unit {0}
@@ -47,8 +45,8 @@ EachArgs P (args s row) = EachRow P row
 
 -- the span is that of the mark before the filter
 abbrev pub filter_output : Bool → Span → Filtering → Expr
-filter_output l span x =
-    tree.Filter (tree.Const values.Nothing span) x.name.text (args_output l x.args) (spanning x.name.span (args_end x.name x.args))
+filter_output in_loop span x =
+    tree.Filter (tree.Const values.Nothing span) x.name.text (args_output in_loop x.args) (spanning x.name.span (args_end x.name x.args))
 
 -- the name of a component
 pub record Path : Type 0 where
@@ -56,7 +54,7 @@ pub record Path : Type 0 where
   pub further : Dotted
 
 abbrev pub path_yield : Path → Items → Items
-path_yield x r = named x.name (dotted_yield x.further r)
+path_yield x r = name_yield x.name (dotted_yield x.further r)
 
 abbrev pub path_output : Path → List ℕ
 path_output x = component_text x.name x.further
@@ -84,20 +82,3 @@ map_value x = constant_entries (entries_output false x.row) NoPairs
 
 abbrev pub IsMap : Opened → values.Pairs → Type 0
 IsMap x ps = IsRow false of_entries x.row × (map_value x ≡ Some ps)
-
--- the tokens begin with a mark
-abbrev pub BeginsWith : Mark → Items → Type 0
-BeginsWith m r = (span : Span) × (items : Items) × (r ≡ mark m span items)
-
--- what ends attributes: `/` or `>`
-abbrev pub EndsAttributes : Items → Type 0
-EndsAttributes r = BeginsWith (Operation Div) r ⊎ BeginsWith (Operation GreaterThan) r
-
--- what ends a filter: a further one, or the end of its tag
-abbrev pub EndsFilter : Items → Type 0
-EndsFilter r = BeginsWith Bar r ⊎ ((k : kinds.Kind) × (dash : Bool) × (span : Span) × (items : Items)
-    × (r ≡ Token (Finish k dash) span items))
-
--- what ends the name of a component: all but a dot
-abbrev pub EndsPath : Items → Type 0
-EndsPath r = BeginsWith Dot r → ⊥

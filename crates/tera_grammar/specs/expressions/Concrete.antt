@@ -1,4 +1,6 @@
--- The expressions as they are written, parentheses included, and their tokens.
+-- The expressions as they are written, parentheses included, and their tokens. A tree keeps every token that it is
+-- written with, so `yield` gives them all, in front of others. In the files on expressions e, a, b are expressions,
+-- n, m, w names, x and row what their types say, r the tokens behind; the other letters are spans of marks.
 use Rattle.std.specs.Prelude.{ℕ, ℤ, Bool, List}
 use Rattle.tera_base.specs.declared.utils.Span.{Span}
 use Rattle.tera_lexer.specs.Tokens as toks
@@ -11,14 +13,16 @@ pub record Name : Type 0 where
   pub text : List ℕ
   pub span : Span
 
--- a literal: a number; a string without escapes, and one with some, by its value; one of the two truths; a
--- word for no value
+-- a string without escapes, and one with some, by its value
+pub data Quote : Type 0 where
+  Simple : List ℕ → Quote
+  Escaped : List ℕ → Quote
+
+-- a literal, which may be a key: a number, a string, one of the two truths
 pub data Lit : Type 0 where
   Number : ℤ → Lit
-  Quoted : List ℕ → Lit
-  Escaped : List ℕ → Lit
+  Quoted : Quote → Lit
   Truth : Bool → Lit
-  Nothing : List ℕ → Lit
 
 -- the prefixes `-` and `not`
 pub data Sign : Type 0 where
@@ -54,7 +58,7 @@ pub data Op : Type 0 where
   Single : BinaryOperator → Span → Op
   NotIn : Span → Span → Op
 
--- what a row holds: the arguments of a call, the items of an array, the entries of a map
+-- the kinds of rows: the arguments of a call, the items of an array, the entries of a map
 pub data Kind : Type 0 where
   of_arguments of_items of_entries : Kind
 
@@ -69,6 +73,8 @@ mutual
 
   pub data Atom : Type 0 where
     Literal : Lit → Span → Atom
+    -- a word for no value
+    Nothing : Name → Atom
     Chain : Name → Links → Atom
     -- the name, `(`, the arguments up to `)`
     Call : Name → Span → Row → Atom
@@ -82,7 +88,7 @@ mutual
     -- `<`, the name, the attributes, `/`, `>`
     Component : Span → Name → Dotted → Attributes → Span → Span → Atom
 
-  -- what hangs on a name
+  -- what hangs on a name: `.name`, `?.name`, `[..]`, `?[..]`
   pub data Links : Type 0 where
     no_links : Links
     field : Joint → Name → Links → Links
@@ -98,7 +104,7 @@ mutual
     absent : Part
     present : Tree → Part
 
-  -- an expression behind a mark of its own
+  -- an expression behind a mark of its own, or none: the step of a slice, the condition of a comprehension
   pub data Extra : Type 0 where
     no_extra : Extra
     extra : Span → Tree → Extra
@@ -123,10 +129,12 @@ mutual
   pub data Attributes : Type 0 where
     no_attributes : Attributes
     bare : Name → Attributes → Attributes
-    quoted : Name → Span → Lit → Span → Attributes → Attributes
+    quoted : Name → Span → Quote → Span → Attributes → Attributes
     valued : Name → Span → Span → Tree → Span → Attributes → Attributes
     spreading : Span → Span → Tree → Span → Attributes → Attributes
 
+  -- `is`, the `not` behind it, the name of the test and its arguments; the bar, the name of the filter and its
+  -- arguments; `[` and what stands behind it
   pub data Suffix : Type 0 where
     Test : Span → Negation → Name → Args → Suffix
     Filter : Span → Name → Args → Suffix
@@ -136,20 +144,23 @@ mutual
     no_args : Args
     args : Span → Row → Args
 
+  -- `if`, the condition and `else`
   pub data Operator : Type 0 where
     Binary : Op → Operator
     Condition : Span → Tree → Span → Operator
 
--- the token of a literal
+-- the token of a string, and of a literal
+abbrev pub quote_token : Quote → Tok
+quote_token (Simple text) = toks.Str text
+quote_token (Escaped text) = toks.Escaped text
+
 abbrev pub literal_token : Lit → Tok
 literal_token (Number n) = toks.Integer n
-literal_token (Quoted text) = toks.Str text
-literal_token (Escaped text) = toks.Escaped text
+literal_token (Quoted q) = quote_token q
 literal_token (Truth b) = toks.Truth b
-literal_token (Nothing word) = toks.Ident word
 
-abbrev pub named : Name → Items → Items
-named n r = Token (toks.Ident n.text) n.span r
+abbrev pub name_yield : Name → Items → Items
+name_yield n r = Token (toks.Ident n.text) n.span r
 
 abbrev pub sign_yield : Sign → Items → Items
 sign_yield (Negative s) r = mark (Operation Minus) s r
@@ -169,11 +180,11 @@ negation_yield (negated s) r = mark Not s r
 
 abbrev pub second_yield : Second → Items → Items
 second_yield no_second r = r
-second_yield (second s n) r = mark Comma s (named n r)
+second_yield (second s n) r = mark Comma s (name_yield n r)
 
 abbrev pub dotted_yield : Dotted → Items → Items
 dotted_yield no_dots r = r
-dotted_yield (dots s n ds) r = mark Dot s (named n (dotted_yield ds r))
+dotted_yield (dots s n ds) r = mark Dot s (name_yield n (dotted_yield ds r))
 
 abbrev pub op_yield : Op → Items → Items
 op_yield (Single o s) r = mark (Operation o) s r
@@ -195,26 +206,28 @@ abbrev mutual
 
   pub atom_yield : Atom → Items → Items
   atom_yield (Literal l s) r = Token (literal_token l) s r
-  atom_yield (Chain n ls) r = named n (links_yield ls r)
-  atom_yield (Call n s row) r = named n (mark LeftParen s (row_yield of_arguments row r))
+  atom_yield (Nothing n) r = name_yield n r
+  atom_yield (Chain n ls) r = name_yield n (links_yield ls r)
+  atom_yield (Call n s row) r = name_yield n (mark LeftParen s (row_yield of_arguments row r))
   atom_yield (Paren s e t) r = mark LeftParen s (yield e (mark RightParen t r))
   atom_yield (Array s row) r = mark LeftBracket s (row_yield of_items row r)
-  atom_yield (Comprehension s e f n m i t g c) r =
-      mark LeftBracket s (yield e (mark For f (named n (second_yield m
-      (mark (Operation In) i (yield t (extra_yield If g (mark RightBracket c r))))))))
+  atom_yield (Comprehension s element f n m i target guard c) r =
+      mark LeftBracket s (yield element (mark For f (name_yield n (second_yield m
+      (mark (Operation In) i (yield target (extra_yield If guard (mark RightBracket c r))))))))
   atom_yield (Map s row) r = mark LeftBrace s (row_yield of_entries row r)
   atom_yield (Component s n ds ats t u) r =
-      mark (Operation LessThan) s (named n (dotted_yield ds (attributes_yield ats
+      mark (Operation LessThan) s (name_yield n (dotted_yield ds (attributes_yield ats
       (mark (Operation Div) t (mark (Operation GreaterThan) u r)))))
 
   pub links_yield : Links → Items → Items
   links_yield no_links r = r
-  links_yield (field d n ls) r = joint_yield d (named n (links_yield ls r))
+  links_yield (field d n ls) r = joint_yield d (name_yield n (links_yield ls r))
   links_yield (item b s ls) r = bracket_yield b (sub_yield s (links_yield ls r))
 
   pub sub_yield : Sub → Items → Items
   sub_yield (index e c) r = yield e (mark RightBracket c r)
-  sub_yield (slice a s b x c) r = part_yield a (mark Colon s (part_yield b (extra_yield Colon x (mark RightBracket c r))))
+  sub_yield (slice start s stop step c) r =
+      part_yield start (mark Colon s (part_yield stop (extra_yield Colon step (mark RightBracket c r))))
 
   pub part_yield : Part → Items → Items
   part_yield absent r = r
@@ -233,20 +246,20 @@ abbrev mutual
   element_yield (plain e) r = yield e r
   element_yield (spread s e) r = mark Spread s (yield e r)
   element_yield (pair l s t e) r = Token (literal_token l) s (mark Colon t (yield e r))
-  element_yield (argument n s e) r = named n (mark Assign s (yield e r))
+  element_yield (argument n s e) r = name_yield n (mark Assign s (yield e r))
 
   pub attributes_yield : Attributes → Items → Items
   attributes_yield no_attributes r = r
-  attributes_yield (bare n ats) r = named n (attributes_yield ats r)
-  attributes_yield (quoted n s l t ats) r = named n (mark Assign s (Token (literal_token l) t (attributes_yield ats r)))
-  attributes_yield (valued n s b e c ats) r = named n (mark Assign s
+  attributes_yield (bare n ats) r = name_yield n (attributes_yield ats r)
+  attributes_yield (quoted n s q t ats) r = name_yield n (mark Assign s (Token (quote_token q) t (attributes_yield ats r)))
+  attributes_yield (valued n s b e c ats) r = name_yield n (mark Assign s
       (mark LeftBrace b (yield e (mark RightBrace c (attributes_yield ats r)))))
   attributes_yield (spreading b s e c ats) r = mark LeftBrace b
       (mark Spread s (yield e (mark RightBrace c (attributes_yield ats r))))
 
   pub suffix_yield : Suffix → Items → Items
-  suffix_yield (Test s n w g) r = mark Is s (negation_yield n (named w (args_yield g r)))
-  suffix_yield (Filter s w g) r = mark Bar s (named w (args_yield g r))
+  suffix_yield (Test s n w g) r = mark Is s (negation_yield n (name_yield w (args_yield g r)))
+  suffix_yield (Filter s w g) r = mark Bar s (name_yield w (args_yield g r))
   suffix_yield (Subscript s b) r = mark LeftBracket s (sub_yield b r)
 
   pub args_yield : Args → Items → Items

@@ -1,4 +1,4 @@
--- The tokens that are always the same: marks, operators and words.
+-- The tokens that are always the same, by name: marks, operators and words.
 use Rattle.std.specs.Prelude.{codes, []}
 use Rattle.tera_base.specs.declared.utils.Span.{Span}
 use Rattle.tera_lexer.specs.Tokens.{Tok, Items, Token, Content, Ident, Symbol}
@@ -6,7 +6,7 @@ use Rattle.tera_grammar.specs.expressions.Operators.{BinaryOperator, Mul, Div, M
 
 pub data Mark : Type 0 where
   LeftParen RightParen LeftBracket RightBracket QuestionBracket LeftBrace RightBrace : Mark
-  Comma Colon Dot QuestionDot Spread Assign Bar : Mark
+  Comma Colon Dot QuestionDot Spread Assign Bar At : Mark
   Not Is If Else For : Mark
   Operation : BinaryOperator → Mark
   Other : Mark
@@ -47,6 +47,7 @@ mark_token QuestionDot = Symbol (codes "?.")
 mark_token Spread = Symbol (codes "...")
 mark_token Assign = Symbol (codes "=")
 mark_token Bar = Symbol (codes "|")
+mark_token At = Symbol (codes "@")
 mark_token Not = Ident (codes "not")
 mark_token Is = Ident (codes "is")
 mark_token If = Ident (codes "if")

@@ -1,16 +1,17 @@
--- How large an expression is, and the limits.
+-- How large an expression is, and the limits. Three of the four measures are depths, for which one definition serves:
+-- each thing that stands inside another adds its weight.
 use Rattle.std.specs.Prelude.{ℕ, suc, ◌+◌, max, ◌≤◌}
 use Rattle.tera_grammar.specs.Limits.{Limits}
-use Rattle.tera_grammar.specs.expressions.Concrete.{Tree, Atomic, Prefix, Suffixed, Infix, Atom, Literal, Chain, Call, Paren, Array, Comprehension, Map, Component, Links, no_links, field, item, Sub, index, slice, Part, absent, present, Extra, no_extra, extra, Row, ended, only, then, Element, plain, spread, pair, argument, Attributes, no_attributes, bare, quoted, valued, spreading, Suffix, Test, Filter, Subscript, Args, no_args, args, Operator, Binary, Condition}
+use Rattle.tera_grammar.specs.expressions.Concrete.{Tree, Atomic, Prefix, Suffixed, Infix, Atom, Literal, Nothing, Chain, Call, Paren, Array, Comprehension, Map, Component, Links, no_links, field, item, Sub, index, slice, Part, absent, present, Extra, no_extra, extra, Row, ended, only, then, Element, plain, spread, pair, argument, Attributes, no_attributes, bare, quoted, valued, spreading, Suffix, Test, Filter, Subscript, Args, no_args, args, Operator, Binary, Condition}
 
--- what counts in a depth: each expression that is opened, each subscript, each array
+-- what an expression that is opened adds to a depth, what a subscript, what an array
 pub record Weight : Type 0 where
   pub opening : ℕ
   pub subscript : ℕ
   pub array : ℕ
 
 -- The greatest weight of things that stand one inside the other. A left operand, a test and a filter open no
--- expression; a comprehension is an array around its element alone.
+-- expression; all other parts do. A comprehension is an array around its element alone.
 abbrev mutual
   pub deep : Weight → Tree → ℕ
   deep w (Atomic a) = atom_deep w a
@@ -20,12 +21,13 @@ abbrev mutual
 
   pub atom_deep : Weight → Atom → ℕ
   atom_deep w (Literal l s) = 0
+  atom_deep w (Nothing n) = 0
   atom_deep w (Chain n ls) = links_deep w ls
   atom_deep w (Call n s row) = row_deep w row
   atom_deep w (Paren s e t) = deep w e + w.opening
   atom_deep w (Array s row) = row_deep w row + w.array
-  atom_deep w (Comprehension s e f n m i t g c) = max ((deep w e + w.opening) + w.array)
-      (max (deep w t + w.opening) (extra_deep w g))
+  atom_deep w (Comprehension s element f n m i target guard c) =
+      max ((deep w element + w.opening) + w.array) (max (deep w target + w.opening) (extra_deep w guard))
   atom_deep w (Map s row) = row_deep w row
   atom_deep w (Component s n ds ats t u) = attributes_deep w ats
 
@@ -36,7 +38,7 @@ abbrev mutual
 
   pub sub_deep : Weight → Sub → ℕ
   sub_deep w (index e c) = deep w e + w.opening
-  sub_deep w (slice a s b x c) = max (part_deep w a) (max (part_deep w b) (extra_deep w x))
+  sub_deep w (slice start s stop step c) = max (part_deep w start) (max (part_deep w stop) (extra_deep w step))
 
   pub part_deep : Weight → Part → ℕ
   part_deep w absent = 0
@@ -60,7 +62,7 @@ abbrev mutual
   pub attributes_deep : Weight → Attributes → ℕ
   attributes_deep w no_attributes = 0
   attributes_deep w (bare n ats) = attributes_deep w ats
-  attributes_deep w (quoted n s l t ats) = attributes_deep w ats
+  attributes_deep w (quoted n s q t ats) = attributes_deep w ats
   attributes_deep w (valued n s b e c ats) = max (deep w e + w.opening) (attributes_deep w ats)
   attributes_deep w (spreading b s e c ats) = max (deep w e + w.opening) (attributes_deep w ats)
 
@@ -90,7 +92,8 @@ arrays = record { opening = 0; subscript = 0; array = 1 }
 abbrev pub height : Tree → ℕ
 height t = suc (deep openings t)
 
--- The binary operators, tests, filters, chain dots and subscripts, at any depth.
+-- How many binary operators, tests, filters, dots of chains and subscripts stand in it, at any depth. `not in` and
+-- `is not` count once; ternaries, prefixes, calls and the dots of a component's name do not count.
 abbrev mutual
   pub links : Tree → ℕ
   links (Atomic a) = atom_links a
@@ -100,11 +103,12 @@ abbrev mutual
 
   pub atom_links : Atom → ℕ
   atom_links (Literal l s) = 0
+  atom_links (Nothing n) = 0
   atom_links (Chain n ls) = links_links ls
   atom_links (Call n s row) = row_links row
   atom_links (Paren s e t) = links e
   atom_links (Array s row) = row_links row
-  atom_links (Comprehension s e f n m i t g c) = links e + (links t + extra_links g)
+  atom_links (Comprehension s element f n m i target guard c) = links element + (links target + extra_links guard)
   atom_links (Map s row) = row_links row
   atom_links (Component s n ds ats t u) = attributes_links ats
 
@@ -115,7 +119,7 @@ abbrev mutual
 
   pub sub_links : Sub → ℕ
   sub_links (index e c) = links e
-  sub_links (slice a s b x c) = part_links a + (part_links b + extra_links x)
+  sub_links (slice start s stop step c) = part_links start + (part_links stop + extra_links step)
 
   pub part_links : Part → ℕ
   part_links absent = 0
@@ -139,7 +143,7 @@ abbrev mutual
   pub attributes_links : Attributes → ℕ
   attributes_links no_attributes = 0
   attributes_links (bare n ats) = attributes_links ats
-  attributes_links (quoted n s l t ats) = attributes_links ats
+  attributes_links (quoted n s q t ats) = attributes_links ats
   attributes_links (valued n s b e c ats) = links e + attributes_links ats
   attributes_links (spreading b s e c ats) = links e + attributes_links ats
 
@@ -179,6 +183,6 @@ EachRow P (then x s xs) = EachElement P x × EachRow P xs
 abbrev pub EachAttribute : (Tree → Type 0) → Attributes → Type 0
 EachAttribute P no_attributes = Unit {0}
 EachAttribute P (bare n ats) = EachAttribute P ats
-EachAttribute P (quoted n s l t ats) = EachAttribute P ats
+EachAttribute P (quoted n s q t ats) = EachAttribute P ats
 EachAttribute P (valued n s b e c ats) = P e × EachAttribute P ats
 EachAttribute P (spreading b s e c ats) = P e × EachAttribute P ats

@@ -1,5 +1,4 @@
--- What an expression is read as. The first argument of most of these says whether the expression stands in
--- a loop.
+-- What an expression is read as. `in_loop` says whether it stands in a loop. Parentheses have no node.
 use Rattle.std.specs.Prelude.{ℕ, ℤ, Bool, true, false, ◌&&◌, cond, nat_eq, pos, negsuc, neg_ℤ, List, [], ◌++◌, Option, Some, None, codes}
 use Rattle.std.specs.Str.{bytes_eq}
 use Rattle.std.specs.Ordering.{nat_cmp, match_ordering}
@@ -12,24 +11,24 @@ use Rattle.tera_tree.specs.Tree as tree
 use Rattle.tera_base.specs.Values.{KeyVal, TextKey, I64Key, TruthKey, Val, Vals, Pairs, NoPairs}
 use Rattle.tera_tree.specs.Tree.{Expr}
 use Rattle.tera_grammar.specs.expressions.Operators.{operator_made}
-use Rattle.tera_grammar.specs.expressions.Concrete.{Name, Lit, Number, Quoted, Escaped, Truth, Nothing, Sign, Negative, Negates, Joint, plain_dot, optional_dot, Bracket, plain_bracket, optional_bracket, Negation, plainly, negated, Second, no_second, second, Dotted, no_dots, dots, Op, Single, NotIn, Tree, Atomic, Prefix, Suffixed, Infix, Atom, Literal, Chain, Call, Paren, Array, Comprehension, Map, Component, Links, no_links, field, item, Sub, index, slice, Part, absent, present, Extra, no_extra, extra, Row, ended, only, then, Element, plain, spread, pair, argument, Attributes, no_attributes, bare, quoted, valued, spreading, Suffix, Test, Filter, Subscript, Args, no_args, args, Operator, Binary, Condition}
+use Rattle.tera_grammar.specs.expressions.Concrete.{Name, Quote, Simple, Escaped, Lit, Number, Quoted, Truth, Sign, Negative, Negates, Joint, plain_dot, optional_dot, Bracket, plain_bracket, optional_bracket, Negation, plainly, negated, Second, no_second, second, Dotted, no_dots, dots, Op, Single, NotIn, Tree, Atomic, Prefix, Suffixed, Infix, Atom, Literal, Nothing, Chain, Call, Paren, Array, Comprehension, Map, Component, Links, no_links, field, item, Sub, index, slice, Part, absent, present, Extra, no_extra, extra, Row, ended, only, then, Element, plain, spread, pair, argument, Attributes, no_attributes, bare, quoted, valued, spreading, Suffix, Test, Filter, Subscript, Args, no_args, args, Operator, Binary, Condition}
 use Rattle.tera_grammar.specs.expressions.Spans.{spanning, sign_span, row_end, args_end, first, last}
 use Rattle.tera_grammar.specs.Words.{is_loop}
 
+abbrev pub quote_text : Quote → List ℕ
+quote_text (Simple text) = text
+quote_text (Escaped text) = text
+
+-- the value, and the key, that a literal is
 abbrev pub literal_value : Lit → Val
 literal_value (Number n) = values.I64 n
-literal_value (Quoted text) = values.Text text
-literal_value (Escaped text) = values.Text text
+literal_value (Quoted q) = values.Text (quote_text q)
 literal_value (Truth b) = values.Truth b
-literal_value (Nothing word) = values.Nothing
 
--- the key that a literal is; a word for no value is none
 abbrev pub key_of : Lit → KeyVal
 key_of (Number n) = I64Key n
-key_of (Quoted text) = TextKey text
-key_of (Escaped text) = TextKey text
+key_of (Quoted q) = TextKey (quote_text q)
 key_of (Truth b) = TruthKey b
-key_of (Nothing word) = TextKey word
 
 abbrev pub same_number : ℤ → ℤ → Bool
 same_number (pos a) (pos b) = nat_eq a b
@@ -52,7 +51,7 @@ abbrev pub put_pair : KeyVal → Val → Pairs → Pairs
 put_pair k v NoPairs = values.OnePair k v NoPairs
 put_pair k v (values.OnePair l u ps) = cond (same_key k l) (values.OnePair l v ps) (values.OnePair l u (put_pair k v ps))
 
--- the argument stands where the byte order of the names puts it
+-- the argument stands where the byte order of the argument_names puts it
 abbrev pub put_arg : List ℕ → Expr → tree.Args → tree.Args
 put_arg n e tree.NoArgs = tree.Arg n e tree.NoArgs
 put_arg n e (tree.Arg m f rest) =
@@ -163,95 +162,97 @@ component_text n ds = n.text ++ dotted_text ds
 
 abbrev mutual
   pub output : Bool → Tree → Expr
-  output l (Atomic a) = atom_output l a
-  output l (Prefix s e) = prefixed s (output l e) (spanning (sign_span s) (last e))
-  output l (Suffixed a s) = suffix_output l (first a) (output l a) s
-  output l (Infix a o b) = operator_output l (spanning (first a) (last b)) (output l a) o (output l b)
+  output in_loop (Atomic a) = atom_output in_loop a
+  output in_loop (Prefix s e) = prefixed s (output in_loop e) (spanning (sign_span s) (last e))
+  output in_loop (Suffixed a s) = suffix_output in_loop (first a) (output in_loop a) s
+  output in_loop (Infix a o b) = operator_output in_loop (spanning (first a) (last b)) (output in_loop a) o (output in_loop b)
 
   pub atom_output : Bool → Atom → Expr
-  atom_output l (Literal x s) = tree.Const (literal_value x) s
-  atom_output l (Chain n ls) = links_output l (of_loop l n) (tree.Var n.text n.span) ls
-  atom_output l (Call n s row) = tree.FunctionCall n.text (arguments_output l row tree.NoArgs) (spanning n.span (row_end row))
-  atom_output l (Paren s e t) = output l e
-  atom_output l (Array s row) = array_of (items_output l row) (spanning s (row_end row))
-  atom_output l (Comprehension s e f n m i t g c) =
-      tree.ListComprehension (output l e) (key_variable n m) (value_variable n m) (output l t) (extra_output l g) (spanning s c)
-  atom_output l (Map s row) = map_of (entries_output l row) (spanning s (row_end row))
-  atom_output l (Component s n ds ats t u) =
-      tree.ComponentCall (component_text n ds) (attributes_output l ats) tree.NoNodes true (spanning s u)
+  atom_output in_loop (Literal x s) = tree.Const (literal_value x) s
+  atom_output in_loop (Nothing n) = tree.Const values.Nothing n.span
+  atom_output in_loop (Chain n ls) = links_output in_loop (of_loop in_loop n) (tree.Var n.text n.span) ls
+  atom_output in_loop (Call n s row) = tree.FunctionCall n.text (arguments_output in_loop row tree.NoArgs) (spanning n.span (row_end row))
+  atom_output in_loop (Paren s e t) = output in_loop e
+  atom_output in_loop (Array s row) = array_of (items_output in_loop row) (spanning s (row_end row))
+  atom_output in_loop (Comprehension s element f n m i target guard c) =
+      tree.ListComprehension (output in_loop element) (key_variable n m) (value_variable n m) (output in_loop target)
+      (extra_output in_loop guard) (spanning s c)
+  atom_output in_loop (Map s row) = map_of (entries_output in_loop row) (spanning s (row_end row))
+  atom_output in_loop (Component s n ds ats t u) =
+      tree.ComponentCall (component_text n ds) (attributes_output in_loop ats) tree.NoNodes true (spanning s u)
 
   -- a chain up to here, and its further links
   pub links_output : Bool → Bool → Expr → Links → Expr
-  links_output l c e no_links = e
-  links_output l c e (field d n ls) = links_output l c (field_output c e d n) ls
-  links_output l c e (item b s ls) = links_output l c (sub_output l (is_optional_bracket b) e s) ls
+  links_output in_loop c e no_links = e
+  links_output in_loop c e (field d n ls) = links_output in_loop c (field_output c e d n) ls
+  links_output in_loop c e (item b s ls) = links_output in_loop c (sub_output in_loop (is_optional_bracket b) e s) ls
 
   pub sub_output : Bool → Bool → Expr → Sub → Expr
-  sub_output l o e (index i c) = tree.GetItem e (output l i) o (spanning (place_of e) c)
-  sub_output l o e (slice a s b x c) = tree.Slice e (part_output l a) (part_output l b) (extra_output l x) o
-      (spanning (place_of e) c)
+  sub_output in_loop optional e (index i c) = tree.GetItem e (output in_loop i) optional (spanning (place_of e) c)
+  sub_output in_loop optional e (slice start s stop step c) =
+      tree.Slice e (part_output in_loop start) (part_output in_loop stop) (extra_output in_loop step) optional (spanning (place_of e) c)
 
   pub part_output : Bool → Part → tree.MaybeExpr
-  part_output l absent = tree.NoExpr
-  part_output l (present e) = tree.OneExpr (output l e)
+  part_output in_loop absent = tree.NoExpr
+  part_output in_loop (present e) = tree.OneExpr (output in_loop e)
 
   pub extra_output : Bool → Extra → tree.MaybeExpr
-  extra_output l no_extra = tree.NoExpr
-  extra_output l (extra s e) = tree.OneExpr (output l e)
+  extra_output in_loop no_extra = tree.NoExpr
+  extra_output in_loop (extra s e) = tree.OneExpr (output in_loop e)
 
   -- the arguments, put to those before them
   pub arguments_output : Bool → Row → tree.Args → tree.Args
-  arguments_output l (ended s) rest = rest
-  arguments_output l (only x s) rest = argument_output l x rest
-  arguments_output l (then x s xs) rest = arguments_output l xs (argument_output l x rest)
+  arguments_output in_loop (ended s) rest = rest
+  arguments_output in_loop (only x s) rest = argument_output in_loop x rest
+  arguments_output in_loop (then x s xs) rest = arguments_output in_loop xs (argument_output in_loop x rest)
 
   pub argument_output : Bool → Element → tree.Args → tree.Args
-  argument_output l (argument n s e) rest = put_arg n.text (output l e) rest
-  argument_output l (plain e) rest = rest
-  argument_output l (spread s e) rest = rest
-  argument_output l (pair x s t e) rest = rest
+  argument_output in_loop (argument n s e) rest = put_arg n.text (output in_loop e) rest
+  argument_output in_loop (plain e) rest = rest
+  argument_output in_loop (spread s e) rest = rest
+  argument_output in_loop (pair x s t e) rest = rest
 
   pub items_output : Bool → Row → tree.Items
-  items_output l (ended s) = tree.NoItems
-  items_output l (only x s) = item_output l x tree.NoItems
-  items_output l (then x s xs) = item_output l x (items_output l xs)
+  items_output in_loop (ended s) = tree.NoItems
+  items_output in_loop (only x s) = item_output in_loop x tree.NoItems
+  items_output in_loop (then x s xs) = item_output in_loop x (items_output in_loop xs)
 
   pub item_output : Bool → Element → tree.Items → tree.Items
-  item_output l (plain e) is = tree.Item (output l e) is
-  item_output l (spread s e) is = tree.SpreadItem (output l e) is
-  item_output l (pair x s t e) is = is
-  item_output l (argument n s e) is = is
+  item_output in_loop (plain e) is = tree.Item (output in_loop e) is
+  item_output in_loop (spread s e) is = tree.SpreadItem (output in_loop e) is
+  item_output in_loop (pair x s t e) is = is
+  item_output in_loop (argument n s e) is = is
 
   pub entries_output : Bool → Row → tree.Entries
-  entries_output l (ended s) = tree.NoEntries
-  entries_output l (only x s) = entry_output l x tree.NoEntries
-  entries_output l (then x s xs) = entry_output l x (entries_output l xs)
+  entries_output in_loop (ended s) = tree.NoEntries
+  entries_output in_loop (only x s) = entry_output in_loop x tree.NoEntries
+  entries_output in_loop (then x s xs) = entry_output in_loop x (entries_output in_loop xs)
 
   pub entry_output : Bool → Element → tree.Entries → tree.Entries
-  entry_output l (pair x s t e) es = tree.Entry (key_of x) (output l e) es
-  entry_output l (spread s e) es = tree.SpreadEntry (output l e) es
-  entry_output l (plain e) es = es
-  entry_output l (argument n s e) es = es
+  entry_output in_loop (pair x s t e) es = tree.Entry (key_of x) (output in_loop e) es
+  entry_output in_loop (spread s e) es = tree.SpreadEntry (output in_loop e) es
+  entry_output in_loop (plain e) es = es
+  entry_output in_loop (argument n s e) es = es
 
   pub attributes_output : Bool → Attributes → tree.Entries
-  attributes_output l no_attributes = tree.NoEntries
-  attributes_output l (bare n ats) = tree.Entry (TextKey n.text) (tree.Var n.text n.span) (attributes_output l ats)
-  attributes_output l (quoted n s x t ats) = tree.Entry (TextKey n.text) (tree.Const (literal_value x) t)
-      (attributes_output l ats)
-  attributes_output l (valued n s b e c ats) = tree.Entry (TextKey n.text) (output l e) (attributes_output l ats)
-  attributes_output l (spreading b s e c ats) = tree.SpreadEntry (output l e) (attributes_output l ats)
+  attributes_output in_loop no_attributes = tree.NoEntries
+  attributes_output in_loop (bare n ats) = tree.Entry (TextKey n.text) (tree.Var n.text n.span) (attributes_output in_loop ats)
+  attributes_output in_loop (quoted n s q t ats) = tree.Entry (TextKey n.text) (tree.Const (values.Text (quote_text q)) t)
+      (attributes_output in_loop ats)
+  attributes_output in_loop (valued n s b e c ats) = tree.Entry (TextKey n.text) (output in_loop e) (attributes_output in_loop ats)
+  attributes_output in_loop (spreading b s e c ats) = tree.SpreadEntry (output in_loop e) (attributes_output in_loop ats)
 
   -- a suffix behind an operand that begins here
   pub suffix_output : Bool → Span → Expr → Suffix → Expr
-  suffix_output l start e (Test s n w g) =
-      negation_output n (tree.Test e w.text (args_output l g) (spanning w.span (args_end w g))) (spanning start (args_end w g))
-  suffix_output l start e (Filter s w g) = tree.Filter e w.text (args_output l g) (spanning w.span (args_end w g))
-  suffix_output l start e (Subscript s b) = sub_output l false e b
+  suffix_output in_loop start e (Test s n w g) =
+      negation_output n (tree.Test e w.text (args_output in_loop g) (spanning w.span (args_end w g))) (spanning start (args_end w g))
+  suffix_output in_loop start e (Filter s w g) = tree.Filter e w.text (args_output in_loop g) (spanning w.span (args_end w g))
+  suffix_output in_loop start e (Subscript s b) = sub_output in_loop false e b
 
   pub args_output : Bool → Args → tree.Args
-  args_output l no_args = tree.NoArgs
-  args_output l (args s row) = arguments_output l row tree.NoArgs
+  args_output in_loop no_args = tree.NoArgs
+  args_output in_loop (args s row) = arguments_output in_loop row tree.NoArgs
 
   pub operator_output : Bool → Span → Expr → Operator → Expr → Expr
-  operator_output l span a (Binary o) b = op_output o a b span
-  operator_output l span a (Condition s c t) b = tree.Ternary (output l c) a b span
+  operator_output in_loop span a (Binary o) b = op_output o a b span
+  operator_output in_loop span a (Condition s c t) b = tree.Ternary (output in_loop c) a b span

@@ -1,4 +1,5 @@
--- The powers of the operators, and what stands on the spines of an expression.
+-- The powers of the operators, what stands on the spines of an expression, and what the powers ask of operands.
+-- The left spine is reached by left operands, the right spine by right operands, neither enters parentheses.
 use Rattle.std.specs.Prelude.{◌≡◌, ℕ, ◌<◌, ◌≤◌, List, [], ◌∷◌}
 use Rattle.std.specs.List.{AllByRecursion}
 use Rattle.tera_grammar.specs.expressions.Operators.{BinaryOperator, Mul, Div, Mod, Plus, Minus, FloorDiv, Power, LessThan, GreaterThan, LessThanOrEqual, GreaterThanOrEqual, Equal, NotEqual, And, Or, StrConcat, In}
@@ -59,44 +60,52 @@ abbrev pub right_power : Operator → ℕ
 right_power (Binary o) = op_right o
 right_power (Condition s c t) = 0
 
--- a test holds its operand with power 5, a filter with 17
+-- how strongly a test and a filter hold their operand; they are closed on the right, as a subscript is, which
+-- has no power
+abbrev pub test_power : ℕ
+test_power = 5
+
+abbrev pub filter_power : ℕ
+filter_power = 17
+
+-- how strongly a prefix holds its operand
 abbrev pub sign_power : Sign → ℕ
 sign_power (Negative s) = 20
 sign_power (Negates s) = 5
 
--- The left powers on the left spine, from the root down. The spine passes through a subscript, which has none.
+-- The left powers on the left spine, from the root down. The spine passes through a subscript.
 abbrev pub left_spine : Tree → List ℕ
 left_spine (Atomic a) = []
 left_spine (Prefix s e) = []
-left_spine (Suffixed a (Test s n w g)) = 5 ∷ left_spine a
-left_spine (Suffixed a (Filter s w g)) = 17 ∷ left_spine a
+left_spine (Suffixed a (Test s n w g)) = test_power ∷ left_spine a
+left_spine (Suffixed a (Filter s w g)) = filter_power ∷ left_spine a
 left_spine (Suffixed a (Subscript s b)) = left_spine a
 left_spine (Infix a o b) = left_power o ∷ left_spine a
 
--- the right powers on the right spine, from the root down
+-- The right powers on the right spine, from the root down: those of the nodes that are open on their right.
 abbrev pub right_spine : Tree → List ℕ
 right_spine (Atomic a) = []
 right_spine (Prefix s e) = sign_power s ∷ right_spine e
 right_spine (Suffixed a s) = []
 right_spine (Infix a o b) = right_power o ∷ right_spine b
 
--- each node on the left spine has a left power of at least m
+-- Of a right operand: each operator on its left spine has a left power of at least m.
 abbrev pub AtLeast : ℕ → Tree → Type 0
 AtLeast m t = AllByRecursion (λ p. m ≤ p) (left_spine t)
 
--- each node on the right spine has a right power above p
+-- Of a left operand: each node on its right spine has a right power above p.
 abbrev pub Above : ℕ → Tree → Type 0
 Above p t = AllByRecursion (λ r. p < r) (right_spine t)
 
--- it is no name with its links
+-- it is no name with its links, whose subscripts are links
 abbrev pub NoChain : Tree → Type 0
 NoChain (Atomic (Chain n ls)) = ⊥
 NoChain _ = Unit {0}
 
--- the operand may stand before this suffix
+-- The operand may stand before this suffix. Before a subscript it has to be closed on its right.
 abbrev pub Carries : Tree → Suffix → Type 0
-Carries a (Test s n w g) = Above 5 a
-Carries a (Filter s w g) = Above 17 a
+Carries a (Test s n w g) = Above test_power a
+Carries a (Filter s w g) = Above filter_power a
 Carries a (Subscript s b) = (right_spine a ≡ []) × NoChain a
 
 -- it does not begin with a prefix

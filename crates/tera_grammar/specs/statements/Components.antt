@@ -6,21 +6,24 @@ use Rattle.tera_lexer.specs.Tokens as toks
 use Rattle.tera_lexer.specs.Tokens.{Items, Token, Ident}
 use Rattle.tera_base.specs.Values as values
 use Rattle.tera_base.specs.Values.{Val, Pairs, NoPairs, OnePair}
+use Rattle.tera_base.specs.Text.{key_text}
 use Rattle.tera_tree.specs.Tree.{Argument, Definition, Stmt}
 use Rattle.tera_tree.specs.declared.ast.ArgType.{ArgType}
-use Rattle.tera_grammar.specs.statements.Types.{type_of, type_named, has_type, key_text, Sorted, put_name}
+use Rattle.tera_grammar.specs.expressions.Output.{literal_value}
+use Rattle.tera_grammar.specs.expressions.Operators.{Minus}
+use Rattle.tera_grammar.specs.expressions.Concrete.{Lit, literal_token}
+use Rattle.tera_grammar.specs.expressions.Marks.{mark, LeftParen, RightParen, Comma, Colon, Spread, Assign, At, Operation}
+use Rattle.tera_grammar.specs.statements.Types.{type_of, type_named, has_type, Sorted, put_name}
 use Rattle.tera_grammar.specs.Words.{is_none}
 use Rattle.tera_grammar.specs.Words.{AreDistinct}
 use Rattle.tera_grammar.specs.statements.Names.{agrees}
-use Rattle.tera_grammar.specs.statements.Parts.{Name, name_yield, Quote, quote_yield, quote_text, symbol_yield, Tag, OpensComponent, AtEndComponent, opening, closing, finish}
+use Rattle.tera_grammar.specs.statements.Parts.{Name, name_yield, Tag, OpensComponent, AtEndComponent, opening, closing, finish}
 use Rattle.tera_grammar.specs.statements.Expressions.{Limits, ComponentName, component_yield, component_text, LiteralArray, IsLiteralArray, array_yield, array_output, LiteralMap, IsLiteralMap, map_yield, map_output}
 
--- the default of a parameter: one of the two truths; a string; a number; a minus and a number; a word for no
--- value; a constant array; a constant map
+-- the default of a parameter: a literal; a minus and a number; a word for no value; a constant array; a constant
+-- map
 pub data Default : Type 0 where
-  TruthDefault : Bool → Span → Default
-  TextDefault : Quote → Default
-  NumberDefault : ℤ → Span → Default
+  LiteralDefault : Lit → Span → Default
   MinusDefault : Span → ℤ → Span → Default
   NothingDefault : Name → Default
   ArrayDefault : LiteralArray → Default
@@ -33,18 +36,14 @@ FitsDefault l (MapDefault m) = IsLiteralMap l m
 FitsDefault l d = Unit {0}
 
 abbrev pub default_yield : Default → Items → Items
-default_yield (TruthDefault b span) items = Token (toks.Truth b) span items
-default_yield (TextDefault q) items = quote_yield q items
-default_yield (NumberDefault n span) items = Token (toks.Integer n) span items
-default_yield (MinusDefault minus n span) items = symbol_yield (codes "-") minus (Token (toks.Integer n) span items)
+default_yield (LiteralDefault x span) items = Token (literal_token x) span items
+default_yield (MinusDefault minus n span) items = mark (Operation Minus) minus (Token (toks.Integer n) span items)
 default_yield (NothingDefault n) items = name_yield n items
 default_yield (ArrayDefault a) items = array_yield a items
 default_yield (MapDefault m) items = map_yield m items
 
 abbrev pub default_output : Default → Val
-default_output (TruthDefault b span) = values.Truth b
-default_output (TextDefault q) = values.Text (quote_text q)
-default_output (NumberDefault n span) = values.I64 n
+default_output (LiteralDefault x span) = literal_value x
 default_output (MinusDefault minus n span) = values.I64 (neg_ℤ n)
 default_output (NothingDefault n) = values.Nothing
 default_output (ArrayDefault a) = values.Array (array_output a)
@@ -68,15 +67,15 @@ pub record Parameter : Type 0 where
 
 abbrev pub at_yield : Option Span → Items → Items
 at_yield None items = items
-at_yield (Some span) items = symbol_yield (codes "@") span items
+at_yield (Some span) items = mark At span items
 
 abbrev pub annotation_yield : Option Annotation → Items → Items
 annotation_yield None items = items
-annotation_yield (Some a) items = symbol_yield (codes ":") a.colon (name_yield a.name items)
+annotation_yield (Some a) items = mark Colon a.colon (name_yield a.name items)
 
 abbrev pub assigned_yield : Option Assigned → Items → Items
 assigned_yield None items = items
-assigned_yield (Some d) items = symbol_yield (codes "=") d.sign (default_yield d.value items)
+assigned_yield (Some d) items = mark Assign d.sign (default_yield d.value items)
 
 abbrev pub parameter_yield : Parameter → Items → Items
 parameter_yield p items = at_yield p.at (name_yield p.name (annotation_yield p.type (assigned_yield p.default items)))
@@ -132,10 +131,10 @@ pub data Parameters : Type 0 where
   More : Parameter → Span → Parameters → Parameters
 
 abbrev pub parameters_yield : Parameters → Items → Items
-parameters_yield (Closed end) items = symbol_yield (codes ")") end items
-parameters_yield (Rest dots n end) items = symbol_yield (codes "...") dots (name_yield n (symbol_yield (codes ")") end items))
-parameters_yield (Final p end) items = parameter_yield p (symbol_yield (codes ")") end items)
-parameters_yield (More p comma ps) items = parameter_yield p (symbol_yield (codes ",") comma (parameters_yield ps items))
+parameters_yield (Closed end) items = mark RightParen end items
+parameters_yield (Rest dots n end) items = mark Spread dots (name_yield n (mark RightParen end items))
+parameters_yield (Final p end) items = parameter_yield p (mark RightParen end items)
+parameters_yield (More p comma ps) items = parameter_yield p (mark Comma comma (parameters_yield ps items))
 
 -- the names of all of them
 abbrev pub parameter_names : Parameters → List (List ℕ)
@@ -187,7 +186,7 @@ component_if_any_yield (Some n) items = component_yield n items
 
 abbrev pub head_yield : Head → Items → Items
 head_yield h items =
-    opening OpensComponent h.tag (component_yield h.name (symbol_yield (codes "(") h.paren (parameters_yield h.parameters (metadata_yield h.metadata (finish h.tag items)))))
+    opening OpensComponent h.tag (component_yield h.name (mark LeftParen h.paren (parameters_yield h.parameters (metadata_yield h.metadata (finish h.tag items)))))
 
 abbrev pub ending_yield : Head → Items → Items
 ending_yield h items = closing AtEndComponent h.ending (component_if_any_yield h.end_name (finish h.ending items))

@@ -1,7 +1,7 @@
 -- What the statements use of expressions and of the parts that are read with them: their types, conditions,
 -- tokens, outputs and reading functions. The statements know no more of them than the names below and the laws
 -- in `proofs/statements/Expressions`.
-use Rattle.std.specs.Prelude.{ℕ, Bool, ◌||◌, List, codes}
+use Rattle.std.specs.Prelude.{ℕ, Bool, List}
 use Rattle.tera_base.specs.Values.{Vals, Pairs}
 use Rattle.tera_base.specs.declared.utils.Span.{Span}
 use Rattle.tera_lexer.specs.Tokens.{Items}
@@ -13,7 +13,6 @@ use Rattle.tera_grammar.specs.expressions.Output as outputs
 use Rattle.tera_grammar.specs.expressions.Conditions as conditions
 use Rattle.tera_grammar.specs.expressions.Companions as companions
 use Rattle.tera_grammar.specs.expressions.Companions.{Opened, Path, EachArgs, ArrayWithin}
-use Rattle.tera_grammar.specs.statements.Parts.{is_symbol, is_finish}
 pub use Rattle.tera_grammar.specs.Limits.{Limits}
 pub use Rattle.tera_grammar.specs.expressions.Concrete.{Attributes}
 pub use Rattle.tera_grammar.specs.expressions.Companions.{Filtering}
@@ -87,13 +86,3 @@ array_output a = a.1
 
 unfoldable pub map_output : LiteralMap → Pairs
 map_output m = m.1
-
--- what stands behind an expression of a tag, a filter, attributes
-abbrev pub ends_expression : Items → Bool
-ends_expression items = is_finish items
-
-abbrev pub ends_filter : Items → Bool
-ends_filter items = is_finish items || is_symbol (codes "|") items
-
-abbrev pub ends_attributes : Items → Bool
-ends_attributes items = is_symbol (codes "/") items || is_symbol (codes ">") items

@@ -1,12 +1,15 @@
--- The concrete templates, their tokens, and the conditions on them.
-use Rattle.std.specs.Prelude.{◌≡◌, ℕ, suc, max, Bool, true, false, ◌&&◌, List, [], ◌∷◌, codes, Option, Some, None}
+-- Templates as they are written, their tokens, what may stand where, the names that they define and how deep their
+-- bodies stand. Variable letters: t, e tags at the start and the end, b a body, n a name, l the limits.
+use Rattle.std.specs.Prelude.{◌≡◌, ℕ, suc, max, Bool, true, false, ◌&&◌, List, [], ◌∷◌, Option, Some, None}
 use Rattle.tera_base.specs.declared.utils.Span.{Span}
 use Rattle.tera_lexer.specs.Tokens as toks
 use Rattle.tera_lexer.specs.Tokens.{Items, Token}
 use Rattle.tera_lexer.specs.declared.lexer.delimiters.Kind.TheVariants as kind
+use Rattle.tera_grammar.specs.expressions.Concrete.{Quote, quote_token}
+use Rattle.tera_grammar.specs.expressions.Marks.{mark, Assign}
 use Rattle.tera_grammar.specs.Words.{is_reserved}
 use Rattle.tera_grammar.specs.statements.Names.{agrees, Names, no_names, block_named, component_named, ◌and_then◌}
-use Rattle.tera_grammar.specs.statements.Parts.{Edge, Name, name_yield, name_if_any_yield, Quote, quote_yield, symbol_yield, Tag, OpensSet, OpensInclude, OpensExtends, OpensBlock, OpensFor, OpensIf, OpensBreak, OpensContinue, AtElif, AtElse, AtEndBlock, AtEndFor, AtEndIf, opening, closing, finish}
+use Rattle.tera_grammar.specs.statements.Parts.{Edge, Name, name_yield, name_if_any_yield, Tag, OpensSet, OpensInclude, OpensExtends, OpensBlock, OpensFor, OpensIf, OpensBreak, OpensContinue, AtElif, AtElse, AtEndBlock, AtEndFor, AtEndIf, opening, closing, finish}
 use Rattle.tera_grammar.specs.statements.Expressions.{Limits, Expression, IsExpression, expression_yield, component_text}
 use Rattle.tera_grammar.specs.statements.Components.{Head, head_yield, ending_yield, FitsHead}
 use Rattle.tera_grammar.specs.statements.Heads.{Loop, loop_yield, FitsLoop, Capture, capture_yield, capture_end, FitsCapture}
@@ -15,15 +18,15 @@ use Rattle.tera_grammar.specs.statements.Heads.{Loop, loop_yield, FitsLoop, Capt
 -- that is set, for the whole template or not; a template that is included, and one that is extended; the end
 -- of a loop, and its next turn
 pub data Plain : Type 0 where
-  Words : List ℕ → Span → Plain
+  Text : List ℕ → Span → Plain
   Shown : Edge → Expression → Edge → Plain
   Set : Bool → Tag → Name → Span → Expression → Plain
-  Include : Tag → Quote → Plain
-  Extends : Tag → Quote → Plain
+  Include : Tag → Quote → Span → Plain
+  Extends : Tag → Quote → Span → Plain
   Break : Tag → Plain
   Continue : Tag → Plain
 
--- A template as it is written. A body is a list of items; an `if` has its branches in one list.
+-- A body is a list of items; an `if` has its branches in one list.
 mutual
   pub data Body : Type 0 where
     Done : Body
@@ -48,13 +51,13 @@ mutual
     Otherwise : Tag → Body → Else
 
 abbrev pub plain_yield : Plain → Items → Items
-plain_yield (Words text span) items = Token (toks.Content text) span items
+plain_yield (Text text span) items = Token (toks.Content text) span items
 plain_yield (Shown a e b) items =
     Token (toks.Start kind.Variable a.dash) a.span (expression_yield e (Token (toks.Finish kind.Variable b.dash) b.span items))
 plain_yield (Set global t n sign e) items =
-    opening (OpensSet global) t (name_yield n (symbol_yield (codes "=") sign (expression_yield e (finish t items))))
-plain_yield (Include t q) items = opening OpensInclude t (quote_yield q (finish t items))
-plain_yield (Extends t q) items = opening OpensExtends t (quote_yield q (finish t items))
+    opening (OpensSet global) t (name_yield n (mark Assign sign (expression_yield e (finish t items))))
+plain_yield (Include t q span) items = opening OpensInclude t (Token (quote_token q) span (finish t items))
+plain_yield (Extends t q span) items = opening OpensExtends t (Token (quote_token q) span (finish t items))
 plain_yield (Break t) items = opening OpensBreak t (finish t items)
 plain_yield (Continue t) items = opening OpensContinue t (finish t items)
 
@@ -83,7 +86,8 @@ abbrev mutual
   else_yield NoElse items = items
   else_yield (Otherwise t b) items = closing AtElse t (finish t (yield b items))
 
--- what stands around a statement
+-- what stands around a statement: the body of a loop, and its `else`; a block; a branch of an `if`; a component's
+-- definition; a body that is taken as a value
 pub data Context : Type 0 where
   InFor : Context
   InForElse : Context
@@ -92,7 +96,7 @@ pub data Context : Type 0 where
   InComponent : Context
   InCapture : Context
 
--- the innermost first
+-- all that stands around a statement, the innermost first
 abbrev pub Path : Type 0
 Path = List Context
 
@@ -107,20 +111,20 @@ abbrev pub may_block : Path → Bool
 may_block [] = true
 may_block (c ∷ path) = holds_blocks c && may_block path
 
--- the body of a `for` is around, with no capture between
+-- the body of a loop is around, with no capture between: there `break` and `continue` stand
 abbrev pub may_break : Path → Bool
 may_break [] = false
 may_break (InFor ∷ path) = true
 may_break (InCapture ∷ path) = false
 may_break (c ∷ path) = may_break path
 
--- the body of a `for` is around
+-- the body of a loop is around: there `loop` has fields
 abbrev pub in_loop : Path → Bool
 in_loop [] = false
 in_loop (InFor ∷ path) = true
 in_loop (c ∷ path) = in_loop path
 
--- no context is around
+-- nothing is around: there `extends` and definitions of components stand
 abbrev pub is_outermost : Path → Bool
 is_outermost [] = true
 is_outermost (c ∷ path) = false
@@ -130,11 +134,11 @@ text_if_any None = None
 text_if_any (Some n) = Some n.text
 
 abbrev pub FitsPlain : Limits → Path → Plain → Type 0
-FitsPlain l path (Words text span) = Unit {0}
+FitsPlain l path (Text text span) = Unit {0}
 FitsPlain l path (Shown a e b) = IsExpression l (in_loop path) e
 FitsPlain l path (Set global t n sign e) = (is_reserved n.text ≡ false) × IsExpression l (in_loop path) e
-FitsPlain l path (Include t q) = Unit {0}
-FitsPlain l path (Extends t q) = is_outermost path ≡ true
+FitsPlain l path (Include t q span) = Unit {0}
+FitsPlain l path (Extends t q span) = is_outermost path ≡ true
 FitsPlain l path (Break t) = may_break path ≡ true
 FitsPlain l path (Continue t) = may_break path ≡ true
 
@@ -182,7 +186,8 @@ abbrev mutual
   else_names NoElse = no_names
   else_names (Otherwise t b) = names b
 
--- The greatest height of a body directly inside; the branches of one statement lie on one level.
+-- The greatest height of a body directly inside, and 0 where there is none; the branches of one statement lie on one
+-- level.
 abbrev mutual
   pub inner : Body → ℕ
   inner Done = 0

@@ -1,39 +1,38 @@
--- The heads of statements: the names and the target of a loop, filters, and the tags around a body that is
--- taken as a value.
-use Rattle.std.specs.Prelude.{◌≡◌, Bool, true, false, List, [], ◌∷◌, codes, Some, None}
+-- What stands in the tags of a loop, filters, and the tags around a body that is taken as a value.
+use Rattle.std.specs.Prelude.{◌≡◌, Bool, true, false, List, [], ◌∷◌}
 use Rattle.std.specs.Str.{bytes_eq}
 use Rattle.tera_base.specs.declared.utils.Span.{Span}
-use Rattle.tera_lexer.specs.Tokens.{Items, Token, Ident}
+use Rattle.tera_lexer.specs.Tokens.{Items}
 use Rattle.tera_tree.specs.Tree as tree
 use Rattle.tera_tree.specs.Tree.{Expr, Stmt, Nodes}
 use Rattle.tera_tree.specs.View.{filters_of}
+use Rattle.tera_grammar.specs.expressions.Operators.{GreaterThan, In}
+use Rattle.tera_grammar.specs.expressions.Marks.{mark, Bar, Operation}
 use Rattle.tera_grammar.specs.Words.{is_reserved}
 use Rattle.tera_grammar.specs.expressions.Spans.{spanning}
-use Rattle.tera_grammar.specs.statements.Parts.{Name, name_yield, symbol_yield, Tag, OpensSet, OpensFilter, OpensCall, AtEndSet, AtEndFilter, AtEndCall, opening, closing, finish}
+use Rattle.tera_grammar.specs.expressions.Concrete.{Second, second_yield}
+use Rattle.tera_grammar.specs.expressions.Conditions.{AreVariables}
+use Rattle.tera_grammar.specs.expressions.Output.{key_variable, value_variable}
+use Rattle.tera_grammar.specs.statements.Parts.{Name, name_yield, Tag, OpensSet, OpensFilter, OpensCall, AtEndSet, AtEndFilter, AtEndCall, opening, closing, finish}
 use Rattle.tera_grammar.specs.statements.Expressions.{Limits, Expression, IsExpression, expression_yield, expression_output, Filtering, IsFilter, filter_yield, filter_output, Attributes, AreAttributes, attributes_yield, attributes_output, ComponentName, component_yield, component_text}
 
--- the head of a loop: the name of its value, or of its key and its value, the word `in`, and its target
-pub data Loop : Type 0 where
-  Over : Name → Span → Expression → Loop
-  OverPairs : Name → Span → Name → Span → Expression → Loop
-
-abbrev pub in_yield : Span → Items → Items
-in_yield span items = Token (Ident (codes "in")) span items
+-- the head of a loop: its variables, which are those of a comprehension; the word `in`; and its target
+pub record Loop : Type 0 where
+  pub first : Name
+  pub second : Second
+  pub word : Span
+  pub target : Expression
 
 abbrev pub loop_yield : Loop → Items → Items
-loop_yield (Over value word target) items = name_yield value (in_yield word (expression_yield target items))
-loop_yield (OverPairs key comma value word target) items =
-    name_yield key (symbol_yield (codes ",") comma (name_yield value (in_yield word (expression_yield target items))))
+loop_yield lp items = name_yield lp.first (second_yield lp.second (mark (Operation In) lp.word (expression_yield lp.target items)))
 
--- no name is reserved, and the target is in the loop
+-- no variable is reserved, and the target is in the loop
 abbrev pub FitsLoop : Limits → Loop → Type 0
-FitsLoop l (Over value word target) = (is_reserved value.text ≡ false) × IsExpression l true target
-FitsLoop l (OverPairs key comma value word target) =
-    (is_reserved key.text ≡ false) × (is_reserved value.text ≡ false) × IsExpression l true target
+FitsLoop l lp = AreVariables lp.first lp.second × IsExpression l true lp.target
 
 abbrev pub loop_output : Loop → Nodes → Nodes → Stmt
-loop_output (Over value word target) body other = tree.ForLoop None value.text (expression_output true target) body other
-loop_output (OverPairs key comma value word target) body other = tree.ForLoop (Some key.text) value.text (expression_output true target) body other
+loop_output lp body other =
+    tree.ForLoop (key_variable lp.first lp.second) (value_variable lp.first lp.second) (expression_output true lp.target) body other
 
 -- filters, each behind its bar
 pub data Filters : Type 0 where
@@ -42,7 +41,7 @@ pub data Filters : Type 0 where
 
 abbrev pub filters_yield : Filters → Items → Items
 filters_yield NoFilters items = items
-filters_yield (Piped bar f fs) items = symbol_yield (codes "|") bar (filter_yield f (filters_yield fs items))
+filters_yield (Piped bar f fs) items = mark Bar bar (filter_yield f (filters_yield fs items))
 
 abbrev pub AreFilters : Limits → Bool → Filters → Type 0
 AreFilters l in_loop NoFilters = Unit {0}
@@ -63,12 +62,12 @@ abbrev pub capture_yield : Capture → Items → Items
 capture_yield (SetBody global t n fs e) items = opening (OpensSet global) t (name_yield n (filters_yield fs (finish t items)))
 capture_yield (Section t f fs e) items = opening OpensFilter t (filter_yield f (filters_yield fs (finish t items)))
 capture_yield (CallBody t n a last e m end) items =
-    opening OpensCall t (component_yield n (attributes_yield a (symbol_yield (codes ">") last (finish t items))))
+    opening OpensCall t (component_yield n (attributes_yield a (mark (Operation GreaterThan) last (finish t items))))
 
 abbrev pub capture_end : Capture → Items → Items
 capture_end (SetBody global t n fs e) items = closing AtEndSet e (finish e items)
 capture_end (Section t f fs e) items = closing AtEndFilter e (finish e items)
-capture_end (CallBody t n a last e m end) items = closing AtEndCall e (component_yield m (symbol_yield (codes ">") end (finish e items)))
+capture_end (CallBody t n a last e m end) items = closing AtEndCall e (component_yield m (mark (Operation GreaterThan) end (finish e items)))
 
 abbrev pub FitsCapture : Limits → Bool → Capture → Type 0
 FitsCapture l in_loop (SetBody global t n fs e) = (is_reserved n.text ≡ false) × AreFilters l in_loop fs

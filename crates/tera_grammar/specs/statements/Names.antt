@@ -1,9 +1,9 @@
--- Lists of names with no two equal.
+-- The names that a template defines, and a name that is said again at the end of a statement.
 use Rattle.std.specs.Prelude.{ℕ, Bool, true, List, [], ◌∷◌, ◌++◌, Option, Some, None}
 use Rattle.std.specs.Str.{bytes_eq}
 use Rattle.tera_grammar.specs.Words.{AreDistinct}
 
--- a name at the end of a statement is that at its start
+-- the name at the end, if any, is that at the start
 abbrev pub agrees : List ℕ → Option (List ℕ) → Bool
 agrees name None = true
 agrees name (Some other) = bytes_eq other name

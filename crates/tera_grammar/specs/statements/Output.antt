@@ -1,13 +1,13 @@
--- What a template is read as.
+-- What a template is read as: its nodes, what it extends and what it defines.
 use Rattle.std.specs.Prelude.{ℕ, Bool, true, false, List, [], ◌∷◌, ◌++◌, Option, Some, None}
 use Rattle.tera_tree.specs.Tree as tree
 use Rattle.tera_tree.specs.Tree.{Stmt, Definition, Output}
 use Rattle.tera_tree.specs.View.{nodes_of}
-use Rattle.tera_grammar.specs.statements.Parts.{quote_text, quote_span}
+use Rattle.tera_grammar.specs.expressions.Output.{quote_text}
 use Rattle.tera_grammar.specs.statements.Expressions.{expression_output}
 use Rattle.tera_grammar.specs.statements.Components.{definition_of}
 use Rattle.tera_grammar.specs.statements.Heads.{loop_output, capture_output}
-use Rattle.tera_grammar.specs.statements.Grammar.{Plain, Words, Shown, Set, Include, Extends, Break, Continue, Body, Done, Then, Item, Single, Block, Define, Capturing, For, If, Branches, Elif, Last, Else, NoElse, Otherwise}
+use Rattle.tera_grammar.specs.statements.Grammar.{Plain, Text, Shown, Set, Include, Extends, Break, Continue, Body, Done, Then, Item, Single, Block, Define, Capturing, For, If, Branches, Elif, Last, Else, NoElse, Otherwise}
 
 -- what an item adds: nothing; a node; the parent; the definition of a component
 pub data Adds : Type 0 where
@@ -26,11 +26,11 @@ text_adds [] = AddsNothing
 text_adds (b ∷ bs) = AddsNode (tree.Content (b ∷ bs))
 
 abbrev pub plain_adds : Bool → Plain → Adds
-plain_adds in_loop (Words text span) = text_adds text
+plain_adds in_loop (Text text span) = text_adds text
 plain_adds in_loop (Shown a e b) = AddsNode (tree.Shown (expression_output in_loop e))
 plain_adds in_loop (Set global t n sign e) = AddsNode (tree.Set n.text (expression_output in_loop e) global)
-plain_adds in_loop (Include t q) = AddsNode (tree.Include (quote_text q) (quote_span q))
-plain_adds in_loop (Extends t q) = AddsParent (quote_text q)
+plain_adds in_loop (Include t q span) = AddsNode (tree.Include (quote_text q) span)
+plain_adds in_loop (Extends t q span) = AddsParent (quote_text q)
 plain_adds in_loop (Break t) = AddsNode tree.Break
 plain_adds in_loop (Continue t) = AddsNode tree.Continue
 

@@ -1,21 +1,14 @@
--- The parts of tags, and the tokens that they are.
-use Rattle.std.specs.Prelude.{ℕ, Bool, true, false, List, codes, Option, Some, None}
-use Rattle.std.specs.Str.{bytes_eq}
+-- The parts that all tags have: their markers, and the token that says what they do.
+use Rattle.std.specs.Prelude.{Bool, true, false, codes, Option, Some, None}
 use Rattle.tera_base.specs.declared.utils.Span.{Span}
-use Rattle.tera_lexer.specs.Tokens as toks
-use Rattle.tera_lexer.specs.Tokens.{Tok, Items, Ended, Failed, Token, Start, Finish, Ident, Str, Symbol}
+use Rattle.tera_lexer.specs.Tokens.{Tok, Items, Token, Start, Finish, Ident, Symbol}
 use Rattle.tera_lexer.specs.declared.lexer.delimiters.Kind.TheVariants as kind
-pub use Rattle.tera_grammar.specs.expressions.Concrete.{Name, named as name_yield}
+pub use Rattle.tera_grammar.specs.expressions.Concrete.{Name, name_yield}
 
 -- the marker at the start or the end of a tag: whether it has a dash, and where it stands
 pub record Edge : Type 0 where
   pub dash : Bool
   pub span : Span
-
--- a string without escapes, and one with some, by its value
-pub data Quote : Type 0 where
-  Simple : List ℕ → Span → Quote
-  Escaped : List ℕ → Span → Quote
 
 -- a tag of a statement: its start, where its first token stands, and its end
 pub record Tag : Type 0 where
@@ -96,36 +89,3 @@ finish t items = finish_yield t.finish items
 abbrev pub name_if_any_yield : Option Name → Items → Items
 name_if_any_yield None items = items
 name_if_any_yield (Some n) items = name_yield n items
-
-abbrev pub quote_yield : Quote → Items → Items
-quote_yield (Simple text span) items = Token (Str text) span items
-quote_yield (Escaped text span) items = Token (toks.Escaped text) span items
-
-abbrev pub quote_text : Quote → List ℕ
-quote_text (Simple text span) = text
-quote_text (Escaped text span) = text
-
-abbrev pub quote_span : Quote → Span
-quote_span (Simple text span) = span
-quote_span (Escaped text span) = span
-
--- an operator, by its source text
-abbrev pub symbol_yield : List ℕ → Span → Items → Items
-symbol_yield op span items = Token (Symbol op) span items
-
--- whether the next token is this operator, or the end of a tag
-abbrev pub is_symbol_token : List ℕ → Tok → Bool
-is_symbol_token op (Symbol text) = bytes_eq text op
-is_symbol_token op t = false
-
-abbrev pub is_symbol : List ℕ → Items → Bool
-is_symbol op (Token t span items) = is_symbol_token op t
-is_symbol op items = false
-
-abbrev pub is_finish_token : Tok → Bool
-is_finish_token (Finish kind dash) = true
-is_finish_token t = false
-
-abbrev pub is_finish : Items → Bool
-is_finish (Token t span items) = is_finish_token t
-is_finish items = false

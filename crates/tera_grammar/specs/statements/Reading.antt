@@ -1,23 +1,27 @@
--- Reading a template, as a function on tokens.
+-- Reading a template, as a function on tokens. A law says that it reads the templates and no others.
 use Rattle.std.specs.Prelude.{ℕ, zero, suc, Bool, true, false, not, List, [], ◌∷◌, codes, Option, Some, None}
 use Rattle.std.specs.Str.{bytes_eq}
 use Rattle.tera_base.specs.declared.utils.Span.{Span}
 use Rattle.tera_lexer.specs.Cursors.{size, is_end}
 use Rattle.tera_lexer.specs.Tokens.{Items}
+use Rattle.tera_grammar.specs.expressions.Reading.Front.{takes, taken_name, Takes, taken_quote}
+use Rattle.tera_grammar.specs.expressions.Operators.{GreaterThan}
+use Rattle.tera_grammar.specs.expressions.Marks.{Assign, Operation}
 use Rattle.tera_grammar.specs.Options.{◌>>=◌, guard}
 use Rattle.tera_grammar.specs.Words.{is_one_of}
 use Rattle.tera_grammar.specs.statements.Names.{agrees, Names, no_names, block_named, component_named, ◌and_then◌}
 use Rattle.tera_grammar.specs.statements.Parts.{Edge, Name, Tag, Opener, OpensSet, OpensInclude, OpensExtends, OpensBlock, OpensFor, OpensIf, OpensFilter, OpensComponent, OpensBreak, OpensContinue, OpensCall, AtElif, AtElse, AtEndSet, AtEndBlock, AtEndFor, AtEndIf, AtEndFilter, AtEndCall}
 use Rattle.tera_grammar.specs.statements.Expressions.{Limits, expression_of, Filtering, filter_of, Attributes, attributes_of, ComponentName, component_of, component_text}
 use Rattle.tera_grammar.specs.statements.Heads.{Filters, Capture, SetBody, Section, CallBody}
-use Rattle.tera_grammar.specs.statements.Grammar.{Plain, Words, Shown, Set, Include, Extends, Break, Continue, Body, Done, Then, Item, Single, Block, Define, Capturing, For, If, Branches, Elif, Last, Else, NoElse, Otherwise, InFor, InForElse, InBlock, InIf, InComponent, InCapture, Path, may_block, may_break, in_loop, is_outermost, text_if_any}
+use Rattle.tera_grammar.specs.statements.Grammar.{Plain, Text, Shown, Set, Include, Extends, Break, Continue, Body, Done, Then, Item, Single, Block, Define, Capturing, For, If, Branches, Elif, Last, Else, NoElse, Otherwise, InFor, InForElse, InBlock, InIf, InComponent, InCapture, Path, may_block, may_break, in_loop, is_outermost, text_if_any}
 use Rattle.tera_grammar.specs.statements.Top.{is_blank, is_kept}
-use Rattle.tera_grammar.specs.statements.Reading.Parts.{Takes, Front, Ends, Closes, Holds, Shows, Opens, Wrong, front, symbol, name_of, name_if_any, quote_of, finish_of, variable_end_of, tag, closed, closed_tag}
+use Rattle.tera_grammar.specs.statements.Reading.Parts.{Front, Ends, Closes, Holds, Shows, Opens, Wrong, front, name_if_any, finish_of, variable_end_of, tag, closed, closed_tag}
 use Rattle.tera_grammar.specs.statements.Reading.Heads.{free_name, loop_of, filters_of}
 use Rattle.tera_grammar.specs.statements.Reading.Components.{opened_of, ending_of}
 pub mod Parts
 pub mod Heads
 pub mod Components
+pub mod Loops
 
 -- Where the reading stands: the names so far, and the tokens that are not yet taken.
 pub record Place : Type 0 where
@@ -71,16 +75,16 @@ set_behind l self path global start first seen name items None =
 -- The statements, behind the first token of their tag.
 unfoldable pub set_of : Limits → Reader → Path → Bool → Edge → Span → Names → Items → Reads Item
 set_of l self path global start first seen items =
-    free_name items >>= λ n. set_behind l self path global start first seen n.0 n.1 (symbol (codes "=") n.1)
+    free_name items >>= λ n. set_behind l self path global start first seen n.0 n.1 (takes Assign n.1)
 
 unfoldable pub include_of : Edge → Span → Names → Items → Reads Item
 include_of start first seen items =
-    quote_of items >>= λ q. finish_of q.1 >>= λ f. Some (Single (Include (tag start first f.0) q.0), at seen f.1)
+    taken_quote items >>= λ q. finish_of q.1 >>= λ f. Some (Single (Include (tag start first f.0) q.0.0 q.0.1), at seen f.1)
 
 unfoldable pub extends_of : Path → Edge → Span → Names → Items → Reads Item
 extends_of path start first seen items =
-    quote_of items >>= λ q. guard (is_outermost path) >>= λ u. finish_of q.1 >>= λ f.
-    Some (Single (Extends (tag start first f.0) q.0), at seen f.1)
+    taken_quote items >>= λ q. guard (is_outermost path) >>= λ u. finish_of q.1 >>= λ f.
+    Some (Single (Extends (tag start first f.0) q.0.0 q.0.1), at seen f.1)
 
 unfoldable pub break_of : Path → (Tag → Plain) → Edge → Span → Names → Items → Reads Item
 break_of path make start first seen items =
@@ -94,7 +98,7 @@ block_end n items =
 
 unfoldable pub block_of : Reader → Path → Edge → Span → Names → Items → Reads Item
 block_of self path start first seen items =
-    guard (may_block path) >>= λ u. name_of items >>= λ n. guard (not (is_one_of seen.blocks n.0.text)) >>= λ v.
+    guard (may_block path) >>= λ u. taken_name items >>= λ n. guard (not (is_one_of seen.blocks n.0.text)) >>= λ v.
     finish_of n.1 >>= λ f. self (InBlock ∷ path) (at (seen and_then block_named n.0.text) f.1) >>= λ b.
     block_end n.0 b.1.tokens >>= λ e.
     Some (Block (tag start first f.0) n.0 b.0 e.0.0 e.0.1, at b.1.seen e.1)
@@ -116,11 +120,11 @@ section_of l self path start first seen items =
 unfoldable pub call_end : ComponentName → Items → Takes (Tag × ComponentName × Span)
 call_end n items =
     closed AtEndCall items >>= λ x. component_of x.1 >>= λ m. guard (bytes_eq (component_text m.0) (component_text n)) >>= λ u.
-    symbol (codes ">") m.1 >>= λ end. finish_of end.1 >>= λ f. Some ((tag x.0.0 x.0.1 f.0, m.0, end.0), f.1)
+    takes (Operation GreaterThan) m.1 >>= λ end. finish_of end.1 >>= λ f. Some ((tag x.0.0 x.0.1 f.0, m.0, end.0), f.1)
 
 unfoldable pub call_of : Limits → Reader → Path → Edge → Span → Names → Items → Reads Item
 call_of l self path start first seen items =
-    component_of items >>= λ n. attributes_of l (in_loop path) n.1 >>= λ a. symbol (codes ">") a.1 >>= λ last. finish_of last.1 >>= λ f.
+    component_of items >>= λ n. attributes_of l (in_loop path) n.1 >>= λ a. takes (Operation GreaterThan) a.1 >>= λ last. finish_of last.1 >>= λ f.
     self (InCapture ∷ path) (at seen f.1) >>= λ b. call_end n.0 b.1.tokens >>= λ e.
     Some (Capturing (CallBody (tag start first f.0) n.0 a.0 last.0 e.0.0 e.0.1 e.0.2) b.0, at b.1.seen e.1)
 
@@ -157,7 +161,7 @@ shown_of l path start seen items =
 unfoldable pub step : Limits → Reader → Path → Names → Front → Option (Option (Item × Place))
 step l self path seen Ends = Some None
 step l self path seen (Closes c start first items) = Some None
-step l self path seen (Holds text span items) = Some (Some (Single (Words text span), at seen items))
+step l self path seen (Holds text span items) = Some (Some (Single (Text text span), at seen items))
 step l self path seen (Shows start items) = shown_of l path start seen items >>= λ x. Some (Some x)
 step l self path seen (Opens o start first items) = tag_of l self path o start first seen items >>= λ x. Some (Some x)
 step l self path seen Wrong = None
@@ -191,14 +195,14 @@ behind_text true = Starting
 behind_text false = Standing
 
 abbrev pub from_start : Item → Phase
-from_start (Single (Extends t q)) = Extending
-from_start (Single (Words text span)) = behind_text (is_blank text)
+from_start (Single (Extends t q span)) = Extending
+from_start (Single (Text text span)) = behind_text (is_blank text)
 from_start (Define h b) = Starting
 from_start i = Standing
 
 abbrev pub next_phase : Phase → Item → Option Phase
 next_phase Starting i = Some (from_start i)
-next_phase Standing (Single (Extends t q)) = None
+next_phase Standing (Single (Extends t q span)) = None
 next_phase Standing i = Some Standing
 next_phase Extending i = guard (is_kept i) >>= λ u. Some Extending
 

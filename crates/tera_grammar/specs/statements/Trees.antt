@@ -1,4 +1,4 @@
--- What holds of the tree of every template.
+-- Words of a law: what holds of the tree of every template.
 use Rattle.std.specs.Prelude.{◌≡◌, ℕ, Bool, true, false, List, [], ◌∷◌, ◌++◌, map, Some}
 use Rattle.std.specs.List.{AllByRecursion}
 use Rattle.tera_tree.specs.Tree as tree

@@ -1,9 +1,8 @@
--- The types of a component's arguments, the texts of keys, and pairs in the order of their names.
+-- The types of a component's arguments, and pairs in the order of their names.
 use Rattle.std.specs.Prelude.{ℕ, Bool, true, false, List, [], ◌∷◌, Option, Some, None, map, if◌then◌else◌, codes}
 use Rattle.std.specs.Char.{to_ascii_lowercase}
 use Rattle.std.specs.FinMap.Entries.{put}
 use Rattle.std.specs.Cmp.Lexicographic.{slice_cmp}
-use Rattle.std.specs.Fmt.{signed_decimal}
 use Rattle.std.specs.Ordering.{nat_cmp}
 use Rattle.std.specs.Str.{bytes_eq}
 use Rattle.tera_base.specs.Values as values
@@ -59,13 +58,6 @@ is_of_type t u = false
 -- whether a value is of a type
 abbrev pub has_type : ArgType → Val → Bool
 has_type t v = is_of_type t (type_of v)
-
--- a key as it is printed
-abbrev pub key_text : KeyVal → List ℕ
-key_text (TextKey text) = text
-key_text (I64Key n) = signed_decimal n
-key_text (TruthKey true) = codes "true"
-key_text (TruthKey false) = codes "false"
 
 -- pairs in the order of their names
 abbrev pub Sorted : Type 0 → Type 0

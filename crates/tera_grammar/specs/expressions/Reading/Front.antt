@@ -6,9 +6,9 @@ use Rattle.tera_lexer.specs.Tokens as toks
 use Rattle.tera_lexer.specs.Tokens.{Tok, Items, Token, Ident, Symbol}
 use Rattle.tera_grammar.specs.expressions.Operators.{Mul, Div, Mod, Plus, Minus, FloorDiv, Power, LessThan, GreaterThan, LessThanOrEqual, GreaterThanOrEqual, Equal, NotEqual, And, Or, StrConcat, In}
 use Rattle.tera_grammar.specs.expressions.Marks.{Mark, mark_token, LeftParen, LeftBracket, QuestionBracket, LeftBrace, Dot, QuestionDot, Bar, Not, Is, If, Operation, Other}
-use Rattle.tera_grammar.specs.expressions.Concrete.{Name, Lit, Number, Quoted, Escaped, Truth, Op, Single, NotIn, Joint, plain_dot, optional_dot, Bracket, plain_bracket, optional_bracket}
+use Rattle.tera_grammar.specs.expressions.Concrete.{Name, Quote, Simple, Escaped, Lit, Number, Quoted, Truth, Op, Single, NotIn, Joint, plain_dot, optional_dot, Bracket, plain_bracket, optional_bracket}
 use Rattle.tera_grammar.specs.Options.{◌>>=◌}
-use Rattle.tera_grammar.specs.expressions.Powers.{op_left}
+use Rattle.tera_grammar.specs.expressions.Powers.{op_left, test_power, filter_power}
 
 -- Where the reading stands: how many links may still come, and the tokens that are not yet taken.
 pub record Place : Type 0 where
@@ -32,12 +32,20 @@ abbrev pub among : List Mark → Tok → Mark
 among [] t = Other
 among (m ∷ ms) t = cond (same_token t (mark_token m)) m (among ms t)
 
--- the span of a mark that the tokens begin with, and the tokens behind it
-abbrev pub takes : Mark → Items → Option (Span × Items)
+-- what the tokens begin with, and the tokens behind it
+abbrev pub Takes : Type 0 → Type 0
+Takes A = Option (A × Items)
+
+-- a mark
+abbrev pub begins : Mark → Items → Bool
+begins m (Token t s us) = same_token t (mark_token m)
+begins m _ = false
+
+abbrev pub takes : Mark → Items → Takes Span
 takes m (Token t s us) = cond (same_token t (mark_token m)) (Some (s, us)) None
 takes m _ = None
 
-abbrev pub moved : {A : Type 0} → ℕ → Option (A × Items) → Reads A
+abbrev pub moved : {A : Type 0} → ℕ → Takes A → Reads A
 moved k None = None
 moved k (Some x) = Some (x.0, at k x.1)
 
@@ -54,27 +62,39 @@ unfoldable pub bump : Place → Option Place
 bump p = lowered p.links >>= λ k. Some (at k p.tokens)
 
 -- a name
-abbrev pub taken_name : Items → Option (Name × Items)
+abbrev pub taken_name : Items → Takes Name
 taken_name (Token (Ident w) s us) = Some (record { text = w; span = s }, us)
 taken_name _ = None
 
 unfoldable pub name_of : Place → Reads Name
 name_of p = moved p.links (taken_name p.tokens)
 
--- a literal that is a key, and one that is a string
+-- what a token is: a literal, a string
 abbrev pub literal_of : Tok → Option Lit
 literal_of (toks.Integer n) = Some (Number n)
-literal_of (toks.Str text) = Some (Quoted text)
-literal_of (toks.Escaped text) = Some (Escaped text)
+literal_of (toks.Str text) = Some (Quoted (Simple text))
+literal_of (toks.Escaped text) = Some (Quoted (Escaped text))
 literal_of (toks.Truth b) = Some (Truth b)
 literal_of _ = None
 
-abbrev pub taken_literal : (Lit → Bool) → Items → Option ((Lit × Span) × Items)
-taken_literal test (Token t s us) = literal_of t >>= λ l. cond (test l) (Some ((l, s), us)) None
-taken_literal test _ = None
+abbrev pub quote_of : Tok → Option Quote
+quote_of (toks.Str text) = Some (Simple text)
+quote_of (toks.Escaped text) = Some (Escaped text)
+quote_of _ = None
 
-unfoldable pub literal_by : (Lit → Bool) → Place → Reads (Lit × Span)
-literal_by test p = moved p.links (taken_literal test p.tokens)
+-- what the first token is, with its span
+abbrev pub taken_as : {A : Type 0} → (Tok → Option A) → Items → Takes (A × Span)
+taken_as kind (Token t s us) = kind t >>= λ x. Some ((x, s), us)
+taken_as kind _ = None
+
+abbrev pub taken_quote : Items → Takes (Quote × Span)
+taken_quote items = taken_as quote_of items
+
+unfoldable pub literal_at : Place → Reads (Lit × Span)
+literal_at p = moved p.links (taken_as literal_of p.tokens)
+
+unfoldable pub quote_at : Place → Reads (Quote × Span)
+quote_at p = moved p.links (taken_quote p.tokens)
 
 -- how a link begins, with the tokens behind it; a call is none
 pub data Link : Type 0 where
@@ -119,8 +139,8 @@ lead_power (leads_condition s) = 0
 
 -- whether the power m keeps the suffix out; it never keeps a subscript out
 abbrev pub keeps_out : ℕ → Ending → Bool
-keeps_out m (ends_test s) = ltb 5 m
-keeps_out m (ends_filter s) = ltb 17 m
+keeps_out m (ends_test s) = ltb test_power m
+keeps_out m (ends_filter s) = ltb filter_power m
 keeps_out m (ends_subscript s) = false
 
 abbrev pub front_marks : List Mark

@@ -57,22 +57,28 @@ step self w m k (joins e us) = cond (ltb (lead_power e) m) (Some None) (grown (j
 step self w m k (closes e us) = cond (keeps_out m e) (Some None) (grown (close_of self w e (at k us)))
 step self w m k misplaced = cond (ltb 5 m) (Some None) None
 
-abbrev pub go_on : (Tree → Place → Reads Tree) → Tree → Place → Option (Growth × Place) → Reads Tree
-go_on again l p None = Some (l, p)
-go_on again l p (Some g) = again (grow l g.0) g.1
+-- What comes of an operand of any kind: it is all, or the reading goes on from a longer one.
+abbrev pub go_on : {X : Type 0} → (X → Growth → X) → (X → Place → Reads X) → X → Place → Option (Growth × Place) → Reads X
+go_on extend again x p None = Some (x, p)
+go_on extend again x p (Some g) = again (extend x g.0) g.1
 
 -- The first number bounds the turns. One more than the tokens is enough.
-unfoldable pub loop_by : ℕ → Reader → Room → ℕ → Tree → Place → Reads Tree
-loop_by zero self w m l p = None
-loop_by (suc n) self w m l p = step self w m p.links (front p.tokens) >>= λ g. go_on (loop_by n self w m) l p g
+unfoldable pub loop_by : {X : Type 0} → (X → Growth → X) → ℕ → Reader → Room → ℕ → X → Place → Reads X
+loop_by extend zero self w m x p = None
+loop_by extend (suc n) self w m x p =
+    step self w m p.links (front p.tokens) >>= λ g. go_on extend (loop_by extend n self w m) x p g
 
 -- The first number is how many expressions may still open.
 unfoldable pub expr : ℕ → Reader
 expr zero w m p = None
-expr (suc d) w m p = head_of (expr d) w p >>= λ h. loop_by (suc (size h.1.tokens)) (expr d) w m h.0 h.1
+expr (suc d) w m p = head_of (expr d) w p >>= λ h. loop_by grow (suc (size h.1.tokens)) (expr d) w m h.0 h.1
 
-unfoldable pub loop : ℕ → Room → ℕ → Tree → Place → Reads Tree
-loop d w m l p = loop_by (suc (size p.tokens)) (expr d) w m l p
+-- the turns from an operand on
+unfoldable pub loop_with : {X : Type 0} → (X → Growth → X) → ℕ → Room → ℕ → X → Place → Reads X
+loop_with extend d w m x p = loop_by extend (suc (size p.tokens)) (expr d) w m x p
+
+abbrev pub loop : ℕ → Room → ℕ → Tree → Place → Reads Tree
+loop d w m l p = loop_with grow d w m l p
 
 -- A reader that counts the links of each expression by itself, from all that may come.
 unfoldable pub fresh : ℕ → Reader → Reader

@@ -4,11 +4,11 @@ use Rattle.std.specs.Prelude.{ℕ, zero, suc, Bool, cond, Option, Some, None}
 use Rattle.tera_base.specs.declared.utils.Span.{Span}
 use Rattle.tera_lexer.specs.Cursors.{size}
 use Rattle.tera_grammar.specs.expressions.Marks.{Mark, LeftParen, RightBracket, LeftBrace, RightBrace, Comma, Colon, Dot, Spread, Assign}
-use Rattle.tera_grammar.specs.expressions.Concrete.{Name, Lit, Kind, of_arguments, of_items, of_entries, closing, Tree, Links, no_links, field, item, Sub, index, slice, Part, absent, present, Extra, no_extra, extra, Row, ended, only, then, Element, plain, spread, pair, argument, Args, no_args, args, Dotted, no_dots, dots, Attributes, no_attributes, bare, quoted, valued, spreading}
+use Rattle.tera_grammar.specs.expressions.Concrete.{Name, Quote, Kind, of_arguments, of_items, of_entries, closing, Tree, Links, no_links, field, item, Sub, index, slice, Part, absent, present, Extra, no_extra, extra, Row, ended, only, then, Element, plain, spread, pair, argument, Args, no_args, args, Dotted, no_dots, dots, Attributes, no_attributes, bare, quoted, valued, spreading}
 use Rattle.tera_grammar.specs.Words.{are_distinct}
-use Rattle.tera_grammar.specs.expressions.Conditions.{is_key, is_text, is_field_of, names}
+use Rattle.tera_grammar.specs.expressions.Conditions.{is_field_of, argument_names}
 use Rattle.tera_grammar.specs.Options.{◌>>=◌}
-use Rattle.tera_grammar.specs.expressions.Reading.Front.{Place, at, Reads, skip, lowered, bump, name_of, literal_by, Link, no_link, jointed, bracketed, called, link_of}
+use Rattle.tera_grammar.specs.expressions.Reading.Front.{Place, at, Reads, skip, lowered, bump, name_of, literal_at, quote_at, Link, no_link, jointed, bracketed, called, link_of}
 
 -- whether the expression stands in a loop, and how many subscripts and arrays may still open
 pub record Room : Type 0 where
@@ -72,7 +72,7 @@ item_at self w p None = self w 0 p >>= λ e. Some (plain e.0, e.1)
 
 abbrev pub entry_at : Reader → Room → Place → Reads Span → Reads Element
 entry_at self w p (Some x) = spread_at self w x.0 x.1
-entry_at self w p None = literal_by is_key p >>= λ l. skip Colon l.1 >>= λ s. self w 0 s.1 >>= λ e. Some
+entry_at self w p None = literal_at p >>= λ l. skip Colon l.1 >>= λ s. self w 0 s.1 >>= λ e. Some
     (pair l.0.0 l.0.1 s.0 e.0, e.1)
 
 unfoldable pub element_of : Reader → Room → Kind → Place → Reads Element
@@ -101,9 +101,9 @@ row_by (suc n) self w k p = row_at (row_by n self w k) self w k p (skip (closing
 unfoldable pub row_of : Reader → Room → Kind → Place → Reads Row
 row_of self w k p = row_by (suc (size p.tokens)) self w k p
 
--- arguments with distinct names
+-- arguments with distinct argument_names
 unfoldable pub arguments_of : Reader → Room → Place → Reads Row
-arguments_of self w p = row_of self w of_arguments p >>= λ r. cond (are_distinct (names r.0)) (Some r) None
+arguments_of self w p = row_of self w of_arguments p >>= λ r. cond (are_distinct (argument_names r.0)) (Some r) None
 
 abbrev pub args_at : Reader → Room → Place → Reads Span → Reads Args
 args_at self w p None = Some (no_args, p)
@@ -142,7 +142,7 @@ unfoldable pub dotted_of : Place → Reads Dotted
 dotted_of p = dotted_by (suc (size p.tokens)) p
 
 -- the attributes of a component
-abbrev pub value_at : (Place → Reads Attributes) → Reader → Room → Name → Span → Place → Reads (Lit × Span) → Reads Attributes
+abbrev pub value_at : (Place → Reads Attributes) → Reader → Room → Name → Span → Place → Reads (Quote × Span) → Reads Attributes
 value_at more self w n s p (Some x) = more x.1 >>= λ r. Some (quoted n s x.0.0 x.0.1 r.0, r.1)
 value_at more self w n s p None =
     skip LeftBrace p >>= λ b. self w 0 b.1 >>= λ e. skip RightBrace e.1 >>= λ c. more c.1 >>= λ r. Some
@@ -150,7 +150,7 @@ value_at more self w n s p None =
 
 abbrev pub named_at : (Place → Reads Attributes) → Reader → Room → Name → Place → Reads Span → Reads Attributes
 named_at more self w n p None = more p >>= λ r. Some (bare n r.0, r.1)
-named_at more self w n p (Some x) = value_at more self w n x.0 x.1 (literal_by is_text x.1)
+named_at more self w n p (Some x) = value_at more self w n x.0 x.1 (quote_at x.1)
 
 abbrev pub attribute_at : (Place → Reads Attributes) → Reader → Room → Place → Reads Name → Reads Span → Reads Attributes
 attribute_at more self w p (Some n) b = named_at more self w n.0 n.1 (skip Assign n.1)

@@ -1,18 +1,19 @@
 -- Reading the definition of a component, but for its body.
-use Rattle.std.specs.Prelude.{ℕ, zero, suc, Bool, true, false, not, List, [], ◌∷◌, ◌++◌, codes, Option, Some, None}
-use Rattle.std.specs.Str.{bytes_eq}
+use Rattle.std.specs.Prelude.{ℕ, zero, suc, Bool, true, false, not, List, [], ◌∷◌, ◌++◌, Option, Some, None}
 use Rattle.tera_base.specs.declared.utils.Span.{Span}
 use Rattle.tera_lexer.specs.Cursors.{size}
-use Rattle.tera_lexer.specs.Tokens as toks
-use Rattle.tera_lexer.specs.Tokens.{Tok, Items, Token, Ident, Str, Integer, Truth, Symbol}
+use Rattle.tera_lexer.specs.Tokens.{Tok, Items, Token, Ident, Integer, Symbol}
+use Rattle.tera_grammar.specs.expressions.Reading.Front.{takes, begins, taken_name, Takes, among, literal_of}
+use Rattle.tera_grammar.specs.expressions.Operators.{Minus}
+use Rattle.tera_grammar.specs.expressions.Marks.{mark, Mark, LeftParen, RightParen, LeftBracket, LeftBrace, Comma, Colon, Spread, Assign, At, Operation}
 use Rattle.tera_grammar.specs.Words.{is_none}
 use Rattle.tera_grammar.specs.Options.{◌>>=◌, guard}
 use Rattle.tera_grammar.specs.Words.{is_one_of}
 use Rattle.tera_grammar.specs.statements.Names.{agrees}
-use Rattle.tera_grammar.specs.statements.Parts.{Edge, Name, Simple, Escaped, is_symbol, AtEndComponent}
+use Rattle.tera_grammar.specs.statements.Parts.{Edge, Name, AtEndComponent}
 use Rattle.tera_grammar.specs.statements.Expressions.{Limits, ComponentName, component_of, component_text, LiteralMap, array_of, map_of}
-use Rattle.tera_grammar.specs.statements.Components.{Default, TruthDefault, TextDefault, NumberDefault, MinusDefault, NothingDefault, ArrayDefault, MapDefault, Annotation, Assigned, Parameter, is_known, is_body, argument_of, default_has_type, Parameters, Closed, Rest, Final, More, component_texts, Head}
-use Rattle.tera_grammar.specs.statements.Reading.Parts.{Takes, symbol, name_of, finish_of, closed, tag}
+use Rattle.tera_grammar.specs.statements.Components.{Default, LiteralDefault, MinusDefault, NothingDefault, ArrayDefault, MapDefault, Annotation, Assigned, Parameter, is_known, is_body, argument_of, default_has_type, Parameters, Closed, Rest, Final, More, component_texts, Head}
+use Rattle.tera_grammar.specs.statements.Reading.Parts.{finish_of, closed, tag}
 
 -- the number behind a minus
 abbrev pub minus_at : Span → Tok → Span → Items → Takes Default
@@ -23,22 +24,20 @@ abbrev pub minus_of : Span → Items → Takes Default
 minus_of minus (Token t span items) = minus_at minus t span items
 minus_of minus items = None
 
--- a default that begins with an operator: with a minus, an opening bracket, an opening brace
-unfoldable pub default_by : Limits → List ℕ → Span → Items → Bool → Bool → Bool → Takes Default
-default_by l op span items true b c = minus_of span items
-default_by l op span items false true c = array_of l (Token (Symbol op) span items) >>= λ a. Some (ArrayDefault a.0, a.1)
-default_by l op span items false false true = map_of l (Token (Symbol op) span items) >>= λ m. Some (MapDefault m.0, m.1)
-default_by l op span items false false false = None
+-- a default that begins with a mark: with a minus, an opening bracket, an opening brace
+abbrev pub default_marks : List Mark
+default_marks = Operation Minus ∷ LeftBracket ∷ LeftBrace ∷ []
+
+unfoldable pub default_by : Limits → Mark → Span → Items → Takes Default
+default_by l (Operation Minus) span items = minus_of span items
+default_by l LeftBracket span items = array_of l (mark LeftBracket span items) >>= λ a. Some (ArrayDefault a.0, a.1)
+default_by l LeftBrace span items = map_of l (mark LeftBrace span items) >>= λ m. Some (MapDefault m.0, m.1)
+default_by l _ span items = None
 
 unfoldable pub default_at : Limits → Tok → Span → Items → Takes Default
-default_at l (Truth b) span items = Some (TruthDefault b span, items)
-default_at l (Str text) span items = Some (TextDefault (Simple text span), items)
-default_at l (toks.Escaped text) span items = Some (TextDefault (Escaped text span), items)
-default_at l (Integer n) span items = Some (NumberDefault n span, items)
 default_at l (Ident text) span items = guard (is_none text) >>= λ u. Some (NothingDefault (record { text = text; span = span }), items)
-default_at l (Symbol op) span items =
-    default_by l op span items (bytes_eq op (codes "-")) (bytes_eq op (codes "[")) (bytes_eq op (codes "{"))
-default_at l t span items = None
+default_at l (Symbol op) span items = default_by l (among default_marks (Symbol op)) span items
+default_at l t span items = literal_of t >>= λ x. Some (LiteralDefault x span, items)
 
 unfoldable pub default_of : Limits → Items → Takes Default
 default_of l (Token t span items) = default_at l t span items
@@ -52,7 +51,7 @@ at_in items (Some at) = (Some at.0, at.1)
 unfoldable pub annotation_in : Items → Option (Span × Items) → Takes (Option Annotation)
 annotation_in items None = Some (None, items)
 annotation_in items (Some colon) =
-    name_of colon.1 >>= λ n. guard (is_known (Some (record { colon = colon.0; name = n.0 }))) >>= λ u.
+    taken_name colon.1 >>= λ n. guard (is_known (Some (record { colon = colon.0; name = n.0 }))) >>= λ u.
     Some (Some (record { colon = colon.0; name = n.0 }), n.1)
 
 unfoldable pub assigned_in : Limits → Items → Option (Span × Items) → Takes (Option Assigned)
@@ -65,43 +64,43 @@ parameter at name type default = record { at = at; name = name; type = type; def
 -- a name that is neither `body` nor that of an earlier parameter
 abbrev pub fresh_name : List (List ℕ) → Items → Takes Name
 fresh_name seen items =
-    name_of items >>= λ n. guard (not (is_body n.0.text)) >>= λ u. guard (not (is_one_of seen n.0.text)) >>= λ v. Some n
+    taken_name items >>= λ n. guard (not (is_body n.0.text)) >>= λ u. guard (not (is_one_of seen n.0.text)) >>= λ v. Some n
 
 -- a parameter, behind `@`, if any
 unfoldable pub parameter_behind : Limits → List (List ℕ) → Option Span → Items → Takes Parameter
 parameter_behind l seen at items =
     fresh_name seen items >>= λ n.
-    annotation_in n.1 (symbol (codes ":") n.1) >>= λ t.
-    assigned_in l t.1 (symbol (codes "=") t.1) >>= λ d.
+    annotation_in n.1 (takes Colon n.1) >>= λ t.
+    assigned_in l t.1 (takes Assign t.1) >>= λ d.
     guard (default_has_type (argument_of (parameter at n.0 t.0 d.0)).typ (argument_of (parameter at n.0 t.0 d.0)).default) >>= λ u.
     Some (parameter at n.0 t.0 d.0, d.1)
 
 abbrev pub parameter_of : Limits → List (List ℕ) → Items → Takes Parameter
 parameter_of l seen items =
-    parameter_behind l seen (at_in items (symbol (codes "@") items)).0 (at_in items (symbol (codes "@") items)).1
+    parameter_behind l seen (at_in items (takes At items)).0 (at_in items (takes At items)).1
 
 -- behind a parameter: the closing parenthesis, or a comma and others
 unfoldable pub parameters_behind : (List (List ℕ) → Items → Takes Parameters) → List (List ℕ) → Parameter → Items → Option (Span × Items) → Takes Parameters
 parameters_behind again seen p items (Some end) = Some (Final p end.0, end.1)
 parameters_behind again seen p items None =
-    symbol (codes ",") items >>= λ comma. again (seen ++ p.name.text ∷ []) comma.1 >>= λ ps. Some (More p comma.0 ps.0, ps.1)
+    takes Comma items >>= λ comma. again (seen ++ p.name.text ∷ []) comma.1 >>= λ ps. Some (More p comma.0 ps.0, ps.1)
 
 -- the rest parameter, or another
 unfoldable pub parameters_at : (List (List ℕ) → Items → Takes Parameters) → Limits → List (List ℕ) → Items → Option (Span × Items) → Takes Parameters
 parameters_at again l seen items (Some dots) =
-    fresh_name seen dots.1 >>= λ n. symbol (codes ")") n.1 >>= λ end. Some (Rest dots.0 n.0 end.0, end.1)
+    fresh_name seen dots.1 >>= λ n. takes RightParen n.1 >>= λ end. Some (Rest dots.0 n.0 end.0, end.1)
 parameters_at again l seen items None =
-    parameter_of l seen items >>= λ p. parameters_behind again seen p.0 p.1 (symbol (codes ")") p.1)
+    parameter_of l seen items >>= λ p. parameters_behind again seen p.0 p.1 (takes RightParen p.1)
 
 -- none, where the closing parenthesis stands there
 unfoldable pub parameters_in : (List (List ℕ) → Items → Takes Parameters) → Limits → List (List ℕ) → Items → Option (Span × Items) → Takes Parameters
 parameters_in again l seen items (Some end) = Some (Closed end.0, end.1)
-parameters_in again l seen items None = parameters_at again l seen items (symbol (codes "...") items)
+parameters_in again l seen items None = parameters_at again l seen items (takes Spread items)
 
 -- The number bounds the parameters. One more than the tokens is enough.
 unfoldable pub parameters_by : ℕ → Limits → List (List ℕ) → Items → Takes Parameters
 parameters_by zero l seen items = None
-parameters_by (suc n) l seen items = parameters_in (parameters_by n l) l seen items (symbol (codes ")") items)
+parameters_by (suc n) l seen items = parameters_in (parameters_by n l) l seen items (takes RightParen items)
 
 unfoldable pub parameters_of : Limits → List (List ℕ) → Items → Takes Parameters
 parameters_of l seen items = parameters_by (suc (size items)) l seen items
@@ -122,8 +121,8 @@ pub record Opened : Type 0 where
 unfoldable pub opened_of : Limits → List (List ℕ) → Items → Takes Opened
 opened_of l seen items =
     component_of items >>= λ n. guard (not (is_one_of seen (component_text n.0))) >>= λ u.
-    symbol (codes "(") n.1 >>= λ paren. parameters_of l [] paren.1 >>= λ ps.
-    metadata_in l ps.1 (is_symbol (codes "{") ps.1) >>= λ m. finish_of m.1 >>= λ f.
+    takes LeftParen n.1 >>= λ paren. parameters_of l [] paren.1 >>= λ ps.
+    metadata_in l ps.1 (begins LeftBrace ps.1) >>= λ m. finish_of m.1 >>= λ f.
     Some (record { name = n.0; paren = paren.0; parameters = ps.0; metadata = m.0; finish = f.0 }, f.1)
 
 -- whether a name stands there

@@ -1,17 +1,11 @@
 -- Reading the parts of tags.
 use Rattle.std.specs.Prelude.{ℕ, true, false, if◌then◌else◌, List, [], ◌∷◌, Option, Some, None}
-use Rattle.std.specs.Str.{bytes_eq}
 use Rattle.tera_base.specs.declared.utils.Span.{Span}
-use Rattle.tera_lexer.specs.Tokens as toks
-use Rattle.tera_lexer.specs.Tokens.{Tok, Items, Ended, Failed, Token, Content, Start, Finish, Ident, Str, Symbol}
+use Rattle.tera_lexer.specs.Tokens.{Tok, Items, Ended, Failed, Token, Content, Start, Finish}
 use Rattle.tera_lexer.specs.declared.lexer.delimiters.Kind.TheVariants as kind
 use Rattle.tera_grammar.specs.Options.{◌>>=◌, guard}
-use Rattle.tera_grammar.specs.statements.Parts.{Edge, Name, Quote, Simple, Escaped, Tag, Opener, OpensSet, OpensInclude, OpensExtends, OpensBlock, OpensFor, OpensIf, OpensFilter, OpensComponent, OpensBreak, OpensContinue, OpensCall, opener_token, Closer, AtElif, AtElse, AtEndSet, AtEndBlock, AtEndFor, AtEndIf, AtEndFilter, AtEndComponent, AtEndCall, closer_token}
-pub use Rattle.tera_grammar.specs.expressions.Reading.Front.{same_token}
-
--- what is read, and the tokens behind it
-abbrev pub Takes : Type 0 → Type 0
-Takes A = Option (A × Items)
+use Rattle.tera_grammar.specs.statements.Parts.{Edge, Name, Tag, Opener, OpensSet, OpensInclude, OpensExtends, OpensBlock, OpensFor, OpensIf, OpensFilter, OpensComponent, OpensBreak, OpensContinue, OpensCall, opener_token, Closer, AtElif, AtElse, AtEndSet, AtEndBlock, AtEndFor, AtEndIf, AtEndFilter, AtEndComponent, AtEndCall, closer_token}
+use Rattle.tera_grammar.specs.expressions.Reading.Front.{same_token, taken_name, Takes}
 
 abbrev pub openers : List Opener
 openers =
@@ -73,49 +67,13 @@ front Ended = Ends
 front (Failed text span) = Wrong
 front (Token t span items) = front_at t span items
 
--- an operator, and a word
-abbrev pub symbol_at : List ℕ → Tok → Span → Items → Takes Span
-symbol_at op (Symbol text) span items = guard (bytes_eq text op) >>= λ u. Some (span, items)
-symbol_at op t span items = None
-
-abbrev pub symbol : List ℕ → Items → Takes Span
-symbol op (Token t span items) = symbol_at op t span items
-symbol op items = None
-
-abbrev pub word_at : List ℕ → Tok → Span → Items → Takes Span
-word_at word (Ident text) span items = guard (bytes_eq text word) >>= λ u. Some (span, items)
-word_at word t span items = None
-
-abbrev pub word : List ℕ → Items → Takes Span
-word text (Token t span items) = word_at text t span items
-word text items = None
-
--- a name
-abbrev pub name_at : Tok → Span → Items → Takes Name
-name_at (Ident text) span items = Some (record { text = text; span = span }, items)
-name_at t span items = None
-
-abbrev pub name_of : Items → Takes Name
-name_of (Token t span items) = name_at t span items
-name_of items = None
-
 -- a name, where one stands there
 abbrev pub name_if_found : Items → Option (Name × Items) → Option Name × Items
 name_if_found items None = (None, items)
 name_if_found items (Some n) = (Some n.0, n.1)
 
 abbrev pub name_if_any : Items → Option Name × Items
-name_if_any items = name_if_found items (name_of items)
-
--- a string
-abbrev pub quote_at : Tok → Span → Items → Takes Quote
-quote_at (Str text) span items = Some (Simple text span, items)
-quote_at (toks.Escaped text) span items = Some (Escaped text span, items)
-quote_at t span items = None
-
-abbrev pub quote_of : Items → Takes Quote
-quote_of (Token t span items) = quote_at t span items
-quote_of items = None
+name_if_any items = name_if_found items (taken_name items)
 
 -- the end of a tag, and of a variable tag
 abbrev pub finish_at : Tok → Span → Items → Takes Edge

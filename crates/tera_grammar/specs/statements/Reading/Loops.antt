@@ -1,4 +1,4 @@
--- What a loop has read so far, and what each item adds to a template.
+-- For the loops of a program: what has been read so far, and what each item adds to a template.
 use Rattle.std.specs.Prelude.{◌≡◌, ℕ, suc, Bool, true, false, List, [], ◌∷◌, ◌++◌, Option, Some, None}
 use Rattle.tera_base.specs.declared.utils.Span.{Span}
 use Rattle.tera_lexer.specs.Tokens.{Items}
