@@ -1,1 +1,17 @@
 pub mod Yields
+pub mod Going
+pub mod Fronts
+pub mod Joining
+pub mod Stacking
+pub mod Promised
+pub mod RowSteps
+pub mod Arguing
+pub mod ArgumentRows
+pub mod Listing
+pub mod Comprehending
+pub mod Constants
+pub mod Arraying
+pub mod Steps
+pub mod Slicing
+pub mod Linking
+pub mod Calling

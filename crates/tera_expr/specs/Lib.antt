@@ -1,3 +1,14 @@
 pub mod Concrete
 pub mod Reading
 pub mod Gives
+pub mod Rooms
+pub mod Taking
+pub mod Fronts
+pub mod Frames
+pub mod Promises
+pub mod Unfold
+pub mod Rows
+pub mod Elements
+pub mod Folding
+pub mod Chains
+pub mod Calls

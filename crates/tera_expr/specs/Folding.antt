@@ -1,0 +1,25 @@
+-- Items and entries that are constants.
+use Rattle.std.specs.Prelude.{Bool, true, false, List, [], ◌∷◌, Option, Some, None}
+use Rattle.tera_base.specs.Values.{Val}
+use Rattle.tera_tree.specs.Tree as tree
+use Rattle.tera_tree.specs.Tree.{Expr}
+use Rattle.tera_tree.specs.declared.ast.ArrayEntryOf.{ArrayEntryOf}
+use Rattle.tera_tree.specs.declared.ast.ArrayEntryOf.TheVariants as items
+
+-- the value of a constant
+abbrev pub constant_of : Expr → Option Val
+constant_of (tree.Const v s) = Some v
+constant_of _ = None
+
+abbrev pub option_list : {A : Type 0} → Option A → List A
+option_list (Some x) = x ∷ []
+option_list None = []
+
+-- the value of a constant item, alone
+abbrev pub item_values : ArrayEntryOf Expr → List Val
+item_values (items.Item e) = option_list (constant_of e)
+item_values (items.Spread e) = []
+
+abbrev pub is_constant_item : ArrayEntryOf Expr → Bool
+is_constant_item (items.Item (tree.Const v s)) = true
+is_constant_item _ = false

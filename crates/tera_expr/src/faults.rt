@@ -1,0 +1,128 @@
+//! The faults of expressions.
+
+ghost use Rattle.tera_lexer.specs.Cursors.{TellsAt};
+ghost use Rattle.tera_expr.specs.Taking.{Refuses};
+
+use crate::fixed::{Fixed, expect};
+use std::alloc::{AllocError, Global};
+use tera_base::{Error, Span};
+use tera_lexer::{Cursor, Token};
+
+/// A fault at the token taken last.
+#[tactic(auto, using(crate::proofs::Going::last_refused))]
+pub(crate) fn fault(alloc: Global, cursor: &Cursor<'_>, text: &str) -> Error
+    ensures { Refuses cursor.now result }
+{
+    Error::syntax_error(alloc, text, cursor.current_span())
+}
+
+/// A fault at the token taken last, whose text was made.
+#[tactic(auto, using(crate::proofs::Going::last_refused, crate::proofs::Going::memory_refused))]
+pub(crate) fn reported(
+    alloc: Global,
+    cursor: &Cursor<'_>,
+    message: Result<String, AllocError>,
+) -> Error
+    ensures { Refuses cursor.now result }
+{
+    Error::reported(alloc, message, cursor.current_span())
+}
+
+/// That more expressions or links are open than may be.
+pub(crate) fn too_complex(alloc: Global, cursor: &Cursor<'_>) -> Error
+    ensures { Refuses cursor.now result }
+{
+    fault(alloc, cursor, "The expression is too complex")
+}
+
+/// The fault of a token, which stands at the span, where another has to stand.
+pub(crate) fn unexpected(alloc: Global, token: &Token<'_>, wanted: &str, span: &Span) -> Error
+    ensures { TellsAt span.now result }
+{
+    let message = format!(in alloc; "Found {token} but expected {wanted}.");
+    Error::reported(alloc, message, span)
+}
+
+/// That a token begins no expression, which was taken.
+pub(crate) fn no_expression(alloc: Global, cursor: &Cursor<'_>, token: &Token<'_>) -> Error
+    ensures { Refuses cursor.now result }
+{
+    let message = format!(in alloc;
+        "Found {token} but expected one of: integer, string, bool, ident, `-`, `not`, `<`, `{{`, `[` or `(`"
+    );
+    reported(alloc, cursor, message)
+}
+
+/// That a token, which stands at the span, is no key of a map.
+pub(crate) fn no_key(alloc: Global, token: &Token<'_>, span: &Span) -> Error
+    ensures { TellsAt span.now result }
+{
+    let message = format!(in alloc;
+        "Found {token} but expected `...`, a string, an integer or a bool."
+    );
+    Error::reported(alloc, message, span)
+}
+
+/// That a token, which was taken, is no value of an attribute.
+pub(crate) fn no_attribute_value(alloc: Global, cursor: &Cursor<'_>, token: &Token<'_>) -> Error
+    ensures { Refuses cursor.now result }
+{
+    let message = format!(in alloc; "Expected \"string\" or {{expression}} but found {token}");
+    reported(alloc, cursor, message)
+}
+
+/// That no name stands behind the `<` of a component, which was taken last.
+pub(crate) fn no_component_name(alloc: Global, cursor: &Cursor<'_>) -> Error
+    ensures { Refuses cursor.now result }
+{
+    fault(
+        alloc,
+        cursor,
+        "Found `<` but expected identifier after it for component call. Use `<` for comparisons in proper context.",
+    )
+}
+
+/// That the next token does not end a component; it is told at the token before.
+#[tactic(auto, unfolding(crate::specs::Taking::Refuses), using(crate::proofs::Going::last_refused))]
+pub(crate) fn unclosed_component(alloc: Global, cursor: &mut Cursor<'_>) -> Error
+    ensures { Refuses cursor.old result }
+{
+    let last = cursor.current_span().copied();
+    match cursor.next_or_eoi() {
+        Ok((token, _)) => {
+            let message = format!(in alloc; "Found {token} but expected `/` or `>`");
+            Error::reported(alloc, message, &last)
+        }
+        Err(error) => error,
+    }
+}
+
+/// That a `not` stands behind an operand without `in`; it is taken.
+#[tactic(auto, using(crate::proofs::Going::refused_behind))]
+pub(crate) fn misplaced_not(alloc: Global, cursor: &mut Cursor<'_>) -> Error
+    ensures { Refuses cursor.old result }
+{
+    match expect(alloc, cursor, Fixed::Not) {
+        Ok(()) => fault(
+            alloc,
+            cursor,
+            "`not` is only valid here as part of `not in`",
+        ),
+        Err(error) => error,
+    }
+}
+
+/// That a prefix stands behind a prefix; it is taken.
+#[tactic(auto, unfolding(crate::specs::Taking::Refuses, crate::specs::Taking::Took), using(crate::proofs::Going::refused_behind))]
+pub(crate) fn consecutive(alloc: Global, cursor: &mut Cursor<'_>) -> Error
+    ensures { Refuses cursor.old result }
+{
+    match cursor.next_or_eoi() {
+        Ok((_, span)) => Error::syntax_error(
+            alloc,
+            "`-` and `not` cannot be used consecutively.",
+            &span,
+        ),
+        Err(error) => error,
+    }
+}

@@ -1,0 +1,180 @@
+//! Tokens that forms have at fixed places.
+
+ghost use Rattle.std.specs.Prelude.{◌≡◌, IfErr, IfOk};
+ghost use Rattle.tera_lexer.specs.Cursors.{TakesOne};
+ghost use Rattle.tera_lexer.specs.Seen.{seen};
+ghost use Rattle.tera_lexer.specs.Tokens.{Ident};
+ghost use Rattle.tera_grammar.specs.expressions.Marks.{mark_token};
+ghost use Rattle.tera_grammar.specs.expressions.Reading.Front.{begins, same_token, taken_name, takes};
+ghost use Rattle.tera_expr.specs.Taking.{Eats, EatsName, GivesAs, IsCounted, Refuses, Took, fixed_text, mark_of, name_at, place_at};
+
+use crate::faults::unexpected;
+use std::alloc::Global;
+use tera_base::{Error, Span};
+use tera_lexer::{Cursor, Token};
+
+/// A token that a form has at a fixed place.
+#[derive(Clone, Copy)]
+pub(crate) enum Fixed {
+    Comma,
+    Minus,
+    Assign,
+    Colon,
+    Dot,
+    Spread,
+    Slash,
+    GreaterThan,
+    LeftParen,
+    RightParen,
+    LeftBracket,
+    RightBracket,
+    LeftBrace,
+    RightBrace,
+    For,
+    In,
+    If,
+    Else,
+    Not,
+}
+
+impl Fixed {
+    /// What messages call it.
+    pub fn text(self) -> &'static str
+        ensures { result.now ≡ fixed_text self }
+    {
+        match self {
+            Fixed::Comma => ",",
+            Fixed::Minus => "-",
+            Fixed::Assign => "=",
+            Fixed::Colon => ":",
+            Fixed::Dot => ".",
+            Fixed::Spread => "...",
+            Fixed::Slash => "/",
+            Fixed::GreaterThan => ">",
+            Fixed::LeftParen => "(",
+            Fixed::RightParen => ")",
+            Fixed::LeftBracket => "[",
+            Fixed::RightBracket => "]",
+            Fixed::LeftBrace => "{",
+            Fixed::RightBrace => "}",
+            Fixed::For => "for",
+            Fixed::In => "in",
+            Fixed::If => "if",
+            Fixed::Else => "else",
+            Fixed::Not => "not",
+        }
+    }
+
+    /// Whether the token is this one.
+    fn is(self, token: &Token<'_>) -> bool
+        ensures { result ≡ same_token (seen token.now) (mark_token (mark_of self)) }
+    {
+        match token {
+            Token::Comma => matches!(self, Fixed::Comma),
+            Token::Minus => matches!(self, Fixed::Minus),
+            Token::Assign => matches!(self, Fixed::Assign),
+            Token::Colon => matches!(self, Fixed::Colon),
+            Token::Dot => matches!(self, Fixed::Dot),
+            Token::Spread => matches!(self, Fixed::Spread),
+            Token::Div => matches!(self, Fixed::Slash),
+            Token::GreaterThan => matches!(self, Fixed::GreaterThan),
+            Token::LeftParen => matches!(self, Fixed::LeftParen),
+            Token::RightParen => matches!(self, Fixed::RightParen),
+            Token::LeftBracket => matches!(self, Fixed::LeftBracket),
+            Token::RightBracket => matches!(self, Fixed::RightBracket),
+            Token::LeftBrace => matches!(self, Fixed::LeftBrace),
+            Token::RightBrace => matches!(self, Fixed::RightBrace),
+            Token::Ident(word) => self.is_word(word),
+            _ => false,
+        }
+    }
+
+    // Whether it is this word.
+    fn is_word(self, word: &str) -> bool
+        ensures { result ≡ same_token (Ident word.now) (mark_token (mark_of self)) }
+    {
+        match self {
+            Fixed::For => word == "for",
+            Fixed::In => word == "in",
+            Fixed::If => word == "if",
+            Fixed::Else => word == "else",
+            Fixed::Not => word == "not",
+            _ => false,
+        }
+    }
+}
+
+/// Whether the next token is this one.
+pub(crate) fn begins(cursor: &Cursor<'_>, wanted: Fixed) -> bool
+    ensures { result ≡ begins (mark_of wanted) cursor.now.left }
+{
+    match cursor.first() {
+        Some(token) => wanted.is(token),
+        None => false,
+    }
+}
+
+/// Takes the next token where it is this one.
+#[tactic(auto, unfolding(crate::specs::Taking::Took, crate::specs::Taking::Refuses))]
+pub(crate) fn eat(cursor: &mut Cursor<'_>, wanted: Fixed) -> bool
+    ensures { Eats result cursor.old cursor.new (takes (mark_of wanted) cursor.old.left) }
+{
+    match cursor.first() {
+        Some(token) if wanted.is(token) => cursor.next().is_ok(),
+        _ => false,
+    }
+}
+
+/// Takes the next token where it is a name.
+#[tactic(auto, unfolding(crate::specs::Taking::Took, crate::specs::Taking::Refuses))]
+pub(crate) fn eat_name<'a>(cursor: &mut Cursor<'a>) -> Option<&'a str>
+    ensures { EatsName result cursor.old cursor.new (taken_name cursor.old.left) }
+{
+    let Some(Token::Ident(_)) = cursor.first() else {
+        return None;
+    };
+    match cursor.next() {
+        Ok(Some((Token::Ident(name), _))) => Some(name),
+        _ => None,
+    }
+}
+
+/// Takes the next token, where one has to come.
+#[tactic(auto, unfolding(crate::specs::Taking::Took, crate::specs::Taking::Refuses), using(crate::proofs::Going::counted))]
+pub(crate) fn take<'a>(cursor: &mut Cursor<'a>) -> Result<(Token<'a>, Span), Error>
+    ensures takes { TakesOne cursor.old result cursor.new }
+    ensures number { IfOk result (λ p. IsCounted (seen p.0)) }
+    ensures refusal { IfErr result (Refuses cursor.old) }
+    ensures later { IfOk result (λ _. Took cursor.old cursor.new) }
+{
+    cursor.next_or_eoi()
+}
+
+/// Takes the next token, which has to be this one.
+#[tactic(auto, unfolding(crate::specs::Taking::Took, crate::specs::Taking::Refuses))]
+pub(crate) fn expect(alloc: Global, cursor: &mut Cursor<'_>, wanted: Fixed) -> Result<(), Error>
+    ensures gives { GivesAs (place_at cursor.new.span) result cursor.new.left (takes (mark_of wanted) cursor.old.left) }
+    ensures refusal { IfErr result (Refuses cursor.old) }
+    ensures later { IfOk result (λ _. Took cursor.old cursor.new) }
+{
+    let (token, span) = cursor.next_or_eoi()?;
+    if wanted.is(&token) {
+        Ok(())
+    } else {
+        Err(unexpected(alloc, &token, wanted.text(), &span))
+    }
+}
+
+/// Takes the next token, which has to be a name.
+#[tactic(auto, unfolding(crate::specs::Taking::Took, crate::specs::Taking::Refuses))]
+pub(crate) fn name<'a>(alloc: Global, cursor: &mut Cursor<'a>) -> Result<&'a str, Error>
+    ensures gives { GivesAs (name_at cursor.new.span) result cursor.new.left (taken_name cursor.old.left) }
+    ensures refusal { IfErr result (Refuses cursor.old) }
+    ensures later { IfOk result (λ _. Took cursor.old cursor.new) }
+{
+    let (token, span) = cursor.next_or_eoi()?;
+    match token {
+        Token::Ident(name) => Ok(name),
+        _ => Err(unexpected(alloc, &token, "identifier", &span)),
+    }
+}
