@@ -1,12 +1,22 @@
-//! Laws of the definitions: each function has the law as its promise and does nothing.
+//! Laws of the definitions, and what equality decides: each function has the law as its promise.
 
-ghost use Rattle.std.specs.Prelude.{◌≡◌, ℕ, List};
+ghost use Rattle.std.specs.Prelude.{◌≡◌, ◌↔◌, IsTrue, ℕ, List};
 ghost use Rattle.tera_lexer.specs.Marks.{Marks, IsValid};
 ghost use Rattle.tera_tree.specs.Tree.{Output};
+ghost use Rattle.tera_parser.specs.Outputs.{output_view};
 ghost use Rattle.tera_parser.specs.Template.{Derives};
+
+use crate::parsing::ParserOutput;
 
 /// No source has derivations with two outputs.
 pub fn one_output()
     ensures { (m : Marks) → IsValid m → (source : List ℕ) (one other : Output) →
         Derives m source one → Derives m source other → one ≡ other }
 {}
+
+/// Outputs are equal exactly where they mean the same, places included.
+pub fn same_output(a: &ParserOutput, b: &ParserOutput) -> bool
+    ensures { IsTrue result ↔ (output_view a.now ≡ output_view b.now) }
+{
+    a == b
+}

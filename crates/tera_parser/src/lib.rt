@@ -3,6 +3,7 @@
 
 mod build;
 pub mod laws;
+mod outputs;
 mod parsing;
 
 pub use parsing::{Parser, ParserOutput};
@@ -10,7 +11,7 @@ pub use parsing::{Parser, ParserOutput};
 /// Spans, errors and values.
 pub mod value {
     pub use tera_base::{
-        Error, ErrorKind, Key, Map, MapOf, Note, ReportError, Span, Spanned, Value,
+        Error, ErrorKind, Key, Map, MapOf, Note, ReportError, Span, Spanned, Value, ValueKind,
     };
 }
 

@@ -1,9 +1,8 @@
 use Rattle.std.proofs.Common.{◌≡◌, [], map, None, rules, sym, ap, ◌∙◌, subst}
+use Rattle.std.proofs.lemmas.Result.{err_from_is_err_and}
 use Rattle.tera_base.specs.Errors.{IsMemory}
 use Rattle.tera_lexer.specs.Marks.{IsValid}
 use Rattle.tera_lexer.specs.Tokens.{AreTokensOf}
-use Rattle.tera_lexer.specs.Left.{left_of}
-use Rattle.tera_lexer.specs.Steps.{whole_of}
 use Rattle.tera_tree.specs.View.{node_view, definition_view}
 use Rattle.tera_parser.specs.Template.{Derives}
 use Rattle.tera_parser.specs.Refusal.{Refuses}
@@ -18,22 +17,24 @@ valid c = subst (λ (j : Job). IsValid j.marks) c.self.view_is c.self.invariant
 -- the tokens that the cursor has left are those of the source
 are : (c : After-new-cursor) → AreTokensOf c.args.self.marks c.args.self.source c.new-cursor.result.left
 are c =
-    let given = subst (λ (j : Job). AreTokensOf j.marks j.source (left_of c.tokenize-tokens.result)) c.self.view_is c.tokenize-tokens.ensures.tokens in
+    let given = subst (λ (j : Job). AreTokensOf j.marks j.source c.tokenize-tokens.result.left) c.self.view_is c.tokenize-tokens.ensures.tokens in
     subst (AreTokensOf c.args.self.marks c.args.self.source) (sym c.new-cursor.ensures.left) given
 
 pub returns-in_err-nodes-clause-complete : goal.returns-in_err-nodes-clause-complete
 returns-in_err-nodes-clause-complete c = λ output d.
     let at = (goal.at.returns-in_err-nodes-clause-complete c).After-new-cursor in
     let fact : IsMemory c.in_err-nodes.field-0.0 = refused _ (valid at) _ _ (are at) c.in_err-nodes.field-0.0 c.in_err-nodes.ensures.err output d in
-    search rules
+    let p = err_from_is_err_and c.from_residual.result c.from_residual.ensures.1 in
+    rw (p.1, p.2) fact
 
 pub returns-in_err-nodes-clause-refusal : goal.returns-in_err-nodes-clause-refusal
 returns-in_err-nodes-clause-refusal c =
     let at = (goal.at.returns-in_err-nodes-clause-refusal c).After-new-cursor in
-    let whole = c.new-cursor.ensures.source ∙ ap whole_of c.tokenize-tokens.ensures.start ∙ ap (λ (j : Job). j.source) c.self.view_is in
+    let whole = c.new-cursor.ensures.source ∙ c.tokenize-tokens.ensures.source ∙ ap (λ (j : Job). j.source) c.self.view_is in
     let fact : Refuses c.args.self.marks c.args.self.source c.in_err-nodes.field-0.0 =
     refuses _ (valid at) _ _ (are at) _ whole c.in_err-nodes.field-0.0 c.in_err-nodes.ensures.refusal in
-    search rules
+    let p = err_from_is_err_and c.from_residual.result c.from_residual.ensures.1 in
+    rw (p.1, p.2) fact
 
 pub returns-in_err-nodes-clause-empty : goal.returns-in_err-nodes-clause-empty
 returns-in_err-nodes-clause-empty c = λ empty.
