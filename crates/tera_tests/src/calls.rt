@@ -26,6 +26,10 @@ fn spans_and_nodes(rt: HostRuntime) -> Result<(), Fail> {
 
 #[test]
 fn errors(rt: HostRuntime) -> Result<(), Fail> {
+    let ErrorKind::Message(message) = Error::message(rt.alloc(), "what").kind else {
+        panic!(rt; "memory is left");
+    };
+    assert_eq!(rt; message.as_str(), "what");
     let ErrorKind::SyntaxError(report) = Error::syntax_error(rt.alloc(), "why", &place()).kind
     else {
         panic!(rt; "memory is left");

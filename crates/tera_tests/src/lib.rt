@@ -19,3 +19,7 @@ mod shown;
 mod streams;
 #[cfg(test)]
 mod trees;
+#[cfg(test)]
+mod types;
+#[cfg(test)]
+mod values;

@@ -1,7 +1,7 @@
 //! Texts, comments, raw pieces and tags, between the default markers and others.
 
+use crate::markers::markers;
 use std::alloc::Global;
-use std::borrow::CowStr;
 use std::process::Abort;
 use std::test::Fail;
 use tera_base::ErrorKind;
@@ -43,18 +43,6 @@ pub(crate) fn expect_items(
     let shown = listing(alloc, source, Delimiters::default())?;
     assert_eq!(rt; shown.as_str(), wanted);
     Ok(())
-}
-
-// These markers, in the order of the fields.
-fn markers(texts: [&'static str; 6]) -> Delimiters {
-    Delimiters {
-        block_start: CowStr::Borrowed(texts[0]),
-        block_end: CowStr::Borrowed(texts[1]),
-        variable_start: CowStr::Borrowed(texts[2]),
-        variable_end: CowStr::Borrowed(texts[3]),
-        comment_start: CowStr::Borrowed(texts[4]),
-        comment_end: CowStr::Borrowed(texts[5]),
-    }
 }
 
 #[test]
@@ -264,52 +252,29 @@ fn lines_count_from_one_and_columns_in_characters(rt: HostRuntime) -> Result<(),
     Ok(())
 }
 
-// That the markers are refused by this text.
-fn expect_refusal(
-    rt: &impl Abort,
-    alloc: Global,
-    delimiters: &Delimiters,
-    message: &str,
-) -> Result<(), Fail> {
-    let Err(error) = delimiters.validate(alloc) else {
-        panic!(rt; "it is refused: {message}");
-    };
-    let ErrorKind::Message(told) = error.kind else {
-        panic!(rt; "memory is left");
-    };
-    assert_eq!(rt; told.as_str(), message);
-    Ok(())
+// Markers of which the block start is two blanks.
+fn blanks() -> Delimiters {
+    markers(["  ", "%}", "{{", "}}", "{#", "#}"])
 }
 
 #[test]
-fn the_first_wrong_length_is_told(rt: HostRuntime) -> Result<(), Fail> {
-    for (texts, name) in [
-        (["", "x", "x", "x", "x", "x"], "block_start"),
-        (["[[[", "x", "x", "x", "[[[", "x"], "block_start"),
-        (["日", "x", "x", "x", "x", "x"], "block_start"),
-        (["[[", "x", "x", "x", "x", "x"], "block_end"),
-        (["[[", "]]", "x", "x", "x", "x"], "variable_start"),
-        (["[[", "]]", "[[", "x", "x", "x"], "variable_end"),
-        (["[[", "]]", "[[", "]]", "x", "x"], "comment_start"),
-        (["[[", "]]", "[[", "]]", "[[", "x"], "comment_end"),
-    ] {
-        let message = format!(in rt.alloc(); "`{name}` delimiter must be 2 bytes long")?;
-        expect_refusal(&rt, rt.alloc(), &markers(texts), message.as_str())?;
+fn a_raw_body_of_blanks_between_block_starts_of_blanks(rt: HostRuntime) -> Result<(), Fail> {
+    let mut source = String::from_str(rt.alloc(), "  raw%}")?;
+    for _blank in 0..100000 {
+        source.push_str(" ")?;
     }
-    Ok(())
-}
-
-#[test]
-fn equal_starts_are_told_after_the_lengths(rt: HostRuntime) -> Result<(), Fail> {
-    for ([block, variable, comment], names) in [
-        (["[[", "[[", "[["], "`block_start` and `variable_start`"),
-        (["[[", "{{", "[["], "`block_start` and `comment_start`"),
-        (["{%", "[[", "[["], "`variable_start` and `comment_start`"),
-    ] {
-        let message = format!(in rt.alloc(); "{names} cannot have the same value")?;
-        let delimiters = markers([block, "é", variable, "é", comment, "é"]);
-        expect_refusal(&rt, rt.alloc(), &delimiters, message.as_str())?;
-    }
-    markers(["{%", "é", "{{", "é", "{#", "{#"]).validate(rt.alloc())?;
+    source.push_str("x")?;
+    let shown = listing(rt.alloc(), source.as_str(), blanks())?;
+    assert_eq!(rt; shown.as_str(), "0..2 unexpected end of raw block");
+    source.push_str("  endraw%}y")?;
+    let delimiters = blanks();
+    delimiters.validate(rt.alloc())?;
+    let mut tokens = tokenize(rt.alloc(), source.as_str(), delimiters);
+    let Some(Ok((Token::Content(body), span))) = tokens.next() else {
+        panic!(rt; "a raw piece comes first");
+    };
+    assert_eq!(rt; body.len(), 100001);
+    assert_eq!(rt; span.range, 0..100018);
+    assert!(rt; matches!(tokens.next(), Some(Ok((Token::Content("y"), _)))));
     Ok(())
 }

@@ -37,6 +37,8 @@ fn shows_trees(rt: HostRuntime) -> Result<(), Fail> {
             "text \"a\"\ntext \"  x  \"\ntext \"b\"\n",
         ),
         ("{{ a -}}\u{a0}b", "expr a\ntext \"b\"\n"),
+        ("{ {{ a }}", "text \"{ \"\nexpr a\n"),
+        ("a{", "text \"a{\"\n"),
         ("a\t\"\\\r }} {b", "text \"a\\t\\\"\\\\\\r }} {b\"\n"),
     ] {
         let mut written = Vec::new(rt.alloc());
@@ -62,6 +64,10 @@ fn shows_faults(rt: HostRuntime) -> Result<(), Fail> {
         (
             "{{ }}",
             "1:3 (3..5): Found `}}` but expected one of: integer, string, bool, ident, `-`, `not`, `<`, `{`, `[` or `(`",
+        ),
+        (
+            "x{{%}",
+            "1:3 (3..4): Found `%` but expected one of: integer, string, bool, ident, `-`, `not`, `<`, `{`, `[` or `(`",
         ),
         ("{{ a", "1:4 (3..4): Unexpected end of input"),
         ("é\n{{ é }}", "2:3 (6..6): Unexpected character"),

@@ -1,0 +1,30 @@
+//! The lexer for the benchmark in `bench`, which is no Rattle.
+#![tactic(auto)]
+
+use std::alloc::Global;
+use tera_lexer::{Delimiters, tokenize};
+
+/// How many tokens the source has, to its end or to its fault; none if it is no text.
+#[unsafe(no_mangle)]
+pub extern "C" fn tera_bench_tokens(alloc: Global, source: &[u8]) -> u64 {
+    let Ok(text) = str::from_utf8(source) else {
+        return 0;
+    };
+    let mut count = 0u64;
+    for item in tokenize(alloc, text, Delimiters::default()) {
+        if item.is_err() {
+            return count;
+        }
+        count = count.wrapping_add(1);
+    }
+    count
+}
+
+/// How many bytes the source has if it is a text; none else.
+#[unsafe(no_mangle)]
+pub extern "C" fn tera_bench_text(source: &[u8]) -> u64 {
+    match str::from_utf8(source) {
+        Ok(text) => text.len() as u64,
+        Err(_) => 0,
+    }
+}

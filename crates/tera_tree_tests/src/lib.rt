@@ -1,0 +1,15 @@
+//! Tests of trees that are made from their parts: printed texts, lines, and taking apart.
+#![tactic(auto)]
+
+#[cfg(test)]
+mod chains;
+#[cfg(test)]
+mod definitions;
+#[cfg(test)]
+mod lines;
+#[cfg(test)]
+mod making;
+#[cfg(test)]
+mod printed;
+#[cfg(test)]
+mod values;
