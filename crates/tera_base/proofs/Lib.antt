@@ -4,3 +4,4 @@ pub mod Showing
 pub mod Rows
 pub mod Puts
 pub mod Equals
+pub mod ContextViews

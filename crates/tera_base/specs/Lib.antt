@@ -9,3 +9,4 @@ pub mod Same
 pub mod SameLaws
 pub mod Kinds
 pub mod ErrorView
+pub mod Contexts

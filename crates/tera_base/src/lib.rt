@@ -1,6 +1,7 @@
 //! Spans, errors and values of the template engine Tera.
 #![tactic(auto)]
 
+mod contexts;
 mod copies;
 mod equality;
 mod errors;
@@ -10,6 +11,7 @@ mod show;
 mod utils;
 mod values;
 
+pub use contexts::Context;
 pub use errors::{Error, ErrorKind, Note, ReportError};
 pub use kinds::ValueKind;
 pub use utils::{Span, Spanned};
