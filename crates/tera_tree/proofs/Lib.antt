@@ -4,3 +4,7 @@ pub mod Copying
 pub mod Names
 pub mod Equals
 pub mod Defined
+pub mod Coming
+pub mod Refusals
+pub mod CallNames
+pub mod CallSteps

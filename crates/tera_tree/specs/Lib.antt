@@ -7,3 +7,6 @@ pub mod Same
 pub mod SameLaws
 pub mod Definitions
 pub mod DefinitionLaws
+pub mod Outcomes
+pub mod Calls
+pub mod Infos

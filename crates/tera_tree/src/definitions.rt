@@ -116,7 +116,9 @@ fn copy_arguments(
     Ok(copies)
 }
 
-fn copy_metadata(metadata: &BTreeMap<String, Value>) -> Result<BTreeMap<String, Value>, AllocError>
+pub(crate) fn copy_metadata(
+    metadata: &BTreeMap<String, Value>,
+) -> Result<BTreeMap<String, Value>, AllocError>
     ensures { IfOk result (λ c. map named_value c.entries ≡ map named_value metadata.now.entries) }
 {
     let copies = metadata.clone()?;

@@ -1,18 +1,23 @@
 //! The tree of a template of the engine Tera.
 #![tactic(auto)]
 
+mod argument_infos;
+mod arguments;
 mod ast;
 pub mod build;
+mod calls;
 mod copies;
 mod definitions;
 mod drops;
 mod equality;
+mod infos;
 pub mod laws;
 mod parts;
 mod read;
 mod show;
 mod types;
 
+pub use argument_infos::{ComponentArg, ComponentArgType};
 pub use ast::{
     ArgType, Array, ArrayEntry, ArrayEntryOf, ArrayOf, BinaryOperation, BinaryOperationOf,
     BinaryOperator, Block, BlockOf, BlockSet, ComponentArgument, ComponentCall,
@@ -22,4 +27,5 @@ pub use ast::{
     Ternary, TernaryOf, Test, TestOf, UnaryOperation, UnaryOperationOf, UnaryOperator, Var,
 };
 pub use drops::{dismantle, dismantle_definitions};
+pub use infos::ComponentInfo;
 pub use parts::{WithArguments, WithAttributes};

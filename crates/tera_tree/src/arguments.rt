@@ -1,0 +1,111 @@
+//! The arguments of a component: what one takes, and the texts of its refusals.
+
+ghost use Rattle.std.specs.Prelude.{◌≡◌, ℕ, List, IfOk, string_bytes};
+ghost use Rattle.tera_base.specs.Errors.{Says};
+ghost use Rattle.tera_base.specs.ValueView.{value_view};
+ghost use Rattle.tera_tree.specs.Calls.{is_of, type_text, wrong_type_text, missing_text, of_type, default_of};
+ghost use Rattle.tera_tree.specs.Outcomes.{ComesTo};
+ghost use Rattle.tera_tree.specs.View.{argument_view};
+
+use crate::ast::{ArgType, ComponentArgument};
+use std::alloc::{AllocError, Global};
+use tera_base::{Error, ErrorKind, Value};
+
+impl ComponentArgument {
+    /// Whether the value is of the argument's type; without a type each value is.
+    pub fn type_matches(&self, value: &Value) -> bool
+        ensures { result ≡ is_of self.now.typ (value_view value.now) }
+    {
+        match &self.typ {
+            Some(typ) => typ.matches_value(value),
+            None => true,
+        }
+    }
+
+    // What was passed, or found, where it is of the argument's type.
+    pub(crate) fn checked(&self, alloc: Global, name: &str, value: Value) -> Result<Value, Error>
+        ensures { ComesTo (λ v. (name.now, value_view v)) (λ o. o ≡ of_type name.now self.now.typ (value_view value)) result }
+    {
+        match &self.typ {
+            Some(typ) => {
+                if typ.matches_value(&value) {
+                    Ok(value)
+                } else {
+                    let message = wrong_type_message(alloc, name, &value, *typ);
+                    Err(told(message))
+                }
+            }
+            None => Ok(value),
+        }
+    }
+
+    // The default, and where there is none the refusal.
+    pub(crate) fn default_value(&self, alloc: Global, name: &str) -> Result<Value, Error>
+        ensures { ComesTo (λ v. (name.now, value_view v)) (λ o. o ≡ default_of name.now (argument_view self.now)) result }
+    {
+        match &self.default {
+            Some(value) => Ok(value.clone()?),
+            None => {
+                let message = missing_message(alloc, name, self.typ, self.implicit);
+                Err(told(message))
+            }
+        }
+    }
+}
+
+// An error with no place whose text was made, or `Memory` where it was not.
+pub(crate) fn told(message: Result<String, AllocError>) -> Error
+    ensures { (text : List ℕ) → IfOk message (λ m. string_bytes m ≡ text) → Says text result }
+{
+    match message {
+        Ok(message) => Error {
+            kind: ErrorKind::Message(message),
+        },
+        Err(error) => Error::from(error),
+    }
+}
+
+fn wrong_type_message(
+    alloc: Global,
+    name: &str,
+    value: &Value,
+    typ: ArgType,
+) -> Result<String, AllocError>
+    ensures { IfOk result (λ m. string_bytes m ≡ wrong_type_text name.now (value_view value.now) typ) }
+{
+    let kind = value.name();
+    let wanted = typ.as_str();
+    format!(in alloc;
+        "Component argument `{name}` (type: `{kind}`) does not match expected type: `{wanted}`"
+    )
+}
+
+fn missing_message(
+    alloc: Global,
+    name: &str,
+    typ: Option<ArgType>,
+    implicit: bool,
+) -> Result<String, AllocError>
+    ensures { IfOk result (λ m. string_bytes m ≡ missing_text name.now typ implicit) }
+{
+    let typ = type_message(alloc, typ)?;
+    if implicit {
+        format!(in alloc;
+            "Implicit argument `{name}`{typ} not found in context or passed directly."
+        )
+    } else {
+        format!(in alloc; "Argument `{name}`{typ} missing.")
+    }
+}
+
+fn type_message(alloc: Global, typ: Option<ArgType>) -> Result<String, AllocError>
+    ensures { IfOk result (λ m. string_bytes m ≡ type_text typ) }
+{
+    match typ {
+        Some(typ) => {
+            let name = typ.as_str();
+            format!(in alloc; " (type: `{name}`)")
+        }
+        None => Ok(String::new(alloc)),
+    }
+}
