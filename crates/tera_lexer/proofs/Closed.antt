@@ -1,11 +1,11 @@
 -- Tokens that leave no tag unclosed, and end in no fault, are those of pieces alone.
 use Rattle.std.proofs.Common.{◌≡◌, ℕ, Bool, true, false, List, [], ◌∷◌, ◌++◌, subst, refl}
-use Rattle.tera_lexer.specs.Marks.{Marks, start_marker, end_marker, dash_bytes}
-use Rattle.tera_lexer.specs.Lexeme.{Item, spelled}
-use Rattle.tera_lexer.specs.Division.{Piece, Text, Comment, Raw, Tag, Ending, Nothing, OpenTag, BadTag, OpenRaw, OpenComment}
-use Rattle.tera_lexer.specs.Trimming.{trims_start, trims_end}
-use Rattle.tera_lexer.specs.Tokens.{Items, Ended, lexemes, piece_tokens, ending_tokens, tokens_of}
-use Rattle.tera_lexer.specs.Lexed.{IsClosed}
+use Rattle.tera_lexer.specs.grammar.Marks.{Marks, start_marker, end_marker, dash_bytes}
+use Rattle.tera_lexer.specs.grammar.Lexeme.{Item, spelled}
+use Rattle.tera_lexer.specs.grammar.Division.{Piece, Text, Comment, Raw, Tag, Ending, Nothing, OpenTag, BadTag, OpenRaw, OpenComment}
+use Rattle.tera_lexer.specs.grammar.Trimming.{trims_start, trims_end}
+use Rattle.tera_lexer.specs.grammar.Tokens.{Items, Ended, lexemes, piece_tokens, ending_tokens, tokens_of}
+use Rattle.tera_lexer.specs.grammar.Lexed.{IsClosed}
 use Rattle.tera_lexer.proofs.Tilings.{lexeme_inside}
 
 lexemes_closed : (front : List ℕ) (is : List Item) (follows : List ℕ → Items) → IsClosed true (lexemes front is follows) → (f : List ℕ) × IsClosed true (follows f)

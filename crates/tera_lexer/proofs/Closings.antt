@@ -5,8 +5,8 @@ use Rattle.std.specs.List.{AllByRecursion, list_any}
 use Rattle.std.proofs.lemmas.Bool.{cases_Bool, eqb-true}
 use Rattle.std.proofs.lemmas.Bool.Decides.{Decides-eqb}
 use Rattle.std.proofs.lemmas.List.{drop_more, drop_all}
-use Rattle.tera_lexer.specs.Lexeme.{Inner, Plain, Escape, IsInner, written, has_escape}
-use Rattle.tera_lexer.specs.Front.{string_at, with_inner, closing_at, more}
+use Rattle.tera_lexer.specs.grammar.Lexeme.{Inner, Plain, Escape, IsInner, written, has_escape}
+use Rattle.tera_lexer.specs.reading.Front.{string_at, with_inner, closing_at, more}
 use Rattle.tera_lexer.proofs.Strings.{IsStringAt, string_stands}
 
 -- so many bytes further

@@ -2,15 +2,15 @@
 use Rattle.std.proofs.Common.{◌≡◌, ℕ, ◌<◌, ◌+◌, ◌^◌, length, false, List, Option, Some, None, Result, Ok, Err, ap, sym, ◌∙◌, refl, subst, arith}
 use Rattle.tera_base.specs.declared.utils.Span.{Span}
 use Rattle.tera_base.specs.declared.errors.Error.{Error}
-use Rattle.tera_lexer.specs.Place.{IsWithin}
-use Rattle.tera_lexer.specs.Tokens as toks
-use Rattle.tera_lexer.specs.Tokens.{Tok, Items, Ended, Failed}
-use Rattle.tera_lexer.specs.Stream.{Stream}
-use Rattle.tera_lexer.specs.Steps.{Stops, Steps}
-use Rattle.tera_lexer.specs.Seen.{seen}
-use Rattle.tera_lexer.specs.Cursors.{Sight, is_end, size}
-use Rattle.tera_lexer.specs.Lexed.{AreLexed}
-use Rattle.tera_lexer.specs.CursorView.{stopped_before, with_item, left_behind, in_sight, IsReadAhead, Follows, AreReadAhead, IsShown}
+use Rattle.tera_lexer.specs.grammar.Place.{IsWithin}
+use Rattle.tera_lexer.specs.grammar.Tokens as toks
+use Rattle.tera_lexer.specs.grammar.Tokens.{Tok, Items, Ended, Failed}
+use Rattle.tera_lexer.specs.reading.Stream.{Stream}
+use Rattle.tera_lexer.specs.code.Steps.{Stops, Steps}
+use Rattle.tera_lexer.specs.code.Seen.{seen}
+use Rattle.tera_lexer.specs.code.Cursors.{Sight, is_end, size}
+use Rattle.tera_lexer.specs.grammar.Lexed.{AreLexed}
+use Rattle.tera_lexer.specs.code.CursorView.{stopped_before, with_item, left_behind, in_sight, IsReadAhead, Follows, AreReadAhead, IsTokenAhead}
 use Rattle.tera_lexer.specs.declared.lexer.tokens.Token.{Token}
 use Rattle.tera_lexer.specs.declared.lexer.cursor.Cursor.TheInside.{Inside}
 use Rattle.tera_lexer.proofs.Tilings.{lexed_behind}
@@ -161,7 +161,7 @@ some_same e = cc
 some_none : {A B : Type 0} {a : A} → Some a ≡ None → B
 some_none e = cc
 
-pub shown_is : (item : Option (Result (Token × Span) Error)) (p : Token × Span) → IsShown item (Some p) → item ≡ Some (Ok p)
+pub shown_is : (item : Option (Result (Token × Span) Error)) (p : Token × Span) → IsTokenAhead item (Some p) → item ≡ Some (Ok p)
 shown_is None p is = some_none is
 shown_is (Some (Err e)) p is = some_none is
 shown_is (Some (Ok q)) p is = ap (λ k. Some (Ok k)) (sym (some_same is))

@@ -7,9 +7,9 @@ use Rattle.std.proofs.lemmas.Bool.Decides.{nat_tests}
 use Rattle.std.proofs.lemmas.List.{take_at, length-append, get_or_at}
 use Rattle.std.proofs.lemmas.List.Folds.{length-prefix_len}
 use Rattle.std.proofs.lemmas.Str.{IsUtf8-from_ascii, IsCharBoundary-from_take, IsCharBoundary-after_ascii, IsCharBoundary-before_ascii}
-use Rattle.tera_lexer.specs.Marks.{dash_bytes}
-use Rattle.tera_lexer.specs.Lexeme.{begins_name, goes_on_name, is_quote, Inner, written, quoted, Name, Number, Quoted, Operator, spelled, Unexpected, Unclosed, UnknownEscape, TooGreat, Float, told}
-use Rattle.tera_lexer.specs.Front.{Front, Reads, Breaks, run_of, behind_run}
+use Rattle.tera_lexer.specs.grammar.Marks.{dash_bytes}
+use Rattle.tera_lexer.specs.grammar.Lexeme.{begins_name, goes_on_name, is_quote, Inner, written, quoted, Name, Number, Quoted, Operator, spelled, Unexpected, Unclosed, UnknownEscape, TooGreat, Float, told}
+use Rattle.tera_lexer.specs.reading.Front.{Front, Reads, Breaks, run_of, behind_run}
 use Rattle.tera_lexer.proofs.Runs.{run_stands, run_splits}
 use Rattle.tera_lexer.proofs.Operators.{operator_ascii}
 use Rattle.tera_lexer.proofs.Fronts.{IsFront}
@@ -42,6 +42,9 @@ ascii_from_all [] all i = omega arith
 ascii_from_all (x ∷ xs) all zero = all.0
 ascii_from_all (x ∷ xs) all (suc i) = ascii_from_all xs all.1 i
 
+pub ascii_text : (xs : List ℕ) → AllByRecursion (λ b. b < 128) xs → IsUtf8 xs
+ascii_text xs all = IsUtf8-from_ascii xs (ascii_from_all xs all)
+
 -- a dash is ASCII
 pub dash_ascii : (dash : Bool) → AllByRecursion (λ b. b < 128) (dash_bytes dash)
 dash_ascii true = (omega arith, tt)
@@ -52,7 +55,7 @@ pub cut_behind_ascii : (bytes front rest : List ℕ) → IsUtf8 bytes → bytes 
 cut_behind_ascii bytes front rest utf8 e all =
     let fits : length front ≤ length bytes = omega (arith, ap length e, length-append front rest) in
     let cut : take (length front) bytes ≡ front = ap (take (length front)) e ∙ take_at front rest (length front) refl in
-    IsCharBoundary-from_take bytes (length front) utf8 fits (subst IsUtf8 (sym cut) (IsUtf8-from_ascii front (ascii_from_all front all)))
+    IsCharBoundary-from_take bytes (length front) utf8 fits (subst IsUtf8 (sym cut) (ascii_text front all))
 
 -- behind a run of ASCII
 pub run_cut : (p : ℕ → Bool) (bytes : List ℕ) → IsUtf8 bytes → ((b : ℕ) → p b ≡ true → b < 128) → IsCharBoundary bytes (prefix_len p bytes)

@@ -7,9 +7,9 @@ use Rattle.std.proofs.lemmas.Bool.{cases_Bool}
 use Rattle.std.proofs.lemmas.List.{drop-drop}
 use Rattle.std.proofs.lemmas.Str.{IsCharBoundary-from_rest, IsUtf8-append, IsUtf8-from_ascii}
 use Rattle.std.proofs.lemmas.Str.Ascii.{IsAscii-cons}
-use Rattle.tera_lexer.specs.Marks.{begins, dash_bytes, TakesDash}
-use Rattle.tera_lexer.specs.Front.{behind_dash}
-use Rattle.tera_lexer.specs.Markers.{marker_len, IsStartOf, IsEndOf}
+use Rattle.tera_lexer.specs.grammar.Marks.{begins, dash_bytes, TakesDash}
+use Rattle.tera_lexer.specs.reading.Front.{behind_dash}
+use Rattle.tera_lexer.specs.code.Markers.{marker_len, IsStartOf, IsEndOf}
 use Rattle.tera_lexer.proofs.Markers.{begins_splits, marker_cut, dash_stands}
 use Rattle.tera_lexer.proofs.Cuts.{cut_behind_ascii, dash_ascii}
 

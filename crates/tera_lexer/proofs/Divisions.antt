@@ -2,11 +2,11 @@
 use Rattle.std.proofs.Common.{◌≡◌, ◌≢◌, ℕ, zero, suc, ◌<◌, Bool, true, false, ◌||◌, List, [], ◌∷◌, ◌++◌, length, take, drop, Option, Some, None, ⊎_elim, ap, sym, ◌∙◌, refl, arith}
 use Rattle.std.proofs.lemmas.Bool.{cases_Bool, false_from_ne_true}
 use Rattle.std.proofs.lemmas.List.{drop_at, take_at, length-append}
-use Rattle.tera_lexer.specs.Marks.{Marks, IsValid, start_marker, end_marker, begins, NowhereIn, dash_bytes}
-use Rattle.tera_lexer.specs.Lexeme.{Item, Close, End, Open, Bad, IsInside}
-use Rattle.tera_lexer.specs.Raw.{WordTag, word_tag_bytes, raw_word, endraw_word, OpensRaw}
-use Rattle.tera_lexer.specs.Division.{is_at_start, EndsText, Piece, Text, Comment, Raw, Tag, Ending, Nothing, OpenTag, BadTag, OpenRaw, OpenComment, Starts, OpensTag, IsDivision}
-use Rattle.tera_lexer.specs.Front.{inside_of, find_marker, at_dash, behind_dash, behind_marker, word_tag_at, raw_end, tag_step, tag_front, comment_step, raw_step, block_step, text_len, text_step, division_by}
+use Rattle.tera_lexer.specs.grammar.Marks.{Marks, IsValid, start_marker, end_marker, begins, NowhereIn, dash_bytes}
+use Rattle.tera_lexer.specs.grammar.Lexeme.{Item, Close, End, Open, Bad, IsInside}
+use Rattle.tera_lexer.specs.grammar.Raw.{WordTag, word_tag_bytes, raw_word, endraw_word, OpensRaw}
+use Rattle.tera_lexer.specs.grammar.Division.{is_at_start, EndsText, Piece, Text, Comment, Raw, Tag, Ending, Nothing, OpenTag, BadTag, OpenRaw, OpenComment, Starts, OpensTag, IsDivision}
+use Rattle.tera_lexer.specs.reading.Front.{inside_of, find_marker, at_dash, behind_dash, behind_marker, word_tag_at, raw_end, tag_step, tag_front, comment_step, raw_step, block_step, text_len, text_step, division_by}
 use Rattle.tera_lexer.specs.declared.lexer.delimiters.Kind.{Kind}
 use Rattle.tera_lexer.specs.declared.lexer.delimiters.Kind.TheVariants.{Variable, Block}
 use Rattle.tera_lexer.proofs.Markers.{begins_splits, splits_begins, marker_stands, dash_found, behind_is, or_false}

@@ -8,8 +8,8 @@ use Rattle.std.proofs.lemmas.Bool.Decides.{nat_tests, Decides-eqb}
 use Rattle.std.proofs.lemmas.Str.{IsCharBoundary-end}
 use Rattle.std.proofs.lemmas.List.{append-nil}
 use Rattle.std.proofs.lemmas.List.Folds.{length-prefix_len}
-use Rattle.tera_lexer.specs.Lexeme.{StopsAt, Inner, Plain, Escape, IsInner, written, is_known, escaped, value_of, has_unknown_escape}
-use Rattle.tera_lexer.specs.Front.{run_of, behind_run, is_plain, unescaped, unknown_in}
+use Rattle.tera_lexer.specs.grammar.Lexeme.{StopsAt, Inner, Plain, Escape, IsInner, written, is_known, escaped, value_of, has_unknown_escape}
+use Rattle.tera_lexer.specs.reading.Front.{run_of, behind_run, is_plain, unescaped, unknown_in}
 use Rattle.tera_lexer.proofs.Runs.{run_stands, run_splits}
 use Rattle.tera_lexer.proofs.Closings.{not_equal}
 use Rattle.tera_lexer.proofs.Cuts.{cut_behind_ascii, cut_before_byte}

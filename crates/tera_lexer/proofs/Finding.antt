@@ -4,8 +4,8 @@ use Rattle.std.proofs.lemmas.Bool.{cases_Bool, cases_lt, false≢true}
 use Rattle.std.proofs.lemmas.List.{append-nil, drop_all, take_all, take_at, take-append-drop, drop-drop, length-append, length-drop, length-take-le}
 use Rattle.memchr.specs.Find.{OccursAt, FindsNeedle, Nowhere}
 use Rattle.memchr.proofs.lemmas.MatchLemmas.{OccursAt-from_part, OccursAt-split}
-use Rattle.tera_lexer.specs.Marks.{begins, NowhereIn}
-use Rattle.tera_lexer.specs.Front.{more, find_marker}
+use Rattle.tera_lexer.specs.grammar.Marks.{begins, NowhereIn}
+use Rattle.tera_lexer.specs.reading.Front.{more, find_marker}
 use Rattle.tera_lexer.proofs.Texts.{nowhere_before}
 use Rattle.tera_lexer.proofs.Markers.{begins_splits, splits_begins}
 

@@ -7,14 +7,14 @@ use Rattle.std.specs.Str.{IsCharBoundary}
 use Rattle.std.proofs.lemmas.Bool.Decides.{nat_tests, Decides-ltb}
 use Rattle.std.proofs.lemmas.List.{length-append, take_at}
 use Rattle.std.proofs.lemmas.List.Folds.{length-prefix_len}
-use Rattle.tera_lexer.specs.Marks.{begins}
-use Rattle.tera_lexer.specs.Lexeme.{begins_name, goes_on_name, is_quote, Inner, Plain, Escape, written, has_escape, has_unknown_escape, value_of, quoted, decimal, operator_at, Name, Number, Operator, Quoted, Float, TooGreat, UnknownEscape}
-use Rattle.tera_lexer.specs.Tokens.{Tok, name_token, unclosed}
-use Rattle.tera_lexer.specs.Tokens as toks
-use Rattle.tera_lexer.specs.Front.{Front, Reads, Breaks, run_of, behind_run, number_front, string_front, operator_front, front_of, string_at, closing_at, unknown_in}
+use Rattle.tera_lexer.specs.grammar.Marks.{begins}
+use Rattle.tera_lexer.specs.grammar.Lexeme.{begins_name, goes_on_name, is_quote, Inner, Plain, Escape, written, has_escape, has_unknown_escape, value_of, quoted, decimal, operator_at, Name, Number, Operator, Quoted, Float, TooGreat, UnknownEscape}
+use Rattle.tera_lexer.specs.grammar.Tokens.{Tok, name_token, unclosed}
+use Rattle.tera_lexer.specs.grammar.Tokens as toks
+use Rattle.tera_lexer.specs.reading.Front.{Front, Reads, Breaks, run_of, behind_run, number_front, string_front, operator_front, front_of, string_at, closing_at, unknown_in}
 use Rattle.tera_lexer.proofs.Escapes.{unknown_written}
-use Rattle.tera_lexer.specs.Found.{BeginsBy, IsOperatorOf, IsTokenAt, IsEscapedAt, IsFaultAt, IsFound, found_len}
-use Rattle.tera_lexer.specs.Seen.{seen}
+use Rattle.tera_lexer.specs.code.Found.{BeginsBy, IsOperatorOf, IsTokenAt, IsEscapedAt, IsFaultAt, IsFound, found_len}
+use Rattle.tera_lexer.specs.code.Seen.{seen}
 use Rattle.tera_lexer.specs.declared.lexer.tokens.Token.{Token}
 use Rattle.tera_lexer.specs.declared.lexer.lexeme.Found.{Found}
 use Rattle.tera_lexer.specs.declared.lexer.lexeme.Found.TheVariants as found

@@ -5,9 +5,9 @@ use Rattle.std.specs.Char.{is_ascii_digit}
 use Rattle.std.proofs.lemmas.Bool.{cases_Bool, false_from_ne_true}
 use Rattle.std.proofs.lemmas.Bool.Decides.{nat_tests, Decides-ltb}
 use Rattle.std.proofs.lemmas.List.{drop_at}
-use Rattle.tera_lexer.specs.Marks.{begins}
-use Rattle.tera_lexer.specs.Lexeme.{IsRun, begins_name, goes_on_name, is_quote, Inner, has_unknown_escape, written, quoted, operator_at, decimal, Lexeme, Name, Number, Quoted, Operator, spelled, AreDigits, IsQuoted, IsLexeme, Fault, Unexpected, Unclosed, UnknownEscape, TooGreat, Float, IsFault}
-use Rattle.tera_lexer.specs.Front.{Front, Reads, Breaks, run_of, behind_run, string_at, string_front, number_front, operator_front, front_of}
+use Rattle.tera_lexer.specs.grammar.Marks.{begins}
+use Rattle.tera_lexer.specs.grammar.Lexeme.{IsRun, begins_name, goes_on_name, is_quote, Inner, has_unknown_escape, written, quoted, operator_at, decimal, Lexeme, Name, Number, Quoted, Operator, spelled, AreDigits, IsQuoted, IsLexeme, Fault, Unexpected, Unclosed, UnknownEscape, TooGreat, Float, IsFault}
+use Rattle.tera_lexer.specs.reading.Front.{Front, Reads, Breaks, run_of, behind_run, string_at, string_front, number_front, operator_front, front_of}
 use Rattle.tera_lexer.proofs.Runs.{run_stands, run_splits, run_found, behind_found}
 use Rattle.tera_lexer.proofs.Markers.{begins_splits}
 use Rattle.tera_lexer.proofs.Strings.{IsStringAt, string_stands, string_found, unclosed_found}

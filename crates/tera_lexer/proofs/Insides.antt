@@ -3,9 +3,9 @@ use Rattle.std.proofs.Common.{◌≡◌, ℕ, zero, suc, ◌<◌, Bool, true, fa
 use Rattle.std.specs.Char.{is_ascii_whitespace}
 use Rattle.std.proofs.lemmas.Bool.{cases_Bool}
 use Rattle.std.proofs.lemmas.List.{append-nil, drop_at, length-append}
-use Rattle.tera_lexer.specs.Marks.{begins}
-use Rattle.tera_lexer.specs.Lexeme.{IsGap, Lexeme, Name, Number, Quoted, Operator, spelled, IsLexeme, Fault, Unexpected, Unclosed, UnknownEscape, TooGreat, Float, IsFault, Item, Close, End, Open, Bad, is_at_end, IsEnd, IsInside}
-use Rattle.tera_lexer.specs.Front.{Front, Reads, Breaks, run_of, behind_run, front_of, Closes, Stands, next_at, inside_step, inside_by}
+use Rattle.tera_lexer.specs.grammar.Marks.{begins}
+use Rattle.tera_lexer.specs.grammar.Lexeme.{IsGap, Lexeme, Name, Number, Quoted, Operator, spelled, IsLexeme, Fault, Unexpected, Unclosed, UnknownEscape, TooGreat, Float, IsFault, Item, Close, End, Open, Bad, is_at_end, IsEnd, IsInside}
+use Rattle.tera_lexer.specs.reading.Front.{Front, Reads, Breaks, run_of, behind_run, front_of, Closes, Stands, next_at, inside_step, inside_by}
 use Rattle.tera_lexer.proofs.Runs.{run_stands, run_splits, run_found, behind_found}
 use Rattle.tera_lexer.proofs.Markers.{begins_splits, splits_begins, or_false}
 use Rattle.tera_lexer.proofs.Operators.{operator_stands}

@@ -3,16 +3,16 @@ use Rattle.std.proofs.Common.{◌≡◌, ◌≢◌, ℕ, suc, ◌<◌, ◌≤◌
 use Rattle.std.specs.Char.{is_ascii_whitespace}
 use Rattle.std.proofs.lemmas.Bool.{cases_Bool}
 use Rattle.std.proofs.lemmas.List.{append-nil, length-append}
-use Rattle.tera_lexer.specs.Marks.{Marks, IsValid, start_marker, end_marker, begins, NowhereIn, dash_bytes}
-use Rattle.tera_lexer.specs.Place.{span_of}
-use Rattle.tera_lexer.specs.Lexeme.{StopsAt, IsGap, Lexeme, spelled, Fault, Item, Close, End, Open, Bad, is_at_end, IsEnd, IsInside}
-use Rattle.tera_lexer.specs.Raw.{WordTag, OpensRaw, IsBody, IsOpenBody}
-use Rattle.tera_lexer.specs.Division.{is_at_start, EndsText, Piece, Text, Comment, Raw, Tag, Ending, Nothing, OpenTag, BadTag, OpenRaw, OpenComment, Starts, OpensTag, IsPiece, IsDivision}
-use Rattle.tera_lexer.specs.Trimming.{ends_dashed, trims_start, trims_end, trimmed}
-use Rattle.tera_lexer.specs.Tokens.{Items, Ended, Failed, Token, Content, token_of, started, finished, failed, open_raw, open_comment, comment_bytes, raw_bytes, piece_tokens, tokens_of, AreTokensOf}
-use Rattle.tera_lexer.specs.Front.{Front, Reads, Breaks, front_of, Next, Ends, Closes, Stands, next_at, inside_step, inside_by, inside_of, division_of}
-use Rattle.tera_lexer.specs.State.{Reading}
-use Rattle.tera_lexer.specs.Left.{start_of, trims_behind, tokens_by, starts_dashed, left_outside, left_by, left_inside, left_in, ahead_of, left_of, whole_of, stream_of}
+use Rattle.tera_lexer.specs.grammar.Marks.{Marks, IsValid, start_marker, end_marker, begins, NowhereIn, dash_bytes}
+use Rattle.tera_lexer.specs.grammar.Place.{span_of}
+use Rattle.tera_lexer.specs.grammar.Lexeme.{StopsAt, IsGap, Lexeme, spelled, Fault, Item, Close, End, Open, Bad, is_at_end, IsEnd, IsInside}
+use Rattle.tera_lexer.specs.grammar.Raw.{WordTag, OpensRaw, IsBody, IsOpenBody}
+use Rattle.tera_lexer.specs.grammar.Division.{is_at_start, EndsText, Piece, Text, Comment, Raw, Tag, Ending, Nothing, OpenTag, BadTag, OpenRaw, OpenComment, Starts, OpensTag, IsPiece, IsDivision}
+use Rattle.tera_lexer.specs.grammar.Trimming.{ends_dashed, trims_start, trims_end, trimmed}
+use Rattle.tera_lexer.specs.grammar.Tokens.{Items, Ended, Failed, Token, Content, token_of, tag_start, tag_end, failed, open_raw, open_comment, comment_bytes, raw_bytes, piece_tokens, tokens_of, AreTokensOf}
+use Rattle.tera_lexer.specs.reading.Front.{Front, Reads, Breaks, front_of, Next, Ends, Closes, Stands, next_at, inside_step, inside_by, inside_of, division_of}
+use Rattle.tera_lexer.specs.reading.State.{Progress}
+use Rattle.tera_lexer.specs.reading.Left.{start_of, trims_behind, tokens_by, starts_dashed, left_outside, left_by, left_inside, left_in, ahead_of, left_of, whole_of, stream_of}
 use Rattle.tera_lexer.specs.declared.lexer.delimiters.Kind.{Kind}
 use Rattle.tera_lexer.proofs.Insides.{spelled_some, inside_stands, inside_found, at_gap, next_stands, next_closes}
 use Rattle.tera_lexer.proofs.Pieces.{end_two}
@@ -49,7 +49,7 @@ module _ (m : Marks) (valid : IsValid m) (kind : Kind) where
   -- from what comes next in a tag, behind front
   next_left : List ℕ → Next → Items
   next_left front Ends = Ended
-  next_left front (Closes dash rest) = finished m front kind dash (λ h. left_outside m h dash rest)
+  next_left front (Closes dash rest) = tag_end m front kind dash (λ h. left_outside m h dash rest)
   next_left front (Stands (Reads lexeme rest)) = Token (token_of lexeme) (span_of front (spelled lexeme)) (left_inside m kind (front ++ spelled lexeme) rest)
   next_left front (Stands (Breaks fault)) = failed front fault
 
@@ -122,7 +122,7 @@ module _ (m : Marks) (valid : IsValid m) (kind : Kind) where
     here_left : (next : Next) → next_at (end_marker kind m) at ≡ next → left_inside m kind front at ≡ next_left front next
     here_left next is = at_next front [] at at next refl (tt, stops) is ∙ ap (λ f. next_left f next) (append-nil front)
 
-    pub end_left : (dash : Bool) (rest : List ℕ) → IsEnd (end_marker kind m) dash at rest → left_inside m kind front at ≡ finished m front kind dash (λ h. left_outside m h dash rest)
+    pub end_left : (dash : Bool) (rest : List ℕ) → IsEnd (end_marker kind m) dash at rest → left_inside m kind front at ≡ tag_end m front kind dash (λ h. left_outside m h dash rest)
     unfolding next_left
     end_left dash rest is = here_left (Closes dash rest) (next_closes (end_marker kind m) dash at rest (end_two m valid kind) is)
 
@@ -179,34 +179,34 @@ module _ (m : Marks) (valid : IsValid m) where
   open_raw_left front trim dash opening bytes behind inside starts opens is = left_is front trim [] (OpenRaw dash) bytes (behind, inside, opening, starts, opens, is)
 
   tag_left : (kind : Kind) (front : List ℕ) (trim dash : Bool) (items : List Item) (close : Close) (bytes inside : List ℕ) → Starts (start_marker kind m) dash bytes inside → OpensTag m kind inside → IsInside (end_marker kind m) items close inside
-      → left_outside m front trim bytes ≡ started m front kind dash (λ f. left_by m kind f items close)
+      → left_outside m front trim bytes ≡ tag_start m front kind dash (λ f. left_by m kind f items close)
   tag_left kind front trim dash items (End gap end rest) bytes inside starts opens here = piece_left front trim bytes rest (Tag kind dash items gap end) (inside, starts, opens, here)
   tag_left kind front trim dash items (Open gap) bytes inside starts opens here = left_is front trim [] (OpenTag kind dash items gap) bytes (inside, starts, opens, here)
   tag_left kind front trim dash items (Bad gap fault at) bytes inside starts opens here = left_is front trim [] (BadTag kind dash items gap fault at) bytes (inside, starts, opens, here)
 
   pub start_left : (kind : Kind) (front : List ℕ) (trim dash : Bool) (bytes inside : List ℕ) → Starts (start_marker kind m) dash bytes inside → OpensTag m kind inside
-      → left_outside m front trim bytes ≡ started m front kind dash (λ f. left_inside m kind f inside)
+      → left_outside m front trim bytes ≡ tag_start m front kind dash (λ f. left_inside m kind f inside)
   start_left kind front trim dash bytes inside starts opens =
       tag_left kind front trim dash (inside_of (end_marker kind m) inside).0 (inside_of (end_marker kind m) inside).1 bytes inside starts opens (inside_stands (end_marker kind m) (suc (length inside)) inside (omega arith))
 
 -- where a reading is
-pub ahead_in : (r : Reading) (tag : Option Kind) → r.tag ≡ tag → ahead_of r ≡ left_in r.marks tag r.front r.trim r.rest
+pub ahead_in : (r : Progress) (tag : Option Kind) → r.tag ≡ tag → ahead_of r ≡ left_in r.marks tag r.front r.trim r.rest
 unfolding ahead_of
 ahead_in r tag e = ap (λ t. left_in r.marks t r.front r.trim r.rest) e
 
-pub going_is : (r : Reading) → r.failed ≡ false → left_of r ≡ ahead_of r
+pub going_is : (r : Progress) → r.failed ≡ false → left_of r ≡ ahead_of r
 going_is r going = rw going refl
 
-pub failed_is : (r : Reading) → r.failed ≡ true → left_of r ≡ Ended
+pub failed_is : (r : Progress) → r.failed ≡ true → left_of r ≡ Ended
 failed_is r over = rw over refl
 
-pub going_stream : (r : Reading) → r.failed ≡ false → stream_of r ≡ record { source = whole_of r; left = ahead_of r; stopped = None }
+pub going_stream : (r : Progress) → r.failed ≡ false → stream_of r ≡ record { source = whole_of r; left = ahead_of r; stopped = None }
 going_stream r going = rw going refl
 
-pub failed_stream : (r : Reading) → r.failed ≡ true → stream_of r ≡ record { source = whole_of r; left = Ended; stopped = Some (ahead_of r) }
+pub failed_stream : (r : Progress) → r.failed ≡ true → stream_of r ≡ record { source = whole_of r; left = Ended; stopped = Some (ahead_of r) }
 failed_stream r over = rw over refl
 
-pub ahead_failed : (r : Reading) → ahead_of (record r { failed = true }) ≡ ahead_of r
+pub ahead_failed : (r : Progress) → ahead_of (record r { failed = true }) ≡ ahead_of r
 unfolding ahead_of
 ahead_failed r = refl
 
@@ -215,7 +215,7 @@ unfolding ahead_of
 start_is m source = refl
 
 -- the tokens that are left at the start are those of the source, which are one list
-pub start_tokens : (m : Marks) → IsValid m → (source : List ℕ) (r : Reading) → r ≡ start_of m source → AreTokensOf m source (left_of r)
+pub start_tokens : (m : Marks) → IsValid m → (source : List ℕ) (r : Progress) → r ≡ start_of m source → AreTokensOf m source (left_of r)
 start_tokens m valid source r start = rw (ap left_of start ∙ start_is m source) (tokens_stand m valid source)
 
 pub tokens_one : (m : Marks) → IsValid m → (source : List ℕ) (one other : Items) → AreTokensOf m source one → AreTokensOf m source other → one ≡ other

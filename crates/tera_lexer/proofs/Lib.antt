@@ -18,6 +18,7 @@ pub mod Finds
 pub mod Texts
 pub mod Lefts
 pub mod Tilings
+pub mod Standing
 pub mod Closed
 pub mod Places
 pub mod Slices

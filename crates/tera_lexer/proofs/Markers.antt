@@ -6,9 +6,10 @@ use Rattle.std.proofs.lemmas.List.{take_at, drop_at, length-append, get_or-drop,
 use Rattle.std.proofs.lemmas.Slice.Eq.{starts_is}
 use Rattle.std.proofs.lemmas.Bool.Decides.{Decides-eqb}
 use Rattle.std.proofs.lemmas.Str.{IsCharBoundary-from_take, IsCharBoundary-start}
-use Rattle.tera_lexer.specs.Marks.{Marks, IsValid, AreTexts, begins, dash_bytes, TakesDash}
-use Rattle.tera_lexer.specs.Division.{is_at_start, Starts}
-use Rattle.tera_lexer.specs.Front.{at_dash, behind_dash, behind_marker}
+use Rattle.tera_lexer.specs.grammar.Marks.{Marks, IsValid, begins, dash_bytes, TakesDash}
+use Rattle.tera_lexer.specs.grammar.Division.{is_at_start, Starts}
+use Rattle.tera_lexer.specs.code.Markers.{AreStartTexts}
+use Rattle.tera_lexer.specs.reading.Front.{at_dash, behind_dash, behind_marker}
 use Rattle.std.proofs.lemmas.Bool.{cases_Bool, eqb-true, eq-eqb, ne_eqb, false≢true}
 
 -- a marker that begins the bytes stands before the rest of them, and the other way round
@@ -43,7 +44,7 @@ begin_cut bytes marker i lt text two h =
     let lead = (IsCharBoundary-start marker text).1 (omega arith) in
     (omega arith, λ in_range high. rw first (lead (rw first at high)))
 
-pub start_cut : (m : Marks) (bytes : List ℕ) (i : ℕ) → AreTexts m → IsValid m → i < length bytes → is_at_start m (drop i bytes) ≡ true → IsCharBoundary bytes i
+pub start_cut : (m : Marks) (bytes : List ℕ) (i : ℕ) → AreStartTexts m → IsValid m → i < length bytes → is_at_start m (drop i bytes) ≡ true → IsCharBoundary bytes i
 start_cut m bytes i texts valid lt h =
     ⊎_elim
     (λ v. begin_cut bytes m.variable_start i lt texts.variable_start valid.variable_start v)

@@ -2,14 +2,14 @@
 use Rattle.std.proofs.Common.{◌≡◌, ◌≤◌, ℕ, Bool, true, false, ◌&&◌, List, [], ◌∷◌, ◌++◌, length, drop, Option, Some, None, ap, sym, subst, ◌∙◌, refl, arith}
 use Rattle.std.proofs.lemmas.List.{drop_at, length-append}
 use Rattle.std.specs.Option.{is_some}
-use Rattle.tera_lexer.specs.Marks.{Marks, IsValid, end_marker, begins}
-use Rattle.tera_lexer.specs.Lexeme.{Item, Close, End, Open, Bad}
-use Rattle.tera_lexer.specs.Raw.{WordTag, word_tag_bytes, raw_word}
-use Rattle.tera_lexer.specs.Division.{Piece, Ending, Starts}
-use Rattle.tera_lexer.specs.Trimming.{trims_end}
-use Rattle.tera_lexer.specs.Front.{inside_of, find_marker, word_tag_at, RawEnd, raw_end, tag_step, comment_step, raw_step, block_step, division_by}
-use Rattle.tera_lexer.specs.Left.{starts_dashed}
-use Rattle.tera_lexer.specs.Markers.{IsWordTagOf, IsRawEndOf, closes_by, is_block_piece, is_comment}
+use Rattle.tera_lexer.specs.grammar.Marks.{Marks, IsValid, end_marker, begins}
+use Rattle.tera_lexer.specs.grammar.Lexeme.{Item, Close, End, Open, Bad}
+use Rattle.tera_lexer.specs.grammar.Raw.{WordTag, word_tag_bytes, raw_word}
+use Rattle.tera_lexer.specs.grammar.Division.{Piece, Ending, Starts}
+use Rattle.tera_lexer.specs.grammar.Trimming.{trims_end}
+use Rattle.tera_lexer.specs.reading.Front.{inside_of, find_marker, word_tag_at, RawEnd, raw_end, tag_step, comment_step, raw_step, block_step, division_by}
+use Rattle.tera_lexer.specs.reading.Left.{starts_dashed}
+use Rattle.tera_lexer.specs.code.Markers.{IsWordTagOf, IsRawEndOf, closes_by, is_block_piece, is_comment}
 use Rattle.tera_lexer.specs.declared.lexer.markers.WordTag.{WordTag as WordTagOfCode}
 use Rattle.tera_lexer.specs.declared.lexer.delimiters.Kind.{Kind}
 use Rattle.tera_lexer.specs.declared.lexer.delimiters.Kind.TheVariants.{Variable, Block}

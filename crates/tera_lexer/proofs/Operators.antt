@@ -5,9 +5,9 @@ use Rattle.std.specs.List.{AllByRecursion}
 use Rattle.std.specs.Char.{is_ascii_digit}
 use Rattle.std.proofs.lemmas.Bool.{cases_Bool}
 use Rattle.std.proofs.lemmas.Bool.Decides.{nat_tests, Decides-ltb}
-use Rattle.tera_lexer.specs.Marks.{begins}
-use Rattle.tera_lexer.specs.Front.{begins_long_operator}
-use Rattle.tera_lexer.specs.Lexeme.{is_short_operator, short_operator, first_of, long_operators, long_operator_at, operator_at, begins_name, is_quote}
+use Rattle.tera_lexer.specs.grammar.Marks.{begins}
+use Rattle.tera_lexer.specs.reading.Front.{begins_long_operator}
+use Rattle.tera_lexer.specs.grammar.Lexeme.{is_short_operator, short_operator, first_of, long_operators, long_operator_at, operator_at, begins_name, is_quote}
 use Rattle.tera_lexer.proofs.Markers.{begins_splits}
 
 pub digit_no_operator : (b : ℕ) (bs : List ℕ) → is_ascii_digit b ≡ true → operator_at (b ∷ bs) ≡ None

@@ -2,11 +2,11 @@
 use Rattle.std.proofs.Common.{◌≡◌, ◌≢◌, ℕ, suc, ◌<◌, ◌≤◌, Bool, false, List, [], ◌∷◌, ◌++◌, length, take, drop, Option, Some, None, ⊎_elim, ap, sym, ◌∙◌, refl, subst, arith}
 use Rattle.std.proofs.lemmas.Bool.{cases_Bool}
 use Rattle.std.proofs.lemmas.List.{take_at, length-append, take-append-drop}
-use Rattle.tera_lexer.specs.Marks.{Marks, IsValid, start_marker, end_marker, NowhereIn, dash_bytes}
-use Rattle.tera_lexer.specs.Lexeme.{Item, Close, End, Open, Bad, IsInside}
-use Rattle.tera_lexer.specs.Raw.{WordTag, word_tag_bytes, raw_word, endraw_word, OpensRaw, IsBody}
-use Rattle.tera_lexer.specs.Division.{is_at_start, EndsText, Piece, Text, Comment, Raw, Tag, Ending, Starts, OpensTag, IsPiece, IsDivision}
-use Rattle.tera_lexer.specs.Front.{inside_of, find_marker, word_tag_at, RawEnd, raw_end, tag_step, tag_front, comment_step, raw_step, block_step, text_len, text_step}
+use Rattle.tera_lexer.specs.grammar.Marks.{Marks, IsValid, start_marker, end_marker, NowhereIn, dash_bytes}
+use Rattle.tera_lexer.specs.grammar.Lexeme.{Item, Close, End, Open, Bad, IsInside}
+use Rattle.tera_lexer.specs.grammar.Raw.{WordTag, word_tag_bytes, raw_word, endraw_word, OpensRaw, IsBody}
+use Rattle.tera_lexer.specs.grammar.Division.{is_at_start, EndsText, Piece, Text, Comment, Raw, Tag, Ending, Starts, OpensTag, IsPiece, IsDivision}
+use Rattle.tera_lexer.specs.reading.Front.{inside_of, find_marker, word_tag_at, RawEnd, raw_end, tag_step, tag_front, comment_step, raw_step, block_step, text_len, text_step}
 use Rattle.tera_lexer.specs.declared.lexer.delimiters.Kind.{Kind}
 use Rattle.tera_lexer.specs.declared.lexer.delimiters.Kind.TheVariants.{Variable, Block}
 use Rattle.tera_lexer.proofs.Insides.{inside_stands, end_shortens}

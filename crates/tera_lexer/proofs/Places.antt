@@ -8,7 +8,8 @@ use Rattle.std.proofs.lemmas.List.Sums.{count_by-le-length, suffix_len-le-length
 use Rattle.std.proofs.lemmas.Bool.{eqb-true}
 use Rattle.std.proofs.lemmas.Bool.Decides.{nat_tests}
 use Rattle.std.proofs.lemmas.Str.{IsCharBoundary-from_rest}
-use Rattle.tera_lexer.specs.Place.{is_line_feed, begins_character, ArePrintable, place_after, span_of, IsWithin, stepped, moved}
+use Rattle.tera_lexer.specs.grammar.Place.{is_line_feed, begins_character, place_after, span_of, IsWithin}
+use Rattle.tera_lexer.specs.code.Counting.{ArePrintable, stepped, moved}
 use Rattle.tera_lexer.specs.declared.lexer.place.Place.{Place}
 
 is_either : (v : Bool) → (v ≡ true) ⊎ (v ≡ false)

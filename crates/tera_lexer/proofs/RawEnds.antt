@@ -2,10 +2,12 @@
 use Rattle.std.proofs.Common.{◌≡◌, ℕ, zero, suc, ◌+◌, ◌<◌, ◌≤◌, true, false, List, [], ◌∷◌, ◌++◌, length, drop, Option, Some, None, ⊎_elim, sym, ap, ◌∙◌, refl, subst, arith, append_assoc}
 use Rattle.std.proofs.lemmas.Bool.{cases_Bool}
 use Rattle.std.proofs.lemmas.List.{append-nil, drop_all, drop-drop, length-append}
-use Rattle.memchr.specs.Find.{OccursAt, Nowhere}
-use Rattle.tera_lexer.specs.Marks.{Marks, begins, NowhereIn}
-use Rattle.tera_lexer.specs.Raw.{WordTag, endraw_word, IsPart, ClosesRaw, ClosesNothing, body_of, AreParts, IsBody, AreOpen, IsOpenBody}
-use Rattle.tera_lexer.specs.Front.{behind_marker, word_tag_at, RawEnd, longer, closed_or, raw_end}
+use Rattle.memchr.specs.Find.{OccursAt, Nowhere, FindsNeedle}
+use Rattle.tera_lexer.specs.grammar.Marks.{Marks, begins, NowhereIn}
+use Rattle.tera_lexer.specs.grammar.Raw.{WordTag, endraw_word, IsBodyPart, ClosesRaw, ClosesNothing, body_of, AreParts, IsBody, AreOpen, IsOpenBody}
+use Rattle.tera_lexer.specs.reading.Front.{behind_marker, word_tag_at, RawEnd, longer, closed_or, raw_end}
+use Rattle.tera_lexer.specs.code.Markers.{IsWordTagOf, IsRawEndOf, further_end}
+use Rattle.tera_lexer.specs.declared.lexer.markers.WordTag.{WordTag as WordTagOfCode}
 use Rattle.tera_lexer.proofs.Markers.{begins_splits, splits_begins, behind_is}
 use Rattle.tera_lexer.proofs.Finding.{begins_nowhere, begins_where_occurs}
 use Rattle.tera_lexer.proofs.WordTags.{IsTagAt, word_tag_stands, word_tag_found, word_tag_none}
@@ -16,11 +18,6 @@ two_bytes [] two = absurd (omega arith)
 two_bytes (x ∷ []) two = absurd (omega arith)
 two_bytes (x ∷ y ∷ []) two = (x, y, refl)
 two_bytes (x ∷ y ∷ z ∷ zs) two = absurd (omega arith)
-
--- so many bytes further
-unfoldable pub further_end : ℕ → Option RawEnd → Option RawEnd
-further_end n None = None
-further_end n (Some e) = Some (record e { len = n + e.len })
 
 pub further_zero : (o : Option RawEnd) → further_end 0 o ≡ o
 unfolding further_end
@@ -102,7 +99,7 @@ module _ (m : Marks) (two : length m.block_start ≡ 2) where
       (cases_Bool (begins m.block_start (b ∷ bs)))
 
   -- what stands there is found
-  part_passed : (part bytes behind : List ℕ) → IsPart m part bytes behind → raw_end m.block_start m.block_end false bytes ≡ further_end (length part) (raw_end m.block_start m.block_end false (m.block_start ++ behind))
+  part_passed : (part bytes behind : List ℕ) → IsBodyPart m part bytes behind → raw_end m.block_start m.block_end false bytes ≡ further_end (length part) (raw_end m.block_start m.block_end false (m.block_start ++ behind))
   part_passed [] bytes behind (e, none) = ap (raw_end m.block_start m.block_end false) e ∙ sym (further_zero _)
   part_passed (b ∷ part) bytes behind (e, none) =
       let tail : List ℕ = part ++ (m.block_start ++ behind) in
@@ -244,3 +241,27 @@ module _ (start end bytes : List ℕ) where
           let left : Option RawEnd = raw_end start end false (drop (from + len + 2) bytes) in
           let same : from + len + 0 ≡ from + len = omega arith in
           found ∙ ap (λ o. further_end (from + len) (closed_or o (longer (longer left)))) some ∙ ap (λ n. Some (record { len = n; close = p.0; rest = p.1 })) same
+
+  -- the first one
+  module _ (two : length start ≡ 2) (len : ℕ) (found : FindsNeedle bytes start 0 (Some len)) where
+    pub first_missed : word_tag_at endraw_word end (drop (len + 2) bytes) ≡ None → raw_end start end false bytes ≡ further_end (len + 2) (raw_end start end false (drop (len + 2) bytes))
+    first_missed =
+        let same : 0 + len ≡ len = omega arith in
+        subst (λ n. word_tag_at endraw_word end (drop (n + 2) bytes) ≡ None → raw_end start end false bytes ≡ further_end (n + 2) (raw_end start end false (drop (n + 2) bytes))) same
+        (raw_missed 0 two raw_start len found.0.before found.1)
+
+    pub first_closed : (p : WordTag × List ℕ) → word_tag_at endraw_word end (drop (len + 2) bytes) ≡ Some p → raw_end start end false bytes ≡ Some (record { len = len; close = p.0; rest = p.1 })
+    first_closed =
+        let same : 0 + len ≡ len = omega arith in
+        subst (λ n. (p : WordTag × List ℕ) → word_tag_at endraw_word end (drop (n + 2) bytes) ≡ Some p → raw_end start end false bytes ≡ Some (record { len = n; close = p.0; rest = p.1 })) same
+        (raw_closed 0 two raw_start len found.0.before found.1)
+
+-- what the code finds there
+pub closed_by : (end : List ℕ) (tag : WordTagOfCode) (i : ℕ) (o : Option (WordTag × List ℕ)) (sought : Option RawEnd) → IsWordTagOf endraw_word end (Some tag) o
+    → ((p : WordTag × List ℕ) → o ≡ Some p → sought ≡ Some (record { len = i; close = p.0; rest = p.1 })) → IsRawEndOf end (Some (i, tag)) sought
+closed_by end tag i None sought is closes = absurd is
+closed_by end tag i (Some p) sought is closes = subst (IsRawEndOf end (Some (i, tag))) (sym (closes p refl)) (refl, is)
+
+pub missed_by : (end : List ℕ) (o : Option (WordTag × List ℕ)) → IsWordTagOf endraw_word end None o → o ≡ None
+missed_by end None is = refl
+missed_by end (Some p) is = absurd is

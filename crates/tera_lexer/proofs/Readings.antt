@@ -3,23 +3,23 @@ use Rattle.std.proofs.Common.{◌≡◌, ◌≢◌, ℕ, zero, suc, ◌+◌, ◌
 use Rattle.std.specs.Prelude.{slice_range}
 use Rattle.std.specs.Char.{is_ascii_whitespace}
 use Rattle.std.proofs.lemmas.List.{take-append-drop, length-append, take_at, drop_at}
-use Rattle.tera_lexer.specs.Marks.{Marks, IsValid, start_marker, end_marker, begins, NowhereIn, dash_bytes}
-use Rattle.tera_lexer.specs.Place.{span_of, IsWithin}
-use Rattle.tera_lexer.specs.Lexeme.{StopsAt, IsGap, Lexeme, Name, Number, Quoted, Operator, quoted, spelled, value_of, Fault, Unexpected, Unclosed, UnknownEscape, TooGreat, Float, told, IsFault, IsLexeme, is_at_end, IsEnd}
-use Rattle.tera_lexer.specs.Raw as raw
-use Rattle.tera_lexer.specs.Raw.{word_tag_bytes, raw_word, endraw_word, OpensRaw, IsBody}
-use Rattle.tera_lexer.specs.Division.{is_at_start, EndsText, Starts, OpensTag}
-use Rattle.tera_lexer.specs.Trimming.{ends_dashed, trimmed}
-use Rattle.tera_lexer.specs.Tokens as toks
-use Rattle.tera_lexer.specs.Tokens.{Items, Ended, Failed, text_of, token_of, open_raw, open_comment, comment_bytes, raw_bytes}
-use Rattle.tera_lexer.specs.Front.{Front, Reads, Breaks, front_of, find_marker, RawEnd, raw_end, unescaped}
-use Rattle.tera_lexer.specs.State.{Reading}
-use Rattle.tera_lexer.specs.Left.{starts_dashed, left_outside, left_inside, left_in, ahead_of, whole_of, stream_of}
-use Rattle.tera_lexer.specs.Stream.{Stream}
-use Rattle.tera_lexer.specs.Seen.{seen}
-use Rattle.tera_lexer.specs.Found.{IsTokenAt, IsEscapedAt, IsFaultAt}
-use Rattle.tera_lexer.specs.Markers.{marker_len, IsStartOf, IsEndOf, OpensBy, IsRawEndOf}
-use Rattle.tera_lexer.specs.Steps.{IsPart, StandsIn, Stops, Steps}
+use Rattle.tera_lexer.specs.grammar.Marks.{Marks, IsValid, start_marker, end_marker, begins, NowhereIn, dash_bytes}
+use Rattle.tera_lexer.specs.grammar.Place.{span_of, IsWithin}
+use Rattle.tera_lexer.specs.grammar.Lexeme.{StopsAt, IsGap, Lexeme, Name, Number, Quoted, Operator, quoted, spelled, value_of, Fault, Unexpected, Unclosed, UnknownEscape, TooGreat, Float, told, IsFault, IsLexeme, is_at_end, IsEnd}
+use Rattle.tera_lexer.specs.grammar.Raw as raw
+use Rattle.tera_lexer.specs.grammar.Raw.{word_tag_bytes, raw_word, endraw_word, OpensRaw, IsBody}
+use Rattle.tera_lexer.specs.grammar.Division.{is_at_start, EndsText, Starts, OpensTag}
+use Rattle.tera_lexer.specs.grammar.Trimming.{ends_dashed, trimmed}
+use Rattle.tera_lexer.specs.grammar.Tokens as toks
+use Rattle.tera_lexer.specs.grammar.Tokens.{Items, Ended, Failed, fault_text, token_of, open_raw, open_comment, comment_bytes, raw_bytes}
+use Rattle.tera_lexer.specs.reading.Front.{Front, Reads, Breaks, front_of, find_marker, RawEnd, raw_end, unescaped}
+use Rattle.tera_lexer.specs.reading.State.{Progress}
+use Rattle.tera_lexer.specs.reading.Left.{starts_dashed, left_outside, left_inside, left_in, ahead_of, whole_of, stream_of}
+use Rattle.tera_lexer.specs.reading.Stream.{Stream}
+use Rattle.tera_lexer.specs.code.Seen.{seen}
+use Rattle.tera_lexer.specs.code.Found.{IsTokenAt, IsEscapedAt, IsFaultAt}
+use Rattle.tera_lexer.specs.code.Markers.{marker_len, IsStartOf, IsEndOf, OpensBy, IsRawEndOf}
+use Rattle.tera_lexer.specs.code.Steps.{IsPart, StandsIn, Stops, Steps}
 use Rattle.tera_base.specs.Errors.{IsMemory, Tells}
 use Rattle.tera_base.specs.declared.utils.Span.{Span}
 use Rattle.tera_base.specs.declared.errors.Error.{Error}
@@ -39,11 +39,11 @@ use Rattle.tera_lexer.proofs.RawEnds.{IsEndAt, raw_stands}
 use Rattle.tera_lexer.proofs.Lefts.{gap_left, end_left, lexeme_left, fault_left, gap_ends, nothing_left, text_left, comment_left, open_comment_left, raw_left, open_raw_left, start_left, ahead_in, going_is, going_stream, failed_stream, ahead_failed}
 
 -- n bytes further
-abbrev pub forward : Reading → ℕ → Reading
+abbrev pub forward : Progress → ℕ → Progress
 forward r n = record r { front = r.front ++ take n r.rest; rest = drop n r.rest }
 
 -- which leaves the whole as it is
-pub forward_whole : (r : Reading) (n : ℕ) → whole_of (forward r n) ≡ whole_of r
+pub forward_whole : (r : Progress) (n : ℕ) → whole_of (forward r n) ≡ whole_of r
 forward_whole r n = append_assoc r.front (take n r.rest) (drop n r.rest) ∙ ap (λ l. r.front ++ l) (take-append-drop n r.rest)
 
 -- what stands before a cut is one part, and behind it the other
@@ -76,7 +76,7 @@ steps_same : (old from new to : Stream) (result : Option (Result (Token × Span)
 steps_same old from new to result a b steps = subst (λ (s : Stream). Steps s result new) (sym a) (subst (λ (s : Stream). Steps from result s) (sym b) steps)
 
 -- the bytes of a token were taken; or those of a fault were told; or no memory was found
-module _ (r new : Reading) (going : r.failed ≡ false) where
+module _ (r new : Progress) (going : r.failed ≡ false) where
   stopped : (e : Error) (items : Items) → new ≡ record r { failed = true } → ahead_of r ≡ items → Stops (whole_of r) items e → Steps (stream_of r) (Some (Err e)) (stream_of new)
   stopped e items new_is is stops =
       let stream : stream_of new ≡ record { source = whole_of r; left = Ended; stopped = Some items }
@@ -91,7 +91,7 @@ module _ (r new : Reading) (going : r.failed ≡ false) where
     took t span tag trim new_is span_is within stands is =
         let front : take n r.rest ≡ bytes = cut_front r.rest bytes behind n splits len in
         let rest : drop n r.rest ≡ behind = cut_rest r.rest bytes behind n splits len in
-        let at : Reading = record (forward r n) { tag = tag; trim = trim } in
+        let at : Progress = record (forward r n) { tag = tag; trim = trim } in
         let spans : span ≡ span_of r.front bytes = span_is ∙ ap (span_of r.front) front in
         let slice : slice_range (whole_of r) span.range.start span.range.end ≡ bytes
         = (λ i. slice_range (r.front ++ splits i) (spans i).range.start (spans i).range.end) ∙ span_slice r.front bytes behind in
@@ -120,14 +120,14 @@ start_splits marker rest behind dash starts = starts.0 ∙ sym (append_assoc mar
 start_len : (marker : List ℕ) (dash : Bool) (n : ℕ) → n ≡ marker_len marker dash → n ≡ length (marker ++ dash_bytes dash)
 start_len marker dash n e = e ∙ sym (length-append marker (dash_bytes dash))
 
-module _ (r : Reading) (going : r.failed ≡ false) (outside : r.tag ≡ None) (valid : IsValid r.marks) where
+module _ (r : Progress) (going : r.failed ≡ false) (outside : r.tag ≡ None) (valid : IsValid r.marks) where
   ahead_outside : (k : Items) → left_outside r.marks r.front r.trim r.rest ≡ k → ahead_of r ≡ k
   ahead_outside k e = ahead_in r None outside ∙ e
 
   pub outside_ends : r.rest ≡ [] → Steps (stream_of r) None (stream_of r)
   outside_ends e = (refl, going_is r going ∙ ahead_outside Ended (nothing_left r.marks valid r.front r.trim r.rest e))
 
-  pub outside_starts : (new : Reading) (t : Token) (span : Span) (kind : Kind) (dash : Bool) (n : ℕ) → IsStartOf (start_marker kind r.marks) r.rest (Some dash) → OpensTag r.marks kind (drop (marker_len (start_marker kind r.marks) dash) r.rest)
+  pub outside_starts : (new : Progress) (t : Token) (span : Span) (kind : Kind) (dash : Bool) (n : ℕ) → IsStartOf (start_marker kind r.marks) r.rest (Some dash) → OpensTag r.marks kind (drop (marker_len (start_marker kind r.marks) dash) r.rest)
       → n ≡ marker_len (start_marker kind r.marks) dash → seen t ≡ toks.Start kind dash
       → new ≡ record (forward r n) { tag = Some kind } → span ≡ span_of r.front (take n r.rest) → IsWithin (whole_of r) span → Steps (stream_of r) (Some (Ok (t, span))) (stream_of new)
   outside_starts new t span kind dash n starts opens n_is t_is new_is span_is within =
@@ -137,7 +137,7 @@ module _ (r : Reading) (going : r.failed ≡ false) (outside : r.tag ≡ None) (
       (ahead_outside (toks.Token (seen t) (span_of r.front (marker ++ dash_bytes dash)) (left_inside r.marks kind (r.front ++ (marker ++ dash_bytes dash)) inside))
       (start_left r.marks valid kind r.front r.trim dash r.rest inside starts.0 opens ∙ ap (λ k. toks.Token k (span_of r.front (marker ++ dash_bytes dash)) (left_inside r.marks kind (r.front ++ (marker ++ dash_bytes dash)) inside)) (sym t_is)))
 
-  pub outside_text : (new : Reading) (text : Bor (List ℕ)) (span : Span) (n : ℕ) → 0 < length r.rest → begins r.marks.variable_start r.rest ≡ false → begins r.marks.block_start r.rest ≡ false → begins r.marks.comment_start r.rest ≡ false
+  pub outside_text : (new : Progress) (text : Bor (List ℕ)) (span : Span) (n : ℕ) → 0 < length r.rest → begins r.marks.variable_start r.rest ≡ false → begins r.marks.block_start r.rest ≡ false → begins r.marks.comment_start r.rest ≡ false
       → NowhereIn (is_at_start r.marks) (take n r.rest) (drop n r.rest) → EndsText r.marks (drop n r.rest)
       → new ≡ record (forward r n) { trim = false } → text.now ≡ trimmed r.trim (starts_dashed r.marks (drop n r.rest)) (take n r.rest) → IsPart text.now (take n r.rest) → length (take n r.rest) ≡ n
       → span ≡ span_of r.front (take n r.rest) → IsWithin (whole_of r) span → Steps (stream_of r) (Some (Ok (Content text, span))) (stream_of new)
@@ -164,7 +164,7 @@ module _ (r : Reading) (going : r.failed ≡ false) (outside : r.tag ≡ None) (
         starts.0.0 ∙ ap (λ l. m.comment_start ++ (dash_bytes dash ++ l)) (e ∙ sym (append_assoc inside m.comment_end rest))
         ∙ sym (append_assoc m.comment_start (dash_bytes dash ++ (inside ++ m.comment_end)) rest ∙ ap (λ l. m.comment_start ++ l) (append_assoc (dash_bytes dash) (inside ++ m.comment_end) rest))
 
-    pub comment_step : (new : Reading) (span : Span) (len n : ℕ) → find_marker r.marks.comment_end behind_comment ≡ Some len → n ≡ marker_len r.marks.comment_start dash + (len + length r.marks.comment_end) → length (take len behind_comment) ≡ len
+    pub comment_step : (new : Progress) (span : Span) (len n : ℕ) → find_marker r.marks.comment_end behind_comment ≡ Some len → n ≡ marker_len r.marks.comment_start dash + (len + length r.marks.comment_end) → length (take len behind_comment) ≡ len
         → new ≡ record (forward r n) { trim = r.trim || ends_dashed (take len behind_comment) } → span ≡ span_of r.front (take n r.rest) → IsWithin (whole_of r) span → Steps (stream_of r) (Some (Ok (Content no_text, span))) (stream_of new)
     comment_step new span len n found n_is taken new_is span_is within =
         let inside : List ℕ = take len behind_comment in
@@ -178,7 +178,7 @@ module _ (r : Reading) (going : r.failed ≡ false) (outside : r.tag ≡ None) (
         (ahead_outside (toks.Token (toks.Content []) (span_of r.front bytes) (left_outside r.marks (r.front ++ bytes) trim rest))
         (comment_left r.marks valid r.front r.trim dash inside rest r.rest behind_comment starts.0 stands.0 stands.1))
 
-    pub open_comment_step : (new : Reading) (e : Error) (n : ℕ) → find_marker r.marks.comment_end behind_comment ≡ None → n ≡ marker_len r.marks.comment_start dash
+    pub open_comment_step : (new : Progress) (e : Error) (n : ℕ) → find_marker r.marks.comment_end behind_comment ≡ None → n ≡ marker_len r.marks.comment_start dash
         → new ≡ record r { failed = true } → Tells (open_comment r.marks) (span_of r.front (take n r.rest)) e → IsWithin (whole_of r) (span_of r.front (take n r.rest)) → Steps (stream_of r) (Some (Err e)) (stream_of new)
     open_comment_step new e n none n_is new_is tells within =
         let stands : IsMarkerAt r.marks.comment_end behind_comment None = subst (IsMarkerAt r.marks.comment_end behind_comment) none (find_stands r.marks.comment_end behind_comment) in
@@ -209,7 +209,7 @@ module _ (r : Reading) (going : r.failed ≡ false) (outside : r.tag ≡ None) (
         cut_rest r.rest (start ++ tag) raw_inside (marker_len r.marks.block_start dash + opening.len) splits
         (omega (arith, opens.2.2, length-append start tag, length-append r.marks.block_start (dash_bytes dash)))
 
-    pub open_raw_step : (new : Reading) (e : Error) (n : ℕ) → raw_end r.marks.block_start r.marks.block_end false raw_inside ≡ None → n ≡ marker_len r.marks.block_start dash
+    pub open_raw_step : (new : Progress) (e : Error) (n : ℕ) → raw_end r.marks.block_start r.marks.block_end false raw_inside ≡ None → n ≡ marker_len r.marks.block_start dash
         → new ≡ record r { failed = true } → Tells open_raw (span_of r.front (take n r.rest)) e → IsWithin (whole_of r) (span_of r.front (take n r.rest)) → Steps (stream_of r) (Some (Err e)) (stream_of new)
     unfolding IsEndAt
     open_raw_step new e n none n_is new_is tells within =
@@ -230,7 +230,7 @@ module _ (r : Reading) (going : r.failed ≡ false) (outside : r.tag ≡ None) (
         ∙ ap (λ l. open_tag ++ l) (append_assoc body (m.block_start ++ close) rest
         ∙ ap (λ l. body ++ l) (append_assoc m.block_start close rest)))))
 
-    raw_by : (new : Reading) (text : Bor (List ℕ)) (span : Span) (len n : ℕ) (closing : WordTag) (o : Option RawEnd) → IsRawEndOf r.marks.block_end (Some (len, closing)) o → IsEndAt r.marks valid.block_start raw_inside o
+    raw_by : (new : Progress) (text : Bor (List ℕ)) (span : Span) (len n : ℕ) (closing : WordTag) (o : Option RawEnd) → IsRawEndOf r.marks.block_end (Some (len, closing)) o → IsEndAt r.marks valid.block_start raw_inside o
         → n ≡ marker_len r.marks.block_start dash + opening.len + (len + (length r.marks.block_start + closing.len)) → text.now ≡ trimmed (opening.dash_out || r.trim) (closing.dash_in || starts_dashed r.marks (drop n r.rest)) (take len raw_inside)
         → IsPart text.now (take len raw_inside) → new ≡ record (forward r n) { trim = closing.dash_out } → span ≡ span_of r.front (take n r.rest) → IsWithin (whole_of r) span → Steps (stream_of r) (Some (Ok (Content text, span))) (stream_of new)
     unfolding IsEndAt
@@ -251,13 +251,13 @@ module _ (r : Reading) (going : r.failed ≡ false) (outside : r.tag ≡ None) (
         (ahead_outside (toks.Token (toks.Content text.now) (span_of r.front bytes) (left_outside m (r.front ++ bytes) e.close.dash_out e.rest))
         (raw_left m valid r.front r.trim dash raw_tag body e.close e.rest r.rest behind_block raw_inside starts.0 raw_opens is ∙ ap (λ l. toks.Token (toks.Content l) (span_of r.front bytes) (left_outside m (r.front ++ bytes) e.close.dash_out e.rest)) (sym t_is)))
 
-    pub raw_step : (new : Reading) (text : Bor (List ℕ)) (span : Span) (len n : ℕ) (closing : WordTag) → IsRawEndOf r.marks.block_end (Some (len, closing)) (raw_end r.marks.block_start r.marks.block_end false raw_inside)
+    pub raw_step : (new : Progress) (text : Bor (List ℕ)) (span : Span) (len n : ℕ) (closing : WordTag) → IsRawEndOf r.marks.block_end (Some (len, closing)) (raw_end r.marks.block_start r.marks.block_end false raw_inside)
         → n ≡ marker_len r.marks.block_start dash + opening.len + (len + (length r.marks.block_start + closing.len)) → text.now ≡ trimmed (opening.dash_out || r.trim) (closing.dash_in || starts_dashed r.marks (drop n r.rest)) (take len raw_inside)
         → IsPart text.now (take len raw_inside) → new ≡ record (forward r n) { trim = closing.dash_out } → span ≡ span_of r.front (take n r.rest) → IsWithin (whole_of r) span → Steps (stream_of r) (Some (Ok (Content text, span))) (stream_of new)
     raw_step new text span len n closing ends n_is text_is part new_is span_is within =
         raw_by new text span len n closing (raw_end r.marks.block_start r.marks.block_end false raw_inside) ends (raw_stands r.marks valid.block_start (suc (length raw_inside)) raw_inside (omega arith)) n_is text_is part new_is span_is within
 
-module _ (r : Reading) (going : r.failed ≡ false) (kind : Kind) (inside : r.tag ≡ Some kind) (valid : IsValid r.marks) where
+module _ (r : Progress) (going : r.failed ≡ false) (kind : Kind) (inside : r.tag ≡ Some kind) (valid : IsValid r.marks) where
   ahead_inside : (k : Items) → left_inside r.marks kind r.front r.rest ≡ k → ahead_of r ≡ k
   ahead_inside k e = ahead_in r (Some kind) inside ∙ e
 
@@ -265,7 +265,7 @@ module _ (r : Reading) (going : r.failed ≡ false) (kind : Kind) (inside : r.ta
   inside_ends is_gap = (refl, going_is r going ∙ ahead_inside Ended (gap_ends r.marks valid kind r.front r.rest is_gap))
 
   -- the gap is passed over
-  pub gap_step : (mid new : Reading) (result : Result (Token × Span) Error) (g : ℕ) → IsGap (take g r.rest) (drop g r.rest) → mid ≡ forward r g → Steps (stream_of mid) (Some result) (stream_of new) → Steps (stream_of r) (Some result) (stream_of new)
+  pub gap_step : (mid new : Progress) (result : Result (Token × Span) Error) (g : ℕ) → IsGap (take g r.rest) (drop g r.rest) → mid ≡ forward r g → Steps (stream_of mid) (Some result) (stream_of new) → Steps (stream_of r) (Some result) (stream_of new)
   gap_step mid new result g is_gap mid_is steps =
       let same : ahead_of r ≡ ahead_of (forward r g)
       = ahead_inside (left_inside r.marks kind (r.front ++ take g r.rest) (drop g r.rest)) (gap_left r.marks valid kind r.front (take g r.rest) (drop g r.rest) r.rest (sym (take-append-drop g r.rest)) is_gap)
@@ -275,7 +275,7 @@ module _ (r : Reading) (going : r.failed ≡ false) (kind : Kind) (inside : r.ta
       subst (λ (s : Stream). Steps s (Some result) (stream_of new)) stream steps
 
   module _ (stops : StopsAt is_ascii_whitespace r.rest) where
-    pub end_step : (new : Reading) (t : Token) (span : Span) (dash : Bool) (n : ℕ) → IsEndOf (end_marker kind r.marks) r.rest (Some dash) → n ≡ marker_len (end_marker kind r.marks) dash → seen t ≡ toks.Finish kind dash
+    pub end_step : (new : Progress) (t : Token) (span : Span) (dash : Bool) (n : ℕ) → IsEndOf (end_marker kind r.marks) r.rest (Some dash) → n ≡ marker_len (end_marker kind r.marks) dash → seen t ≡ toks.Finish kind dash
         → new ≡ record (forward r n) { tag = None; trim = dash } → span ≡ span_of r.front (take n r.rest) → IsWithin (whole_of r) span → Steps (stream_of r) (Some (Ok (t, span))) (stream_of new)
     end_step new t span dash n ends n_is t_is new_is span_is within =
         let end : List ℕ = end_marker kind r.marks in
@@ -290,20 +290,20 @@ module _ (r : Reading) (going : r.failed ≡ false) (kind : Kind) (inside : r.ta
         end_splits false behind is = is.0
 
     module _ (some : 0 < length r.rest) (no_end : is_at_end (end_marker kind r.marks) r.rest ≡ false) where
-      lexeme_by : (new : Reading) (t : Token) (span : Span) (n : ℕ) (lexeme : Lexeme) (behind : List ℕ) → front_of r.rest ≡ Reads lexeme behind → r.rest ≡ spelled lexeme ++ behind → IsLexeme lexeme behind → seen t ≡ token_of lexeme → n ≡ length (spelled lexeme)
+      lexeme_by : (new : Progress) (t : Token) (span : Span) (n : ℕ) (lexeme : Lexeme) (behind : List ℕ) → front_of r.rest ≡ Reads lexeme behind → r.rest ≡ spelled lexeme ++ behind → IsLexeme lexeme behind → seen t ≡ token_of lexeme → n ≡ length (spelled lexeme)
           → new ≡ forward r n → span ≡ span_of r.front (take n r.rest) → IsWithin (whole_of r) span → Steps (stream_of r) (Some (Ok (t, span))) (stream_of new)
       lexeme_by new t span n lexeme behind is splits here seen_is len new_is span_is within =
           took r new going n (spelled lexeme) behind splits len t span (Some kind) r.trim (new_is ∙ (λ i. record (forward r n) { tag = inside i })) span_is within (subst (λ k. StandsIn k (spelled lexeme)) (sym seen_is) (lexeme_stands lexeme behind here))
           (ahead_inside (toks.Token (seen t) (span_of r.front (spelled lexeme)) (left_inside r.marks kind (r.front ++ spelled lexeme) behind))
           (lexeme_left r.marks valid kind r.front r.rest stops lexeme behind some no_end is ∙ ap (λ k. toks.Token k (span_of r.front (spelled lexeme)) (left_inside r.marks kind (r.front ++ spelled lexeme) behind)) (sym seen_is)))
 
-      pub lexeme_step : (new : Reading) (t : Token) (span : Span) (n : ℕ) (front : Front) → front_of r.rest ≡ front → IsFront r.rest front → IsTokenAt (seen t) n front
+      pub lexeme_step : (new : Progress) (t : Token) (span : Span) (n : ℕ) (front : Front) → front_of r.rest ≡ front → IsFront r.rest front → IsTokenAt (seen t) n front
           → new ≡ forward r n → span ≡ span_of r.front (take n r.rest) → IsWithin (whole_of r) span → Steps (stream_of r) (Some (Ok (t, span))) (stream_of new)
       lexeme_step new t span n (Reads lexeme behind) is stands found new_is span_is within = lexeme_by new t span n lexeme behind is stands.0 stands.1 found.0 found.1 new_is span_is within
       lexeme_step new t span n (Breaks fault) is stands found new_is span_is within = absurd found
 
       -- a string with escapes
-      pub escaped_step : (new : Reading) (t : Token) (text within_quotes : List ℕ) (span : Span) (n : ℕ) (front : Front) → front_of r.rest ≡ front → IsFront r.rest front → IsEscapedAt within_quotes n front → seen t ≡ toks.Escaped text → text ≡ unescaped within_quotes
+      pub escaped_step : (new : Progress) (t : Token) (text within_quotes : List ℕ) (span : Span) (n : ℕ) (front : Front) → front_of r.rest ≡ front → IsFront r.rest front → IsEscapedAt within_quotes n front → seen t ≡ toks.Escaped text → text ≡ unescaped within_quotes
           → new ≡ forward r n → span ≡ span_of r.front (take n r.rest) → IsWithin (whole_of r) span → Steps (stream_of r) (Some (Ok (t, span))) (stream_of new)
       escaped_step new t text within_quotes span n (Reads (Quoted quote is) behind) front_is stands (inside_is, escape, len) t_is text_is new_is span_is within =
           let value : seen t ≡ token_of (Quoted quote is)
@@ -314,7 +314,7 @@ module _ (r : Reading) (going : r.failed ≡ false) (kind : Kind) (inside : r.ta
       escaped_step new t text within_quotes span n (Reads (Operator op) behind) front_is stands found t_is text_is new_is span_is within = absurd found
       escaped_step new t text within_quotes span n (Breaks fault) front_is stands found t_is text_is new_is span_is within = absurd found
 
-      pub escaped_memory : (new : Reading) (e : Error) (within_quotes : List ℕ) (n : ℕ) (front : Front) → front_of r.rest ≡ front → IsEscapedAt within_quotes n front → new ≡ record r { failed = true } → IsMemory e → Steps (stream_of r) (Some (Err e)) (stream_of new)
+      pub escaped_memory : (new : Progress) (e : Error) (within_quotes : List ℕ) (n : ℕ) (front : Front) → front_of r.rest ≡ front → IsEscapedAt within_quotes n front → new ≡ record r { failed = true } → IsMemory e → Steps (stream_of r) (Some (Err e)) (stream_of new)
       escaped_memory new e within_quotes n (Reads (Quoted quote is) behind) front_is (inside_is, escape, len) new_is memory =
           let text : token_of (Quoted quote is) ≡ toks.Escaped (value_of is) = rw escape refl in
           no_memory r new going e (value_of is) (span_of r.front (quoted quote is)) (left_inside r.marks kind (r.front ++ quoted quote is) behind) new_is memory
@@ -325,7 +325,7 @@ module _ (r : Reading) (going : r.failed ≡ false) (kind : Kind) (inside : r.ta
       escaped_memory new e within_quotes n (Reads (Operator op) behind) front_is found new_is memory = absurd found
       escaped_memory new e within_quotes n (Breaks fault) front_is found new_is memory = absurd found
 
-      pub fault_step : (new : Reading) (e : Error) (text : List ℕ) (n : ℕ) (front : Front) → front_of r.rest ≡ front → IsFront r.rest front → IsFaultAt text n front
+      pub fault_step : (new : Progress) (e : Error) (text : List ℕ) (n : ℕ) (front : Front) → front_of r.rest ≡ front → IsFront r.rest front → IsFaultAt text n front
           → new ≡ record r { failed = true } → Tells text (span_of r.front (take n r.rest)) e → IsWithin (whole_of r) (span_of r.front (take n r.rest)) → Steps (stream_of r) (Some (Err e)) (stream_of new)
       fault_step new e text n (Reads lexeme behind) is stands found new_is tells within = absurd found
       fault_step new e text n (Breaks fault) is stands found new_is tells within =

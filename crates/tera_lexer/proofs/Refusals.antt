@@ -1,12 +1,12 @@
 -- Which faults are told of which tokens.
 use Rattle.std.proofs.Common.{◌≡◌, ℕ, zero, suc, ◌+◌, List, inl, inr, ⊎_elim, subst, sym, ◌∙◌, refl, arith}
 use Rattle.std.specs.Prelude.{codes}
-use Rattle.tera_lexer.specs.Place.{IsWithin}
-use Rattle.tera_lexer.specs.Tokens.{Tok, Items, Ended, Failed, Token}
+use Rattle.tera_lexer.specs.grammar.Place.{IsWithin}
+use Rattle.tera_lexer.specs.grammar.Tokens.{Tok, Items, Ended, Failed, Token}
 use Rattle.tera_base.specs.Errors.{Tells, IsMemory, end_of}
-use Rattle.tera_lexer.specs.Faults.{Faults}
-use Rattle.tera_lexer.specs.Steps.{Stops}
-use Rattle.tera_lexer.specs.Cursors.{Position, IsAt, FaultsFrom, RefusesFrom, Passes, IsLater, TellsAt, TakesOne}
+use Rattle.tera_lexer.specs.grammar.Faults.{Faults}
+use Rattle.tera_lexer.specs.code.Steps.{Stops}
+use Rattle.tera_lexer.specs.code.Cursors.{Position, IsAt, FaultsFrom, RefusesFrom, Passes, IsLater, TellsAt, TakesOne}
 use Rattle.tera_base.specs.declared.utils.Span.{Span}
 use Rattle.tera_base.specs.declared.errors.Error.{Error}
 use Rattle.std.specs.Prelude.{Err}

@@ -3,8 +3,8 @@ use Rattle.std.proofs.Common.{◌≡◌, ℕ, suc, Bool, true, false, List, [], 
 use Rattle.std.specs.List.{prefix_len}
 use Rattle.std.proofs.lemmas.Bool.{cases_Bool}
 use Rattle.std.proofs.lemmas.List.{take_at, drop_at, take-append-drop}
-use Rattle.tera_lexer.specs.Lexeme.{IsRun}
-use Rattle.tera_lexer.specs.Front.{run_of, behind_run}
+use Rattle.tera_lexer.specs.grammar.Lexeme.{IsRun}
+use Rattle.tera_lexer.specs.reading.Front.{run_of, behind_run}
 
 -- one byte more, or none
 pub run_grows : (p : ℕ → Bool) (b : ℕ) (bs : List ℕ) → p b ≡ true → prefix_len p (b ∷ bs) ≡ suc (prefix_len p bs)

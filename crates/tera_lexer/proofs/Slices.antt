@@ -2,7 +2,7 @@
 use Rattle.std.proofs.Common.{◌≡◌, ℕ, ◌-◌, List, ◌++◌, length, take, ap, ◌∙◌, refl, arith}
 use Rattle.std.specs.Prelude.{slice_range}
 use Rattle.std.proofs.lemmas.List.{take_at, drop_at, length-append}
-use Rattle.tera_lexer.specs.Place.{place_after, span_of}
+use Rattle.tera_lexer.specs.grammar.Place.{place_after, span_of}
 
 pub span_slice : (front text rest : List ℕ) → slice_range (front ++ (text ++ rest)) (span_of front text).range.start (span_of front text).range.end ≡ text
 unfolding place_after

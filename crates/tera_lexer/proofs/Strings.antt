@@ -4,9 +4,9 @@ use Rattle.std.specs.Prelude.{◌==◌}
 use Rattle.std.specs.List.{AllByRecursion}
 use Rattle.std.proofs.lemmas.Bool.{cases_Bool, eqb-true, eqb-false}
 use Rattle.std.proofs.lemmas.Bool.Decides.{Decides-eqb}
-use Rattle.tera_lexer.specs.Lexeme.{Inner, Plain, Escape, IsInner, written, IsUnclosed}
+use Rattle.tera_lexer.specs.grammar.Lexeme.{Inner, Plain, Escape, IsInner, written, IsUnclosed}
 use Rattle.std.proofs.lemmas.List.{append-nil}
-use Rattle.tera_lexer.specs.Front.{string_at, with_inner}
+use Rattle.tera_lexer.specs.reading.Front.{string_at, with_inner}
 
 -- what is found behind a quote stands there
 abbrev pub IsStringAt : ℕ → List ℕ → Option (List Inner × List ℕ) → Type 0

@@ -6,11 +6,11 @@ use Rattle.std.specs.Str.{IsCharBoundary}
 use Rattle.std.proofs.lemmas.Bool.{cases_Bool}
 use Rattle.std.proofs.lemmas.List.{drop_at, drop-drop, length-append}
 use Rattle.std.proofs.lemmas.Str.{IsCharBoundary-from_rest, IsUtf8-drop}
-use Rattle.tera_lexer.specs.Marks.{Marks, IsValid, begins, dash_bytes}
-use Rattle.tera_lexer.specs.Raw.{WordTag, word_tag_bytes, raw_word, endraw_word, IsWordTag, ClosesRaw, IsBody}
+use Rattle.tera_lexer.specs.grammar.Marks.{Marks, IsValid, begins, dash_bytes}
+use Rattle.tera_lexer.specs.grammar.Raw.{WordTag, word_tag_bytes, raw_word, endraw_word, IsWordTag, ClosesRaw, IsBody}
 use Rattle.std.specs.Prelude.{IfSome}
-use Rattle.tera_lexer.specs.Front.{more, find_marker, word_tag_at, RawEnd}
-use Rattle.tera_lexer.specs.Markers.{marker_len, IsWordTagOf, OpensBy, IsRawEndOf, IsRawCut}
+use Rattle.tera_lexer.specs.reading.Front.{more, find_marker, word_tag_at, RawEnd}
+use Rattle.tera_lexer.specs.code.Markers.{marker_len, IsWordTagOf, OpensBy, IsRawEndOf, IsRawCut}
 use Rattle.tera_lexer.specs.declared.lexer.markers.WordTag.{WordTag as WordTagOfCode}
 use Rattle.tera_lexer.proofs.Markers.{splits_begins, marker_cut, begin_cut}
 use Rattle.tera_lexer.proofs.Cuts.{space_ascii, all_weaker, all_append, cut_behind_ascii, dash_ascii}
@@ -49,7 +49,7 @@ marker_found marker (b ∷ bs) n e =
     (cases_Bool (begins marker (b ∷ bs)))
 
 -- behind a tag of a raw piece
-gap_ascii : (gap : List ℕ) → AllByRecursion (λ b. is_ascii_whitespace b ≡ true) gap → AllByRecursion (λ b. b < 128) gap
+pub gap_ascii : (gap : List ℕ) → AllByRecursion (λ b. is_ascii_whitespace b ≡ true) gap → AllByRecursion (λ b. b < 128) gap
 gap_ascii gap all = all_weaker (λ b. is_ascii_whitespace b ≡ true) (λ b. b < 128) gap space_ascii all
 
 pub word_tag_cut : (word end : List ℕ) (t : WordTag) (bytes rest : List ℕ) → IsUtf8 bytes → IsUtf8 end → AllByRecursion (λ b. b < 128) word → IsWordTag word end t bytes rest → IsCharBoundary bytes (length (word_tag_bytes word end t))

@@ -4,8 +4,8 @@ use Rattle.std.specs.Prelude.{◌==◌}
 use Rattle.std.proofs.lemmas.Bool.{cases_Bool, cases_lt, eq-eqb}
 use Rattle.std.proofs.lemmas.List.{drop_more, drop_all, get_or-drop}
 use Rattle.memchr.specs.Find.{Nowhere, Passes, is_byte3}
-use Rattle.tera_lexer.specs.Marks.{Marks, IsValid, NowhereIn, begins}
-use Rattle.tera_lexer.specs.Division.{is_at_start, EndsText}
+use Rattle.tera_lexer.specs.grammar.Marks.{Marks, IsValid, NowhereIn, begins}
+use Rattle.tera_lexer.specs.grammar.Division.{is_at_start, EndsText}
 use Rattle.tera_lexer.proofs.Markers.{first_bytes, or_true}
 
 -- what begins at no place begins nowhere before the rest

@@ -4,20 +4,20 @@ use Rattle.std.specs.Prelude.{codes}
 use Rattle.std.specs.Str.{bytes_eq}
 use Rattle.std.proofs.lemmas.Bool.{cases_Bool}
 use Rattle.std.proofs.lemmas.List.{append-nil, length-append}
-use Rattle.tera_lexer.specs.Marks.{Marks, IsValid, start_marker, end_marker, dash_bytes}
-use Rattle.tera_lexer.specs.Place.{place_after, span_of}
-use Rattle.tera_lexer.specs.Lexeme.{Lexeme, Name, Number, Quoted, Operator, spelled, has_escape, decimal, IsLexeme, Fault, told, IsFault, Item, Close, End, Open, Bad, IsEnd, IsInside}
-use Rattle.tera_lexer.specs.Raw.{WordTag, word_tag_bytes, raw_word, endraw_word}
-use Rattle.tera_lexer.specs.Division.{Piece, Text, Comment, Raw, Tag, Ending, Nothing, OpenTag, BadTag, OpenRaw, OpenComment, Starts, IsPiece, IsEnding, IsDivision}
-use Rattle.tera_lexer.specs.Trimming.{trims_end, trimmed}
-use Rattle.tera_lexer.specs.Tokens.{Tok, Content, Start, Integer, Items, Ended, Failed, Token, name_token, token_of, lexemes, started, finished, failed, open_raw, open_comment, comment_bytes, raw_bytes, piece_tokens, ending_tokens, AreTokensOf}
-use Rattle.tera_lexer.specs.Front.{inside_of, division_of}
-use Rattle.tera_lexer.specs.State.{Reading}
-use Rattle.tera_lexer.specs.Steps.{StandsIn}
-use Rattle.tera_lexer.specs.Cursors.{size}
-use Rattle.tera_lexer.specs.Left.{trims_behind, tokens_by, left_outside, left_by, left_in, ahead_of, left_of, whole_of, item_count}
-use Rattle.tera_lexer.specs.Tiling.{Belongs, Shows, in_tag_behind, Tile}
-use Rattle.tera_lexer.specs.Lexed.{EachNumber, IsCount, AreNested, AreLexed}
+use Rattle.tera_lexer.specs.grammar.Marks.{Marks, IsValid, start_marker, end_marker, dash_bytes}
+use Rattle.tera_lexer.specs.grammar.Place.{place_after, span_of}
+use Rattle.tera_lexer.specs.grammar.Lexeme.{Lexeme, Name, Number, Quoted, Operator, spelled, has_escape, decimal, IsLexeme, Fault, told, IsFault, Item, Close, End, Open, Bad, IsEnd, IsInside}
+use Rattle.tera_lexer.specs.grammar.Raw.{WordTag, word_tag_bytes, raw_word, endraw_word}
+use Rattle.tera_lexer.specs.grammar.Division.{Piece, Text, Comment, Raw, Tag, Ending, Nothing, OpenTag, BadTag, OpenRaw, OpenComment, Starts, IsPiece, IsEnding, IsDivision}
+use Rattle.tera_lexer.specs.grammar.Trimming.{trims_end, trimmed}
+use Rattle.tera_lexer.specs.grammar.Tokens.{Tok, Content, Start, Integer, Items, Ended, Failed, Token, name_token, token_of, lexemes, tag_start, tag_end, failed, open_raw, open_comment, comment_bytes, raw_bytes, piece_tokens, ending_tokens, AreTokensOf}
+use Rattle.tera_lexer.specs.reading.Front.{inside_of, division_of}
+use Rattle.tera_lexer.specs.reading.State.{Progress}
+use Rattle.tera_lexer.specs.code.Steps.{StandsIn}
+use Rattle.tera_lexer.specs.code.Cursors.{size}
+use Rattle.tera_lexer.specs.reading.Left.{trims_behind, tokens_by, left_outside, left_by, left_in, ahead_of, left_of, whole_of, item_count}
+use Rattle.tera_lexer.specs.grammar.Tiling.{Belongs, Shows, in_tag_behind, Tile}
+use Rattle.tera_lexer.specs.grammar.Lexed.{EachNumber, IsCount, AreNested, AreLexed}
 use Rattle.tera_lexer.specs.declared.lexer.delimiters.Kind.{Kind}
 use Rattle.tera_base.specs.declared.utils.Span.{Span}
 use Rattle.tera_lexer.proofs.Insides.{spelled_some, fault_some, inside_stands}
@@ -135,12 +135,12 @@ raw_around m dash opening body closing =
     sym (append_assoc m.block_start (dash_bytes dash ++ tag) (body ++ behind_body m closing) ∙ ap (λ l. m.block_start ++ l) (append_assoc (dash_bytes dash) tag (body ++ behind_body m closing)))
 
 module _ (m : Marks) (valid : IsValid m) where
-  end_splits : (end : List ℕ) (dash : Bool) (at rest : List ℕ) → IsEnd end dash at rest → at ≡ (dash_bytes dash ++ end) ++ rest
+  pub end_splits : (end : List ℕ) (dash : Bool) (at rest : List ℕ) → IsEnd end dash at rest → at ≡ (dash_bytes dash ++ end) ++ rest
   end_splits end true at rest is = is
   end_splits end false at rest is = is.0
 
   tile_end : (kind : Kind) (is : List Item) (gap : List ℕ) (dash : Bool) (rest front bytes : List ℕ) (follows : List ℕ → Items) → IsInside (end_marker kind m) is (End gap dash rest) bytes → ((g : List ℕ) → Tile false g rest (follows g))
-      → Tile true front bytes (lexemes front is (λ g. finished m (g ++ gap) kind dash follows))
+      → Tile true front bytes (lexemes front is (λ g. tag_end m (g ++ gap) kind dash follows))
   tile_end kind [] gap dash rest front bytes follows (at, e, is_gap, ends) tile =
       let end : List ℕ = end_marker kind m in
       let marker : List ℕ = dash_bytes dash ++ end in
@@ -150,7 +150,7 @@ module _ (m : Marks) (valid : IsValid m) where
       tile_lexeme (end_marker kind m) i front behind bytes _ e is_gap.0 here (tile_end kind is gap dash rest ((front ++ i.gap) ++ spelled i.lexeme) behind follows inside tile)
 
   tile_start : (kind : Kind) (front : List ℕ) (dash : Bool) (bytes inside : List ℕ) (follows : List ℕ → Items) → Starts (start_marker kind m) dash bytes inside → ((f : List ℕ) → Tile true f inside (follows f))
-      → Tile false front bytes (started m front kind dash follows)
+      → Tile false front bytes (tag_start m front kind dash follows)
   tile_start kind front dash bytes inside follows starts tile =
       let marker : List ℕ = start_marker kind m ++ dash_bytes dash in
       let some : 0 < length marker = omega (arith, length-append (start_marker kind m) (dash_bytes dash), start_two m valid kind) in
@@ -168,34 +168,41 @@ module _ (m : Marks) (valid : IsValid m) where
   tile_ending (OpenRaw dash) front bytes (behind, inside, opening, starts, opens, is) = fault_here front (m.block_start ++ dash_bytes dash) bytes open_raw (starts_some m.block_start dash bytes behind valid.block_start starts)
   tile_ending (OpenComment dash) front bytes (behind, starts, none) = fault_here front (m.comment_start ++ dash_bytes dash) bytes (open_comment m) (starts_some m.comment_start dash bytes behind valid.comment_start starts)
 
+  -- the bytes of a comment and of a raw piece
+  pub comment_splits : (dash : Bool) (inside bytes rest : List ℕ) → IsPiece m (Comment dash inside) bytes rest → bytes ≡ comment_bytes m dash inside ++ rest
+  comment_splits dash inside bytes rest (behind, starts, e, none) =
+      starts.0 ∙ ap (λ l. m.comment_start ++ (dash_bytes dash ++ l)) (e ∙ sym (append_assoc inside m.comment_end rest))
+      ∙ sym (append_assoc m.comment_start (dash_bytes dash ++ (inside ++ m.comment_end)) rest ∙ ap (λ l. m.comment_start ++ l) (append_assoc (dash_bytes dash) (inside ++ m.comment_end) rest))
+
+  pub raw_splits : (dash : Bool) (opening : WordTag) (body : List ℕ) (closing : WordTag) (bytes rest : List ℕ) → IsPiece m (Raw dash opening body closing) bytes rest → bytes ≡ raw_bytes m dash opening body closing ++ rest
+  raw_splits dash opening body closing bytes rest (behind, inside, starts, opens, is) =
+      let close : List ℕ = word_tag_bytes endraw_word m.block_end closing in
+      let open_tag : List ℕ = word_tag_bytes raw_word m.block_end opening in
+      starts.0
+      ∙ ap (λ l. m.block_start ++ (dash_bytes dash ++ l)) (word_tag_splits raw_word m.block_end opening behind inside opens ∙ ap (λ l. open_tag ++ l) (body_splits m valid body closing inside rest is))
+      ∙ sym (append_assoc m.block_start (dash_bytes dash ++ (open_tag ++ (body ++ (m.block_start ++ close)))) rest
+      ∙ ap (λ l. m.block_start ++ l) (append_assoc (dash_bytes dash) (open_tag ++ (body ++ (m.block_start ++ close))) rest
+      ∙ ap (λ l. dash_bytes dash ++ l) (append_assoc open_tag (body ++ (m.block_start ++ close)) rest
+      ∙ ap (λ l. open_tag ++ l) (append_assoc body (m.block_start ++ close) rest
+      ∙ ap (λ l. body ++ l) (append_assoc m.block_start close rest)))))
+
   -- a piece, trimmed or not, and what follows it
   tile_piece : (start end : Bool) (p : Piece) (front bytes rest : List ℕ) (follows : List ℕ → Items) → IsPiece m p bytes rest → ((f : List ℕ) → Tile false f rest (follows f)) → Tile false front bytes (piece_tokens m front start end p follows)
   tile_piece start end (Text text) front bytes rest follows (e, some, none, ends) tile =
       tile_here (Content (trimmed start end text)) front text rest bytes (follows (front ++ text)) e some refl ([], text, [], start, end, sym (append-nil text), refl) (tile (front ++ text))
   tile_piece start end (Comment dash inside) front bytes rest follows (behind, starts, e, none) tile =
       let text : List ℕ = comment_bytes m dash inside in
-      let splits : bytes ≡ text ++ rest
-      = starts.0 ∙ ap (λ l. m.comment_start ++ (dash_bytes dash ++ l)) (e ∙ sym (append_assoc inside m.comment_end rest))
-      ∙ sym (append_assoc m.comment_start (dash_bytes dash ++ (inside ++ m.comment_end)) rest ∙ ap (λ l. m.comment_start ++ l) (append_assoc (dash_bytes dash) (inside ++ m.comment_end) rest)) in
+      let splits = comment_splits dash inside bytes rest (behind, starts, e, none) in
       let some : 0 < length text = omega (arith, length-append m.comment_start (dash_bytes dash ++ (inside ++ m.comment_end)), valid.comment_start) in
       tile_here (Content []) front text rest bytes (follows (front ++ text)) splits (some_bytes text some) refl ([], [], text, false, false, refl, refl) (tile (front ++ text))
   tile_piece start end (Raw dash opening body closing) front bytes rest follows (behind, inside, starts, opens, is) tile =
       let text : List ℕ = raw_bytes m dash opening body closing in
-      let close : List ℕ = word_tag_bytes endraw_word m.block_end closing in
-      let open_tag : List ℕ = word_tag_bytes raw_word m.block_end opening in
-      let splits : bytes ≡ text ++ rest
-      = starts.0
-      ∙ ap (λ l. m.block_start ++ (dash_bytes dash ++ l)) (word_tag_splits raw_word m.block_end opening behind inside opens ∙ ap (λ l. open_tag ++ l) (body_splits m valid body closing inside rest is))
-      ∙ sym (append_assoc m.block_start (dash_bytes dash ++ (open_tag ++ (body ++ (m.block_start ++ close)))) rest
-      ∙ ap (λ l. m.block_start ++ l) (append_assoc (dash_bytes dash) (open_tag ++ (body ++ (m.block_start ++ close))) rest
-      ∙ ap (λ l. dash_bytes dash ++ l) (append_assoc open_tag (body ++ (m.block_start ++ close)) rest
-      ∙ ap (λ l. open_tag ++ l) (append_assoc body (m.block_start ++ close) rest
-      ∙ ap (λ l. body ++ l) (append_assoc m.block_start close rest))))) in
-      let some : 0 < length text = omega (arith, length-append m.block_start (dash_bytes dash ++ (open_tag ++ (body ++ (m.block_start ++ close)))), valid.block_start) in
+      let splits = raw_splits dash opening body closing bytes rest (behind, inside, starts, opens, is) in
+      let some : 0 < length text = omega (arith, ap length (raw_around m dash opening body closing), length-append (before_body m dash opening) (body ++ behind_body m closing), length-append m.block_start (dash_bytes dash ++ word_tag_bytes raw_word m.block_end opening), valid.block_start) in
       tile_here (Content (trimmed (opening.dash_out || start) (closing.dash_in || end) body)) front text rest bytes (follows (front ++ text)) splits (some_bytes text some) refl
       (before_body m dash opening, body, behind_body m closing, opening.dash_out || start, closing.dash_in || end, raw_around m dash opening body closing, refl) (tile (front ++ text))
   tile_piece start end (Tag kind dash items gap last) front bytes rest follows (inside, starts, opens, here) tile =
-      tile_start kind front dash bytes inside (λ f. lexemes f items (λ g. finished m (g ++ gap) kind last follows)) starts
+      tile_start kind front dash bytes inside (λ f. lexemes f items (λ g. tag_end m (g ++ gap) kind last follows)) starts
       (λ f. tile_end kind items gap last rest f inside follows here tile)
 
   tile_pieces : (trim : Bool) (ps : List Piece) (ending : Ending) (front bytes : List ℕ) → IsDivision m ps ending bytes → Tile false front bytes (tokens_by m front trim ps ending)
@@ -238,7 +245,7 @@ tiles_count (Failed text span) inside front rest (gap, at, e, between, some, sta
 tiles_count (Token t span items) inside front rest (gap, bytes, behind, e, between, some, belongs, shows, is, tile) =
     omega (arith, ap length e, length-append gap (bytes ++ behind), length-append bytes behind, length_some bytes some, tiles_count items (in_tag_behind inside t) ((front ++ gap) ++ bytes) behind tile)
 
-pub left_count : (r : Reading) → IsValid r.marks → item_count (left_of r) ≤ length (whole_of r)
+pub left_count : (r : Progress) → IsValid r.marks → item_count (left_of r) ≤ length (whole_of r)
 unfolding ahead_of
 left_count r valid =
     ⊎_elim
@@ -266,7 +273,7 @@ tiles_numbers (Token t span items) inside front rest (gap, bytes, behind, e, bet
 tiles_lexed : (items : Items) (inside : Bool) (front rest : List ℕ) → Tile inside front rest items → AreLexed items
 tiles_lexed items inside front rest tile = record { numbers = tiles_numbers items inside front rest tile; inside = inside; nested = tiles_nested items inside front rest tile }
 
-pub left_lexed : (r : Reading) → IsValid r.marks → AreLexed (left_of r)
+pub left_lexed : (r : Progress) → IsValid r.marks → AreLexed (left_of r)
 unfolding ahead_of
 left_lexed r valid =
     ⊎_elim

@@ -4,12 +4,12 @@ use Rattle.std.specs.Char.{is_ascii_whitespace}
 use Rattle.std.specs.List.{prefix_len}
 use Rattle.std.proofs.lemmas.Bool.{cases_Bool}
 use Rattle.std.proofs.lemmas.List.{length-append, drop-drop}
-use Rattle.tera_lexer.specs.Marks.{begins, dash_bytes, TakesDash}
-use Rattle.tera_lexer.specs.Lexeme.{IsGap}
-use Rattle.tera_lexer.specs.Raw.{WordTag, word_tag_bytes, IsWordTag}
-use Rattle.tera_lexer.specs.Front.{run_of, behind_run, gap_len, at_dash, behind_dash, behind_marker, word_tag_at}
+use Rattle.tera_lexer.specs.grammar.Marks.{begins, dash_bytes, TakesDash}
+use Rattle.tera_lexer.specs.grammar.Lexeme.{IsGap}
+use Rattle.tera_lexer.specs.grammar.Raw.{WordTag, word_tag_bytes, IsWordTag}
+use Rattle.tera_lexer.specs.reading.Front.{run_of, behind_run, gap_len, at_dash, behind_dash, behind_marker, word_tag_at}
 use Rattle.tera_lexer.proofs.Runs.{run_grows, run_ends, run_stands, run_splits, run_found, behind_found}
-use Rattle.tera_lexer.specs.Markers.{IsWordTagOf}
+use Rattle.tera_lexer.specs.code.Markers.{IsWordTagOf}
 use Rattle.tera_lexer.proofs.Markers.{begins_splits, splits_begins, dash_stands, dash_found, behind_is}
 
 -- what is found stands there

@@ -1,11 +1,11 @@
 //! A cursor over the tokens of a source.
 
 ghost use Rattle.std.specs.Prelude.{◌≡◌, ◌<◌, ◌≤◌, IfOk, IfErr, MatchOption, length, codes};
-ghost use Rattle.tera_lexer.specs.Place.{IsWithin};
-ghost use Rattle.tera_lexer.specs.Lexed.{AreLexed};
-ghost use Rattle.tera_lexer.specs.Seen.{seen};
+ghost use Rattle.tera_lexer.specs.grammar.Place.{IsWithin};
+ghost use Rattle.tera_lexer.specs.grammar.Lexed.{AreLexed};
+ghost use Rattle.tera_lexer.specs.code.Seen.{seen};
 ghost use Rattle.std.specs.Option.{option_map};
-ghost use Rattle.tera_lexer.specs.CursorView.{IsShown};
+ghost use Rattle.tera_lexer.specs.code.CursorView.{IsTokenAhead};
 ghost use Rattle.tera_base.specs.Errors.{Tells, end_of};
 
 use crate::lexer::lexer::Tokens;
@@ -29,14 +29,14 @@ pub struct Cursor<'a> {
 }
 
 impl<'a> Model for Cursor<'a> {
-    ghost use Rattle.tera_lexer.specs.Cursors.{Position};
-    ghost use Rattle.tera_lexer.specs.Codes.{position_code};
+    ghost use Rattle.tera_lexer.specs.code.Cursors.{Position};
+    ghost use Rattle.tera_lexer.specs.code.Codes.{position_code};
 
     ghost Value = { Position };
 
     ghost coded = { position_code };
 
-    ghost use Rattle.tera_lexer.specs.CursorView.{position_of, AreReadAhead};
+    ghost use Rattle.tera_lexer.specs.code.CursorView.{position_of, AreReadAhead};
 
     ghost view = { position_of };
 
@@ -44,7 +44,7 @@ impl<'a> Model for Cursor<'a> {
 }
 
 impl<'a> Cursor<'a> {
-    ghost use Rattle.tera_lexer.specs.Cursors.{nowhere, is_end, FirstIs, FirstStandsAt, SecondIs, SeesTwo, Takes, TakesOne, IsLater, RefusesFrom};
+    ghost use Rattle.tera_lexer.specs.code.Cursors.{nowhere, is_end, FirstIs, FirstStandsAt, SecondIs, SeesTwo, Takes, TakesOne, IsLater, RefusesFrom};
 
     /// A cursor before the next of the tokens. The next two are read.
     pub fn new(tokens: Tokens<'a>) -> Cursor<'a>
@@ -164,7 +164,7 @@ impl<'a> Cursor<'a> {
 fn shown<'b, 'a>(
     item: &'b Option<Result<(Token<'a>, Span), Error>>,
 ) -> Option<&'b (Token<'a>, Span)>
-    ensures { IsShown item.now (option_map (λ p. p.now) result) }
+    ensures { IsTokenAhead item.now (option_map (λ p. p.now) result) }
 {
     match item {
         Some(Ok(pair)) => Some(pair),

@@ -1,6 +1,6 @@
 //! The markers of a template.
 
-ghost use Rattle.tera_lexer.specs.Rules.{Checks, two_bytes, differ};
+ghost use Rattle.tera_lexer.specs.grammar.Rules.{Checks, two_bytes, differ};
 
 use std::alloc::{AllocError, Global};
 use std::borrow::CowStr;
@@ -27,7 +27,7 @@ pub struct Delimiters {
 
 impl Default for Delimiters {
     ghost use Rattle.std.specs.Prelude.{◌≡◌};
-    ghost use Rattle.tera_lexer.specs.Marks.{marks_of, default_marks, IsValid};
+    ghost use Rattle.tera_lexer.specs.grammar.Marks.{marks_of, default_marks, IsValid};
 
     ghost is_default = { λ d. (marks_of d ≡ default_marks) × IsValid (marks_of d) };
 
@@ -45,7 +45,7 @@ impl Default for Delimiters {
 
 impl Clone for Delimiters {
     ghost use Rattle.std.specs.Prelude.{◌≡◌};
-    ghost use Rattle.tera_lexer.specs.Marks.{marks_of};
+    ghost use Rattle.tera_lexer.specs.grammar.Marks.{marks_of};
 
     ghost is_clone = { λ d copy. marks_of copy ≡ marks_of d };
 
@@ -70,8 +70,8 @@ pub(crate) enum Kind {
 
 impl Delimiters {
     ghost use Rattle.std.specs.Prelude.{◌≡◌, IsOk, IfOk};
-    ghost use Rattle.tera_lexer.specs.Marks.{marks_of, end_marker, IsValid};
-    ghost use Rattle.tera_lexer.specs.Rules.{ChecksAll, rules_of};
+    ghost use Rattle.tera_lexer.specs.grammar.Marks.{marks_of, end_marker, IsValid};
+    ghost use Rattle.tera_lexer.specs.grammar.Rules.{ChecksAll, rules_of};
 
     /// Whether a template can be read with the markers: each is two bytes long, and the three starts differ.
     ///

@@ -3,12 +3,12 @@
 ghost use Rattle.std.specs.Prelude.{◌≡◌, ◌^◌, ◌<◌, ◌≤◌, ◌∷◌, [], length, take, drop, get_or, true, false, pos, string_bytes, IfOk, MatchOption};
 ghost use Rattle.std.specs.List.{AllByRecursion, prefix_len};
 ghost use Rattle.std.specs.Char.{is_ascii_digit};
-ghost use Rattle.tera_lexer.specs.Lexeme.{begins_name, is_quote, is_known, escaped, long_operator_at, short_operator, operator_at, decimal};
-ghost use Rattle.tera_lexer.specs.Tokens.{name_token, unclosed};
-ghost use Rattle.tera_lexer.specs.Seen.{seen};
+ghost use Rattle.tera_lexer.specs.grammar.Lexeme.{begins_name, is_quote, is_known, escaped, long_operator_at, short_operator, operator_at, decimal};
+ghost use Rattle.tera_lexer.specs.grammar.Tokens.{name_token, unclosed};
+ghost use Rattle.tera_lexer.specs.code.Seen.{seen};
 ghost use Rattle.std.specs.Str.{IsCharBoundary};
-ghost use Rattle.tera_lexer.specs.Front.{front_of, begins_long_operator, closing_at, is_plain, unescaped, unknown_in};
-ghost use Rattle.tera_lexer.specs.Found.{passes, BeginsBy, IsFound, IsOperatorOf, IsTokenOf};
+ghost use Rattle.tera_lexer.specs.reading.Front.{front_of, begins_long_operator, closing_at, is_plain, unescaped, unknown_in};
+ghost use Rattle.tera_lexer.specs.code.Found.{passes, BeginsBy, IsFound, IsOperatorOf, IsTokenOf};
 
 use crate::lexer::tokens::Token;
 use std::alloc::{AllocError, Global};

@@ -1,11 +1,11 @@
 //! The tokens of a source, one at a time.
 
 ghost use Rattle.std.specs.Prelude.{◌≡◌, ◌≤◌, ◌<◌, ◌^◌, None, IsUtf8, length};
-ghost use Rattle.tera_lexer.specs.Marks.{marks_of, IsValid};
-ghost use Rattle.tera_lexer.specs.Tokens.{AreTokensOf};
-ghost use Rattle.tera_lexer.specs.Left.{item_count};
-ghost use Rattle.tera_lexer.specs.Lexed.{AreLexed};
-ghost use Rattle.tera_lexer.specs.Steps.{Steps};
+ghost use Rattle.tera_lexer.specs.grammar.Marks.{marks_of, IsValid};
+ghost use Rattle.tera_lexer.specs.grammar.Tokens.{AreTokensOf};
+ghost use Rattle.tera_lexer.specs.reading.Left.{item_count};
+ghost use Rattle.tera_lexer.specs.grammar.Lexed.{AreLexed};
+ghost use Rattle.tera_lexer.specs.code.Steps.{Steps};
 
 use crate::lexer::delimiters::Delimiters;
 use crate::lexer::reader::Reader;
@@ -27,14 +27,14 @@ pub struct Tokens<'a> {
 }
 
 impl<'a> Model for Tokens<'a> {
-    ghost use Rattle.tera_lexer.specs.Stream.{Stream};
-    ghost use Rattle.tera_lexer.specs.Codes.{stream_code};
+    ghost use Rattle.tera_lexer.specs.reading.Stream.{Stream};
+    ghost use Rattle.tera_lexer.specs.code.Codes.{stream_code};
 
     ghost Value = { Stream };
 
     ghost coded = { stream_code };
 
-    ghost use Rattle.tera_lexer.specs.Left.{stream_of};
+    ghost use Rattle.tera_lexer.specs.reading.Left.{stream_of};
 
     ghost view = { λ t. stream_of t.reader };
 }

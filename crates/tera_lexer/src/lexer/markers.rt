@@ -4,11 +4,12 @@ ghost use Rattle.std.specs.Prelude.{◌≡◌, ◌≤◌, ◌∷◌, ◌+◌, fa
 ghost use Rattle.std.specs.Bool.{OnTrue};
 ghost use Rattle.std.specs.Str.{IsCharBoundary};
 ghost use Rattle.memchr.specs.Find.{IsFirstByte, FindsNeedle, Nowhere, OccursAt, is_byte3};
-ghost use Rattle.tera_lexer.specs.Marks.{marks_of, AreTexts, IsValid, begins, NowhereIn, dash_bytes};
-ghost use Rattle.tera_lexer.specs.Division.{is_at_start, EndsText};
-ghost use Rattle.tera_lexer.specs.Front.{find_marker, gap_len, word_tag_at, raw_end};
-ghost use Rattle.tera_lexer.specs.Left.{starts_dashed};
-ghost use Rattle.tera_lexer.specs.Markers.{IsStartOf, IsEndOf, IsWordTagOf, IsRawEndOf, IsRawCut, is_block_piece, is_comment};
+ghost use Rattle.tera_lexer.specs.grammar.Marks.{marks_of, IsValid, begins, NowhereIn, dash_bytes};
+ghost use Rattle.tera_lexer.specs.grammar.Raw.{raw_word};
+ghost use Rattle.tera_lexer.specs.grammar.Division.{is_at_start, EndsText};
+ghost use Rattle.tera_lexer.specs.reading.Front.{find_marker, gap_len, word_tag_at, raw_end};
+ghost use Rattle.tera_lexer.specs.reading.Left.{starts_dashed};
+ghost use Rattle.tera_lexer.specs.code.Markers.{AreStartTexts, IsStartOf, IsEndOf, IsWordTagOf, IsRawEndOf, IsRawCut, further_end, is_block_piece, is_comment};
 
 use crate::lexer::delimiters::Delimiters;
 use crate::lexer::lexeme::{Class, run_len};
@@ -76,7 +77,7 @@ pub(crate) fn end_at(rest: &str, marker: &str) -> Option<bool>
 // Whether a start marker begins the bytes.
 fn at_start(bytes: &[u8], delimiters: &Delimiters) -> bool
     ensures test { result ≡ is_at_start (marks_of delimiters.now) bytes.now }
-    ensures texts { AreTexts (marks_of delimiters.now) }
+    ensures texts { AreStartTexts (marks_of delimiters.now) }
 {
     let variable = delimiters.variable_start.as_str().as_bytes();
     let block = delimiters.block_start.as_str().as_bytes();
@@ -197,7 +198,7 @@ fn is_block_piece(bytes: &[u8], delimiters: &Delimiters) -> bool
 {
     let start = delimiters.block_start.as_str().as_bytes();
     let end = delimiters.block_end.as_str().as_bytes();
-    let Some(opening) = word_tag_at(bytes, b"raw", end) else {
+    let Some(opening) = raw_tag_at(bytes, end) else {
         return true;
     };
     let (_, body) = bytes.split_at(opening.len);
@@ -222,8 +223,17 @@ pub struct WordTag {
     pub len: usize,
 }
 
-/// The tag of this word that begins the bytes, if one does.
-pub(crate) fn word_tag_at(bytes: &[u8], word: &[u8], end: &[u8]) -> Option<WordTag>
+/// The tag that begins the bytes and opens a raw piece, if one does.
+#[inline(never)]
+pub(crate) fn raw_tag_at(bytes: &[u8], end: &[u8]) -> Option<WordTag>
+    ensures { IsWordTagOf raw_word end.now result (word_tag_at raw_word end.now bytes.now) }
+{
+    word_tag_at(bytes, b"raw", end)
+}
+
+// The tag of this word that begins the bytes, if one does.
+#[inline(always)]
+fn word_tag_at(bytes: &[u8], word: &[u8], end: &[u8]) -> Option<WordTag>
     ensures { IsWordTagOf word.now end.now result (word_tag_at word.now end.now bytes.now) }
 {
     let dash_in = bytes.starts_with(b"-");
@@ -236,7 +246,7 @@ pub(crate) fn word_tag_at(bytes: &[u8], word: &[u8], end: &[u8]) -> Option<WordT
     let (_, last) = after.split_at(run_len(after, Class::Space));
     let dash_out = last.starts_with(b"-");
     let (_, at) = last.split_at(dash_len(dash_out));
-    if !at.starts_with(end) {
+    if !begins(at, end) {
         return None;
     }
     let (_, rest) = at.split_at(end.len());
@@ -258,16 +268,33 @@ pub(crate) fn raw_end(text: &str, delimiters: &Delimiters) -> Option<(usize, Wor
     end_between(text.as_bytes(), start, end)
 }
 
-// The same, by the two markers.
-//
-// Block starts may themselves be white space. Where a tag is missed behind a run of it, none stands at any place of
-// the run: so no run is read again at each block start in it.
+// The same, by the two markers. In most bodies the first block start closes: the others have a search of their own.
 fn end_between(bytes: &[u8], start: &[u8], end: &[u8]) -> Option<(usize, WordTag)>
     requires start { length start.now ≡ 2 }
     ensures { IsRawEndOf end.now result (raw_end start.now end.now false bytes.now) }
 {
+    let Some(at) = first_marker(bytes, start) else {
+        return None;
+    };
+    let (_, behind) = bytes.split_at(at + 2);
+    match word_tag_at(behind, b"endraw", end) {
+        Some(tag) => Some((at, tag)),
+        None => end_behind(bytes, at + 2, start, end),
+    }
+}
+
+// The same, where it does not stand before this place.
+//
+// Block starts may themselves be white space. Where a tag is missed behind a run of it, none stands at any place of
+// the run: so no run is read again at each block start in it.
+fn end_behind(bytes: &[u8], first: usize, start: &[u8], end: &[u8]) -> Option<(usize, WordTag)>
+    requires start { length start.now ≡ 2 }
+    requires within { first ≤ length bytes.now }
+    requires left { raw_end start.now end.now false bytes.now ≡ further_end first (raw_end start.now end.now false (drop first bytes.now)) }
+    ensures { IsRawEndOf end.now result (raw_end start.now end.now false bytes.now) }
+{
     let starts = memmem::Finder::new(start);
-    let mut from = 0;
+    let mut from = first;
     let mut missed = 0;
     while let Some(len) = next_start(&starts, &bytes[from..]) {
         let at = from + len;
@@ -276,7 +303,7 @@ fn end_between(bytes: &[u8], start: &[u8], end: &[u8]) -> Option<(usize, WordTag
             if let Some(tag) = word_tag_at(behind, b"endraw", end) {
                 return Some((at, tag));
             }
-            missed = at + 2 + gap_len(behind);
+            missed = at + 2 + start_gap_len(behind, start);
         }
         from = at + 2;
     }
@@ -296,6 +323,19 @@ fn next_start(starts: &memmem::Finder<'_>, bytes: &[u8]) -> Option<usize>
     match starts.find(far) {
         Some(at) => Some(near + at),
         None => None,
+    }
+}
+
+// How many bytes of a gap may hold block starts: none where those begin with no white space.
+fn start_gap_len(bytes: &[u8], start: &[u8]) -> usize
+    requires { length start.now ≡ 2 }
+    ensures len { result ≤ gap_len bytes.now }
+    ensures within { result ≤ length bytes.now }
+{
+    if start[0].is_ascii_whitespace() {
+        gap_len(bytes)
+    } else {
+        0
     }
 }
 

@@ -2,7 +2,8 @@
 
 ghost use Rattle.std.specs.Prelude.{◌≡◌, ◌+◌, ◌<◌, ◌≤◌, ◌^◌, length, count_by};
 ghost use Rattle.std.specs.Bool.{OnTrue};
-ghost use Rattle.tera_lexer.specs.Place.{is_line_feed, begins_character, ArePrintable};
+ghost use Rattle.tera_lexer.specs.grammar.Place.{is_line_feed, begins_character};
+ghost use Rattle.tera_lexer.specs.code.Counting.{ArePrintable};
 
 use memchr::memrchr;
 use tera_base::Span;
@@ -19,7 +20,8 @@ pub struct Place {
 }
 
 impl Place {
-    ghost use Rattle.tera_lexer.specs.Place.{moved, joined};
+    ghost use Rattle.tera_lexer.specs.grammar.Place.{joined};
+    ghost use Rattle.tera_lexer.specs.code.Counting.{moved};
 
     /// The place behind this text, which stands at this place.
     #[inline(always)]
@@ -30,7 +32,7 @@ impl Place {
         ensures { result ≡ moved self text.now }
     {
         let bytes = text.as_bytes();
-        if bytes.len() < 16 && is_printable(bytes) {
+        if bytes.len() < 32 && is_printable(bytes) {
             Place {
                 line: self.line,
                 column: self.column + bytes.len(),

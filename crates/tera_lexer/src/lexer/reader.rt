@@ -3,24 +3,24 @@
 ghost use Rattle.std.specs.Prelude.{◌≡◌, ◌++◌, ◌<◌, ◌≤◌, ◌^◌, List, ℕ, None, Some, Ok, Err, IfOk, IsUtf8, length, take, drop, string_bytes, true, false};
 ghost use Rattle.std.specs.Char.{is_ascii_whitespace};
 ghost use Rattle.std.specs.Str.{IsCharBoundary};
-ghost use Rattle.tera_lexer.specs.Marks.{marks_of, end_marker, IsValid};
-ghost use Rattle.tera_lexer.specs.Place.{place_after, span_of, IsWithin};
-ghost use Rattle.tera_lexer.specs.Lexeme.{StopsAt, is_at_end};
-ghost use Rattle.tera_lexer.specs.Left.{start_of, left_of, whole_of, stream_of, item_count};
-ghost use Rattle.tera_lexer.specs.Lexed.{AreLexed};
-ghost use Rattle.tera_lexer.specs.Trimming.{trimmed};
-ghost use Rattle.tera_lexer.specs.Tokens.{Finish};
-ghost use Rattle.tera_lexer.specs.Seen.{seen};
-ghost use Rattle.tera_lexer.specs.Front.{front_of};
-ghost use Rattle.tera_lexer.specs.Found.{IsEscapedAt};
-ghost use Rattle.tera_lexer.specs.Markers.{IsStartOf, IsEndOf, OpensBy};
+ghost use Rattle.tera_lexer.specs.grammar.Marks.{marks_of, end_marker, IsValid};
+ghost use Rattle.tera_lexer.specs.grammar.Place.{place_after, span_of, IsWithin};
+ghost use Rattle.tera_lexer.specs.grammar.Lexeme.{StopsAt, is_at_end};
+ghost use Rattle.tera_lexer.specs.reading.Left.{start_of, left_of, whole_of, stream_of, item_count};
+ghost use Rattle.tera_lexer.specs.grammar.Lexed.{AreLexed};
+ghost use Rattle.tera_lexer.specs.grammar.Trimming.{trimmed};
+ghost use Rattle.tera_lexer.specs.grammar.Tokens.{Finish};
+ghost use Rattle.tera_lexer.specs.code.Seen.{seen};
+ghost use Rattle.tera_lexer.specs.reading.Front.{front_of};
+ghost use Rattle.tera_lexer.specs.code.Found.{IsEscapedAt};
+ghost use Rattle.tera_lexer.specs.code.Markers.{IsStartOf, IsEndOf, OpensBy};
 ghost use Rattle.tera_base.specs.Errors.{Tells};
-ghost use Rattle.tera_lexer.specs.Steps.{Steps, IsPart};
+ghost use Rattle.tera_lexer.specs.code.Steps.{Steps, IsPart};
 
 use crate::lexer::delimiters::{Delimiters, Kind};
 use crate::lexer::lexeme::{Class, Fault, Found, lexeme_at, run_len, unescape};
 use crate::lexer::markers::{
-    WordTag, dash_len, end_at, find_marker, raw_end, start_at, starts_dashed, text_len, word_tag_at,
+    WordTag, dash_len, end_at, find_marker, raw_end, raw_tag_at, start_at, starts_dashed, text_len,
 };
 use crate::lexer::place::Place;
 use crate::lexer::tokens::Token;
@@ -41,11 +41,11 @@ pub(crate) struct Reader<'a> {
 }
 
 impl<'a> Model for Reader<'a> {
-    ghost use Rattle.tera_lexer.specs.State.{Reading};
+    ghost use Rattle.tera_lexer.specs.reading.State.{Progress};
 
-    ghost Value = { Reading };
+    ghost Value = { Progress };
 
-    ghost use Rattle.tera_lexer.specs.StateView.{reading_of, IsAtPlace};
+    ghost use Rattle.tera_lexer.specs.code.StateView.{reading_of, IsAtPlace};
 
     ghost view = { reading_of };
 
@@ -107,7 +107,7 @@ impl<'a> Reader<'a> {
 
     // The next bytes, and the place behind them.
     #[inline(always)]
-    fn ahead(&self, n: usize) -> (&'a str, Place)
+    fn peek(&self, n: usize) -> (&'a str, Place)
         requires { IsCharBoundary self.now.rest n }
         ensures text { result.0.now ≡ take n self.now.rest }
         ensures place { result.1 ≡ place_after (self.now.front ++ take n self.now.rest) }
@@ -127,7 +127,7 @@ impl<'a> Reader<'a> {
         ensures span { result.1 ≡ span_of self.old.front (take n self.old.rest) }
         ensures within { IsWithin (whole_of self.old) result.1 }
     {
-        let (text, end) = self.ahead(n);
+        let (text, end) = self.peek(n);
         let span = self.place.to(end);
         self.place = end;
         (text, span)
@@ -140,7 +140,7 @@ impl<'a> Reader<'a> {
         ensures within { IsWithin (whole_of self.old) (span_of self.old.front (take len self.old.rest)) }
         ensures error { (text : List ℕ) → IfOk message (λ t. string_bytes t ≡ text) → Tells text (span_of self.old.front (take len self.old.rest)) result }
     {
-        let (_, end) = self.ahead(len);
+        let (_, end) = self.peek(len);
         let span = self.place.to(end);
         self.failed = true;
         Error::reported(self.alloc, message, &span)
@@ -196,7 +196,7 @@ impl<'a> Reader<'a> {
         let len = self.delimiters.block_start.len() + dash_len(dash);
         let (_, behind) = self.rest().split_at(len);
         let end = self.delimiters.block_end.as_str().as_bytes();
-        if let Some(opening) = word_tag_at(behind.as_bytes(), b"raw", end) {
+        if let Some(opening) = raw_tag_at(behind.as_bytes(), end) {
             return self.raw(dash, opening);
         }
         let (_, span) = self.advance(len);

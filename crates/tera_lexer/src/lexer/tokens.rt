@@ -65,7 +65,7 @@ pub enum Token<'a> {
 
 impl Token<'_> {
     ghost use Rattle.std.specs.Prelude.{◌≡◌};
-    ghost use Rattle.tera_lexer.specs.Seen.{seen, displayed};
+    ghost use Rattle.tera_lexer.specs.code.Seen.{seen, displayed};
 
     // What messages call it.
     fn name(&self) -> &'static str
@@ -121,7 +121,7 @@ impl Token<'_> {
 
 impl fmt::Display for Token<'_> {
     ghost use Rattle.std.specs.Prelude.{Some};
-    ghost use Rattle.tera_lexer.specs.Seen.{seen, displayed};
+    ghost use Rattle.tera_lexer.specs.code.Seen.{seen, displayed};
 
     ghost output = { λ t. Some (displayed (seen t)) };
 

@@ -1,5 +1,5 @@
 use Rattle.std.proofs.Common.{suc, length, arith}
-use Rattle.tera_lexer.specs.Front.{division_of}
+use Rattle.tera_lexer.specs.reading.Front.{division_of}
 use Rattle.tera_lexer.proofs.Divisions.{division_stands, division_one}
 use Rattle.tera_lexer.proofs.laws.one_division.Goals as goal
 

@@ -1,5 +1,5 @@
 use Rattle.std.proofs.Common.{[], false}
-use Rattle.tera_lexer.specs.Left.{left_outside}
+use Rattle.tera_lexer.specs.reading.Left.{left_outside}
 use Rattle.tera_lexer.proofs.Lefts.{tokens_one, tokens_stand}
 use Rattle.tera_lexer.proofs.laws.one_token_list.Goals as goal
 

@@ -1,5 +1,5 @@
 use Rattle.std.proofs.Common.{◌≡◌, false, drop}
-use Rattle.tera_lexer.specs.Front.{closing_at}
+use Rattle.tera_lexer.specs.reading.Front.{closing_at}
 use Rattle.tera_lexer.proofs.Closings.{further}
 use Rattle.tera_lexer.proofs.lexer.lexeme.closing_at.Given as goal
 

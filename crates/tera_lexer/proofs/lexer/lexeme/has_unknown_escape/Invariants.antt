@@ -1,5 +1,5 @@
 use Rattle.std.proofs.Common.{◌≡◌, drop, false}
-use Rattle.tera_lexer.specs.Front.{unknown_in}
+use Rattle.tera_lexer.specs.reading.Front.{unknown_in}
 use Rattle.tera_lexer.proofs.lexer.lexeme.has_unknown_escape.Given as goal
 
 -- an unknown escape is sought in what is left

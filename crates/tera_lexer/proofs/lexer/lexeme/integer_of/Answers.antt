@@ -5,7 +5,7 @@ use Rattle.std.specs.List.{AllByRecursion}
 use Rattle.std.specs.Result.{OkIff, result_ok}
 use Rattle.std.specs.Char.{is_ascii_digit}
 use Rattle.std.proofs.lemmas.Str.Parse.{IsNumeralModel, numerals_by_fold, parse_signed_digits}
-use Rattle.tera_lexer.specs.Lexeme.{decimal, decimal_from}
+use Rattle.tera_lexer.specs.grammar.Lexeme.{decimal, decimal_from}
 use Rattle.tera_lexer.proofs.lexer.lexeme.integer_of.Goals as goal
 
 own : IsNumeralModel (AllByRecursion (λ d. is_ascii_digit d ≡ true)) decimal

@@ -1,7 +1,7 @@
 use Rattle.std.proofs.Common.{◌≡◌, ℕ, Bool, false, Some, None, List, get_or, sym, ap, ◌∙◌}
 use Rattle.std.specs.Char.{is_ascii_digit}
-use Rattle.tera_lexer.specs.Lexeme.{begins_name, is_quote, operator_at}
-use Rattle.tera_lexer.specs.Found.{IsOperatorOf}
+use Rattle.tera_lexer.specs.grammar.Lexeme.{begins_name, is_quote, operator_at}
+use Rattle.tera_lexer.specs.code.Found.{IsOperatorOf}
 use Rattle.tera_lexer.proofs.Finds.{operator_is_found, nothing_is_found}
 use Rattle.tera_lexer.proofs.lexer.lexeme.lexeme_at.Goals as goal
 use Rattle.tera_lexer.proofs.lexer.lexeme.lexeme_at.Goals.{Else-is_quote}

@@ -2,8 +2,8 @@ use Rattle.std.proofs.Common.{◌≡◌, take, ap, ◌∙◌}
 use Rattle.std.specs.List.{prefix_len}
 use Rattle.tera_lexer.proofs.Cuts.{run_cut, name_ascii}
 use Rattle.tera_lexer.proofs.Finds.{name_is_found}
-use Rattle.tera_lexer.specs.Lexeme.{goes_on_name}
-use Rattle.tera_lexer.specs.Tokens.{name_token}
+use Rattle.tera_lexer.specs.grammar.Lexeme.{goes_on_name}
+use Rattle.tera_lexer.specs.grammar.Tokens.{name_token}
 use Rattle.tera_lexer.proofs.lexer.lexeme.name_at.Goals as goal
 use Rattle.tera_lexer.proofs.lexer.lexeme.name_at.Goals.{After-run_len-len}
 

@@ -3,10 +3,10 @@ use Rattle.std.specs.List.{prefix_len}
 use Rattle.std.specs.Char.{is_ascii_digit}
 use Rattle.std.proofs.lemmas.List.{take_rest}
 use Rattle.std.proofs.lemmas.Int.{to_z_pos}
-use Rattle.tera_lexer.specs.Marks.{begins}
-use Rattle.tera_lexer.specs.Lexeme.{decimal}
-use Rattle.tera_lexer.specs.Tokens.{Integer}
-use Rattle.tera_lexer.specs.Front.{run_of, behind_run}
+use Rattle.tera_lexer.specs.grammar.Marks.{begins}
+use Rattle.tera_lexer.specs.grammar.Lexeme.{decimal}
+use Rattle.tera_lexer.specs.grammar.Tokens.{Integer}
+use Rattle.tera_lexer.specs.reading.Front.{run_of, behind_run}
 use Rattle.tera_lexer.proofs.Cuts.{run_cut, digit_ascii}
 use Rattle.tera_lexer.proofs.Finds.{float_is_found, integer_is_found, great_is_found, digits_parsed}
 use Rattle.tera_lexer.proofs.lexer.lexeme.number_at.Goals as goal

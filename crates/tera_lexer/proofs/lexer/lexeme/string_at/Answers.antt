@@ -2,8 +2,8 @@ use Rattle.std.proofs.Common.{◌≡◌, ℕ, true, false, List, [], ◌∷◌, 
 use Rattle.std.specs.Prelude.{◌==◌}
 use Rattle.std.specs.List.{list_any}
 use Rattle.std.specs.Str.{IsCharBoundary}
-use Rattle.tera_lexer.specs.Lexeme.{is_quote}
-use Rattle.tera_lexer.specs.Front.{unknown_in}
+use Rattle.tera_lexer.specs.grammar.Lexeme.{is_quote}
+use Rattle.tera_lexer.specs.reading.Front.{unknown_in}
 use Rattle.tera_lexer.proofs.Closings.{IsInsideOf}
 use Rattle.tera_lexer.proofs.Cuts.{cut_behind_byte, quote_ascii}
 use Rattle.tera_lexer.proofs.Finds.{first_and_others, unclosed_is_found, inside_is_found, inside_cut, unknown_is_found, escaped_is_found, plain_is_found}

@@ -2,8 +2,8 @@ use Rattle.std.proofs.Common.{◌≡◌, ◌++◌, ◌∷◌, [], ℕ, List, ◌
 use Rattle.std.specs.List.{prefix_len}
 use Rattle.std.specs.Str.{IsCharBoundary}
 use Rattle.std.proofs.lemmas.Str.{IsUtf8-drop, IsUtf8-take}
-use Rattle.tera_lexer.specs.Lexeme.{escaped}
-use Rattle.tera_lexer.specs.Front.{run_of, behind_run, is_plain, unescaped, unknown_in}
+use Rattle.tera_lexer.specs.grammar.Lexeme.{escaped}
+use Rattle.tera_lexer.specs.reading.Front.{run_of, behind_run, is_plain, unescaped, unknown_in}
 use Rattle.tera_lexer.proofs.Escapes.{run_unescaped, short_unescaped, escape_at, escape_cut, backslash_cut, run_cut_plain, IsEscapeAt}
 use Rattle.tera_lexer.proofs.lexer.lexeme.unescape.Goals as goal
 use Rattle.tera_lexer.proofs.lexer.lexeme.unescape.Goals.{After-plain_len, After-split_at}

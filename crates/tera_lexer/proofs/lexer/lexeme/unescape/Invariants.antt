@@ -2,7 +2,7 @@ use Rattle.std.proofs.Common.{◌≡◌, ◌++◌, length, false}
 use Rattle.std.specs.Prelude.{string_bytes}
 use denote.Shadow.{shadow}
 use denote.Text.{Utf8}
-use Rattle.tera_lexer.specs.Front.{unescaped, unknown_in}
+use Rattle.tera_lexer.specs.reading.Front.{unescaped, unknown_in}
 use Rattle.tera_lexer.proofs.lexer.lexeme.unescape.Given as goal
 
 -- the text and what is left stand for the whole

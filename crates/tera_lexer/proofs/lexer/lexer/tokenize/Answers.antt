@@ -1,7 +1,7 @@
 use Rattle.std.proofs.Common.{[], false}
-use Rattle.tera_lexer.specs.Marks.{marks_of}
-use Rattle.tera_lexer.specs.Tokens.{AreTokensOf}
-use Rattle.tera_lexer.specs.Left.{left_of}
+use Rattle.tera_lexer.specs.grammar.Marks.{marks_of}
+use Rattle.tera_lexer.specs.grammar.Tokens.{AreTokensOf}
+use Rattle.tera_lexer.specs.reading.Left.{left_of}
 use Rattle.tera_lexer.proofs.Lefts.{start_tokens}
 use Rattle.tera_lexer.proofs.Tilings.{tokens_tile, tiles_count}
 use Rattle.tera_lexer.proofs.lexer.lexer.tokenize.Goals as goal

@@ -1,6 +1,6 @@
 use Rattle.std.proofs.Common.{◌≡◌, true, [], ◌∷◌, drop, sym, ap, ◌∙◌, refl}
 use Rattle.std.proofs.lemmas.List.{take_rest}
-use Rattle.tera_lexer.specs.Marks.{begins}
+use Rattle.tera_lexer.specs.grammar.Marks.{begins}
 use Rattle.tera_lexer.proofs.Dashes.{begins_dashed, dashed_cut}
 use Rattle.tera_lexer.proofs.lexer.markers.at_dashed.Goals as goal
 

@@ -1,7 +1,7 @@
 use Rattle.std.proofs.Common.{◌≡◌, ℕ, List, Bool, true, false, length, IsUtf8, sym, ◌∙◌}
 use Rattle.std.specs.Bool.{OnTrue}
 use Rattle.std.specs.Str.{IsCharBoundary}
-use Rattle.tera_lexer.specs.Marks.{begins}
+use Rattle.tera_lexer.specs.grammar.Marks.{begins}
 use Rattle.tera_lexer.proofs.Markers.{marker_cut}
 use Rattle.tera_lexer.proofs.lexer.markers.at_marker.Goals as goal
 

@@ -1,7 +1,7 @@
 use Rattle.std.proofs.Common.{◌≡◌, List, ℕ, suc, length, false, subst, ◌∙◌, arith, IsUtf8}
-use Rattle.tera_lexer.specs.Marks.{marks_of}
-use Rattle.tera_lexer.specs.Front.{raw_end}
-use Rattle.tera_lexer.specs.Markers.{IsRawEndOf}
+use Rattle.tera_lexer.specs.grammar.Marks.{marks_of}
+use Rattle.tera_lexer.specs.reading.Front.{raw_end}
+use Rattle.tera_lexer.specs.code.Markers.{IsRawEndOf}
 use Rattle.tera_lexer.proofs.RawEnds.{raw_stands}
 use Rattle.tera_lexer.proofs.TagCuts.{raw_cuts}
 use Rattle.tera_lexer.proofs.lexer.markers.raw_end.Goals as goal

@@ -1,6 +1,6 @@
 use Rattle.std.proofs.Common.{◌≡◌, ◌+◌, ◌&&◌, ap, sym, subst, ◌∙◌, drop, List, ℕ}
-use Rattle.tera_lexer.specs.Marks.{marks_of}
-use Rattle.tera_lexer.specs.Markers.{marker_len, IsStartOf, is_block_piece, is_comment}
+use Rattle.tera_lexer.specs.grammar.Marks.{marks_of}
+use Rattle.tera_lexer.specs.code.Markers.{marker_len, IsStartOf, is_block_piece, is_comment}
 use Rattle.tera_lexer.proofs.Neighbours.{variable_dashed, block_dashed, comment_dashed, nothing_dashed}
 use Rattle.tera_lexer.proofs.lexer.markers.starts_dashed.Goals as goal
 use Rattle.tera_lexer.proofs.lexer.markers.starts_dashed.Goals.{After-start_at, After-start_at-2, After-start_at-3, After-split_at, After-split_at-in-Some-start_at-2}

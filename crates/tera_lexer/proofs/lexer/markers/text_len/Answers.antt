@@ -1,7 +1,7 @@
 use Rattle.std.proofs.Common.{◌≡◌, ◌+◌, ◌<◌, ℕ, false, length, drop, get_or, List, sym, ap, ◌∙◌, arith}
 use Rattle.std.proofs.lemmas.List.{take_rest, length-drop}
-use Rattle.tera_lexer.specs.Marks.{marks_of}
-use Rattle.tera_lexer.specs.Division.{is_at_start}
+use Rattle.tera_lexer.specs.grammar.Marks.{marks_of}
+use Rattle.tera_lexer.specs.grammar.Division.{is_at_start}
 use Rattle.tera_lexer.proofs.Texts.{FirstBytes, nowhere_before, none_passed, none_passed_yet}
 use Rattle.tera_lexer.proofs.Markers.{start_cut}
 use Rattle.tera_lexer.proofs.lexer.markers.text_len.Goals as goal

@@ -1,6 +1,6 @@
 use Rattle.std.proofs.Common.{◌≡◌, ◌<◌, ◌≤◌, ◌-◌, ℕ, false, length, drop}
-use Rattle.tera_lexer.specs.Marks.{marks_of}
-use Rattle.tera_lexer.specs.Division.{is_at_start}
+use Rattle.tera_lexer.specs.grammar.Marks.{marks_of}
+use Rattle.tera_lexer.specs.grammar.Division.{is_at_start}
 use Rattle.tera_lexer.proofs.lexer.markers.text_len.Given as goal
 
 -- no marker begins before here

@@ -1,7 +1,7 @@
 use Rattle.std.proofs.Common.{◌≡◌, true, List, ℕ, length, drop, sym, ap, ◌∙◌}
 use Rattle.std.specs.Char.{is_ascii_whitespace}
-use Rattle.tera_lexer.specs.Marks.{begins, dash_bytes}
-use Rattle.tera_lexer.specs.Front.{at_dash, behind_dash, behind_run, behind_marker}
+use Rattle.tera_lexer.specs.grammar.Marks.{begins, dash_bytes}
+use Rattle.tera_lexer.specs.reading.Front.{at_dash, behind_dash, behind_run, behind_marker}
 use Rattle.tera_lexer.proofs.WordTags.{tag_at, tag_last, tag_is_found}
 use Rattle.tera_lexer.proofs.lexer.markers.word_tag_at.Goals as goal
 
@@ -22,6 +22,6 @@ returns c =
     let end : c.split_at-5.result.1.now ≡ behind_dash (tag_last word c.args.end.now bytes)
     = c.split_at-5.ensures.back ∙ (λ i. drop ((c.dash_len-2.ensures ∙ ap (λ d. length (dash_bytes d)) dash_out) i) (last i)) in
     let ends : begins c.args.end.now (behind_dash (tag_last word c.args.end.now bytes)) ≡ true
-    = sym (ap (begins c.args.end.now) end) ∙ sym c.starts_with-2.ensures.value ∙ c.if-not-starts_with-2.false in
+    = sym (ap (begins c.args.end.now) end) ∙ sym c.begins.ensures ∙ c.if-not-begins.false in
     let rest : c.split_at-6.result.1.now ≡ behind_marker c.args.end.now (behind_dash (tag_last word c.args.end.now bytes)) = c.split_at-6.ensures.back ∙ ap (behind_marker c.args.end.now) end in
     tag_is_found word c.args.end.now bytes c.split_at-6.result.1.now c.starts_with-dash_in.result c.starts_with-dash_out.result here ends dash_in dash_out rest

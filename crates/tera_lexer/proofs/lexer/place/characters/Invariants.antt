@@ -1,6 +1,6 @@
 use Rattle.std.proofs.Common.{◌≡◌, ◌+◌, ◌≤◌, length}
 use Rattle.std.specs.Prelude.{count_by}
-use Rattle.tera_lexer.specs.Place.{begins_character}
+use Rattle.tera_lexer.specs.grammar.Place.{begins_character}
 use Rattle.tera_lexer.proofs.lexer.place.characters.Given as goal
 
 -- what is counted, and what is left

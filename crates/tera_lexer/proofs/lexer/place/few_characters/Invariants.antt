@@ -1,6 +1,6 @@
 use Rattle.std.proofs.Common.{◌≡◌, ◌≤◌, take}
 use Rattle.std.specs.Prelude.{count_by}
-use Rattle.tera_lexer.specs.Place.{begins_character}
+use Rattle.tera_lexer.specs.grammar.Place.{begins_character}
 use Rattle.tera_lexer.proofs.lexer.place.few_characters.Given as goal
 
 -- what was passed is counted

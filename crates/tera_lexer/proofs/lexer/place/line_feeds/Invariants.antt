@@ -1,6 +1,6 @@
 use Rattle.std.proofs.Common.{◌≡◌, ◌+◌, ◌≤◌, length}
 use Rattle.std.specs.Prelude.{count_by}
-use Rattle.tera_lexer.specs.Place.{is_line_feed}
+use Rattle.tera_lexer.specs.grammar.Place.{is_line_feed}
 use Rattle.tera_lexer.proofs.lexer.place.line_feeds.Given as goal
 
 -- what is counted, and what is left

@@ -1,4 +1,4 @@
-use Rattle.tera_lexer.specs.Steps.{IsPart}
+use Rattle.tera_lexer.specs.code.Steps.{IsPart}
 use Rattle.tera_lexer.proofs.Parts.{part_whole, part_part, part_start, part_end}
 use Rattle.tera_lexer.proofs.lexer.reader.trimmed.Goals as goal
 use Rattle.tera_lexer.proofs.lexer.reader.trimmed.Goals.{Joined-start, then-start, else-start}

@@ -1,6 +1,6 @@
 use Rattle.std.proofs.Common.{◌≡◌, suc, arith, ap, sym, ◌∙◌}
-use Rattle.tera_lexer.specs.Cursors.{Position}
-use Rattle.tera_lexer.specs.CursorView.{stopped_before, with_item, left_behind, in_sight}
+use Rattle.tera_lexer.specs.code.Cursors.{Position}
+use Rattle.tera_lexer.specs.code.CursorView.{stopped_before, with_item, left_behind, in_sight}
 use Rattle.tera_lexer.proofs.CursorSteps.{shown_is}
 use Rattle.tera_lexer.proofs.lexer.cursor.Cursor.first.Goals as goal
 

@@ -1,8 +1,8 @@
 use Rattle.std.proofs.Common.{◌≡◌, suc, arith, Some, Ok, ap, sym, subst, ◌∙◌}
-use Rattle.tera_lexer.specs.Cursors.{Position}
-use Rattle.tera_lexer.specs.CursorView.{stopped_before, with_item, left_behind, in_sight, IsReadAhead}
-use Rattle.tera_lexer.specs.Place.{IsWithin}
-use Rattle.tera_lexer.specs.Seen.{seen}
+use Rattle.tera_lexer.specs.code.Cursors.{Position}
+use Rattle.tera_lexer.specs.code.CursorView.{stopped_before, with_item, left_behind, in_sight, IsReadAhead}
+use Rattle.tera_lexer.specs.grammar.Place.{IsWithin}
+use Rattle.tera_lexer.specs.code.Seen.{seen}
 use Rattle.tera_lexer.proofs.CursorSteps.{shown_is}
 use Rattle.tera_lexer.proofs.lexer.cursor.Cursor.first_span.Goals as goal
 

@@ -1,9 +1,9 @@
 use Rattle.std.proofs.Common.{◌≡◌, IsUtf8, ap, sym, subst, ◌∙◌, List, ℕ, ◌<◌, ◌^◌, length, arith}
 use Rattle.std.proofs.lemmas.Str.{IsCharBoundary-start}
-use Rattle.tera_lexer.specs.Lexed.{AreLexed}
-use Rattle.tera_lexer.specs.Cursors.{size}
+use Rattle.tera_lexer.specs.grammar.Lexed.{AreLexed}
+use Rattle.tera_lexer.specs.code.Cursors.{size}
 use Rattle.std.specs.Str.{IsCharBoundary}
-use Rattle.tera_lexer.specs.Place.{IsWithin}
+use Rattle.tera_lexer.specs.grammar.Place.{IsWithin}
 use Rattle.tera_base.specs.declared.utils.Span.{Span}
 use Rattle.tera_lexer.proofs.Tilings.{size_count}
 use Rattle.tera_lexer.proofs.CursorSteps.{GoesFurther, left_on, read_ahead, steps_whole, further}

@@ -1,7 +1,7 @@
 use Rattle.std.proofs.Common.{◌≡◌, arith, ap, sym, ◌∙◌}
-use Rattle.tera_lexer.specs.Cursors.{Position}
-use Rattle.tera_lexer.specs.CursorView.{left_behind, in_sight}
-use Rattle.tera_lexer.specs.Seen.{seen}
+use Rattle.tera_lexer.specs.code.Cursors.{Position}
+use Rattle.tera_lexer.specs.code.CursorView.{left_behind, in_sight}
+use Rattle.tera_lexer.specs.code.Seen.{seen}
 use Rattle.tera_lexer.proofs.CursorSteps.{shown_is}
 use Rattle.tera_lexer.proofs.lexer.cursor.Cursor.second.Goals as goal
 

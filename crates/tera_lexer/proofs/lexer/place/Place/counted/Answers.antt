@@ -1,5 +1,5 @@
 use Rattle.std.proofs.Common.{◌+◌, ◌∙◌, ap, refl}
-use Rattle.tera_lexer.specs.Place.{begins_character}
+use Rattle.tera_lexer.specs.grammar.Place.{begins_character}
 use Rattle.std.specs.Prelude.{count_by}
 use Rattle.tera_lexer.proofs.Places.{after_part, after_lines}
 use Rattle.tera_lexer.proofs.lexer.place.Place.counted.Goals as goal

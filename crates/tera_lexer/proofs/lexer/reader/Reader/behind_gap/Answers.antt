@@ -1,9 +1,9 @@
 use Rattle.std.proofs.Common.{List, ℕ, ap, subst, refl, ◌∙◌, IsUtf8}
-use Rattle.tera_lexer.specs.Marks.{end_marker}
-use Rattle.tera_lexer.specs.State.{Reading}
-use Rattle.tera_lexer.specs.Front.{front_of}
-use Rattle.tera_lexer.specs.Found.{IsFound}
-use Rattle.tera_lexer.specs.Markers.{IsEndOf}
+use Rattle.tera_lexer.specs.grammar.Marks.{end_marker}
+use Rattle.tera_lexer.specs.reading.State.{Progress}
+use Rattle.tera_lexer.specs.reading.Front.{front_of}
+use Rattle.tera_lexer.specs.code.Found.{IsFound}
+use Rattle.tera_lexer.specs.code.Markers.{IsEndOf}
 use Rattle.tera_lexer.specs.declared.lexer.lexeme.Found.TheVariants.{Lexeme, Escaped, Fault}
 use Rattle.tera_lexer.proofs.Finds.{found_cut, front_here}
 use Rattle.tera_lexer.proofs.Readings.{lexeme_step, fault_step}
@@ -13,7 +13,7 @@ use Rattle.tera_lexer.proofs.lexer.reader.Reader.behind_gap.Goals.{After-end_at,
 -- what was found is of what is left
 end_is : (c : After-end_at) → IsEndOf (end_marker c.args.kind c.args.self.now.marks) c.args.self.now.rest c.end_at.result
 end_is c =
-    subst (λ (m : List ℕ). IsEndOf m c.args.self.now.rest c.end_at.result) (c.end.ensures ∙ ap (λ (r : Reading). end_marker c.args.kind r.marks) c.self.view_is)
+    subst (λ (m : List ℕ). IsEndOf m c.args.self.now.rest c.end_at.result) (c.end.ensures ∙ ap (λ (r : Progress). end_marker c.args.kind r.marks) c.self.view_is)
     (subst (λ (l : List ℕ). IsEndOf c.end.result.now l c.end_at.result) c.rest-rest.ensures.rest c.end_at.ensures)
 
 found_is : (c : After-lexeme_at) → IsFound c.lexeme_at.result (front_of c.args.self.now.rest)

@@ -3,29 +3,29 @@ use Rattle.std.specs.Prelude.{IfOk}
 use Rattle.std.specs.Str.{IsCharBoundary}
 use Rattle.std.proofs.lemmas.List.{length-take-le}
 use Rattle.std.proofs.lemmas.Str.{IsCharBoundary-from_rest}
-use Rattle.tera_lexer.specs.Marks.{IsValid, begins}
-use Rattle.tera_lexer.specs.State.{Reading}
-use Rattle.tera_lexer.specs.Trimming.{ends_dashed}
-use Rattle.tera_lexer.specs.Tokens.{open_comment}
-use Rattle.tera_lexer.specs.Front.{find_marker}
-use Rattle.tera_lexer.specs.Markers.{marker_len}
+use Rattle.tera_lexer.specs.grammar.Marks.{IsValid, begins}
+use Rattle.tera_lexer.specs.reading.State.{Progress}
+use Rattle.tera_lexer.specs.grammar.Trimming.{ends_dashed}
+use Rattle.tera_lexer.specs.grammar.Tokens.{open_comment}
+use Rattle.tera_lexer.specs.reading.Front.{find_marker}
+use Rattle.tera_lexer.specs.code.Markers.{marker_len}
 use Rattle.tera_lexer.proofs.TagCuts.{marker_cuts, marker_found}
 use Rattle.tera_lexer.proofs.Readings.{comment_step, open_comment_step}
 use Rattle.tera_lexer.proofs.lexer.reader.Reader.comment.Goals as goal
 use Rattle.tera_lexer.proofs.lexer.reader.Reader.comment.Goals.{After-find_marker}
 
 valid : (c : After-find_marker) → IsValid c.args.self.now.marks
-valid c = subst IsValid (ap (λ (r : Reading). r.marks) c.self.view_is) c.self.invariant.marks
+valid c = subst IsValid (ap (λ (r : Progress). r.marks) c.self.view_is) c.self.invariant.marks
 
 -- how long the start is, what is behind it, and the end marker
 start_is : (c : After-find_marker) → c.len.result + c.dash_len.result ≡ marker_len c.args.self.now.marks.comment_start c.args.dash
-start_is c = λ i. (c.len.ensures ∙ ap (λ (r : Reading). length r.marks.comment_start) c.self.view_is) i + c.dash_len.ensures i
+start_is c = λ i. (c.len.ensures ∙ ap (λ (r : Progress). length r.marks.comment_start) c.self.view_is) i + c.dash_len.ensures i
 
 behind_is : (c : After-find_marker) → c.as_bytes.result.now ≡ drop (marker_len c.args.self.now.marks.comment_start c.args.dash) c.args.self.now.rest
 behind_is c = c.as_bytes.ensures.value ∙ c.split_at.ensures.back ∙ (λ i. drop (start_is c i) (c.rest.ensures.rest i))
 
 end_is : (c : After-find_marker) → c.as_str-end.result.now ≡ c.args.self.now.marks.comment_end
-end_is c = c.as_str-end.ensures.value ∙ ap (λ (r : Reading). r.marks.comment_end) c.self.view_is
+end_is c = c.as_str-end.ensures.value ∙ ap (λ (r : Progress). r.marks.comment_end) c.self.view_is
 
 found : (c : After-find_marker) → c.find_marker.result ≡ find_marker c.args.self.now.marks.comment_end (drop (marker_len c.args.self.now.marks.comment_start c.args.dash) c.args.self.now.rest)
 found c = c.find_marker.ensures ∙ (λ i. find_marker ((c.as_bytes-2.ensures.value ∙ end_is c) i) (behind_is c i))
@@ -70,6 +70,6 @@ returns c =
     let whole : c.len.result + c.dash_len.result + (c.in-Some.len + length c.as_str-end.result.now) ≡ marker_len c.args.self.now.marks.comment_start c.args.dash + (c.in-Some.len + length c.args.self.now.marks.comment_end)
     = λ i. start_is at i + (c.in-Some.len + length (end_is at i)) in
     let trim : c.self-2.inside.trim || c.ends_with-dash_end.result ≡ c.args.self.now.trim || ends_dashed (take c.in-Some.len behind)
-    = λ i. ap (λ (r : Reading). r.trim) (c.self-2.view_is ∙ c.advance.ensures.state) i || dash i in
+    = λ i. ap (λ (r : Progress). r.trim) (c.self-2.view_is ∙ c.advance.ensures.state) i || dash i in
     comment_step c.args.self.now c.requires.going c.requires.outside (valid at) c.args.dash c.requires.starts _ c.advance.result.1 c.in-Some.len _ (sym (found at) ∙ c.in-Some.is) whole taken
     (λ i. record ((c.self-2.view_is ∙ c.advance.ensures.state) i) { trim = trim i }) c.advance.ensures.span c.advance.ensures.within

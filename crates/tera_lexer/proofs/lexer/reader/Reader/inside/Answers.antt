@@ -2,8 +2,8 @@ use Rattle.std.proofs.Common.{◌≡◌, ℕ, ◌≤◌, List, [], length, take,
 use Rattle.std.specs.Char.{is_ascii_whitespace}
 use Rattle.std.specs.List.{prefix_len}
 use Rattle.std.proofs.lemmas.List.{take_all, drop_all}
-use Rattle.tera_lexer.specs.Lexeme.{StopsAt, IsGap}
-use Rattle.tera_lexer.specs.State.{Reading}
+use Rattle.tera_lexer.specs.grammar.Lexeme.{StopsAt, IsGap}
+use Rattle.tera_lexer.specs.reading.State.{Progress}
 use Rattle.tera_lexer.proofs.Runs.{run_stands}
 use Rattle.tera_lexer.proofs.Cuts.{run_cut, space_ascii}
 use Rattle.tera_lexer.proofs.Readings.{inside_ends, gap_step}
@@ -33,7 +33,7 @@ advance-requires c =
 
 pub behind_gap-requires-clause-stops : goal.behind_gap-requires-clause-stops
 behind_gap-requires-clause-stops c =
-    subst (λ (r : Reading). StopsAt is_ascii_whitespace r.rest) (sym c.advance.ensures.state) (is_gap (goal.at.behind_gap-requires-clause-stops c).After-run_len-gap).1
+    subst (λ (r : Progress). StopsAt is_ascii_whitespace r.rest) (sym c.advance.ensures.state) (is_gap (goal.at.behind_gap-requires-clause-stops c).After-run_len-gap).1
 
 pub returns : goal.returns
 returns c =

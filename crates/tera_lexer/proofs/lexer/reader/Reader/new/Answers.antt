@@ -1,6 +1,6 @@
 use Rattle.std.proofs.Common.{refl}
 use Rattle.std.proofs.lemmas.Str.{IsCharBoundary-start}
-use Rattle.tera_lexer.specs.Place.{place_after}
+use Rattle.tera_lexer.specs.grammar.Place.{place_after}
 use Rattle.tera_lexer.proofs.lexer.reader.Reader.new.Goals as goal
 
 pub invariant_of-result : goal.invariant_of-result

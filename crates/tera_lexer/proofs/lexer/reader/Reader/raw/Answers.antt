@@ -2,27 +2,27 @@ use Rattle.std.proofs.Common.{◌≡◌, ◌+◌, ◌≤◌, List, ℕ, Option, 
 use Rattle.std.specs.Str.{IsCharBoundary}
 use Rattle.std.proofs.lemmas.List.{length-drop}
 use Rattle.std.proofs.lemmas.Str.{IsCharBoundary-from_rest}
-use Rattle.tera_lexer.specs.Marks.{Marks, IsValid, marks_of}
-use Rattle.tera_lexer.specs.State.{Reading}
-use Rattle.tera_lexer.specs.Left.{starts_dashed}
-use Rattle.tera_lexer.specs.Steps.{IsPart}
-use Rattle.tera_lexer.specs.Tokens.{open_raw}
-use Rattle.tera_lexer.specs.Trimming.{trimmed}
-use Rattle.tera_lexer.specs.Front.{RawEnd, raw_end}
+use Rattle.tera_lexer.specs.grammar.Marks.{Marks, IsValid, marks_of}
+use Rattle.tera_lexer.specs.reading.State.{Progress}
+use Rattle.tera_lexer.specs.reading.Left.{starts_dashed}
+use Rattle.tera_lexer.specs.code.Steps.{IsPart}
+use Rattle.tera_lexer.specs.grammar.Tokens.{open_raw}
+use Rattle.tera_lexer.specs.grammar.Trimming.{trimmed}
+use Rattle.tera_lexer.specs.reading.Front.{RawEnd, raw_end}
 use Rattle.tera_lexer.specs.declared.lexer.markers.WordTag.{WordTag}
-use Rattle.tera_lexer.specs.Markers.{marker_len, IsRawEndOf, IsRawCut}
+use Rattle.tera_lexer.specs.code.Markers.{marker_len, IsRawEndOf, IsRawCut}
 use Rattle.tera_lexer.proofs.Readings.{body_at, open_raw_step, raw_step}
 use Rattle.tera_lexer.proofs.lexer.reader.Reader.raw.Goals as goal
 use Rattle.tera_lexer.proofs.lexer.reader.Reader.raw.Goals.{After-rest, After-raw_end, After-len-2, Joined-opening, then-opening, else-opening, Joined-closing, then-closing, else-closing}
 
 marks_is : (c : After-rest) → marks_of c.self.inside.delimiters ≡ c.args.self.now.marks
-marks_is c = ap (λ (r : Reading). r.marks) c.self.view_is
+marks_is c = ap (λ (r : Progress). r.marks) c.self.view_is
 
 valid : (c : After-rest) → IsValid c.args.self.now.marks
 valid c = subst IsValid (marks_is c) c.self.invariant.marks
 
 start_is : (c : After-rest) → c.len.result + c.dash_len.result ≡ marker_len c.args.self.now.marks.block_start c.args.dash
-start_is c = λ i. (c.len.ensures ∙ ap (λ (r : Reading). length r.marks.block_start) c.self.view_is) i + c.dash_len.ensures i
+start_is c = λ i. (c.len.ensures ∙ ap (λ (r : Progress). length r.marks.block_start) c.self.view_is) i + c.dash_len.ensures i
 
 -- where the body begins
 begin_cut : (c : After-rest) → IsCharBoundary c.args.self.now.rest (c.len.result + c.dash_len.result + c.args.opening.len)
@@ -30,7 +30,7 @@ begin_cut c = subst (λ n. IsCharBoundary c.args.self.now.rest (n + c.args.openi
 
 -- no count outruns the source
 fits : (c : After-rest) (n : ℕ) → n ≤ length c.args.self.now.rest → Fits w64 n
-fits c n le = omega (arith, ap (λ (r : Reading). length r.rest) c.self.view_is, length-drop c.self.inside.place.byte c.self.inside.source.now, c.self.told.0)
+fits c n le = omega (arith, ap (λ (r : Progress). length r.rest) c.self.view_is, length-drop c.self.inside.place.byte c.self.inside.source.now, c.self.told.0)
 
 pub overflow_add-start-2 : goal.overflow_add-start-2
 overflow_add-start-2 c =
@@ -105,7 +105,7 @@ advance-requires c =
 -- what trims the body
 start_trims : (c : Joined-opening) → c.if-opening.trim_start ≡ c.args.opening.dash_out || c.args.self.now.trim
 start_trims c =
-    let trim : c.self.inside.trim ≡ c.args.self.now.trim = ap (λ (r : Reading). r.trim) c.self.view_is in
+    let trim : c.self.inside.trim ≡ c.args.self.now.trim = ap (λ (r : Progress). r.trim) c.self.view_is in
     elim c.if-opening.branch [
       | then-opening w ↦ w.trim_start-is ∙ w.if-opening.true ∙ ap (λ b. b || c.args.self.now.trim) (sym w.if-opening.true)
       | else-opening w ↦ w.trim_start-is ∙ trim ∙ ap (λ b. b || c.args.self.now.trim) (sym w.if-opening.false)
@@ -114,7 +114,7 @@ start_trims c =
 end_trims : (c : Joined-closing) → c.if-closing.trim_end ≡ c.in-Some.closing.dash_in || starts_dashed c.args.self.now.marks (drop (c.len.result + c.dash_len.result + c.args.opening.len + (c.in-Some.len + (c.len-2.result + c.in-Some.closing.len))) c.args.self.now.rest)
 end_trims c =
     let n = c.len.result + c.dash_len.result + c.args.opening.len + (c.in-Some.len + (c.len-2.result + c.in-Some.closing.len)) in
-    let marks : marks_of c.self.inside.delimiters ≡ c.args.self.now.marks = ap (λ (r : Reading). r.marks) c.self.view_is in
+    let marks : marks_of c.self.inside.delimiters ≡ c.args.self.now.marks = ap (λ (r : Progress). r.marks) c.self.view_is in
     let behind : c.split_at-3.result.1.now ≡ drop n c.args.self.now.rest = c.split_at-3.ensures.back ∙ ap (drop n) c.rest-2.ensures.rest in
     let next = starts_dashed c.args.self.now.marks (drop n c.args.self.now.rest) in
     elim c.if-closing.branch [
@@ -132,7 +132,7 @@ returns c =
     let ends = ends_by (marks_of c.self.inside.delimiters) c.args.self.now.marks _ _ (Some (c.in-Some.len, c.in-Some.closing)) (marks_is at.After-rest) inside (rw c.in-Some.is at c.raw_end.ensures.end) in
     let whole : c.len.result + c.dash_len.result + c.args.opening.len + (c.in-Some.len + (c.len-2.result + c.in-Some.closing.len))
     ≡ marker_len c.args.self.now.marks.block_start c.args.dash + c.args.opening.len + (c.in-Some.len + (length c.args.self.now.marks.block_start + c.in-Some.closing.len))
-    = λ i. start i + c.args.opening.len + (c.in-Some.len + ((c.len-2.ensures ∙ ap (λ (r : Reading). length r.marks.block_start) c.self.view_is) i + c.in-Some.closing.len)) in
+    = λ i. start i + c.args.opening.len + (c.in-Some.len + ((c.len-2.ensures ∙ ap (λ (r : Progress). length r.marks.block_start) c.self.view_is) i + c.in-Some.closing.len)) in
     let body : c.split_at-2.result.0.now ≡ take c.in-Some.len c.requires.opens.1 = c.split_at-2.ensures.front ∙ ap (take c.in-Some.len) inside in
     let text = c.trimmed-text.ensures.value ∙ (λ i. trimmed (start_trims at.Joined-opening i) (end_trims at.Joined-closing i) (body i)) in
     raw_step c.args.self.now c.requires.going c.requires.outside (valid at.After-rest) c.args.dash c.requires.starts c.args.opening c.requires.opens _ c.trimmed-text.result c.advance.result.1 c.in-Some.len _ c.in-Some.closing ends whole text

@@ -1,0 +1,9 @@
+pub mod Seen
+pub mod Found
+pub mod Steps
+pub mod StateView
+pub mod Counting
+pub mod Markers
+pub mod Cursors
+pub mod Codes
+pub mod CursorView

@@ -1,0 +1,59 @@
+-- What the program finds at a place in a tag, against what stands there.
+use Rattle.std.specs.Prelude.{◌≡◌, true, ℕ, Bool, List, [], ◌∷◌, length, Option, Some, None}
+use Rattle.std.specs.Char.{is_ascii_digit, is_ascii_whitespace}
+use Rattle.tera_lexer.specs.grammar.Lexeme.{goes_on_name, spelled, told, quoted, Inner, IsQuoted, written, has_escape, has_unknown_escape}
+use Rattle.tera_lexer.specs.grammar.Lexeme as lexeme
+use Rattle.tera_lexer.specs.grammar.Tokens.{Tok, token_of, fault_text, Symbol}
+use Rattle.tera_lexer.specs.reading.Front.{Front, Reads, Breaks}
+use Rattle.tera_lexer.specs.code.Seen.{seen}
+use Rattle.tera_lexer.specs.declared.lexer.tokens.Token.{Token}
+use Rattle.tera_lexer.specs.declared.lexer.lexeme.Class.{Class}
+use Rattle.tera_lexer.specs.declared.lexer.lexeme.Class.TheVariants.{Space, Name, Digit}
+use Rattle.tera_lexer.specs.declared.lexer.lexeme.Found.{Found}
+use Rattle.tera_lexer.specs.declared.lexer.lexeme.Found.TheVariants.{Lexeme, Escaped, Fault}
+
+abbrev pub passes : Class → ℕ → Bool
+passes Space b = is_ascii_whitespace b
+passes Name b = goes_on_name b
+passes Digit b = is_ascii_digit b
+
+-- the first byte passes the test
+abbrev pub BeginsBy : (ℕ → Bool) → List ℕ → Type 0
+BeginsBy p [] = ⊥
+BeginsBy p (b ∷ bs) = p b ≡ true
+
+-- the token of a lexeme that stands there, with its length
+abbrev pub IsTokenAt : Tok → ℕ → Front → Type 0
+IsTokenAt token n (Reads lexeme rest) = (token ≡ token_of lexeme) × (n ≡ length (spelled lexeme))
+IsTokenAt token n (Breaks fault) = ⊥
+
+-- the text of a fault that stands there, with the length of what it tells
+abbrev pub IsFaultAt : List ℕ → ℕ → Front → Type 0
+IsFaultAt text n (Reads lexeme rest) = ⊥
+IsFaultAt text n (Breaks fault) = (text ≡ fault_text fault) × (n ≡ length (told fault))
+
+-- the inside of a string with escapes that stands there, with the length of the string
+abbrev pub IsEscapedAt : List ℕ → ℕ → Front → Type 0
+IsEscapedAt inside n (Reads (lexeme.Quoted quote is) rest) = (inside ≡ written is) × (has_escape is ≡ true) × (n ≡ length (quoted quote is))
+IsEscapedAt inside n _ = ⊥
+
+abbrev pub IsFound : Found → Front → Type 0
+IsFound (Lexeme token n) front = IsTokenAt (seen token) n front
+IsFound (Escaped inside n) front = IsEscapedAt inside.now n front
+IsFound (Fault fault) front = IsFaultAt fault.message.now fault.len front
+
+abbrev pub found_len : Found → ℕ
+found_len (Lexeme token n) = n
+found_len (Escaped inside n) = n
+found_len (Fault fault) = fault.len
+
+-- the token of an operator, with its length
+abbrev pub IsOperatorOf : Option (Token × ℕ) → Option (List ℕ) → Type 0
+IsOperatorOf (Some p) (Some op) = (seen p.0 ≡ Symbol op) × (p.1 ≡ length op)
+IsOperatorOf None None = Unit {0}
+IsOperatorOf _ _ = ⊥
+
+abbrev pub IsTokenOf : Option Token → Option (List ℕ) → Type 0
+IsTokenOf (Some token) (Some op) = seen token ≡ Symbol op
+IsTokenOf None None = Unit {0}
+IsTokenOf _ _ = ⊥

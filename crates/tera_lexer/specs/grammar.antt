@@ -1,0 +1,11 @@
+pub mod Place
+pub mod Marks
+pub mod Lexeme
+pub mod Raw
+pub mod Division
+pub mod Trimming
+pub mod Tokens
+pub mod Tiling
+pub mod Lexed
+pub mod Faults
+pub mod Rules

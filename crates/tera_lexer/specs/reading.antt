@@ -1,0 +1,4 @@
+pub mod Front
+pub mod State
+pub mod Stream
+pub mod Left
