@@ -20,3 +20,4 @@ pub mod Peeks
 pub mod Numbers
 pub mod Repeated
 pub mod Bodiless
+pub mod InFront

@@ -1,8 +1,8 @@
 //! Laws of the grammar: each function has the law as its promise and does nothing.
 
 ghost use Rattle.std.specs.Prelude.{◌≡◌, ◌↔◌, ℕ, List, Bool, Some};
-ghost use Rattle.tera_lexer.specs.Marks.{Marks, IsValid};
-ghost use Rattle.tera_lexer.specs.Tokens.{Items, Ended};
+ghost use Rattle.tera_lexer.specs.grammar.Marks.{Marks, IsValid};
+ghost use Rattle.tera_lexer.specs.grammar.Tokens.{Items, Ended};
 ghost use Rattle.tera_base.specs.Values.{Vals, Pairs};
 ghost use Rattle.tera_grammar.specs.expressions.Concrete.{Tree, Attributes, yield, attributes_yield};
 ghost use Rattle.tera_grammar.specs.expressions.Conditions.{IsExpression, AreArgs, AreAttributes};

@@ -3,9 +3,9 @@ use Rattle.std.proofs.Common.{◌≡◌, ℕ, zero, suc, true, false, List, [], 
 use Rattle.std.specs.Prelude.{pos, negsuc}
 use Rattle.tera_base.specs.Values as values
 use Rattle.tera_base.specs.declared.utils.Span.{Span}
-use Rattle.tera_lexer.specs.Tokens as toks
-use Rattle.tera_lexer.specs.Tokens.{Items, Ended, Token, Ident, Symbol}
-use Rattle.tera_lexer.specs.Cursors.{nowhere}
+use Rattle.tera_lexer.specs.grammar.Tokens as toks
+use Rattle.tera_lexer.specs.grammar.Tokens.{Items, Ended, Token, Ident, Symbol}
+use Rattle.tera_lexer.specs.code.Cursors.{nowhere}
 use Rattle.tera_tree.specs.declared.ast.UnaryOperator.TheVariants as unary
 use Rattle.tera_tree.specs.Tree as tree
 use Rattle.tera_base.specs.Values.{TextKey, NoPairs}

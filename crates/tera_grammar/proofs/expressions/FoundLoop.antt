@@ -3,8 +3,8 @@ use Rattle.std.proofs.Common.{◌≡◌, ℕ, zero, suc, ◌+◌, ◌<◌, ◌�
 use Rattle.std.specs.List.{AllByRecursion}
 use Rattle.std.proofs.lemmas.Option.{none-some, same_Some}
 use Rattle.tera_base.specs.declared.utils.Span.{Span}
-use Rattle.tera_lexer.specs.Tokens.{Items}
-use Rattle.tera_lexer.specs.Cursors.{size}
+use Rattle.tera_lexer.specs.grammar.Tokens.{Items}
+use Rattle.tera_lexer.specs.code.Cursors.{size}
 use Rattle.tera_grammar.specs.expressions.Marks.{LeftBracket, Bar, Not, Is, If, Else, mark}
 use Rattle.tera_grammar.specs.expressions.Concrete.{Name, Negation, plainly, negated, Tree, Suffixed, Suffix, Test, Filter, Subscript, Operator, Binary, Condition, name_yield, negation_yield, op_yield, yield, suffix_yield, operator_yield}
 use Rattle.tera_grammar.specs.expressions.Powers.{left_power, right_power, AtLeast, Above, Carries}

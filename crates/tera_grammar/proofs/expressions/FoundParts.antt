@@ -2,7 +2,7 @@
 use Rattle.std.proofs.Common.{◌≡◌, ℕ, zero, suc, ◌+◌, ◌≤◌, Bool, Some, None, refl, sym, ap, subst, ◌∙◌, arith}
 use Rattle.std.proofs.lemmas.Option.{same_Some}
 use Rattle.tera_base.specs.declared.utils.Span.{Span}
-use Rattle.tera_lexer.specs.Cursors.{size}
+use Rattle.tera_lexer.specs.code.Cursors.{size}
 use Rattle.tera_grammar.specs.expressions.Marks.{Mark, LeftParen, RightBracket, Colon, Dot, mark}
 use Rattle.tera_grammar.specs.expressions.Concrete.{Dotted, no_dots, dots, Tree, Links, no_links, field, item, Sub, index, slice, Part, absent, present, Extra, no_extra, extra, Args, no_args, args, name_yield, joint_yield, bracket_yield, dotted_yield, yield, links_yield, sub_yield, part_yield, extra_yield, args_yield}
 use Rattle.tera_grammar.specs.expressions.Conditions.{is_field_of, AreLinks, IsSub, IsPart, IsExtra, AreArgs}

@@ -1,7 +1,7 @@
 -- The tokens of an expression are more than none.
 use Rattle.std.proofs.Common.{◌<◌, ◌≤◌, arith}
-use Rattle.tera_lexer.specs.Tokens.{Items}
-use Rattle.tera_lexer.specs.Cursors.{size}
+use Rattle.tera_lexer.specs.grammar.Tokens.{Items}
+use Rattle.tera_lexer.specs.code.Cursors.{size}
 use Rattle.tera_grammar.specs.expressions.Operators.{Div, GreaterThan, In}
 use Rattle.tera_grammar.specs.expressions.Marks.{Mark, RightParen, RightBracket, RightBrace, Comma, Colon, If, Else, For, Operation, mark}
 use Rattle.tera_grammar.specs.expressions.Concrete.{Sign, Negative, Negates, Joint, plain_dot, optional_dot, Bracket, plain_bracket, optional_bracket, Negation, plainly, negated, Second, no_second, second, Dotted, no_dots, dots, Op, Single, NotIn, Kind, of_arguments, of_items, of_entries, Tree, Atomic, Prefix, Suffixed, Infix, Atom, Literal, Nothing, Chain, Call, Paren, Array, Comprehension, Map, Component, Links, no_links, field, item, Sub, index, slice, Part, absent, present, Extra, no_extra, extra, Row, ended, only, then, Element, plain, spread, pair, argument, Attributes, no_attributes, bare, quoted, valued, spreading, Suffix, Test, Filter, Subscript, Args, no_args, args, Operator, Binary, Condition, name_yield, sign_yield, joint_yield, bracket_yield, negation_yield, second_yield, dotted_yield, op_yield, closing, yield, atom_yield, links_yield, sub_yield, part_yield, extra_yield, row_yield, element_yield, attributes_yield, suffix_yield, args_yield, operator_yield}

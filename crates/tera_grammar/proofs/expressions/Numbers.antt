@@ -6,8 +6,8 @@ use Rattle.std.specs.Cmp.Lexicographic.{slice_cmp}
 use Rattle.tera_base.specs.Values as values
 use Rattle.tera_base.specs.Values.{KeyVal, Val, Vals, Pairs}
 use Rattle.tera_base.specs.declared.utils.Span.{Span}
-use Rattle.tera_lexer.specs.Tokens as toks
-use Rattle.tera_lexer.specs.Tokens.{Tok, Items, Token}
+use Rattle.tera_lexer.specs.grammar.Tokens as toks
+use Rattle.tera_lexer.specs.grammar.Tokens.{Tok, Items, Token}
 use Rattle.tera_tree.specs.Tree as tree
 use Rattle.tera_tree.specs.Tree.{Expr}
 use Rattle.tera_grammar.specs.expressions.Marks.{Mark, mark, mark_token, RightParen, RightBracket, RightBrace, Comma, Colon, If, Else, Operation}

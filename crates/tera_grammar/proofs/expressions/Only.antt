@@ -3,8 +3,8 @@ use Rattle.std.proofs.Common.{◌≡◌, ℕ, ◌+◌, Bool, Option, Some, None,
 use Rattle.std.proofs.lemmas.Option.{same_Some}
 use Rattle.tera_base.specs.Values as values
 use Rattle.tera_base.specs.declared.utils.Span.{Span}
-use Rattle.tera_lexer.specs.Tokens.{Items}
-use Rattle.tera_lexer.specs.Cursors.{nowhere}
+use Rattle.tera_lexer.specs.grammar.Tokens.{Items}
+use Rattle.tera_lexer.specs.code.Cursors.{nowhere}
 use Rattle.tera_grammar.specs.expressions.Marks.{LeftParen, Dot}
 use Rattle.tera_grammar.specs.expressions.Concrete.{Row, ended, Attributes, Args, no_args, args, attributes_yield}
 use Rattle.tera_grammar.specs.expressions.Conditions.{AreAttributes, AreArgs}

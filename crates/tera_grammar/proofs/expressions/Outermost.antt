@@ -1,7 +1,7 @@
 -- Outermost values have links of their own.
 use Rattle.std.proofs.Common.{◌≡◌, ℕ, zero, suc, ◌+◌, ◌≤◌, Bool, Some, refl, ap, subst, ◌∙◌, arith}
 use Rattle.std.proofs.lemmas.Option.{same_Some}
-use Rattle.tera_lexer.specs.Tokens.{Items}
+use Rattle.tera_lexer.specs.grammar.Tokens.{Items}
 use Rattle.tera_grammar.specs.expressions.Marks.{mark}
 use Rattle.tera_grammar.specs.expressions.Concrete.{Kind, Tree, Row, ended, only, then, Element, plain, spread, pair, argument, Attributes, no_attributes, bare, quoted, valued, spreading, yield}
 use Rattle.tera_grammar.specs.expressions.Conditions.{IsExpression, IsRow, IsElement, AreAttributes}

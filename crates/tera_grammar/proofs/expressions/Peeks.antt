@@ -1,10 +1,10 @@
 -- What a program sees of the next token, and what the reading does there.
 use Rattle.std.proofs.Common.{◌≡◌, ◌≢◌, ℕ, zero, suc, false, cond, Some, None, refl, ap}
 use Rattle.tera_base.specs.declared.utils.Span.{Span}
-use Rattle.tera_lexer.specs.Tokens as toks
-use Rattle.tera_lexer.specs.Tokens.{Tok, Items, Ended, Failed, Token}
-use Rattle.tera_lexer.specs.Cursors.{Position, Sight, SeesTwo}
-use Rattle.tera_lexer.specs.Seen.{seen}
+use Rattle.tera_lexer.specs.grammar.Tokens as toks
+use Rattle.tera_lexer.specs.grammar.Tokens.{Tok, Items, Ended, Failed, Token}
+use Rattle.tera_lexer.specs.code.Cursors.{Position, Sight, SeesTwo}
+use Rattle.tera_lexer.specs.code.Seen.{seen}
 use Rattle.tera_lexer.specs.declared.lexer.tokens.Token as rust
 use Rattle.tera_lexer.specs.declared.lexer.tokens.Token.TheVariants as tokens
 use Rattle.tera_grammar.specs.expressions.Marks.{Mark, mark_token, Comma, Dot, Colon, LeftParen, RightBracket, Assign, Spread}

@@ -1,7 +1,7 @@
 -- What may follow an expression, and where the reading stops.
 use Rattle.std.proofs.Common.{◌≡◌, ℕ, ◌<◌, [], None, refl, sym, subst}
 use Rattle.tera_base.specs.declared.utils.Span.{Span}
-use Rattle.tera_lexer.specs.Tokens.{Items}
+use Rattle.tera_lexer.specs.grammar.Tokens.{Items}
 use Rattle.tera_grammar.specs.expressions.Marks.{LeftParen, LeftBracket, mark}
 use Rattle.tera_grammar.specs.expressions.Concrete.{plain_bracket, Tree, Atomic, Prefix, Suffixed, Infix, Atom, Chain, Suffix, Test, Filter, Subscript, Args, no_args, args}
 use Rattle.tera_grammar.specs.expressions.Powers.{right_power, sign_power, right_spine, Above, NoChain}

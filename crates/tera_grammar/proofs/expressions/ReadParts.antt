@@ -3,7 +3,7 @@ use Rattle.std.proofs.Common.{◌≡◌, ℕ, zero, suc, ◌+◌, ◌≤◌, Boo
 use Rattle.std.proofs.lemmas.Bool.{cases_Bool}
 use Rattle.std.proofs.lemmas.Slice.Eq.{bytes_eq-Decides}
 use Rattle.tera_base.specs.declared.utils.Span.{Span}
-use Rattle.tera_lexer.specs.Tokens.{Items, Token}
+use Rattle.tera_lexer.specs.grammar.Tokens.{Items, Token}
 use Rattle.tera_grammar.specs.expressions.Operators.{Div, Minus, LessThan, GreaterThan, In}
 use Rattle.tera_grammar.specs.expressions.Marks.{Mark, LeftParen, RightParen, LeftBracket, RightBracket, LeftBrace, Comma, Colon, Spread, Not, If, For, Operation, mark_token, mark}
 use Rattle.tera_grammar.specs.expressions.Concrete.{Name, Simple, Escaped, Lit, Number, Quoted, Truth, Sign, Negative, Negates, Joint, plain_dot, optional_dot, Bracket, plain_bracket, optional_bracket, Second, no_second, second, Dotted, of_arguments, of_items, of_entries, Tree, Atomic, Prefix, Suffixed, Infix, Atom, Literal, Nothing, Chain, Call, Paren, Array, Comprehension, Map, Component, Links, no_links, field, item, Sub, index, slice, Part, absent, present, Extra, no_extra, extra, Row, ended, only, then, Element, plain, spread, pair, argument, Attributes, no_args, args, literal_token, name_yield, sign_yield, joint_yield, bracket_yield, second_yield, dotted_yield, yield, atom_yield, links_yield, part_yield, extra_yield, row_yield, element_yield, attributes_yield}

@@ -4,9 +4,9 @@ use Rattle.std.proofs.lemmas.Option.{none-some, same_Some}
 use Rattle.tera_base.specs.Errors.{IsMemory}
 use Rattle.tera_base.specs.declared.errors.Error.{Error}
 use Rattle.tera_base.specs.declared.utils.Span.{Span}
-use Rattle.tera_lexer.specs.Cursors.{Position, TakesOne, size}
-use Rattle.tera_lexer.specs.Steps.{Stops}
-use Rattle.tera_lexer.specs.Tokens.{Tok, Items, Token, Ended, Failed, Ident, Symbol}
+use Rattle.tera_lexer.specs.code.Cursors.{Position, TakesOne, size}
+use Rattle.tera_lexer.specs.code.Steps.{Stops}
+use Rattle.tera_lexer.specs.grammar.Tokens.{Tok, Items, Token, Ended, Failed, Ident, Symbol}
 use Rattle.tera_tree.specs.Tree as tree
 use Rattle.tera_base.specs.Values as values
 use Rattle.tera_grammar.specs.expressions.Operators.{BinaryOperator, StrConcat, Minus, LessThan}

@@ -2,7 +2,7 @@
 -- of a program.
 use Rattle.std.proofs.Common.{◌≡◌, ℕ, zero, suc, ◌<◌, ◌≤◌, Bool, cond, Some, None, refl, sym, ap, subst, ◌∙◌, arith, lt_trans}
 use Rattle.tera_base.specs.declared.utils.Span.{Span}
-use Rattle.tera_lexer.specs.Cursors.{size}
+use Rattle.tera_lexer.specs.code.Cursors.{size}
 use Rattle.tera_grammar.specs.expressions.Marks.{LeftBrace, RightBrace, Comma, Dot, Spread, Assign, mark}
 use Rattle.tera_grammar.specs.expressions.Concrete.{Name, Quote, Dotted, dots, Kind, Tree, Links, field, item, Row, then, Element, Attributes, bare, quoted, valued, spreading, name_yield, joint_yield, bracket_yield, closing, yield, sub_yield}
 use Rattle.tera_grammar.specs.expressions.Conditions.{is_field_of}

@@ -1,6 +1,6 @@
 -- The number that bounds the turns has no say, so the loop obeys an equation without it.
 use Rattle.std.proofs.Common.{◌≡◌, ℕ, zero, suc, ◌<◌, Option, Some, None, refl, ap, ◌∙◌, arith}
-use Rattle.tera_lexer.specs.Cursors.{size}
+use Rattle.tera_lexer.specs.code.Cursors.{size}
 use Rattle.tera_grammar.specs.expressions.Concrete.{Tree}
 use Rattle.tera_grammar.specs.Options.{◌>>=◌}
 use Rattle.tera_grammar.specs.expressions.Reading.Front.{Place, Reads, front}

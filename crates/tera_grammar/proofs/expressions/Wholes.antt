@@ -3,7 +3,7 @@ use Rattle.std.proofs.Common.{◌≡◌, ℕ, zero, suc, ◌+◌, ◌≤◌, Boo
 use Rattle.std.proofs.lemmas.Option.{same_Some}
 use Rattle.tera_base.specs.Values as values
 use Rattle.tera_base.specs.declared.utils.Span.{Span}
-use Rattle.tera_lexer.specs.Tokens.{Items, Ended}
+use Rattle.tera_lexer.specs.grammar.Tokens.{Items, Ended}
 use Rattle.tera_grammar.specs.expressions.Marks.{LeftParen, LeftBracket, LeftBrace, Dot, mark}
 use Rattle.tera_grammar.specs.expressions.Concrete.{of_arguments, of_items, of_entries, Tree, Row, ended, only, then, Element, plain, spread, pair, argument, Attributes, Args, no_args, args, name_yield, dotted_yield, yield, row_yield, attributes_yield, args_yield}
 use Rattle.tera_grammar.specs.expressions.Conditions.{IsExpression, IsRow, AreAttributes, AreArgs}

@@ -1,10 +1,10 @@
 -- The tokens of a template leave no tag unclosed, so they are those of pieces alone.
 use Rattle.std.proofs.Common.{◌≡◌, Bool, true, false, List, [], Option, Some, None, subst, sym, refl}
 use Rattle.tera_base.specs.declared.utils.Span.{Span}
-use Rattle.tera_lexer.specs.Marks.{Marks}
-use Rattle.tera_lexer.specs.Division.{Piece, Ending, Nothing}
-use Rattle.tera_lexer.specs.Tokens as toks
-use Rattle.tera_lexer.specs.Tokens.{Items, Ended, Token, token_of, lexemes, piece_tokens, ending_tokens, tokens_of}
+use Rattle.tera_lexer.specs.grammar.Marks.{Marks}
+use Rattle.tera_lexer.specs.grammar.Division.{Piece, Ending, Nothing}
+use Rattle.tera_lexer.specs.grammar.Tokens as toks
+use Rattle.tera_lexer.specs.grammar.Tokens.{Items, Ended, Token, token_of, lexemes, piece_tokens, ending_tokens, tokens_of}
 use Rattle.tera_lexer.proofs.Closed.{pieces_closed}
 use Rattle.tera_lexer.specs.declared.lexer.delimiters.Kind.TheVariants as kind
 use Rattle.tera_grammar.specs.expressions.Operators.{GreaterThan}

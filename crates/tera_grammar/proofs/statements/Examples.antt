@@ -2,8 +2,8 @@
 use Rattle.std.proofs.Common.{◌≡◌, ℕ, Bool, true, false, List, [], ◌∷◌, codes, Option, Some, None, refl}
 use Rattle.std.specs.Prelude.{pos, negsuc}
 use Rattle.tera_base.specs.declared.utils.Span.{Span}
-use Rattle.tera_lexer.specs.Tokens as toks
-use Rattle.tera_lexer.specs.Tokens.{Tok, Items, Ended, Token, Ident, Symbol}
+use Rattle.tera_lexer.specs.grammar.Tokens as toks
+use Rattle.tera_lexer.specs.grammar.Tokens.{Tok, Items, Ended, Token, Ident, Symbol}
 use Rattle.tera_lexer.specs.declared.lexer.delimiters.Kind.TheVariants as kind
 use Rattle.tera_base.specs.Values as values
 use Rattle.tera_tree.specs.View as view

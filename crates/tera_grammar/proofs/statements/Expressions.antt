@@ -4,8 +4,8 @@
 use Rattle.std.proofs.Common.{◌≡◌, ◌≤◌, ℕ, Bool, true, false, ◌||◌, List, codes, Some, None, inl, inr, refl, sym, ap, subst, arith, le_refl}
 use Rattle.std.specs.Str.{bytes_eq}
 use Rattle.tera_base.specs.declared.utils.Span.{Span}
-use Rattle.tera_lexer.specs.Cursors.{size}
-use Rattle.tera_lexer.specs.Tokens.{Tok, Items, Token, Ident, Finish, Symbol}
+use Rattle.tera_lexer.specs.code.Cursors.{size}
+use Rattle.tera_lexer.specs.grammar.Tokens.{Tok, Items, Token, Ident, Finish, Symbol}
 use Rattle.tera_grammar.specs.expressions.Operators.{GreaterThan, Div}
 use Rattle.tera_grammar.specs.expressions.Marks.{LeftParen, Dot, mark, LeftBracket, LeftBrace, Bar, Operation}
 use Rattle.tera_grammar.specs.expressions.Concrete.{no_attributes, bare, quoted, valued, spreading, dotted_yield, row_yield, of_items, of_entries}

@@ -3,9 +3,9 @@ use Rattle.std.proofs.Common.{◌≡◌, ℕ, zero, suc, ◌≤◌, zero-le, Boo
 use Rattle.std.proofs.lemmas.Option.{same_Some}
 use Rattle.std.specs.Str.{bytes_eq}
 use Rattle.tera_base.specs.declared.utils.Span.{Span}
-use Rattle.tera_lexer.specs.Cursors.{size}
-use Rattle.tera_lexer.specs.Tokens as toks
-use Rattle.tera_lexer.specs.Tokens.{Items, Token}
+use Rattle.tera_lexer.specs.code.Cursors.{size}
+use Rattle.tera_lexer.specs.grammar.Tokens as toks
+use Rattle.tera_lexer.specs.grammar.Tokens.{Items, Token}
 use Rattle.tera_lexer.specs.declared.lexer.delimiters.Kind.TheVariants as kind
 use Rattle.tera_grammar.proofs.expressions.Fronts.{takes_ok, taken_name_ok}
 use Rattle.tera_grammar.specs.expressions.Reading.Front.{takes}

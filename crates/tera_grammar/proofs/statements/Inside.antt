@@ -1,2 +1,2 @@
 -- Tokens that leave no tag unclosed.
-pub use Rattle.tera_lexer.specs.Lexed.{IsClosed}
+pub use Rattle.tera_lexer.specs.grammar.Lexed.{IsClosed}

@@ -8,11 +8,11 @@ use Rattle.tera_base.specs.declared.utils.Span.{Span}
 use Rattle.tera_base.specs.Text.{key_text}
 use Rattle.tera_base.specs.Values as values
 use Rattle.tera_base.specs.Values.{Val, Pairs}
-use Rattle.tera_lexer.specs.Tokens as toks
-use Rattle.tera_lexer.specs.Tokens.{Tok, Items, Ended, Token, tokens_of}
-use Rattle.tera_lexer.specs.Marks.{Marks, IsValid}
-use Rattle.tera_lexer.specs.Division.{Nothing}
-use Rattle.tera_lexer.specs.Tiling.{Tile, Shows, in_tag_behind}
+use Rattle.tera_lexer.specs.grammar.Tokens as toks
+use Rattle.tera_lexer.specs.grammar.Tokens.{Tok, Items, Ended, Token, tokens_of}
+use Rattle.tera_lexer.specs.grammar.Marks.{Marks, IsValid}
+use Rattle.tera_lexer.specs.grammar.Division.{Nothing}
+use Rattle.tera_lexer.specs.grammar.Tiling.{Tile, Shows, in_tag_behind}
 use Rattle.tera_lexer.proofs.Tilings.{tokens_tile}
 use Rattle.tera_lexer.specs.declared.lexer.delimiters.Kind.TheVariants as kind
 use Rattle.tera_tree.specs.Tree as tree

@@ -3,7 +3,7 @@ use Rattle.std.proofs.Common.{◌≡◌, Bool, true, false, List, [], ◌∷◌,
 use Rattle.std.specs.Prelude.{if◌then◌else◌}
 use Rattle.std.proofs.lemmas.Option.{same_Some}
 use Rattle.tera_base.specs.declared.utils.Span.{Span}
-use Rattle.tera_lexer.specs.Tokens.{Tok, Items, Ended, Failed, Token, Content, Start, Finish, Ident}
+use Rattle.tera_lexer.specs.grammar.Tokens.{Tok, Items, Ended, Failed, Token, Content, Start, Finish, Ident}
 use Rattle.tera_lexer.specs.declared.lexer.delimiters.Kind.TheVariants as kind
 use Rattle.tera_grammar.specs.expressions.Reading.Front.{same_token, quote_of, taken_quote}
 use Rattle.tera_grammar.specs.expressions.Concrete.{Quote, quote_token}

@@ -1,8 +1,8 @@
 -- From the tokens of a whole source to its derivation.
 use Rattle.std.proofs.Common.{◌≡◌, ℕ, List, [], Some, None, subst, sym, refl, ap, ◌∙◌}
-use Rattle.tera_lexer.specs.Marks.{Marks, IsValid}
-use Rattle.tera_lexer.specs.Division.{Nothing, IsDivision}
-use Rattle.tera_lexer.specs.Tokens.{Items, tokens_of, AreTokensOf}
+use Rattle.tera_lexer.specs.grammar.Marks.{Marks, IsValid}
+use Rattle.tera_lexer.specs.grammar.Division.{Nothing, IsDivision}
+use Rattle.tera_lexer.specs.grammar.Tokens.{Items, tokens_of, AreTokensOf}
 use Rattle.tera_lexer.proofs.Lefts.{tokens_one}
 use Rattle.tera_tree.specs.Tree.{Output}
 use Rattle.tera_grammar.specs.statements.Expressions.{Limits}

@@ -3,7 +3,7 @@
 use Rattle.std.specs.Prelude.{◌≡◌, ℕ, ◌+◌, ◌≤◌, Bool, false, List, Option, Some}
 use Rattle.tera_base.specs.Values as values
 use Rattle.tera_base.specs.declared.utils.Span.{Span}
-use Rattle.tera_lexer.specs.Tokens.{Items}
+use Rattle.tera_lexer.specs.grammar.Tokens.{Items}
 use Rattle.tera_tree.specs.Tree as tree
 use Rattle.tera_base.specs.Values.{NoPairs}
 use Rattle.tera_tree.specs.Tree.{Expr}

@@ -3,8 +3,8 @@
 -- n, m, w names, x and row what their types say, r the tokens behind; the other letters are spans of marks.
 use Rattle.std.specs.Prelude.{ℕ, ℤ, Bool, List}
 use Rattle.tera_base.specs.declared.utils.Span.{Span}
-use Rattle.tera_lexer.specs.Tokens as toks
-use Rattle.tera_lexer.specs.Tokens.{Tok, Items, Token}
+use Rattle.tera_lexer.specs.grammar.Tokens as toks
+use Rattle.tera_lexer.specs.grammar.Tokens.{Tok, Items, Token}
 use Rattle.tera_grammar.specs.expressions.Operators.{BinaryOperator, Div, GreaterThan, In, LessThan, Minus}
 use Rattle.tera_grammar.specs.expressions.Marks.{Mark, mark, LeftParen, RightParen, LeftBracket, RightBracket, QuestionBracket, LeftBrace, RightBrace, Comma, Colon, Dot, QuestionDot, Spread, Assign, Bar, Not, Is, If, Else, For, Operation}
 

@@ -5,7 +5,7 @@ use Rattle.tera_base.specs.Values as values
 use Rattle.tera_base.specs.Values.{Val, Vals, Pairs}
 use Rattle.tera_tree.specs.Tree as tree
 use Rattle.tera_tree.specs.Tree.{Expr}
-pub use Rattle.tera_lexer.specs.Lexed.{EachNumber}
+pub use Rattle.tera_lexer.specs.grammar.Lexed.{EachNumber}
 
 -- a number that a literal may be, with either sign: at most the greatest `i64`, greater than the least
 abbrev pub IsLiteralNumber : ℤ → Type 0

@@ -2,7 +2,7 @@
 -- of this, since each of its tags is closed.
 use Rattle.std.specs.Prelude.{◌≡◌, ◌⊎◌, Bool}
 use Rattle.tera_base.specs.declared.utils.Span.{Span}
-use Rattle.tera_lexer.specs.Tokens.{Tok, Items, Token, Finish}
+use Rattle.tera_lexer.specs.grammar.Tokens.{Tok, Items, Token, Finish}
 use Rattle.tera_lexer.specs.declared.lexer.delimiters.Kind as kinds
 use Rattle.tera_grammar.specs.expressions.Operators.{Div, GreaterThan}
 use Rattle.tera_grammar.specs.expressions.Marks.{Mark, mark, mark_token, RightParen, RightBracket, RightBrace, Comma, Colon, Else, For, Bar, Dot, Operation}

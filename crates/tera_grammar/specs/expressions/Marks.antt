@@ -1,7 +1,7 @@
 -- The tokens that are always the same, by name: marks, operators and words.
 use Rattle.std.specs.Prelude.{codes, []}
 use Rattle.tera_base.specs.declared.utils.Span.{Span}
-use Rattle.tera_lexer.specs.Tokens.{Tok, Items, Token, Content, Ident, Symbol}
+use Rattle.tera_lexer.specs.grammar.Tokens.{Tok, Items, Token, Content, Ident, Symbol}
 use Rattle.tera_grammar.specs.expressions.Operators.{BinaryOperator, Mul, Div, Mod, Plus, Minus, FloorDiv, Power, LessThan, GreaterThan, LessThanOrEqual, GreaterThanOrEqual, Equal, NotEqual, And, Or, StrConcat, In}
 
 pub data Mark : Type 0 where

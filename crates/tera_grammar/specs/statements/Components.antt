@@ -2,8 +2,8 @@
 use Rattle.std.specs.Prelude.{◌≡◌, ℕ, ℤ, Bool, true, false, ◌||◌, List, [], ◌∷◌, codes, Option, Some, None, is_some, neg_ℤ}
 use Rattle.std.specs.Str.{bytes_eq}
 use Rattle.tera_base.specs.declared.utils.Span.{Span}
-use Rattle.tera_lexer.specs.Tokens as toks
-use Rattle.tera_lexer.specs.Tokens.{Items, Token, Ident}
+use Rattle.tera_lexer.specs.grammar.Tokens as toks
+use Rattle.tera_lexer.specs.grammar.Tokens.{Items, Token, Ident}
 use Rattle.tera_base.specs.Values as values
 use Rattle.tera_base.specs.Values.{Val, Pairs, NoPairs, OnePair}
 use Rattle.tera_base.specs.Text.{key_text}

@@ -4,7 +4,7 @@
 use Rattle.std.specs.Prelude.{ℕ, Bool, List}
 use Rattle.tera_base.specs.Values.{Vals, Pairs}
 use Rattle.tera_base.specs.declared.utils.Span.{Span}
-use Rattle.tera_lexer.specs.Tokens.{Items}
+use Rattle.tera_lexer.specs.grammar.Tokens.{Items}
 use Rattle.tera_tree.specs.Tree.{Expr, Entries}
 use Rattle.tera_grammar.specs.expressions.Concrete as concrete
 use Rattle.tera_grammar.specs.expressions.Concrete.{Tree}

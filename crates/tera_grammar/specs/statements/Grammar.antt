@@ -2,8 +2,8 @@
 -- bodies stand. Variable letters: t, e tags at the start and the end, b a body, n a name, l the limits.
 use Rattle.std.specs.Prelude.{◌≡◌, ℕ, suc, max, Bool, true, false, ◌&&◌, List, [], ◌∷◌, Option, Some, None}
 use Rattle.tera_base.specs.declared.utils.Span.{Span}
-use Rattle.tera_lexer.specs.Tokens as toks
-use Rattle.tera_lexer.specs.Tokens.{Items, Token}
+use Rattle.tera_lexer.specs.grammar.Tokens as toks
+use Rattle.tera_lexer.specs.grammar.Tokens.{Items, Token}
 use Rattle.tera_lexer.specs.declared.lexer.delimiters.Kind.TheVariants as kind
 use Rattle.tera_grammar.specs.expressions.Concrete.{Quote, quote_token}
 use Rattle.tera_grammar.specs.expressions.Marks.{mark, Assign}

@@ -1,7 +1,7 @@
 -- The parts that all tags have: their markers, and the token that says what they do.
 use Rattle.std.specs.Prelude.{Bool, true, false, codes, Option, Some, None}
 use Rattle.tera_base.specs.declared.utils.Span.{Span}
-use Rattle.tera_lexer.specs.Tokens.{Tok, Items, Token, Start, Finish, Ident, Symbol}
+use Rattle.tera_lexer.specs.grammar.Tokens.{Tok, Items, Token, Start, Finish, Ident, Symbol}
 use Rattle.tera_lexer.specs.declared.lexer.delimiters.Kind.TheVariants as kind
 pub use Rattle.tera_grammar.specs.expressions.Concrete.{Name, name_yield}
 

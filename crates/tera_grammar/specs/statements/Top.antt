@@ -2,9 +2,9 @@
 use Rattle.std.specs.Prelude.{◌≡◌, ◌≤◌, ℕ, Bool, true, false, List, [], ◌∷◌, ◌⊎◌}
 use Rattle.std.specs.Str.{trim_start}
 use Rattle.tera_base.specs.declared.utils.Span.{Span}
-use Rattle.tera_lexer.specs.Marks.{Marks}
-use Rattle.tera_lexer.specs.Division.{Piece, Nothing, IsDivision}
-use Rattle.tera_lexer.specs.Tokens.{Items, Ended, tokens_of}
+use Rattle.tera_lexer.specs.grammar.Marks.{Marks}
+use Rattle.tera_lexer.specs.grammar.Division.{Piece, Nothing, IsDivision}
+use Rattle.tera_lexer.specs.grammar.Tokens.{Items, Ended, tokens_of}
 use Rattle.tera_tree.specs.Tree.{Output}
 use Rattle.tera_grammar.specs.expressions.Concrete.{Quote}
 use Rattle.tera_grammar.specs.statements.Names.{NamesAreDistinct}

@@ -1,7 +1,7 @@
 -- Reading what an operand begins with, up to its suffixes.
 use Rattle.std.specs.Prelude.{ℕ, cond, Option, Some, None}
 use Rattle.tera_base.specs.declared.utils.Span.{Span}
-use Rattle.tera_lexer.specs.Tokens.{Tok, Items, Token, Ident, Symbol}
+use Rattle.tera_lexer.specs.grammar.Tokens.{Tok, Items, Token, Ident, Symbol}
 use Rattle.tera_grammar.specs.expressions.Operators.{Minus, LessThan, Div, GreaterThan, In}
 use Rattle.tera_grammar.specs.expressions.Marks.{Mark, LeftParen, RightParen, LeftBracket, RightBracket, LeftBrace, Comma, For, If, Operation}
 use Rattle.tera_grammar.specs.expressions.Concrete.{Name, Lit, Sign, Negative, Negates, Second, no_second, second, of_items, of_entries, Tree, Atomic, Prefix, Literal, Nothing, Chain, Call, Paren, Array, Comprehension, Map, Component, ended, Element, plain}

@@ -1,7 +1,7 @@
 -- Reading an expression by powers.
 use Rattle.std.specs.Prelude.{ℕ, zero, suc, cond, ltb, Option, Some, None}
 use Rattle.tera_base.specs.declared.utils.Span.{Span}
-use Rattle.tera_lexer.specs.Cursors.{size}
+use Rattle.tera_lexer.specs.code.Cursors.{size}
 use Rattle.tera_grammar.specs.expressions.Marks.{Not, Else}
 use Rattle.tera_grammar.specs.expressions.Concrete.{Negation, plainly, negated, Tree, Suffixed, Infix, Suffix, Test, Filter, Subscript, Operator, Binary, Condition}
 use Rattle.tera_grammar.specs.expressions.Powers.{right_power}

@@ -1,6 +1,6 @@
 -- Reading what stands outermost, from tokens alone.
 use Rattle.std.specs.Prelude.{Bool, false, Option, Some, None}
-use Rattle.tera_lexer.specs.Tokens.{Items}
+use Rattle.tera_lexer.specs.grammar.Tokens.{Items}
 use Rattle.tera_base.specs.Values as values
 use Rattle.tera_grammar.specs.expressions.Marks.{LeftParen, LeftBracket, LeftBrace}
 use Rattle.tera_grammar.specs.expressions.Concrete.{Tree, Attributes, of_items, of_entries}

@@ -1,8 +1,8 @@
 -- Reading the definition of a component, but for its body.
 use Rattle.std.specs.Prelude.{ℕ, zero, suc, Bool, true, false, not, List, [], ◌∷◌, ◌++◌, Option, Some, None}
 use Rattle.tera_base.specs.declared.utils.Span.{Span}
-use Rattle.tera_lexer.specs.Cursors.{size}
-use Rattle.tera_lexer.specs.Tokens.{Tok, Items, Token, Ident, Integer, Symbol}
+use Rattle.tera_lexer.specs.code.Cursors.{size}
+use Rattle.tera_lexer.specs.grammar.Tokens.{Tok, Items, Token, Ident, Integer, Symbol}
 use Rattle.tera_grammar.specs.expressions.Reading.Front.{takes, begins, taken_name, Takes, among, literal_of}
 use Rattle.tera_grammar.specs.expressions.Operators.{Minus}
 use Rattle.tera_grammar.specs.expressions.Marks.{mark, Mark, LeftParen, RightParen, LeftBracket, LeftBrace, Comma, Colon, Spread, Assign, At, Operation}

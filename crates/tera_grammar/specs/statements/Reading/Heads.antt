@@ -1,8 +1,8 @@
 -- Reading the heads of statements.
 use Rattle.std.specs.Prelude.{ℕ, zero, suc, Bool, true, not, Option, Some, None}
 use Rattle.tera_base.specs.declared.utils.Span.{Span}
-use Rattle.tera_lexer.specs.Cursors.{size}
-use Rattle.tera_lexer.specs.Tokens.{Items}
+use Rattle.tera_lexer.specs.code.Cursors.{size}
+use Rattle.tera_lexer.specs.grammar.Tokens.{Items}
 use Rattle.tera_grammar.specs.expressions.Reading.Front.{at, takes, taken_name, Takes}
 use Rattle.tera_grammar.specs.expressions.Operators.{In}
 use Rattle.tera_grammar.specs.expressions.Marks.{Bar, Operation}
