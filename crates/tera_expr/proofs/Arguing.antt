@@ -1,5 +1,5 @@
 -- Arguments that are read one after another.
-use Rattle.std.proofs.Common.{◌≡◌, ◌⊎◌, inl, inr, ⊎_elim, ℕ, Bool, true, false, ◌||◌, cond, List, [], ◌∷◌, ◌++◌, append-nil, append_assoc, Option, Some, None, Global, String, string_bytes, Ordering, Less, Equal, Greater, nat_cmp, string_cmp, refl, sym, ap, subst, ◌∙◌}
+use Rattle.std.proofs.Common.{◌≡◌, ℕ, Bool, true, false, ◌||◌, cond, List, [], ◌∷◌, ◌++◌, append-nil, append_assoc, Option, Some, Global, String, string_bytes, Ordering, Less, Equal, Greater, nat_cmp, string_cmp, refl, sym, ap, ◌∙◌}
 use Rattle.std.specs.Option.{is_some}
 use Rattle.std.specs.Ordering.{is_eq, match_ordering}
 use Rattle.std.specs.Str.{bytes_eq}
@@ -10,7 +10,6 @@ use Rattle.std.proofs.lemmas.Map.Text.{is_eq-slice_cmp}
 use Rattle.std.proofs.lemmas.List.Folds.{list_any-append}
 use Rattle.std.proofs.lemmas.Slice.Eq.{bytes_eq-Decides}
 use Rattle.tera_base.specs.declared.utils.Span.{Span}
-use Rattle.tera_tree.specs.Tree as tree
 use Rattle.tera_tree.specs.Tree.{Expr, Args, NoArgs, Arg}
 use Rattle.tera_tree.specs.View.{args_view, expression_view}
 use Rattle.tera_tree.specs.declared.ast.Expression.{Expression}
@@ -19,7 +18,7 @@ use Rattle.tera_grammar.specs.expressions.Concrete.{Name, Tree, Row, ended, only
 use Rattle.tera_grammar.specs.expressions.Conditions.{argument_names}
 use Rattle.tera_grammar.specs.expressions.Output.{output, arguments_output, put_arg}
 use Rattle.tera_grammar.specs.expressions.Spans.{row_end}
-use Rattle.tera_grammar.proofs.expressions.Repeated.{twice, once}
+use Rattle.tera_grammar.proofs.expressions.Repeated.{once}
 use Rattle.tera_expr.specs.Rows.{has_argument}
 
 cond_some : {A : Type 0} (b : Bool) (x : A) (o : Option A) → is_some (cond b (Some x) o) ≡ (b || is_some o)

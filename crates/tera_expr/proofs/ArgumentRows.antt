@@ -3,8 +3,8 @@ use Rattle.std.proofs.Common.{◌≡◌, inl, inr, ℕ, Bool, true, false, cond,
 use Rattle.std.proofs.lemmas.Option.{same_Some}
 use Rattle.tera_base.specs.declared.utils.Span.{Span}
 use Rattle.tera_base.specs.declared.errors.Error.{Error}
-use Rattle.tera_lexer.specs.Cursors.{Position}
-use Rattle.tera_lexer.specs.Tokens.{Items}
+use Rattle.tera_lexer.specs.code.Cursors.{Position}
+use Rattle.tera_lexer.specs.grammar.Tokens.{Items}
 use Rattle.tera_tree.specs.Tree.{Expr, Args}
 use Rattle.tera_grammar.specs.Words.{are_distinct}
 use Rattle.tera_grammar.specs.expressions.Marks.{RightParen, Comma, Assign}

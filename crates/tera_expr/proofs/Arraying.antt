@@ -1,19 +1,24 @@
 -- Arrays that are read from their bracket on.
-use Rattle.std.proofs.Common.{◌≡◌, ℕ, Bool, [], Some, None, Result, sym, ap, subst, ◌∙◌}
+use Rattle.std.proofs.Common.{◌≡◌, ℕ, Bool, List, Option, Some, None, Result, sym, ap, subst, ◌∙◌}
+use Rattle.tera_base.specs.Values.{Vals}
 use Rattle.tera_base.specs.declared.utils.Span.{Span}
 use Rattle.tera_base.specs.declared.errors.Error.{Error}
-use Rattle.tera_lexer.specs.Tokens.{Items as Left}
+use Rattle.tera_lexer.specs.grammar.Tokens.{Items as Left}
+use Rattle.tera_tree.specs.Tree as tree
 use Rattle.tera_tree.specs.View.{expression_view}
 use Rattle.tera_tree.specs.declared.ast.Expression.{Expression}
 use Rattle.tera_grammar.specs.expressions.Marks.{RightBracket, For}
 use Rattle.tera_grammar.specs.expressions.Marks as marks
 use Rattle.tera_grammar.specs.expressions.Concrete.{Tree, Atomic, Array, of_items, ended, Element, plain, spread}
+use Rattle.tera_grammar.specs.expressions.Output as output
+use Rattle.tera_grammar.specs.expressions.Output.{array_made, constant_items}
 use Rattle.tera_grammar.specs.expressions.Stack.{HeadGives}
 use Rattle.tera_grammar.specs.Options.{◌>>=◌}
 use Rattle.tera_grammar.specs.expressions.Reading.Front.{Place, at, Reads, takes, skip}
 use Rattle.tera_grammar.specs.expressions.Reading.Parts.{Room, Reader, inside_array, element_of}
 use Rattle.tera_grammar.specs.expressions.Reading.Atoms.{array_of, array_at, array_from, for_at, items_from, comprehension_of}
 use Rattle.tera_grammar.proofs.expressions.Fronts.{none_skip}
+use Rattle.tera_expr.specs.Frames.{MayBeNegated}
 use Rattle.tera_expr.proofs.RowSteps.{skip_taken}
 use Rattle.tera_expr.proofs.Listing.{spread_read, plain_read}
 
@@ -58,3 +63,15 @@ pub head_by : (result : Result Expression Error) (l m : Bool) (here : Span) (q :
     → HeadGives expression_view m result here q b → HeadGives expression_view l result here q a
 head_by result l m here q a b same read h =
     subst (λ k. HeadGives expression_view k result here q a) same (subst (λ o. HeadGives expression_view m result here q o) (sym read) h)
+
+-- no array and no comprehension is a number
+made_negatable : (is : tree.Items) (span : Span) (o : Option Vals) → MayBeNegated (array_made is span o)
+made_negatable is span (Some vs) = tt
+made_negatable is span None = tt
+
+pub array_negatable : (e : Expression) (is : tree.Items) (span : Span) → expression_view e ≡ output.array_of is span → MayBeNegated (expression_view e)
+array_negatable e is span same = subst (λ x. MayBeNegated x) (sym same) (made_negatable is span (constant_items is))
+
+pub comprehension_negatable : (e : Expression) (x : tree.Expr) (key : Option (List ℕ)) (value : List ℕ) (target : tree.Expr) (condition : tree.MaybeExpr) (span : Span)
+    → expression_view e ≡ tree.ListComprehension x key value target condition span → MayBeNegated (expression_view e)
+comprehension_negatable e x key value target condition span same = subst (λ x. MayBeNegated x) (sym same) tt

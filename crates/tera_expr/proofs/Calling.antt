@@ -7,14 +7,14 @@ use Rattle.tera_tree.specs.Tree as tree
 use Rattle.tera_tree.specs.Tree.{Expr}
 use Rattle.tera_tree.specs.View.{args_view}
 use Rattle.tera_tree.specs.declared.ast.Expression.{Expression}
-use Rattle.tera_lexer.specs.Cursors.{Position}
+use Rattle.tera_lexer.specs.code.Cursors.{Position}
 use Rattle.tera_grammar.specs.expressions.Spans.{spanning}
 use Rattle.tera_grammar.specs.expressions.Output.{args_output}
 use Rattle.tera_expr.specs.Rows.{AreArguments}
 use Rattle.tera_expr.specs.declared.calls.Call.{Call}
 use Rattle.tera_base.specs.declared.errors.Error.{Error}
 use Rattle.tera_base.specs.declared.utils.Span.{Span}
-use Rattle.tera_lexer.specs.Tokens.{Items}
+use Rattle.tera_lexer.specs.grammar.Tokens.{Items}
 use Rattle.tera_grammar.specs.Options.{◌>>=◌}
 use Rattle.tera_grammar.specs.expressions.Marks.{LeftParen, Not}
 use Rattle.tera_grammar.specs.expressions.Companions.{Filtering}

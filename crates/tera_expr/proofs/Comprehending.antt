@@ -2,7 +2,7 @@
 use Rattle.std.proofs.Common.{◌≡◌, ℕ, Bool, true, false, cond, List, Option, Some, None, refl, sym, ap, ◌∙◌}
 use Rattle.std.proofs.lemmas.Option.{same_Some}
 use Rattle.tera_base.specs.declared.utils.Span.{Span}
-use Rattle.tera_lexer.specs.Tokens.{Items}
+use Rattle.tera_lexer.specs.grammar.Tokens.{Items}
 use Rattle.tera_tree.specs.Tree.{Expr, MaybeExpr, ListComprehension}
 use Rattle.tera_grammar.specs.Words.{is_reserved}
 use Rattle.tera_grammar.specs.expressions.Operators.{In}
@@ -78,19 +78,19 @@ module _ (f : Reader) (w : Room) (m : Mark) (k i : ℕ) (r : Items) where
 
 -- a comprehension behind its `for`
 module _ (f : Reader) (w : Room) (b : Span) (e : Tree) (s : Span) where
-  abbrev behind_end : (Name × Second) → Span → Tree → Extra → Reads Span → Reads Tree
+  abbrev pub behind_end : (Name × Second) → Span → Tree → Extra → Reads Span → Reads Tree
   behind_end v i t g o = o >>= λ c. Some (Atomic (Comprehension b e s v.0 v.1 i t g c.0), c.1)
 
-  abbrev behind_condition : (Name × Second) → Span → Tree → Reads Extra → Reads Tree
+  abbrev pub behind_condition : (Name × Second) → Span → Tree → Reads Extra → Reads Tree
   behind_condition v i t o = o >>= λ g. behind_end v i t g.0 (skip RightBracket g.1)
 
-  abbrev behind_target : (Name × Second) → Span → Reads Tree → Reads Tree
+  abbrev pub behind_target : (Name × Second) → Span → Reads Tree → Reads Tree
   behind_target v i o = o >>= λ t. behind_condition v i t.0 (extra_of f w If 1 t.1)
 
-  abbrev behind_in : (Name × Second) → Reads Span → Reads Tree
+  abbrev pub behind_in : (Name × Second) → Reads Span → Reads Tree
   behind_in v o = o >>= λ i. behind_target v i.0 (f w 1 i.1)
 
-  abbrev behind_variables : Reads (Name × Second) → Reads Tree
+  abbrev pub behind_variables : Reads (Name × Second) → Reads Tree
   behind_variables o = o >>= λ v. behind_in v.0 (skip (Operation In) v.1)
 
   pub by_variables : (p : Place) (o : Reads (Name × Second)) → variables_of p ≡ o → comprehension_of f w b e s p ≡ behind_variables o

@@ -26,7 +26,7 @@ some_other (Item (tree.Const x s) ∷ is) h = ap (with_value x) (some_other is h
 some_other (Item _ ∷ is) h = refl
 some_other (Spread e ∷ is) h = refl
 
-mapped_all : {X Y : Type 0} (test : Y → Bool) (g : X → Y) (xs : List X) → list_all test (map g xs) ≡ list_all (λ x. test (g x)) xs
+pub mapped_all : {X Y : Type 0} (test : Y → Bool) (g : X → Y) (xs : List X) → list_all test (map g xs) ≡ list_all (λ x. test (g x)) xs
 mapped_all test g [] = refl
 mapped_all test g (x ∷ xs) = ap (λ b. test (g x) && b) (mapped_all test g xs)
 

@@ -4,8 +4,8 @@ use Rattle.std.specs.Str.{bytes_eq}
 use Rattle.std.specs.Prelude.{cond}
 use Rattle.tera_base.specs.declared.utils.Span.{Span}
 use Rattle.tera_base.specs.declared.errors.Error.{Error}
-use Rattle.tera_lexer.specs.Tokens as toks
-use Rattle.tera_lexer.specs.Tokens.{Tok, Items, Ended, Failed, Token, Ident}
+use Rattle.tera_lexer.specs.grammar.Tokens as toks
+use Rattle.tera_lexer.specs.grammar.Tokens.{Tok, Items, Ended, Failed, Token, Ident}
 use Rattle.tera_grammar.specs.expressions.Operators as operators
 use Rattle.tera_grammar.specs.expressions.Operators.{BinaryOperator}
 use Rattle.tera_grammar.specs.expressions.Marks.{Operation}
@@ -16,9 +16,9 @@ use Rattle.tera_grammar.specs.expressions.Marks.{Mark, mark, mark_token, Not, Is
 use Rattle.tera_grammar.specs.expressions.Concrete.{Single, NotIn}
 use Rattle.tera_grammar.specs.expressions.Reading.Front.{among, front_marks, front_not, marked_front, begins, begins_sign, same_token}
 use Rattle.tera_grammar.proofs.expressions.Fronts.{takes_ok}
-use Rattle.tera_lexer.specs.Seen.{seen}
-use Rattle.tera_lexer.specs.Steps.{Stops}
-use Rattle.tera_lexer.specs.Cursors.{Position, Takes, Sight, size}
+use Rattle.tera_lexer.specs.code.Seen.{seen}
+use Rattle.tera_lexer.specs.code.Steps.{Stops}
+use Rattle.tera_lexer.specs.code.Cursors.{Position, Takes, Sight, size}
 use Rattle.tera_lexer.proofs.Refusals.{token_later}
 use Rattle.tera_expr.specs.Taking.{Took}
 use Rattle.tera_lexer.specs.declared.lexer.tokens.Token.{Token as Lexed}

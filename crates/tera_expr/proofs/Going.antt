@@ -1,18 +1,18 @@
 -- How cursors go on, and what is refused on the way.
-use Rattle.std.proofs.Common.{◌≡◌, ℕ, ◌<◌, ◌≤◌, List, inl, ⊎_elim, refl, subst, sym, arith}
+use Rattle.std.proofs.Common.{◌≡◌, ℕ, ◌<◌, ◌≤◌, Bool, true, false, Option, List, inl, ⊎_elim, refl, subst, sym, arith}
 use Rattle.tera_base.specs.declared.utils.Span.{Span}
 use Rattle.tera_base.specs.declared.errors.Error.{Error}
 use Rattle.tera_base.specs.Errors.{IsMemory, KindTells}
 use Rattle.tera_base.specs.declared.errors.ErrorKind.{ErrorKind}
 use Rattle.tera_base.specs.declared.errors.ErrorKind.TheVariants.{Memory, Message, SyntaxError}
 use Rattle.tera_base.proofs.Tellings.{tells_weaker, tells_memory}
-use Rattle.tera_lexer.specs.Place.{IsWithin}
-use Rattle.tera_lexer.specs.Lexed.{EachNumber, IsCount}
-use Rattle.tera_lexer.specs.Tokens as toks
-use Rattle.tera_lexer.specs.Tokens.{Tok, Items, Token}
-use Rattle.tera_lexer.specs.Cursors.{Position, TellsAt, FaultsFrom, IsLater, RefusesFrom, size}
+use Rattle.tera_lexer.specs.grammar.Place.{IsWithin}
+use Rattle.tera_lexer.specs.grammar.Lexed.{EachNumber, IsCount}
+use Rattle.tera_lexer.specs.grammar.Tokens as toks
+use Rattle.tera_lexer.specs.grammar.Tokens.{Tok, Items, Token}
+use Rattle.tera_lexer.specs.code.Cursors.{Position, TellsAt, FaultsFrom, IsLater, RefusesFrom, size}
 use Rattle.tera_lexer.proofs.Refusals as refusals
-use Rattle.tera_expr.specs.Taking.{GoesOn, IsCounted, Took, Refuses, Told, no_memory, says, tells, kind_told, TellsAs}
+use Rattle.tera_expr.specs.Taking.{Eats, GoesOn, IsCounted, Took, Refuses, Told, no_memory, says, tells, kind_told, TellsAs}
 
 pub goes_further : (old mid new : Position) → GoesOn old mid → GoesOn mid new → GoesOn old new
 unfolding GoesOn
@@ -106,3 +106,9 @@ counted t s us ts all is = by t (subst (EachNumber IsCount) is all)
 pub fewer : (old new : Position) → Took old new → size new.left < size old.left
 unfolding Took
 fewer old new h = h.1
+
+-- a token that was taken or not
+pub eats_size : (b : Bool) (old new : Position) (read : Option (Span × Items)) → Eats b old new read → size new.left ≤ size old.left
+unfolding Took
+eats_size true old new read (taken, took) = omega (arith, took.1)
+eats_size false old new read (none, same) = subst (λ (q : Position). size q.left ≤ size old.left) (sym same) (omega arith)

@@ -2,7 +2,7 @@
 use Rattle.std.proofs.Common.{◌≡◌, inl, inr, ℕ, List, ◌++◌, Option, Some, None, refl, sym, ap, ◌∙◌, codes, append_assoc, append-nil}
 use Rattle.tera_base.specs.declared.utils.Span.{Span}
 use Rattle.tera_base.specs.declared.errors.Error.{Error}
-use Rattle.tera_lexer.specs.Tokens.{Items}
+use Rattle.tera_lexer.specs.grammar.Tokens.{Items}
 use Rattle.tera_grammar.specs.expressions.Marks.{mark, Dot}
 use Rattle.tera_grammar.specs.expressions.Concrete.{Name, Dotted, no_dots, dots}
 use Rattle.tera_grammar.specs.expressions.Output.{dotted_text}

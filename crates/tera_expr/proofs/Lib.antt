@@ -1,8 +1,8 @@
-pub mod Yields
 pub mod Going
 pub mod Fronts
 pub mod Joining
 pub mod Stacking
+pub mod Passing
 pub mod Promised
 pub mod RowSteps
 pub mod Arguing
@@ -15,3 +15,11 @@ pub mod Steps
 pub mod Slicing
 pub mod Linking
 pub mod Calling
+pub mod ConstantMaps
+pub mod Pairing
+pub mod Notes
+pub mod Ranges
+pub mod LiteralMaps
+pub mod LiteralArrays
+pub mod Attributing
+pub mod Closing

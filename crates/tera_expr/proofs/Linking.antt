@@ -3,11 +3,11 @@ use Rattle.std.proofs.Common.{◌≡◌, ◌≢◌, ◌<◌, IfOk, inl, inr, ℕ
 use Rattle.std.proofs.lemmas.Option.{same_Some}
 use Rattle.tera_base.specs.declared.errors.Error.{Error}
 use Rattle.tera_base.specs.declared.utils.Span.{Span}
-use Rattle.tera_lexer.specs.Tokens as toks
-use Rattle.tera_lexer.specs.Tokens.{Tok, Items, Ended, Failed, Token}
-use Rattle.tera_lexer.specs.Seen.{seen}
-use Rattle.tera_lexer.specs.Steps.{Stops}
-use Rattle.tera_lexer.specs.Cursors.{Position, Takes, size}
+use Rattle.tera_lexer.specs.grammar.Tokens as toks
+use Rattle.tera_lexer.specs.grammar.Tokens.{Tok, Items, Ended, Failed, Token}
+use Rattle.tera_lexer.specs.code.Seen.{seen}
+use Rattle.tera_lexer.specs.code.Steps.{Stops}
+use Rattle.tera_lexer.specs.code.Cursors.{Position, Takes, size}
 use Rattle.tera_lexer.specs.declared.lexer.tokens.Token.{Token as Lexed}
 use Rattle.tera_tree.specs.Tree as tree
 use Rattle.tera_tree.specs.Tree.{Expr}

@@ -1,12 +1,12 @@
 -- Items of an array that are read one after another.
-use Rattle.std.proofs.Common.{◌≡◌, ℕ, Bool, true, false, List, [], ◌∷◌, ◌++◌, map, Option, Some, None, Ok, Err, refl, sym, ap, ap₂, subst, ◌∙◌}
+use Rattle.std.proofs.Common.{◌≡◌, ℕ, Bool, List, [], ◌∷◌, ◌++◌, map, Some, None, Ok, Err, refl, sym, ap, ap₂, subst, ◌∙◌}
 use Rattle.tera_base.specs.declared.utils.Span.{Span}
 use Rattle.tera_base.specs.declared.errors.Error.{Error}
-use Rattle.tera_lexer.specs.Cursors.{Position}
-use Rattle.tera_lexer.specs.Tokens.{Items as Left}
+use Rattle.tera_lexer.specs.code.Cursors.{Position}
+use Rattle.tera_lexer.specs.grammar.Tokens.{Items as Left}
 use Rattle.tera_tree.specs.Tree as tree
 use Rattle.tera_tree.specs.Tree.{Expr, Items, NoItems}
-use Rattle.tera_tree.specs.View.{expression_view, item_view, items_of, items_view}
+use Rattle.tera_tree.specs.View.{item_view, items_of, items_view}
 use Rattle.tera_tree.specs.declared.ast.ArrayEntryOf.{ArrayEntryOf}
 use Rattle.tera_tree.specs.declared.ast.ArrayEntryOf.TheVariants.{Item, Spread}
 use Rattle.tera_tree.specs.declared.ast.Expression.{Expression}
@@ -15,8 +15,8 @@ use Rattle.tera_grammar.specs.expressions.Concrete.{Tree, Atomic, Array, of_item
 use Rattle.tera_grammar.specs.expressions.Output.{array_of, items_output, item_output, output}
 use Rattle.tera_grammar.specs.expressions.Spans.{spanning, row_end}
 use Rattle.tera_grammar.specs.Options.{◌>>=◌}
-use Rattle.tera_grammar.specs.expressions.Reading.Front.{Place, at, Reads, takes, skip}
-use Rattle.tera_grammar.specs.expressions.Reading.Parts.{Room, Reader, spread_at, item_at, element_of, after_element, row_of}
+use Rattle.tera_grammar.specs.expressions.Reading.Front.{Place, at, Reads, takes}
+use Rattle.tera_grammar.specs.expressions.Reading.Parts.{Room, Reader, item_at, element_of, after_element, row_of}
 use Rattle.tera_grammar.specs.expressions.Reading.Atoms.{items_from}
 use Rattle.tera_grammar.proofs.expressions.Fronts.{none_skip}
 use Rattle.tera_expr.specs.Elements.{IsItem}
@@ -106,8 +106,8 @@ module _ (l : Bool) (done : List (ArrayEntryOf Expression)) (v : Values) (w : Ro
   lacks_item e h = fails_by whole (element_of (reader_of v) w of_items (at i old)) e (element_fails (reader_of v) w of_items whole (at i old) (Listing l done) o) h
 
   module _ (x : Element) (j : ℕ) (ts : Left) (read : element_of (reader_of v) w of_items (at i old) ≡ Some (x, at j ts)) where
-    pub lacks_end : (new : Position) (e : Error) → Continues marks.RightBracket ts new (Err e) → Fails whole e
-    lacks_end new e h = behind_fails v w of_items whole o.put x j ts new e (element_read (reader_of v) w of_items whole (at i old) (Listing l done) o x (at j ts) read) h
+    pub lacks_bracket : (new : Position) (e : Error) → Continues marks.RightBracket ts new (Err e) → Fails whole e
+    lacks_bracket new e h = behind_fails v w of_items whole o.put x j ts new e (element_read (reader_of v) w of_items whole (at i old) (Listing l done) o x (at j ts) read) h
 
     pub one_item : (new : Position) (b : Bool) → Continues marks.RightBracket ts new (Ok b) → (e : ArrayEntryOf Expression) → IsItem l e x → (with : List (ArrayEntryOf Expression)) → with ≡ done ++ e ∷ []
         → Rowing b (reader_of v) w of_items whole (at j new.left) (Listing l with) (Listed l with new.span)

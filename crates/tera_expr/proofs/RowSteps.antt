@@ -1,14 +1,13 @@
 -- Rows that are read element by element.
-use Rattle.std.proofs.Common.{◌≡◌, ◌⊎◌, inl, inr, ℕ, Bool, true, false, not, Option, Some, None, Result, Ok, Err, refl, sym, ap, subst, ◌∙◌}
+use Rattle.std.proofs.Common.{◌≡◌, inl, inr, ℕ, Bool, true, false, not, Option, Some, None, Result, Ok, Err, refl, sym, ap, subst, ◌∙◌}
 use Rattle.tera_base.specs.declared.utils.Span.{Span}
 use Rattle.tera_base.specs.declared.errors.Error.{Error}
-use Rattle.tera_base.specs.Errors.{IsMemory}
-use Rattle.tera_lexer.specs.Cursors.{Position}
-use Rattle.tera_lexer.specs.Tokens.{Items}
+use Rattle.tera_lexer.specs.code.Cursors.{Position}
+use Rattle.tera_lexer.specs.grammar.Tokens.{Items}
 use Rattle.tera_tree.specs.View.{expression_view}
 use Rattle.tera_tree.specs.declared.ast.Expression.{Expression}
 use Rattle.tera_grammar.specs.expressions.Marks.{Mark, Comma, mark}
-use Rattle.tera_grammar.specs.expressions.Concrete.{Tree, Kind, of_arguments, of_items, of_entries, closing, Row, ended, only, then, Element}
+use Rattle.tera_grammar.specs.expressions.Concrete.{Kind, of_arguments, of_items, of_entries, closing, Row, ended, only, then, Element}
 use Rattle.tera_grammar.specs.expressions.Measures.{links}
 use Rattle.tera_grammar.specs.expressions.Stack.{Gives}
 use Rattle.tera_grammar.specs.Options.{◌>>=◌}
@@ -21,7 +20,7 @@ use Rattle.tera_grammar.proofs.expressions.FoundLoop.{expr_sound}
 use Rattle.tera_grammar.proofs.expressions.Outermost.{no_toll, Fitting, fresh_sound}
 use Rattle.tera_grammar.proofs.expressions.Steps.{row_steps}
 use Rattle.tera_expr.specs.declared.rows.Values.{Values}
-use Rattle.tera_expr.specs.Rows.{reader_by, reader_of, EndsAt, Continues}
+use Rattle.tera_expr.specs.Rows.{reader_by, reader_of, Continues}
 use Rattle.tera_expr.specs.Taking.{Eats, Fails, GoesOn, Took}
 use Rattle.tera_expr.proofs.Going.{stays, took_goes, goes_took}
 
@@ -33,7 +32,7 @@ fresh_given l (Err e) n i j old new d w m (inl memory) = inl memory
 fresh_given l (Err e) n i j old new d w m (inr none) = inr (ap (λ o. o >>= λ x. Some (x.0, at i x.1.tokens)) none)
 
 -- the equation of a loop over a row
-steps_by : (d : ℕ) (own : Option ℕ) (w : Room) (k : Kind) (p : Place)
+pub steps_by : (d : ℕ) (own : Option ℕ) (w : Room) (k : Kind) (p : Place)
     → row_of (reader_by d own) w k p ≡ row_at (row_of (reader_by d own) w k) (reader_by d own) w k p (skip (closing k) p)
 steps_by d None w k p = row_steps links Any d (expr d) (expr_sound d) w k p
 steps_by d (Some n) w k p = row_steps no_toll (Fitting 0 d n) d (fresh n (expr d)) (fresh_sound 0 d n (expr d) (expr_sound d)) w k p

@@ -2,8 +2,8 @@
 use Rattle.std.proofs.Common.{◌≡◌, ℕ, Bool, true, false, Option, Some, None, Result, refl, sym, subst}
 use Rattle.tera_base.specs.declared.errors.Error.{Error}
 use Rattle.tera_base.specs.declared.utils.Span.{Span}
-use Rattle.tera_lexer.specs.Cursors.{Position}
-use Rattle.tera_lexer.specs.Tokens.{Items, Ended, Failed, Token}
+use Rattle.tera_lexer.specs.code.Cursors.{Position}
+use Rattle.tera_lexer.specs.grammar.Tokens.{Items, Ended, Failed, Token}
 use Rattle.tera_grammar.specs.Options.{◌>>=◌}
 use Rattle.tera_grammar.specs.expressions.Marks.{Mark, RightBracket, Colon}
 use Rattle.tera_grammar.specs.expressions.Concrete.{Tree, Sub, index, slice, Part, absent, present, Extra, no_extra, extra}

@@ -1,8 +1,8 @@
 -- Steps of the reading over a stack, as the code takes them.
-use Rattle.std.proofs.Common.{◌≡◌, ◌⊎◌, inl, inr, ℕ, ℤ, zero, suc, ◌-◌, Bool, true, false, cond, List, [], ◌∷◌, ◌++◌, ◌+◌, length, Option, Some, None, Result, Ok, Err, refl, sym, ap, subst, ◌∙◌, arith, w64, pos, negsuc}
+use Rattle.std.proofs.Common.{◌≡◌, ◌⊎◌, inl, inr, ℕ, ℤ, zero, suc, Bool, true, false, cond, List, [], ◌∷◌, ◌++◌, ◌+◌, length, Some, None, Ok, Err, refl, sym, ap, subst, ◌∙◌, w64, pos, negsuc}
 use Rattle.std.specs.Borrow.{Bor}
 use Rattle.std.proofs.lemmas.List.{length-append}
-use Rattle.tera_lexer.specs.Seen.{seen}
+use Rattle.tera_lexer.specs.code.Seen.{seen}
 use Rattle.tera_lexer.specs.declared.lexer.tokens.Token.{Token as Lexed}
 use Rattle.tera_lexer.specs.declared.lexer.tokens.Token.TheVariants as lexed
 use Rattle.std.proofs.lemmas.Int.{fits_signed_from_abs}
@@ -10,14 +10,14 @@ use Rattle.tera_base.specs.Errors.{IsMemory}
 use Rattle.tera_base.specs.Values as values
 use Rattle.tera_base.specs.declared.utils.Span.{Span}
 use Rattle.tera_base.specs.declared.errors.Error.{Error}
-use Rattle.tera_lexer.specs.Tokens as toks
-use Rattle.tera_lexer.specs.Tokens.{Tok, Items, Token, Ident, Symbol}
+use Rattle.tera_lexer.specs.grammar.Tokens as toks
+use Rattle.tera_lexer.specs.grammar.Tokens.{Tok, Items, Token, Ident, Symbol}
 use Rattle.tera_tree.specs.Tree as tree
 use Rattle.tera_grammar.specs.Words.{is_none, is_not}
 use Rattle.tera_grammar.specs.Options.{◌>>=◌}
 use Rattle.tera_grammar.specs.expressions.Operators.{BinaryOperator, Minus}
 use Rattle.tera_grammar.specs.expressions.Marks.{mark, RightParen, Else, Operation, Other}
-use Rattle.tera_grammar.specs.expressions.Concrete.{Name, Lit, Sign, Negative, Negates, Single, NotIn, Suffix, Test, Filter, Subscript, plainly, negated, index, slice, Tree, Op}
+use Rattle.tera_grammar.specs.expressions.Concrete.{Lit, Negative, Negates, Single, NotIn, Suffix, Test, Filter, Subscript, plainly, negated, index, slice, Tree, Op}
 use Rattle.tera_grammar.specs.expressions.Powers.{right_of}
 use Rattle.tera_grammar.specs.expressions.Spans.{spanning}
 use Rattle.tera_grammar.specs.expressions.Output.{literal_value, suffix_output}
@@ -26,10 +26,10 @@ use Rattle.tera_grammar.specs.expressions.Reading.Front.{Place, at, Reads, takes
 use Rattle.tera_grammar.specs.expressions.Reading.Parts.{Room}
 use Rattle.tera_grammar.specs.expressions.Reading.Atoms.{head_of, word_head, chain_of}
 use Rattle.tera_grammar.specs.expressions.Reading.Loop.{expr, suffix_in}
-use Rattle.tera_grammar.specs.expressions.Stack.{Operand, Level, Shows, outcome, going, coming, heading, prefixing, joining, choosing, suffix_of, resume, in_paren, in_prefix, in_binary, in_condition, in_last, stops, refuses, enclosed, operator_in, is_negated, HeadGives, SuffixGives}
-use Rattle.tera_grammar.proofs.expressions.Stack.{ends, ends_badly, joins_on, chooses_on, suffix_fails, suffix_given, suffix_missed, counts, counts_out, encloses, unclosed, goes_otherwise, lacks_else, heads_minus, minus_refused, heads_literal, heads_no_mark, refuses_right, heads_nothing, heads_not, not_refused, heads_name, head_given, head_missed}
-use Rattle.tera_lexer.specs.Lexed.{IsCount}
-use Rattle.tera_lexer.specs.Cursors.{Position}
+use Rattle.tera_grammar.specs.expressions.Stack.{Operand, Level, Shows, outcome, going, coming, heading, prefixing, joining, choosing, suffix_of, resume, in_paren, in_binary, in_condition, in_last, stops, refuses, operator_in, is_negated, HeadGives, SuffixGives}
+use Rattle.tera_grammar.proofs.expressions.Stack.{ends, ends_badly, joins_on, chooses_on, suffix_fails, suffix_given, suffix_missed, encloses, unclosed, goes_otherwise, lacks_else, heads_minus, minus_refused, heads_literal, heads_no_mark, refuses_right, heads_nothing, heads_not, not_refused, heads_name, head_given, head_missed}
+use Rattle.tera_lexer.specs.grammar.Lexed.{IsCount}
+use Rattle.tera_lexer.specs.code.Cursors.{Position}
 use Rattle.tera_expr.specs.declared.front.Front as fronts
 use Rattle.tera_expr.specs.declared.front.Front.TheVariants as shapes
 use Rattle.tera_expr.specs.declared.frames.State.{State}

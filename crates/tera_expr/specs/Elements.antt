@@ -5,7 +5,7 @@ use Rattle.tera_base.specs.ValueView.{key_view}
 use Rattle.tera_base.specs.declared.errors.Error.{Error}
 use Rattle.tera_base.specs.declared.utils.Span.{Span}
 use Rattle.tera_base.specs.declared.values.Key.{Key}
-use Rattle.tera_lexer.specs.Tokens.{Items}
+use Rattle.tera_lexer.specs.grammar.Tokens.{Items}
 use Rattle.tera_tree.specs.View.{expression_view, maybe_view, name_view}
 use Rattle.tera_tree.specs.declared.ast.ArrayEntryOf.{ArrayEntryOf}
 use Rattle.tera_tree.specs.declared.ast.ArrayEntryOf.TheVariants as items

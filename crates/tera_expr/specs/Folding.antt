@@ -1,10 +1,14 @@
 -- Items and entries that are constants.
 use Rattle.std.specs.Prelude.{Bool, true, false, List, [], ◌∷◌, Option, Some, None}
-use Rattle.tera_base.specs.Values.{Val}
+use Rattle.tera_base.specs.Values.{Val, Pairs}
+use Rattle.tera_base.specs.ValueView.{key_view}
 use Rattle.tera_tree.specs.Tree as tree
 use Rattle.tera_tree.specs.Tree.{Expr}
 use Rattle.tera_tree.specs.declared.ast.ArrayEntryOf.{ArrayEntryOf}
 use Rattle.tera_tree.specs.declared.ast.ArrayEntryOf.TheVariants as items
+use Rattle.tera_tree.specs.declared.ast.MapEntryOf.{MapEntryOf}
+use Rattle.tera_tree.specs.declared.ast.MapEntryOf.TheVariants as entries
+use Rattle.tera_grammar.specs.expressions.Output.{put_pair}
 
 -- the value of a constant
 abbrev pub constant_of : Expr → Option Val
@@ -23,3 +27,12 @@ item_values (items.Spread e) = []
 abbrev pub is_constant_item : ArrayEntryOf Expr → Bool
 is_constant_item (items.Item (tree.Const v s)) = true
 is_constant_item _ = false
+
+-- the pair of a constant entry, put to those that are there
+abbrev pub put_entry : Pairs → MapEntryOf Expr → Pairs
+put_entry ps (entries.KeyValue k (tree.Const v s)) = put_pair (key_view k) v ps
+put_entry ps _ = ps
+
+abbrev pub is_constant_entry : MapEntryOf Expr → Bool
+is_constant_entry (entries.KeyValue k (tree.Const v s)) = true
+is_constant_entry _ = false

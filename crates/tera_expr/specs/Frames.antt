@@ -4,11 +4,11 @@ use Rattle.std.specs.Int.{w64}
 use Rattle.tera_base.specs.declared.errors.Error.{Error}
 use Rattle.tera_base.specs.Values as values
 use Rattle.tera_base.specs.declared.utils.Span.{Span}
-use Rattle.tera_lexer.specs.Tokens.{Tok}
+use Rattle.tera_lexer.specs.grammar.Tokens.{Tok}
 use Rattle.tera_tree.specs.declared.ast.Expression.{Expression}
 use Rattle.tera_grammar.specs.expressions.Concrete.{Lit, Name, Sign}
 use Rattle.tera_grammar.specs.expressions.Output.{literal_value}
-use Rattle.tera_lexer.specs.Cursors.{Position}
+use Rattle.tera_lexer.specs.code.Cursors.{Position}
 use Rattle.tera_tree.specs.Tree as tree
 use Rattle.tera_tree.specs.View.{expression_view}
 use Rattle.tera_grammar.specs.expressions.Constants.{HoldsOf}

@@ -2,7 +2,7 @@
 use Rattle.std.specs.Prelude.{◌≡◌, ℕ, Bool, true, false, ltb, List, codes, if◌then◌else◌, is_some}
 use Rattle.std.specs.Str.{bytes_eq}
 use Rattle.tera_base.specs.declared.utils.Span.{Span}
-use Rattle.tera_lexer.specs.Tokens.{Tok, Items, Token, Ident}
+use Rattle.tera_lexer.specs.grammar.Tokens.{Tok, Items, Token, Ident}
 use Rattle.tera_tree.specs.declared.ast.UnaryOperator.{UnaryOperator}
 use Rattle.tera_tree.specs.declared.ast.UnaryOperator.TheVariants as unary
 use Rattle.tera_grammar.specs.Words.{is_not}

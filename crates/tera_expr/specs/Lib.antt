@@ -1,6 +1,3 @@
-pub mod Concrete
-pub mod Reading
-pub mod Gives
 pub mod Rooms
 pub mod Taking
 pub mod Fronts
@@ -12,3 +9,5 @@ pub mod Elements
 pub mod Folding
 pub mod Chains
 pub mod Calls
+pub mod Ranges
+pub mod Attributes

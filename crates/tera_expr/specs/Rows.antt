@@ -6,8 +6,8 @@ use Rattle.std.specs.declared.alloc.Global.{Global}
 use Rattle.tera_base.specs.Errors.{IsMemory}
 use Rattle.tera_base.specs.declared.errors.Error.{Error}
 use Rattle.tera_base.specs.declared.utils.Span.{Span}
-use Rattle.tera_lexer.specs.Cursors.{Position}
-use Rattle.tera_lexer.specs.Tokens.{Items}
+use Rattle.tera_lexer.specs.code.Cursors.{Position}
+use Rattle.tera_lexer.specs.grammar.Tokens.{Items}
 use Rattle.tera_tree.specs.Tree as tree
 use Rattle.tera_tree.specs.View.{args_view}
 use Rattle.tera_tree.specs.declared.ast.Expression.{Expression}

@@ -7,10 +7,10 @@ use Rattle.tera_base.specs.declared.errors.Error.{Error}
 use Rattle.tera_base.specs.declared.errors.ErrorKind.{ErrorKind}
 use Rattle.tera_base.specs.declared.errors.ErrorKind.TheVariants.{Memory, Message, SyntaxError}
 use Rattle.tera_base.specs.declared.utils.Span.{Span}
-use Rattle.tera_lexer.specs.Cursors.{Position, IsLater, RefusesFrom, size}
-use Rattle.tera_lexer.specs.Lexed.{IsCount}
-use Rattle.tera_lexer.specs.Tokens as toks
-use Rattle.tera_lexer.specs.Tokens.{Tok, Items}
+use Rattle.tera_lexer.specs.code.Cursors.{Position, IsLater, RefusesFrom, size}
+use Rattle.tera_lexer.specs.grammar.Lexed.{IsCount}
+use Rattle.tera_lexer.specs.grammar.Tokens as toks
+use Rattle.tera_lexer.specs.grammar.Tokens.{Tok, Items}
 use Rattle.tera_grammar.specs.expressions.Companions.{Path, path_output}
 use Rattle.tera_grammar.specs.expressions.Concrete.{Name}
 use Rattle.tera_grammar.specs.expressions.Operators as operators

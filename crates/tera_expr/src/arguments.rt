@@ -10,7 +10,7 @@ ghost use Rattle.tera_expr.specs.Rooms.{room_of};
 ghost use Rattle.tera_expr.specs.Rows.{AreArguments, new_name_at, reader_of};
 ghost use Rattle.tera_expr.specs.Taking.{GivesAs, GivesBy, Refuses, Took, name_at};
 
-use crate::faults::reported;
+use crate::faults::{reported, with_note};
 use crate::fixed::{Fixed, eat, expect, name};
 use crate::rows::{Values, more, value};
 use std::alloc::Global;
@@ -20,6 +20,7 @@ use tera_lexer::Cursor;
 use tera_tree::Expression;
 
 /// Arguments, whose opening parenthesis was taken.
+#[cycle(reader)]
 #[tactic(auto, using(crate::proofs::Going::took_all, crate::proofs::Going::took_goes, crate::proofs::Going::goes_took, crate::proofs::Going::refused_behind, crate::proofs::Going::refused_further, crate::proofs::Going::memory_refused, crate::proofs::Going::stays))]
 pub(crate) fn arguments(
     alloc: Global,
@@ -73,16 +74,23 @@ pub(crate) fn argument_name<'a>(
 {
     let name = name(alloc, cursor)?;
     if arguments.contains_key(name) {
-        return Err(repeated(alloc, cursor, name));
+        return Err(repeated(alloc, cursor, name, names));
     }
     names.push((name, cursor.current_span().copied()))?;
     Ok(name)
 }
 
-/// That an argument of this name was defined before.
-fn repeated(alloc: Global, cursor: &Cursor<'_>, name: &str) -> Error
+// That an argument of this name was defined before, where the names tell.
+#[tactic(auto, using(crate::proofs::Going::same_refused))]
+fn repeated(alloc: Global, cursor: &Cursor<'_>, name: &str, names: &[(&str, Span)]) -> Error
     ensures { Refuses cursor.now result }
 {
     let message = format!(in alloc; "Keyword argument `{name}` is defined more than once");
-    reported(alloc, cursor, message)
+    let error = reported(alloc, cursor, message);
+    for (known, span) in names {
+        if *known == name {
+            return with_note(error, "first defined here", span);
+        }
+    }
+    error
 }

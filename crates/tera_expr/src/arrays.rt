@@ -11,6 +11,7 @@ ghost use Rattle.tera_grammar.specs.expressions.Reading.Front.{at, takes};
 ghost use Rattle.tera_grammar.specs.expressions.Reading.Parts.{element_of, extra_of};
 ghost use Rattle.tera_grammar.specs.expressions.Stack.{HeadGives};
 ghost use Rattle.tera_expr.specs.Elements.{AreVariables, IsExtra, IsItem, variable_at};
+ghost use Rattle.tera_expr.specs.Frames.{MayBeNegated};
 ghost use Rattle.tera_expr.specs.Rooms.{room_of};
 ghost use Rattle.tera_expr.specs.Rows.{reader_of};
 ghost use Rattle.tera_expr.specs.Taking.{GivesAs, GivesBy, GoesOn, Refuses, Took, mark_of, name_at, place_at};
@@ -26,7 +27,8 @@ use tera_lexer::Cursor;
 use tera_tree::{ArrayEntry, Expression, build};
 
 /// An array or a comprehension, behind its bracket, which stands at the span and was taken last.
-#[tactic(auto, using(crate::proofs::Going::took_all, crate::proofs::Going::refused_behind, crate::proofs::Going::memory_refused))]
+#[cycle(reader)]
+#[tactic(auto, using(crate::proofs::Going::took_all, crate::proofs::Going::refused_behind, crate::proofs::Going::memory_refused, crate::proofs::Arraying::array_negatable))]
 pub(crate) fn array(
     alloc: Global,
     cursor: &mut Cursor<'_>,
@@ -35,6 +37,7 @@ pub(crate) fn array(
     first: &Span,
 ) -> Result<Expression, Error>
     ensures gives { HeadGives expression_view values.room.scope.in_loop result cursor.new.span (at links.new cursor.new.left) (array_of (reader_of values) (room_of values.room) first.now (at links.old cursor.old.left)) }
+    ensures negatable { IfOk result (λ e. MayBeNegated (expression_view e)) }
     ensures refusal { IfErr result (Refuses cursor.old) }
     ensures later { IfOk result (λ _. Took cursor.old cursor.new) }
 {
@@ -58,7 +61,8 @@ pub(crate) fn array(
 }
 
 // The items behind the first one of an array, whose bracket stands at the span.
-#[tactic(auto, using(crate::proofs::Going::took_all, crate::proofs::Going::refused_behind, crate::proofs::Going::memory_refused))]
+#[cycle(reader)]
+#[tactic(auto, using(crate::proofs::Going::took_all, crate::proofs::Going::refused_behind, crate::proofs::Going::memory_refused, crate::proofs::Arraying::array_negatable))]
 fn items(
     alloc: Global,
     cursor: &mut Cursor<'_>,
@@ -68,6 +72,7 @@ fn items(
     element: ArrayEntry,
 ) -> Result<Expression, Error>
     ensures gives { (x : Element) → IsItem values.room.scope.in_loop element x → HeadGives expression_view values.room.scope.in_loop result cursor.new.span (at links.new cursor.new.left) (items_from (reader_of values) (room_of values.room) first.now x (at links.old cursor.old.left)) }
+    ensures negatable { IfOk result (λ e. MayBeNegated (expression_view e)) }
     ensures refusal { IfErr result (Refuses cursor.old) }
     ensures later { IfOk result (λ _. Took cursor.old cursor.new) }
 {
@@ -84,6 +89,7 @@ fn items(
 }
 
 // An item of an array, or a spread.
+#[cycle(reader)]
 #[tactic(auto, using(crate::proofs::Going::took_all, crate::proofs::Going::refused_behind))]
 fn item(
     alloc: Global,
@@ -104,7 +110,8 @@ fn item(
 }
 
 // A comprehension behind its `for`, which was taken last; its bracket stands at the span.
-#[tactic(auto, using(crate::proofs::Going::took_all, crate::proofs::Going::took_further, crate::proofs::Going::refused_behind, crate::proofs::Going::refused_further, crate::proofs::Going::memory_refused))]
+#[cycle(reader)]
+#[tactic(auto, using(crate::proofs::Going::took_all, crate::proofs::Going::took_further, crate::proofs::Going::refused_behind, crate::proofs::Going::refused_further, crate::proofs::Going::memory_refused, crate::proofs::Arraying::comprehension_negatable))]
 fn comprehension(
     alloc: Global,
     cursor: &mut Cursor<'_>,
@@ -114,6 +121,7 @@ fn comprehension(
     element: Expression,
 ) -> Result<Expression, Error>
     ensures gives { (t : Tree) → expression_view element ≡ output values.room.scope.in_loop t → HeadGives expression_view values.room.scope.in_loop result cursor.new.span (at links.new cursor.new.left) (comprehension_of (reader_of values) (room_of values.room) first.now t cursor.old.span (at links.old cursor.old.left)) }
+    ensures negatable { IfOk result (λ e. MayBeNegated (expression_view e)) }
     ensures refusal { IfErr result (Refuses cursor.old) }
     ensures later { IfOk result (λ _. Took cursor.old cursor.new) }
 {
@@ -128,6 +136,7 @@ fn comprehension(
 }
 
 /// An expression behind a token of its own, at a least power, where that token stands.
+#[cycle(reader)]
 #[tactic(auto, using(crate::proofs::Going::took_all, crate::proofs::Going::took_goes, crate::proofs::Going::stays, crate::proofs::Going::refused_behind))]
 pub(crate) fn extra(
     alloc: Global,

@@ -34,6 +34,7 @@ pub(crate) struct Call {
 
 /// Reads a test, a filter or a subscript of an operand that begins at `start`, behind its first token, which was
 /// taken last; its link is counted.
+#[cycle(reader)]
 #[tactic(auto, unfolding(crate::specs::Unfold::suffix_in), using(crate::proofs::Going::refused_behind, crate::proofs::Going::memory_refused))]
 pub(crate) fn suffix(
     alloc: Global,
@@ -66,6 +67,7 @@ pub(crate) fn suffix(
 }
 
 // A test of an operand that begins at `start`, whose `is` was taken last.
+#[cycle(reader)]
 #[tactic(auto, using(crate::proofs::Going::took_all, crate::proofs::Going::refused_behind, crate::proofs::Going::memory_refused))]
 fn test(
     alloc: Global,
@@ -91,6 +93,7 @@ fn test(
 }
 
 /// A filter of an expression, whose name comes next.
+#[cycle(reader)]
 #[tactic(auto, using(crate::proofs::Going::refused_behind, crate::proofs::Going::memory_refused))]
 pub(crate) fn filter_with(
     alloc: Global,
@@ -108,6 +111,7 @@ pub(crate) fn filter_with(
 }
 
 // A name with its arguments, if it has some.
+#[cycle(reader)]
 #[tactic(auto, using(crate::proofs::Going::took_further, crate::proofs::Going::refused_behind, crate::proofs::Going::memory_refused))]
 fn read_call(
     alloc: Global,
@@ -128,6 +132,7 @@ fn read_call(
 }
 
 // The arguments behind a name, which was taken last, if it has some.
+#[cycle(reader)]
 #[tactic(auto, using(crate::proofs::Going::stays, crate::proofs::Going::took_goes, crate::proofs::Going::took_all, crate::proofs::Going::refused_behind))]
 fn maybe_arguments(
     alloc: Global,

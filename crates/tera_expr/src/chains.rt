@@ -66,6 +66,7 @@ pub(crate) enum Linked {
 }
 
 /// Reads a chain or a call of a function, whose name stands at the span and was taken last.
+#[cycle(reader)]
 #[tactic(auto, unfolding(crate::specs::Unfold::chain_of, crate::specs::Unfold::skip), using(crate::proofs::Linking::chain_negatable, crate::proofs::Linking::call_negatable, crate::proofs::Going::took_goes, crate::proofs::Going::took_all, crate::proofs::Going::refused_behind, crate::proofs::Going::memory_refused))]
 pub(crate) fn chain(
     alloc: Global,
@@ -90,6 +91,7 @@ pub(crate) fn chain(
 }
 
 // A call of a function, whose name stands at the span and whose opening parenthesis was taken last.
+#[cycle(reader)]
 #[tactic(auto, using(crate::proofs::Going::refused_behind, crate::proofs::Going::memory_refused))]
 fn function_call(
     alloc: Global,
@@ -117,6 +119,7 @@ fn function_call(
 }
 
 // The links of a chain, whose name stands at the span.
+#[cycle(reader)]
 #[tactic(auto, using(crate::proofs::Going::stays, crate::proofs::Going::goes_took, crate::proofs::Going::took_goes, crate::proofs::Going::refused_further, crate::proofs::Going::memory_refused))]
 fn with_links(
     alloc: Global,
@@ -150,6 +153,7 @@ fn is_loop(in_loop: bool, name: &str) -> bool
 }
 
 // A chain with its next link, which counts, if one stands there.
+#[cycle(reader)]
 #[tactic(auto, using(crate::proofs::Going::took_all, crate::proofs::Going::refused_behind, crate::proofs::Going::memory_refused))]
 fn with_link(
     alloc: Global,

@@ -1,7 +1,11 @@
 //! The names of components.
 
-ghost use Rattle.std.specs.Prelude.{IfErr, IfOk};
-ghost use Rattle.tera_lexer.specs.Cursors.{IsLater, RefusesFrom};
+ghost use Rattle.std.specs.Prelude.{◌≡◌, IfErr, IfOk, string_bytes};
+ghost use Rattle.tera_lexer.specs.code.Cursors.{IsLater, RefusesFrom};
+ghost use Rattle.tera_lexer.specs.grammar.Tokens.{Items};
+ghost use Rattle.tera_grammar.specs.expressions.Companions.{Path, path_output, path_yield};
+ghost use Rattle.tera_grammar.specs.expressions.Ends.{EndsPath};
+ghost use Rattle.tera_expr.specs.Promises.{TakesOnly, TookPath};
 ghost use Rattle.tera_expr.specs.Taking.{GivesPath, Refuses, Took};
 
 use crate::fixed::{Fixed, eat, name};
@@ -15,7 +19,10 @@ use tera_lexer::Cursor;
 /// one has to stand, or `Memory`. After an error the cursor is not used again.
 #[tactic(auto, using(crate::proofs::Going::refused, crate::proofs::Going::later))]
 pub fn component_name(alloc: Global, cursor: &mut Cursor<'_>) -> Result<String, Error>
-    ensures gives { GivesPath cursor.old.left result cursor.new.left }
+    // What was taken are the tokens of a name, and it is returned.
+    ensures found { IfOk result (λ s. TookPath cursor.old s cursor.new) }
+    // A name is not refused where no dot follows.
+    ensures complete { (x : Path) (rest : Items) → EndsPath rest → cursor.old.left ≡ path_yield x rest → TakesOnly (λ s. string_bytes s ≡ path_output x) rest result cursor.new }
     ensures refusal { IfErr result (RefusesFrom cursor.old) }
     ensures later { IfOk result (λ _. IsLater cursor.old cursor.new) }
 {

@@ -1,11 +1,14 @@
 //! The faults of expressions.
 
-ghost use Rattle.tera_lexer.specs.Cursors.{TellsAt};
-ghost use Rattle.tera_expr.specs.Taking.{Refuses};
+ghost use Rattle.tera_base.specs.Errors.{TellsBy};
+ghost use Rattle.tera_lexer.specs.code.Cursors.{TellsAt};
+ghost use Rattle.tera_lexer.specs.grammar.Place.{IsWithin};
+ghost use Rattle.tera_expr.specs.Ranges.{RunsFrom};
+ghost use Rattle.tera_expr.specs.Taking.{Refuses, TellsAs};
 
 use crate::fixed::{Fixed, expect};
 use std::alloc::{AllocError, Global};
-use tera_base::{Error, Span};
+use tera_base::{Error, ErrorKind, Span};
 use tera_lexer::{Cursor, Token};
 
 /// A fault at the token taken last.
@@ -26,6 +29,40 @@ pub(crate) fn reported(
     ensures { Refuses cursor.now result }
 {
     Error::reported(alloc, message, cursor.current_span())
+}
+
+/// A fault from the token at the span to the token taken last, whose text was made.
+pub(crate) fn reported_from(
+    alloc: Global,
+    cursor: &Cursor<'_>,
+    first: &Span,
+    message: Result<String, AllocError>,
+) -> Error
+    requires { IsWithin cursor.now.source first.now }
+    ensures { TellsBy (λ text span. RunsFrom first.now cursor.now span) result }
+{
+    let last = cursor.current_span();
+    let mut span = first.copied();
+    if span.range.end <= last.range.end {
+        span.expand(last);
+    }
+    Error::reported(alloc, message, &span)
+}
+
+/// The error with a note on another place of its source, whose file has no name.
+#[tactic(auto, using(crate::proofs::Notes::noted))]
+pub(crate) fn with_note(error: Error, label: &str, span: &Span) -> Error
+    ensures { TellsAs error result }
+{
+    match error.kind {
+        ErrorKind::SyntaxError(mut report) => match report.add_note(label, "", span) {
+            Ok(()) => Error {
+                kind: ErrorKind::SyntaxError(report),
+            },
+            Err(error) => error,
+        },
+        kind => Error { kind },
+    }
 }
 
 /// That more expressions or links are open than may be.

@@ -1,9 +1,9 @@
 //! Tokens that forms have at fixed places.
 
 ghost use Rattle.std.specs.Prelude.{◌≡◌, IfErr, IfOk};
-ghost use Rattle.tera_lexer.specs.Cursors.{TakesOne};
-ghost use Rattle.tera_lexer.specs.Seen.{seen};
-ghost use Rattle.tera_lexer.specs.Tokens.{Ident};
+ghost use Rattle.tera_lexer.specs.code.Cursors.{TakesOne};
+ghost use Rattle.tera_lexer.specs.code.Seen.{seen};
+ghost use Rattle.tera_lexer.specs.grammar.Tokens.{Ident};
 ghost use Rattle.tera_grammar.specs.expressions.Marks.{mark_token};
 ghost use Rattle.tera_grammar.specs.expressions.Reading.Front.{begins, same_token, taken_name, takes};
 ghost use Rattle.tera_expr.specs.Taking.{Eats, EatsName, GivesAs, IsCounted, Refuses, Took, fixed_text, mark_of, name_at, place_at};

@@ -2,8 +2,8 @@
 
 ghost use Rattle.std.specs.Prelude.{◌≡◌, ◌⊎◌, ◌<◌};
 ghost use Rattle.tera_base.specs.declared.utils.Span.{Span};
-ghost use Rattle.tera_lexer.specs.Seen.{seen};
-ghost use Rattle.tera_lexer.specs.Tokens.{Items};
+ghost use Rattle.tera_lexer.specs.code.Seen.{seen};
+ghost use Rattle.tera_lexer.specs.grammar.Tokens.{Items};
 ghost use Rattle.tera_grammar.specs.Words.{is_none, is_not};
 ghost use Rattle.tera_grammar.specs.expressions.Reading.Front as reading;
 ghost use Rattle.tera_grammar.specs.expressions.Reading.Front.{begins_sign};

@@ -3,7 +3,7 @@
 ghost use Rattle.std.specs.Prelude.{◌≡◌, ◌⊎◌, IfErr, IfOk, false, true};
 ghost use Rattle.tera_base.specs.Errors.{IsMemory};
 ghost use Rattle.tera_base.specs.declared.utils.Span.{Span};
-ghost use Rattle.tera_lexer.specs.Seen.{seen};
+ghost use Rattle.tera_lexer.specs.code.Seen.{seen};
 ghost use Rattle.tera_tree.specs.View.{expression_view};
 ghost use Rattle.tera_grammar.specs.expressions.Output.{prefixed};
 ghost use Rattle.tera_grammar.specs.expressions.Spans.{spanning};

@@ -9,7 +9,7 @@ ghost use Rattle.tera_expr.specs.Rows.{Continues, reader_of};
 ghost use Rattle.tera_expr.specs.Taking.{Refuses, Took, mark_of};
 
 use crate::fixed::{Fixed, eat, expect};
-use crate::limits::Room;
+use crate::limits::{Room, Scope};
 use crate::stack::expression;
 use std::alloc::Global;
 use tera_base::Error;
@@ -27,7 +27,27 @@ pub(crate) struct Values {
     pub own: Option<usize>,
 }
 
+impl Values {
+    ghost use Rattle.std.specs.Prelude.{◌≡◌};
+    ghost use Rattle.tera_grammar.specs.expressions.Reading.Whole.{outermost, widest};
+    ghost use Rattle.tera_expr.specs.Rooms.{limits_of};
+
+    /// The values of an outermost row, each with all that may come.
+    pub fn outermost(scope: Scope) -> Values
+        ensures reader { reader_of result ≡ outermost (limits_of scope.limits) }
+        ensures room { room_of result.room ≡ widest (limits_of scope.limits) scope.in_loop }
+        ensures scope { result.room.scope ≡ scope }
+    {
+        Values {
+            room: Room::widest(scope),
+            below: scope.limits.depth,
+            own: Some(scope.limits.links),
+        }
+    }
+}
+
 /// One value of a row, at a least power.
+#[cycle(reader)]
 pub(crate) fn value(
     alloc: Global,
     cursor: &mut Cursor<'_>,

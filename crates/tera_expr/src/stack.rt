@@ -13,8 +13,11 @@ ghost use Rattle.tera_expr.specs.Fronts.{sign_of};
 ghost use Rattle.tera_expr.specs.Rooms.{room_of};
 ghost use Rattle.tera_expr.specs.Taking.{GoesOn, Refuses, Took, name_in};
 
+use crate::arrays::array;
 use crate::build as leaves;
-use crate::companions::{array, chain, component, map, suffix};
+use crate::calls::suffix;
+use crate::chains::chain;
+use crate::component_calls::component;
 use crate::faults::{consecutive, misplaced_not, too_complex};
 use crate::fixed::{Fixed, expect, take};
 use crate::frames::{Frame, Level, Operand, State};
@@ -22,14 +25,17 @@ use crate::front::{
     Front, begins_prefix, is_none, is_not, take_condition, take_ending, take_operator,
 };
 use crate::limits::{Room, count_link};
+use crate::maps::map;
 use crate::operators::prefix_power;
 use crate::parts::{joined, literal, refuse_prefix, signed, spanning};
+use crate::rows::Values;
 use std::alloc::Global;
 use tera_base::{Error, Span};
 use tera_lexer::{Cursor, Token};
 use tera_tree::{Expression, UnaryOperator, build};
 
 /// Reads an expression, from a least power on, where so many may open.
+#[cycle(reader)]
 pub(crate) fn expression(
     alloc: Global,
     cursor: &mut Cursor<'_>,
@@ -60,6 +66,7 @@ pub(crate) fn expression(
 
 // Opens an expression, where one may still open.
 #[inline(always)]
+#[cycle(reader)]
 fn operand(
     alloc: Global,
     cursor: &mut Cursor<'_>,
@@ -87,6 +94,7 @@ fn operand(
 
 // Takes the first token of an operand: it is one by itself, or begins one.
 #[inline(always)]
+#[cycle(reader)]
 #[tactic(auto, using(crate::proofs::Going::took_all, crate::proofs::Going::took_further, crate::proofs::Going::refused_behind, crate::proofs::Going::memory_refused))]
 fn head(
     alloc: Global,
@@ -111,11 +119,21 @@ fn head(
         }
         Token::Ident(name) => return word(alloc, cursor, links, frames, room, level, name, span),
         Token::LeftBracket => {
-            let expr = array(alloc, cursor, links, room, level.below, &span)?;
+            let values = Values {
+                room,
+                below: level.below,
+                own: None,
+            };
+            let expr = array(alloc, cursor, links, values, &span)?;
             return Ok(holds(cursor, level, expr, &span));
         }
         Token::LeftBrace => {
-            let expr = map(alloc, cursor, links, room, level.below, &span)?;
+            let values = Values {
+                room,
+                below: level.below,
+                own: None,
+            };
+            let expr = map(alloc, cursor, links, values, &span)?;
             return Ok(holds(cursor, level, expr, &span));
         }
         Token::LessThan => {
@@ -140,6 +158,7 @@ fn holds(cursor: &Cursor<'_>, level: Level, expr: Expression, first: &Span) -> S
 
 // A word at the start of an operand, which stands at the span and was taken last.
 #[inline(always)]
+#[cycle(reader)]
 #[tactic(auto, using(crate::proofs::Going::memory_refused, crate::proofs::Going::stays, crate::proofs::Going::took_goes))]
 fn word(
     alloc: Global,
@@ -195,6 +214,7 @@ fn prefix(
 
 // One turn: what the operand is followed by, if the power lets it in.
 #[inline(always)]
+#[cycle(reader)]
 #[tactic(auto, using(crate::proofs::Going::memory_refused, crate::proofs::Going::stays, crate::proofs::Going::took_goes, crate::proofs::Going::took_all, crate::proofs::Going::refused_behind))]
 fn turn(
     alloc: Global,

@@ -33,6 +33,7 @@ pub(crate) enum Subscript {
 }
 
 /// Reads what stands in a subscript, whose opening bracket was taken last, up to the closing one.
+#[cycle(reader)]
 #[tactic(auto, unfolding(crate::specs::Unfold::sub_of), using(crate::proofs::Going::took_all, crate::proofs::Going::refused_behind, crate::proofs::Going::memory_refused))]
 pub(crate) fn read_subscript(
     alloc: Global,
@@ -58,6 +59,7 @@ pub(crate) fn read_subscript(
 }
 
 // The end and the step of a slice, whose first colon was taken.
+#[cycle(reader)]
 #[tactic(auto, using(crate::proofs::Going::goes_took, crate::proofs::Going::goes_further, crate::proofs::Going::refused_further, crate::proofs::Going::memory_refused))]
 fn slice(
     alloc: Global,
@@ -78,6 +80,7 @@ fn slice(
 }
 
 // The end of a slice, which may be left out.
+#[cycle(reader)]
 #[tactic(auto, unfolding(crate::specs::Unfold::part_of, crate::specs::Unfold::skip), using(crate::proofs::Going::stays, crate::proofs::Going::took_goes, crate::proofs::Going::memory_refused))]
 fn end(
     alloc: Global,
@@ -97,6 +100,7 @@ fn end(
 }
 
 // The step of a slice behind a second colon, if it has one.
+#[cycle(reader)]
 #[tactic(auto, unfolding(crate::specs::Unfold::extra_of, crate::specs::Unfold::skip), using(crate::proofs::Going::stays, crate::proofs::Going::took_goes, crate::proofs::Going::took_all, crate::proofs::Going::refused_behind, crate::proofs::Going::memory_refused))]
 fn step(
     alloc: Global,

@@ -1,12 +1,14 @@
 //! Whole expressions.
 
 ghost use Rattle.std.specs.Prelude.{◌≡◌, IfErr, IfOk};
-ghost use Rattle.tera_lexer.specs.Cursors.{IsLater, RefusesFrom};
-ghost use Rattle.tera_lexer.specs.Tokens.{Items};
+ghost use Rattle.tera_lexer.specs.code.Cursors.{IsLater, RefusesFrom};
+ghost use Rattle.tera_lexer.specs.grammar.Tokens.{Items};
+ghost use Rattle.tera_tree.specs.View.{expression_view};
 ghost use Rattle.tera_grammar.specs.expressions.Concrete.{Tree, yield};
 ghost use Rattle.tera_grammar.specs.expressions.Conditions.{IsExpression};
 ghost use Rattle.tera_grammar.specs.expressions.Ends.{IsStop};
 ghost use Rattle.tera_grammar.specs.expressions.Measures.{Within};
+ghost use Rattle.tera_grammar.specs.expressions.Output.{output};
 ghost use Rattle.tera_expr.specs.Promises.{TakesOnly, TookExpression};
 ghost use Rattle.tera_expr.specs.Rooms.{AreValid, limits_of};
 
@@ -28,7 +30,7 @@ pub fn expression(alloc: Global, cursor: &mut Cursor<'_>, scope: Scope) -> Resul
     ensures found { IfOk result (λ e. TookExpression (limits_of scope.limits) scope.in_loop cursor.old e cursor.new) }
     // An expression within the limits is not refused where a token follows at which expressions end.
     ensures complete { (t : Tree) (rest : Items) → IsExpression scope.in_loop t → Within (limits_of scope.limits) t → IsStop rest
-        → cursor.old.left ≡ yield t rest → TakesOnly scope.in_loop t rest result cursor.new }
+        → cursor.old.left ≡ yield t rest → TakesOnly (λ e. expression_view e ≡ output scope.in_loop t) rest result cursor.new }
     ensures refusal { IfErr result (RefusesFrom cursor.old) }
     ensures later { IfOk result (λ _. IsLater cursor.old cursor.new) }
 {

@@ -1,4 +1,4 @@
-use Rattle.std.proofs.Common.{◌≡◌, inr, true, cond, Some, None, ap, sym, ◌∙◌}
+use Rattle.std.proofs.Common.{inr, cond, Some, None, ap, sym, ◌∙◌}
 use Rattle.tera_tree.specs.View.{args_view}
 use Rattle.tera_grammar.specs.Options.{◌>>=◌}
 use Rattle.tera_expr.specs.Taking.{name_at}

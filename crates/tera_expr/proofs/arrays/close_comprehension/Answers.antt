@@ -1,4 +1,4 @@
-use Rattle.std.proofs.Common.{◌≡◌, inr, None, ap}
+use Rattle.std.proofs.Common.{inr, ap}
 use Rattle.tera_grammar.specs.expressions.Marks.{For, RightBracket}
 use Rattle.tera_grammar.specs.expressions.Reading.Front.{takes}
 use Rattle.tera_grammar.proofs.expressions.Fronts.{takes_ok}

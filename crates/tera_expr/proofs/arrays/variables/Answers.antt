@@ -1,10 +1,10 @@
-use Rattle.std.proofs.Common.{◌≡◌, Some, refl, ap}
+use Rattle.std.proofs.Common.{Some, refl, ap}
 use Rattle.std.proofs.lemmas.Result.{err_from_is_err_and}
 use Rattle.tera_grammar.specs.expressions.Concrete.{no_second, second}
 use Rattle.tera_grammar.specs.expressions.Reading.Front.{at}
 use Rattle.tera_grammar.specs.expressions.Reading.Atoms.{variables_of}
 use Rattle.tera_expr.specs.Elements.{variable_at}
-use Rattle.tera_expr.specs.Taking.{Fails, name_at}
+use Rattle.tera_expr.specs.Taking.{name_at}
 use Rattle.tera_expr.proofs.RowSteps.{fails_by}
 use Rattle.tera_expr.proofs.Comprehending.{no_variable, one_variable, two_variables, no_second_variable}
 use Rattle.tera_expr.proofs.arrays.variables.Goals as goal

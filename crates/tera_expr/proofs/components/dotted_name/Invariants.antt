@@ -1,5 +1,5 @@
 use Rattle.std.proofs.Common.{string_bytes}
-use Rattle.tera_lexer.specs.Cursors.{size}
+use Rattle.tera_lexer.specs.code.Cursors.{size}
 use Rattle.tera_expr.specs.Taking.{Took}
 use Rattle.tera_expr.proofs.Joining.{Joining}
 use Rattle.tera_expr.proofs.components.dotted_name.Given as goal

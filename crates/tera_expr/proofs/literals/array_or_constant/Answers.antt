@@ -1,7 +1,6 @@
-use Rattle.std.proofs.Common.{rules, ◌≡◌, ◌∙◌, map, ap, sym}
+use Rattle.std.proofs.Common.{rules, ◌∙◌, map, ap, sym}
 use Rattle.std.specs.List.{list_all}
-use Rattle.tera_base.specs.Values as values
-use Rattle.tera_base.specs.ValueView.{value_view, vals_of}
+use Rattle.tera_base.specs.ValueView.{value_view}
 use Rattle.tera_base.proofs.ValueViews.{view_array}
 use Rattle.tera_tree.specs.Tree as tree
 use Rattle.tera_tree.specs.View.{item_view}

@@ -1,9 +1,9 @@
 use Rattle.std.proofs.Common.{rules, ◌≡◌, Some, ap, sym, ◌∙◌, refl, w64, to_z, of_z, string_bytes}
 use Rattle.std.proofs.lemmas.Int.{ints}
 use Rattle.tera_base.specs.Values.{TextKey, I64Key}
-use Rattle.tera_lexer.specs.Tokens.{Token}
-use Rattle.tera_lexer.specs.Seen.{seen}
-use Rattle.tera_grammar.specs.expressions.Concrete.{Lit, Number, Quoted, Simple, Escaped, Truth}
+use Rattle.tera_lexer.specs.grammar.Tokens.{Token}
+use Rattle.tera_lexer.specs.code.Seen.{seen}
+use Rattle.tera_grammar.specs.expressions.Concrete.{Number, Quoted, Simple, Escaped, Truth}
 use Rattle.tera_expr.specs.Elements.{taken_literal}
 use Rattle.tera_expr.proofs.maps.key.Goals as goal
 

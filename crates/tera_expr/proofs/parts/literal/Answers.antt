@@ -1,8 +1,6 @@
-use Rattle.std.proofs.Common.{rules, ◌≡◌, ◌∙◌, ap, w64, to_z, of_z, string_bytes}
+use Rattle.std.proofs.Common.{rules, ◌≡◌, ap, w64, to_z, of_z, string_bytes}
 use Rattle.std.proofs.lemmas.Int.{ints}
-use Rattle.tera_base.specs.Values as values
-use Rattle.tera_tree.specs.Tree as tree
-use Rattle.tera_lexer.specs.Seen.{seen}
+use Rattle.tera_lexer.specs.code.Seen.{seen}
 use Rattle.tera_grammar.specs.expressions.Concrete.{Number, Quoted, Truth, Simple, Escaped}
 use Rattle.tera_grammar.specs.expressions.Reading.Front.{literal_of}
 use Rattle.tera_expr.proofs.parts.literal.Goals as goal

@@ -1,5 +1,5 @@
 use Rattle.std.proofs.Common.{not, Ok, subst}
-use Rattle.tera_lexer.specs.Cursors.{Position}
+use Rattle.tera_lexer.specs.code.Cursors.{Position}
 use Rattle.tera_expr.specs.Rows.{Continues}
 use Rattle.tera_expr.specs.Taking.{mark_of}
 use Rattle.tera_expr.proofs.RowSteps.{comma_then}

@@ -1,7 +1,7 @@
 use Rattle.std.proofs.Common.{ap, ◌∙◌, subst}
-use Rattle.tera_lexer.specs.Cursors.{Sight}
-use Rattle.tera_lexer.specs.Seen.{seen}
-use Rattle.tera_lexer.specs.Tokens.{Token}
+use Rattle.tera_lexer.specs.code.Cursors.{Sight}
+use Rattle.tera_lexer.specs.code.Seen.{seen}
+use Rattle.tera_lexer.specs.grammar.Tokens.{Token}
 use Rattle.tera_expr.proofs.Fronts.{unseen_front, name_front}
 use Rattle.tera_expr.proofs.front.Front.at.Goals as goal
 

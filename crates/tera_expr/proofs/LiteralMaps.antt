@@ -1,0 +1,129 @@
+-- From what is read of maps of constants to the grammar.
+use Rattle.std.proofs.Common.{◌≡◌, inl, inr, ℕ, Bool, false, Option, Some, None, Result, Ok, Err, refl, sym, ap, ◌∙◌}
+use Rattle.std.specs.Prelude.{IfOk}
+use Rattle.std.proofs.lemmas.Option.{none-some, same_Some}
+use Rattle.tera_base.specs.Values as values
+use Rattle.tera_base.specs.Values.{Val, Pairs, NoPairs}
+use Rattle.tera_base.specs.ValueView.{value_view}
+use Rattle.tera_base.specs.declared.utils.Span.{Span}
+use Rattle.tera_base.specs.declared.errors.Error.{Error}
+use Rattle.tera_base.specs.declared.values.Value.{Value}
+use Rattle.tera_lexer.specs.code.Cursors.{Position}
+use Rattle.tera_lexer.specs.grammar.Tokens.{Items}
+use Rattle.tera_tree.specs.Tree as tree
+use Rattle.tera_tree.specs.Tree.{Expr}
+use Rattle.tera_grammar.specs.Limits.{Limits}
+use Rattle.tera_grammar.specs.expressions.Companions.{Opened, map_yield, map_value, IsMap}
+use Rattle.tera_grammar.specs.expressions.Concrete.{Tree, Atomic, Map, Row, of_entries}
+use Rattle.tera_grammar.specs.expressions.Marks.{LeftBrace}
+use Rattle.tera_grammar.specs.expressions.Measures.{Within, EachRow}
+use Rattle.tera_grammar.specs.expressions.Output.{constant_entries, entries_output, map_made, output}
+use Rattle.tera_grammar.specs.Options.{◌>>=◌}
+use Rattle.tera_grammar.specs.expressions.Reading.Front.{Place, at, Reads, takes}
+use Rattle.tera_grammar.specs.expressions.Reading.Parts.{row_of}
+use Rattle.tera_grammar.specs.expressions.Reading.Atoms.{map_of}
+use Rattle.tera_grammar.specs.expressions.Reading.Whole.{widest, outermost, left_over, with_map, literal_map_of}
+use Rattle.tera_grammar.proofs.expressions.Fronts.{none_skip}
+use Rattle.tera_grammar.proofs.expressions.InFront.{map_puts}
+use Rattle.tera_grammar.proofs.expressions.Wholes.{literal_map_found, literal_map_read}
+use Rattle.tera_expr.specs.Folding.{constant_of}
+use Rattle.tera_expr.specs.Promises.{TookMap, TakesOnly}
+use Rattle.tera_expr.specs.Taking.{Fails, Took}
+use Rattle.tera_expr.proofs.Going.{later}
+use Rattle.tera_expr.proofs.Passing.{took_tokens}
+use Rattle.tera_expr.proofs.RowSteps.{skip_taken, fails_by}
+
+-- what is read from some tokens, with those behind it
+abbrev pub Comes : {V X : Type 0} → (V → X → Type 0) → Result V Error → Items → Option (X × Items) → Type 0
+Comes {X = X} Is (Ok v) rest read = (x : X) × (read ≡ Some (x, rest)) × Is v x
+Comes Is (Err e) rest read = Fails read e
+
+-- an opening mark and a row
+abbrev pub opened : Span → Row → Opened
+opened s r = record { mark = s; row = r }
+
+-- the value that a map is, if it is one
+constant_map : (es : tree.Entries) (span : Span) (o : Option Pairs) (v : Val) → Some v ≡ constant_of (map_made es span o) → (ps : Pairs) × (o ≡ Some ps) × (v ≡ values.Map ps)
+constant_map es span None v h = cc
+constant_map es span (Some ps) v h = (ps, refl, same_Some v (values.Map ps) h)
+
+no_constant_map : (es : tree.Entries) (span : Span) (o : Option Pairs) → None ≡ constant_of (map_made es span o) → o ≡ None
+no_constant_map es span None h = refl
+no_constant_map es span (Some ps) h = cc
+
+-- a map, where its row is read
+abbrev tree_from : Span → Reads Row → Reads Tree
+tree_from first o = o >>= λ r. Some (Atomic (Map first r.0), r.1)
+
+no_row : (first : Span) (o : Reads Row) → tree_from first o ≡ None → o ≡ None
+no_row first None h = refl
+no_row first (Some r) h = cc
+
+row_found : (first : Span) (o : Reads Row) (x : Tree × Place) → tree_from first o ≡ Some x → (r : Row) × (o ≡ Some (r, x.1)) × (x.0 ≡ Atomic (Map first r))
+row_found first None x h = cc
+row_found first (Some r) x h =
+    let same : (Atomic (Map first r.0), r.1) ≡ x = same_Some _ _ h in
+    (r.0, ap (λ (z : Tree × Place). Some (r.0, z.1)) same, sym (ap (λ (z : Tree × Place). z.0) same))
+
+-- Maps of constants.
+module _ (limits : Limits) where
+  abbrev pub IsMapValue : Value → Opened × Pairs → Type 0
+  IsMapValue v x = value_view v ≡ values.Map x.1
+
+  abbrev map_from : Span → Reads Row → Option ((Opened × Pairs) × Items)
+  map_from s o = left_over (o >>= λ r. with_map (opened s r.0) r.1 (map_value (opened s r.0)))
+
+  abbrev map_at : Reads Span → Option ((Opened × Pairs) × Items)
+  map_at o = left_over (o >>= λ s. row_of (outermost limits) (widest limits false) of_entries s.1 >>= λ r. with_map (opened s.0 r.0) r.1 (map_value (opened s.0 r.0)))
+
+  pub no_brace : (old : Items) (e : Error) → Fails (takes LeftBrace old) e → Fails (literal_map_of limits old) e
+  unfolding literal_map_of
+  no_brace old e h = fails_by (literal_map_of limits old) (takes LeftBrace old) e (λ none. ap map_at (none_skip LeftBrace 0 old none)) h
+
+  module _ (old mid : Items) (s : Span) (h : takes LeftBrace old ≡ Some (s, mid)) where
+    behind_brace : (o : Reads Row) → row_of (outermost limits) (widest limits false) of_entries (at 0 mid) ≡ o → literal_map_of limits old ≡ map_from s o
+    unfolding literal_map_of
+    behind_brace o read = ap map_at (skip_taken LeftBrace 0 old mid s h) ∙ ap (map_from s) read
+
+    pub map_fails : (first : Span) (e : Error) → Fails (map_of (outermost limits) (widest limits false) first (at 0 mid)) e → Fails (literal_map_of limits old) e
+    unfolding map_of
+    map_fails first e fails =
+        fails_by (literal_map_of limits old) (map_of (outermost limits) (widest limits false) first (at 0 mid)) e
+        (λ none. behind_brace None (no_row first (row_of (outermost limits) (widest limits false) of_entries (at 0 mid)) none)) fails
+
+    -- a map is read
+    module _ (first : Span) (t : Tree) (q : Place) (read : map_of (outermost limits) (widest limits false) first (at 0 mid) ≡ Some (t, q)) where
+      row_read : (r : Row) × (row_of (outermost limits) (widest limits false) of_entries (at 0 mid) ≡ Some (r, q)) × (t ≡ Atomic (Map first r))
+      unfolding map_of
+      row_read = row_found first (row_of (outermost limits) (widest limits false) of_entries (at 0 mid)) (t, q) read
+
+      pub map_comes : (v : Val) → Some v ≡ constant_of (output false t) → (x : Opened × Pairs) × (literal_map_of limits old ≡ Some (x, q.tokens)) × (v ≡ values.Map x.1)
+      map_comes v is =
+          let (r, row, made) = row_read in
+          let whole = is ∙ ap (λ u. constant_of (output false u)) made in
+          let (ps, value, same) = constant_map (entries_output false r) _ (constant_entries (entries_output false r) NoPairs) v whole in
+          ((opened s r, ps), behind_brace (Some (r, q)) row ∙ ap (λ o. left_over (with_map (opened s r) q o)) value, same)
+
+      pub no_map_comes : None ≡ constant_of (output false t) → literal_map_of limits old ≡ None
+      no_map_comes is =
+          let (r, row, made) = row_read in
+          let whole = is ∙ ap (λ u. constant_of (output false u)) made in
+          behind_brace (Some (r, q)) row ∙ ap (λ o. left_over (with_map (opened s r) q o)) (no_constant_map (entries_output false r) _ (constant_entries (entries_output false r) NoPairs) whole)
+
+  pub map_took : (old new : Position) (r : Result Value Error) → Comes IsMapValue r new.left (literal_map_of limits old.left) → IfOk r (λ _. Took old new)
+      → IfOk r (λ v. TookMap limits old v new)
+  map_took old new (Ok v) (x, read, shows) took =
+      let (tokens, is, within) = literal_map_found limits old.left new.left x.0 x.1 read in
+      (x.0, x.1, took_tokens (map_yield x.0) (map_puts x.0) old new tokens (later old new took), is, within, shows)
+  map_took old new (Err e) comes took = tt
+
+  pub map_taken : (old new : Position) (r : Result Value Error) → Comes IsMapValue r new.left (literal_map_of limits old.left)
+      → (x : Opened) (ps : Pairs) (rest : Items) → IsMap x ps → EachRow (Within limits) x.row → old.left ≡ map_yield x rest → TakesOnly (λ v. value_view v ≡ values.Map ps) rest r new
+  map_taken old new (Ok v) (y, read, shows) x ps rest is within tokens =
+      let reads = ap (literal_map_of limits) tokens ∙ literal_map_read limits x ps rest is within in
+      let same : (y, new.left) ≡ ((x, ps), rest) = same_Some _ _ (sym read ∙ reads) in
+      (ap (λ (z : (Opened × Pairs) × Items). z.1) same, shows ∙ ap (λ (z : (Opened × Pairs) × Items). values.Map z.0.1) same)
+  map_taken old new (Err e) (inl memory) x ps rest is within tokens = memory
+  map_taken old new (Err e) (inr none) x ps rest is within tokens =
+      let reads = ap (literal_map_of limits) tokens ∙ literal_map_read limits x ps rest is within in
+      absurd (none-some _ (sym none ∙ reads))
