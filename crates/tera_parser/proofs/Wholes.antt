@@ -2,15 +2,16 @@
 use Rattle.std.proofs.Common.{◌≡◌, ℕ, List, [], ◌∷◌, ◌++◌, ⊎_elim, subst, sym, refl, ap, ◌∙◌}
 use Rattle.std.specs.Prelude.{map, None, ◌⊎◌}
 use Rattle.std.specs.List.{AllByRecursion}
-use Rattle.tera_lexer.specs.Marks.{Marks, IsValid}
-use Rattle.tera_lexer.specs.Place.{IsWithin}
-use Rattle.tera_lexer.specs.Division.{Piece, Text, Comment, Raw, Tag, Nothing, IsDivision}
-use Rattle.tera_lexer.specs.Tokens.{Items, Ended, comment_bytes, tokens_of, AreTokensOf}
+use Rattle.tera_lexer.specs.grammar.Marks.{Marks, IsValid}
+use Rattle.tera_lexer.specs.grammar.Place.{IsWithin}
+use Rattle.tera_lexer.specs.grammar.Division.{Piece, Text, Comment, Raw, Tag, Nothing, IsDivision}
+use Rattle.tera_lexer.specs.grammar.Tokens.{Items, Ended, comment_bytes, tokens_of, AreTokensOf}
 use Rattle.tera_tree.specs.Tree.{Output}
+use Rattle.tera_grammar.specs.Limits.{Limits}
 use Rattle.tera_tree.specs.View.{node_view}
 use Rattle.tera_parser.specs.Template.{yield, output_of, Derives, IsComment, IsCommentsAlone}
 use Rattle.tera_base.specs.Errors.{IsMemory}
-use Rattle.tera_lexer.specs.Faults.{Faults}
+use Rattle.tera_lexer.specs.grammar.Faults.{Faults}
 use Rattle.tera_parser.specs.Refusal.{Refuses}
 use Rattle.tera_parser.specs.Gives.{IsNoBody, ReadsBody, AreEmptyTexts, RefusesIn}
 use Rattle.tera_base.specs.declared.errors.Error.{Error}
@@ -22,20 +23,20 @@ use Rattle.tera_parser.proofs.Closed.{ends_in_nothing}
 
 module _ (m : Marks) (valid : IsValid m) (source : List ℕ) where
   -- what is derived is read: its tokens are those of the source
-  derived_tokens : (items : Items) → AreTokensOf m source items → (output : Output) (d : Derives m source output) → items ≡ yield d.2.0 Ended
-  derived_tokens items are output (pieces, division, (es, each, tokens, is)) =
+  derived_tokens : (l : Limits) (items : Items) → AreTokensOf m source items → (output : Output) (d : Derives l m source output) → items ≡ yield d.2.0 Ended
+  derived_tokens l items are output (pieces, division, (es, each, tokens, is)) =
       tokens_one m valid source items (tokens_of m [] [] pieces Nothing) are (pieces, Nothing, division, refl) ∙ tokens
 
-  pub derives_unique : (one other : Output) → Derives m source one → Derives m source other → one ≡ other
-  derives_unique one other d d' =
-      let same = derived_tokens (tokens_of m [] [] d.0 Nothing) (d.0, Nothing, d.1, refl) other d' in
-      d.2.3 ∙ ap output_of (elements_same d.2.0 d'.2.0 d.2.1 d'.2.1 (sym d.2.2 ∙ same)) ∙ sym d'.2.3
+  pub derives_unique : (l : Limits) (one other : Output) → Derives l m source one → Derives l m source other → one ≡ other
+  derives_unique l one other d d' =
+      let same = derived_tokens l (tokens_of m [] [] d.0 Nothing) (d.0, Nothing, d.1, refl) other d' in
+      d.2.3 ∙ ap output_of (elements_same l d.2.0 d'.2.0 d.2.1 d'.2.1 (sym d.2.2 ∙ same)) ∙ sym d'.2.3
 
   -- of the tokens of the source
   module _ (items : Items) (are : AreTokensOf m source items) where
     -- what is read of them is derived
-    pub derives : (nodes : List Node) → ReadsBody items nodes → Derives m source (record { parent = None; nodes = map node_view nodes; definitions = [] })
-    derives nodes (es, each, tokens, output) =
+    pub derives : (l : Limits) (nodes : List Node) → ReadsBody l items nodes → Derives l m source (record { parent = None; nodes = map node_view nodes; definitions = [] })
+    derives l nodes (es, each, tokens, output) =
         let (pieces, ending, division, same) = are in
         let nothing : ending ≡ Nothing = ends_in_nothing m pieces ending es (sym same ∙ tokens) in (
           pieces,
@@ -44,8 +45,8 @@ module _ (m : Marks) (valid : IsValid m) (source : List ℕ) where
         )
 
     -- a refusal is want of memory, where there is a derivation
-    pub refused : (e : Error) → IsMemory e ⊎ IsNoBody items → (output : Output) → Derives m source output → IsMemory e
-    refused e why output d = ⊎_elim (λ memory. memory) (λ none. absurd (none d.2.0 d.2.1 (derived_tokens items are output d))) why
+    pub refused : (l : Limits) (e : Error) → IsMemory e ⊎ IsNoBody l items → (output : Output) → Derives l m source output → IsMemory e
+    refused l e why output d = ⊎_elim (λ memory. memory) (λ none. absurd (none d.2.0 d.2.1 (derived_tokens l items are output d))) why
 
     -- their faults are those of the source
     pub refuses : (whole : List ℕ) → whole ≡ source → (e : Error) → RefusesIn whole items e → Refuses m source e

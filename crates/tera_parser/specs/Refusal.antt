@@ -2,10 +2,10 @@
 use Rattle.std.specs.Prelude.{ℕ, List}
 use Rattle.tera_base.specs.Errors.{TellsBy}
 use Rattle.tera_base.specs.declared.errors.Error.{Error}
-use Rattle.tera_lexer.specs.Marks.{Marks}
-use Rattle.tera_lexer.specs.Place.{IsWithin}
-use Rattle.tera_lexer.specs.Tokens.{Items, AreTokensOf}
-use Rattle.tera_lexer.specs.Faults.{Faults}
+use Rattle.tera_lexer.specs.grammar.Marks.{Marks}
+use Rattle.tera_lexer.specs.grammar.Place.{IsWithin}
+use Rattle.tera_lexer.specs.grammar.Tokens.{Items, AreTokensOf}
+use Rattle.tera_lexer.specs.grammar.Faults.{Faults}
 
 -- want of memory, or a syntax error in the source: its lexical fault, or a fault that covers tokens of it
 abbrev pub Refuses : Marks → List ℕ → Error → Type 0

@@ -1,17 +1,18 @@
 //! Laws of the definitions, and what equality decides: each function has the law as its promise.
 
 ghost use Rattle.std.specs.Prelude.{◌≡◌, ◌↔◌, IsTrue, ℕ, List};
-ghost use Rattle.tera_lexer.specs.Marks.{Marks, IsValid};
+ghost use Rattle.tera_lexer.specs.grammar.Marks.{Marks, IsValid};
 ghost use Rattle.tera_tree.specs.Tree.{Output};
+ghost use Rattle.tera_grammar.specs.Limits.{Limits};
 ghost use Rattle.tera_parser.specs.Outputs.{output_view};
 ghost use Rattle.tera_parser.specs.Template.{Derives};
 
 use crate::parsing::ParserOutput;
 
-/// No source has derivations with two outputs.
+/// No source has derivations with two outputs, within whatever limits.
 pub fn one_output()
-    ensures { (m : Marks) → IsValid m → (source : List ℕ) (one other : Output) →
-        Derives m source one → Derives m source other → one ≡ other }
+    ensures { (l : Limits) (m : Marks) → IsValid m → (source : List ℕ) (one other : Output) →
+        Derives l m source one → Derives l m source other → one ≡ other }
 {}
 
 /// Outputs are equal exactly where they mean the same, places included.

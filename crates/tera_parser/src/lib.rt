@@ -11,7 +11,8 @@ pub use parsing::{Parser, ParserOutput};
 /// Spans, errors and values.
 pub mod value {
     pub use tera_base::{
-        Error, ErrorKind, Key, Map, MapOf, Note, ReportError, Span, Spanned, Value, ValueKind,
+        Context, Error, ErrorKind, Key, Map, MapOf, Note, ReportError, Span, Spanned, Value,
+        ValueKind,
     };
 }
 
@@ -19,12 +20,12 @@ pub mod value {
 pub mod ast {
     pub use tera_tree::{
         ArgType as Type, Array, ArrayEntry, ArrayEntryOf, ArrayOf, BinaryOperation,
-        BinaryOperationOf, BinaryOperator, Block, BlockOf, BlockSet, ComponentArgument,
-        ComponentCall, ComponentDefinition, Expression, Filter, FilterOf, FilterSection, ForLoop,
-        FunctionCall, FunctionCallOf, GetAttr, GetAttrOf, GetItem, GetItemOf, If, Include,
-        ListComprehension, ListComprehensionOf, Map, MapEntry, MapEntryOf, MapOf, Node, Set, SetOf,
-        Slice, SliceOf, Ternary, TernaryOf, Test, TestOf, UnaryOperation, UnaryOperationOf,
-        UnaryOperator, Var,
+        BinaryOperationOf, BinaryOperator, Block, BlockOf, BlockSet, ComponentArg,
+        ComponentArgType, ComponentArgument, ComponentCall, ComponentDefinition, ComponentInfo,
+        Expression, Filter, FilterOf, FilterSection, ForLoop, FunctionCall, FunctionCallOf,
+        GetAttr, GetAttrOf, GetItem, GetItemOf, If, Include, ListComprehension,
+        ListComprehensionOf, Map, MapEntry, MapEntryOf, MapOf, Node, Set, SetOf, Slice, SliceOf,
+        Ternary, TernaryOf, Test, TestOf, UnaryOperation, UnaryOperationOf, UnaryOperator, Var,
     };
 }
 
@@ -35,5 +36,8 @@ pub mod lexer {
 
 /// The reading of expressions.
 pub mod expr {
-    pub use tera_expr::{Scope, expression};
+    pub use tera_expr::{
+        Limits, Scope, attributes, component_name, expression, filter, kwargs, literal_array,
+        literal_map,
+    };
 }

@@ -2,4 +2,4 @@ use Rattle.tera_parser.proofs.Wholes.{derives_unique}
 use Rattle.tera_parser.proofs.laws.one_output.Goals as goal
 
 pub returns : goal.returns
-returns c = λ m valid source one other a b. derives_unique m valid source one other a b
+returns c = λ l m valid source one other a b. derives_unique m valid source l one other a b

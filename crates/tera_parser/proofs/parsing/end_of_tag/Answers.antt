@@ -1,6 +1,6 @@
 use Rattle.std.proofs.Common.{ap, ◌∙◌}
-use Rattle.tera_lexer.specs.Tokens.{Token}
-use Rattle.tera_lexer.specs.Seen.{seen}
+use Rattle.tera_lexer.specs.grammar.Tokens.{Token}
+use Rattle.tera_lexer.specs.code.Seen.{seen}
 use Rattle.tera_parser.specs.Reading.{end_of_tag}
 use Rattle.tera_parser.proofs.parsing.end_of_tag.Goals as goal
 
