@@ -3,6 +3,7 @@ use Rattle.std.proofs.Common.{◌≡◌, ℕ, ◌+◌, ◌<◌, ◌≤◌, List,
 use Rattle.std.specs.Prelude.{IfSome}
 use Rattle.std.specs.Io.KnownBytes.{Appends, Consumes, IsAtEnd}
 use Rattle.std.proofs.lemmas.List.{append-nil, take-append-drop, take_at, length-append, length-take-le}
+use Rattle.tera_grammar.specs.Limits.{Limits}
 use Rattle.tera_show.specs.Shown.{IsShown, IsAnswer}
 use Rattle.tera_show.specs.declared.stream.Outcome.{Outcome}
 use Rattle.tera_show.specs.declared.stream.ShowFault.TheVariants.{Write}
@@ -38,14 +39,14 @@ consumed_all (Some l) (Some k) None xs first second end = absurd second
 consumed_all (Some l) (Some k) (Some j) xs first second end = sym (first ∙ ap (λ t. xs ++ t) (second ∙ end) ∙ append-nil xs)
 
 -- less than an answer was written
-pub write_fault : (read old new : Option (List ℕ)) (items : List ℕ) (outcome : Outcome) (text : List ℕ) (n : ℕ) → IfSome read (λ input. items ≡ input)
-    → IsAnswer items outcome text → n < length text → Appends old new (take n text) → IsShown read old new (Err Write)
-write_fault None old new items outcome text n is answer less wrote = tt
-write_fault (Some input) old new items outcome text n is answer less wrote = (outcome, text, n, subst (λ i. IsAnswer i outcome text) is answer, less, wrote)
+pub write_fault : (l : Limits) (read old new : Option (List ℕ)) (items : List ℕ) (outcome : Outcome) (text : List ℕ) (n : ℕ) → IfSome read (λ input. items ≡ input)
+    → IsAnswer l items outcome text → n < length text → Appends old new (take n text) → IsShown l read old new (Err Write)
+write_fault l None old new items outcome text n is answer less wrote = tt
+write_fault l (Some input) old new items outcome text n is answer less wrote = (outcome, text, n, subst (λ i. IsAnswer l i outcome text) is answer, less, wrote)
 
 -- an answer that was written whole
-pub written : (read : Option (List ℕ)) (bytes : List ℕ) (outcome : Outcome) (text : List ℕ) (old new : Option (List ℕ))
-    → IfSome read (λ input. bytes ≡ input) → IsAnswer bytes outcome text → Appends old new text
-    → IfSome read (λ input. (text : List ℕ) × IsAnswer input outcome text × Appends old new text)
-written None bytes outcome text old new is answer wrote = tt
-written (Some input) bytes outcome text old new is answer wrote = (text, subst (λ i. IsAnswer i outcome text) is answer, wrote)
+pub written : (l : Limits) (read : Option (List ℕ)) (bytes : List ℕ) (outcome : Outcome) (text : List ℕ) (old new : Option (List ℕ))
+    → IfSome read (λ input. bytes ≡ input) → IsAnswer l bytes outcome text → Appends old new text
+    → IfSome read (λ input. (text : List ℕ) × IsAnswer l input outcome text × Appends old new text)
+written l None bytes outcome text old new is answer wrote = tt
+written l (Some input) bytes outcome text old new is answer wrote = (text, subst (λ i. IsAnswer l i outcome text) is answer, wrote)

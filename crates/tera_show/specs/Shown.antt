@@ -2,11 +2,12 @@
 use Rattle.std.specs.Prelude.{◌≡◌, ◌<◌, ℕ, List, [], ◌∷◌, ◌++◌, length, take, codes, Option, IfSome, Result, Ok, Err, IsUtf8}
 use Rattle.std.specs.Fmt.{decimal}
 use Rattle.std.specs.Io.KnownBytes.{Keeps, Appends}
-use Rattle.tera_lexer.specs.Marks.{default_marks}
-use Rattle.tera_lexer.specs.Place.{IsWithin}
-use Rattle.tera_lexer.specs.Tokens.{Items, AreTokensOf}
-use Rattle.tera_lexer.specs.Faults.{Faults}
+use Rattle.tera_lexer.specs.grammar.Marks.{default_marks}
+use Rattle.tera_lexer.specs.grammar.Place.{IsWithin}
+use Rattle.tera_lexer.specs.grammar.Tokens.{Items, AreTokensOf}
+use Rattle.tera_lexer.specs.grammar.Faults.{Faults}
 use Rattle.tera_tree.specs.Tree.{Output}
+use Rattle.tera_grammar.specs.Limits.{Limits}
 use Rattle.tera_parser.specs.Template.{Derives}
 use Rattle.tera_base.specs.declared.utils.Span.{Span}
 use Rattle.tera_text.specs.TreeText.{text_of}
@@ -20,23 +21,23 @@ abbrev pub fault_line : List ℕ → Span → List ℕ
 fault_line message span =
     codes "syntax error at " ++ (decimal span.start_line ++ (codes ":" ++ (decimal span.start_col ++ (codes " (" ++ (decimal span.range.start ++ (codes ".." ++ (decimal span.range.end ++ (codes "): " ++ (message ++ 10 ∷ [])))))))))
 
--- the answer to an input: the text of the output of its derivation; the line of a syntax error of it, where
--- it has no derivation; or that it is no text
-abbrev pub IsAnswer : List ℕ → Outcome → List ℕ → Type 0
-IsAnswer input Tree text = IsUtf8 input × ((output : Output) × Derives default_marks input output × (text ≡ text_of output))
-IsAnswer input Syntax text =
-    IsUtf8 input × ((output : Output) → Derives default_marks input output → ⊥)
+-- the answer to an input: the text of the output of its derivation within the limits; the line of a syntax error
+-- of it, where it has no derivation; or that it is no text
+abbrev pub IsAnswer : Limits → List ℕ → Outcome → List ℕ → Type 0
+IsAnswer l input Tree text = IsUtf8 input × ((output : Output) × Derives l default_marks input output × (text ≡ text_of output))
+IsAnswer l input Syntax text =
+    IsUtf8 input × ((output : Output) → Derives l default_marks input output → ⊥)
     × ((message : List ℕ) × (span : Span) × (text ≡ fault_line message span) × IsWithin input span
     × ((items : Items) × AreTokensOf default_marks input items × Faults items message span))
-IsAnswer input NotUtf8 text = (IsUtf8 input → ⊥) × (text ≡ codes "input is not UTF-8" ++ 10 ∷ [])
+IsAnswer l input NotUtf8 text = (IsUtf8 input → ⊥) × (text ≡ codes "input is not UTF-8" ++ 10 ∷ [])
 
 -- what a reader gave and a writer took: an answer, whole; nothing; or less than an answer
-abbrev pub IsShown : Option (List ℕ) → Option (List ℕ) → Option (List ℕ) → Result Outcome ShowFault → Type 0
-IsShown read old new (Ok outcome) = IfSome read (λ input. (text : List ℕ) × IsAnswer input outcome text × Appends old new text)
-IsShown read old new (Err Memory) = Keeps old new
-IsShown read old new (Err Read) = Keeps old new
-IsShown read old new (Err Write) =
-    IfSome read (λ input. (outcome : Outcome) × (text : List ℕ) × (n : ℕ) × IsAnswer input outcome text × (n < length text) × Appends old new (take n text))
+abbrev pub IsShown : Limits → Option (List ℕ) → Option (List ℕ) → Option (List ℕ) → Result Outcome ShowFault → Type 0
+IsShown l read old new (Ok outcome) = IfSome read (λ input. (text : List ℕ) × IsAnswer l input outcome text × Appends old new text)
+IsShown l read old new (Err Memory) = Keeps old new
+IsShown l read old new (Err Read) = Keeps old new
+IsShown l read old new (Err Write) =
+    IfSome read (λ input. (outcome : Outcome) × (text : List ℕ) × (n : ℕ) × IsAnswer l input outcome text × (n < length text) × Appends old new (take n text))
 
 -- the status of the program
 abbrev pub status_of : Result Outcome ShowFault → ℕ

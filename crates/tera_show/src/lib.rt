@@ -4,5 +4,5 @@
 mod stream;
 mod text;
 
-pub use stream::{Outcome, ShowFault, show, status};
+pub use stream::{Outcome, ShowFault, show, show_with, status};
 pub use text::tree_text;

@@ -2,6 +2,8 @@
 
 ghost use Rattle.std.specs.Prelude.{◌≡◌, ◌≢◌, ◌<◌, ℕ, length, take, string_bytes, IfOk, OnOk, IfErr, IfSome};
 ghost use Rattle.std.specs.Io.KnownBytes.{Appends};
+ghost use Rattle.tera_grammar.specs.Limits.{usual};
+ghost use Rattle.tera_expr.specs.Rooms.{AreValid, limits_of};
 ghost use Rattle.tera_parser.specs.Outputs.{output_view};
 ghost use Rattle.tera_text.specs.TreeText.{text_of};
 ghost use Rattle.tera_show.specs.Shown.{IsShown, IsAnswer, fault_line, status_of};
@@ -9,6 +11,7 @@ ghost use Rattle.tera_show.specs.Shown.{IsShown, IsAnswer, fault_line, status_of
 use crate::text::tree_text;
 use std::alloc::{AllocError, AllocFailed, Global};
 use std::io::{Read, Write};
+use tera_parser::expr::Limits;
 use tera_parser::lexer::Delimiters;
 use tera_parser::value::{Error, ErrorKind, Span};
 use tera_parser::{Parser, ParserOutput};
@@ -49,7 +52,7 @@ impl From<AllocError> for ShowFault {
     }
 }
 
-/// Shows the tree of the template that the reader gives, to its end, with the default delimiters.
+/// Shows the tree of the template that the reader gives, to its end, with the default delimiters and limits.
 ///
 /// Nothing is written before the whole text is ready. A reader that has not ended after 4294967296 calls
 /// is answered `Read`. Any failed call is final, and so is a write that takes no byte.
@@ -58,10 +61,23 @@ pub fn show<R: Read, W: Write>(
     reader: &mut R,
     writer: &mut W,
 ) -> Result<Outcome, ShowFault>
-    ensures { IsShown (R.remaining reader.old) (W.contents writer.old) (W.contents writer.new) result }
+    ensures { IsShown usual (R.remaining reader.old) (W.contents writer.old) (W.contents writer.new) result }
+{
+    show_with(alloc, reader, writer, Limits::default())
+}
+
+/// The same with limits of the caller's, which [`Limits::valid`] accepts.
+pub fn show_with<R: Read, W: Write>(
+    alloc: Global,
+    reader: &mut R,
+    writer: &mut W,
+    limits: Limits,
+) -> Result<Outcome, ShowFault>
+    requires { AreValid (limits_of limits) }
+    ensures { IsShown (limits_of limits) (R.remaining reader.old) (W.contents writer.old) (W.contents writer.new) result }
 {
     let input = read_all(alloc, reader)?;
-    let (outcome, text) = answer(alloc, input.as_slice())?;
+    let (outcome, text) = answer(alloc, input.as_slice(), limits)?;
     write_all(writer, text.as_bytes())?;
     Ok(outcome)
 }
@@ -117,16 +133,18 @@ fn write_all<W: Write>(writer: &mut W, text: &[u8]) -> Result<(), ShowFault>
     Ok(())
 }
 
-// The answer to the input.
-fn answer(alloc: Global, input: &[u8]) -> Result<(Outcome, String), ShowFault>
-    ensures ok { IfOk result (λ p. IsAnswer input.now p.0 (string_bytes p.1)) }
+// The answer to the input, within the limits.
+fn answer(alloc: Global, input: &[u8], limits: Limits) -> Result<(Outcome, String), ShowFault>
+    requires { AreValid (limits_of limits) }
+    ensures ok { IfOk result (λ p. IsAnswer (limits_of limits) input.now p.0 (string_bytes p.1)) }
     ensures err { IfErr result (λ e. e ≢ ShowFault.Write) }
 {
     let Ok(source) = str::from_utf8(input) else {
         let line = String::from_str(alloc, "input is not UTF-8\n")?;
         return Ok((Outcome::NotUtf8, line));
     };
-    match Parser::new(alloc, "input", source, Delimiters::default()).parse() {
+    let parser = Parser::with_limits(alloc, "input", source, Delimiters::default(), limits);
+    match parser.parse() {
         Ok(output) => match spent(alloc, output) {
             Ok(text) => Ok((Outcome::Tree, text)),
             Err(_) => Err(ShowFault::Memory),
