@@ -2,7 +2,7 @@
 
 use std::test::Fail;
 use tera_base::{ErrorKind, Value};
-use tera_expr::{Scope, expression};
+use tera_expr::{Limits, Scope, expression};
 use tera_lexer::{Cursor, Delimiters, Token, tokenize};
 use tera_tree::Expression;
 
@@ -13,7 +13,10 @@ fn an_expression_behind_its_marker(rt: HostRuntime) -> Result<(), Fail> {
     let Some(_) = cursor.next()? else {
         panic!(rt; "the tag begins");
     };
-    let scope = Scope { in_loop: false };
+    let scope = Scope {
+        in_loop: false,
+        limits: Limits::default(),
+    };
     let Expression::Const(constant) = expression(rt.alloc(), &mut cursor, scope)? else {
         panic!(rt; "the expression is a constant");
     };
@@ -35,7 +38,10 @@ fn a_string_with_escapes_is_its_value(rt: HostRuntime) -> Result<(), Fail> {
     let Some(_) = cursor.next()? else {
         panic!(rt; "the tag begins");
     };
-    let scope = Scope { in_loop: true };
+    let scope = Scope {
+        in_loop: true,
+        limits: Limits::default(),
+    };
     let Expression::Const(constant) = expression(rt.alloc(), &mut cursor, scope)? else {
         panic!(rt; "the expression is a constant");
     };

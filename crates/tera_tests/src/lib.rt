@@ -1,18 +1,22 @@
-//! Tests of the lexer, the parser and the program's library, over memory readers and writers.
+//! Tests of expressions, the parser and the program's library, over memory readers and writers.
 #![tactic(auto)]
 
 #[cfg(test)]
 mod calls;
 #[cfg(test)]
+mod compounds;
+#[cfg(test)]
+mod expression_faults;
+#[cfg(test)]
 mod expressions;
 #[cfg(test)]
-mod lexemes;
-#[cfg(test)]
-mod looking;
+mod limits;
 #[cfg(test)]
 mod markers;
 #[cfg(test)]
-mod pieces;
+mod operators;
+#[cfg(test)]
+mod printed;
 #[cfg(test)]
 mod shown;
 #[cfg(test)]
@@ -21,5 +25,3 @@ mod streams;
 mod trees;
 #[cfg(test)]
 mod types;
-#[cfg(test)]
-mod values;

@@ -2,7 +2,8 @@
 
 use crate::streams::{Failing, OneByteReader, OneByteWriter};
 use std::test::Fail;
-use tera_show::{Outcome, ShowFault, show, status};
+use tera_parser::expr::Limits;
+use tera_show::{Outcome, ShowFault, show, show_with, status};
 
 #[test]
 fn shows_trees(rt: HostRuntime) -> Result<(), Fail> {
@@ -39,6 +40,8 @@ fn shows_trees(rt: HostRuntime) -> Result<(), Fail> {
         ("{{ a -}}\u{a0}b", "expr a\ntext \"b\"\n"),
         ("{ {{ a }}", "text \"{ \"\nexpr a\n"),
         ("a{", "text \"a{\"\n"),
+        ("{{ not true }}", "expr (not true)\n"),
+        ("{{ 1 + 2 }}", "expr (+ 1 2)\n"),
         ("a\t\"\\\r }} {b", "text \"a\\t\\\"\\\\\\r }} {b\"\n"),
     ] {
         let mut written = Vec::new(rt.alloc());
@@ -77,9 +80,10 @@ fn shows_faults(rt: HostRuntime) -> Result<(), Fail> {
         ("a{# b", "1:1 (1..3): Closing comment tag `#}` not found"),
         ("{#- a", "1:0 (0..3): Closing comment tag `#}` not found"),
         ("a {% b %}", "1:2 (2..4): Not read yet"),
-        ("{{ not a }}", "1:3 (3..6): Not read yet"),
-        ("{{ a + b }}", "1:5 (5..6): Not read yet"),
-        ("{{ a %}", "1:5 (5..6): Not read yet"),
+        (
+            "{{ 1 %}",
+            "1:6 (6..7): Found `}` but expected one of: integer, string, bool, ident, `-`, `not`, `<`, `{`, `[` or `(`",
+        ),
     ] {
         let mut written = Vec::new(rt.alloc());
         let mut rest = source.as_bytes();
@@ -89,6 +93,22 @@ fn shows_faults(rt: HostRuntime) -> Result<(), Fail> {
         assert_eq!(rt; written.as_slice(), wanted.as_bytes(), "of {source}");
         assert_eq!(rt; status(&answer), 1);
     }
+    Ok(())
+}
+
+#[test]
+fn shows_what_limits_refuse(rt: HostRuntime) -> Result<(), Fail> {
+    let limits = Limits {
+        depth: 1,
+        ..Limits::default()
+    };
+    assert!(rt; limits.valid());
+    let mut written = Vec::new(rt.alloc());
+    let mut rest = "{{ 1 + 2 }}".as_bytes();
+    let answer = show_with(rt.alloc(), &mut rest, &mut written, limits);
+    assert_eq!(rt; answer, Ok(Outcome::Syntax));
+    let line = "syntax error at 1:5 (5..6): The expression is too complex\n";
+    assert_eq!(rt; written.as_slice(), line.as_bytes());
     Ok(())
 }
 

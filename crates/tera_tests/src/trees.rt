@@ -3,6 +3,7 @@
 use std::test::Fail;
 use tera_parser::Parser;
 use tera_parser::ast::{Expression, Node};
+use tera_parser::expr::Limits;
 use tera_parser::lexer::Delimiters;
 use tera_parser::value::{ErrorKind, Value};
 use tera_show::tree_text;
@@ -42,6 +43,26 @@ fn a_constant_at_the_limit(rt: HostRuntime) -> Result<(), Fail> {
     };
     assert_eq!(rt; *n, i64::MAX);
     assert_eq!(rt; constant.span().range, 3..22);
+    Ok(())
+}
+
+#[test]
+fn a_template_within_limits_of_the_caller(rt: HostRuntime) -> Result<(), Fail> {
+    let limits = Limits {
+        depth: 41,
+        ..Limits::default()
+    };
+    assert!(rt; limits.valid());
+    let source =
+        "{{ ((((((((((((((((((((((((((((((((((((((((1)))))))))))))))))))))))))))))))))))))))) }}";
+    let marks = Delimiters::default();
+    let output = Parser::with_limits(rt.alloc(), "page", source, marks, limits).parse()?;
+    assert_eq!(rt; output.nodes.len(), 1);
+    assert!(rt;
+        Parser::new(rt.alloc(), "page", source, Delimiters::default())
+            .parse()
+            .is_err()
+    );
     Ok(())
 }
 

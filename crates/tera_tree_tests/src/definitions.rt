@@ -29,7 +29,7 @@ fn expect(
     Ok(())
 }
 
-fn definition(
+pub(crate) fn definition(
     name: Made<String>,
     kwargs: Made<BTreeMap<String, ComponentArgument>>,
     rest_param_name: Made<Option<String>>,
@@ -49,7 +49,7 @@ fn definition(
     })
 }
 
-fn argument(
+pub(crate) fn argument(
     default: Made<Option<Value>>,
     typ: Option<ArgType>,
     implicit: bool,
@@ -62,7 +62,7 @@ fn argument(
 }
 
 // An argument with a type and no default.
-fn typed(typ: ArgType) -> Made<ComponentArgument> {
+pub(crate) fn typed(typ: ArgType) -> Made<ComponentArgument> {
     argument(Ok(None), Some(typ), false)
 }
 
