@@ -10,7 +10,7 @@ use Rattle.tera_lexer.specs.grammar.Place.{IsWithin}
 use Rattle.tera_lexer.specs.grammar.Lexed.{EachNumber, IsCount}
 use Rattle.tera_lexer.specs.grammar.Tokens as toks
 use Rattle.tera_lexer.specs.grammar.Tokens.{Tok, Items, Token}
-use Rattle.tera_lexer.specs.code.Cursors.{Position, TellsAt, FaultsFrom, IsLater, RefusesFrom, size}
+use Rattle.tera_lexer.specs.code.Cursors.{FirstStandsAt, Position, TellsAt, FaultsFrom, IsLater, RefusesFrom, size}
 use Rattle.tera_lexer.proofs.Refusals as refusals
 use Rattle.tera_expr.specs.Taking.{Eats, GoesOn, IsCounted, Took, Refuses, Told, no_memory, says, tells, kind_told, TellsAs}
 
@@ -112,3 +112,8 @@ pub eats_size : (b : Bool) (old new : Position) (read : Option (Span × Items)) 
 unfolding Took
 eats_size true old new read (taken, took) = omega (arith, took.1)
 eats_size false old new read (none, same) = subst (λ (q : Position). size q.left ≤ size old.left) (sym same) (omega arith)
+
+-- a fault at the next token
+pub next_refused : (old : Position) (here : Span) (e : Error) → FirstStandsAt old.left here → IsWithin old.source here → TellsAt here e → Refuses old e
+unfolding Refuses
+next_refused old here e (t, behind, is) within told = refusals.token_refuses old t here behind e is within told

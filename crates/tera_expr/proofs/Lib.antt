@@ -23,3 +23,4 @@ pub mod LiteralMaps
 pub mod LiteralArrays
 pub mod Attributing
 pub mod Closing
+pub mod Ending

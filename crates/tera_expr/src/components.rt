@@ -21,6 +21,8 @@ use tera_lexer::Cursor;
 pub fn component_name(alloc: Global, cursor: &mut Cursor<'_>) -> Result<String, Error>
     // What was taken are the tokens of a name, and it is returned.
     ensures found { IfOk result (λ s. TookPath cursor.old s cursor.new) }
+    // No dot follows a name.
+    ensures ends { IfOk result (λ _. EndsPath cursor.new.left) }
     // A name is not refused where no dot follows.
     ensures complete { (x : Path) (rest : Items) → EndsPath rest → cursor.old.left ≡ path_yield x rest → TakesOnly (λ s. string_bytes s ≡ path_output x) rest result cursor.new }
     ensures refusal { IfErr result (RefusesFrom cursor.old) }

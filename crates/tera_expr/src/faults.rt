@@ -65,11 +65,14 @@ pub(crate) fn with_note(error: Error, label: &str, span: &Span) -> Error
     }
 }
 
+/// What is told of more expressions or links than may be open.
+pub(crate) const TOO_COMPLEX: &str = "The expression is too complex";
+
 /// That more expressions or links are open than may be.
 pub(crate) fn too_complex(alloc: Global, cursor: &Cursor<'_>) -> Error
     ensures { Refuses cursor.now result }
 {
-    fault(alloc, cursor, "The expression is too complex")
+    fault(alloc, cursor, TOO_COMPLEX)
 }
 
 /// The fault of a token, which stands at the span, where another has to stand.

@@ -7,7 +7,7 @@ ghost use Rattle.tera_grammar.specs.expressions.Reading.Whole.{widest};
 ghost use Rattle.tera_expr.specs.Rooms.{Decides, limits_of, lowered, room_of};
 ghost use Rattle.tera_expr.specs.Taking.{Refuses};
 
-use crate::faults::{reported, too_complex};
+use crate::faults::{TOO_COMPLEX, reported, too_complex};
 use std::alloc::Global;
 use tera_base::Error;
 use tera_lexer::Cursor;
@@ -153,4 +153,25 @@ pub(crate) fn count_link(alloc: Global, cursor: &Cursor<'_>, links: &mut usize) 
     }
     *links -= 1;
     Ok(())
+}
+
+/// Counts the link of a binary operator, which comes next, where one may still come. In front of a `not in` the `not`
+/// is told of.
+#[tactic(auto, using(crate::proofs::Going::next_refused))]
+pub(crate) fn count_operator(
+    alloc: Global,
+    cursor: &Cursor<'_>,
+    links: &mut usize,
+    negated: bool,
+) -> Result<(), Error>
+    ensures counts { IfOk result (λ _. lowered links.old ≡ Some links.new) }
+    ensures fails { IfErr result (λ e. IsMemory e ⊎ (lowered links.old ≡ None)) }
+    ensures refusal { IfErr result (Refuses cursor.now) }
+{
+    match cursor.first_span() {
+        Some(word) if negated && *links == 0 => {
+            Err(Error::syntax_error(alloc, TOO_COMPLEX, word))
+        }
+        _ => count_link(alloc, cursor, links),
+    }
 }

@@ -24,7 +24,7 @@ use crate::frames::{Frame, Level, Operand, State};
 use crate::front::{
     Front, begins_prefix, is_none, is_not, take_condition, take_ending, take_operator,
 };
-use crate::limits::{Room, count_link};
+use crate::limits::{Room, count_link, count_operator};
 use crate::maps::map;
 use crate::operators::prefix_power;
 use crate::parts::{joined, literal, refuse_prefix, signed, spanning};
@@ -238,7 +238,7 @@ fn turn(
     }
     match front {
         Front::Joins(operator, negated) => {
-            count_link(alloc, cursor, links)?;
+            count_operator(alloc, cursor, links, negated)?;
             take_operator(cursor, operator, negated);
             frames.push(Frame::Binary {
                 level,

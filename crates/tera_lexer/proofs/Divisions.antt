@@ -5,7 +5,7 @@ use Rattle.std.proofs.lemmas.List.{drop_at, take_at, length-append}
 use Rattle.tera_lexer.specs.grammar.Marks.{Marks, IsValid, start_marker, end_marker, begins, NowhereIn, dash_bytes}
 use Rattle.tera_lexer.specs.grammar.Lexeme.{Item, Close, End, Open, Bad, IsInside}
 use Rattle.tera_lexer.specs.grammar.Raw.{WordTag, word_tag_bytes, raw_word, endraw_word, OpensRaw}
-use Rattle.tera_lexer.specs.grammar.Division.{is_at_start, EndsText, Piece, Text, Comment, Raw, Tag, Ending, Nothing, OpenTag, BadTag, OpenRaw, OpenComment, Starts, OpensTag, IsDivision}
+use Rattle.tera_lexer.specs.grammar.Division.{is_at_start, EndsText, Piece, Text, Comment, Raw, Tag, Ending, Complete, OpenTag, BadTag, OpenRaw, OpenComment, Starts, OpensTag, IsDivision}
 use Rattle.tera_lexer.specs.reading.Front.{inside_of, find_marker, at_dash, behind_dash, behind_marker, word_tag_at, raw_end, tag_step, tag_front, comment_step, raw_step, block_step, text_len, text_step, division_by}
 use Rattle.tera_lexer.specs.declared.lexer.delimiters.Kind.{Kind}
 use Rattle.tera_lexer.specs.declared.lexer.delimiters.Kind.TheVariants.{Variable, Block}
@@ -124,7 +124,7 @@ module _ (m : Marks) (valid : IsValid m) where
   pub division_found : (ps : List Piece) (ending : Ending) (n : ℕ) (bytes : List ℕ) → IsDivision m ps ending bytes → length bytes < n → division_by n m bytes ≡ (ps, ending)
   unfolding division_by
   division_found ps ending zero bytes divides lt = absurd (omega arith)
-  division_found [] Nothing (suc n) bytes divides lt = ap (division_by (suc n) m) divides
+  division_found [] Complete (suc n) bytes divides lt = ap (division_by (suc n) m) divides
   division_found [] (OpenTag kind dash items gap) (suc n) bytes (inside, starts, opens, here) lt = at_tag n kind dash items (Open gap) bytes inside starts opens here
   division_found [] (BadTag kind dash items gap fault at) (suc n) bytes (inside, starts, opens, here) lt = at_tag n kind dash items (Bad gap fault at) bytes inside starts opens here
   division_found [] (OpenRaw dash) (suc n) bytes (behind, inside, opening, starts, opens, is) lt =

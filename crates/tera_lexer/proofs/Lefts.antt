@@ -7,7 +7,7 @@ use Rattle.tera_lexer.specs.grammar.Marks.{Marks, IsValid, start_marker, end_mar
 use Rattle.tera_lexer.specs.grammar.Place.{span_of}
 use Rattle.tera_lexer.specs.grammar.Lexeme.{StopsAt, IsGap, Lexeme, spelled, Fault, Item, Close, End, Open, Bad, is_at_end, IsEnd, IsInside}
 use Rattle.tera_lexer.specs.grammar.Raw.{WordTag, OpensRaw, IsBody, IsOpenBody}
-use Rattle.tera_lexer.specs.grammar.Division.{is_at_start, EndsText, Piece, Text, Comment, Raw, Tag, Ending, Nothing, OpenTag, BadTag, OpenRaw, OpenComment, Starts, OpensTag, IsPiece, IsDivision}
+use Rattle.tera_lexer.specs.grammar.Division.{is_at_start, EndsText, Piece, Text, Comment, Raw, Tag, Ending, Complete, OpenTag, BadTag, OpenRaw, OpenComment, Starts, OpensTag, IsPiece, IsDivision}
 use Rattle.tera_lexer.specs.grammar.Trimming.{ends_dashed, trims_start, trims_end, trimmed}
 use Rattle.tera_lexer.specs.grammar.Tokens.{Items, Ended, Failed, Token, Content, token_of, tag_start, tag_end, failed, open_raw, open_comment, comment_bytes, raw_bytes, piece_tokens, tokens_of, AreTokensOf}
 use Rattle.tera_lexer.specs.reading.Front.{Front, Reads, Breaks, front_of, Next, Ends, Closes, Stands, next_at, inside_step, inside_by, inside_of, division_of}
@@ -151,7 +151,7 @@ module _ (m : Marks) (valid : IsValid m) where
   left_is front trim ps ending bytes divides = ap (λ (d : List Piece × Ending). tokens_by m front trim d.0 d.1) (division_is ps ending bytes divides)
 
   pub nothing_left : (front : List ℕ) (trim : Bool) (bytes : List ℕ) → bytes ≡ [] → left_outside m front trim bytes ≡ Ended
-  nothing_left front trim bytes e = left_is front trim [] Nothing bytes e
+  nothing_left front trim bytes e = left_is front trim [] Complete bytes e
 
   -- a piece, and what is behind it
   piece_left : (front : List ℕ) (trim : Bool) (bytes rest : List ℕ) (p : Piece) → IsPiece m p bytes rest → left_outside m front trim bytes ≡ tokens_by m front trim (p ∷ (division_of m rest).0) (division_of m rest).1

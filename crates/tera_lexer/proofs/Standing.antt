@@ -8,7 +8,7 @@ use Rattle.tera_lexer.specs.grammar.Place.{place_after, span_of}
 use Rattle.tera_lexer.specs.grammar.Marks.{Marks, IsValid, AreTexts, start_marker, end_marker, dash_bytes}
 use Rattle.tera_lexer.specs.grammar.Lexeme.{Lexeme, spelled, IsLexeme, Item, Close, End, Open, Bad, IsClose, IsInside}
 use Rattle.tera_lexer.specs.grammar.Raw.{WordTag, word_tag_bytes, raw_word, endraw_word, IsWordTag}
-use Rattle.tera_lexer.specs.grammar.Division.{is_at_start, EndsText, Piece, Text, Comment, Raw, Tag, Ending, Nothing, OpenTag, BadTag, OpenRaw, OpenComment, Starts, IsPiece, IsEnding, IsDivision}
+use Rattle.tera_lexer.specs.grammar.Division.{is_at_start, EndsText, Piece, Text, Comment, Raw, Tag, Ending, Complete, OpenTag, BadTag, OpenRaw, OpenComment, Starts, IsPiece, IsEnding, IsDivision}
 use Rattle.tera_lexer.specs.grammar.Trimming.{trims_start, trims_end, trimmed}
 use Rattle.tera_lexer.specs.grammar.Tokens.{Tok, Content, Start, Finish, Items, Ended, Token, token_of, lexemes, tag_start, tag_end, failed, comment_bytes, raw_bytes, piece_tokens, ending_tokens, tokens_of, AreTokensOf}
 use Rattle.tera_lexer.specs.code.Steps.{StandsIn, EachStandsAt}
@@ -158,7 +158,7 @@ module _ (source : List ℕ) where
         (λ g at close e'' text'. end_stands kind g gap last rest at follows close e'' text' next))
 
     ending_stands : (ending : Ending) (front bytes : List ℕ) → IsEnding m ending bytes → source ≡ front ++ bytes → IsUtf8 bytes → EachStandsAt source (ending_tokens m front ending)
-    ending_stands Nothing front bytes is e whole = tt
+    ending_stands Complete front bytes is e whole = tt
     ending_stands (OpenTag kind dash items gap) front bytes (inside, starts, opens, here) e whole =
         start_stands kind front dash bytes inside (λ f. lexemes f items (λ g. Ended)) starts e whole (λ f e' text. lexemes_stand (end_marker kind m) items (Open gap) f inside (λ g. Ended) here e' text (λ g at close e'' text'. tt))
     ending_stands (BadTag kind dash items gap fault at) front bytes (inside, starts, opens, here) e whole =

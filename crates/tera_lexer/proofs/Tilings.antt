@@ -8,7 +8,7 @@ use Rattle.tera_lexer.specs.grammar.Marks.{Marks, IsValid, start_marker, end_mar
 use Rattle.tera_lexer.specs.grammar.Place.{place_after, span_of}
 use Rattle.tera_lexer.specs.grammar.Lexeme.{Lexeme, Name, Number, Quoted, Operator, spelled, has_escape, decimal, IsLexeme, Fault, told, IsFault, Item, Close, End, Open, Bad, IsEnd, IsInside}
 use Rattle.tera_lexer.specs.grammar.Raw.{WordTag, word_tag_bytes, raw_word, endraw_word}
-use Rattle.tera_lexer.specs.grammar.Division.{Piece, Text, Comment, Raw, Tag, Ending, Nothing, OpenTag, BadTag, OpenRaw, OpenComment, Starts, IsPiece, IsEnding, IsDivision}
+use Rattle.tera_lexer.specs.grammar.Division.{Piece, Text, Comment, Raw, Tag, Ending, Complete, OpenTag, BadTag, OpenRaw, OpenComment, Starts, IsPiece, IsEnding, IsDivision}
 use Rattle.tera_lexer.specs.grammar.Trimming.{trims_end, trimmed}
 use Rattle.tera_lexer.specs.grammar.Tokens.{Tok, Content, Start, Integer, Items, Ended, Failed, Token, name_token, token_of, lexemes, tag_start, tag_end, failed, open_raw, open_comment, comment_bytes, raw_bytes, piece_tokens, ending_tokens, AreTokensOf}
 use Rattle.tera_lexer.specs.reading.Front.{inside_of, division_of}
@@ -160,7 +160,7 @@ module _ (m : Marks) (valid : IsValid m) where
   starts_some marker dash bytes behind two starts = some_bytes bytes (omega (arith, ap length starts.0, length-append marker (dash_bytes dash ++ behind)))
 
   tile_ending : (ending : Ending) (front bytes : List ℕ) → IsEnding m ending bytes → Tile false front bytes (ending_tokens m front ending)
-  tile_ending Nothing front bytes e = e
+  tile_ending Complete front bytes e = e
   tile_ending (OpenTag kind dash items gap) front bytes (inside, starts, opens, here) =
       tile_start kind front dash bytes inside (λ f. lexemes f items (λ g. Ended)) starts (λ f. tile_open (end_marker kind m) items gap f inside here)
   tile_ending (BadTag kind dash items gap fault at) front bytes (inside, starts, opens, here) =

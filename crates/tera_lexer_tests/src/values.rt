@@ -1,6 +1,7 @@
 //! Values, maps, spans and errors.
 
 use std::alloc::{AllocError, Global};
+use std::hash::{DefaultHasher, Hasher};
 use std::process::Abort;
 use std::test::Fail;
 use tera_base::{
@@ -162,6 +163,17 @@ fn maps_equal_by_their_pairs_and_order(rt: HostRuntime) -> Result<(), Fail> {
     assert!(rt; laws::same_map(&all, &taken_twice(rt.alloc())?));
     assert!(rt; laws::same_key(&key(rt.alloc(), "a")?, &key(rt.alloc(), "a")?));
     assert!(rt; !laws::same_key(&key(rt.alloc(), "1")?, &Key::I64(1)));
+    Ok(())
+}
+
+#[test]
+fn equal_keys_hash_alike(rt: HostRuntime) -> Result<(), Fail> {
+    let (one, same) = (key(rt.alloc(), "1")?, key(rt.alloc(), "1")?);
+    let (mut first, mut second) = (DefaultHasher::new(), DefaultHasher::new());
+    laws::hashes_agree(&one, &same, &mut first, &mut second);
+    assert_eq!(rt; first.finish(), second.finish());
+    laws::hashes_agree(&one, &Key::I64(1), &mut first, &mut second);
+    assert_ne!(rt; first.finish(), second.finish());
     Ok(())
 }
 

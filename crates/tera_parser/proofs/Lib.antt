@@ -1,5 +1,2 @@
-pub mod Parsings
-pub mod Tags
-pub mod Closed
-pub mod Bodies
+pub mod About
 pub mod Wholes

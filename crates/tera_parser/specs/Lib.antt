@@ -1,7 +1,5 @@
-pub mod Outputs
-pub mod Template
+pub mod Comments
+pub mod Notes
 pub mod Refusal
-pub mod Reading
-pub mod Gives
 pub mod Job
 pub mod JobView

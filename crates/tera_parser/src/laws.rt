@@ -4,10 +4,10 @@ ghost use Rattle.std.specs.Prelude.{◌≡◌, ◌↔◌, IsTrue, ℕ, List};
 ghost use Rattle.tera_lexer.specs.grammar.Marks.{Marks, IsValid};
 ghost use Rattle.tera_tree.specs.Tree.{Output};
 ghost use Rattle.tera_grammar.specs.Limits.{Limits};
-ghost use Rattle.tera_parser.specs.Outputs.{output_view};
-ghost use Rattle.tera_parser.specs.Template.{Derives};
+ghost use Rattle.tera_statements.specs.Outputs.{output_view};
+ghost use Rattle.tera_grammar.specs.statements.Top.{Derives};
 
-use crate::parsing::ParserOutput;
+use tera_statements::ParserOutput;
 
 /// No source has derivations with two outputs, within whatever limits.
 pub fn one_output()

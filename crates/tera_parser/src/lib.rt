@@ -1,12 +1,12 @@
 //! The parser of the template engine Tera: from the text of one template to its tree.
 #![tactic(auto)]
 
-mod build;
 pub mod laws;
-mod outputs;
+mod notes;
 mod parsing;
 
-pub use parsing::{Parser, ParserOutput};
+pub use parsing::Parser;
+pub use tera_statements::ParserOutput;
 
 /// Spans, errors and values.
 pub mod value {

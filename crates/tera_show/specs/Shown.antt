@@ -8,7 +8,7 @@ use Rattle.tera_lexer.specs.grammar.Tokens.{Items, AreTokensOf}
 use Rattle.tera_lexer.specs.grammar.Faults.{Faults}
 use Rattle.tera_tree.specs.Tree.{Output}
 use Rattle.tera_grammar.specs.Limits.{Limits}
-use Rattle.tera_parser.specs.Template.{Derives}
+use Rattle.tera_grammar.specs.statements.Top.{Derives}
 use Rattle.tera_base.specs.declared.utils.Span.{Span}
 use Rattle.tera_text.specs.TreeText.{text_of}
 use Rattle.tera_show.specs.declared.stream.Outcome.{Outcome}

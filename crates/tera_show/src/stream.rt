@@ -4,18 +4,16 @@ ghost use Rattle.std.specs.Prelude.{◌≡◌, ◌≢◌, ◌<◌, ℕ, length, 
 ghost use Rattle.std.specs.Io.KnownBytes.{Appends};
 ghost use Rattle.tera_grammar.specs.Limits.{usual};
 ghost use Rattle.tera_expr.specs.Rooms.{AreValid, limits_of};
-ghost use Rattle.tera_parser.specs.Outputs.{output_view};
 ghost use Rattle.tera_text.specs.TreeText.{text_of};
 ghost use Rattle.tera_show.specs.Shown.{IsShown, IsAnswer, fault_line, status_of};
 
 use crate::text::tree_text;
 use std::alloc::{AllocError, AllocFailed, Global};
 use std::io::{Read, Write};
+use tera_parser::Parser;
 use tera_parser::expr::Limits;
 use tera_parser::lexer::Delimiters;
 use tera_parser::value::{Error, ErrorKind, Span};
-use tera_parser::{Parser, ParserOutput};
-use tera_tree::{dismantle, dismantle_definitions};
 
 /// What was shown.
 #[derive(Clone, Copy, Debug, PartialEq, Eq)]
@@ -145,7 +143,7 @@ fn answer(alloc: Global, input: &[u8], limits: Limits) -> Result<(Outcome, Strin
     };
     let parser = Parser::with_limits(alloc, "input", source, Delimiters::default(), limits);
     match parser.parse() {
-        Ok(output) => match spent(alloc, output) {
+        Ok(output) => match tree_text(alloc, &output) {
             Ok(text) => Ok((Outcome::Tree, text)),
             Err(_) => Err(ShowFault::Memory),
         },
@@ -157,22 +155,6 @@ fn answer(alloc: Global, input: &[u8], limits: Limits) -> Result<(Outcome, Strin
             _ => Err(ShowFault::Memory),
         },
     }
-}
-
-// The text of the tree, which is taken apart.
-fn spent(alloc: Global, output: ParserOutput) -> Result<String, Error>
-    ensures { IfOk result (λ text. string_bytes text ≡ text_of (output_view output)) }
-{
-    let text = tree_text(alloc, &output);
-    let ParserOutput {
-        parent,
-        nodes,
-        component_definitions,
-    } = output;
-    drop(parent);
-    dismantle(nodes);
-    dismantle_definitions(component_definitions);
-    text
 }
 
 // The line of a syntax error.

@@ -19,7 +19,7 @@ fn limits(depth: usize, links: usize, subscripts: usize, arrays: usize) -> Limit
     }
 }
 
-// An expression with so many of a text before its core, and of another behind it.
+// A core with so many of a text before it, and of another behind it.
 fn around(
     alloc: Global,
     before: &str,

@@ -79,7 +79,7 @@ fn shows_faults(rt: HostRuntime) -> Result<(), Fail> {
         ("{% raw %}x", "1:0 (0..2): unexpected end of raw block"),
         ("a{# b", "1:1 (1..3): Closing comment tag `#}` not found"),
         ("{#- a", "1:0 (0..3): Closing comment tag `#}` not found"),
-        ("a {% b %}", "1:2 (2..4): Not read yet"),
+        ("a {% b %}", "1:5 (5..6): Unknown tag"),
         (
             "{{ 1 %}",
             "1:6 (6..7): Found `}` but expected one of: integer, string, bool, ident, `-`, `not`, `<`, `{`, `[` or `(`",

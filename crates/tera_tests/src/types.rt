@@ -7,6 +7,7 @@ use tera_parser::ParserOutput;
 use tera_parser::ast::{
     ComponentArgument, ComponentDefinition, Expression, Node, Type, UnaryOperator,
 };
+use tera_parser::laws::same_output;
 use tera_parser::value::{Error, ErrorKind, Key, Map, Span, Value};
 use tera_tree::{build, laws};
 
@@ -172,7 +173,10 @@ fn an_output_equals_its_copy(rt: HostRuntime) -> Result<(), Fail> {
     assert!(rt; is_copied(&output)?);
     output.nodes.push(Node::Continue)?;
     assert!(rt; is_copied(&output)?);
-    assert_ne!(rt; output, ParserOutput::empty(rt.alloc()));
+    let empty = ParserOutput::empty(rt.alloc());
+    assert_ne!(rt; output, empty);
+    assert!(rt; !same_output(&output, &empty));
+    assert!(rt; same_output(&empty, &empty));
     let key = Key::String(String::from_str(rt.alloc(), "k")?);
     assert!(rt; is_copied(&key)?);
     Ok(())

@@ -3,6 +3,8 @@
 //! A struct that holds expressions alone, or nodes alone, is declared for every type of them and has its
 //! name as an alias: so the types that hold one another stay few.
 
+ghost use Rattle.std.specs.Prelude.{◌≡◌};
+
 use std::collections::BTreeMap;
 use tera_base::{Key, Spanned, Value};
 
@@ -107,12 +109,48 @@ pub struct ForLoop {
 }
 
 /// A body under a condition, and one without it. An `elif` is an `If` alone in `false_body`.
+///
+/// A chain of `elif`s is dropped in a loop, however long it is. So that it is, its fields are not moved out of it one
+/// by one: [`If::into_parts`] takes it apart.
 #[cycle(ast)]
-#[derive(Debug, Drop)]
+#[derive(Debug)]
 pub struct If {
     pub expr: Expression,
     pub body: Vec<Node>,
     pub false_body: Vec<Node>,
+}
+
+impl If {
+    /// The condition, the body under it, and the one without it.
+    pub fn into_parts(self) -> (Expression, Vec<Node>, Vec<Node>)
+        ensures { result ≡ (self.expr, self.body, self.false_body) }
+    {
+        let If {
+            expr,
+            body,
+            false_body,
+        } = self;
+        (expr, body, false_body)
+    }
+}
+
+impl Drop for If {
+    // Along a chain of `elif`s.
+    #[cycle(drops)]
+    fn drop(mut self) {
+        'chain: loop {
+            let If {
+                expr: _expr,
+                body: _body,
+                mut false_body,
+            } = self;
+            match false_body.pop() {
+                Some(Node::If(next)) if false_body.is_empty() => self = next,
+                Some(_last) => return,
+                None => return,
+            }
+        }
+    }
 }
 
 /// A body that filters change.

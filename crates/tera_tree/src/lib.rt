@@ -8,7 +8,6 @@ pub mod build;
 mod calls;
 mod copies;
 mod definitions;
-mod drops;
 mod equality;
 mod infos;
 pub mod laws;
@@ -26,6 +25,5 @@ pub use ast::{
     ListComprehensionOf, Map, MapEntry, MapEntryOf, MapOf, Node, Set, SetOf, Slice, SliceOf,
     Ternary, TernaryOf, Test, TestOf, UnaryOperation, UnaryOperationOf, UnaryOperator, Var,
 };
-pub use drops::{dismantle, dismantle_definitions};
 pub use infos::ComponentInfo;
 pub use parts::{WithArguments, WithAttributes};

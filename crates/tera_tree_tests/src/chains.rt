@@ -1,9 +1,9 @@
-//! Long chains of `elif`s: their lines, and taking them apart.
+//! Long chains of `elif`s: their lines, and their drop.
 
 use crate::lines::written;
 use crate::making::{Made, Maker};
 use std::test::Fail;
-use tera_tree::{Node, dismantle};
+use tera_tree::Node;
 
 // A chain with so many conditions, in the body of a loop.
 fn chain(m: Maker, conditions: u32) -> Made<Vec<Node>> {
@@ -18,7 +18,7 @@ fn chain(m: Maker, conditions: u32) -> Made<Vec<Node>> {
 fn a_long_chain(rt: HostRuntime) -> Result<(), Fail> {
     let nodes = chain(Maker { alloc: rt.alloc() }, 100001)?;
     let lines = written(rt.alloc(), &nodes);
-    dismantle(nodes);
+    drop(nodes);
     let (first, other) = ("for v in b\n  if a\n", "  elif a\n");
     let lines = lines?;
     assert_eq!(rt; lines.len(), first.len() + 100000 * other.len());

@@ -5,7 +5,7 @@ use std::alloc::{AllocError, Global};
 use std::process::Abort;
 use std::test::Fail;
 use tera_text::push_nodes;
-use tera_tree::{Expression, Node, dismantle};
+use tera_tree::{Expression, Node};
 
 pub(crate) fn written(alloc: Global, nodes: &Vec<Node>) -> Result<String, AllocError> {
     let mut out = String::new(alloc);
@@ -17,7 +17,6 @@ pub(crate) fn written(alloc: Global, nodes: &Vec<Node>) -> Result<String, AllocE
 fn expect(rt: &impl Abort, alloc: Global, lines: &str, made: Made<Node>) -> Result<(), AllocError> {
     let nodes = Maker { alloc }.one(made)?;
     let written = written(alloc, &nodes);
-    dismantle(nodes);
     assert_eq!(rt; written?.as_str(), lines);
     Ok(())
 }

@@ -50,8 +50,8 @@ stack::turn-suffix-requires t c = omega (arith, took_size _ _ c.take_ending.ensu
 pub stack::turn-returns-then-stops-clause-keeps : goal.stack::turn-returns-then-stops-clause-keeps
 stack::turn-returns-then-stops-clause-keeps t c = turns.stack::turn-returns-then-stops-clause-keeps t c
 
-pub stack::turn-returns-in_err-count_link-in-Joins-clause-keeps : goal.stack::turn-returns-in_err-count_link-in-Joins-clause-keeps
-stack::turn-returns-in_err-count_link-in-Joins-clause-keeps t c = turns.stack::turn-returns-in_err-count_link-in-Joins-clause-keeps t c
+pub stack::turn-returns-in_err-count_operator-in-Joins-clause-keeps : goal.stack::turn-returns-in_err-count_operator-in-Joins-clause-keeps
+stack::turn-returns-in_err-count_operator-in-Joins-clause-keeps t c = turns.stack::turn-returns-in_err-count_operator-in-Joins-clause-keeps t c
 
 pub stack::turn-returns-in_err-count_link-in-Closes-clause-keeps : goal.stack::turn-returns-in_err-count_link-in-Closes-clause-keeps
 stack::turn-returns-in_err-count_link-in-Closes-clause-keeps t c = turns.stack::turn-returns-in_err-count_link-in-Closes-clause-keeps t c

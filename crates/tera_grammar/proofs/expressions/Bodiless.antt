@@ -4,7 +4,7 @@ use Rattle.tera_base.specs.Values as values
 use Rattle.tera_base.specs.declared.utils.Span.{Span}
 use Rattle.tera_tree.specs.Tree as tree
 use Rattle.tera_tree.specs.Tree.{Expr}
-use Rattle.tera_grammar.specs.expressions.Concrete.{Sign, Negative, Negates, plainly, negated, Single, NotIn, Tree, Atomic, Prefix, Suffixed, Infix, Atom, Literal, Nothing, Chain, Call, Paren, Array, Comprehension, Map, Component, Links, no_links, field, item, Sub, index, slice, Suffix, Test, Filter, Subscript, Operator, Binary, Condition}
+use Rattle.tera_grammar.specs.expressions.Concrete.{Sign, Negative, Negates, plainly, negated, Single, NotIn, Tree, Atomic, Prefix, Suffixed, Infix, Atom, Literal, Null, Chain, Call, Paren, Array, Comprehension, Map, Component, Links, no_links, field, item, Sub, index, slice, Suffix, Test, Filter, Subscript, Operator, Binary, Condition}
 use Rattle.tera_grammar.specs.expressions.Output.{output, atom_output, links_output, sub_output, field_output, suffix_output, operator_output, prefixed, array_made, map_made, is_optional_bracket, constant_items, constant_entries, items_output, entries_output, of_loop}
 
 -- a call of a component with a body between two tags
@@ -61,7 +61,7 @@ mutual
 
   atom_is : (l : Bool) (a : Atom) → IsBodiless (atom_output l a)
   atom_is l (Literal x s) = refl
-  atom_is l (Nothing n) = refl
+  atom_is l (Null n) = refl
   atom_is l (Chain n ls) = links_are l (of_loop l n) (tree.Var n.text n.span) ls refl
   atom_is l (Call n s row) = refl
   atom_is l (Paren s e t) = output_bodiless l e

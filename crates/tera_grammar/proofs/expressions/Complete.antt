@@ -6,7 +6,7 @@ use Rattle.tera_lexer.specs.grammar.Tokens.{Items, Token, Ident}
 use Rattle.tera_lexer.specs.code.Cursors.{size}
 use Rattle.tera_grammar.specs.expressions.Operators.{BinaryOperator, Mul, Div, Mod, Plus, Minus, FloorDiv, Power, LessThan, GreaterThan, LessThanOrEqual, GreaterThanOrEqual, Equal, NotEqual, And, Or, StrConcat, In}
 use Rattle.tera_grammar.specs.expressions.Marks.{Mark, RightParen, LeftBracket, RightBracket, RightBrace, Comma, Colon, Dot, Spread, Not, If, Else, For, Operation, mark_token, mark}
-use Rattle.tera_grammar.specs.expressions.Concrete.{Name, Sign, Negative, Negates, plainly, negated, Second, Op, Single, NotIn, Kind, of_arguments, of_items, of_entries, Tree, Atomic, Prefix, Suffixed, Infix, Atom, Literal, Nothing, Chain, Call, Paren, Array, Comprehension, Map, Component, Links, no_links, field, item, Sub, index, slice, Part, absent, present, Extra, no_extra, extra, Row, ended, only, then, Element, plain, spread, pair, argument, Attributes, no_attributes, bare, quoted, valued, spreading, Suffix, Test, Filter, Subscript, Args, no_args, args, Operator, Binary, Condition, literal_token, name_yield, joint_yield, bracket_yield, negation_yield, second_yield, yield, atom_yield, links_yield, sub_yield, part_yield, extra_yield, row_yield, attributes_yield, suffix_yield, args_yield, operator_yield}
+use Rattle.tera_grammar.specs.expressions.Concrete.{Name, Sign, Negative, Negates, plainly, negated, Second, Op, Single, NotIn, Kind, of_arguments, of_items, of_entries, Tree, Atomic, Prefix, Suffixed, Infix, Atom, Literal, Null, Chain, Call, Paren, Array, Comprehension, Map, Component, Links, no_links, field, item, Sub, index, slice, Part, absent, present, Extra, no_extra, extra, Row, ended, only, then, Element, plain, spread, pair, argument, Attributes, no_attributes, bare, quoted, valued, spreading, Suffix, Test, Filter, Subscript, Args, no_args, args, Operator, Binary, Condition, literal_token, name_yield, joint_yield, bracket_yield, negation_yield, second_yield, yield, atom_yield, links_yield, sub_yield, part_yield, extra_yield, row_yield, attributes_yield, suffix_yield, args_yield, operator_yield}
 use Rattle.tera_grammar.specs.expressions.Powers.{right_of, op_right, left_power, right_power, sign_power, AtLeast, Above, Carries}
 use Rattle.tera_grammar.specs.Words.{is_not, AreDistinct}
 use Rattle.tera_grammar.specs.expressions.Conditions.{AreVariables, argument_names, is_refused, IsExpression, IsAtom, AreLinks, IsSub, IsPart, IsExtra, IsRow, IsElement, AreAttributes, IsSuffix, AreArgs, IsOperator}
@@ -378,7 +378,7 @@ mutual
       → head_of (expr d) w (at (atom_links a + k) (atom_yield a r)) ≡ Some (Atomic a, at k r)
   atom_read (Literal l s) d w k r is quiet fits = ap (λ i. head_of (expr d) w (at i (Token (literal_token l) s r))) (omega arith)
       ∙ literal_head_read (expr d) (expr_bars d) w l s k r
-  atom_read (Nothing n) d w k r is quiet fits = ap (λ i. head_of (expr d) w (at i (name_yield n r))) (omega arith)
+  atom_read (Null n) d w k r is quiet fits = ap (λ i. head_of (expr d) w (at i (name_yield n r))) (omega arith)
       ∙ nothing_read (expr d) (expr_bars d) w n k r is
   atom_read (Chain n ls) d w k r is quiet fits =
       chain_read (expr d) (expr_bars d) w n ls (links_links ls + k) k (links_yield ls r) r is.0 (chain_open ls _ r quiet)

@@ -7,7 +7,7 @@ use Rattle.tera_lexer.specs.grammar.Tokens as toks
 use Rattle.tera_lexer.specs.grammar.Tokens.{Tok, Items, Token, Ident, Symbol}
 use Rattle.tera_grammar.specs.expressions.Operators.{Div, Minus, LessThan, GreaterThan, In}
 use Rattle.tera_grammar.specs.expressions.Marks.{Mark, LeftParen, RightParen, LeftBracket, RightBracket, LeftBrace, Comma, If, For, Operation, mark}
-use Rattle.tera_grammar.specs.expressions.Concrete.{Name, Simple, Escaped, Lit, Number, Quoted, Truth, Sign, Negative, Negates, Second, no_second, second, of_items, of_entries, Tree, Atomic, Prefix, Suffixed, Infix, Literal, Nothing, Chain, Call, Paren, Array, Comprehension, Map, Component, Row, ended, Element, plain, spread, pair, argument, literal_token, name_yield, sign_yield, second_yield, dotted_yield, yield, extra_yield, attributes_yield}
+use Rattle.tera_grammar.specs.expressions.Concrete.{Name, Simple, Escaped, Lit, Number, Quoted, Truth, Sign, Negative, Negates, Second, no_second, second, of_items, of_entries, Tree, Atomic, Prefix, Suffixed, Infix, Literal, Null, Chain, Call, Paren, Array, Comprehension, Map, Component, Row, ended, Element, plain, spread, pair, argument, literal_token, name_yield, sign_yield, second_yield, dotted_yield, yield, extra_yield, attributes_yield}
 use Rattle.tera_grammar.specs.expressions.Powers.{sign_power, left_spine, BeginsPlain}
 use Rattle.tera_grammar.specs.Words.{is_none, is_not, is_reserved}
 use Rattle.tera_grammar.specs.expressions.Conditions.{IsFirst, AreVariables, IsExpression}
@@ -257,10 +257,10 @@ module _ (d : ℕ) (f : Reader) (sound : SoundTree d f) (w : Room) where
         inner = omega arith;
       })
 
-  nothing_found : (n : Name) (p : Place) (x : Tree × Place) → is_none n.text ≡ true → Some (Atomic (Nothing n), p) ≡ Some x
+  nothing_found : (n : Name) (p : Place) (x : Tree × Place) → is_none n.text ≡ true → Some (Atomic (Null n), p) ≡ Some x
       → FoundHead d w (at p.links (name_yield n p.tokens)) x.0 x.1
   nothing_found n p x none h =
-      subst (λ (y : Tree × Place). FoundHead d w (at p.links (name_yield n p.tokens)) y.0 y.1) (same_Some (Atomic (Nothing n), p) x h)
+      subst (λ (y : Tree × Place). FoundHead d w (at p.links (name_yield n p.tokens)) y.0 y.1) (same_Some (Atomic (Null n), p) x h)
       (record {
         spelled = refl;
         counted = omega arith;
@@ -309,7 +309,7 @@ module _ (d : ℕ) (f : Reader) (sound : SoundTree d f) (w : Room) where
       → FoundHead d w (at p.links (name_yield n p.tokens)) x.0 x.1
   unfolding word_head chain_of
   word_found n p x h =
-      ⊎_elim (λ (none : (is_none n.text ≡ true) × (Some (Atomic (Nothing n), p) ≡ Some x)). nothing_found n p x none.0 none.1)
+      ⊎_elim (λ (none : (is_none n.text ≡ true) × (Some (Atomic (Null n), p) ≡ Some x)). nothing_found n p x none.0 none.1)
       (λ (some : (is_none n.text ≡ false) × (cond (is_not n.text) (prefix_of f w (Negates n.span) p)
       (called_at f w n p (skip LeftParen p)) ≡ Some x)).
       ⊎_elim (λ (negation : (is_not n.text ≡ true) × (prefix_of f w (Negates n.span) p ≡ Some x)).

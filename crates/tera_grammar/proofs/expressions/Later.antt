@@ -6,7 +6,7 @@ use Rattle.tera_lexer.specs.grammar.Tokens.{Tok, Items, Token}
 use Rattle.tera_lexer.specs.grammar.Tiling.{in_tag_behind}
 use Rattle.tera_grammar.specs.expressions.Operators.{BinaryOperator, Mul, Div, Mod, Plus, Minus, FloorDiv, Power, LessThan, GreaterThan, LessThanOrEqual, GreaterThanOrEqual, Equal, NotEqual, And, Or, StrConcat, In}
 use Rattle.tera_grammar.specs.expressions.Marks.{Mark, LeftParen, RightParen, LeftBracket, RightBracket, QuestionBracket, LeftBrace, RightBrace, Comma, Colon, Dot, QuestionDot, Spread, Assign, Bar, At, Not, Is, If, Else, For, Operation, Other, operator_token, mark_token}
-use Rattle.tera_grammar.specs.expressions.Concrete.{Quote, Simple, Escaped, Lit, Number, Quoted, Truth, quote_token, literal_token, closing, Sign, Negative, Negates, Joint, plain_dot, optional_dot, Bracket, plain_bracket, optional_bracket, Negation, plainly, negated, Second, no_second, second, Dotted, no_dots, dots, Op, Single, NotIn, Kind, of_arguments, of_items, of_entries, Tree, Atomic, Prefix, Suffixed, Infix, Atom, Literal, Nothing, Chain, Call, Paren, Array, Comprehension, Map, Component, Links, no_links, field, item, Sub, index, slice, Part, absent, present, Extra, no_extra, extra, Row, ended, only, then, Element, plain, spread, pair, argument, Attributes, no_attributes, bare, quoted, valued, spreading, Suffix, Test, Filter, Subscript, Args, no_args, args, Operator, Binary, Condition, sign_yield, joint_yield, bracket_yield, negation_yield, second_yield, dotted_yield, op_yield, yield, atom_yield, links_yield, sub_yield, part_yield, extra_yield, row_yield, element_yield, attributes_yield, suffix_yield, args_yield, operator_yield}
+use Rattle.tera_grammar.specs.expressions.Concrete.{Quote, Simple, Escaped, Lit, Number, Quoted, Truth, quote_token, literal_token, closing, Sign, Negative, Negates, Joint, plain_dot, optional_dot, Bracket, plain_bracket, optional_bracket, Negation, plainly, negated, Second, no_second, second, Dotted, no_dots, dots, Op, Single, NotIn, Kind, of_arguments, of_items, of_entries, Tree, Atomic, Prefix, Suffixed, Infix, Atom, Literal, Null, Chain, Call, Paren, Array, Comprehension, Map, Component, Links, no_links, field, item, Sub, index, slice, Part, absent, present, Extra, no_extra, extra, Row, ended, only, then, Element, plain, spread, pair, argument, Attributes, no_attributes, bare, quoted, valued, spreading, Suffix, Test, Filter, Subscript, Args, no_args, args, Operator, Binary, Condition, sign_yield, joint_yield, bracket_yield, negation_yield, second_yield, dotted_yield, op_yield, yield, atom_yield, links_yield, sub_yield, part_yield, extra_yield, row_yield, element_yield, attributes_yield, suffix_yield, args_yield, operator_yield}
 
 -- a token that is no marker
 abbrev pub IsInside : Tok → Type 0
@@ -102,7 +102,7 @@ module _ (P : Items → Type 0) (later : (t : Tok) (s : Span) (r : Items) → Is
 
     atom_later : (a : Atom) (r : Items) → P r → P (atom_yield a r)
     atom_later (Literal l s) r h = later _ s r (literal_inside l) h
-    atom_later (Nothing n) r h = later _ n.span r refl h
+    atom_later (Null n) r h = later _ n.span r refl h
     atom_later (Chain n ls) r h = later _ n.span _ refl (links_later ls r h)
     atom_later (Call n s row) r h = later _ n.span _ refl (later _ s _ refl (row_later of_arguments row r h))
     atom_later (Paren s e t) r h = later _ s _ refl (yield_later e _ (later _ t r refl h))

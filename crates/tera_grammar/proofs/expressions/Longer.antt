@@ -4,7 +4,7 @@ use Rattle.tera_lexer.specs.grammar.Tokens.{Items}
 use Rattle.tera_lexer.specs.code.Cursors.{size}
 use Rattle.tera_grammar.specs.expressions.Operators.{Div, GreaterThan, In}
 use Rattle.tera_grammar.specs.expressions.Marks.{Mark, RightParen, RightBracket, RightBrace, Comma, Colon, If, Else, For, Operation, mark}
-use Rattle.tera_grammar.specs.expressions.Concrete.{Sign, Negative, Negates, Joint, plain_dot, optional_dot, Bracket, plain_bracket, optional_bracket, Negation, plainly, negated, Second, no_second, second, Dotted, no_dots, dots, Op, Single, NotIn, Kind, of_arguments, of_items, of_entries, Tree, Atomic, Prefix, Suffixed, Infix, Atom, Literal, Nothing, Chain, Call, Paren, Array, Comprehension, Map, Component, Links, no_links, field, item, Sub, index, slice, Part, absent, present, Extra, no_extra, extra, Row, ended, only, then, Element, plain, spread, pair, argument, Attributes, no_attributes, bare, quoted, valued, spreading, Suffix, Test, Filter, Subscript, Args, no_args, args, Operator, Binary, Condition, name_yield, sign_yield, joint_yield, bracket_yield, negation_yield, second_yield, dotted_yield, op_yield, closing, yield, atom_yield, links_yield, sub_yield, part_yield, extra_yield, row_yield, element_yield, attributes_yield, suffix_yield, args_yield, operator_yield}
+use Rattle.tera_grammar.specs.expressions.Concrete.{Sign, Negative, Negates, Joint, plain_dot, optional_dot, Bracket, plain_bracket, optional_bracket, Negation, plainly, negated, Second, no_second, second, Dotted, no_dots, dots, Op, Single, NotIn, Kind, of_arguments, of_items, of_entries, Tree, Atomic, Prefix, Suffixed, Infix, Atom, Literal, Null, Chain, Call, Paren, Array, Comprehension, Map, Component, Links, no_links, field, item, Sub, index, slice, Part, absent, present, Extra, no_extra, extra, Row, ended, only, then, Element, plain, spread, pair, argument, Attributes, no_attributes, bare, quoted, valued, spreading, Suffix, Test, Filter, Subscript, Args, no_args, args, Operator, Binary, Condition, name_yield, sign_yield, joint_yield, bracket_yield, negation_yield, second_yield, dotted_yield, op_yield, closing, yield, atom_yield, links_yield, sub_yield, part_yield, extra_yield, row_yield, element_yield, attributes_yield, suffix_yield, args_yield, operator_yield}
 
 longer_sign : (x : Sign) (r : Items) → size r < size (sign_yield x r)
 longer_sign (Negative s) r = omega arith
@@ -44,7 +44,7 @@ mutual
 
   longer_atom : (a : Atom) (r : Items) → size r < size (atom_yield a r)
   longer_atom (Literal l s) r = omega arith
-  longer_atom (Nothing n) r = omega arith
+  longer_atom (Null n) r = omega arith
   longer_atom (Chain n ls) r = let h = longer_links ls r in omega arith
   longer_atom (Call n s row) r = let h = longer_row of_arguments row r in omega arith
   longer_atom (Paren s e t) r = let h = longer e (mark RightParen t r) in omega arith

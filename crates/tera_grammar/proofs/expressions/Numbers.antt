@@ -12,7 +12,7 @@ use Rattle.tera_tree.specs.Tree as tree
 use Rattle.tera_tree.specs.Tree.{Expr}
 use Rattle.tera_grammar.specs.expressions.Marks.{Mark, mark, mark_token, RightParen, RightBracket, RightBrace, Comma, Colon, If, Else, Operation}
 use Rattle.tera_grammar.specs.expressions.Operators.{Div, GreaterThan}
-use Rattle.tera_grammar.specs.expressions.Concrete.{Name, Sign, Negative, Negates, Joint, plain_dot, optional_dot, Bracket, plain_bracket, optional_bracket, Negation, plainly, negated, Second, no_second, second, Dotted, no_dots, dots, Op, Single, NotIn, Lit, Number, Quoted, Truth, Kind, of_arguments, of_items, of_entries, closing, Tree, Atomic, Prefix, Suffixed, Infix, Atom, Literal, Nothing, Chain, Call, Paren, Array, Comprehension, Map, Component, Links, no_links, field, item, Sub, index, slice, Part, absent, present, Extra, no_extra, extra, Row, ended, only, then, Element, plain, spread, pair, argument, Attributes, no_attributes, bare, quoted, valued, spreading, Suffix, Test, Filter, Subscript, Args, no_args, args, Operator, Binary, Condition, quote_token, literal_token, sign_yield, joint_yield, bracket_yield, negation_yield, second_yield, dotted_yield, op_yield, yield, atom_yield, links_yield, sub_yield, part_yield, extra_yield, row_yield, element_yield, attributes_yield, suffix_yield, args_yield, operator_yield}
+use Rattle.tera_grammar.specs.expressions.Concrete.{Name, Sign, Negative, Negates, Joint, plain_dot, optional_dot, Bracket, plain_bracket, optional_bracket, Negation, plainly, negated, Second, no_second, second, Dotted, no_dots, dots, Op, Single, NotIn, Lit, Number, Quoted, Truth, Kind, of_arguments, of_items, of_entries, closing, Tree, Atomic, Prefix, Suffixed, Infix, Atom, Literal, Null, Chain, Call, Paren, Array, Comprehension, Map, Component, Links, no_links, field, item, Sub, index, slice, Part, absent, present, Extra, no_extra, extra, Row, ended, only, then, Element, plain, spread, pair, argument, Attributes, no_attributes, bare, quoted, valued, spreading, Suffix, Test, Filter, Subscript, Args, no_args, args, Operator, Binary, Condition, quote_token, literal_token, sign_yield, joint_yield, bracket_yield, negation_yield, second_yield, dotted_yield, op_yield, yield, atom_yield, links_yield, sub_yield, part_yield, extra_yield, row_yield, element_yield, attributes_yield, suffix_yield, args_yield, operator_yield}
 use Rattle.tera_grammar.specs.expressions.Spans.{first}
 use Rattle.tera_grammar.specs.expressions.Output.{output, atom_output, links_output, sub_output, part_output, extra_output, field_output, arguments_output, argument_output, items_output, item_output, entries_output, entry_output, attributes_output, args_output, suffix_output, operator_output, op_output, negation_output, prefixed, array_made, map_made, is_optional_bracket, with_value, constant_items, constant_entries, same_key, put_pair, put_arg, literal_value, of_loop}
 use Rattle.tera_grammar.specs.expressions.Constants.{IsLiteralNumber, EachNumber, HoldsOf, EachOfValue, EachOfValues, EachOfPairs, EachConstant, EachOfMaybe, EachOfArgs, EachOfItems, EachOfEntries}
@@ -140,7 +140,7 @@ module _ (P : ℤ → Type 0) where
 
       atom_holds : (l : Bool) (a : Atom) (r : Items) → EachNumber P (atom_yield a r) → EachConstant P (atom_output l a) × EachNumber P r
       atom_holds l (Literal x s) r h = (literal_holds x s r h, behind (literal_token x) s r h)
-      atom_holds l (Nothing n) r h = (tt, h)
+      atom_holds l (Null n) r h = (tt, h)
       atom_holds l (Chain n ls) r h = links_hold l (of_loop l n) (tree.Var n.text n.span) ls r tt h
       atom_holds l (Call n s row) r h = arguments_hold l row tree.NoArgs r tt h
       atom_holds l (Paren s e t) r h = constants_hold l e (mark RightParen t r) h

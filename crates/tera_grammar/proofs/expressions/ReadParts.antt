@@ -6,7 +6,7 @@ use Rattle.tera_base.specs.declared.utils.Span.{Span}
 use Rattle.tera_lexer.specs.grammar.Tokens.{Items, Token}
 use Rattle.tera_grammar.specs.expressions.Operators.{Div, Minus, LessThan, GreaterThan, In}
 use Rattle.tera_grammar.specs.expressions.Marks.{Mark, LeftParen, RightParen, LeftBracket, RightBracket, LeftBrace, Comma, Colon, Spread, Not, If, For, Operation, mark_token, mark}
-use Rattle.tera_grammar.specs.expressions.Concrete.{Name, Simple, Escaped, Lit, Number, Quoted, Truth, Sign, Negative, Negates, Joint, plain_dot, optional_dot, Bracket, plain_bracket, optional_bracket, Second, no_second, second, Dotted, of_arguments, of_items, of_entries, Tree, Atomic, Prefix, Suffixed, Infix, Atom, Literal, Nothing, Chain, Call, Paren, Array, Comprehension, Map, Component, Links, no_links, field, item, Sub, index, slice, Part, absent, present, Extra, no_extra, extra, Row, ended, only, then, Element, plain, spread, pair, argument, Attributes, no_args, args, literal_token, name_yield, sign_yield, joint_yield, bracket_yield, second_yield, dotted_yield, yield, atom_yield, links_yield, part_yield, extra_yield, row_yield, element_yield, attributes_yield}
+use Rattle.tera_grammar.specs.expressions.Concrete.{Name, Simple, Escaped, Lit, Number, Quoted, Truth, Sign, Negative, Negates, Joint, plain_dot, optional_dot, Bracket, plain_bracket, optional_bracket, Second, no_second, second, Dotted, of_arguments, of_items, of_entries, Tree, Atomic, Prefix, Suffixed, Infix, Atom, Literal, Null, Chain, Call, Paren, Array, Comprehension, Map, Component, Links, no_links, field, item, Sub, index, slice, Part, absent, present, Extra, no_extra, extra, Row, ended, only, then, Element, plain, spread, pair, argument, Attributes, no_args, args, literal_token, name_yield, sign_yield, joint_yield, bracket_yield, second_yield, dotted_yield, yield, atom_yield, links_yield, part_yield, extra_yield, row_yield, element_yield, attributes_yield}
 use Rattle.tera_grammar.specs.expressions.Powers.{sign_power, BeginsPlain}
 use Rattle.tera_grammar.specs.Words.{is_none, is_not}
 use Rattle.tera_grammar.specs.expressions.Conditions.{IsFirst, is_field_of, AreVariables, IsExpression, IsAtom, IsRow}
@@ -299,7 +299,7 @@ module _ (f : Reader) (bars : Bars f) where
   literal_head_read w (Truth b) s k r = refl
 
   pub nothing_read : (w : Room) (n : Name) (k : ℕ) (r : Items) → is_none n.text ≡ true
-      → head_of f w (at k (name_yield n r)) ≡ Some (Atomic (Nothing n), at k r)
+      → head_of f w (at k (name_yield n r)) ≡ Some (Atomic (Null n), at k r)
   unfolding word_head
   nothing_read w n k r is = rw is
 
@@ -359,7 +359,7 @@ name_plain n r h = rw h.1
 atom_plain : (l : Bool) (a : Atom) (r : Items) → IsAtom l a → begins_sign (atom_yield a r) ≡ false
 unfolding begins_sign
 atom_plain l (Literal x s) r is = literal_plain x s r
-atom_plain l (Nothing n) r is = nothing_plain n r is
+atom_plain l (Null n) r is = nothing_plain n r is
 atom_plain l (Chain n ls) r is = name_plain n (links_yield ls r) is.0
 atom_plain l (Call n s row) r is = name_plain n (mark LeftParen s (row_yield of_arguments row r)) is.0
 atom_plain l (Paren s e t) r is = refl

@@ -11,7 +11,7 @@ use Rattle.tera_tree.specs.Tree as tree
 use Rattle.tera_base.specs.Values as values
 use Rattle.tera_grammar.specs.expressions.Operators.{BinaryOperator, StrConcat, Minus, LessThan}
 use Rattle.tera_grammar.specs.expressions.Marks.{mark, LeftParen, RightParen, LeftBracket, LeftBrace, Else, Operation, Other}
-use Rattle.tera_grammar.specs.expressions.Concrete.{Lit, Sign, Negative, Negates, Op, Single, NotIn, Tree, Atomic, Prefix, Suffixed, Infix, Literal, Nothing, Chain, Call, Paren, Array, Comprehension, Map, Component, Suffix, Test, Filter, Subscript, Operator, Binary, Condition, yield, suffix_yield, operator_yield}
+use Rattle.tera_grammar.specs.expressions.Concrete.{Lit, Sign, Negative, Negates, Op, Single, NotIn, Tree, Atomic, Prefix, Suffixed, Infix, Literal, Null, Chain, Call, Paren, Array, Comprehension, Map, Component, Suffix, Test, Filter, Subscript, Operator, Binary, Condition, yield, suffix_yield, operator_yield}
 use Rattle.tera_grammar.specs.expressions.Powers.{op_right, right_of, right_power, sign_power}
 use Rattle.tera_grammar.specs.expressions.Spans.{spanning, first, last}
 use Rattle.tera_grammar.specs.Words.{is_none, is_not}
@@ -296,7 +296,7 @@ span_of_first _ = None
 begins : (t : Tree) (r : Items) → span_of_first (yield t r) ≡ Some (first t)
 unfolding span_of_first
 begins (Atomic (Literal l s)) r = refl
-begins (Atomic (Nothing n)) r = refl
+begins (Atomic (Null n)) r = refl
 begins (Atomic (Chain n ls)) r = refl
 begins (Atomic (Call n s row)) r = refl
 begins (Atomic (Paren s e t)) r = refl

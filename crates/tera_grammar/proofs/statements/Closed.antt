@@ -2,7 +2,7 @@
 use Rattle.std.proofs.Common.{◌≡◌, Bool, true, false, List, [], Option, Some, None, subst, sym, refl}
 use Rattle.tera_base.specs.declared.utils.Span.{Span}
 use Rattle.tera_lexer.specs.grammar.Marks.{Marks}
-use Rattle.tera_lexer.specs.grammar.Division.{Piece, Ending, Nothing}
+use Rattle.tera_lexer.specs.grammar.Division.{Piece, Ending, Complete}
 use Rattle.tera_lexer.specs.grammar.Tokens as toks
 use Rattle.tera_lexer.specs.grammar.Tokens.{Items, Ended, Token, token_of, lexemes, piece_tokens, ending_tokens, tokens_of}
 use Rattle.tera_lexer.proofs.Closed.{pieces_closed}
@@ -148,5 +148,5 @@ mutual
   else_closed NoElse r is = is
   else_closed (Otherwise t b) r is = body_closed b r is
 
-pub ends_in_nothing : (m : Marks) (ps : List Piece) (ending : Ending) (b : Body) → tokens_of m [] [] ps ending ≡ yield b Ended → ending ≡ Nothing
+pub ends_in_nothing : (m : Marks) (ps : List Piece) (ending : Ending) (b : Body) → tokens_of m [] [] ps ending ≡ yield b Ended → ending ≡ Complete
 ends_in_nothing m ps ending b e = pieces_closed m [] [] ps ending (subst (IsClosed false) (sym e) (body_closed b Ended refl))

@@ -11,7 +11,7 @@ use Rattle.tera_base.specs.Values.{Val, Pairs}
 use Rattle.tera_lexer.specs.grammar.Tokens as toks
 use Rattle.tera_lexer.specs.grammar.Tokens.{Tok, Items, Ended, Token, tokens_of}
 use Rattle.tera_lexer.specs.grammar.Marks.{Marks, IsValid}
-use Rattle.tera_lexer.specs.grammar.Division.{Nothing}
+use Rattle.tera_lexer.specs.grammar.Division.{Complete}
 use Rattle.tera_lexer.specs.grammar.Tiling.{Tile, Shows, in_tag_behind}
 use Rattle.tera_lexer.proofs.Tilings.{tokens_tile}
 use Rattle.tera_lexer.specs.declared.lexer.delimiters.Kind.TheVariants as kind
@@ -263,6 +263,6 @@ tile_numbers (Token t span items) inside front rest (gap, bytes, behind, e, betw
 
 pub source_holds : (l : Limits) (m : Marks) → IsValid m → (source : List ℕ) (out : Output) → Derives l m source out → EachOfOutput IsLiteralNumber out
 source_holds l m valid source out d =
-    let items = tokens_of m [] [] d.0 Nothing in
-    let numbers = tile_numbers items false [] source (tokens_tile m valid source items (d.0, Nothing, d.1, refl)) in
+    let items = tokens_of m [] [] d.0 Complete in
+    let numbers = tile_numbers items false [] source (tokens_tile m valid source items (d.0, Complete, d.1, refl)) in
     subst (EachOfOutput IsLiteralNumber) (sym d.2.2) (template_holds IsLiteralNumber literal_negates l items d.2.0 d.2.1 numbers)

@@ -1,7 +1,7 @@
 -- From the tokens of a whole source to its derivation.
 use Rattle.std.proofs.Common.{◌≡◌, ℕ, List, [], Some, None, subst, sym, refl, ap, ◌∙◌}
 use Rattle.tera_lexer.specs.grammar.Marks.{Marks, IsValid}
-use Rattle.tera_lexer.specs.grammar.Division.{Nothing, IsDivision}
+use Rattle.tera_lexer.specs.grammar.Division.{Complete, IsDivision}
 use Rattle.tera_lexer.specs.grammar.Tokens.{Items, tokens_of, AreTokensOf}
 use Rattle.tera_lexer.proofs.Lefts.{tokens_one}
 use Rattle.tera_tree.specs.Tree.{Output}
@@ -18,12 +18,12 @@ module _ (l : Limits) (m : Marks) (valid : IsValid m) (source : List ℕ) where
   -- what is derived is a template of the tokens of the source
   derived_template : (items : Items) → AreTokensOf m source items → (output : Output) (d : Derives l m source output) → IsTemplate l items d.2.0
   derived_template items are output (pieces, division, (b, is, same)) =
-      subst (λ ts. IsTemplate l ts b) (sym (tokens_one m valid source items (tokens_of m [] [] pieces Nothing) are (pieces, Nothing, division, refl))) is
+      subst (λ ts. IsTemplate l ts b) (sym (tokens_one m valid source items (tokens_of m [] [] pieces Complete) are (pieces, Complete, division, refl))) is
 
   pub derives_unique : (one other : Output) → Derives l m source one → Derives l m source other → one ≡ other
   derives_unique one other d d' =
-      let same = derived_template (tokens_of m [] [] d.0 Nothing) (d.0, Nothing, d.1, refl) other d' in
-      d.2.2 ∙ ap output_of (one_template l (tokens_of m [] [] d.0 Nothing) d.2.0 d'.2.0 d.2.1 same) ∙ sym d'.2.2
+      let same = derived_template (tokens_of m [] [] d.0 Complete) (d.0, Complete, d.1, refl) other d' in
+      d.2.2 ∙ ap output_of (one_template l (tokens_of m [] [] d.0 Complete) d.2.0 d'.2.0 d.2.1 same) ∙ sym d'.2.2
 
   -- of the tokens of the source
   module _ (items : Items) (are : AreTokensOf m source items) where
@@ -32,7 +32,7 @@ module _ (l : Limits) (m : Marks) (valid : IsValid m) (source : List ℕ) where
     read_derives b read =
         let (pieces, ending, division, same) = are in
         let is = template_sound l items b read in
-        let nothing : ending ≡ Nothing = ends_in_nothing m pieces ending b (sym same ∙ is.tokens) in (
+        let nothing : ending ≡ Complete = ends_in_nothing m pieces ending b (sym same ∙ is.tokens) in (
           pieces,
           subst (λ e. IsDivision m pieces e source) nothing division,
           (b, subst (λ ts. IsTemplate l ts b) (same ∙ ap (tokens_of m [] [] pieces) nothing) is, refl),

@@ -74,7 +74,7 @@ mutual
   pub data Atom : Type 0 where
     Literal : Lit → Span → Atom
     -- a word for no value
-    Nothing : Name → Atom
+    Null : Name → Atom
     Chain : Name → Links → Atom
     -- the name, `(`, the arguments up to `)`
     Call : Name → Span → Row → Atom
@@ -206,7 +206,7 @@ abbrev mutual
 
   pub atom_yield : Atom → Items → Items
   atom_yield (Literal l s) r = Token (literal_token l) s r
-  atom_yield (Nothing n) r = name_yield n r
+  atom_yield (Null n) r = name_yield n r
   atom_yield (Chain n ls) r = name_yield n (links_yield ls r)
   atom_yield (Call n s row) r = name_yield n (mark LeftParen s (row_yield of_arguments row r))
   atom_yield (Paren s e t) r = mark LeftParen s (yield e (mark RightParen t r))

@@ -1,7 +1,7 @@
 -- Which trees are expressions: the powers on their spines, and the conditions beside them.
 use Rattle.std.specs.Prelude.{◌≡◌, ℕ, Bool, true, false, List, [], ◌∷◌}
 use Rattle.tera_grammar.specs.expressions.Operators.{StrConcat}
-use Rattle.tera_grammar.specs.expressions.Concrete.{Name, Negation, plainly, negated, Second, no_second, second, Single, Kind, of_arguments, of_items, of_entries, Tree, Atomic, Prefix, Suffixed, Infix, Atom, Literal, Nothing, Chain, Call, Paren, Array, Comprehension, Map, Component, Links, no_links, field, item, Sub, index, slice, Part, absent, present, Extra, no_extra, extra, Row, ended, only, then, Element, plain, spread, pair, argument, Attributes, no_attributes, bare, quoted, valued, spreading, Suffix, Test, Filter, Subscript, Args, no_args, args, Operator, Binary, Condition}
+use Rattle.tera_grammar.specs.expressions.Concrete.{Name, Negation, plainly, negated, Second, no_second, second, Single, Kind, of_arguments, of_items, of_entries, Tree, Atomic, Prefix, Suffixed, Infix, Atom, Literal, Null, Chain, Call, Paren, Array, Comprehension, Map, Component, Links, no_links, field, item, Sub, index, slice, Part, absent, present, Extra, no_extra, extra, Row, ended, only, then, Element, plain, spread, pair, argument, Attributes, no_attributes, bare, quoted, valued, spreading, Suffix, Test, Filter, Subscript, Args, no_args, args, Operator, Binary, Condition}
 use Rattle.tera_grammar.specs.expressions.Powers.{sign_power, left_power, right_power, AtLeast, Above, Carries, BeginsPlain}
 use Rattle.tera_grammar.specs.Words.{is_none, is_not, is_reserved, is_loop_field, AreDistinct}
 use Rattle.tera_grammar.specs.expressions.Output.{of_loop, output, is_unary}
@@ -59,7 +59,7 @@ abbrev mutual
 
   pub IsAtom : Bool → Atom → Type 0
   IsAtom in_loop (Literal x s) = Unit {0}
-  IsAtom in_loop (Nothing n) = is_none n.text ≡ true
+  IsAtom in_loop (Null n) = is_none n.text ≡ true
   IsAtom in_loop (Chain n ls) = IsFirst n × AreLinks in_loop (of_loop in_loop n) ls
   IsAtom in_loop (Call n s row) = IsFirst n × IsRow in_loop of_arguments row × AreDistinct (argument_names row)
   IsAtom in_loop (Paren s e t) = IsExpression in_loop e

@@ -2,7 +2,7 @@
 -- each thing that stands inside another adds its weight.
 use Rattle.std.specs.Prelude.{ℕ, suc, ◌+◌, max, ◌≤◌}
 use Rattle.tera_grammar.specs.Limits.{Limits}
-use Rattle.tera_grammar.specs.expressions.Concrete.{Tree, Atomic, Prefix, Suffixed, Infix, Atom, Literal, Nothing, Chain, Call, Paren, Array, Comprehension, Map, Component, Links, no_links, field, item, Sub, index, slice, Part, absent, present, Extra, no_extra, extra, Row, ended, only, then, Element, plain, spread, pair, argument, Attributes, no_attributes, bare, quoted, valued, spreading, Suffix, Test, Filter, Subscript, Args, no_args, args, Operator, Binary, Condition}
+use Rattle.tera_grammar.specs.expressions.Concrete.{Tree, Atomic, Prefix, Suffixed, Infix, Atom, Literal, Null, Chain, Call, Paren, Array, Comprehension, Map, Component, Links, no_links, field, item, Sub, index, slice, Part, absent, present, Extra, no_extra, extra, Row, ended, only, then, Element, plain, spread, pair, argument, Attributes, no_attributes, bare, quoted, valued, spreading, Suffix, Test, Filter, Subscript, Args, no_args, args, Operator, Binary, Condition}
 
 -- what an expression that is opened adds to a depth, what a subscript, what an array
 pub record Weight : Type 0 where
@@ -21,7 +21,7 @@ abbrev mutual
 
   pub atom_deep : Weight → Atom → ℕ
   atom_deep w (Literal l s) = 0
-  atom_deep w (Nothing n) = 0
+  atom_deep w (Null n) = 0
   atom_deep w (Chain n ls) = links_deep w ls
   atom_deep w (Call n s row) = row_deep w row
   atom_deep w (Paren s e t) = deep w e + w.opening
@@ -103,7 +103,7 @@ abbrev mutual
 
   pub atom_links : Atom → ℕ
   atom_links (Literal l s) = 0
-  atom_links (Nothing n) = 0
+  atom_links (Null n) = 0
   atom_links (Chain n ls) = links_links ls
   atom_links (Call n s row) = row_links row
   atom_links (Paren s e t) = links e

@@ -11,7 +11,7 @@ use Rattle.tera_tree.specs.Tree as tree
 use Rattle.tera_base.specs.Values.{KeyVal, TextKey, I64Key, TruthKey, Val, Vals, Pairs, NoPairs}
 use Rattle.tera_tree.specs.Tree.{Expr}
 use Rattle.tera_grammar.specs.expressions.Operators.{operator_made}
-use Rattle.tera_grammar.specs.expressions.Concrete.{Name, Quote, Simple, Escaped, Lit, Number, Quoted, Truth, Sign, Negative, Negates, Joint, plain_dot, optional_dot, Bracket, plain_bracket, optional_bracket, Negation, plainly, negated, Second, no_second, second, Dotted, no_dots, dots, Op, Single, NotIn, Tree, Atomic, Prefix, Suffixed, Infix, Atom, Literal, Nothing, Chain, Call, Paren, Array, Comprehension, Map, Component, Links, no_links, field, item, Sub, index, slice, Part, absent, present, Extra, no_extra, extra, Row, ended, only, then, Element, plain, spread, pair, argument, Attributes, no_attributes, bare, quoted, valued, spreading, Suffix, Test, Filter, Subscript, Args, no_args, args, Operator, Binary, Condition}
+use Rattle.tera_grammar.specs.expressions.Concrete.{Name, Quote, Simple, Escaped, Lit, Number, Quoted, Truth, Sign, Negative, Negates, Joint, plain_dot, optional_dot, Bracket, plain_bracket, optional_bracket, Negation, plainly, negated, Second, no_second, second, Dotted, no_dots, dots, Op, Single, NotIn, Tree, Atomic, Prefix, Suffixed, Infix, Atom, Literal, Null, Chain, Call, Paren, Array, Comprehension, Map, Component, Links, no_links, field, item, Sub, index, slice, Part, absent, present, Extra, no_extra, extra, Row, ended, only, then, Element, plain, spread, pair, argument, Attributes, no_attributes, bare, quoted, valued, spreading, Suffix, Test, Filter, Subscript, Args, no_args, args, Operator, Binary, Condition}
 use Rattle.tera_grammar.specs.expressions.Spans.{spanning, sign_span, row_end, args_end, first, last}
 use Rattle.tera_grammar.specs.Words.{is_loop}
 
@@ -169,7 +169,7 @@ abbrev mutual
 
   pub atom_output : Bool → Atom → Expr
   atom_output in_loop (Literal x s) = tree.Const (literal_value x) s
-  atom_output in_loop (Nothing n) = tree.Const values.Nothing n.span
+  atom_output in_loop (Null n) = tree.Const values.Nothing n.span
   atom_output in_loop (Chain n ls) = links_output in_loop (of_loop in_loop n) (tree.Var n.text n.span) ls
   atom_output in_loop (Call n s row) = tree.FunctionCall n.text (arguments_output in_loop row tree.NoArgs) (spanning n.span (row_end row))
   atom_output in_loop (Paren s e t) = output in_loop e

@@ -1,6 +1,6 @@
 -- Where an expression begins and ends: the spans of its first and of its last token.
 use Rattle.tera_base.specs.declared.utils.Span.{Span}
-use Rattle.tera_grammar.specs.expressions.Concrete.{Name, Sign, Negative, Negates, Tree, Atomic, Prefix, Suffixed, Infix, Atom, Literal, Nothing, Chain, Call, Paren, Array, Comprehension, Map, Component, Links, no_links, field, item, Sub, index, slice, Row, ended, only, then, Suffix, Test, Filter, Subscript, Args, no_args, args}
+use Rattle.tera_grammar.specs.expressions.Concrete.{Name, Sign, Negative, Negates, Tree, Atomic, Prefix, Suffixed, Infix, Atom, Literal, Null, Chain, Call, Paren, Array, Comprehension, Map, Component, Links, no_links, field, item, Sub, index, slice, Row, ended, only, then, Suffix, Test, Filter, Subscript, Args, no_args, args}
 
 -- from the start of one to the end of another
 abbrev pub spanning : Span → Span → Span
@@ -44,7 +44,7 @@ suffix_end (Subscript s b) = sub_end b
 -- the first token
 abbrev pub atom_first : Atom → Span
 atom_first (Literal l s) = s
-atom_first (Nothing n) = n.span
+atom_first (Null n) = n.span
 atom_first (Chain n ls) = n.span
 atom_first (Call n s row) = n.span
 atom_first (Paren s e t) = s
@@ -62,7 +62,7 @@ first (Infix a o b) = first a
 -- the last token
 abbrev pub atom_last : Atom → Span
 atom_last (Literal l s) = s
-atom_last (Nothing n) = n.span
+atom_last (Null n) = n.span
 atom_last (Chain n ls) = links_end n ls
 atom_last (Call n s row) = row_end row
 atom_last (Paren s e t) = t

@@ -3,7 +3,7 @@ use Rattle.std.specs.Prelude.{◌≡◌, ◌≤◌, ℕ, Bool, true, false, List
 use Rattle.std.specs.Str.{trim_start}
 use Rattle.tera_base.specs.declared.utils.Span.{Span}
 use Rattle.tera_lexer.specs.grammar.Marks.{Marks}
-use Rattle.tera_lexer.specs.grammar.Division.{Piece, Nothing, IsDivision}
+use Rattle.tera_lexer.specs.grammar.Division.{Piece, Complete, IsDivision}
 use Rattle.tera_lexer.specs.grammar.Tokens.{Items, Ended, tokens_of}
 use Rattle.tera_tree.specs.Tree.{Output}
 use Rattle.tera_grammar.specs.expressions.Concrete.{Quote}
@@ -73,5 +73,5 @@ pub record IsTemplate (l : Limits) (items : Items) (b : Body) : Type 0 where
 -- The source has a derivation with this output: it is divided into pieces with no tag and no fault left open, and their
 -- tokens are those of a template.
 abbrev pub Derives : Limits → Marks → List ℕ → Output → Type 0
-Derives l m source output = (pieces : List Piece) × IsDivision m pieces Nothing source
-    × ((b : Body) × IsTemplate l (tokens_of m [] [] pieces Nothing) b × (output ≡ output_of b))
+Derives l m source output = (pieces : List Piece) × IsDivision m pieces Complete source
+    × ((b : Body) × IsTemplate l (tokens_of m [] [] pieces Complete) b × (output ≡ output_of b))

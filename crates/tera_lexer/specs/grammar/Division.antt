@@ -27,7 +27,7 @@ pub data Piece : Type 0 where
 -- what comes after the pieces: nothing; a tag that lasts to the end of the source, or to a fault; a raw
 -- piece or a comment that never closes
 pub data Ending : Type 0 where
-  Nothing : Ending
+  Complete : Ending
   OpenTag : Kind → Bool → List Item → List ℕ → Ending
   BadTag : Kind → Bool → List Item → List ℕ → Fault → List ℕ → Ending
   OpenRaw : Bool → Ending
@@ -58,7 +58,7 @@ IsPiece m (Tag kind dash items gap end) bytes rest =
 
 -- the bytes are this ending
 abbrev pub IsEnding : Marks → Ending → List ℕ → Type 0
-IsEnding m Nothing bytes = bytes ≡ []
+IsEnding m Complete bytes = bytes ≡ []
 IsEnding m (OpenTag kind dash items gap) bytes =
     (inside : List ℕ) × Starts (start_marker kind m) dash bytes inside × OpensTag m kind inside
     × IsInside (end_marker kind m) items (Open gap) inside

@@ -5,7 +5,7 @@ use Rattle.tera_lexer.specs.grammar.Marks.{Marks, start_marker, end_marker, dash
 use Rattle.tera_lexer.specs.grammar.Place.{span_of}
 use Rattle.tera_lexer.specs.grammar.Lexeme.{Item, Lexeme, Name, Number, Quoted, Operator, Fault, Unexpected, Unclosed, UnknownEscape, TooGreat, Float, spelled, told, decimal, written, value_of, has_escape}
 use Rattle.tera_lexer.specs.grammar.Raw.{WordTag, word_tag_bytes, raw_word, endraw_word}
-use Rattle.tera_lexer.specs.grammar.Division.{Piece, Text, Comment, Raw, Tag, Ending, Nothing, OpenTag, BadTag, OpenRaw, OpenComment, IsDivision}
+use Rattle.tera_lexer.specs.grammar.Division.{Piece, Text, Comment, Raw, Tag, Ending, Complete, OpenTag, BadTag, OpenRaw, OpenComment, IsDivision}
 use Rattle.tera_lexer.specs.grammar.Trimming.{trims_start, trims_end, trimmed}
 use Rattle.tera_lexer.specs.declared.lexer.delimiters.Kind.{Kind}
 use Rattle.tera_base.specs.declared.utils.Span.{Span}
@@ -112,7 +112,7 @@ piece_tokens m front start end (Tag kind dash items gap last) follows =
 
 -- the tokens of an ending behind front
 abbrev pub ending_tokens : Marks → List ℕ → Ending → Items
-ending_tokens m front Nothing = Ended
+ending_tokens m front Complete = Ended
 ending_tokens m front (OpenTag kind dash items gap) = tag_start m front kind dash (λ f. lexemes f items (λ g. Ended))
 ending_tokens m front (BadTag kind dash items gap fault at) = tag_start m front kind dash (λ f. lexemes f items (λ g. failed (g ++ gap) fault))
 ending_tokens m front (OpenRaw dash) = Failed open_raw (span_of front (m.block_start ++ dash_bytes dash))

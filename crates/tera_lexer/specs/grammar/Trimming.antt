@@ -2,7 +2,7 @@
 use Rattle.std.specs.Prelude.{ℕ, nat_eq, Bool, false, ◌||◌, if◌then◌else◌, List, [], ◌∷◌}
 use Rattle.std.specs.List.{ends_with}
 use Rattle.std.specs.Str.{trim_start, trim_end}
-use Rattle.tera_lexer.specs.grammar.Division.{Piece, Text, Comment, Raw, Tag, Ending, Nothing, OpenTag, BadTag, OpenRaw, OpenComment}
+use Rattle.tera_lexer.specs.grammar.Division.{Piece, Text, Comment, Raw, Tag, Ending, Complete, OpenTag, BadTag, OpenRaw, OpenComment}
 
 -- the end of a comment has a dash where the last byte before it is one
 abbrev pub ends_dashed : List ℕ → Bool
@@ -20,7 +20,7 @@ trims_start (Tag kind dash items gap end ∷ left) = end
 -- of what stands to the right, the nearest first: the nearest piece begins with a dash. A tag is one even where
 -- it never ends or a fault stands in it; a comment or a raw piece that never closes is none.
 abbrev pub trims_end : List Piece → Ending → Bool
-trims_end [] Nothing = false
+trims_end [] Complete = false
 trims_end [] (OpenTag kind dash items gap) = dash
 trims_end [] (BadTag kind dash items gap fault at) = dash
 trims_end [] (OpenRaw dash) = false

@@ -6,7 +6,7 @@ use Rattle.std.specs.Char.{is_ascii_digit, is_ascii_whitespace}
 use Rattle.tera_lexer.specs.grammar.Marks.{Marks, end_marker, begins, dash_bytes}
 use Rattle.tera_lexer.specs.grammar.Lexeme.{begins_name, goes_on_name, is_quote, Inner, Plain, Escape, is_known, escaped, has_unknown_escape, operator_at, decimal, Lexeme, Name, Number, Quoted, Operator, Fault, Unexpected, Unclosed, UnknownEscape, TooGreat, Float, Item, Close, End, Open, Bad}
 use Rattle.tera_lexer.specs.grammar.Raw.{WordTag, raw_word, endraw_word}
-use Rattle.tera_lexer.specs.grammar.Division.{is_at_start, Piece, Text, Comment, Raw, Tag, Ending, Nothing, OpenTag, BadTag, OpenRaw, OpenComment}
+use Rattle.tera_lexer.specs.grammar.Division.{is_at_start, Piece, Text, Comment, Raw, Tag, Ending, Complete, OpenTag, BadTag, OpenRaw, OpenComment}
 use Rattle.tera_lexer.specs.declared.lexer.delimiters.Kind.{Kind}
 use Rattle.tera_lexer.specs.declared.lexer.delimiters.Kind.TheVariants.{Variable, Block}
 
@@ -207,8 +207,8 @@ text_step go n bytes = with_piece (Text (take n bytes)) (go (drop n bytes))
 
 -- the division of a source, in at most so many steps
 unfoldable pub division_by : ℕ → Marks → List ℕ → List Piece × Ending
-division_by zero m bytes = ([], Nothing)
-division_by (suc n) m [] = ([], Nothing)
+division_by zero m bytes = ([], Complete)
+division_by (suc n) m [] = ([], Complete)
 division_by (suc n) m (b ∷ bs) =
     let variable = behind_marker m.variable_start (b ∷ bs) in
     let block = behind_marker m.block_start (b ∷ bs) in

@@ -56,13 +56,13 @@ stack::turn-returns-then-stops-clause-keeps t c =
     (sym c.if-stops.true ∙ c.stops.ensures ∙ ap (keeps_off c.args.level.least) c.at-front.ensures))))
     (c.close.ensures.keeps c.args.room c.args.links.now)
 
-pub stack::turn-returns-in_err-count_link-in-Joins-clause-keeps : goal.stack::turn-returns-in_err-count_link-in-Joins-clause-keeps
-stack::turn-returns-in_err-count_link-in-Joins-clause-keeps t c =
+pub stack::turn-returns-in_err-count_operator-in-Joins-clause-keeps : goal.stack::turn-returns-in_err-count_operator-in-Joins-clause-keeps
+stack::turn-returns-in_err-count_operator-in-Joins-clause-keeps t c =
     let p = err_from_is_err_and c.from_residual.result c.from_residual.ensures.1 in
     rw (p.1, p.2) (refuses_all frame_view _ _ _ _
     (no_link_joins (room_of c.args.room) (level_view c.args.level) (operand_view c.args.left) (at c.args.links.now c.args.cursor.now.left) _ (operator_of c.in-Joins.operator) c.in-Joins.negated
     (ap front_kind (sym c.in-Joins.is) ∙ c.at-front.ensures) (sym c.if-stops.false ∙ c.stops.ensures ∙ ap (keeps_off c.args.level.least) c.at-front.ensures)
-    c.in_err-count_link-in-Joins.ensures.fails))
+    c.in_err-count_operator-in-Joins.ensures.fails))
 
 pub stack::turn-returns-in_err-count_link-in-Closes-clause-keeps : goal.stack::turn-returns-in_err-count_link-in-Closes-clause-keeps
 stack::turn-returns-in_err-count_link-in-Closes-clause-keeps t c =
@@ -85,7 +85,7 @@ stack::turn-returns-in_ok-push-in-Joins-clause-keeps t c =
     rw c.right_power.ensures (pushed frame_view _ _ _ _ _ c.in_ok-push-in-Joins.ensures.items ∙ ap (unwind frame_view _ _)
     (joins_more (room_of c.args.room) (level_view c.args.level) (operand_view c.args.left) (at c.args.links.now c.args.cursor.now.left) (operator_of c.in-Joins.operator) c.in-Joins.negated _ _
     c.take_operator.ensures.past (sym c.if-stops.false ∙ c.stops.ensures ∙ ap (keeps_off c.args.level.least) c.at-front.ensures)
-    c.in_ok-count_link-in-Joins.ensures.counts))
+    c.in_ok-count_operator-in-Joins.ensures.counts))
 
 pub stack::turn-returns-in_ok-push-in-Chooses-clause-keeps : goal.stack::turn-returns-in_ok-push-in-Chooses-clause-keeps
 stack::turn-returns-in_ok-push-in-Chooses-clause-keeps t c =

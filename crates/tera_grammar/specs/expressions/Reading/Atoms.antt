@@ -4,7 +4,7 @@ use Rattle.tera_base.specs.declared.utils.Span.{Span}
 use Rattle.tera_lexer.specs.grammar.Tokens.{Tok, Items, Token, Ident, Symbol}
 use Rattle.tera_grammar.specs.expressions.Operators.{Minus, LessThan, Div, GreaterThan, In}
 use Rattle.tera_grammar.specs.expressions.Marks.{Mark, LeftParen, RightParen, LeftBracket, RightBracket, LeftBrace, Comma, For, If, Operation}
-use Rattle.tera_grammar.specs.expressions.Concrete.{Name, Lit, Sign, Negative, Negates, Second, no_second, second, of_items, of_entries, Tree, Atomic, Prefix, Literal, Nothing, Chain, Call, Paren, Array, Comprehension, Map, Component, ended, Element, plain}
+use Rattle.tera_grammar.specs.expressions.Concrete.{Name, Lit, Sign, Negative, Negates, Second, no_second, second, of_items, of_entries, Tree, Atomic, Prefix, Literal, Null, Chain, Call, Paren, Array, Comprehension, Map, Component, ended, Element, plain}
 use Rattle.tera_grammar.specs.expressions.Powers.{sign_power}
 use Rattle.tera_grammar.specs.Words.{is_none, is_not, is_reserved}
 use Rattle.tera_grammar.specs.expressions.Output.{of_loop}
@@ -71,7 +71,7 @@ chain_of self w n p = called_at self w n p (skip LeftParen p)
 
 unfoldable pub word_head : Reader → Room → Name → Place → Reads Tree
 word_head self w n p =
-    cond (is_none n.text) (Some (Atomic (Nothing n), p))
+    cond (is_none n.text) (Some (Atomic (Null n), p))
     (cond (is_not n.text) (prefix_of self w (Negates n.span) p) (chain_of self w n p))
 
 abbrev pub mark_head : Reader → Room → Mark → Span → Place → Reads Tree

@@ -1,17 +1,23 @@
-use Rattle.std.proofs.Common.{◌≡◌, [], map, None, rules, sym, ap, ◌∙◌, subst}
+use Rattle.std.proofs.Common.{◌≡◌, refl, sym, ap, ◌∙◌, subst}
 use Rattle.std.specs.Prelude.{◌⊎◌}
-use Rattle.std.proofs.lemmas.Result.{err_from_is_err_and}
+use Rattle.tera_base.specs.ErrorView.{error_view}
 use Rattle.tera_base.specs.Errors.{IsMemory}
+use Rattle.tera_grammar.specs.statements.Grammar.{Body}
+use Rattle.tera_grammar.specs.statements.Output.{output_of}
+use Rattle.tera_grammar.specs.statements.Top.{Derives, IsTemplate}
+use Rattle.tera_grammar.proofs.statements.Wholes.{derives_unique}
+use Rattle.tera_lexer.specs.code.Cursors.{RefusesFrom}
 use Rattle.tera_lexer.specs.grammar.Marks.{IsValid}
 use Rattle.tera_lexer.specs.grammar.Tokens.{AreTokensOf}
-use Rattle.tera_tree.specs.View.{node_view, definition_view}
-use Rattle.tera_parser.specs.Template.{Derives}
-use Rattle.tera_parser.specs.Refusal.{Refuses}
-use Rattle.tera_parser.specs.Gives.{IsNoBody, ReadsBody}
+use Rattle.tera_statements.specs.Outputs.{output_view}
+use Rattle.tera_statements.specs.Templates.{GivesTemplate}
 use Rattle.tera_parser.specs.Job.{Job}
-use Rattle.tera_parser.proofs.Wholes.{derives, derives_unique, refused, refuses, comments_tokens}
+use Rattle.tera_parser.specs.Notes.{error_about}
+use Rattle.tera_parser.specs.Refusal.{Refuses}
+use Rattle.tera_parser.proofs.About.{memory_about, notes_name}
+use Rattle.tera_parser.proofs.Wholes.{comments_tokens, derives, refused, refuses, refuses_about}
 use Rattle.tera_parser.proofs.parsing.Parser.parse.Goals as goal
-use Rattle.tera_parser.proofs.parsing.Parser.parse.Goals.{After-new-cursor}
+use Rattle.tera_parser.proofs.parsing.Parser.parse.Goals.{After-in_file, After-new-cursor, In-Ok}
 
 valid : (c : After-new-cursor) → IsValid c.args.self.marks
 valid c = subst (λ (j : Job). IsValid j.marks) c.self.view_is c.self.invariant.0
@@ -22,40 +28,47 @@ are c =
     let given = subst (λ (j : Job). AreTokensOf j.marks j.source c.tokenize-tokens.result.left) c.self.view_is c.tokenize-tokens.ensures.tokens in
     subst (AreTokensOf c.args.self.marks c.args.self.source) (sym c.new-cursor.ensures.left) given
 
-pub returns-in_err-nodes-clause-complete : goal.returns-in_err-nodes-clause-complete
-returns-in_err-nodes-clause-complete c = λ output d.
-    let at = (goal.at.returns-in_err-nodes-clause-complete c).After-new-cursor in
-    let why = subst (λ (j : Job). IsMemory c.in_err-nodes.field-0.0 ⊎ IsNoBody j.limits c.new-cursor.result.left) c.self.view_is c.in_err-nodes.ensures.err in
-    let fact : IsMemory c.in_err-nodes.field-0.0 = refused _ (valid at) _ _ (are at) c.args.self.limits c.in_err-nodes.field-0.0 why output d in
-    let p = err_from_is_err_and c.from_residual.result c.from_residual.ensures.1 in
-    rw (p.1, p.2) fact
+-- what was read is derived
+derived : (c : In-Ok) → IsValid c.args.self.marks → AreTokensOf c.args.self.marks c.args.self.source c.new-cursor.result.left
+    → Derives c.args.self.limits c.args.self.marks c.args.self.source (output_view c.in-Ok.output)
+derived c valid are =
+    let (b, is, same) = subst (λ (j : Job). (b : Body) × IsTemplate j.limits c.new-cursor.result.left b × (output_view c.in-Ok.output ≡ output_of b)) c.self.view_is c.in-Ok.ensures.gives in
+    derives _ valid _ _ are c.args.self.limits b is _ same
 
-pub returns-in_err-nodes-clause-refusal : goal.returns-in_err-nodes-clause-refusal
-returns-in_err-nodes-clause-refusal c =
-    let at = (goal.at.returns-in_err-nodes-clause-refusal c).After-new-cursor in
+pub returns-in-Ok-clause-sound : goal.returns-in-Ok-clause-sound
+returns-in-Ok-clause-sound c =
+    let at = goal.at.returns-in-Ok-clause-sound c in
+    derived at.In-Ok (valid at.After-new-cursor) (are at.After-new-cursor)
+
+pub returns-in-Ok-clause-complete : goal.returns-in-Ok-clause-complete
+returns-in-Ok-clause-complete c = λ output d.
+    let at = goal.at.returns-in-Ok-clause-complete c in
+    derives_unique c.args.self.limits _ (valid at.After-new-cursor) _ _ output (derived at.In-Ok (valid at.After-new-cursor) (are at.After-new-cursor)) d
+
+-- what is answered is the error that was met, whose notes are about the parser's file
+named : (c : After-in_file) → IsMemory c.in_file.result ⊎ (error_view c.in_file.result ≡ error_about c.args.self.filename (error_view c.in-Err.error))
+named c =
+    subst (λ (j : Job). IsMemory c.in_file.result ⊎ (error_view c.in_file.result ≡ error_about j.filename (error_view c.in-Err.error))) c.self.view_is c.in_file.ensures
+
+pub returns-in-Err-clause-complete : goal.returns-in-Err-clause-complete
+returns-in-Err-clause-complete c = λ output d.
+    let at = (goal.at.returns-in-Err-clause-complete c).After-new-cursor in
+    let why = subst (λ (j : Job). IsMemory c.in-Err.error ⊎ ((b : Body) → IsTemplate j.limits c.new-cursor.result.left b → ⊥)) c.self.view_is c.in-Err.ensures.gives in
+    memory_about c.args.self.filename c.in-Err.error c.in_file.result (named (goal.at.returns-in-Err-clause-complete c).After-in_file)
+    (refused _ (valid at) _ _ (are at) c.args.self.limits c.in-Err.error why output d)
+
+pub returns-in-Err-clause-refusal : goal.returns-in-Err-clause-refusal
+returns-in-Err-clause-refusal c =
+    let at = (goal.at.returns-in-Err-clause-refusal c).After-new-cursor in
     let whole = c.new-cursor.ensures.source ∙ c.tokenize-tokens.ensures.source ∙ ap (λ (j : Job). j.source) c.self.view_is in
-    let fact : Refuses c.args.self.marks c.args.self.source c.in_err-nodes.field-0.0 =
-    refuses _ (valid at) _ _ (are at) _ whole c.in_err-nodes.field-0.0 c.in_err-nodes.ensures.refusal in
-    let p = err_from_is_err_and c.from_residual.result c.from_residual.ensures.1 in
-    rw (p.1, p.2) fact
+    refuses_about _ _ c.args.self.filename c.in-Err.error c.in_file.result (named (goal.at.returns-in-Err-clause-refusal c).After-in_file)
+    (refuses c.args.self.marks (valid at) c.args.self.source c.new-cursor.result.left (are at) c.new-cursor.result refl whole c.in-Err.error c.in-Err.ensures.refusal)
 
-pub returns-in_err-nodes-clause-empty : goal.returns-in_err-nodes-clause-empty
-returns-in_err-nodes-clause-empty c = λ empty.
-    let at = (goal.at.returns-in_err-nodes-clause-empty c).After-new-cursor in
-    absurd (c.in_err-nodes.ensures.empty (comments_tokens _ (valid at) _ _ (are at) empty))
+pub returns-in-Err-clause-notes : goal.returns-in-Err-clause-notes
+returns-in-Err-clause-notes c =
+    notes_name c.args.self.filename c.in-Err.error c.in_file.result (named (goal.at.returns-in-Err-clause-notes c).After-in_file)
 
-pub returns-clause-sound : goal.returns-clause-sound
-returns-clause-sound c =
-    let at = (goal.at.returns-clause-sound c).After-new-cursor in
-    let none : c.new-definitions.result.items ≡ [] = search rules in
-    let read = subst (λ (j : Job). ReadsBody j.limits c.new-cursor.result.left c.in_ok-nodes.nodes.items) c.self.view_is c.in_ok-nodes.ensures.ok in
-    subst (λ ds. Derives c.args.self.limits c.args.self.marks c.args.self.source (record { parent = None; nodes = map node_view c.in_ok-nodes.nodes.items; definitions = map definition_view ds })) (sym none)
-    (derives _ (valid at) _ _ (are at) c.args.self.limits c.in_ok-nodes.nodes.items read)
-
-pub returns-clause-complete : goal.returns-clause-complete
-returns-clause-complete c = λ output d.
-    let at = (goal.at.returns-clause-complete c).After-new-cursor in
-    let none : c.new-definitions.result.items ≡ [] = search rules in
-    let read = subst (λ (j : Job). ReadsBody j.limits c.new-cursor.result.left c.in_ok-nodes.nodes.items) c.self.view_is c.in_ok-nodes.ensures.ok in
-    subst (λ ds. record { parent = None; nodes = map node_view c.in_ok-nodes.nodes.items; definitions = map definition_view ds } ≡ output) (sym none)
-    (derives_unique _ (valid at) _ c.args.self.limits _ output (derives _ (valid at) _ _ (are at) c.args.self.limits c.in_ok-nodes.nodes.items read) d)
+pub returns-in-Err-clause-empty : goal.returns-in-Err-clause-empty
+returns-in-Err-clause-empty c = λ empty.
+    let at = (goal.at.returns-in-Err-clause-empty c).After-new-cursor in
+    absurd (c.in-Err.ensures.empty (comments_tokens _ (valid at) _ _ (are at) empty))

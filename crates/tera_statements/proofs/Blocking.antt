@@ -1,0 +1,107 @@
+-- Reading blocks and the definitions of components.
+use Rattle.std.proofs.Common.{◌≡◌, ℕ, Bool, true, false, not, List, [], ◌∷◌, ◌++◌, Option, Some, None, append-nil, refl, sym, ap, ◌∙◌}
+use Rattle.std.specs.Str.{bytes_eq}
+use Rattle.tera_base.specs.declared.utils.Span.{Span}
+use Rattle.tera_lexer.specs.grammar.Tokens.{Items}
+use Rattle.tera_grammar.specs.Options.{◌>>=◌, guard}
+use Rattle.tera_grammar.specs.Words.{is_one_of}
+use Rattle.tera_grammar.specs.expressions.Reading.Front.{taken_name}
+use Rattle.tera_grammar.specs.statements.Components.{Head}
+use Rattle.tera_grammar.specs.statements.Expressions.{Limits, component_text}
+use Rattle.tera_grammar.specs.statements.Grammar.{Body, Item, Block, Define, InBlock, InComponent, Path, is_outermost, may_block, text_if_any}
+use Rattle.tera_grammar.specs.statements.Names.{Names, agrees, block_named, component_named, ◌and_then◌}
+use Rattle.tera_grammar.specs.statements.Parts.{AtEndBlock, Edge, Name, Tag}
+use Rattle.tera_grammar.specs.statements.Reading.{Place, Reader, Reads, at, block_end, block_of, component_def_of}
+use Rattle.tera_grammar.specs.statements.Reading.Components.{Opened, ending_of, opened_of}
+use Rattle.tera_grammar.specs.statements.Reading.Parts.{closed, finish_of, name_if_any, tag}
+use Rattle.tera_statements.specs.Blocks.{new_block_of}
+use Rattle.tera_statements.proofs.Steps.{kept_by}
+
+-- the names with one more
+pub block_kept : (b c : List (List ℕ)) (more : List (List ℕ)) (text : List ℕ) → more ≡ b ++ text ∷ []
+    → record { blocks = more; components = c } ≡ (record { blocks = b; components = c } and_then block_named text)
+block_kept b c more text h = λ i. record { blocks = h i; components = sym (append-nil c) i }
+
+pub component_kept : (b c : List (List ℕ)) (more : List (List ℕ)) (text : List ℕ) → more ≡ c ++ text ∷ []
+    → record { blocks = b; components = more } ≡ (record { blocks = b; components = c } and_then component_named text)
+component_kept b c more text h = λ i. record { blocks = sym (append-nil b) i; components = h i }
+
+module _ (self : Reader) (path : Path) (start : Edge) (first : Span) (seen : Names) (ts : Items) where
+  abbrev behind_name : Name × Items → Reads Item
+  behind_name n =
+      finish_of n.1 >>= λ f. self (InBlock ∷ path) (at (seen and_then block_named n.0.text) f.1) >>= λ b. block_end n.0 b.1.tokens >>= λ e.
+      Some (Block (tag start first f.0) n.0 b.0 e.0.0 e.0.1, at b.1.seen e.1)
+
+  pub barred : may_block path ≡ false → block_of self path start first seen ts ≡ None
+  unfolding block_of
+  barred h = rw h refl
+
+  block_is : may_block path ≡ true → block_of self path start first seen ts ≡ (new_block_of seen.blocks ts >>= behind_name)
+  unfolding block_of
+  block_is h = rw h (kept_by (taken_name ts) (λ n. not (is_one_of seen.blocks n.0.text)) behind_name)
+
+  module _ (may : may_block path ≡ true) where
+    pub block_unnamed : new_block_of seen.blocks ts ≡ None → block_of self path start first seen ts ≡ None
+    block_unnamed h = block_is may ∙ ap (λ o. o >>= behind_name) h
+
+    module _ (n : Name) (us : Items) (named : new_block_of seen.blocks ts ≡ Some (n, us)) where
+      block_named_so : block_of self path start first seen ts ≡ behind_name (n, us)
+      block_named_so = block_is may ∙ ap (λ o. o >>= behind_name) named
+
+      pub block_unfinished : finish_of us ≡ None → block_of self path start first seen ts ≡ None
+      block_unfinished h = block_named_so ∙ rw h refl
+
+      module _ (f : Edge) (vs : Items) (ended : finish_of us ≡ Some (f, vs)) where
+        pub block_empty : self (InBlock ∷ path) (at (seen and_then block_named n.text) vs) ≡ None → block_of self path start first seen ts ≡ None
+        block_empty h = block_named_so ∙ rw (ended, h) refl
+
+        module _ (b : Body) (p : Place) (inside : self (InBlock ∷ path) (at (seen and_then block_named n.text) vs) ≡ Some (b, p)) where
+          pub block_unclosed : block_end n p.tokens ≡ None → block_of self path start first seen ts ≡ None
+          block_unclosed h = block_named_so ∙ rw (ended, inside, h) refl
+
+          pub block_given : (e : Tag × Option Name) (ws : Items) → block_end n p.tokens ≡ Some (e, ws)
+              → block_of self path start first seen ts ≡ Some (Block (tag start first f) n b e.0 e.1, at p.seen ws)
+          block_given e ws h = block_named_so ∙ rw (ended, inside, h) refl
+
+module _ (l : Limits) (self : Reader) (path : Path) (start : Edge) (first : Span) (seen : Names) (ts : Items) where
+  pub nested : is_outermost path ≡ false → component_def_of l self path start first seen ts ≡ None
+  unfolding component_def_of
+  nested h = rw h refl
+
+  module _ (may : is_outermost path ≡ true) where
+    pub unopened : opened_of l seen.components ts ≡ None → component_def_of l self path start first seen ts ≡ None
+    unfolding component_def_of
+    unopened h = rw (may, h) refl
+
+    module _ (o : Opened) (us : Items) (open_tag : opened_of l seen.components ts ≡ Some (o, us)) where
+      pub definition_empty : self (InComponent ∷ path) (at (seen and_then component_named (component_text o.name)) us) ≡ None → component_def_of l self path start first seen ts ≡ None
+      unfolding component_def_of
+      definition_empty h = rw (may, open_tag, h) refl
+
+      module _ (b : Body) (p : Place) (inside : self (InComponent ∷ path) (at (seen and_then component_named (component_text o.name)) us) ≡ Some (b, p)) where
+        pub definition_unclosed : ending_of start first o p.tokens ≡ None → component_def_of l self path start first seen ts ≡ None
+        unfolding component_def_of
+        definition_unclosed h = rw (may, open_tag, inside, h) refl
+
+        pub definition_given : (h : Head) (ws : Items) → ending_of start first o p.tokens ≡ Some (h, ws)
+            → component_def_of l self path start first seen ts ≡ Some (Define h b, at p.seen ws)
+        unfolding component_def_of
+        definition_given h ws read = rw (may, open_tag, inside, read) refl
+
+-- the closing tag of a block
+module _ (n : Name) (ts us : Items) (x : Edge × Span) (there : closed AtEndBlock ts ≡ Some (x, us)) where
+  module _ (end : Option Name) (vs : Items) (named : name_if_any us ≡ (end, vs)) where
+    abbrev last_step : Edge × Items → Option ((Tag × Option Name) × Items)
+    last_step f = Some ((tag x.0 x.1 f.0, end), f.1)
+
+    pub renamed : agrees n.text (text_if_any end) ≡ false → block_end n ts ≡ None
+    unfolding block_end
+    renamed h = rw (there, named, h) refl
+
+    pub ends_as : agrees n.text (text_if_any end) ≡ true → block_end n ts ≡ (finish_of vs >>= last_step)
+    unfolding block_end
+    ends_as h = rw (there, named, h) refl
+
+pub unclosed_block : (n : Name) (ts : Items) → closed AtEndBlock ts ≡ None → block_end n ts ≡ None
+unfolding block_end
+unclosed_block n ts h = rw h refl

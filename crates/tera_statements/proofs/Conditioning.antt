@@ -1,0 +1,224 @@
+-- Reading loops and conditions.
+use Rattle.std.proofs.Common.{◌≡◌, ℕ, suc, Bool, true, false, List, [], ◌∷◌, ◌++◌, map, Option, Some, None, refl, sym, ap, ◌∙◌}
+use Rattle.tera_base.specs.declared.utils.Span.{Span}
+use Rattle.tera_lexer.specs.grammar.Tokens.{Items}
+use Rattle.tera_grammar.specs.Options.{◌>>=◌, guard}
+use Rattle.tera_grammar.specs.statements.Expressions.{Limits, Expression, expression_of}
+use Rattle.tera_grammar.specs.statements.Grammar.{Body, Branches, Elif, Item, Else, NoElse, Otherwise, For, If, InFor, InForElse, InIf, Path, in_loop}
+use Rattle.tera_grammar.specs.statements.Heads.{Loop}
+use Rattle.tera_grammar.specs.statements.Names.{Names}
+use Rattle.tera_grammar.specs.statements.Parts.{AtElif, AtElse, AtEndSet, AtEndBlock, AtEndFor, AtEndIf, AtEndFilter, AtEndComponent, AtEndCall, Edge, Tag}
+use Rattle.tera_grammar.specs.statements.Reading.{Place, Reader, Reads, at, body, branch_in, branches, else_in, else_of, for_of, if_of}
+use Rattle.tera_grammar.specs.statements.Reading.Heads.{loop_of}
+use Rattle.tera_grammar.specs.statements.Reading.Parts.{Front, Ends, Closes, Holds, Shows, Opens, Wrong, closed, closed_at, closed_tag, finish_of, front, tag}
+use Rattle.std.proofs.Common.{Result, Ok, Err, IfOk, IfErr, Global, Vec, inl}
+use Rattle.tera_base.specs.Errors.{IsMemory}
+use Rattle.tera_tree.specs.Tree.{Stmt}
+use Rattle.tera_tree.specs.View.{node_view}
+use Rattle.tera_grammar.specs.statements.Output.{branch_output}
+use Rattle.tera_base.specs.declared.errors.Error.{Error}
+use Rattle.tera_tree.specs.declared.ast.Node.{Node}
+use Rattle.tera_statements.specs.Adding.{AreBranches, IsBody, IsElse}
+use Rattle.tera_statements.specs.Conditions.{Conditional, conditional_of}
+use Rattle.tera_grammar.proofs.statements.Loops.{is_elif}
+use Rattle.tera_grammar.proofs.statements.Parts.{closed_stands}
+use Rattle.tera_statements.specs.Kinds.{closes}
+use Rattle.tera_statements.specs.Taking.{GivesBy}
+use Rattle.tera_statements.specs.declared.fronts.Closer.TheVariants as closers
+use Rattle.tera_grammar.specs.expressions.Reading.Front.{Takes}
+use Rattle.tera_statements.specs.Following.{followed}
+use Rattle.tera_statements.proofs.Following.{regrouped as together}
+use Rattle.tera_statements.proofs.Steps.{failed_as}
+
+-- a loop
+module _ (l : Limits) (self : Reader) (path : Path) (start : Edge) (first : Span) (seen : Names) (ts : Items) where
+  abbrev pub loop_head : Takes (Loop × Edge)
+  loop_head = followed (loop_of l ts) finish_of
+
+  abbrev loop_inside : (Loop × Edge) × Items → Reads Item
+  loop_inside x =
+      self (InFor ∷ path) (at seen x.1) >>= λ b. else_of self (InForElse ∷ path) b.1 >>= λ o. closed_tag AtEndFor o.1.tokens >>= λ e.
+      Some (For (tag start first x.0.1) x.0.0 b.0 o.0 e.0, at o.1.seen e.1)
+
+  for_is : for_of l self path start first seen ts ≡ (loop_head >>= loop_inside)
+  unfolding for_of
+  for_is = together loop_inside (loop_of l ts) finish_of
+
+  pub no_head : loop_head ≡ None → for_of l self path start first seen ts ≡ None
+  no_head h = for_is ∙ ap (λ o. o >>= loop_inside) h
+
+  module _ (x : Loop × Edge) (us : Items) (head : loop_head ≡ Some (x, us)) where
+    for_so : for_of l self path start first seen ts ≡ loop_inside (x, us)
+    for_so = for_is ∙ ap (λ o. o >>= loop_inside) head
+
+    pub loop_empty : self (InFor ∷ path) (at seen us) ≡ None → for_of l self path start first seen ts ≡ None
+    loop_empty h = for_so ∙ rw h refl
+
+    module _ (b : Body) (p : Place) (inside : self (InFor ∷ path) (at seen us) ≡ Some (b, p)) where
+      pub no_else : else_of self (InForElse ∷ path) p ≡ None → for_of l self path start first seen ts ≡ None
+      no_else h = for_so ∙ rw (inside, h) refl
+
+      module _ (o : Else) (q : Place) (other : else_of self (InForElse ∷ path) p ≡ Some (o, q)) where
+        pub loop_unclosed : closed_tag AtEndFor q.tokens ≡ None → for_of l self path start first seen ts ≡ None
+        loop_unclosed h = for_so ∙ rw (inside, other, h) refl
+
+        pub loop_given : (e : Tag) (ws : Items) → closed_tag AtEndFor q.tokens ≡ Some (e, ws)
+            → for_of l self path start first seen ts ≡ Some (For (tag start first x.1) x.0 b o e, at q.seen ws)
+        loop_given e ws h = for_so ∙ rw (inside, other, h) refl
+
+-- an `else`, or none
+module _ (self : Reader) (path : Path) (seen : Names) (ts : Items) where
+  else_absent : (fr : Front) → closed_at AtElse fr ≡ None → else_in self path seen ts fr ≡ Some (NoElse, at seen ts)
+  unfolding else_in
+  else_absent (Closes AtElse start first us) h = cc
+  else_absent fr h = refl
+
+  pub without_else : closed AtElse ts ≡ None → else_of self path (at seen ts) ≡ Some (NoElse, at seen ts)
+  without_else h = else_absent (front ts) h
+
+  abbrev Behind : Edge × Span → Items → Reads Else
+  Behind x us = finish_of us >>= λ f. self path (at seen f.1) >>= λ b. Some (Otherwise (tag x.0 x.1 f.0) b.0, b.1)
+
+  else_present : (fr : Front) (x : Edge × Span) (us : Items) → closed_at AtElse fr ≡ Some (x, us) → else_in self path seen ts fr ≡ Behind x us
+  unfolding else_in
+  else_present (Closes AtElse start first vs) x us h = ap (λ (y : (Edge × Span) × Items). Behind y.0 y.1) (some_same h)
+    where
+      some_same : {a b : (Edge × Span) × Items} → Some a ≡ Some b → a ≡ b
+      some_same e = cc
+  else_present fr x us h = cc
+
+  module _ (x : Edge × Span) (us : Items) (there : closed AtElse ts ≡ Some (x, us)) where
+    pub else_unfinished : finish_of us ≡ None → else_of self path (at seen ts) ≡ None
+    else_unfinished h = else_present (front ts) x us there ∙ rw h refl
+
+    module _ (f : Edge) (vs : Items) (ended : finish_of us ≡ Some (f, vs)) where
+      pub else_is : else_of self path (at seen ts) ≡ (self path (at seen vs) >>= λ b. Some (Otherwise (tag x.0 x.1 f) b.0, b.1))
+      else_is = else_present (front ts) x us there ∙ rw ended refl
+
+-- a condition with its body
+module _ (l : Limits) (below : ℕ) (path : Path) (seen : Names) (ts : Items) where
+  abbrev pub condition_head : Takes (Expression × Edge)
+  condition_head = followed (expression_of l (in_loop path) ts) finish_of
+
+  abbrev condition_inside : (Expression × Edge) × Items → Reads Conditional
+  condition_inside x = body below l path (at seen x.1) >>= λ b. Some ((x.0.0, x.0.1, b.0), b.1)
+
+  condition_is : conditional_of l below path (at seen ts) ≡ (condition_head >>= condition_inside)
+  condition_is = together condition_inside (expression_of l (in_loop path) ts) finish_of
+
+  pub no_condition : condition_head ≡ None → conditional_of l below path (at seen ts) ≡ None
+  no_condition h = condition_is ∙ ap (λ o. o >>= condition_inside) h
+
+  module _ (x : Expression × Edge) (us : Items) (head : condition_head ≡ Some (x, us)) where
+    condition_so : conditional_of l below path (at seen ts) ≡ condition_inside (x, us)
+    condition_so = condition_is ∙ ap (λ o. o >>= condition_inside) head
+
+    pub condition_empty : body below l path (at seen us) ≡ None → conditional_of l below path (at seen ts) ≡ None
+    condition_empty h = condition_so ∙ rw h refl
+
+    pub condition_given : (b : Body) (p : Place) → body below l path (at seen us) ≡ Some (b, p) → conditional_of l below path (at seen ts) ≡ Some ((x.0, x.1, b), p)
+    condition_given b p h = condition_so ∙ rw h refl
+
+-- an `else` whose body is read
+module _ (self : Reader) (path : Path) (seen : Names) (ts : Items) (x : Edge × Span) (us : Items) (there : closed AtElse ts ≡ Some (x, us)) where
+  module _ (f : Edge) (vs : Items) (ended : finish_of us ≡ Some (f, vs)) where
+    pub otherwise_given : (r : Result (Vec Node Global) Error) (q : Place) → GivesBy (λ ns b. IsBody (in_loop path) ns.items b) r q (self path (at seen vs)) → GivesBy (λ ns o. IsElse (in_loop path) ns.items o) r q (else_of self path (at seen ts))
+    otherwise_given (Ok ns) q (b, read, shows) = (Otherwise (tag x.0 x.1 f) b, else_is self path seen ts x us there f vs ended ∙ rw read refl, shows)
+    otherwise_given (Err e) q h = failed_as (self path (at seen vs)) (else_of self path (at seen ts)) e (λ none. else_is self path seen ts x us there f vs ended ∙ rw none refl) h
+
+-- the parts of a condition with its body, taken together
+module _ (l : Limits) (below : ℕ) (path : Path) (seen : Names) where
+  regrouped : {Z : Type 0} (k : Conditional × Place → Reads Z) (c : Option (Expression × Items))
+      → (c >>= λ c. finish_of c.1 >>= λ f. body below l path (at seen f.1) >>= λ b. k ((c.0, f.0, b.0), b.1))
+      ≡ ((c >>= λ c. finish_of c.1 >>= λ f. body below l path (at seen f.1) >>= λ b. Some ((c.0, f.0, b.0), b.1)) >>= k)
+  regrouped k None = refl
+  regrouped k (Some c) = by_finish (finish_of c.1)
+    where
+      by_body : (f : Edge × Items) (b : Option (Body × Place)) → (b >>= λ b. k ((c.0, f.0, b.0), b.1)) ≡ ((b >>= λ b. Some ((c.0, f.0, b.0), b.1)) >>= k)
+      by_body f None = refl
+      by_body f (Some b) = refl
+
+      by_finish : (f : Option (Edge × Items)) → (f >>= λ f. body below l path (at seen f.1) >>= λ b. k ((c.0, f.0, b.0), b.1))
+          ≡ ((f >>= λ f. body below l path (at seen f.1) >>= λ b. Some ((c.0, f.0, b.0), b.1)) >>= k)
+      by_finish None = refl
+      by_finish (Some f) = by_body f (body below l path (at seen f.1))
+
+-- an `if`: a first condition with its body, the others, and the closing tag
+module _ (l : Limits) (below : ℕ) (path : Path) (start : Edge) (first : Span) (seen : Names) (ts : Items) where
+  abbrev Closing : Edge → Expression → Body → Branches × Place → Reads Item
+  Closing f c b bs = closed_tag AtEndIf bs.1.tokens >>= λ e. Some (If (tag start first f) c b bs.0 e.0, at bs.1.seen e.1)
+
+  abbrev Others : Conditional × Place → Reads Item
+  Others x = branches l (body below l) (InIf ∷ path) x.1 >>= λ bs. Closing x.0.1 x.0.0 x.0.2 bs
+
+  if_is : if_of l (body below l) path start first seen ts ≡ (conditional_of l below (InIf ∷ path) (at seen ts) >>= Others)
+  unfolding if_of
+  if_is = regrouped l below (InIf ∷ path) seen Others (expression_of l (in_loop path) ts)
+
+  pub no_first : conditional_of l below (InIf ∷ path) (at seen ts) ≡ None → if_of l (body below l) path start first seen ts ≡ None
+  no_first h = if_is ∙ ap (λ o. o >>= Others) h
+
+  module _ (x : Conditional) (p : Place) (one : conditional_of l below (InIf ∷ path) (at seen ts) ≡ Some (x, p)) where
+    if_first : if_of l (body below l) path start first seen ts ≡ Others (x, p)
+    if_first = if_is ∙ ap (λ o. o >>= Others) one
+
+    pub no_branches : branches l (body below l) (InIf ∷ path) p ≡ None → if_of l (body below l) path start first seen ts ≡ None
+    no_branches h = if_first ∙ rw h refl
+
+    module _ (bs : Branches) (q : Place) (more : branches l (body below l) (InIf ∷ path) p ≡ Some (bs, q)) where
+      pub if_unclosed : closed_tag AtEndIf q.tokens ≡ None → if_of l (body below l) path start first seen ts ≡ None
+      if_unclosed h = if_first ∙ rw (more, h) refl
+
+      pub if_given : (e : Tag) (ws : Items) → closed_tag AtEndIf q.tokens ≡ Some (e, ws)
+          → if_of l (body below l) path start first seen ts ≡ Some (If (tag start first x.1) x.0 x.2 bs e, at q.seen ws)
+      if_given e ws h = if_first ∙ rw (more, h) refl
+
+-- the branches behind the first one
+abbrev elif_with : Edge × Span → Conditional → Branches × Place → Reads Branches
+elif_with x c bs = Some (Elif (tag x.0 x.1 c.1) c.0 c.2 bs.0, bs.1)
+
+module _ (l : Limits) (below : ℕ) (path : Path) (seen : Names) (ts us : Items) (x : Edge × Span) (there : closed AtElif ts ≡ Some (x, us)) where
+  abbrev All : Place → Reads Branches
+  All p = branches l (body below l) path p
+
+  abbrev Next : Conditional × Place → Reads Branches
+  Next c = All c.1 >>= elif_with x c.0
+
+  front_elif : front ts ≡ Closes AtElif x.0 x.1 us
+  front_elif = ap front (closed_stands AtElif ts (x, us) there)
+
+  branch_is : branch_in l (body below l) path All seen ts (front ts) ≡ (conditional_of l below path (at seen us) >>= Next)
+  unfolding branch_in
+  branch_is = ap (branch_in l (body below l) path All seen ts) front_elif ∙ regrouped l below path seen Next (expression_of l (in_loop path) us)
+
+  pub no_elif_branch : conditional_of l below path (at seen us) ≡ None → branch_in l (body below l) path All seen ts (front ts) ≡ None
+  no_elif_branch h = branch_is ∙ ap (λ o. o >>= Next) h
+
+  pub elif_branch : (c : Conditional) (q : Place) → conditional_of l below path (at seen us) ≡ Some (c, q)
+      → branch_in l (body below l) path All seen ts (front ts) ≡ (All q >>= elif_with x c)
+  elif_branch c q h = branch_is ∙ ap (λ o. o >>= Next) h
+
+not_elif : (fr : Front) → closes closers.Elif fr ≡ false → is_elif fr ≡ false
+not_elif (Closes AtElif start first us) h = cc
+not_elif (Closes AtElse start first us) h = refl
+not_elif (Closes AtEndSet start first us) h = refl
+not_elif (Closes AtEndBlock start first us) h = refl
+not_elif (Closes AtEndFor start first us) h = refl
+not_elif (Closes AtEndIf start first us) h = refl
+not_elif (Closes AtEndFilter start first us) h = refl
+not_elif (Closes AtEndComponent start first us) h = refl
+not_elif (Closes AtEndCall start first us) h = refl
+not_elif Ends h = refl
+not_elif (Holds text span us) h = refl
+not_elif (Shows start us) h = refl
+not_elif (Opens o start first us) h = refl
+not_elif Wrong h = refl
+
+pub no_elif_there : (ts : Items) → closes closers.Elif (front ts) ≡ false → is_elif (front ts) ≡ false
+no_elif_there ts h = not_elif (front ts) h
+
+-- the branches are read whole, and shown
+pub ends_by : (f : Bool) (r : Result (Vec Node Global) Error) (q : Place) (o : Reads Branches) (bs : Branches) (x : List Stmt) → o ≡ Some (bs, q) → x ≡ branch_output f bs
+    → IfOk r (λ ns. map node_view ns.items ≡ x) → IfErr r IsMemory → GivesBy (λ ns bs. AreBranches f ns.items bs) r q o
+ends_by f (Ok ns) q o bs x read same shows memory = (bs, read, shows ∙ same)
+ends_by f (Err e) q o bs x read same shows memory = inl memory

@@ -1,0 +1,126 @@
+-- Reading the tags of a component's definition.
+use Rattle.std.proofs.Common.{◌≡◌, ℕ, Bool, true, false, not, List, [], Option, Some, None, refl, sym, ap, subst, ◌∙◌}
+use Rattle.std.proofs.lemmas.Option.{same_Some}
+use Rattle.std.specs.Str.{bytes_eq}
+use Rattle.tera_base.specs.Values.{Val}
+use Rattle.tera_base.specs.declared.utils.Span.{Span}
+use Rattle.tera_lexer.specs.grammar.Tokens.{Items}
+use Rattle.tera_tree.specs.Tree.{Argument, Definition, Stmt}
+use Rattle.tera_grammar.specs.Options.{◌>>=◌, guard}
+use Rattle.tera_grammar.proofs.Options.{bound}
+use Rattle.tera_grammar.specs.Words.{is_one_of}
+use Rattle.tera_grammar.specs.expressions.Marks.{LeftBrace, LeftParen}
+use Rattle.tera_grammar.specs.expressions.Reading.Front.{Takes, begins, takes}
+use Rattle.tera_grammar.specs.statements.Components.{Head, Parameters, component_texts, definition_of, metadata_output, put_arguments, rest_of}
+use Rattle.tera_grammar.specs.statements.Expressions.{Limits, ComponentName, LiteralMap, component_of, component_text, map_of}
+use Rattle.tera_grammar.specs.statements.Names.{agrees}
+use Rattle.tera_grammar.specs.statements.Parts.{AtEndComponent, Edge}
+use Rattle.tera_grammar.specs.statements.Reading.Components.{Opened, end_name_in, ending_of, head, is_name, metadata_in, opened_of, parameters_of}
+use Rattle.tera_grammar.specs.statements.Reading.Parts.{closed, finish_of}
+use Rattle.tera_grammar.specs.statements.Types.{Sorted}
+use Rattle.tera_statements.specs.Components.{agreeing_name, new_component_of}
+use Rattle.tera_statements.proofs.Steps.{kept_by}
+
+module _ (l : Limits) (seen : List (List ℕ)) (ts : Items) where
+  abbrev behind_name : ComponentName × Items → Takes Opened
+  behind_name n =
+      takes LeftParen n.1 >>= λ paren. parameters_of l [] paren.1 >>= λ ps. metadata_in l ps.1 (begins LeftBrace ps.1) >>= λ m. finish_of m.1 >>= λ f.
+      Some (record { name = n.0; paren = paren.0; parameters = ps.0; metadata = m.0; finish = f.0 }, f.1)
+
+  opened_is : opened_of l seen ts ≡ (new_component_of seen ts >>= behind_name)
+  unfolding opened_of
+  opened_is = kept_by (component_of ts) (λ n. not (is_one_of seen (component_text n.0))) behind_name
+
+  pub no_new_name : new_component_of seen ts ≡ None → opened_of l seen ts ≡ None
+  no_new_name h = opened_is ∙ ap (λ o. o >>= behind_name) h
+
+  module _ (n : ComponentName) (us : Items) (named : new_component_of seen ts ≡ Some (n, us)) where
+    opened_behind : opened_of l seen ts ≡ behind_name (n, us)
+    opened_behind = opened_is ∙ ap (λ o. o >>= behind_name) named
+
+    pub no_paren : takes LeftParen us ≡ None → opened_of l seen ts ≡ None
+    no_paren h = opened_behind ∙ rw h refl
+
+    module _ (paren : Span) (vs : Items) (there : takes LeftParen us ≡ Some (paren, vs)) where
+      pub no_parameters : parameters_of l [] vs ≡ None → opened_of l seen ts ≡ None
+      no_parameters h = opened_behind ∙ rw (there, h) refl
+
+      module _ (ps : Parameters) (ws : Items) (listed : parameters_of l [] vs ≡ Some (ps, ws)) where
+        pub no_metadata : metadata_in l ws (begins LeftBrace ws) ≡ None → opened_of l seen ts ≡ None
+        no_metadata h = opened_behind ∙ rw (there, listed, h) refl
+
+        module _ (m : Option LiteralMap) (xs : Items) (given : metadata_in l ws (begins LeftBrace ws) ≡ Some (m, xs)) where
+          pub head_unfinished : finish_of xs ≡ None → opened_of l seen ts ≡ None
+          head_unfinished h = opened_behind ∙ rw (there, listed, given, h) refl
+
+          pub opened_given : (f : Edge) (ys : Items) → finish_of xs ≡ Some (f, ys)
+              → opened_of l seen ts ≡ Some (record { name = n; paren = paren; parameters = ps; metadata = m; finish = f }, ys)
+          opened_given f ys h = opened_behind ∙ rw (there, listed, given, h) refl
+
+-- the closing tag
+module _ (start : Edge) (first : Span) (o : Opened) (ts : Items) where
+  pub no_ending : closed AtEndComponent ts ≡ None → ending_of start first o ts ≡ None
+  unfolding ending_of
+  no_ending h = rw h refl
+
+  module _ (x : Edge × Span) (us : Items) (there : closed AtEndComponent ts ≡ Some (x, us)) where
+    abbrev behind_end : Option ComponentName × Items → Takes Head
+    behind_end n = finish_of n.1 >>= λ f. Some (head start first o x.0 x.1 n.0 f.0, f.1)
+
+    ending_is : ending_of start first o ts ≡ (agreeing_name (component_text o.name) us >>= behind_end)
+    unfolding ending_of
+    ending_is = rw there (kept_by (end_name_in us (is_name us)) (λ n. agrees (component_text o.name) (component_texts n.0)) behind_end)
+
+    pub other_name : agreeing_name (component_text o.name) us ≡ None → ending_of start first o ts ≡ None
+    other_name h = ending_is ∙ ap (λ r. r >>= behind_end) h
+
+    pub ending_named : (n : Option ComponentName) (vs : Items) → agreeing_name (component_text o.name) us ≡ Some (n, vs)
+        → ending_of start first o ts ≡ (finish_of vs >>= λ f. Some (head start first o x.0 x.1 n f.0, f.1))
+    ending_named n vs h = ending_is ∙ ap (λ r. r >>= behind_end) h
+
+-- what is defined is what the opening tag says, and the body
+abbrev pub opened_definition : Opened → List Stmt → Definition
+opened_definition o body = record {
+  name = component_text o.name;
+  arguments = put_arguments o.parameters [];
+  rest = rest_of o.parameters;
+  metadata = metadata_output o.metadata;
+  body = body;
+}
+
+pub ending_keeps : (start : Edge) (first : Span) (o : Opened) (ts us : Items) (h : Head) (body : List Stmt) → ending_of start first o ts ≡ Some (h, us) → opened_definition o body ≡ definition_of h body
+unfolding ending_of
+ending_keeps start first o ts us h body read =
+    bound (closed AtEndComponent ts) _ (h, us) read (λ (e : (Edge × Span) × Items) there rest1.
+    bound (end_name_in e.1 (is_name e.1)) _ (h, us) rest1 (λ (n : Option ComponentName × Items) named rest2.
+    bound (guard (agrees (component_text o.name) (component_texts n.0))) _ (h, us) rest2 (λ u agreed more.
+    bound (finish_of n.1) _ (h, us) more (λ (f : Edge × Items) ended made.
+    subst (λ (x : Head × Items). opened_definition o body ≡ definition_of x.0 body) (same_Some (head start first o e.0.0 e.0.1 n.0 f.0, f.1) (h, us) made) refl))))
+
+pub same_definition : (o : Opened) (name : List ℕ) (arguments : Sorted Argument) (rest : Option (List ℕ)) (metadata : Sorted Val) (nodes body : List Stmt)
+    → name ≡ component_text o.name → arguments ≡ put_arguments o.parameters [] → rest ≡ rest_of o.parameters → metadata ≡ metadata_output o.metadata → nodes ≡ body
+    → record { name = name; arguments = arguments; rest = rest; metadata = metadata; body = nodes } ≡ opened_definition o body
+same_definition o name arguments rest metadata nodes body n a r m b = λ i. record { name = n i; arguments = a i; rest = r i; metadata = m i; body = b i }
+
+-- the name at the end, where one stands there
+module _ (name : List ℕ) (ts us : Items) (m : ComponentName) (there : is_name ts ≡ true) (read : component_of ts ≡ Some (m, us)) where
+  pub end_agrees : bytes_eq (component_text m) name ≡ true → agreeing_name name ts ≡ Some (Some m, us)
+  unfolding end_name_in
+  end_agrees h = rw (there, read, h) refl
+
+  pub end_differs : bytes_eq (component_text m) name ≡ false → agreeing_name name ts ≡ None
+  unfolding end_name_in
+  end_differs h = rw (there, read, h) refl
+
+-- metadata, where a map stands there
+pub metadata_given : (l : Limits) (ts us : Items) (m : LiteralMap) → begins LeftBrace ts ≡ true → map_of l ts ≡ Some (m, us) → metadata_in l ts (begins LeftBrace ts) ≡ Some (Some m, us)
+unfolding metadata_in
+metadata_given l ts us m there read = ap (metadata_in l ts) there ∙ ap (λ o. o >>= λ n. Some (Some n.0, n.1)) read
+
+pub metadata_refused : (l : Limits) (ts : Items) → begins LeftBrace ts ≡ true → map_of l ts ≡ None → metadata_in l ts (begins LeftBrace ts) ≡ None
+unfolding metadata_in
+metadata_refused l ts there read = ap (metadata_in l ts) there ∙ ap (λ o. o >>= λ n. Some (Some n.0, n.1)) read
+
+pub no_metadata_there : (l : Limits) (ts : Items) → begins LeftBrace ts ≡ false → metadata_in l ts (begins LeftBrace ts) ≡ Some (None, ts)
+unfolding metadata_in
+no_metadata_there l ts none = ap (metadata_in l ts) none

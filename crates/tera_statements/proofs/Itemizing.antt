@@ -1,0 +1,218 @@
+-- The items of bodies, by what their tokens begin with.
+use Rattle.std.proofs.Common.{◌≡◌, ℕ, Bool, true, false, List, Option, Some, None, Result, Ok, Err, inl, inr, refl, sym, ap, subst, ◌∙◌}
+use Rattle.tera_base.specs.Errors.{IsMemory}
+use Rattle.tera_base.specs.declared.errors.Error.{Error}
+use Rattle.tera_base.specs.declared.utils.Span.{Span}
+use Rattle.tera_lexer.specs.code.Cursors.{Position, TakesOne}
+use Rattle.tera_lexer.specs.code.Steps.{Stops}
+use Rattle.tera_lexer.specs.grammar.Tokens as toks
+use Rattle.tera_lexer.specs.grammar.Tokens.{Tok, Items, Token}
+use Rattle.tera_lexer.specs.declared.lexer.delimiters.Kind.TheVariants as kind
+use Rattle.tera_grammar.specs.Options.{◌>>=◌}
+use Rattle.tera_grammar.specs.expressions.Reading.Front.{Takes}
+use Rattle.tera_grammar.specs.statements.Expressions.{Limits, Expression, expression_of}
+use Rattle.tera_grammar.specs.statements.Grammar.{Body, Item, Path, Shown, Single, Text, in_loop}
+use Rattle.tera_grammar.specs.statements.Names.{Names}
+use Rattle.tera_grammar.specs.statements.Parts as parts
+use Rattle.tera_grammar.specs.statements.Parts.{Edge, opener_token, start_yield}
+use Rattle.tera_grammar.specs.statements.Reading.{Place, Reader, Reads, at, shown_of, step, tag_of}
+use Rattle.tera_grammar.specs.statements.Reading.Parts as reading
+use Rattle.tera_grammar.specs.statements.Reading.Parts.{front, variable_end_of}
+use Rattle.tera_grammar.proofs.statements.Parts.{FrontOf, front_is}
+use Rattle.tera_statements.specs.Following.{followed}
+use Rattle.tera_statements.specs.Kinds.{kind_of, opener_kind, opener_of}
+use Rattle.tera_statements.specs.declared.fronts.Front.{Front}
+use Rattle.tera_statements.specs.declared.fronts.Front.TheVariants as fronts
+use Rattle.tera_statements.specs.declared.fronts.Opener.{Opener}
+use Rattle.tera_statements.specs.declared.fronts.Opener.TheVariants as openers
+use Rattle.tera_statements.specs.declared.fronts.Closer.{Closer}
+use Rattle.tera_statements.proofs.Following.{regrouped}
+
+-- a token that is there is taken, or no memory was found
+pub err_takes : (old new : Position) (e : Error) (t : Tok) (s : Span) (us : Items) → old.left ≡ Token t s us → TakesOne old (Err e) new → IsMemory e
+err_takes old new e t s us there (inl meets) = not_ended (sym there ∙ meets.0)
+  where
+    not_ended : {A : Type 0} → Token t s us ≡ toks.Ended → A
+    not_ended h = cc
+err_takes old new e t s us there (inr takes) = (subst (λ v. Stops old.source v e) there takes.1).1
+
+-- a text comes next
+pub record HoldsText (ts : Items) : Type 0 where
+  pub text : List ℕ
+  pub span : Span
+  pub behind : Items
+  pub tokens : ts ≡ Token (toks.Content text) span behind
+  pub is : front ts ≡ reading.Holds text span behind
+
+holds_by : (ts : Items) (fr : reading.Front) → front ts ≡ fr → FrontOf ts fr → fronts.Holds ≡ kind_of fr → HoldsText ts
+holds_by ts (reading.Holds text span us) is tokens h = record { text = text; span = span; behind = us; tokens = tokens; is = is }
+holds_by ts reading.Ends is tokens h = cc
+holds_by ts (reading.Closes c start first us) is tokens h = cc
+holds_by ts (reading.Shows start us) is tokens h = cc
+holds_by ts (reading.Opens o start first us) is tokens h = cc
+holds_by ts reading.Wrong is tokens h = cc
+
+pub holds_text : (ts : Items) → fronts.Holds ≡ kind_of (front ts) → HoldsText ts
+holds_text ts h = holds_by ts (front ts) refl (front_is ts) h
+
+-- the text was taken
+pub text_taken : (ts us : Items) (t : Tok) (s : Span) → HoldsText ts → ts ≡ Token t s us
+    → (text : List ℕ) × (span : Span) × (t ≡ toks.Content text) × (front ts ≡ reading.Holds text span us)
+text_taken ts us t s there took =
+    let same = sym took ∙ there.tokens in (
+      there.text,
+      there.span,
+      same_token _ _ _ _ _ _ same,
+      there.is ∙ ap (reading.Holds there.text there.span) (sym (same_rest _ _ _ _ _ _ same)),
+    )
+  where
+    same_token : (t u : Tok) (s r : Span) (us vs : Items) → Token t s us ≡ Token u r vs → t ≡ u
+    same_token t u s r us vs h = cc
+
+    same_rest : (t u : Tok) (s r : Span) (us vs : Items) → Token t s us ≡ Token u r vs → us ≡ vs
+    same_rest t u s r us vs h = cc
+
+-- a variable tag comes next
+pub record ShowsTag (ts : Items) : Type 0 where
+  pub start : Edge
+  pub behind : Items
+  pub tokens : ts ≡ Token (toks.Start kind.Variable start.dash) start.span behind
+  pub is : front ts ≡ reading.Shows start behind
+
+shows_by : (ts : Items) (fr : reading.Front) → front ts ≡ fr → FrontOf ts fr → fronts.Shows ≡ kind_of fr → ShowsTag ts
+shows_by ts (reading.Shows start us) is tokens h = record { start = start; behind = us; tokens = tokens; is = is }
+shows_by ts reading.Ends is tokens h = cc
+shows_by ts (reading.Closes c start first us) is tokens h = cc
+shows_by ts (reading.Holds text span us) is tokens h = cc
+shows_by ts (reading.Opens o start first us) is tokens h = cc
+shows_by ts reading.Wrong is tokens h = cc
+
+pub shows_tag : (ts : Items) → fronts.Shows ≡ kind_of (front ts) → ShowsTag ts
+shows_tag ts h = shows_by ts (front ts) refl (front_is ts) h
+
+-- a tag that opens a statement comes next
+opener_back : (o : parts.Opener) → opener_of (opener_kind o) ≡ o
+opener_back (parts.OpensSet global) = refl
+opener_back parts.OpensInclude = refl
+opener_back parts.OpensExtends = refl
+opener_back parts.OpensBlock = refl
+opener_back parts.OpensFor = refl
+opener_back parts.OpensIf = refl
+opener_back parts.OpensFilter = refl
+opener_back parts.OpensComponent = refl
+opener_back parts.OpensBreak = refl
+opener_back parts.OpensContinue = refl
+opener_back parts.OpensCall = refl
+
+pub record OpensTag (o : parts.Opener) (ts : Items) : Type 0 where
+  pub start : Edge
+  pub first : Span
+  pub behind : Items
+  pub tokens : ts ≡ start_yield start (Token (opener_token o) first behind)
+  pub is : front ts ≡ reading.Opens o start first behind
+
+same_opener : (o : Opener) (p : parts.Opener) → fronts.Opens o ≡ fronts.Opens (opener_kind p) → p ≡ opener_of o
+same_opener o p h = let same : o ≡ opener_kind p = cc in sym (opener_back p) ∙ ap opener_of (sym same)
+
+opens_by : (o : Opener) (ts : Items) (fr : reading.Front) → front ts ≡ fr → FrontOf ts fr → fronts.Opens o ≡ kind_of fr → OpensTag (opener_of o) ts
+opens_by o ts (reading.Opens p start first us) is tokens h =
+    subst (λ q. OpensTag q ts) (same_opener o p h) (record { start = start; first = first; behind = us; tokens = tokens; is = is })
+opens_by o ts reading.Ends is tokens h = cc
+opens_by o ts (reading.Closes c start first us) is tokens h = cc
+opens_by o ts (reading.Holds text span us) is tokens h = cc
+opens_by o ts (reading.Shows start us) is tokens h = cc
+opens_by o ts reading.Wrong is tokens h = cc
+
+pub opens_tag : (o : Opener) (ts : Items) → fronts.Opens o ≡ kind_of (front ts) → OpensTag (opener_of o) ts
+opens_tag o ts h = opens_by o ts (front ts) refl (front_is ts) h
+
+-- both tokens of it were taken
+pub entered : (o : parts.Opener) (ts us vs : Items) (t u : Tok) (s r : Span) → OpensTag o ts → ts ≡ Token t s us → us ≡ Token u r vs
+    → (start : Edge) × (front ts ≡ reading.Opens o start r vs)
+entered o ts us vs t u s r there one two =
+    let behind : us ≡ Token (opener_token o) there.first there.behind = behind_first _ _ _ _ _ _ (sym one ∙ there.tokens) in
+    let ends = sym two ∙ behind in
+    (there.start, there.is ∙ (λ i. reading.Opens o there.start (span_first _ _ _ _ _ _ (sym ends) i) (behind_first _ _ _ _ _ _ (sym ends) i)))
+  where
+    behind_first : (t u : Tok) (s r : Span) (us vs : Items) → Token t s us ≡ Token u r vs → us ≡ vs
+    behind_first t u s r us vs h = cc
+
+    span_first : (t u : Tok) (s r : Span) (us vs : Items) → Token t s us ≡ Token u r vs → s ≡ r
+    span_first t u s r us vs h = cc
+
+-- what the next step comes to
+module _ (l : Limits) (self : Reader) (path : Path) (seen : Names) where
+  step_ended_by : (fr : reading.Front) → fronts.Ends ≡ kind_of fr → step l self path seen fr ≡ Some None
+  unfolding step
+  step_ended_by reading.Ends h = refl
+  step_ended_by (reading.Closes c start first us) h = refl
+  step_ended_by (reading.Holds text span us) h = cc
+  step_ended_by (reading.Shows start us) h = cc
+  step_ended_by (reading.Opens o start first us) h = cc
+  step_ended_by reading.Wrong h = cc
+
+  pub step_ended : (ts : Items) → fronts.Ends ≡ kind_of (front ts) → step l self path seen (front ts) ≡ Some None
+  step_ended ts h = step_ended_by (front ts) h
+
+  step_closed_by : (c : Closer) (fr : reading.Front) → fronts.Closes c ≡ kind_of fr → step l self path seen fr ≡ Some None
+  unfolding step
+  step_closed_by c (reading.Closes d start first us) h = refl
+  step_closed_by c reading.Ends h = refl
+  step_closed_by c (reading.Holds text span us) h = cc
+  step_closed_by c (reading.Shows start us) h = cc
+  step_closed_by c (reading.Opens o start first us) h = cc
+  step_closed_by c reading.Wrong h = cc
+
+  pub step_closed : (c : Closer) (ts : Items) → fronts.Closes c ≡ kind_of (front ts) → step l self path seen (front ts) ≡ Some None
+  step_closed c ts h = step_closed_by c (front ts) h
+
+  step_wrong_by : (fr : reading.Front) → fronts.Wrong ≡ kind_of fr → step l self path seen fr ≡ None
+  unfolding step
+  step_wrong_by reading.Wrong h = refl
+  step_wrong_by reading.Ends h = cc
+  step_wrong_by (reading.Closes d start first us) h = cc
+  step_wrong_by (reading.Holds text span us) h = cc
+  step_wrong_by (reading.Shows start us) h = cc
+  step_wrong_by (reading.Opens o start first us) h = cc
+
+  pub step_wrong : (ts : Items) → fronts.Wrong ≡ kind_of (front ts) → step l self path seen (front ts) ≡ None
+  step_wrong ts h = step_wrong_by (front ts) h
+
+  pub step_holds : (fr : reading.Front) (text : List ℕ) (span : Span) (us : Items) → fr ≡ reading.Holds text span us → step l self path seen fr ≡ Some (Some (Single (Text text span), at seen us))
+  unfolding step
+  step_holds fr text span us h = ap (step l self path seen) h
+
+  module _ (fr : reading.Front) (start : Edge) (us : Items) (is : fr ≡ reading.Shows start us) where
+    abbrev pub shown_tag : Takes (Expression × Edge)
+    shown_tag = followed (expression_of l (in_loop path) us) variable_end_of
+
+    abbrev shown_item : (Expression × Edge) × Items → Reads Item
+    shown_item x = Some (Single (Shown start x.0.0 x.0.1), at seen x.1)
+
+    shows_so : step l self path seen fr ≡ ((shown_tag >>= shown_item) >>= λ x. Some (Some x))
+    unfolding step shown_of
+    shows_so =
+        ap (step l self path seen) is
+        ∙ ap (λ (r : Reads Item). r >>= λ x. Some (Some x)) (regrouped shown_item (expression_of l (in_loop path) us) variable_end_of)
+
+    pub shows_nothing : shown_tag ≡ None → step l self path seen fr ≡ None
+    shows_nothing h = shows_so ∙ rw h refl
+
+    pub shows_given : (x : Expression × Edge) (vs : Items) → shown_tag ≡ Some (x, vs) → step l self path seen fr ≡ Some (Some (Single (Shown start x.0 x.1), at seen vs))
+    shows_given x vs h = shows_so ∙ rw h refl
+
+  module _ (fr : reading.Front) (o : parts.Opener) (start : Edge) (first : Span) (us : Items) (is : fr ≡ reading.Opens o start first us) where
+    pub opens_nothing : tag_of l self path o start first seen us ≡ None → step l self path seen fr ≡ None
+    unfolding step
+    opens_nothing h = ap (step l self path seen) is ∙ ap (λ (r : Reads Item). r >>= λ x. Some (Some x)) h
+
+    pub opens_item : (i : Item) (p : Place) → tag_of l self path o start first seen us ≡ Some (i, p) → step l self path seen fr ≡ Some (Some (i, p))
+    unfolding step
+    opens_item i p h = ap (step l self path seen) is ∙ ap (λ (r : Reads Item). r >>= λ x. Some (Some x)) h
+
+-- the start of a variable tag was taken
+pub shown_taken : (ts us : Items) (t : Tok) (s : Span) → ShowsTag ts → ts ≡ Token t s us → (start : Edge) × (front ts ≡ reading.Shows start us)
+shown_taken ts us t s there took = (there.start, there.is ∙ ap (reading.Shows there.start) (same_behind _ _ _ _ _ _ (sym there.tokens ∙ took)))
+  where
+    same_behind : (t u : Tok) (s r : Span) (us vs : Items) → Token t s us ≡ Token u r vs → us ≡ vs
+    same_behind t u s r us vs h = cc

@@ -1,0 +1,343 @@
+-- Reading the parameters of components.
+use Rattle.std.proofs.Common.{rules, ◌≡◌, ◌⊎◌, ℕ, ℤ, pos, ◌-ℤ◌, neg_ℤ, to_z, of_z, w64, Global, String, string_bytes, arith, Bool, true, false, not, ◌||◌, codes, List, [], ◌∷◌, ◌++◌, inl, inr, Option, Some, None, Result, Ok, Err, refl, sym, ap, subst, ◌∙◌}
+use Rattle.std.specs.Option.{is_some}
+use Rattle.std.specs.Prelude.{IfErr, IfOk}
+use Rattle.tera_base.specs.Errors.{IsMemory}
+use Rattle.std.proofs.lemmas.Int.{ints}
+use Rattle.std.proofs.lemmas.Option.{same_Some}
+use Rattle.tera_grammar.proofs.Options.{bound, guard_ok}
+use Rattle.tera_base.specs.Values as values
+use Rattle.tera_base.specs.Values.{Val}
+use Rattle.tera_base.specs.ValueView.{value_view}
+use Rattle.tera_base.specs.declared.errors.Error.{Error}
+use Rattle.tera_base.specs.declared.utils.Span.{Span}
+use Rattle.tera_base.specs.declared.values.Value as code
+use Rattle.tera_base.specs.declared.values.Value.{Value, the_lemmas}
+use Rattle.tera_lexer.specs.code.Cursors.{Position, TakesOne}
+use Rattle.tera_lexer.specs.code.Steps.{Stops}
+use Rattle.tera_lexer.specs.grammar.Lexed.{IsCount}
+use Rattle.tera_lexer.specs.grammar.Tokens as toks
+use Rattle.tera_lexer.specs.grammar.Tokens.{Tok, Items, Ended, Failed, Token}
+use Rattle.tera_tree.specs.Tree.{Argument}
+use Rattle.tera_tree.specs.declared.ast.ArgType.{ArgType}
+use Rattle.tera_grammar.specs.Options.{◌>>=◌, guard}
+use Rattle.tera_grammar.specs.Words.{is_none, is_one_of}
+use Rattle.tera_grammar.specs.expressions.Concrete.{Lit}
+use Rattle.tera_grammar.specs.expressions.Marks.{Mark, mark, mark_token, Assign, At, Colon, Comma, LeftBrace, LeftBracket, Operation, RightParen, Spread}
+use Rattle.tera_grammar.specs.expressions.Operators.{Minus}
+use Rattle.tera_grammar.specs.expressions.Reading.Front.{Takes, begins, literal_of, same_token, takes, taken_name}
+use Rattle.tera_grammar.proofs.expressions.Fronts.{takes_ok}
+use Rattle.tera_grammar.specs.statements.Components.{Annotation, Assigned, Default, LiteralDefault, MinusDefault, NothingDefault, ArrayDefault, MapDefault, Parameter, Parameters, Closed, Rest, Final, argument_of, default_has_type, is_body, is_known, type_of_argument}
+use Rattle.tera_grammar.specs.statements.Components as components
+use Rattle.tera_grammar.specs.statements.Expressions.{Limits, array_of, map_of}
+use Rattle.tera_grammar.specs.statements.Parts.{Name}
+use Rattle.tera_grammar.specs.statements.Reading.Components.{annotation_in, assigned_in, at_in, default_at, default_by, default_of, fresh_name, minus_of, parameter, parameter_behind, parameter_of, parameters_at, parameters_behind, parameters_in, parameters_of}
+use Rattle.tera_grammar.specs.statements.Reading.Loops.{Listing}
+use Rattle.tera_grammar.specs.statements.Types.{Sorted, put_name, type_named}
+use Rattle.tera_grammar.proofs.statements.Loops.{listing_on}
+use Rattle.tera_statements.specs.Parameters.{IsDefault, argument_as, has_default, taken_rest, typed, type_written}
+use Rattle.tera_statements.specs.Reading.{IsArray, IsMap}
+use Rattle.tera_statements.specs.Taking.{Eats, Fails, GivesBy, GoesOn}
+use Rattle.tera_statements.proofs.Going.{stays, took_goes}
+use Rattle.tera_statements.proofs.Steps.{failed}
+
+-- a token that had to come and did not, where none is read
+pub untaken : {A : Type 0} (read : Items → Option A) (old new : Position) (e : Error) → read Ended ≡ None → ((text : List ℕ) (span : Span) → read (Failed text span) ≡ None)
+    → TakesOne old (Err e) new → Fails (read old.left) e
+untaken read old new e ended failed (inl h) = inr (ap read h.0 ∙ ended)
+untaken read old new e ended failed (inr h) = stopped old.left h.1
+  where
+    stopped : (ts : Items) → Stops old.source ts e → Fails (read ts) e
+    stopped Ended s = absurd s
+    stopped (Failed text span) s = inr (failed text span)
+    stopped (Token t span items) s = inl s.1
+
+-- a token that was taken where it stood, or was not
+pub eaten_goes : (b : Bool) (old new : Position) (read : Option (Span × Items)) → Eats b old new read → GoesOn old new
+eaten_goes true old new read h = took_goes old new h.1
+eaten_goes false old new read h = subst (λ p. GoesOn old p) (sym h.1) (stays old)
+
+pub at_read : (b : Bool) (old new : Position) → Eats b old new (takes At old.left) → (at : Option Span) × (is_some at ≡ b) × (at_in old.left (takes At old.left) ≡ (at, new.left))
+at_read true old new h = (Some new.span, refl, ap (at_in old.left) h.0)
+at_read false old new h = (None, refl, ap (at_in old.left) h.0 ∙ ap (λ (p : Position). (None, p.left)) (sym h.1))
+
+-- whether a token is a word for no value
+abbrev pub none_word : Tok → Bool
+none_word (toks.Ident text) = is_none text
+none_word t = false
+
+pub at_behind : (l : Limits) (seen : List (List ℕ)) (ts us : Items) (at : Option Span) → at_in ts (takes At ts) ≡ (at, us) → parameter_of l seen ts ≡ parameter_behind l seen at us
+at_behind l seen ts us at h = ap (λ (y : Option Span × Items). parameter_behind l seen y.0 y.1) h
+
+-- defaults that are one token, or begin with a minus
+module _ (l : Limits) (ts us : Items) (s : Span) where
+  pub literal_default : (t : Tok) (x : Lit) → literal_of t ≡ Some x → ts ≡ Token t s us → default_of l ts ≡ Some (LiteralDefault x s, us)
+  unfolding default_of default_at
+  literal_default (toks.Integer n) x h is = ap (default_of l) is ∙ ap (λ o. o >>= λ y. Some (LiteralDefault y s, us)) h
+  literal_default (toks.Str text) x h is = ap (default_of l) is ∙ ap (λ o. o >>= λ y. Some (LiteralDefault y s, us)) h
+  literal_default (toks.Escaped text) x h is = ap (default_of l) is ∙ ap (λ o. o >>= λ y. Some (LiteralDefault y s, us)) h
+  literal_default (toks.Truth b) x h is = ap (default_of l) is ∙ ap (λ o. o >>= λ y. Some (LiteralDefault y s, us)) h
+  literal_default _ x h is = cc
+
+  pub nothing_default : (text : List ℕ) → is_none text ≡ true → ts ≡ Token (toks.Ident text) s us → default_of l ts ≡ Some (NothingDefault (record { text = text; span = s }), us)
+  unfolding default_of default_at
+  nothing_default text none is = ap (default_of l) is ∙ rw none refl
+
+  pub no_word : (text : List ℕ) → is_none text ≡ false → ts ≡ Token (toks.Ident text) s us → default_of l ts ≡ None
+  unfolding default_of default_at
+  no_word text other is = ap (default_of l) is ∙ rw other refl
+
+  pub minus_default : ts ≡ Token (toks.Symbol (codes "-")) s us → default_of l ts ≡ minus_of s us
+  unfolding default_of default_at default_by
+  minus_default is = ap (default_of l) is
+
+  -- anything else is none
+  none_at : (t : Tok) → literal_of t ≡ None → none_word t ≡ false → same_token t (mark_token (Operation Minus)) ≡ false → same_token t (mark_token LeftBracket) ≡ false
+      → same_token t (mark_token LeftBrace) ≡ false → default_at l t s us ≡ None
+  unfolding default_at default_by
+  none_at (toks.Ident text) plain word minus bracket brace = rw word refl
+  none_at (toks.Symbol op) plain word minus bracket brace = rw (minus, bracket, brace) refl
+  none_at (toks.Integer n) plain word minus bracket brace = cc
+  none_at (toks.Str text) plain word minus bracket brace = cc
+  none_at (toks.Escaped text) plain word minus bracket brace = cc
+  none_at (toks.Truth b) plain word minus bracket brace = cc
+  none_at _ plain word minus bracket brace = refl
+
+  pub other_default : (t : Tok) → literal_of t ≡ None → none_word t ≡ false → same_token t (mark_token (Operation Minus)) ≡ false → begins LeftBracket ts ≡ false → begins LeftBrace ts ≡ false
+      → ts ≡ Token t s us → default_of l ts ≡ None
+  unfolding default_of
+  other_default t plain word minus bracket brace is =
+      ap (default_of l) is ∙ none_at t plain word minus (sym (ap (begins LeftBracket) is) ∙ bracket) (sym (ap (begins LeftBrace) is) ∙ brace)
+
+-- what defaults stand for
+pub view_number : (n : ℤ) → value_view (code.I64 n) ≡ values.I64 n
+view_number n = search (rules, the_lemmas)
+
+pub view_truth : (b : Bool) → value_view (code.Bool b) ≡ values.Truth b
+view_truth b = search (rules, the_lemmas)
+
+pub view_text : (s : String Global) → value_view (code.String s) ≡ values.Text (string_bytes s)
+view_text s = search (rules, the_lemmas)
+
+pub view_nothing : value_view code.None ≡ values.Nothing
+view_nothing = search (rules, the_lemmas)
+
+-- a number of a source, and the same below zero
+pub counted_fits : (n : ℤ) → IsCount n → to_z w64 (of_z w64 n) ≡ n
+counted_fits n (k, is, small) = rw is (omega (arith, ints))
+
+pub negated_fits : (n : ℤ) → IsCount n → to_z w64 (of_z w64 (pos 0 -ℤ to_z w64 (of_z w64 n))) ≡ neg_ℤ n
+negated_fits n (k, is, small) = rw (counted_fits n (k, is, small), is) (omega (arith, ints))
+
+pub word_default : (l : Limits) (ts us : Items) (s : Span) (text : List ℕ) → ts ≡ Token (toks.Ident text) s us → (r : Result Value Error)
+    → IfOk r (λ v. (is_none text ≡ true) × (value_view v ≡ values.Nothing)) → IfErr r (λ e. IsMemory e ⊎ (is_none text ≡ false)) → GivesBy IsDefault r us (default_of l ts)
+word_default l ts us s text is (Ok v) h k = (NothingDefault (record { text = text; span = s }), nothing_default l ts us s text h.0 is, h.1)
+word_default l ts us s text is (Err e) h (inl memory) = inl memory
+word_default l ts us s text is (Err e) h (inr none) = inr (no_word l ts us s text none is)
+
+pub negative_default : (minus s : Span) (ts us : Items) (n : ℤ) → ts ≡ Token (toks.Integer n) s us → minus_of minus ts ≡ Some (MinusDefault minus n s, us)
+negative_default minus s ts us n is = ap (minus_of minus) is
+
+-- and those that are constants
+begun : (m : Mark) (ts : Items) → begins m ts ≡ true → (span : Span) × (items : Items) × (ts ≡ mark m span items)
+begun m (Token t s us) h = (s, us, takes_ok m (Token t s us) (s, us) (rw h refl))
+begun m _ h = cc
+
+begun_array : (l : Limits) (ts : Items) → begins LeftBracket ts ≡ true → default_of l ts ≡ (array_of l ts >>= λ a. Some (ArrayDefault a.0, a.1))
+unfolding default_of default_at default_by
+begun_array l ts h = let (span, items, is) = begun LeftBracket ts h in subst (λ v. default_of l v ≡ (array_of l v >>= λ a. Some (ArrayDefault a.0, a.1))) (sym is) refl
+
+begun_map : (l : Limits) (ts : Items) → begins LeftBrace ts ≡ true → default_of l ts ≡ (map_of l ts >>= λ m. Some (MapDefault m.0, m.1))
+unfolding default_of default_at default_by
+begun_map l ts h = let (span, items, is) = begun LeftBrace ts h in subst (λ v. default_of l v ≡ (map_of l v >>= λ m. Some (MapDefault m.0, m.1))) (sym is) refl
+
+pub array_default : (l : Limits) (ts q : Items) (r : Result Value Error) → begins LeftBracket ts ≡ true → GivesBy IsArray r q (array_of l ts) → GivesBy IsDefault r q (default_of l ts)
+array_default l ts q (Ok v) there (a, read, is) = (ArrayDefault a, begun_array l ts there ∙ ap (λ o. o >>= λ x. Some (ArrayDefault x.0, x.1)) read, is)
+array_default l ts q (Err e) there h = rw (begun_array l ts there) (failed (array_of l ts) (λ a. Some (ArrayDefault a.0, a.1)) e h)
+
+pub map_default : (l : Limits) (ts q : Items) (r : Result Value Error) → begins LeftBrace ts ≡ true → GivesBy IsMap r q (map_of l ts) → GivesBy IsDefault r q (default_of l ts)
+map_default l ts q (Ok v) there (m, read, is) = (MapDefault m, begun_map l ts there ∙ ap (λ o. o >>= λ x. Some (MapDefault x.0, x.1)) read, is)
+map_default l ts q (Err e) there h = rw (begun_map l ts there) (failed (map_of l ts) (λ m. Some (MapDefault m.0, m.1)) e h)
+
+-- names
+module _ (seen : List (List ℕ)) (ts us : Items) (n : Name) (named : taken_name ts ≡ Some (n, us)) where
+  pub named_body : is_body n.text ≡ true → fresh_name seen ts ≡ None
+  named_body h = rw (named, h) refl
+
+  module _ (other : is_body n.text ≡ false) where
+    pub named_again : is_one_of seen n.text ≡ true → fresh_name seen ts ≡ None
+    named_again h = rw (named, other, h) refl
+
+    pub fresh_given : is_one_of seen n.text ≡ false → fresh_name seen ts ≡ Some (n, us)
+    fresh_given h = rw (named, other, h) refl
+
+-- a type that is written is one
+pub annotation_given : (ts us vs : Items) (colon : Span) (n : Name) (t : ArgType) → taken_name us ≡ Some (n, vs) → type_named n.text ≡ Some t
+    → annotation_in ts (Some (colon, us)) ≡ Some (Some (record { colon = colon; name = n }), vs)
+unfolding annotation_in
+annotation_given ts us vs colon n t named is = rw (named, is) refl
+
+pub no_type_name : (ts us : Items) (colon : Span) → taken_name us ≡ None → annotation_in ts (Some (colon, us)) ≡ None
+unfolding annotation_in
+no_type_name ts us colon h = rw h refl
+
+pub no_such_type : (ts us vs : Items) (colon : Span) (n : Name) → taken_name us ≡ Some (n, vs) → type_named n.text ≡ None → annotation_in ts (Some (colon, us)) ≡ None
+unfolding annotation_in
+no_such_type ts us vs colon n named none = rw (named, none) refl
+
+-- the name that a token is
+abbrev pub name_of_token : Tok → Option (List ℕ)
+name_of_token (toks.Ident text) = Some text
+name_of_token t = None
+
+pub no_name_taken : (ts us : Items) (s : Span) (t : Tok) → ts ≡ Token t s us → name_of_token t ≡ None → taken_name ts ≡ None
+no_name_taken ts us s t is other = ap taken_name is ∙ by t other
+  where
+    by : (t : Tok) → name_of_token t ≡ None → taken_name (Token t s us) ≡ None
+    by (toks.Ident text) h = cc
+    by _ h = refl
+
+-- a default, where a sign stands before it
+module _ (l : Limits) (ts us : Items) (sign : Span) where
+  pub no_default : default_of l us ≡ None → assigned_in l ts (Some (sign, us)) ≡ None
+  unfolding assigned_in
+  no_default h = rw h refl
+
+  pub default_given : (d : components.Default) (vs : Items) → default_of l us ≡ Some (d, vs) → assigned_in l ts (Some (sign, us)) ≡ Some (Some (record { sign = sign; value = d }), vs)
+  unfolding assigned_in
+  default_given d vs h = rw h refl
+
+-- the type of an argument, and its default
+pub typed_is : (a : Option Annotation) (v : Option Val) → (t : Option ArgType) → t ≡ type_written a → (is_known : components.is_known a ≡ true) → typed t v ≡ type_of_argument a v
+typed_is None None t h k = ap (λ u. typed u None) h
+typed_is None (Some v) t h k = ap (λ u. typed u (Some v)) h
+typed_is (Some a) v t h k = ap (λ u. typed u v) h ∙ known_typed (type_named a.name.text) k
+  where
+    known_typed : (o : Option ArgType) → is_some o ≡ true → typed o v ≡ o
+    known_typed (Some t) k = refl
+    known_typed None k = cc
+
+-- the parts of a parameter
+module _ (l : Limits) (seen : List (List ℕ)) (at : Option Span) (ts : Items) where
+  pub no_fresh_name : fresh_name seen ts ≡ None → parameter_behind l seen at ts ≡ None
+  unfolding parameter_behind
+  no_fresh_name h = rw h refl
+
+  module _ (n : Name) (us : Items) (named : fresh_name seen ts ≡ Some (n, us)) where
+    pub no_annotation : annotation_in us (takes Colon us) ≡ None → parameter_behind l seen at ts ≡ None
+    unfolding parameter_behind
+    no_annotation h = rw (named, h) refl
+
+    module _ (t : Option Annotation) (vs : Items) (annotated : annotation_in us (takes Colon us) ≡ Some (t, vs)) where
+      pub no_assigned : assigned_in l vs (takes Assign vs) ≡ None → parameter_behind l seen at ts ≡ None
+      unfolding parameter_behind
+      no_assigned h = rw (named, annotated, h) refl
+
+      module _ (d : Option Assigned) (ws : Items) (assigned : assigned_in l vs (takes Assign vs) ≡ Some (d, ws)) where
+        pub mistyped : has_default (argument_of (parameter at n t d)) ≡ false → parameter_behind l seen at ts ≡ None
+        unfolding parameter_behind
+        mistyped h = rw (named, annotated, assigned, h) refl
+
+        pub parameter_given : has_default (argument_of (parameter at n t d)) ≡ true → parameter_behind l seen at ts ≡ Some (parameter at n t d, ws)
+        unfolding parameter_behind
+        parameter_given h = rw (named, annotated, assigned, h) refl
+
+pub annotation_known : (ts : Items) (o : Option (Span × Items)) (x : Option Annotation × Items) → annotation_in ts o ≡ Some x → components.is_known x.0 ≡ true
+unfolding annotation_in
+annotation_known ts None x h = subst (λ (y : Option Annotation × Items). components.is_known y.0 ≡ true) (same_Some (None, ts) x h) refl
+annotation_known ts (Some colon) x h =
+    bound (taken_name colon.1) _ x h (λ (n : Name × Items) read more.
+    bound (guard (is_known (Some (record { colon = colon.0; name = n.0 })))) _ x more (λ u known made.
+    subst (λ (y : Option Annotation × Items). components.is_known y.0 ≡ true) (same_Some (Some (record { colon = colon.0; name = n.0 }), n.1) x made) (guard_ok _ u known)))
+
+-- what a parameter says of its argument
+pub argument_is : (at : Option Span) (n : Name) (t : Option Annotation) (d : Option Assigned) (typ : Option ArgType) (v : Option Val) (implicit : Bool)
+    → is_some at ≡ implicit → typ ≡ type_written t → is_known t ≡ true → v ≡ components.default_of d → argument_as typ v implicit ≡ argument_of (parameter at n t d)
+argument_is at n t d typ v implicit same written known value = λ i. record {
+  default = value i;
+  typ = (typed_is t v typ written known ∙ ap (type_of_argument t) value) i;
+  implicit = sym same i;
+}
+
+-- what the parameters go on with
+abbrev pub next_parameters : Limits → List (List ℕ) → Items → Takes Parameters
+next_parameters l seen ts = parameters_in (parameters_of l) l seen ts (takes RightParen ts)
+
+-- the name of the rest parameter with the closing parenthesis, by itself and as the end of all
+abbrev end_of_rest : Name → Span × Items → Takes Name
+end_of_rest n end = Some (n, end.1)
+
+abbrev end_of_all : Span → Name → Span × Items → Takes Parameters
+end_of_all dots n end = Some (Rest dots n end.0, end.1)
+
+abbrev behind_rest : Name × Items → Takes Name
+behind_rest n = takes RightParen n.1 >>= end_of_rest n.0
+
+abbrev behind_all : Span → Name × Items → Takes Parameters
+behind_all dots n = takes RightParen n.1 >>= end_of_all dots n.0
+
+no_end_by : (e : Option (Span × Items)) (dots : Span) (n : Name) → (e >>= end_of_rest n) ≡ None → (e >>= end_of_all dots n) ≡ None
+no_end_by None dots n h = refl
+no_end_by (Some end) dots n h = cc
+
+no_rest_by : (o : Option (Name × Items)) (dots : Span) → (o >>= behind_rest) ≡ None → (o >>= behind_all dots) ≡ None
+no_rest_by None dots h = refl
+no_rest_by (Some n) dots h = no_end_by (takes RightParen n.1) dots n.0 h
+
+end_by : (e : Option (Span × Items)) (dots : Span) (m n : Name) (us : Items) → (e >>= end_of_rest m) ≡ Some (n, us) → (end : Span) × ((e >>= end_of_all dots m) ≡ Some (Rest dots n end, us))
+end_by None dots m n us h = cc
+end_by (Some end) dots m n us h = (end.0, ap (λ (x : Name × Items). Some (Rest dots x.0 end.0, x.1)) (same_Some (m, end.1) (n, us) h))
+
+rest_by : (o : Option (Name × Items)) (dots : Span) (n : Name) (us : Items) → (o >>= behind_rest) ≡ Some (n, us) → (end : Span) × ((o >>= behind_all dots) ≡ Some (Rest dots n end, us))
+rest_by None dots n us h = cc
+rest_by (Some m) dots n us h = end_by (takes RightParen m.1) dots m.0 n us h
+
+module _ (l : Limits) (seen : List (List ℕ)) (ts : Items) where
+  pub closed_there : (end : Span) (us : Items) → takes RightParen ts ≡ Some (end, us) → next_parameters l seen ts ≡ Some (Closed end, us)
+  unfolding parameters_in
+  closed_there end us h = ap (parameters_in (parameters_of l) l seen ts) h
+
+  module _ (no_end : takes RightParen ts ≡ None) where
+    module _ (dots : Span) (us : Items) (there : takes Spread ts ≡ Some (dots, us)) where
+      rest_is : next_parameters l seen ts ≡ (fresh_name seen us >>= behind_all dots)
+      unfolding parameters_in parameters_at
+      rest_is = ap (parameters_in (parameters_of l) l seen ts) no_end ∙ ap (parameters_at (parameters_of l) l seen ts) there
+
+      pub no_rest : taken_rest seen us ≡ None → next_parameters l seen ts ≡ None
+      no_rest h = rest_is ∙ no_rest_by (fresh_name seen us) dots h
+
+      pub rest_given : (n : Name) (vs : Items) → taken_rest seen us ≡ Some (n, vs) → (end : Span) × (next_parameters l seen ts ≡ Some (Rest dots n end, vs))
+      rest_given n vs h = let (end, read) = rest_by (fresh_name seen us) dots n vs h in (end, rest_is ∙ read)
+
+    module _ (no_dots : takes Spread ts ≡ None) where
+      another : next_parameters l seen ts ≡ (parameter_of l seen ts >>= λ p. parameters_behind (parameters_of l) seen p.0 p.1 (takes RightParen p.1))
+      unfolding parameters_in parameters_at
+      another = ap (parameters_in (parameters_of l) l seen ts) no_end ∙ ap (parameters_at (parameters_of l) l seen ts) no_dots
+
+      pub no_parameter : parameter_of l seen ts ≡ None → next_parameters l seen ts ≡ None
+      no_parameter h = another ∙ ap (λ o. o >>= λ p. parameters_behind (parameters_of l) seen p.0 p.1 (takes RightParen p.1)) h
+
+      module _ (p : Parameter) (us : Items) (read : parameter_of l seen ts ≡ Some (p, us)) where
+        behind_it : next_parameters l seen ts ≡ parameters_behind (parameters_of l) seen p us (takes RightParen us)
+        behind_it = another ∙ ap (λ o. o >>= λ q. parameters_behind (parameters_of l) seen q.0 q.1 (takes RightParen q.1)) read
+
+        pub last_given : (end : Span) (vs : Items) → takes RightParen us ≡ Some (end, vs) → next_parameters l seen ts ≡ Some (Final p end, vs)
+        unfolding parameters_behind
+        last_given end vs h = behind_it ∙ ap (parameters_behind (parameters_of l) seen p us) h
+
+        pub no_comma : takes RightParen us ≡ None → takes Comma us ≡ None → next_parameters l seen ts ≡ None
+        unfolding parameters_behind
+        no_comma none h = behind_it ∙ ap (parameters_behind (parameters_of l) seen p us) none ∙ ap (λ o. o >>= λ c. parameters_of l (seen ++ p.name.text ∷ []) c.1 >>= λ ps. Some (components.More p c.0 ps.0, ps.1)) h
+
+-- one parameter more
+pub listing_more : (l : Limits) (start here : Items) (seen more : List (List ℕ)) (gathered grown : Sorted Argument) → Listing l start here seen gathered
+    → takes RightParen here ≡ None → takes Spread here ≡ None → (p : Parameter) (us : Items) → parameter_of l seen here ≡ Some (p, us)
+    → takes RightParen us ≡ None → (comma : Span) (vs : Items) → takes Comma us ≡ Some (comma, vs)
+    → more ≡ seen ++ p.name.text ∷ [] → grown ≡ put_name p.name.text (argument_of p) gathered → Listing l start vs more grown
+listing_more l start here seen more gathered grown g no_end no_dots p us read no_last comma vs stands named put =
+    subst (λ s. Listing l start vs s grown) (sym named) (subst (λ a. Listing l start vs (seen ++ p.name.text ∷ []) a) (sym put)
+    (listing_on l start here seen gathered g no_end no_dots (p, us) read no_last (comma, vs) stands))
+
+-- where a token was not taken, the same stands there
+pub same_place : {A : Type 0} (read : Items → Option A) (old new : Position) (r : Option A) → new ≡ old → read new.left ≡ r → read old.left ≡ r
+same_place read old new r same h = ap (λ (p : Position). read p.left) (sym same) ∙ h

@@ -1,0 +1,158 @@
+-- Refusals in the tokens that are left, and tokens of which none is refused: empty texts.
+use Rattle.std.proofs.Common.{◌≡◌, ℕ, zero, suc, ◌+◌, ◌<◌, Bool, true, false, List, [], Option, Some, None, Result, Err, inl, inr, ⊎_elim, refl, sym, ap, subst, ◌∙◌, arith}
+use Rattle.tera_base.proofs.Tellings.{tells_weaker, tells_memory}
+use Rattle.tera_base.specs.Errors.{IsMemory}
+use Rattle.tera_base.specs.declared.errors.Error.{Error}
+use Rattle.tera_base.specs.declared.utils.Span.{Span}
+use Rattle.tera_lexer.specs.code.Cursors.{FaultsFrom, IsLater, Passes, Position, TakesOne, is_end, size}
+use Rattle.tera_lexer.specs.code.Steps.{Stops, TakesMemory}
+use Rattle.tera_lexer.specs.grammar.Faults.{Faults}
+use Rattle.tera_lexer.specs.grammar.Place.{IsWithin}
+use Rattle.tera_lexer.specs.grammar.Tokens.{Content, Ended, Failed, Items, Tok, Token}
+use Rattle.tera_lexer.proofs.Refusals as refusals
+use Rattle.tera_lexer.proofs.Refusals.{later_faults, lift_faults}
+use Rattle.tera_grammar.specs.statements.Expressions.{Limits}
+use Rattle.tera_grammar.specs.statements.Grammar.{Item, Path, Single, Text}
+use Rattle.tera_grammar.specs.statements.Names.{Names}
+use Rattle.tera_grammar.specs.statements.Output.{AddsNothing, added_by}
+use Rattle.tera_grammar.specs.statements.Reading as reading
+use Rattle.tera_grammar.specs.statements.Reading.{Place, Reader, step}
+use Rattle.tera_grammar.specs.statements.Reading.Loops.{Silent, turn}
+use Rattle.tera_grammar.specs.statements.Reading.Parts.{front, front_at}
+use Rattle.tera_statements.specs.Items.{AreEmptyTexts}
+use Rattle.tera_statements.specs.Kinds.{kind_of}
+use Rattle.tera_statements.specs.Taking.{GoesOn, Refuses, RefusesIn, Took}
+use Rattle.tera_statements.specs.declared.fronts.Front.{Front}
+use Rattle.tera_statements.specs.declared.fronts.Front.TheVariants as fronts
+use Rattle.tera_statements.specs.declared.fronts.Front.TheVariants.{Ends, Closes, Holds, Shows, Opens, Wrong}
+use Rattle.tera_statements.proofs.Going.{refused_further}
+
+-- what is refused in the tokens is refused
+pub inside_refused : (old : Position) (e : Error) → RefusesIn old e → Refuses old e
+unfolding RefusesIn Refuses
+inside_refused old e told =
+    tells_weaker (λ text span. IsWithin old.source span × Faults old.left text span) (λ text span. IsWithin old.source span × FaultsFrom old.span old.left text span) e
+    (λ text span f. (f.0, inr f.1)) told
+
+pub memory_inside : (old : Position) (e : Error) → IsMemory e → RefusesIn old e
+unfolding RefusesIn
+memory_inside old e memory = tells_memory (λ text span. IsWithin old.source span × Faults old.left text span) e memory
+
+pub inside_further : (old mid : Position) (e : Error) → GoesOn old mid → RefusesIn mid e → Refuses old e
+inside_further old mid e goes told = refused_further old mid e goes (inside_refused mid e told)
+
+-- what is refused at tokens that were taken, or behind them
+pub took_inside : (old mid : Position) (e : Error) → Took old mid → Refuses mid e → RefusesIn old e
+unfolding Took Refuses RefusesIn
+took_inside old mid e took told = by took.0.count old.left refl took.0.taken took.0.passes
+  where
+    by : (n : ℕ) (items : Items) → old.left ≡ items → mid.taken ≡ old.taken + n → Passes n items old.span mid.left mid.span → RefusesIn old e
+    by zero items is taken (left_is, span_is) = let same : size mid.left ≡ size old.left = ap size (left_is ∙ sym is) in absurd (omega (arith, same, took.1))
+    by (suc n) Ended is taken passes = absurd passes
+    by (suc n) (Failed text at) is taken passes = absurd passes
+    by (suc n) (Token t here items) is taken passes =
+        let behind : Position = record { source = old.source; left = items; sight = 0; taken = old.taken + 1; span = here } in
+        let later : IsLater behind mid = record { count = n; source = took.0.source; taken = omega (arith, taken); passes = passes } in
+        tells_weaker (λ text span. IsWithin old.source span × FaultsFrom here items text span) (λ text span. IsWithin old.source span × Faults old.left text span) e
+        (λ text span f. (f.0, subst (λ ts. Faults ts text span) (sym is) (lift_faults t here items text span f.1))) (refusals.refuses_later behind mid e later told)
+
+passed_faults : (n : ℕ) (items : Items) (last : Span) (left : Items) (here : Span) → Passes n items last left here → (text : List ℕ) (span : Span) → Faults left text span → Faults items text span
+passed_faults zero items last left here (left_is, span_is) text span f = subst (λ ts. Faults ts text span) left_is f
+passed_faults (suc n) Ended last left here passes text span f = absurd passes
+passed_faults (suc n) (Failed told at) last left here passes text span f = absurd passes
+passed_faults (suc n) (Token t at items) last left here passes text span f = later_faults t at items text span (passed_faults n items at left here passes text span f)
+
+pub goes_inside : (old mid : Position) (e : Error) → GoesOn old mid → RefusesIn mid e → RefusesIn old e
+unfolding GoesOn RefusesIn
+goes_inside old mid e goes told =
+    tells_weaker (λ text span. IsWithin mid.source span × Faults mid.left text span) (λ text span. IsWithin old.source span × Faults old.left text span) e
+    (λ text span f. (
+      subst (λ s. IsWithin s span) goes.0.source f.0,
+      passed_faults goes.0.count old.left old.span mid.left mid.span goes.0.passes text span f.1,
+    )) told
+
+pub not_both : true ≡ false → ⊥
+not_both h = cc
+
+-- a token is not taken, where the tokens have not ended
+pub untaken_inside : (old new : Position) (e : Error) → is_end old.left ≡ false → TakesOne old (Err e) new → RefusesIn old e
+unfolding RefusesIn
+untaken_inside old new e some told = ⊎_elim (λ end. absurd (not_both (ap is_end (sym end.0) ∙ some))) (λ stops. by old.left refl stops.1) told
+  where
+    by : (items : Items) → old.left ≡ items → Stops old.source items e → RefusesIn old e
+    by Ended is stops = absurd stops
+    by (Failed told here) is (within, tells) =
+        tells_weaker (λ text span. (text ≡ told) × (span ≡ here)) (λ text span. IsWithin old.source span × Faults old.left text span) e
+        (λ text span at. rw at.1 (within, rw is (inl (at.0, refl)))) tells
+    by (Token t here items) is (takes, memory) = memory_inside old e memory
+
+-- the tokens have not ended where something wrong comes next
+pub wrong_left : (ts : Items) → fronts.Wrong ≡ kind_of (front ts) → is_end ts ≡ false
+wrong_left Ended h = cc
+wrong_left (Failed text span) h = refl
+wrong_left (Token t span items) h = refl
+
+-- what empty texts begin with
+abbrev pub IsQuiet : Front → Type 0
+IsQuiet Ends = Unit {0}
+IsQuiet Holds = Unit {0}
+IsQuiet k = ⊥
+
+pub quiet : (k : Front) (ts : Items) → k ≡ kind_of (front ts) → AreEmptyTexts ts → IsQuiet k
+quiet k Ended h empty = subst IsQuiet (sym h) tt
+quiet k (Failed text span) h empty = absurd empty
+quiet k (Token t span items) h empty = subst IsQuiet (sym (h ∙ ap (λ u. kind_of (front_at u span items)) empty.0)) tt
+
+-- an empty text is taken
+pub empty_untaken : (old new : Position) (e : Error) (t : Tok) (s : Span) (us : Items) → old.left ≡ Token t s us → AreEmptyTexts old.left → TakesOne old (Err e) new → ⊥
+empty_untaken old new e t s us there empty (inl meets) = not_ended (sym there ∙ meets.0)
+  where
+    not_ended : {A : Type 0} → Token t s us ≡ Ended → A
+    not_ended h = cc
+empty_untaken old new e t s us there empty (inr takes) =
+    subst TakesMemory (subst AreEmptyTexts there empty).0 (subst (λ v. Stops old.source v e) there takes.1).0
+
+pub empty_taken : (ts us : Items) (t : Tok) (s : Span) → ts ≡ Token t s us → AreEmptyTexts ts → t ≡ Content []
+empty_taken ts us t s took empty = (subst AreEmptyTexts took empty).0
+
+passed_empty : (n : ℕ) (items : Items) (last : Span) (left : Items) (here : Span) → Passes n items last left here → AreEmptyTexts items → AreEmptyTexts left
+passed_empty zero items last left here (left_is, span_is) empty = subst AreEmptyTexts (sym left_is) empty
+passed_empty (suc n) Ended last left here passes empty = absurd passes
+passed_empty (suc n) (Failed told at) last left here passes empty = absurd passes
+passed_empty (suc n) (Token t at items) last left here passes empty = passed_empty n items at left here passes empty.1
+
+pub goes_empty : (old new : Position) → GoesOn old new → AreEmptyTexts old.left → AreEmptyTexts new.left
+unfolding GoesOn
+goes_empty old new goes empty = passed_empty goes.0.count old.left old.span new.left new.span goes.0.passes empty
+
+same_first : (x y : Item × Place) → Some (Some x) ≡ Some (Some y) → x.0 ≡ y.0
+same_first x y h = let same : x ≡ y = cc in ap (λ (z : Item × Place). z.0) same
+
+-- what the next step over empty texts comes to
+module _ (l : Limits) (self : Reader) (path : Path) (seen : Names) where
+  holds_nothing : (text : List ℕ) (span : Span) (us : Items) → step l self path seen (reading.Parts.Holds text span us) ≡ Some None → ⊥
+  unfolding step
+  holds_nothing text span us h = cc
+
+  holds_item : (in_loop : Bool) (text : List ℕ) (span : Span) (us : Items) (i : Item) (p : Place) → text ≡ [] → step l self path seen (reading.Parts.Holds text span us) ≡ Some (Some (i, p)) → added_by in_loop i ≡ AddsNothing
+  unfolding step
+  holds_item in_loop text span us i p none h =
+      ap (added_by in_loop) (sym (same_first (Single (Text text span), reading.at seen us) (i, p) h)) ∙ ap (λ t. added_by in_loop (Single (Text t span))) none
+
+  pub empty_ends : (ts : Items) → AreEmptyTexts ts → step l self path seen (front ts) ≡ Some None → is_end ts ≡ true
+  empty_ends Ended empty h = refl
+  empty_ends (Failed text span) empty h = absurd empty
+  empty_ends (Token t span items) empty h = absurd (holds_nothing [] span items (subst (λ u. step l self path seen (front_at u span items) ≡ Some None) empty.0 h))
+
+  pub empty_adds : (in_loop : Bool) (ts : Items) (i : Item) (p : Place) → AreEmptyTexts ts → step l self path seen (front ts) ≡ Some (Some (i, p)) → added_by in_loop i ≡ AddsNothing
+  unfolding step
+  empty_adds in_loop Ended i p empty h = cc
+  empty_adds in_loop (Failed text span) i p empty h = absurd empty
+  empty_adds in_loop (Token t span items) i p empty h =
+      holds_item in_loop [] span items i p refl (subst (λ u. step l self path seen (front_at u span items) ≡ Some (Some (i, p))) empty.0 h)
+
+-- what is silent may stand in each phase
+pub silent_turns : (phase : reading.Phase) → turn phase Silent ≡ None → ⊥
+silent_turns reading.Starting h = cc
+silent_turns reading.Standing h = cc
+silent_turns reading.Extending h = cc

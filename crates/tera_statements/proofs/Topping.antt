@@ -1,0 +1,111 @@
+-- How the top level of a template is read.
+use Rattle.std.proofs.Common.{◌≡◌, ◌⊎◌, ◌-◌, ℕ, zero, suc, ◌+◌, ◌<◌, ◌≤◌, Bool, true, false, List, [], ◌∷◌, length, ◌==◌, Option, Some, None, Result, Ok, Err, inl, inr, ⊎_elim, refl, sym, ap, subst, ◌∙◌, arith, is_some}
+use Rattle.std.proofs.Math.Dec.{eqb-suc-zero}
+use Rattle.std.specs.Str.{chars, trim_start}
+use Rattle.tera_base.proofs.Tellings.{tells_weaker}
+use Rattle.tera_base.specs.Errors.{IsMemory, Tells}
+use Rattle.tera_base.specs.declared.errors.Error.{Error}
+use Rattle.tera_base.specs.declared.utils.Span.{Span}
+use Rattle.tera_lexer.specs.code.Cursors.{Passes, Position, size}
+use Rattle.tera_lexer.specs.grammar.Faults.{Covers, EndsIn, EndsWith, Faults}
+use Rattle.tera_lexer.specs.grammar.Place.{IsWithin}
+use Rattle.tera_lexer.specs.grammar.Tokens.{Tok, Items, Ended, Failed, Token}
+use Rattle.tera_tree.specs.Tree.{Output}
+use Rattle.tera_grammar.specs.statements.Expressions.{Limits}
+use Rattle.tera_grammar.specs.statements.Grammar.{Body, Item}
+use Rattle.tera_grammar.specs.statements.Names.{Names, no_names}
+use Rattle.tera_grammar.specs.statements.Output.{added_by}
+use Rattle.tera_grammar.specs.statements.Reading as reading
+use Rattle.tera_grammar.specs.statements.Reading.{Place, at, body, step, template}
+use Rattle.tera_grammar.specs.statements.Reading.Loops as loops
+use Rattle.tera_grammar.specs.statements.Reading.Loops.{turn, weight, with_added}
+use Rattle.tera_grammar.specs.statements.Reading.Parts.{front}
+use Rattle.tera_grammar.proofs.statements.Tops.{template_complete, template_sound}
+use Rattle.tera_grammar.proofs.statements.Loops.{topping_extends, topping_refused, topping_stops}
+use Rattle.tera_grammar.specs.statements.Top.{is_blank, is_empty}
+use Rattle.tera_statements.specs.Kinds.{kind_of}
+use Rattle.tera_expr.specs.Rooms.{AreValid}
+use Rattle.tera_statements.specs.Taking.{Fails, RefusesIn, Took}
+use Rattle.tera_statements.specs.Templates.{Excludes, GivesTemplate, ReadsTemplate, StandsNext, TopOf, below_top, phase_if_any}
+use Rattle.tera_statements.specs.declared.fronts.Front.TheVariants as fronts
+use Rattle.tera_statements.specs.declared.fronts.Opener.TheVariants as openers
+use Rattle.tera_statements.specs.declared.templates.Phase.{Phase}
+use Rattle.tera_statements.specs.declared.outputs.ParserOutput.{ParserOutput}
+use Rattle.tera_statements.proofs.Itemizing.{opens_tag}
+
+-- a body may open
+pub opens : (l : Limits) → AreValid l → l.bodies ≡ suc (below_top l)
+opens l valid = let some : 1 ≤ l.bodies = valid.bodies.0 in omega arith
+
+-- what keeps tokens from being those of a template
+module _ (l : Limits) (valid : AreValid l) (here : Place) (ph : reading.Phase) where
+  pub late_excluded : turn ph loops.Parent ≡ None → fronts.Opens openers.Extends ≡ kind_of (front here.tokens) → Excludes l here ph
+  late_excluded none next = λ ts out g.
+      let there = opens_tag openers.Extends here.tokens next in
+      topping_extends l (below_top l) (opens l valid) ts here out ph g none there.start there.first there.behind there.is
+
+  pub step_excluded : step l (body (below_top l) l) [] here.seen (front here.tokens) ≡ None → Excludes l here ph
+  step_excluded h = λ ts out g. topping_refused l (below_top l) (opens l valid) ts here out ph g h
+
+  pub turn_excluded : (i : Item) (new : Place) → step l (body (below_top l) l) [] here.seen (front here.tokens) ≡ Some (Some (i, new)) → turn ph (weight (added_by false i)) ≡ None → Excludes l here ph
+  turn_excluded i new read none = λ ts out g. topping_stops l (below_top l) (opens l valid) ts here out ph i new (with_added out (added_by false i)) g read refl none
+
+-- no phase is behind
+pub no_phase : (p : Option Phase) (q : Option reading.Phase) → phase_if_any p ≡ q → is_some p ≡ false → q ≡ None
+no_phase None q is h = sym is
+no_phase (Some p) q is h = cc
+
+-- a text of white space
+blank_nothing : (rest : List ℕ) → rest ≡ trim_start [] → (length rest == 0) ≡ true
+unfolding trim_start chars
+blank_nothing rest h = ap (λ r. length r == 0) h
+
+none_left : (rest : List ℕ) → (length rest == 0) ≡ is_empty rest
+none_left [] = refl
+none_left (b ∷ bs) = eqb-suc-zero (length bs)
+
+pub blank_by : (text rest : List ℕ) → rest ≡ trim_start text → (length rest == 0) ≡ is_blank text
+blank_by [] rest h = blank_nothing rest h
+blank_by (b ∷ bs) rest h = none_left rest ∙ ap is_empty h
+
+-- where the last of some tokens ends, one of them ends
+passed : (n : ℕ) (items : Items) (last : Span) (left : Items) (here : Span) → Passes n items last left here → (span : Span) → EndsWith here span → EndsWith last span ⊎ EndsIn items span
+passed zero items last left here (left_is, span_is) span ends = inl (subst (λ s. EndsWith s span) span_is ends)
+passed (suc n) Ended last left here passes span ends = absurd passes
+passed (suc n) (Failed text at) last left here passes span ends = absurd passes
+passed (suc n) (Token t at items) last left here passes span ends = inr (passed n items at left here passes span ends)
+
+some_passed : (n : ℕ) (t : Tok) (first : Span) (items : Items) (last : Span) (left : Items) (here : Span) → Passes n (Token t first items) last left here
+    → size left < size items + 1 → (span : Span) → EndsWith here span → EndsIn (Token t first items) span
+some_passed zero t first items last left here (left_is, span_is) fewer span ends = let same : size left ≡ size items + 1 = ap size left_is in absurd (omega arith)
+some_passed (suc n) t first items last left here passes fewer span ends = passed n items first left here passes span ends
+
+-- a fault from the next token on
+pub covered : (old new : Position) (first span : Span) (text : List ℕ) (e : Error) → Took old new → StandsNext (Some first) old
+    → (IsWithin new.source first → IsWithin new.source span) → span.range.start ≡ first.range.start → EndsWith first span ⊎ EndsWith new.span span → Tells text span e → RefusesIn old e
+unfolding Took RefusesIn
+covered old new first span text e took ((t, behind, is), there) within starts ends told =
+    let inside : IsWithin old.source span = subst (λ source. IsWithin source span) took.0.source (within (subst (λ source. IsWithin source first) (sym took.0.source) there)) in
+    let passes = subst (λ ts. Passes took.0.count ts old.span new.left new.span) is took.0.passes in
+    let fewer = subst (λ ts. size new.left < size ts) is took.1 in
+    let covers : Covers (Token t first behind) span = inl (starts, ⊎_elim (λ here. inl here) (λ there. some_passed took.0.count t first behind old.span new.left new.span passes fewer span there) ends) in
+    tells_weaker (λ words s. (words ≡ text) × (s ≡ span)) (λ words s. IsWithin old.source s × Faults old.left words s) e
+    (λ words s same. subst (λ v. IsWithin old.source v × Faults old.left words v) (sym same.1) (inside, inr (subst (λ ts. Covers ts span) (sym is) covers))) told
+
+-- what is refused of a template of which so much has been read
+pub excluded_fails : (l : Limits) (ts : Items) (here : Place) (out : Output) (ph : reading.Phase) (e : Error) → TopOf l ts here out ph → IsMemory e ⊎ Excludes l here ph → Fails (template l ts) e
+excluded_fails l ts here out ph e top (inl memory) = inl memory
+excluded_fails l ts here out ph e top (inr excludes) = inr (excludes ts out top)
+
+pub fails_excluded : (l : Limits) (here : Place) (ph : reading.Phase) (e : Error) → AreValid l → Fails (step l (body (below_top l) l) [] here.seen (front here.tokens)) e → IsMemory e ⊎ Excludes l here ph
+fails_excluded l here ph e valid (inl memory) = inl memory
+fails_excluded l here ph e valid (inr h) = inr (step_excluded l valid here ph h)
+
+-- what is read of the tokens is what they are
+pub template_given : (l : Limits) (r : Result ParserOutput Error) (ts : Items) → ReadsTemplate l r ts → GivesTemplate l r ts
+template_given l (Ok t) ts (b, read, shows) = (b, template_sound l ts b read, shows)
+template_given l (Err e) ts (inl memory) = inl memory
+template_given l (Err e) ts (inr none) = inr (λ b is. not_read b (sym (template_complete l ts b is) ∙ none))
+  where
+    not_read : (b : Body) → Some b ≡ None → ⊥
+    not_read b h = cc

@@ -1,0 +1,27 @@
+use Rattle.std.proofs.lemmas.Result.{err_from_is_err_and}
+use Rattle.tera_grammar.specs.statements.Expressions.{expression_of}
+use Rattle.tera_grammar.specs.statements.Reading.Parts.{variable_end_of}
+use Rattle.tera_grammar.proofs.statements.Expressions.{ends_expression}
+use Rattle.tera_statements.specs.Reading.{IsExpression}
+use Rattle.tera_expr.specs.Rooms.{limits_of}
+use Rattle.tera_statements.proofs.Following.{follows_none, is_followed, not_followed}
+use Rattle.tera_statements.proofs.Piping.{no_variable_end}
+use Rattle.tera_statements.proofs.closing.shown_expression.Goals as goal
+
+pub returns-in_err-expr-clause-gives : goal.returns-in_err-expr-clause-gives
+returns-in_err-expr-clause-gives c =
+    let read = expression_of (limits_of c.args.setting.now.limits) c.args.in_loop c.args.cursor.now.left in
+    let p = err_from_is_err_and c.from_residual.result c.from_residual.ensures.1 in
+    rw (p.1, p.2) (follows_none ends_expression (IsExpression c.args.in_loop) read variable_end_of no_variable_end _ c.expression.new.cursor.left c.in_err-expr.ensures.gives)
+
+pub returns-in_err-variable_end-clause-gives : goal.returns-in_err-variable_end-clause-gives
+returns-in_err-variable_end-clause-gives c =
+    let read = expression_of (limits_of c.args.setting.now.limits) c.args.in_loop c.args.cursor.now.left in
+    let p = err_from_is_err_and c.from_residual-in_err-variable_end.result c.from_residual-in_err-variable_end.ensures.1 in
+    rw (p.1, p.2) (not_followed ends_expression (IsExpression c.args.in_loop) read variable_end_of no_variable_end c.in_ok-expr.expr _ c.expression.new.cursor.left c.in_ok-expr.ensures.gives c.in_err-variable_end.ensures.gives)
+
+pub returns-clause-gives : goal.returns-clause-gives
+returns-clause-gives c =
+    let read = expression_of (limits_of c.args.setting.now.limits) c.args.in_loop c.args.cursor.now.left in
+    let (f, ended) = c.in_ok-variable_end.ensures.gives in
+    is_followed ends_expression (IsExpression c.args.in_loop) read variable_end_of no_variable_end c.in_ok-expr.expr c.expression.new.cursor.left f c.variable_end.new.cursor.left c.in_ok-expr.ensures.gives ended

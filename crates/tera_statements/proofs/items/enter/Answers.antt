@@ -1,0 +1,6 @@
+use Rattle.std.proofs.lemmas.Result.{err_from_is_err_and}
+use Rattle.tera_statements.proofs.Itemizing.{entered, err_takes, opens_tag}
+use Rattle.tera_statements.proofs.items.enter.Goals as goal
+
+pub returns-clause-enters : goal.returns-clause-enters
+returns-clause-enters c = rw c.in_ok-take-2.ensures.takes.5 (entered _ c.args.cursor.now.left _ _ _ _ _ _ (opens_tag c.args.opener c.args.cursor.now.left c.requires) c.in_ok-take.ensures.takes.1 c.in_ok-take-2.ensures.takes.1)

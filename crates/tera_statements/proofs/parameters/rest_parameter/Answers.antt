@@ -1,0 +1,13 @@
+use Rattle.std.proofs.Common.{◌≡◌, inr, refl}
+use Rattle.tera_statements.specs.Taking.{name_at}
+use Rattle.tera_statements.proofs.parameters.rest_parameter.Goals as goal
+
+pub returns-then-not-eat-clause-gives : goal.returns-then-not-eat-clause-gives
+returns-then-not-eat-clause-gives c =
+    let none = rw c.if-not-eat.true at c.eat.ensures in
+    inr (rw (c.in_ok-name.ensures.gives, none.0) refl)
+
+pub returns-clause-gives : goal.returns-clause-gives
+returns-clause-gives c =
+    let end = rw c.if-not-eat.false at c.eat.ensures in
+    (name_at c.fresh_name.new.cursor.span c.in_ok-name.name, rw (c.in_ok-name.ensures.gives, end.0) refl, c.in_ok-from_str.ensures.ok)

@@ -1,0 +1,59 @@
+use Rattle.std.proofs.Common.{◌≡◌, ◌∙◌, [], false, ap, inr, subst, sym}
+use Rattle.std.proofs.lemmas.Result.{err_from_is_err_and}
+use Rattle.tera_grammar.specs.statements.Reading.{body}
+use Rattle.tera_grammar.specs.statements.Reading.Loops.{turn, weight}
+use Rattle.tera_lexer.specs.code.Cursors.{Position}
+use Rattle.tera_statements.specs.Adding.{here, seen_of}
+use Rattle.tera_expr.specs.Rooms.{limits_of}
+use Rattle.tera_statements.specs.Taking.{Took}
+use Rattle.tera_statements.specs.Templates.{StandsNext, below_top, phase_if_any, phase_of}
+use Rattle.tera_statements.proofs.Refusing.{empty_adds, silent_turns}
+use Rattle.tera_statements.proofs.Topping.{fails_excluded, turn_excluded}
+use Rattle.tera_statements.proofs.templates.next_item.Goals as goal
+
+pub returns-in_err-refuse_extends-clause-gives : goal.returns-in_err-refuse_extends-clause-gives
+returns-in_err-refuse_extends-clause-gives c =
+    let p = err_from_is_err_and c.from_residual.result c.from_residual.ensures.1 in
+    rw (p.1, p.2) (inr (c.in_err-refuse_extends.ensures.excludes (seen_of c.args.names.now)))
+
+pub returns-in_err-added-clause-gives : goal.returns-in_err-added-clause-gives
+returns-in_err-added-clause-gives c =
+    let p = err_from_is_err_and c.from_residual-in_err-added.result c.from_residual-in_err-added.ensures.1 in
+    let fact = rw c.in_ok-refuse_extends.ensures.stays at c.in_err-added.ensures.gives in
+    rw (p.1, p.2) (fails_excluded (limits_of c.args.setting.now.limits) (here c.args.names.now c.args.cursor.now) (phase_of c.args.phase) _ c.args.setting.now.valid fact)
+
+pub returns-in_default-clause-gives : goal.returns-in_default-clause-gives
+returns-in_default-clause-gives c =
+    rw c.in_ok-refuse_extends.ensures.stays at (rw c.in_default.is at c.in_ok-added.ensures.gives)
+
+pub returns-clause-gives : goal.returns-clause-gives
+returns-clause-gives c =
+    let (i, read, shows) = rw c.in_ok-refuse_extends.ensures.stays at (rw c.in-Some.is at c.in_ok-added.ensures.gives) in
+    let turned = ap (turn (phase_of c.args.phase)) (sym (c.weigh.ensures ∙ ap weight shows)) ∙ sym c.behind.ensures ∙ ap phase_if_any c.in-Some-behind.is in
+    (i, read, shows, turned)
+
+pub returns-in_default-behind-clause-gives : goal.returns-in_default-behind-clause-gives
+returns-in_default-behind-clause-gives c =
+    let (i, read, shows) = rw c.in_ok-refuse_extends.ensures.stays at (rw c.in-Some.is at c.in_ok-added.ensures.gives) in
+    let turned = ap (turn (phase_of c.args.phase)) (sym (c.weigh.ensures ∙ ap weight shows)) ∙ sym c.behind.ensures ∙ ap phase_if_any c.in_default-behind.is in
+    inr (turn_excluded (limits_of c.args.setting.now.limits) c.args.setting.now.valid (here c.args.names.now c.args.cursor.now) (phase_of c.args.phase) i _ read turned)
+
+pub returns-in_default-behind-clause-refusal : goal.returns-in_default-behind-clause-refusal
+returns-in_default-behind-clause-refusal c =
+    let took = rw c.in_ok-refuse_extends.ensures.stays at (rw c.in-Some.is at c.in_ok-added.ensures.later) in
+    let stands = rw c.in_ok-refuse_extends.ensures.stays at c.next_place-first.ensures in
+    c.ignored.ensures c.args.cursor.now took stands
+
+pub returns-in_err-added-clause-empty : goal.returns-in_err-added-clause-empty
+returns-in_err-added-clause-empty c =
+    let p = err_from_is_err_and c.from_residual-in_err-added.result c.from_residual-in_err-added.ensures.1 in
+    let refused = rw c.in_ok-refuse_extends.ensures.stays at c.in_err-added.ensures.empty in
+    rw p.1 refused
+
+pub returns-in_default-behind-clause-empty : goal.returns-in_default-behind-clause-empty
+returns-in_default-behind-clause-empty c = λ empty.
+    let l = limits_of c.args.setting.now.limits in
+    let (i, read, shows) = rw c.in_ok-refuse_extends.ensures.stays at (rw c.in-Some.is at c.in_ok-added.ensures.gives) in
+    let nothing = empty_adds l (body (below_top l) l) [] (seen_of c.args.names.now) false c.args.cursor.now.left i _ empty read in
+    let turned = ap (turn (phase_of c.args.phase)) (sym (c.weigh.ensures ∙ ap weight shows)) ∙ sym c.behind.ensures ∙ ap phase_if_any c.in_default-behind.is in
+    silent_turns (phase_of c.args.phase) (ap (λ a. turn (phase_of c.args.phase) (weight a)) (sym nothing) ∙ turned)

@@ -1,0 +1,7 @@
+use Rattle.std.specs.Prelude.{Result, Ok, Err, ◌≡◌, ◌⊎◌}
+use Rattle.tera_expr.specs.Rooms.{limits_of}
+use Rattle.tera_statements.proofs.Topping.{template_given}
+use Rattle.tera_statements.proofs.templates.read_template.Goals as goal
+
+pub returns-clause-gives : goal.returns-clause-gives
+returns-clause-gives c = template_given (limits_of c.args.limits) c.whole.result c.args.cursor.left c.whole.ensures.gives

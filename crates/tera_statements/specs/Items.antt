@@ -1,0 +1,53 @@
+-- The items of bodies, as they are read.
+use Rattle.std.specs.Prelude.{◌≡◌, ℕ, List, [], Option, Some, None, Result, Ok, Err}
+use Rattle.tera_base.specs.declared.errors.Error.{Error}
+use Rattle.tera_lexer.specs.code.Cursors.{Position}
+use Rattle.tera_lexer.specs.grammar.Tokens.{Items, Ended, Failed, Token, Tok, Content}
+use Rattle.tera_grammar.specs.statements.Expressions.{Limits}
+use Rattle.tera_grammar.specs.statements.Grammar.{Item, Path, in_loop}
+use Rattle.tera_grammar.specs.statements.Names.{Names}
+use Rattle.tera_grammar.specs.statements.Parts.{Edge, Opener}
+use Rattle.tera_grammar.specs.statements.Reading.{Place, Reader, at, body, step}
+use Rattle.tera_grammar.specs.statements.Reading.Parts.{Front, Opens, front}
+use Rattle.tera_statements.specs.Adding.{GivesItem, IsAdded}
+use Rattle.tera_statements.specs.Around.{Stands}
+use Rattle.tera_statements.specs.Taking.{Fails, Took}
+use Rattle.tera_statements.specs.declared.added.Added.{Added}
+use Rattle.tera_statements.specs.declared.around.Around.{Around}
+
+-- the next item of a body, or none
+abbrev pub GivesStep : Path → Result (Option Added) Error → Place → Place → Option (Option (Item × Place)) → Type 0
+GivesStep path (Ok None) new old read = (read ≡ Some None) × (new ≡ old)
+GivesStep path (Ok (Some a)) new old read = GivesItem (in_loop path) (Ok a) new read
+GivesStep path (Err e) new old read = Fails read e
+
+abbrev pub GivesNext : Limits → ℕ → Around → Result (Option Added) Error → Place → Place → Type 0
+GivesNext l below around r new old = (path : Path) → Stands path around → GivesStep path r new old (step l (body below l) path old.seen (front old.tokens))
+
+-- tokens were taken where there is an item
+abbrev pub GoesByItem : {A : Type 0} → Result (Option A) Error → Position → Position → Type 0
+GoesByItem (Ok None) old new = new ≡ old
+GoesByItem (Ok (Some a)) old new = Took old new
+GoesByItem (Err e) old new = Unit {0}
+
+-- the text of a token that is one
+abbrev pub text_in : Tok → List ℕ
+text_in (Content text) = text
+text_in t = []
+
+-- a text, and an expression that is shown, which tokens with this front begin with
+abbrev pub GivesText : Result Added Error → Items → Front → Type 0
+GivesText r new fr = (l : Limits) (self : Reader) (path : Path) (seen : Names) → GivesItem (in_loop path) r (at seen new) (step l self path seen fr)
+
+abbrev pub GivesShown : Limits → Around → Result Added Error → Items → Front → Type 0
+GivesShown l around r new fr = (self : Reader) (path : Path) → Stands path around → (seen : Names) → GivesItem (in_loop path) r (at seen new) (step l self path seen fr)
+
+-- empty texts alone, as comments are
+abbrev pub AreEmptyTexts : Items → Type 0
+AreEmptyTexts Ended = Unit {0}
+AreEmptyTexts (Failed text span) = ⊥
+AreEmptyTexts (Token t span items) = (t ≡ Content []) × AreEmptyTexts items
+
+-- the start of a tag and its first token were taken
+abbrev pub Enters : Opener → Items → Position → Type 0
+Enters o old new = (start : Edge) × (front old ≡ Opens o start new.span new.left)

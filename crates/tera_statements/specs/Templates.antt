@@ -1,0 +1,79 @@
+-- Whole templates, as they are read.
+use Rattle.std.specs.Prelude.{◌≡◌, ◌⊎◌, ◌-◌, ℕ, [], false, Option, Some, None, Result, Ok, Err}
+use Rattle.tera_base.specs.Errors.{IsMemory}
+use Rattle.tera_base.specs.declared.errors.Error.{Error}
+use Rattle.tera_base.specs.declared.utils.Span.{Span}
+use Rattle.tera_lexer.specs.code.Cursors.{FirstStandsAt, Position}
+use Rattle.tera_lexer.specs.grammar.Place.{IsWithin}
+use Rattle.tera_lexer.specs.grammar.Tokens.{Items}
+use Rattle.tera_tree.specs.Tree.{Output}
+use Rattle.tera_grammar.specs.statements.Expressions.{Limits}
+use Rattle.tera_grammar.specs.statements.Grammar.{Body, Item}
+use Rattle.tera_grammar.specs.statements.Names.{no_names}
+use Rattle.tera_grammar.specs.statements.Output.{added_by, output_of}
+use Rattle.tera_grammar.specs.statements.Reading as reading
+use Rattle.tera_grammar.specs.statements.Reading.{Place, at, body, step, template}
+use Rattle.tera_grammar.specs.statements.Reading.Loops as loops
+use Rattle.tera_grammar.specs.statements.Reading.Loops.{Topping, turn, weight}
+use Rattle.tera_grammar.specs.statements.Reading.Parts.{front}
+use Rattle.tera_grammar.specs.statements.Top.{IsTemplate}
+use Rattle.tera_statements.specs.Adding.{IsAdded}
+use Rattle.tera_statements.specs.Taking.{Fails}
+use Rattle.tera_statements.specs.declared.added.Added.{Added}
+use Rattle.tera_statements.specs.Outputs.{output_view}
+use Rattle.tera_statements.specs.declared.outputs.ParserOutput.{ParserOutput}
+use Rattle.tera_statements.specs.declared.templates.Phase.{Phase}
+use Rattle.tera_statements.specs.declared.templates.Phase.TheVariants.{Starting, Standing, Extending}
+use Rattle.tera_statements.specs.declared.templates.Weight.{Weight}
+use Rattle.tera_statements.specs.declared.templates.Weight.TheVariants.{Silent, Kept, Parent, Other}
+
+abbrev pub phase_of : Phase → reading.Phase
+phase_of Starting = reading.Starting
+phase_of Standing = reading.Standing
+phase_of Extending = reading.Extending
+
+abbrev pub weight_of : Weight → loops.Weight
+weight_of Silent = loops.Silent
+weight_of Kept = loops.Kept
+weight_of Parent = loops.Parent
+weight_of Other = loops.Other
+
+-- the phase behind, where there is one
+abbrev pub phase_if_any : Option Phase → Option reading.Phase
+phase_if_any None = None
+phase_if_any (Some p) = Some (phase_of p)
+
+-- how many bodies may open inside of the items of a template
+abbrev pub below_top : Limits → ℕ
+below_top l = l.bodies - 1
+
+-- so much of the tokens has been read, and what has been read so far comes to this
+abbrev pub TopOf : Limits → Items → Place → Output → reading.Phase → Type 0
+TopOf l ts here out ph = Topping l (below_top l) (at no_names ts) here out ph
+
+-- no tokens of which so much has been read are those of a template
+abbrev pub Excludes : Limits → Place → reading.Phase → Type 0
+Excludes l here ph = (ts : Items) (out : Output) → TopOf l ts here out ph → template l ts ≡ None
+
+-- the next item of the top level, and the phase behind it; or none is left
+abbrev pub GivesTop : Limits → Phase → Result (Option (Added × Phase)) Error → Place → Place → Type 0
+GivesTop l ph (Ok None) new old = (step l (body (below_top l) l) [] old.seen (front old.tokens) ≡ Some None) × (new ≡ old)
+GivesTop l ph (Ok (Some a)) new old =
+    (i : Item) × (step l (body (below_top l) l) [] old.seen (front old.tokens) ≡ Some (Some (i, new))) × IsAdded false a.0 i
+    × (turn (phase_of ph) (weight (added_by false i)) ≡ Some (phase_of a.1))
+GivesTop l ph (Err e) new old = IsMemory e ⊎ Excludes l old (phase_of ph)
+
+-- the template that the tokens are read as
+abbrev pub ReadsTemplate : Limits → Result ParserOutput Error → Items → Type 0
+ReadsTemplate l (Ok t) items = (b : Body) × (template l items ≡ Some b) × (output_view t ≡ output_of b)
+ReadsTemplate l (Err e) items = Fails (template l items) e
+
+-- the template that the tokens are, within the limits; or no memory was found, or they are none
+abbrev pub GivesTemplate : Limits → Result ParserOutput Error → Items → Type 0
+GivesTemplate l (Ok t) items = (b : Body) × IsTemplate l items b × (output_view t ≡ output_of b)
+GivesTemplate l (Err e) items = IsMemory e ⊎ ((b : Body) → IsTemplate l items b → ⊥)
+
+-- where the next token stands, if it is shown
+abbrev pub StandsNext : Option Span → Position → Type 0
+StandsNext None p = Unit {0}
+StandsNext (Some s) p = FirstStandsAt p.left s × IsWithin p.source s

@@ -1,0 +1,140 @@
+//! Blocks, and the definitions of components.
+
+ghost use Rattle.std.specs.Prelude.{IfErr, IfOk, ◌≡◌, ◌⊎◌, ◌++◌, ◌∷◌, [], false, true};
+ghost use Rattle.std.specs.Str.{bytes_eq};
+ghost use Rattle.tera_base.specs.Errors.{IsMemory};
+ghost use Rattle.tera_expr.specs.Rooms.{limits_of};
+ghost use Rattle.tera_grammar.specs.statements.Reading as reading;
+ghost use Rattle.tera_grammar.specs.statements.Reading.{block_end, block_of, component_def_of};
+ghost use Rattle.tera_grammar.specs.statements.Parts.{Name};
+ghost use Rattle.tera_statements.specs.Adding.{AddsBy, here, seen_of};
+ghost use Rattle.tera_statements.specs.Blocks.{IsName, new_block_of};
+ghost use Rattle.tera_statements.specs.Known.{names_of};
+ghost use Rattle.tera_statements.specs.Taking.{GivesBy, Passes, Refuses, Took};
+
+use crate::added::{Added, Names};
+use crate::around::{Around, Context, Opening};
+use crate::bodies::body;
+use crate::components::{closing_tag, opening_tag};
+use crate::faults::{renamed, reported};
+use crate::fixed::{eat_name, name};
+use crate::fronts::Closer;
+use crate::names::{Known, keep_name, place_of};
+use crate::parts::{closed, finish};
+use crate::settings::Setting;
+use crate::simple::{check_block, check_outermost};
+use std::alloc::Global;
+use tera_base::{Error, Span, Spanned};
+use tera_lexer::Cursor;
+use tera_tree::{ComponentDefinition, build};
+
+/// Reads the rest of a block, whose word was taken last.
+#[cycle(bodies)]
+#[tactic(auto, using(crate::proofs::Going::took_all, crate::proofs::Going::took_further, crate::proofs::Going::goes_took, crate::proofs::Going::refused_behind, crate::proofs::Going::refused_further, crate::proofs::Going::memory_refused))]
+pub(crate) fn block(
+    setting: &Setting<'_>,
+    cursor: &mut Cursor<'_>,
+    names: &mut Names,
+    around: &Around,
+    below: usize,
+) -> Result<Added, Error>
+    ensures gives { AddsBy around.now result (here names.new cursor.new) (λ path start. block_of (reading.body below (limits_of setting.now.limits)) path start cursor.old.span (seen_of names.old) cursor.old.left) }
+    ensures refusal { IfErr result (Refuses cursor.old) }
+    ensures later { IfOk result (λ _. Took cursor.old cursor.new) }
+{
+    let opening = Opening {
+        context: Context::Block,
+        at: cursor.current_span().copied(),
+    };
+    check_block(setting, cursor, around)?;
+    let (name, span) = new_block(setting, cursor, &mut names.blocks)?;
+    finish(setting.alloc, cursor)?;
+    let inside = body(setting, cursor, names, around, &opening, below)?;
+    block_end(setting, cursor, name)?;
+    let name = String::from_str(setting.alloc, name)?;
+    let name = Spanned::new(setting.alloc, name, span)?;
+    Ok(Added::Node(build::block(name, inside)))
+}
+
+// The name of a block that the template does not have yet, and where it stands. It is kept.
+#[tactic(auto, using(crate::proofs::Going::refused_behind, crate::proofs::Going::memory_refused))]
+fn new_block<'a>(
+    setting: &Setting<'_>,
+    cursor: &mut Cursor<'a>,
+    blocks: &mut Known,
+) -> Result<(&'a str, Span), Error>
+    ensures gives { GivesBy IsName result cursor.new.left (new_block_of (names_of blocks.old.entries) cursor.old.left) }
+    ensures kept { IfOk result (λ n. names_of blocks.new.entries ≡ names_of blocks.old.entries ++ n.0.now ∷ []) }
+    ensures refusal { IfErr result (Refuses cursor.old) }
+    ensures later { IfOk result (λ _. Took cursor.old cursor.new) }
+{
+    let name = name(setting.alloc, cursor)?;
+    if place_of(blocks, name).is_some() {
+        let message = format!(in setting.alloc; "Template already contains a block named `{name}`");
+        return Err(reported(setting.alloc, cursor, message));
+    }
+    keep_name(setting.alloc, blocks, name, cursor.current_span())?;
+    Ok((name, cursor.current_span().copied()))
+}
+
+// The closing tag of the block with this name.
+#[tactic(auto, using(crate::proofs::Going::took_all, crate::proofs::Going::took_further, crate::proofs::Going::refused_behind, crate::proofs::Going::refused_further))]
+fn block_end(setting: &Setting<'_>, cursor: &mut Cursor<'_>, name: &str) -> Result<(), Error>
+    ensures gives { (n : Name) → n.text ≡ name.now → Passes result cursor.new.left (block_end n cursor.old.left) }
+    ensures refusal { IfErr result (Refuses cursor.old) }
+    ensures later { IfOk result (λ _. Took cursor.old cursor.new) }
+{
+    closed(setting.alloc, cursor, Closer::EndBlock)?;
+    match eat_name(cursor) {
+        Some(end) => {
+            check_name(setting.alloc, cursor, name, end)?;
+            finish(setting.alloc, cursor)
+        }
+        None => finish(setting.alloc, cursor),
+    }
+}
+
+// Refuses a closing tag of another name, which was taken last.
+fn check_name(alloc: Global, cursor: &Cursor<'_>, name: &str, end: &str) -> Result<(), Error>
+    ensures same { IfOk result (λ _. bytes_eq end.now name.now ≡ true) }
+    ensures fails { IfErr result (λ e. IsMemory e ⊎ (bytes_eq end.now name.now ≡ false)) }
+    ensures refusal { IfErr result (Refuses cursor.now) }
+{
+    if end == name {
+        Ok(())
+    } else {
+        Err(renamed(alloc, cursor, "block", name, end))
+    }
+}
+
+/// Reads the rest of the definition of a component, whose word was taken last.
+#[cycle(bodies)]
+#[tactic(auto, using(crate::proofs::Going::took_all, crate::proofs::Going::took_further, crate::proofs::Going::goes_took, crate::proofs::Going::refused_behind, crate::proofs::Going::refused_further))]
+pub(crate) fn definition(
+    setting: &Setting<'_>,
+    cursor: &mut Cursor<'_>,
+    names: &mut Names,
+    around: &Around,
+    below: usize,
+) -> Result<Added, Error>
+    ensures gives { AddsBy around.now result (here names.new cursor.new) (λ path start. component_def_of (limits_of setting.now.limits) (reading.body below (limits_of setting.now.limits)) path start cursor.old.span (seen_of names.old) cursor.old.left) }
+    ensures refusal { IfErr result (Refuses cursor.old) }
+    ensures later { IfOk result (λ _. Took cursor.old cursor.new) }
+{
+    let opening = Opening {
+        context: Context::Definition,
+        at: cursor.current_span().copied(),
+    };
+    let text = "Component definitions cannot be written in another tag.";
+    check_outermost(setting, cursor, around, text)?;
+    let opened = opening_tag(setting, cursor, &mut names.components)?;
+    let inside = body(setting, cursor, names, around, &opening, below)?;
+    closing_tag(setting.alloc, cursor, opened.name.as_str())?;
+    Ok(Added::Definition(ComponentDefinition {
+        name: opened.name,
+        kwargs: opened.parameters.arguments,
+        rest_param_name: opened.parameters.rest,
+        metadata: opened.metadata,
+        body: inside,
+    }))
+}

@@ -1,0 +1,230 @@
+//! The statements that take their body as a value.
+
+ghost use Rattle.std.specs.Prelude.{◌≡◌, ◌⊎◌, IfErr, IfOk, false, true};
+ghost use Rattle.std.specs.Str.{bytes_eq};
+ghost use Rattle.tera_base.specs.Errors.{IsMemory};
+ghost use Rattle.tera_expr.specs.Rooms.{limits_of};
+ghost use Rattle.tera_grammar.specs.statements.Expressions.{ComponentName, component_of, component_text};
+ghost use Rattle.tera_grammar.specs.statements.Grammar.{Path, in_loop};
+ghost use Rattle.tera_grammar.specs.statements.Reading as reading;
+ghost use Rattle.tera_grammar.specs.statements.Reading.{call_end, call_of, section_of, set_of};
+ghost use Rattle.tera_statements.specs.Adding.{AddsBy, here, seen_of};
+ghost use Rattle.tera_statements.specs.Captures.{GivesSetBody, GivesSetValue, IsCallEnd, IsNoBody};
+ghost use Rattle.tera_statements.specs.Reading.{IsComponent};
+ghost use Rattle.tera_statements.specs.Taking.{GivesBy, Refuses, Took};
+ghost use Rattle.tera_tree.specs.Tree as tree;
+ghost use Rattle.tera_tree.specs.View.{expression_view, node_view};
+
+use crate::added::{Added, Names};
+use crate::around::{Around, Context, Opening};
+use crate::bodies::body;
+use crate::closing::{closed_attributes, closed_expression};
+use crate::expressions::component_name;
+use crate::faults::{fault, reported};
+use crate::fixed::{Fixed, begins, begins_name, eat, expect};
+use crate::fronts::Closer;
+use crate::heads::{closed_filters, section_filters};
+use crate::parts::{closed, closed_tag, finish, free_name, spanning};
+use crate::settings::Setting;
+use std::alloc::Global;
+use tera_base::{Error, Span};
+use tera_lexer::{Cursor, Token};
+use tera_tree::{Expression, Node, build};
+
+/// A variable that is set, for the whole template or not.
+#[derive(Clone, Copy)]
+pub(crate) struct Variable<'a> {
+    pub name: &'a str,
+    pub global: bool,
+}
+
+/// Reads the rest of a `set` or a `set_global`, whose word was taken last.
+#[cycle(bodies)]
+#[tactic(auto, using(crate::proofs::Going::took_all, crate::proofs::Going::refused_behind))]
+pub(crate) fn set(
+    setting: &Setting<'_>,
+    cursor: &mut Cursor<'_>,
+    names: &mut Names,
+    around: &Around,
+    global: bool,
+    below: usize,
+) -> Result<Added, Error>
+    ensures gives { AddsBy around.now result (here names.new cursor.new) (λ path start. set_of (limits_of setting.now.limits) (reading.body below (limits_of setting.now.limits)) path global start cursor.old.span (seen_of names.old) cursor.old.left) }
+    ensures refusal { IfErr result (Refuses cursor.old) }
+    ensures later { IfOk result (λ _. Took cursor.old cursor.new) }
+{
+    let opening = Opening {
+        context: Context::Set,
+        at: cursor.current_span().copied(),
+    };
+    let name = free_name(setting.alloc, cursor, "assigned to.")?;
+    let variable = Variable { name, global };
+    if eat(cursor, Fixed::Assign) {
+        return set_value(setting, cursor, around, variable);
+    }
+    set_body(setting, cursor, names, around, &opening, variable, below)
+}
+
+// The value of a variable, behind the equals sign, which was taken last.
+#[tactic(auto, using(crate::proofs::Going::took_all, crate::proofs::Going::refused_behind, crate::proofs::Going::memory_refused))]
+fn set_value(
+    setting: &Setting<'_>,
+    cursor: &mut Cursor<'_>,
+    around: &Around,
+    variable: Variable<'_>,
+) -> Result<Added, Error>
+    ensures gives { GivesSetValue (limits_of setting.now.limits) around.now variable.entry.name.now variable.entry.global result cursor.new cursor.old }
+    ensures refusal { IfErr result (Refuses cursor.old) }
+    ensures later { IfOk result (λ _. Took cursor.old cursor.new) }
+{
+    let value = closed_expression(setting, cursor, around.in_loop)?;
+    let name = String::from_str(setting.alloc, variable.name)?;
+    Ok(Added::Node(build::set(name, value, variable.global)))
+}
+
+// The filters and the body that a variable takes, behind its name.
+#[cycle(bodies)]
+#[tactic(auto, using(crate::proofs::Going::took_all, crate::proofs::Going::took_further, crate::proofs::Going::goes_took, crate::proofs::Going::refused_behind, crate::proofs::Going::refused_further, crate::proofs::Going::memory_refused))]
+fn set_body(
+    setting: &Setting<'_>,
+    cursor: &mut Cursor<'_>,
+    names: &mut Names,
+    around: &Around,
+    opening: &Opening,
+    variable: Variable<'_>,
+    below: usize,
+) -> Result<Added, Error>
+    ensures gives { GivesSetBody (limits_of setting.now.limits) below around.now opening.now.context variable.entry.name.now variable.entry.global result (here names.new cursor.new) (here names.old cursor.old) }
+    ensures refusal { IfErr result (Refuses cursor.old) }
+    ensures later { IfOk result (λ _. Took cursor.old cursor.new) }
+{
+    check_set(setting.alloc, cursor)?;
+    let filters = closed_filters(setting, cursor, around.in_loop, Vec::new(setting.alloc))?;
+    let inside = body(setting, cursor, names, around, opening, below)?;
+    closed_tag(setting.alloc, cursor, Closer::EndSet)?;
+    let name = String::from_str(setting.alloc, variable.name)?;
+    Ok(Added::Node(build::block_set(name, filters, inside, variable.global)))
+}
+
+// Refuses what begins neither filters nor a body.
+fn check_set(alloc: Global, cursor: &Cursor<'_>) -> Result<(), Error>
+    ensures fails { IfErr result (IsNoBody cursor.now.left) }
+    ensures refusal { IfErr result (Refuses cursor.now) }
+{
+    match cursor.first() {
+        Some(Token::Pipe | Token::TagEnd(_)) => Ok(()),
+        _ => Err(fault(
+            alloc,
+            cursor,
+            "Invalid syntax for `set`: expecting an `=` followed by an expression or a `%}`",
+        )),
+    }
+}
+
+/// Reads the rest of a filter section, whose word was taken last.
+#[cycle(bodies)]
+#[tactic(auto, using(crate::proofs::Going::took_all, crate::proofs::Going::took_further, crate::proofs::Going::goes_took, crate::proofs::Going::refused_behind, crate::proofs::Going::refused_further, crate::proofs::Going::memory_refused))]
+pub(crate) fn section(
+    setting: &Setting<'_>,
+    cursor: &mut Cursor<'_>,
+    names: &mut Names,
+    around: &Around,
+    below: usize,
+) -> Result<Added, Error>
+    ensures gives { AddsBy around.now result (here names.new cursor.new) (λ path start. section_of (limits_of setting.now.limits) (reading.body below (limits_of setting.now.limits)) path start cursor.old.span (seen_of names.old) cursor.old.left) }
+    ensures refusal { IfErr result (Refuses cursor.old) }
+    ensures later { IfOk result (λ _. Took cursor.old cursor.new) }
+{
+    let opening = Opening {
+        context: Context::Filter,
+        at: cursor.current_span().copied(),
+    };
+    let filters = section_filters(setting, cursor, around.in_loop)?;
+    let inside = body(setting, cursor, names, around, &opening, below)?;
+    closed_tag(setting.alloc, cursor, Closer::EndFilter)?;
+    Ok(Added::Node(build::filter_section(filters, inside)))
+}
+
+/// Reads the rest of a call of a component, whose `<` was taken last.
+#[cycle(bodies)]
+#[tactic(auto, using(crate::proofs::Going::took_all, crate::proofs::Going::took_further, crate::proofs::Going::goes_took, crate::proofs::Going::refused_behind, crate::proofs::Going::refused_further, crate::proofs::Going::memory_refused))]
+pub(crate) fn call(
+    setting: &Setting<'_>,
+    cursor: &mut Cursor<'_>,
+    names: &mut Names,
+    around: &Around,
+    below: usize,
+) -> Result<Added, Error>
+    ensures gives { AddsBy around.now result (here names.new cursor.new) (λ path start. call_of (limits_of setting.now.limits) (reading.body below (limits_of setting.now.limits)) path start cursor.old.span (seen_of names.old) cursor.old.left) }
+    ensures refusal { IfErr result (Refuses cursor.old) }
+    ensures later { IfOk result (λ _. Took cursor.old cursor.new) }
+{
+    let opening = Opening {
+        context: Context::Call,
+        at: cursor.current_span().copied(),
+    };
+    let name = called_name(setting.alloc, cursor)?;
+    let attributes = closed_attributes(setting, cursor, around.in_loop)?;
+    finish(setting.alloc, cursor)?;
+    let inside = body(setting, cursor, names, around, &opening, below)?;
+    let last = call_end(setting.alloc, cursor, name.as_str())?;
+    let span = spanning(&opening.at, &last);
+    let call = build::component_call(setting.alloc, name, attributes, inside, false, span)?;
+    Ok(Added::Node(shown_node(call)))
+}
+
+/// The node of an expression that is shown.
+pub(crate) fn shown_node(expr: Expression) -> Node
+    ensures { node_view result ≡ tree.Shown (expression_view expr) }
+{
+    Node::Expression(expr)
+}
+
+// The name of a component behind the `<` of a tag, which was taken last.
+fn called_name(alloc: Global, cursor: &mut Cursor<'_>) -> Result<String, Error>
+    ensures gives { GivesBy IsComponent result cursor.new.left (component_of cursor.old.left) }
+    ensures refusal { IfErr result (Refuses cursor.old) }
+    ensures later { IfOk result (λ _. Took cursor.old cursor.new) }
+{
+    if !begins_name(cursor) {
+        return Err(fault(
+            alloc,
+            cursor,
+            "Found `<` but expected identifier after it for XML component call.",
+        ));
+    }
+    component_name(alloc, cursor)
+}
+
+// The closing tag of a call of the component with this name, and where its `>` stands.
+#[tactic(auto, using(crate::proofs::Going::took_all, crate::proofs::Going::refused_behind))]
+fn call_end(alloc: Global, cursor: &mut Cursor<'_>, name: &str) -> Result<Span, Error>
+    ensures gives { (n : ComponentName) → component_text n ≡ name.now → GivesBy IsCallEnd result cursor.new.left (call_end n cursor.old.left) }
+    ensures refusal { IfErr result (Refuses cursor.old) }
+    ensures later { IfOk result (λ _. Took cursor.old cursor.new) }
+{
+    if cursor.at_end() {
+        let message = format!(in alloc; "Unclosed component '{name}'");
+        return Err(reported(alloc, cursor, message));
+    }
+    closed(alloc, cursor, Closer::EndCall)?;
+    let end = component_name(alloc, cursor)?;
+    check_call_name(alloc, cursor, name, end.as_str())?;
+    expect(alloc, cursor, Fixed::GreaterThan)?;
+    let last = cursor.current_span().copied();
+    finish(alloc, cursor)?;
+    Ok(last)
+}
+
+// Refuses a closing tag of another name, which was taken last.
+fn check_call_name(alloc: Global, cursor: &Cursor<'_>, name: &str, end: &str) -> Result<(), Error>
+    ensures same { IfOk result (λ _. bytes_eq end.now name.now ≡ true) }
+    ensures fails { IfErr result (λ e. IsMemory e ⊎ (bytes_eq end.now name.now ≡ false)) }
+    ensures refusal { IfErr result (Refuses cursor.now) }
+{
+    if end == name {
+        return Ok(());
+    }
+    let message = format!(in alloc; "Closing tag '{end}' doesn't match opening tag '{name}'");
+    Err(reported(alloc, cursor, message))
+}

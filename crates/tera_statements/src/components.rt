@@ -1,0 +1,170 @@
+//! The tags of a component's definition.
+
+ghost use Rattle.std.specs.Prelude.{◌≡◌, ◌++◌, ◌∷◌, [], IfErr, IfOk, OnOk, map, string_bytes};
+ghost use Rattle.tera_base.specs.Errors.{IsMemory};
+ghost use Rattle.tera_base.specs.ValueView.{pairs_view, value_view};
+ghost use Rattle.tera_base.specs.declared.utils.Span.{Span};
+ghost use Rattle.tera_expr.specs.Rooms.{limits_of};
+ghost use Rattle.tera_grammar.specs.expressions.Marks.{LeftBrace};
+ghost use Rattle.tera_grammar.specs.expressions.Reading.Front.{begins};
+ghost use Rattle.tera_grammar.specs.statements.Components.{put_pairs};
+ghost use Rattle.tera_grammar.specs.statements.Types.{put_name};
+ghost use Rattle.tera_grammar.specs.statements.Expressions.{component_text};
+ghost use Rattle.tera_grammar.specs.statements.Parts.{Edge};
+ghost use Rattle.tera_grammar.specs.statements.Reading.Components as reading;
+ghost use Rattle.tera_grammar.specs.statements.Reading.Components.{ending_of, metadata_in, opened_of};
+ghost use Rattle.tera_statements.specs.Components.{IsOpened, agreeing_name, new_component_of};
+ghost use Rattle.tera_statements.specs.Known.{names_of};
+ghost use Rattle.tera_statements.specs.Parameters.{IsMetadata};
+ghost use Rattle.tera_statements.specs.Reading.{IsComponent};
+ghost use Rattle.tera_statements.specs.Taking.{GivesBy, GoesOn, Passes, Refuses, Took};
+ghost use Rattle.tera_tree.specs.Definitions.{named_value};
+
+use crate::expressions::{component_name, literal_map};
+use crate::faults::{noted, renamed, reported};
+use crate::fixed::{Fixed, begins, begins_name, expect};
+use crate::fronts::Closer;
+use crate::names::{Known, keep_name, place_of};
+use crate::parameters::{Parameters, read_parameters};
+use crate::parts::{closed, finish};
+use crate::settings::Setting;
+use std::alloc::{AllocError, Global};
+use std::collections::BTreeMap;
+use tera_base::{Error, Map, Span, Value};
+use tera_lexer::Cursor;
+
+/// What the opening tag of a component's definition says.
+#[derive(Drop)]
+pub(crate) struct Opened {
+    pub name: String,
+    pub parameters: Parameters,
+    pub metadata: BTreeMap<String, Value>,
+}
+
+/// Reads the opening tag of a component's definition, behind its first word. The name is kept.
+#[tactic(auto, using(crate::proofs::Going::took_all, crate::proofs::Going::took_further, crate::proofs::Going::goes_took, crate::proofs::Going::refused_behind, crate::proofs::Going::refused_further))]
+pub(crate) fn opening_tag(
+    setting: &Setting<'_>,
+    cursor: &mut Cursor<'_>,
+    seen: &mut Known,
+) -> Result<Opened, Error>
+    ensures gives { GivesBy IsOpened result cursor.new.left (opened_of (limits_of setting.now.limits) (names_of seen.old.entries) cursor.old.left) }
+    ensures kept { IfOk result (λ o. names_of seen.new.entries ≡ names_of seen.old.entries ++ string_bytes o.name ∷ []) }
+    ensures refusal { IfErr result (Refuses cursor.old) }
+    ensures later { IfOk result (λ _. Took cursor.old cursor.new) }
+{
+    let name = new_component(setting, cursor, seen)?;
+    expect(setting.alloc, cursor, Fixed::LeftParen)?;
+    let parameters = read_parameters(setting, cursor)?;
+    let metadata = metadata(setting, cursor)?;
+    finish(setting.alloc, cursor)?;
+    Ok(Opened {
+        name,
+        parameters,
+        metadata,
+    })
+}
+
+// The name of a component that the template did not define before. It is kept.
+#[tactic(auto, using(crate::proofs::Going::refused_behind, crate::proofs::Going::memory_refused))]
+fn new_component(
+    setting: &Setting<'_>,
+    cursor: &mut Cursor<'_>,
+    seen: &mut Known,
+) -> Result<String, Error>
+    ensures gives { GivesBy IsComponent result cursor.new.left (new_component_of (names_of seen.old.entries) cursor.old.left) }
+    ensures kept { IfOk result (λ s. names_of seen.new.entries ≡ names_of seen.old.entries ++ string_bytes s ∷ []) }
+    ensures refusal { IfErr result (Refuses cursor.old) }
+    ensures later { IfOk result (λ _. Took cursor.old cursor.new) }
+{
+    let name = component_name(setting.alloc, cursor)?;
+    if let Some(first) = place_of(seen, name.as_str()) {
+        return Err(known(setting, cursor, name.as_str(), first));
+    }
+    keep_name(setting.alloc, seen, name.as_str(), cursor.current_span())?;
+    Ok(name)
+}
+
+// That a component of the name, which was taken last, was defined before at the span.
+#[tactic(auto, using(crate::proofs::Going::same_refused))]
+fn known(setting: &Setting<'_>, cursor: &Cursor<'_>, name: &str, first: &Span) -> Error
+    ensures { Refuses cursor.now result }
+{
+    let message = format!(in setting.alloc; "Template already contains a component named `{name}`");
+    let error = reported(setting.alloc, cursor, message);
+    noted(error, "first defined here", first)
+}
+
+// The metadata of a component, where a map stands there.
+#[tactic(auto, using(crate::proofs::Going::took_goes, crate::proofs::Going::stays, crate::proofs::Going::memory_refused))]
+fn metadata(
+    setting: &Setting<'_>,
+    cursor: &mut Cursor<'_>,
+) -> Result<BTreeMap<String, Value>, Error>
+    ensures gives { GivesBy (λ m x. IsMetadata m.entries x) result cursor.new.left (metadata_in (limits_of setting.now.limits) cursor.old.left (begins LeftBrace cursor.old.left)) }
+    ensures refusal { IfErr result (Refuses cursor.old) }
+    ensures later { IfOk result (λ _. GoesOn cursor.old cursor.new) }
+{
+    if !begins(cursor, Fixed::LeftBrace) {
+        return Ok(BTreeMap::new(setting.alloc));
+    }
+    let value = literal_map(setting.alloc, cursor, "component metadata", setting.limits)?;
+    match value.as_map() {
+        Some(pairs) => Ok(by_text(setting.alloc, pairs)?),
+        None => Ok(BTreeMap::new(setting.alloc)),
+    }
+}
+
+// The values of a map by the texts of their keys; of two keys with one text the later wins.
+fn by_text(alloc: Global, pairs: &Map) -> Result<BTreeMap<String, Value>, AllocError>
+    ensures { IfOk result (λ m. map named_value m.entries ≡ put_pairs (pairs_view pairs.now) []) }
+{
+    let mut values = BTreeMap::new(alloc);
+    'pairs: for (key, value) in pairs.iter() {
+        let text = key.to_string(alloc)?;
+        put_value(&mut values, text, value.clone()?)?;
+    }
+    Ok(values)
+}
+
+// Puts a value to those that are there.
+fn put_value(
+    values: &mut BTreeMap<String, Value>,
+    name: String,
+    value: Value,
+) -> Result<(), AllocError>
+    ensures { OnOk result (map named_value values.new.entries ≡ put_name (string_bytes name) (value_view value) (map named_value values.old.entries)) }
+{
+    let _before = values.insert(name, value)?;
+    Ok(())
+}
+
+/// Reads the closing tag of the definition of the component with this name.
+#[tactic(auto, using(crate::proofs::Going::took_all, crate::proofs::Going::took_further, crate::proofs::Going::refused_behind, crate::proofs::Going::refused_further))]
+pub(crate) fn closing_tag(alloc: Global, cursor: &mut Cursor<'_>, name: &str) -> Result<(), Error>
+    ensures gives { (start : Edge) (first : Span) (o : reading.Opened) → component_text o.name ≡ name.now → Passes result cursor.new.left (ending_of start first o cursor.old.left) }
+    ensures refusal { IfErr result (Refuses cursor.old) }
+    ensures later { IfOk result (λ _. Took cursor.old cursor.new) }
+{
+    closed(alloc, cursor, Closer::EndComponent)?;
+    end_name(alloc, cursor, name)?;
+    finish(alloc, cursor)
+}
+
+// The name at the end of a definition, where one stands there; it has to be that of the component.
+#[tactic(auto, using(crate::proofs::Going::took_goes, crate::proofs::Going::stays, crate::proofs::Going::refused_behind))]
+fn end_name(alloc: Global, cursor: &mut Cursor<'_>, name: &str) -> Result<(), Error>
+    ensures gives { Passes result cursor.new.left (agreeing_name name.now cursor.old.left) }
+    ensures refusal { IfErr result (Refuses cursor.old) }
+    ensures later { IfOk result (λ _. GoesOn cursor.old cursor.new) }
+{
+    if !begins_name(cursor) {
+        return Ok(());
+    }
+    let end = component_name(alloc, cursor)?;
+    if end.as_str() == name {
+        Ok(())
+    } else {
+        Err(renamed(alloc, cursor, "component", name, end.as_str()))
+    }
+}

@@ -1,0 +1,125 @@
+//! Conditions.
+
+ghost use Rattle.std.specs.Prelude.{◌≡◌, ◌∷◌, IfErr, IfOk, map};
+ghost use Rattle.tera_base.specs.Errors.{IsMemory};
+ghost use Rattle.tera_expr.specs.Rooms.{limits_of};
+ghost use Rattle.tera_grammar.specs.statements.Grammar.{InIf, Path, in_loop};
+ghost use Rattle.tera_grammar.specs.statements.Reading as reading;
+ghost use Rattle.tera_grammar.specs.statements.Reading.{branches, if_of};
+ghost use Rattle.tera_grammar.specs.statements.Reading.Loops.{nest};
+ghost use Rattle.tera_statements.specs.Adding.{AddsBy, AreBranches, here, seen_of};
+ghost use Rattle.tera_statements.specs.Around.{Stands};
+ghost use Rattle.tera_statements.specs.Conditions.{GivesBranch, branch_view};
+ghost use Rattle.tera_statements.specs.Taking.{GivesBy, GoesOn, Refuses, Took};
+ghost use Rattle.tera_tree.specs.View.{node_view};
+
+use crate::added::{Added, Names};
+use crate::around::{Around, Context, Opening};
+use crate::bodies::body;
+use crate::closing::closed_expression;
+use crate::fronts::Closer;
+use crate::loops::else_body;
+use crate::parts::{closed, closed_tag, closes};
+use crate::settings::Setting;
+use std::alloc::Global;
+use tera_base::{Error, Span};
+use tera_lexer::Cursor;
+use tera_tree::{Expression, Node, build};
+
+/// A condition, and the body under it.
+#[derive(Drop)]
+pub(crate) struct Branch {
+    pub condition: Expression,
+    pub body: Vec<Node>,
+}
+
+/// Reads the rest of an `if`, whose word was taken last.
+#[cycle(bodies)]
+#[tactic(auto, using(crate::proofs::Going::took_all, crate::proofs::Going::took_further, crate::proofs::Going::goes_took, crate::proofs::Going::refused_behind, crate::proofs::Going::refused_further))]
+pub(crate) fn condition(
+    setting: &Setting<'_>,
+    cursor: &mut Cursor<'_>,
+    names: &mut Names,
+    around: &Around,
+    below: usize,
+) -> Result<Added, Error>
+    ensures gives { AddsBy around.now result (here names.new cursor.new) (λ path start. if_of (limits_of setting.now.limits) (reading.body below (limits_of setting.now.limits)) path start cursor.old.span (seen_of names.old) cursor.old.left) }
+    ensures refusal { IfErr result (Refuses cursor.old) }
+    ensures later { IfOk result (λ _. Took cursor.old cursor.new) }
+{
+    let word = cursor.current_span().copied();
+    let first = read_branch(setting, cursor, names, around, &word, below)?;
+    let others = other_branches(setting, cursor, names, around, word, below)?;
+    closed_tag(setting.alloc, cursor, Closer::EndIf)?;
+    Ok(Added::Node(build::when(first.condition, first.body, others)))
+}
+
+// A condition, the end of its tag, and the body under it; the word before it stands at the span.
+#[cycle(bodies)]
+#[tactic(auto, using(crate::proofs::Going::took_all, crate::proofs::Going::took_further, crate::proofs::Going::refused_behind))]
+fn read_branch(
+    setting: &Setting<'_>,
+    cursor: &mut Cursor<'_>,
+    names: &mut Names,
+    around: &Around,
+    word: &Span,
+    below: usize,
+) -> Result<Branch, Error>
+    ensures gives { (path : Path) → Stands path around.now → GivesBranch (limits_of setting.now.limits) below (InIf ∷ path) result (here names.new cursor.new) (here names.old cursor.old) }
+    ensures refusal { IfErr result (Refuses cursor.old) }
+    ensures later { IfOk result (λ _. Took cursor.old cursor.new) }
+{
+    let condition = closed_expression(setting, cursor, around.in_loop)?;
+    let opening = Opening {
+        context: Context::Condition,
+        at: word.copied(),
+    };
+    let body = body(setting, cursor, names, around, &opening, below)?;
+    Ok(Branch { condition, body })
+}
+
+// The branches behind the first one, whose word stands at the span: any number of `elif`, and an `else` or none.
+#[cycle(bodies)]
+#[tactic(auto, using(crate::proofs::Going::goes_further, crate::proofs::Going::took_goes, crate::proofs::Going::took_all, crate::proofs::Going::stays, crate::proofs::Going::refused_behind, crate::proofs::Going::refused_further, crate::proofs::Going::memory_refused))]
+fn other_branches(
+    setting: &Setting<'_>,
+    cursor: &mut Cursor<'_>,
+    names: &mut Names,
+    around: &Around,
+    word: Span,
+    below: usize,
+) -> Result<Vec<Node>, Error>
+    ensures gives { (path : Path) → Stands path around.now → GivesBy (λ ns bs. AreBranches (in_loop path) ns.items bs) result (here names.new cursor.new) (branches (limits_of setting.now.limits) (reading.body below (limits_of setting.now.limits)) (InIf ∷ path) (here names.old cursor.old)) }
+    ensures refusal { IfErr result (Refuses cursor.old) }
+    ensures later { IfOk result (λ _. GoesOn cursor.old cursor.new) }
+{
+    let mut word = word;
+    let mut branches = Vec::new(setting.alloc);
+    'branches: while closes(cursor, Closer::Elif) {
+        closed(setting.alloc, cursor, Closer::Elif)?;
+        word = cursor.current_span().copied();
+        let branch = read_branch(setting, cursor, names, around, &word, below)?;
+        branches.push(branch)?;
+    }
+    let opening = Opening {
+        context: Context::Condition,
+        at: word,
+    };
+    let otherwise = else_body(setting, cursor, names, around, &opening, below)?;
+    nested(setting.alloc, branches, otherwise)
+}
+
+// The branches, each with those behind it as what is under no condition.
+fn nested(alloc: Global, branches: Vec<Branch>, otherwise: Vec<Node>) -> Result<Vec<Node>, Error>
+    ensures nested { IfOk result (λ ns. map node_view ns.items ≡ nest (map branch_view branches.items) (map node_view otherwise.items)) }
+    ensures refusal { IfErr result IsMemory }
+{
+    let mut branches = branches;
+    let mut nodes = otherwise;
+    'branches: while let Some(branch) = branches.pop() {
+        let node = build::when(branch.condition, branch.body, nodes);
+        nodes = Vec::new(alloc);
+        nodes.push(node)?;
+    }
+    Ok(nodes)
+}

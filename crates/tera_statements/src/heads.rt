@@ -1,0 +1,107 @@
+//! The heads of loops, and filters.
+
+ghost use Rattle.std.specs.Prelude.{IfErr, IfOk};
+ghost use Rattle.tera_expr.specs.Rooms.{limits_of};
+ghost use Rattle.tera_grammar.specs.expressions.Reading.Atoms.{variables_of};
+ghost use Rattle.tera_grammar.specs.expressions.Reading.Front.{at};
+ghost use Rattle.tera_grammar.specs.expressions.Reading.Whole.{left_over};
+ghost use Rattle.tera_grammar.specs.statements.Expressions.{filter_of};
+ghost use Rattle.tera_grammar.specs.statements.Reading.Heads.{filters_of, loop_of};
+ghost use Rattle.tera_grammar.specs.statements.Reading.Parts.{finish_of};
+ghost use Rattle.tera_statements.specs.Following.{followed};
+ghost use Rattle.tera_statements.specs.Heads.{AreAllFilters, AreFilters, AreVariables, IsLoop};
+ghost use Rattle.tera_statements.specs.Taking.{GivesBy, Refuses, Took};
+
+use crate::closing::closed_expression;
+use crate::expressions::filter;
+use crate::fixed::{Fixed, eat, expect};
+use crate::parts::{finish, free_name};
+use crate::settings::Setting;
+use std::alloc::Global;
+use tera_base::Error;
+use tera_expr::Scope;
+use tera_lexer::Cursor;
+use tera_tree::Expression;
+
+/// The head of a loop: the names of the key, if any, and of the value, and what the loop goes over.
+#[derive(Drop)]
+pub(crate) struct LoopHead {
+    pub key: Option<String>,
+    pub value: String,
+    pub target: Expression,
+}
+
+/// Reads the head of a loop, and the end of its tag.
+#[tactic(auto, using(crate::proofs::Going::took_all, crate::proofs::Going::refused_behind))]
+pub(crate) fn loop_head(setting: &Setting<'_>, cursor: &mut Cursor<'_>) -> Result<LoopHead, Error>
+    ensures gives { GivesBy (λ h x. IsLoop h x.0) result cursor.new.left (followed (loop_of (limits_of setting.now.limits) cursor.old.left) finish_of) }
+    ensures refusal { IfErr result (Refuses cursor.old) }
+    ensures later { IfOk result (λ _. Took cursor.old cursor.new) }
+{
+    let (key, value) = variables(setting.alloc, cursor)?;
+    expect(setting.alloc, cursor, Fixed::In)?;
+    let target = closed_expression(setting, cursor, true)?;
+    Ok(LoopHead { key, value, target })
+}
+
+// The variables of a loop: the name of the key, if any, and that of the value.
+#[tactic(auto, using(crate::proofs::Going::took_all, crate::proofs::Going::refused_behind, crate::proofs::Going::memory_refused))]
+fn variables(alloc: Global, cursor: &mut Cursor<'_>) -> Result<(Option<String>, String), Error>
+    ensures gives { GivesBy AreVariables result cursor.new.left (left_over (variables_of (at 0 cursor.old.left))) }
+    ensures refusal { IfErr result (Refuses cursor.old) }
+    ensures later { IfOk result (λ _. Took cursor.old cursor.new) }
+{
+    let first = free_name(alloc, cursor, "used as a loop variable.")?;
+    if eat(cursor, Fixed::Comma) {
+        let second = free_name(alloc, cursor, "used as a loop variable.")?;
+        let key = String::from_str(alloc, first)?;
+        return Ok((Some(key), String::from_str(alloc, second)?));
+    }
+    Ok((None, String::from_str(alloc, first)?))
+}
+
+/// Reads filters, each behind its bar, and the end of their tag, and puts them behind those that are given.
+#[tactic(auto, using(crate::proofs::Going::goes_further, crate::proofs::Going::took_goes, crate::proofs::Going::took_further, crate::proofs::Going::goes_took, crate::proofs::Going::stays, crate::proofs::Going::refused_behind, crate::proofs::Going::refused_further, crate::proofs::Going::memory_refused))]
+pub(crate) fn closed_filters(
+    setting: &Setting<'_>,
+    cursor: &mut Cursor<'_>,
+    in_loop: bool,
+    before: Vec<Expression>,
+) -> Result<Vec<Expression>, Error>
+    ensures gives { GivesBy (λ es x. AreFilters in_loop before.items es.items x.0) result cursor.new.left (followed (filters_of (limits_of setting.now.limits) in_loop cursor.old.left) finish_of) }
+    ensures refusal { IfErr result (Refuses cursor.old) }
+    ensures later { IfOk result (λ _. Took cursor.old cursor.new) }
+{
+    let scope = Scope {
+        in_loop,
+        limits: setting.limits,
+    };
+    let mut filters = before;
+    'filters: while eat(cursor, Fixed::Bar) {
+        let filter = filter(setting.alloc, cursor, scope)?;
+        filters.push(filter)?;
+    }
+    finish(setting.alloc, cursor)?;
+    Ok(filters)
+}
+
+/// Reads a filter and others, each of those behind its bar, and the end of their tag.
+#[tactic(auto, using(crate::proofs::Going::goes_took, crate::proofs::Going::refused_further, crate::proofs::Going::memory_refused))]
+pub(crate) fn section_filters(
+    setting: &Setting<'_>,
+    cursor: &mut Cursor<'_>,
+    in_loop: bool,
+) -> Result<Vec<Expression>, Error>
+    ensures gives { GivesBy (λ es x. AreAllFilters in_loop cursor.old.span es.items x.0 x.1.0) result cursor.new.left (followed (filter_of (limits_of setting.now.limits) in_loop cursor.old.left) (λ items. followed (filters_of (limits_of setting.now.limits) in_loop items) finish_of)) }
+    ensures refusal { IfErr result (Refuses cursor.old) }
+    ensures later { IfOk result (λ _. Took cursor.old cursor.new) }
+{
+    let scope = Scope {
+        in_loop,
+        limits: setting.limits,
+    };
+    let mut first = Vec::new(setting.alloc);
+    let one = filter(setting.alloc, cursor, scope)?;
+    first.push(one)?;
+    closed_filters(setting, cursor, in_loop, first)
+}

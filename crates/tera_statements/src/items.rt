@@ -1,0 +1,161 @@
+//! The items of bodies.
+
+ghost use Rattle.std.specs.Prelude.{◌≡◌, [], IfErr, IfOk, is_none, true};
+ghost use Rattle.tera_base.specs.Errors.{IsMemory};
+ghost use Rattle.tera_grammar.specs.statements.Output.{text_adds};
+ghost use Rattle.tera_grammar.specs.statements.Reading as reading;
+ghost use Rattle.tera_grammar.specs.statements.Reading.{tag_of};
+ghost use Rattle.tera_grammar.specs.statements.Reading.Parts.{front};
+ghost use Rattle.tera_lexer.specs.code.Seen.{seen};
+ghost use Rattle.tera_statements.specs.Adding.{AddsBy, added_view, here, seen_of};
+ghost use Rattle.tera_statements.specs.Items.{AreEmptyTexts, Enters, GivesNext, GivesShown, GivesText, GoesByItem, text_in};
+ghost use Rattle.tera_statements.specs.Kinds.{kind_of, opener_of};
+ghost use Rattle.tera_expr.specs.Rooms.{limits_of};
+ghost use Rattle.tera_statements.specs.Simple.{is_free};
+ghost use Rattle.tera_statements.specs.Taking.{Refuses, RefusesIn, Took};
+ghost use Rattle.tera_statements.specs.declared.fronts.Front.TheVariants as fronts;
+
+use crate::added::{Added, Names};
+use crate::around::Around;
+use crate::blocks::{block, definition};
+use crate::captures::{call, section, set, shown_node};
+use crate::closing::shown_expression;
+use crate::conditions::condition;
+use crate::fixed::take;
+use crate::fronts::{Front, Opener};
+use crate::loops::for_loop;
+use crate::parts::unknown_tag;
+use crate::settings::Setting;
+use crate::simple::{Extension, Jump, extends, include, read_jump};
+use std::alloc::{AllocError, Global};
+use tera_base::Error;
+use tera_lexer::{Cursor, Token};
+use tera_tree::Node;
+
+/// Reads the next item of a body, where one stands there.
+#[cycle(bodies)]
+#[tactic(auto, using(crate::proofs::Going::took_all, crate::proofs::Refusing::took_inside, crate::proofs::Refusing::memory_inside))]
+pub(crate) fn item(
+    setting: &Setting<'_>,
+    cursor: &mut Cursor<'_>,
+    names: &mut Names,
+    around: &Around,
+    extension: Extension<'_>,
+    below: usize,
+) -> Result<Option<Added>, Error>
+    requires { is_none around.now.innermost ≡ true → is_free extension ≡ true }
+    ensures gives { GivesNext (limits_of setting.now.limits) below around.now result (here names.new cursor.new) (here names.old cursor.old) }
+    ensures refusal { IfErr result (RefusesIn cursor.old) }
+    ensures empty { IfErr result (λ _. AreEmptyTexts cursor.old.left → ⊥) }
+    ensures later { GoesByItem result cursor.old cursor.new }
+{
+    match Front::at(cursor) {
+        Front::Ends => Ok(None),
+        Front::Closes(_) => Ok(None),
+        Front::Holds => Ok(Some(text(setting.alloc, cursor)?)),
+        Front::Shows => Ok(Some(shown(setting, cursor, around)?)),
+        Front::Opens(opener) => {
+            enter(cursor, opener)?;
+            let added = tag(setting, cursor, names, around, extension, opener, below)?;
+            Ok(Some(added))
+        }
+        Front::Wrong => Err(unknown_tag(setting.alloc, cursor)),
+    }
+}
+
+// A text, which comes next.
+#[tactic(auto, using(crate::proofs::Refusing::memory_inside))]
+fn text(alloc: Global, cursor: &mut Cursor<'_>) -> Result<Added, Error>
+    requires { fronts.Holds ≡ kind_of (front cursor.old.left) }
+    ensures gives { GivesText result cursor.new.left (front cursor.old.left) }
+    ensures refusal { IfErr result (RefusesIn cursor.old) }
+    ensures empty { IfErr result (λ _. AreEmptyTexts cursor.old.left → ⊥) }
+    ensures later { IfOk result (λ _. Took cursor.old cursor.new) }
+{
+    let (token, _) = take(cursor)?;
+    Ok(text_added(alloc, &token)?)
+}
+
+// What a token adds that is a text.
+fn text_added(alloc: Global, token: &Token<'_>) -> Result<Added, AllocError>
+    ensures adds { IfOk result (λ a. added_view a ≡ text_adds (text_in (seen token.now))) }
+    ensures empty { IfErr result (λ _. text_in (seen token.now) ≡ [] → ⊥) }
+{
+    match token {
+        Token::Content(text) => content(alloc, text),
+        _ => Ok(Added::Nothing),
+    }
+}
+
+// What a text adds: nothing if it is empty.
+fn content(alloc: Global, text: &str) -> Result<Added, AllocError>
+    ensures adds { IfOk result (λ a. added_view a ≡ text_adds text.now) }
+    ensures empty { IfErr result (λ _. text.now ≡ [] → ⊥) }
+{
+    if text.is_empty() {
+        return Ok(Added::Nothing);
+    }
+    Ok(Added::Node(Node::Content(String::from_str(alloc, text)?)))
+}
+
+/// A variable tag, which comes next.
+#[tactic(auto, using(crate::proofs::Going::took_all, crate::proofs::Refusing::took_inside, crate::proofs::Refusing::memory_inside))]
+pub(crate) fn shown(
+    setting: &Setting<'_>,
+    cursor: &mut Cursor<'_>,
+    around: &Around,
+) -> Result<Added, Error>
+    requires { fronts.Shows ≡ kind_of (front cursor.old.left) }
+    ensures gives { GivesShown (limits_of setting.now.limits) around.now result cursor.new.left (front cursor.old.left) }
+    ensures refusal { IfErr result (RefusesIn cursor.old) }
+    ensures later { IfOk result (λ _. Took cursor.old cursor.new) }
+{
+    let _ = take(cursor)?;
+    let expr = shown_expression(setting, cursor, around.in_loop)?;
+    Ok(Added::Node(shown_node(expr)))
+}
+
+/// Takes the start of a tag and its first token, which come next.
+#[tactic(auto, using(crate::proofs::Going::took_all, crate::proofs::Going::refused_behind))]
+pub(crate) fn enter(cursor: &mut Cursor<'_>, opener: Opener) -> Result<(), Error>
+    requires { fronts.Opens opener ≡ kind_of (front cursor.old.left) }
+    ensures enters { IfOk result (λ _. Enters (opener_of opener) cursor.old.left cursor.new) }
+    ensures memory { IfErr result IsMemory }
+    ensures refusal { IfErr result (Refuses cursor.old) }
+    ensures later { IfOk result (λ _. Took cursor.old cursor.new) }
+{
+    let _ = take(cursor)?;
+    let _ = take(cursor)?;
+    Ok(())
+}
+
+// Reads the rest of a tag that opens a statement, behind its first token.
+#[cycle(bodies)]
+fn tag(
+    setting: &Setting<'_>,
+    cursor: &mut Cursor<'_>,
+    names: &mut Names,
+    around: &Around,
+    extension: Extension<'_>,
+    opener: Opener,
+    below: usize,
+) -> Result<Added, Error>
+    requires { is_none around.now.innermost ≡ true → is_free extension ≡ true }
+    ensures gives { AddsBy around.now result (here names.new cursor.new) (λ path start. tag_of (limits_of setting.now.limits) (reading.body below (limits_of setting.now.limits)) path (opener_of opener) start cursor.old.span (seen_of names.old) cursor.old.left) }
+    ensures refusal { IfErr result (Refuses cursor.old) }
+    ensures later { IfOk result (λ _. Took cursor.old cursor.new) }
+{
+    match opener {
+        Opener::Set { global } => set(setting, cursor, names, around, global, below),
+        Opener::Include => include(setting, cursor, around),
+        Opener::Extends => extends(setting, cursor, around, extension),
+        Opener::Block => block(setting, cursor, names, around, below),
+        Opener::For => for_loop(setting, cursor, names, around, below),
+        Opener::If => condition(setting, cursor, names, around, below),
+        Opener::Filter => section(setting, cursor, names, around, below),
+        Opener::Component => definition(setting, cursor, names, around, below),
+        Opener::Break => read_jump(setting, cursor, around, Jump::Break),
+        Opener::Continue => read_jump(setting, cursor, around, Jump::Continue),
+        Opener::Call => call(setting, cursor, names, around, below),
+    }
+}

@@ -1,0 +1,73 @@
+//! Loops, and the `else` of loops and conditions.
+
+ghost use Rattle.std.specs.Prelude.{IfErr, IfOk, ◌∷◌, ◌≡◌};
+ghost use Rattle.tera_expr.specs.Rooms.{limits_of};
+ghost use Rattle.tera_grammar.specs.statements.Grammar.{Path, in_loop};
+ghost use Rattle.tera_grammar.specs.statements.Reading as reading;
+ghost use Rattle.tera_grammar.specs.statements.Reading.{else_of, for_of};
+ghost use Rattle.tera_statements.specs.Adding.{AddsBy, IsElse, here, seen_of};
+ghost use Rattle.tera_statements.specs.Around.{Stands, context_of};
+ghost use Rattle.tera_statements.specs.Taking.{GivesBy, GoesOn, Refuses, Took};
+
+use crate::added::{Added, Names};
+use crate::around::{Around, Context, Opening};
+use crate::bodies::body;
+use crate::fronts::Closer;
+use crate::heads::loop_head;
+use crate::parts::{closed, closed_tag, closes, finish};
+use crate::settings::Setting;
+use tera_base::Error;
+use tera_lexer::Cursor;
+use tera_tree::{Node, build};
+
+/// Reads the rest of a `for`, whose word was taken last.
+#[cycle(bodies)]
+#[tactic(auto, using(crate::proofs::Going::took_all, crate::proofs::Going::took_further, crate::proofs::Going::goes_took, crate::proofs::Going::refused_behind, crate::proofs::Going::refused_further))]
+pub(crate) fn for_loop(
+    setting: &Setting<'_>,
+    cursor: &mut Cursor<'_>,
+    names: &mut Names,
+    around: &Around,
+    below: usize,
+) -> Result<Added, Error>
+    ensures gives { AddsBy around.now result (here names.new cursor.new) (λ path start. for_of (limits_of setting.now.limits) (reading.body below (limits_of setting.now.limits)) path start cursor.old.span (seen_of names.old) cursor.old.left) }
+    ensures refusal { IfErr result (Refuses cursor.old) }
+    ensures later { IfOk result (λ _. Took cursor.old cursor.new) }
+{
+    let opening = Opening {
+        context: Context::Loop,
+        at: cursor.current_span().copied(),
+    };
+    let head = loop_head(setting, cursor)?;
+    let inside = body(setting, cursor, names, around, &opening, below)?;
+    let otherwise = Opening {
+        context: Context::LoopElse,
+        at: opening.at.copied(),
+    };
+    let otherwise = else_body(setting, cursor, names, around, &otherwise, below)?;
+    closed_tag(setting.alloc, cursor, Closer::EndFor)?;
+    Ok(Added::Node(build::for_loop(head.key, head.value, head.target, inside, otherwise)))
+}
+
+/// Reads an `else` with its body, where one stands there.
+#[cycle(bodies)]
+#[tactic(auto, using(crate::proofs::Going::goes_further, crate::proofs::Going::took_goes, crate::proofs::Going::took_all, crate::proofs::Going::stays, crate::proofs::Going::refused_behind, crate::proofs::Going::refused_further))]
+pub(crate) fn else_body(
+    setting: &Setting<'_>,
+    cursor: &mut Cursor<'_>,
+    names: &mut Names,
+    around: &Around,
+    opening: &Opening,
+    below: usize,
+) -> Result<Vec<Node>, Error>
+    ensures gives { (path : Path) → Stands path around.now → GivesBy (λ ns o. IsElse (in_loop (context_of opening.now.context ∷ path)) ns.items o) result (here names.new cursor.new) (else_of (reading.body below (limits_of setting.now.limits)) (context_of opening.now.context ∷ path) (here names.old cursor.old)) }
+    ensures refusal { IfErr result (Refuses cursor.old) }
+    ensures later { IfOk result (λ _. GoesOn cursor.old cursor.new) }
+{
+    if !closes(cursor, Closer::Else) {
+        return Ok(Vec::new(setting.alloc));
+    }
+    closed(setting.alloc, cursor, Closer::Else)?;
+    finish(setting.alloc, cursor)?;
+    body(setting, cursor, names, around, opening, below)
+}

@@ -1,0 +1,363 @@
+//! The parameters of components.
+
+ghost use Rattle.std.specs.Prelude.{◌≡◌, ◌⊎◌, ◌++◌, ◌∷◌, ◌||◌, [], IfErr, IfOk, OnOk, Some, false, string_bytes, true};
+ghost use Rattle.tera_base.specs.Errors.{IsMemory};
+ghost use Rattle.tera_base.specs.ValueView.{value_view};
+ghost use Rattle.tera_base.specs.Values.{Nothing};
+ghost use Rattle.tera_grammar.specs.Words.{is_none, is_one_of};
+ghost use Rattle.tera_expr.specs.Rooms.{limits_of};
+ghost use Rattle.tera_grammar.specs.expressions.Marks.{Assign, Colon};
+ghost use Rattle.tera_grammar.specs.expressions.Reading.Front.{takes};
+ghost use Rattle.tera_grammar.specs.statements.Components.{is_nothing};
+ghost use Rattle.tera_grammar.specs.statements.Reading.Components.{annotation_in, assigned_in, default_of, fresh_name, minus_of, parameter_of, parameters_of};
+ghost use Rattle.tera_grammar.specs.statements.Types.{has_type, put_name, type_named};
+ghost use Rattle.tera_statements.specs.Known.{names_of};
+ghost use Rattle.tera_statements.specs.Parameters.{AreParameters, IsAssigned, IsDefault, IsParameter, IsType, argument_as, arguments_view, has_default, taken_rest};
+ghost use Rattle.tera_statements.specs.Taking.{Fails, GivesAs, GivesBy, GoesOn, Refuses, Took, name_at};
+ghost use Rattle.tera_tree.specs.View.{argument_view, default_view};
+
+use crate::expressions::{literal_array, literal_map};
+use crate::faults::{fault, noted, reported};
+use crate::fixed::{Fixed, begins, eat, expect, name, take};
+use crate::names::{Known, keep_name, place_of};
+use crate::parts::is_none;
+use crate::settings::Setting;
+use std::alloc::Global;
+use std::collections::BTreeMap;
+use tera_base::{Error, ErrorKind, Span, Value};
+use tera_lexer::{Cursor, Token};
+use tera_tree::{ArgType, ComponentArgument};
+
+/// The parameters of a component: its arguments, and the name of the one that takes the rest.
+#[derive(Drop)]
+pub(crate) struct Parameters {
+    pub arguments: BTreeMap<String, ComponentArgument>,
+    pub rest: Option<String>,
+}
+
+/// Reads the parameters of a component, behind their opening parenthesis.
+#[tactic(auto, using(crate::proofs::Going::goes_further, crate::proofs::Going::took_goes, crate::proofs::Going::took_all, crate::proofs::Going::took_further, crate::proofs::Going::goes_took, crate::proofs::Going::refused_behind, crate::proofs::Going::refused_further, crate::proofs::Going::memory_refused))]
+pub(crate) fn read_parameters(
+    setting: &Setting<'_>,
+    cursor: &mut Cursor<'_>,
+) -> Result<Parameters, Error>
+    ensures gives { GivesBy AreParameters result cursor.new.left (parameters_of (limits_of setting.now.limits) [] cursor.old.left) }
+    ensures refusal { IfErr result (Refuses cursor.old) }
+    ensures later { IfOk result (λ _. Took cursor.old cursor.new) }
+{
+    let mut arguments = BTreeMap::new(setting.alloc);
+    let mut seen = Known::new(setting.alloc);
+    'parameters: loop {
+        if eat(cursor, Fixed::RightParen) {
+            return Ok(Parameters {
+                arguments,
+                rest: None,
+            });
+        }
+        if eat(cursor, Fixed::Spread) {
+            let rest = Some(rest_parameter(setting, cursor, &seen)?);
+            return Ok(Parameters { arguments, rest });
+        }
+        let (name, argument) = parameter(setting, cursor, &mut seen)?;
+        put_argument(&mut arguments, name, argument)?;
+        if eat(cursor, Fixed::RightParen) {
+            return Ok(Parameters {
+                arguments,
+                rest: None,
+            });
+        }
+        expect(setting.alloc, cursor, Fixed::Comma)?;
+    }
+}
+
+// A default: a literal, a negative number, a word for no value, a constant array or a constant map.
+#[tactic(auto, using(crate::proofs::Going::took_all, crate::proofs::Going::refused_behind, crate::proofs::Going::memory_refused))]
+fn default_value(setting: &Setting<'_>, cursor: &mut Cursor<'_>) -> Result<Value, Error>
+    ensures gives { GivesBy IsDefault result cursor.new.left (default_of (limits_of setting.now.limits) cursor.old.left) }
+    ensures refusal { IfErr result (Refuses cursor.old) }
+    ensures later { IfOk result (λ _. Took cursor.old cursor.new) }
+{
+    if begins(cursor, Fixed::LeftBracket) {
+        return literal_array(setting.alloc, cursor, setting.limits);
+    }
+    if begins(cursor, Fixed::LeftBrace) {
+        return literal_map(setting.alloc, cursor, "default argument", setting.limits);
+    }
+    let (token, _) = take(cursor)?;
+    match token {
+        Token::Integer(n) => Ok(Value::I64(n)),
+        Token::Bool(b) => Ok(Value::Bool(b)),
+        Token::Str(text) => Ok(Value::String(String::from_str(setting.alloc, text)?)),
+        Token::String(text) => Ok(Value::String(text)),
+        Token::Ident(name) => no_value(setting.alloc, cursor, name),
+        Token::Minus => negative(setting.alloc, cursor),
+        token => Err(no_default(setting.alloc, cursor, &token)),
+    }
+}
+
+// The number behind a minus, which was taken last.
+#[tactic(auto, using(crate::proofs::Going::took_all, crate::proofs::Going::refused_behind))]
+fn negative(alloc: Global, cursor: &mut Cursor<'_>) -> Result<Value, Error>
+    ensures gives { GivesBy IsDefault result cursor.new.left (minus_of cursor.old.span cursor.old.left) }
+    ensures refusal { IfErr result (Refuses cursor.old) }
+    ensures later { IfOk result (λ _. Took cursor.old cursor.new) }
+{
+    let (token, _) = take(cursor)?;
+    match token {
+        Token::Integer(n) => Ok(Value::I64(-n)),
+        token => {
+            let message = format!(in alloc;
+                "Found {token} but `-` can only be followed by an integer"
+            );
+            Err(reported(alloc, cursor, message))
+        }
+    }
+}
+
+// No value, where the name, which was taken last, is a word for it.
+fn no_value(alloc: Global, cursor: &Cursor<'_>, name: &str) -> Result<Value, Error>
+    ensures given { IfOk result (λ v. (is_none name.now ≡ true) × (value_view v ≡ Nothing)) }
+    ensures fails { IfErr result (λ e. IsMemory e ⊎ (is_none name.now ≡ false)) }
+    ensures refusal { IfErr result (Refuses cursor.now) }
+{
+    if is_none(name) {
+        Ok(Value::None)
+    } else {
+        Err(no_default(alloc, cursor, &Token::Ident(name)))
+    }
+}
+
+// That a token, which was taken last, is no default.
+fn no_default(alloc: Global, cursor: &Cursor<'_>, token: &Token<'_>) -> Error
+    ensures { Refuses cursor.now result }
+{
+    let message = format!(in alloc;
+        "Found {token} but component default arguments can only be one of: string, bool, integer, array or map"
+    );
+    reported(alloc, cursor, message)
+}
+
+// The type behind a colon, where one stands.
+#[tactic(auto, using(crate::proofs::Going::took_all, crate::proofs::Going::took_goes, crate::proofs::Going::stays, crate::proofs::Going::refused_behind))]
+fn argument_type(alloc: Global, cursor: &mut Cursor<'_>) -> Result<Option<ArgType>, Error>
+    ensures gives { GivesBy IsType result cursor.new.left (annotation_in cursor.old.left (takes Colon cursor.old.left)) }
+    ensures refusal { IfErr result (Refuses cursor.old) }
+    ensures later { IfOk result (λ _. GoesOn cursor.old cursor.new) }
+{
+    if !eat(cursor, Fixed::Colon) {
+        return Ok(None);
+    }
+    let (token, _) = take(cursor)?;
+    match token {
+        Token::Ident(name) => Ok(Some(named_type(alloc, cursor, name)?)),
+        token => {
+            let message = format!(in alloc;
+                "Found {token} but the only types allowed are: string, bool, integer, number, bytes, array and map"
+            );
+            Err(reported(alloc, cursor, message))
+        }
+    }
+}
+
+// The type of this name, which was taken last.
+fn named_type(alloc: Global, cursor: &Cursor<'_>, name: &str) -> Result<ArgType, Error>
+    ensures named { IfOk result (λ t. type_named name.now ≡ Some t) }
+    ensures unnamed { IfErr result (Fails (type_named name.now)) }
+    ensures refusal { IfErr result (Refuses cursor.now) }
+{
+    match ArgType::from_str(alloc, name) {
+        Ok(typ) => Ok(typ),
+        Err(error) => Err(at_name(alloc, cursor, error)),
+    }
+}
+
+// What a message says, as a fault at the token taken last.
+#[tactic(auto, using(crate::proofs::Going::memory_refused))]
+fn at_name(alloc: Global, cursor: &Cursor<'_>, error: Error) -> Error
+    ensures { Refuses cursor.now result }
+{
+    match error.kind {
+        ErrorKind::Message(message) => reported(alloc, cursor, Ok(message)),
+        _ => Error {
+            kind: ErrorKind::Memory,
+        },
+    }
+}
+
+// The default behind an equals sign, where one stands.
+#[tactic(auto, using(crate::proofs::Going::took_all, crate::proofs::Going::took_goes, crate::proofs::Going::stays, crate::proofs::Going::refused_behind))]
+fn assigned(setting: &Setting<'_>, cursor: &mut Cursor<'_>) -> Result<Option<Value>, Error>
+    ensures gives { GivesBy IsAssigned result cursor.new.left (assigned_in (limits_of setting.now.limits) cursor.old.left (takes Assign cursor.old.left)) }
+    ensures refusal { IfErr result (Refuses cursor.old) }
+    ensures later { IfOk result (λ _. GoesOn cursor.old cursor.new) }
+{
+    if !eat(cursor, Fixed::Assign) {
+        return Ok(None);
+    }
+    Ok(Some(default_value(setting, cursor)?))
+}
+
+// A name that is neither `body` nor that of an earlier parameter.
+#[tactic(auto, using(crate::proofs::Going::refused_behind))]
+fn fresh_name<'a>(
+    setting: &Setting<'_>,
+    cursor: &mut Cursor<'a>,
+    seen: &Known,
+    rest: bool,
+) -> Result<&'a str, Error>
+    ensures gives { GivesAs (name_at cursor.new.span) result cursor.new.left (fresh_name (names_of seen.now.entries) cursor.old.left) }
+    ensures fresh { IfOk result (λ n. is_one_of (names_of seen.now.entries) n.now ≡ false) }
+    ensures refusal { IfErr result (Refuses cursor.old) }
+    ensures later { IfOk result (λ _. Took cursor.old cursor.new) }
+{
+    let name = name(setting.alloc, cursor)?;
+    if name == "body" {
+        return Err(fault(
+            setting.alloc,
+            cursor,
+            "The name `body` is reserved for component body content.",
+        ));
+    }
+    match place_of(seen, name) {
+        Some(first) => Err(repeated(setting, cursor, name, first, rest)),
+        None => Ok(name),
+    }
+}
+
+// That the name, which was taken last, is that of the parameter whose name stands at the span.
+#[tactic(auto, using(crate::proofs::Going::same_refused))]
+fn repeated(
+    setting: &Setting<'_>,
+    cursor: &Cursor<'_>,
+    name: &str,
+    first: &Span,
+    rest: bool,
+) -> Error
+    ensures { Refuses cursor.now result }
+{
+    if rest {
+        let message = format!(in setting.alloc;
+            "Rest parameter `{name}` conflicts with an existing parameter."
+        );
+        return reported(setting.alloc, cursor, message);
+    }
+    let message = format!(in setting.alloc;
+        "Component argument `{name}` is defined more than once"
+    );
+    let error = reported(setting.alloc, cursor, message);
+    noted(error, "first defined here", first)
+}
+
+// The name of the rest parameter, behind its dots, and the closing parenthesis.
+#[tactic(auto, using(crate::proofs::Going::took_all, crate::proofs::Going::refused_behind, crate::proofs::Going::memory_refused))]
+fn rest_parameter(
+    setting: &Setting<'_>,
+    cursor: &mut Cursor<'_>,
+    seen: &Known,
+) -> Result<String, Error>
+    ensures gives { GivesBy (λ s n. string_bytes s ≡ n.text) result cursor.new.left (taken_rest (names_of seen.now.entries) cursor.old.left) }
+    ensures refusal { IfErr result (Refuses cursor.old) }
+    ensures later { IfOk result (λ _. Took cursor.old cursor.new) }
+{
+    let name = fresh_name(setting, cursor, seen, true)?;
+    if !eat(cursor, Fixed::RightParen) {
+        return Err(fault(
+            setting.alloc,
+            cursor,
+            "Rest parameter must be the last parameter in component definition.",
+        ));
+    }
+    Ok(String::from_str(setting.alloc, name)?)
+}
+
+// A parameter, whose name is kept.
+#[tactic(auto, using(crate::proofs::Going::took_all, crate::proofs::Going::took_further, crate::proofs::Going::goes_further, crate::proofs::Going::refused_behind, crate::proofs::Going::refused_further, crate::proofs::Going::memory_refused))]
+fn parameter(
+    setting: &Setting<'_>,
+    cursor: &mut Cursor<'_>,
+    seen: &mut Known,
+) -> Result<(String, ComponentArgument), Error>
+    ensures gives { GivesBy IsParameter result cursor.new.left (parameter_of (limits_of setting.now.limits) (names_of seen.old.entries) cursor.old.left) }
+    ensures kept { IfOk result (λ p. names_of seen.new.entries ≡ names_of seen.old.entries ++ string_bytes p.0 ∷ []) }
+    ensures refusal { IfErr result (Refuses cursor.old) }
+    ensures later { IfOk result (λ _. Took cursor.old cursor.new) }
+{
+    let implicit = eat(cursor, Fixed::At);
+    let name = fresh_name(setting, cursor, seen, false)?;
+    keep_name(setting.alloc, seen, name, cursor.current_span())?;
+    let typ = argument_type(setting.alloc, cursor)?;
+    let default = assigned(setting, cursor)?;
+    let argument = argument(typ, default, implicit);
+    check_default(setting.alloc, cursor, name, &argument)?;
+    Ok((String::from_str(setting.alloc, name)?, argument))
+}
+
+// An argument of this type, or that of its default.
+fn argument(typ: Option<ArgType>, default: Option<Value>, implicit: bool) -> ComponentArgument
+    ensures { argument_view result ≡ argument_as typ (default_view default) implicit }
+{
+    let typ = match (typ, &default) {
+        (Some(typ), _) => Some(typ),
+        (None, Some(value)) => ArgType::from_value(value),
+        (None, None) => None,
+    };
+    ComponentArgument {
+        default,
+        typ,
+        implicit,
+    }
+}
+
+// Refuses a default that is a value and not of the type of its argument.
+fn check_default(
+    alloc: Global,
+    cursor: &Cursor<'_>,
+    name: &str,
+    argument: &ComponentArgument,
+) -> Result<(), Error>
+    ensures fits { IfOk result (λ _. has_default (argument_view argument.now) ≡ true) }
+    ensures fails { IfErr result (λ e. IsMemory e ⊎ (has_default (argument_view argument.now) ≡ false)) }
+    ensures refusal { IfErr result (Refuses cursor.now) }
+{
+    match (&argument.typ, &argument.default) {
+        (Some(typ), Some(value)) if !fits(typ, value) => {
+            Err(mistyped(alloc, cursor, name, typ, value))
+        }
+        _ => Ok(()),
+    }
+}
+
+// Whether a value is of the type, or is no value.
+fn fits(typ: &ArgType, value: &Value) -> bool
+    ensures { result ≡ (is_nothing (value_view value.now) || has_type typ.now (value_view value.now)) }
+{
+    matches!(value, Value::None) || typ.matches_value(value)
+}
+
+// That a default has another type than its argument.
+fn mistyped(alloc: Global, cursor: &Cursor<'_>, name: &str, typ: &ArgType, value: &Value) -> Error
+    ensures { Refuses cursor.now result }
+{
+    let wanted = typ.as_str();
+    let found = match ArgType::from_value(value) {
+        Some(found) => found.as_str(),
+        None => value.name(),
+    };
+    let message = format!(in alloc;
+        "Default value for `{name}` has type `{found}` but the argument has type `{wanted}`"
+    );
+    reported(alloc, cursor, message)
+}
+
+// Puts an argument to those that are there.
+fn put_argument(
+    arguments: &mut BTreeMap<String, ComponentArgument>,
+    name: String,
+    argument: ComponentArgument,
+) -> Result<(), Error>
+    ensures puts { OnOk result (arguments_view arguments.new.entries ≡ put_name (string_bytes name) (argument_view argument) (arguments_view arguments.old.entries)) }
+    ensures refusal { IfErr result IsMemory }
+{
+    let _before = arguments.insert(name, argument)?;
+    Ok(())
+}

@@ -1,0 +1,189 @@
+//! The parts of tags.
+
+ghost use Rattle.std.specs.Prelude.{◌≡◌, IfErr, IfOk, false};
+ghost use Rattle.tera_lexer.specs.code.Cursors.{is_end};
+ghost use Rattle.tera_grammar.specs.Words.{is_none, is_reserved};
+ghost use Rattle.tera_grammar.specs.expressions.Reading.Front.{taken_quote};
+ghost use Rattle.tera_grammar.specs.expressions.Spans.{spanning};
+ghost use Rattle.tera_grammar.specs.statements.Reading.Heads.{free_name};
+ghost use Rattle.tera_grammar.specs.statements.Reading.Parts.{closed, closed_tag, finish_of, front, variable_end_of};
+ghost use Rattle.tera_statements.specs.Kinds.{closer_of, closes};
+ghost use Rattle.tera_statements.specs.Reading.{IsQuote};
+ghost use Rattle.tera_statements.specs.Taking.{GivesAs, GivesBy, Passes, Refuses, RefusesIn, Took, name_at};
+
+use crate::faults::{fault, reported, unexpected};
+use crate::fixed::{name, take};
+use crate::fronts::{Closer, Front};
+use std::alloc::Global;
+use tera_base::{Error, Span};
+use tera_lexer::{Cursor, Token};
+
+/// The end of a tag.
+#[tactic(auto, unfolding(crate::specs::Taking::Took, crate::specs::Taking::Refuses))]
+pub(crate) fn finish(alloc: Global, cursor: &mut Cursor<'_>) -> Result<(), Error>
+    ensures gives { Passes result cursor.new.left (finish_of cursor.old.left) }
+    ensures refusal { IfErr result (Refuses cursor.old) }
+    ensures later { IfOk result (λ _. Took cursor.old cursor.new) }
+{
+    let (token, span) = cursor.next_or_eoi()?;
+    match token {
+        Token::TagEnd(_) => Ok(()),
+        _ => Err(unexpected(alloc, &token, "%}", &span)),
+    }
+}
+
+/// The end of a variable tag.
+#[tactic(auto, unfolding(crate::specs::Taking::Took, crate::specs::Taking::Refuses))]
+pub(crate) fn variable_end(alloc: Global, cursor: &mut Cursor<'_>) -> Result<(), Error>
+    ensures gives { Passes result cursor.new.left (variable_end_of cursor.old.left) }
+    ensures refusal { IfErr result (Refuses cursor.old) }
+    ensures later { IfOk result (λ _. Took cursor.old cursor.new) }
+{
+    let (token, span) = cursor.next_or_eoi()?;
+    match token {
+        Token::VariableEnd(_) => Ok(()),
+        _ => Err(unexpected(alloc, &token, "}}", &span)),
+    }
+}
+
+/// A string, and where it stands.
+#[tactic(auto, unfolding(crate::specs::Taking::Took, crate::specs::Taking::Refuses), using(crate::proofs::Going::memory_refused))]
+pub(crate) fn quote(alloc: Global, cursor: &mut Cursor<'_>) -> Result<(String, Span), Error>
+    ensures gives { GivesBy IsQuote result cursor.new.left (taken_quote cursor.old.left) }
+    ensures refusal { IfErr result (Refuses cursor.old) }
+    ensures later { IfOk result (λ _. Took cursor.old cursor.new) }
+{
+    let (token, span) = cursor.next_or_eoi()?;
+    match token {
+        Token::Str(text) => Ok((String::from_str(alloc, text)?, span)),
+        Token::String(text) => Ok((text, span)),
+        _ => Err(unexpected(alloc, &token, "string", &span)),
+    }
+}
+
+/// A name that is not reserved; `purpose` ends the sentence that tells of one that is.
+#[tactic(auto, using(crate::proofs::Going::refused_behind))]
+pub(crate) fn free_name<'a>(
+    alloc: Global,
+    cursor: &mut Cursor<'a>,
+    purpose: &str,
+) -> Result<&'a str, Error>
+    ensures gives { GivesAs (name_at cursor.new.span) result cursor.new.left (free_name cursor.old.left) }
+    ensures refusal { IfErr result (Refuses cursor.old) }
+    ensures later { IfOk result (λ _. Took cursor.old cursor.new) }
+{
+    let name = name(alloc, cursor)?;
+    if is_reserved(name) {
+        let message = format!(in alloc;
+            "{name} is a reserved keyword of Tera, it cannot be {purpose}"
+        );
+        return Err(reported(alloc, cursor, message));
+    }
+    Ok(name)
+}
+
+// Whether no variable has the name.
+#[tactic(auto, unfolding(crate::specs::Unfold::is_reserved))]
+fn is_reserved(name: &str) -> bool
+    ensures { result ≡ is_reserved name.now }
+{
+    matches!(
+        name,
+        "loop"
+            | "self"
+            | "and"
+            | "or"
+            | "not"
+            | "is"
+            | "in"
+            | "continue"
+            | "break"
+            | "none"
+            | "None"
+            | "null"
+    )
+}
+
+/// Whether the name is a word for no value.
+#[tactic(auto, unfolding(crate::specs::Unfold::is_none))]
+pub(crate) fn is_none(name: &str) -> bool
+    ensures { result ≡ is_none name.now }
+{
+    matches!(name, "none" | "None" | "null")
+}
+
+/// Why nothing that is known stands here: the lexical fault, the end of the input, or an unknown tag, which is told
+/// at its first token. What is there is taken.
+#[tactic(auto, using(crate::proofs::Going::refused_behind, crate::proofs::Refusing::took_inside))]
+pub(crate) fn unknown_tag(alloc: Global, cursor: &mut Cursor<'_>) -> Error
+    ensures refusal { Refuses cursor.old result }
+    ensures inside { is_end cursor.old.left ≡ false → RefusesIn cursor.old result }
+{
+    match begin_tag(cursor) {
+        Ok(()) => fault(alloc, cursor, "Unknown tag"),
+        Err(error) => error,
+    }
+}
+
+// Takes the start of a tag and its first token, or a token that starts no tag.
+#[tactic(auto, using(crate::proofs::Going::took_all, crate::proofs::Going::refused_behind, crate::proofs::Refusing::took_inside, crate::proofs::Refusing::untaken_inside))]
+fn begin_tag(cursor: &mut Cursor<'_>) -> Result<(), Error>
+    ensures refusal { IfErr result (Refuses cursor.old) }
+    ensures inside { IfErr result (λ e. is_end cursor.old.left ≡ false → RefusesIn cursor.old e) }
+    ensures later { IfOk result (λ _. Took cursor.old cursor.new) }
+{
+    let (token, _) = take(cursor)?;
+    if let Token::TagStart(_) = token {
+        let _ = take(cursor)?;
+    }
+    Ok(())
+}
+
+/// Whether a tag with this closing token comes next.
+pub(crate) fn closes(cursor: &Cursor<'_>, closer: Closer) -> bool
+    ensures { result ≡ closes closer (front cursor.now.left) }
+{
+    match Front::at(cursor) {
+        Front::Closes(found) => found.is(closer),
+        _ => false,
+    }
+}
+
+/// The start of a tag, with this closing token.
+#[tactic(auto, using(crate::proofs::Going::took_all, crate::proofs::Going::refused_behind))]
+pub(crate) fn closed(alloc: Global, cursor: &mut Cursor<'_>, closer: Closer) -> Result<(), Error>
+    ensures gives { Passes result cursor.new.left (closed (closer_of closer) cursor.old.left) }
+    ensures refusal { IfErr result (Refuses cursor.old) }
+    ensures later { IfOk result (λ _. Took cursor.old cursor.new) }
+{
+    if !closes(cursor, closer) {
+        return Err(unknown_tag(alloc, cursor));
+    }
+    let _ = take(cursor)?;
+    let _ = take(cursor)?;
+    Ok(())
+}
+
+/// A tag that holds this closing token alone.
+#[tactic(auto, using(crate::proofs::Going::took_all, crate::proofs::Going::refused_behind))]
+pub(crate) fn closed_tag(
+    alloc: Global,
+    cursor: &mut Cursor<'_>,
+    closer: Closer,
+) -> Result<(), Error>
+    ensures gives { Passes result cursor.new.left (closed_tag (closer_of closer) cursor.old.left) }
+    ensures refusal { IfErr result (Refuses cursor.old) }
+    ensures later { IfOk result (λ _. Took cursor.old cursor.new) }
+{
+    closed(alloc, cursor, closer)?;
+    finish(alloc, cursor)
+}
+
+/// From the start of one span to the end of another.
+pub(crate) fn spanning(start: &Span, end: &Span) -> Span
+    ensures { result ≡ spanning start.now end.now }
+{
+    let mut span = start.copied();
+    span.expand(end);
+    span
+}

@@ -1,0 +1,253 @@
+//! The statements that hold no body.
+
+ghost use Rattle.std.specs.Prelude.{◌≡◌, ◌⊎◌, IfErr, IfOk, false, is_none, true};
+ghost use Rattle.tera_base.specs.Errors.{IsMemory};
+ghost use Rattle.tera_grammar.specs.statements.Reading.{break_of, extends_of, include_of};
+ghost use Rattle.tera_statements.specs.Adding.{AddsAlone};
+ghost use Rattle.tera_statements.specs.Around.{holds_breaks};
+ghost use Rattle.tera_statements.specs.Simple.{is_free, jump_item, jump_output};
+ghost use Rattle.tera_statements.specs.Taking.{Refuses, TellsAs, Took};
+ghost use Rattle.tera_tree.specs.View.{node_view};
+
+use crate::added::Added;
+use crate::around::{Around, Breaks, Opening};
+use crate::faults::{fault, noted, reported};
+use crate::parts::{finish, quote};
+use crate::settings::Setting;
+use tera_base::{Error, Spanned};
+use tera_lexer::Cursor;
+use tera_tree::{Node, build};
+
+/// Reads the rest of an `include`.
+#[tactic(auto, using(crate::proofs::Going::took_all, crate::proofs::Going::refused_behind, crate::proofs::Going::memory_refused))]
+pub(crate) fn include(
+    setting: &Setting<'_>,
+    cursor: &mut Cursor<'_>,
+    around: &Around,
+) -> Result<Added, Error>
+    ensures gives { AddsAlone around.now result cursor.new (λ path start seen. include_of start cursor.old.span seen cursor.old.left) }
+    ensures refusal { IfErr result (Refuses cursor.old) }
+    ensures later { IfOk result (λ _. Took cursor.old cursor.new) }
+{
+    let (name, span) = quote(setting.alloc, cursor)?;
+    finish(setting.alloc, cursor)?;
+    let name = Spanned::new(setting.alloc, name, span)?;
+    Ok(Added::Node(build::include(name)))
+}
+
+/// The two words that act on a loop.
+#[derive(Clone, Copy)]
+pub(crate) enum Jump {
+    Break,
+    Continue,
+}
+
+impl Jump {
+    // The word.
+    fn word(self) -> &'static str {
+        match self {
+            Jump::Break => "break",
+            Jump::Continue => "continue",
+        }
+    }
+
+    // Its node.
+    fn node(self) -> Node
+        ensures { node_view result ≡ jump_output self }
+    {
+        match self {
+            Jump::Break => Node::Break,
+            Jump::Continue => Node::Continue,
+        }
+    }
+}
+
+/// Reads the rest of a `break` or a `continue`.
+#[tactic(auto, using(crate::proofs::Going::refused_behind, crate::proofs::Going::memory_refused))]
+pub(crate) fn read_jump(
+    setting: &Setting<'_>,
+    cursor: &mut Cursor<'_>,
+    around: &Around,
+    jump: Jump,
+) -> Result<Added, Error>
+    ensures gives { AddsAlone around.now result cursor.new (λ path start seen. break_of path (jump_item jump) start cursor.old.span seen cursor.old.left) }
+    ensures refusal { IfErr result (Refuses cursor.old) }
+    ensures later { IfOk result (λ _. Took cursor.old cursor.new) }
+{
+    check_jump(setting, cursor, around, jump)?;
+    finish(setting.alloc, cursor)?;
+    Ok(Added::Node(jump.node()))
+}
+
+// Refuses a `break` or a `continue`, whose word was taken last, where neither may stand.
+#[tactic(auto, using(crate::proofs::Going::same_refused))]
+fn check_jump(
+    setting: &Setting<'_>,
+    cursor: &Cursor<'_>,
+    around: &Around,
+    jump: Jump,
+) -> Result<(), Error>
+    ensures stands { IfOk result (λ _. holds_breaks around.now.breaks ≡ true) }
+    ensures fails { IfErr result (λ e. IsMemory e ⊎ (holds_breaks around.now.breaks ≡ false)) }
+    ensures refusal { IfErr result (Refuses cursor.now) }
+{
+    let word = jump.word();
+    match &around.breaks {
+        Breaks::Loop => Ok(()),
+        Breaks::Capture(opening) => {
+            let name = opening.context.name();
+            let message = format!(in setting.alloc; "`{word}` cannot be used inside a {name}");
+            let error = reported(setting.alloc, cursor, message);
+            Err(inside_of(setting, error, opening))
+        }
+        Breaks::Nothing => {
+            let message = format!(in setting.alloc; "{word} can only be used in a for loop");
+            Err(reported(setting.alloc, cursor, message))
+        }
+    }
+}
+
+/// What keeps a template from extending another at a place, if anything does.
+#[derive(Clone, Copy)]
+pub(crate) enum Extension<'p> {
+    /// Nothing but what stands around.
+    Free,
+    /// Something that comes before.
+    Late,
+    /// It extends this template.
+    Again(&'p str),
+}
+
+impl<'p> Extension<'p> {
+    /// What keeps it at the start of a body, in a template that extends this one, as far as it is known.
+    pub fn behind(parent: Option<&'p str>) -> Extension<'p> {
+        match parent {
+            Some(parent) => Extension::Again(parent),
+            None => Extension::Free,
+        }
+    }
+
+    /// What keeps it behind a node of a body.
+    pub fn later(self) -> Extension<'p> {
+        match self {
+            Extension::Free => Extension::Late,
+            other => other,
+        }
+    }
+}
+
+/// Reads the rest of an `extends`.
+#[tactic(auto, using(crate::proofs::Going::took_all, crate::proofs::Going::refused_behind))]
+pub(crate) fn extends(
+    setting: &Setting<'_>,
+    cursor: &mut Cursor<'_>,
+    around: &Around,
+    extension: Extension<'_>,
+) -> Result<Added, Error>
+    requires { is_none around.now.innermost ≡ true → is_free extension ≡ true }
+    ensures gives { AddsAlone around.now result cursor.new (λ path start seen. extends_of path start cursor.old.span seen cursor.old.left) }
+    ensures refusal { IfErr result (Refuses cursor.old) }
+    ensures later { IfOk result (λ _. Took cursor.old cursor.new) }
+{
+    let (parent, _) = quote(setting.alloc, cursor)?;
+    check_extension(setting, cursor, around, extension)?;
+    finish(setting.alloc, cursor)?;
+    Ok(Added::Parent(parent))
+}
+
+// Refuses to extend a template, whose name was taken last, where that may not be.
+fn check_extension(
+    setting: &Setting<'_>,
+    cursor: &Cursor<'_>,
+    around: &Around,
+    extension: Extension<'_>,
+) -> Result<(), Error>
+    requires { is_none around.now.innermost ≡ true → is_free extension ≡ true }
+    ensures stands { IfOk result (λ _. is_none around.now.innermost ≡ true) }
+    ensures fails { IfErr result (λ e. IsMemory e ⊎ (is_none around.now.innermost ≡ false)) }
+    ensures refusal { IfErr result (Refuses cursor.now) }
+{
+    match extension {
+        Extension::Again(parent) => Err(again_extended(setting, cursor, parent)),
+        Extension::Late => Err(late_extended(setting, cursor)),
+        Extension::Free => check_outermost(
+            setting,
+            cursor,
+            around,
+            "`extends` cannot be nested in other tags.",
+        ),
+    }
+}
+
+/// That a template extends another, at the string taken last, and extends one already.
+pub(crate) fn again_extended(setting: &Setting<'_>, cursor: &Cursor<'_>, parent: &str) -> Error
+    ensures { Refuses cursor.now result }
+{
+    let message = format!(in setting.alloc; "Template is already extending `{parent}`");
+    reported(setting.alloc, cursor, message)
+}
+
+/// That a template extends another, at the string taken last, behind something else.
+pub(crate) fn late_extended(setting: &Setting<'_>, cursor: &Cursor<'_>) -> Error
+    ensures { Refuses cursor.now result }
+{
+    fault(
+        setting.alloc,
+        cursor,
+        "`extends` needs to be the first tag of the template",
+    )
+}
+
+/// Refuses what may stand in nothing else, with this text.
+#[tactic(auto, using(crate::proofs::Going::same_refused))]
+pub(crate) fn check_outermost(
+    setting: &Setting<'_>,
+    cursor: &Cursor<'_>,
+    around: &Around,
+    text: &str,
+) -> Result<(), Error>
+    ensures stands { IfOk result (λ _. is_none around.now.innermost ≡ true) }
+    ensures fails { IfErr result (λ e. IsMemory e ⊎ (is_none around.now.innermost ≡ false)) }
+    ensures refusal { IfErr result (Refuses cursor.now) }
+{
+    match &around.innermost {
+        None => Ok(()),
+        Some(opening) => {
+            let error = fault(setting.alloc, cursor, text);
+            Err(inside_of(setting, error, opening))
+        }
+    }
+}
+
+/// Refuses a block, whose word was taken last, where none may stand.
+#[tactic(auto, using(crate::proofs::Going::same_refused))]
+pub(crate) fn check_block(
+    setting: &Setting<'_>,
+    cursor: &Cursor<'_>,
+    around: &Around,
+) -> Result<(), Error>
+    ensures stands { IfOk result (λ _. is_none around.now.barrier ≡ true) }
+    ensures fails { IfErr result (λ e. IsMemory e ⊎ (is_none around.now.barrier ≡ false)) }
+    ensures refusal { IfErr result (Refuses cursor.now) }
+{
+    match &around.barrier {
+        None => Ok(()),
+        Some(opening) => {
+            let name = opening.context.name();
+            let message = format!(in setting.alloc; "Blocks cannot be written inside a {name}.");
+            let error = reported(setting.alloc, cursor, message);
+            Err(inside_of(setting, error, opening))
+        }
+    }
+}
+
+// The error with a note on where what stands around begins.
+fn inside_of(setting: &Setting<'_>, error: Error, opening: &Opening) -> Error
+    ensures { TellsAs error result }
+{
+    let name = opening.context.name();
+    match format!(in setting.alloc; "the {name} starts here") {
+        Ok(label) => noted(error, label.as_str(), &opening.at),
+        Err(refused) => Error::from(refused),
+    }
+}

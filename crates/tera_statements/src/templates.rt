@@ -1,0 +1,317 @@
+//! Whole templates.
+
+ghost use Rattle.std.specs.Prelude.{◌≡◌, ◌⊎◌, IfErr, IfOk, None, OnOk, []};
+ghost use Rattle.tera_base.specs.Errors.{IsMemory};
+ghost use Rattle.tera_grammar.specs.statements.Names as grammar_names;
+ghost use Rattle.tera_grammar.specs.statements.Output.{AddsNothing};
+ghost use Rattle.tera_grammar.specs.statements.Reading.{at, body, step};
+ghost use Rattle.tera_grammar.specs.statements.Reading.Loops as loops;
+ghost use Rattle.tera_grammar.specs.statements.Reading.Loops.{node_weight, turn, weight, with_added};
+ghost use Rattle.tera_grammar.specs.statements.Reading.Parts.{front};
+ghost use Rattle.tera_grammar.specs.statements.Top.{is_blank};
+ghost use Rattle.tera_lexer.specs.code.Cursors.{Position};
+ghost use Rattle.tera_lexer.specs.grammar.Faults.{EndsWith};
+ghost use Rattle.tera_lexer.specs.grammar.Place.{IsWithin};
+ghost use Rattle.tera_statements.specs.Adding.{added_view, here};
+ghost use Rattle.tera_statements.specs.Outputs.{output_view};
+ghost use Rattle.tera_statements.specs.Items.{AreEmptyTexts, GivesStep, GoesByItem};
+ghost use Rattle.tera_statements.specs.Kinds.{kind_of};
+ghost use Rattle.tera_expr.specs.Rooms.{AreValid, limits_of};
+ghost use Rattle.tera_statements.specs.Taking.{RefusesIn, Took};
+ghost use Rattle.tera_statements.specs.Templates.{Excludes, GivesTemplate, GivesTop, ReadsTemplate, StandsNext, below_top, phase_if_any, phase_of, weight_of};
+ghost use Rattle.tera_statements.specs.declared.fronts.Front.TheVariants as fronts;
+ghost use Rattle.tera_statements.specs.declared.fronts.Opener.TheVariants as openers;
+ghost use Rattle.tera_tree.specs.View.{node_view};
+
+use crate::added::{Added, Names};
+use crate::around::Around;
+use crate::faults::fault;
+use crate::fronts::{Front, Opener};
+use crate::items::{enter, item};
+use crate::outputs::ParserOutput;
+use crate::parts::{quote, unknown_tag};
+use crate::settings::Setting;
+use crate::simple::{Extension, again_extended, late_extended};
+use std::alloc::Global;
+use tera_base::{Error, Span};
+use tera_expr::Limits;
+use tera_lexer::Cursor;
+use tera_tree::Node;
+
+impl ParserOutput {
+    // The name of the template that it extends, as far as it is known.
+    fn parent(&self) -> Option<&str> {
+        match &self.parent {
+            Some(name) => Some(name.as_str()),
+            None => None,
+        }
+    }
+
+    // Takes what an item adds.
+    fn add(&mut self, added: Added) -> Result<(), Error>
+        ensures added { OnOk result (output_view self.new ≡ with_added (output_view self.old) (added_view added)) }
+        ensures refusal { IfErr result IsMemory }
+        ensures nothing { IfErr result (λ _. added_view added ≡ AddsNothing → ⊥) }
+    {
+        match added {
+            Added::Nothing => Ok(()),
+            Added::Node(node) => {
+                self.nodes.push(node)?;
+                Ok(())
+            }
+            Added::Parent(name) => {
+                self.parent = Some(name);
+                Ok(())
+            }
+            Added::Definition(definition) => {
+                self.component_definitions.push(definition)?;
+                Ok(())
+            }
+        }
+    }
+}
+
+/// How the top level of a template has been read so far: from the start; in a template that extends no other; in one
+/// that does.
+#[derive(Clone, Copy)]
+enum Phase {
+    Starting,
+    Standing,
+    Extending,
+}
+
+/// What an item of the top level is: white space, a comment or a definition; a block; an `extends`; anything else.
+#[derive(Clone, Copy)]
+enum Weight {
+    Silent,
+    Kept,
+    Parent,
+    Other,
+}
+
+impl Phase {
+    // The phase behind an item, where such an item may stand.
+    fn behind(self, weight: Weight) -> Option<Phase>
+        ensures { phase_if_any result ≡ turn (phase_of self) (weight_of weight) }
+    {
+        match (self, weight) {
+            (Phase::Starting, Weight::Silent) => Some(Phase::Starting),
+            (Phase::Starting, Weight::Parent) => Some(Phase::Extending),
+            (Phase::Starting, Weight::Kept | Weight::Other) => Some(Phase::Standing),
+            (Phase::Standing, Weight::Parent) => None,
+            (Phase::Standing, _) => Some(Phase::Standing),
+            (Phase::Extending, Weight::Silent | Weight::Kept) => Some(Phase::Extending),
+            (Phase::Extending, Weight::Parent | Weight::Other) => None,
+        }
+    }
+}
+
+// What an item is to the top level.
+fn weigh(added: &Added) -> Weight
+    ensures { weight_of result ≡ weight (added_view added.now) }
+{
+    match added {
+        Added::Nothing | Added::Definition(_) => Weight::Silent,
+        Added::Parent(_) => Weight::Parent,
+        Added::Node(node) => node_weight(node),
+    }
+}
+
+// What a node is to it.
+fn node_weight(node: &Node) -> Weight
+    ensures { weight_of result ≡ node_weight (node_view node.now) }
+{
+    match node {
+        Node::Content(text) if is_blank(text.as_str()) => Weight::Silent,
+        Node::Block(_) => Weight::Kept,
+        _ => Weight::Other,
+    }
+}
+
+// Whether a text is of white space alone.
+fn is_blank(text: &str) -> bool
+    ensures { result ≡ is_blank text.now }
+{
+    text.trim_start().is_empty()
+}
+
+/// Reads the tokens that are left as a whole template, within limits that [`Limits::valid`](tera_expr::Limits::valid)
+/// accepts.
+///
+/// An error is the first fault that is met from left to right: the lexical fault, the end of the input, or a syntax
+/// error, whose notes name no file; or it is `Memory`. Empty texts, as comments are, take no memory.
+pub fn read_template(
+    alloc: Global,
+    mut cursor: Cursor<'_>,
+    limits: Limits,
+) -> Result<ParserOutput, Error>
+    requires { AreValid (limits_of limits) }
+    ensures gives { GivesTemplate (limits_of limits) result cursor.entry.left }
+    ensures refusal { IfErr result (RefusesIn cursor.entry) }
+    ensures empty { IfErr result (λ _. AreEmptyTexts cursor.entry.left → ⊥) }
+{
+    let setting = Setting {
+        alloc,
+        limits,
+        parent: None,
+    };
+    whole(&setting, &mut cursor)
+}
+
+// Reads a whole template.
+#[tactic(auto, using(crate::proofs::Refusing::goes_inside, crate::proofs::Refusing::memory_inside))]
+fn whole(setting: &Setting<'_>, cursor: &mut Cursor<'_>) -> Result<ParserOutput, Error>
+    ensures gives { ReadsTemplate (limits_of setting.now.limits) result cursor.old.left }
+    ensures refusal { IfErr result (RefusesIn cursor.old) }
+    ensures empty { IfErr result (λ _. AreEmptyTexts cursor.old.left → ⊥) }
+{
+    let mut names = Names::new(setting.alloc);
+    let mut output = ParserOutput::empty(setting.alloc);
+    let mut phase = Phase::Starting;
+    'items: while let Some((added, next)) = next_item(
+        setting,
+        cursor,
+        &mut names,
+        output.parent(),
+        phase,
+    )? {
+        output.add(added)?;
+        phase = next;
+    }
+    if !cursor.at_end() {
+        return Err(unknown_tag(setting.alloc, cursor));
+    }
+    Ok(output)
+}
+
+// Reads the next item of the top level, where one stands there, and tells the phase behind it.
+#[tactic(auto, using(crate::proofs::Refusing::memory_inside))]
+fn next_item(
+    setting: &Setting<'_>,
+    cursor: &mut Cursor<'_>,
+    names: &mut Names,
+    parent: Option<&str>,
+    phase: Phase,
+) -> Result<Option<(Added, Phase)>, Error>
+    ensures gives { GivesTop (limits_of setting.now.limits) phase result (here names.new cursor.new) (here names.old cursor.old) }
+    ensures refusal { IfErr result (RefusesIn cursor.old) }
+    ensures empty { IfErr result (λ _. AreEmptyTexts cursor.old.left → ⊥) }
+    ensures later { GoesByItem result cursor.old cursor.new }
+{
+    refuse_extends(setting, cursor, parent, phase)?;
+    let first = next_place(cursor);
+    let Some(added) = top_item(setting, cursor, names, parent)? else {
+        return Ok(None);
+    };
+    let Some(next) = phase.behind(weigh(&added)) else {
+        return Err(ignored(setting.alloc, cursor, first));
+    };
+    Ok(Some((added, next)))
+}
+
+// Refuses an `extends` that comes next, where none may stand.
+fn refuse_extends(
+    setting: &Setting<'_>,
+    cursor: &mut Cursor<'_>,
+    parent: Option<&str>,
+    phase: Phase,
+) -> Result<(), Error>
+    ensures stays { IfOk result (λ _. cursor.new ≡ cursor.old) }
+    ensures excludes { IfErr result (λ _. (seen : grammar_names.Names) → Excludes (limits_of setting.now.limits) (at seen cursor.old.left) (phase_of phase)) }
+    ensures refusal { IfErr result (RefusesIn cursor.old) }
+    ensures empty { IfErr result (λ _. AreEmptyTexts cursor.old.left → ⊥) }
+{
+    if phase.behind(Weight::Parent).is_some() {
+        return Ok(());
+    }
+    match Front::at(cursor) {
+        Front::Opens(Opener::Extends) => Err(late_extends(setting, cursor, parent)),
+        _ => Ok(()),
+    }
+}
+
+// That an `extends`, which comes next, stands where none may. It is taken up to its string, at which that is told.
+#[tactic(auto, using(crate::proofs::Refusing::took_inside))]
+fn late_extends(setting: &Setting<'_>, cursor: &mut Cursor<'_>, parent: Option<&str>) -> Error
+    requires { fronts.Opens openers.Extends ≡ kind_of (front cursor.old.left) }
+    ensures { RefusesIn cursor.old result }
+{
+    match take_extends(setting.alloc, cursor) {
+        Ok(()) => match parent {
+            Some(parent) => again_extended(setting, cursor, parent),
+            None => late_extended(setting, cursor),
+        },
+        Err(error) => error,
+    }
+}
+
+// Takes an `extends`, which comes next, up to its string.
+#[tactic(auto, using(crate::proofs::Going::took_all, crate::proofs::Refusing::took_inside, crate::proofs::Refusing::memory_inside))]
+fn take_extends(alloc: Global, cursor: &mut Cursor<'_>) -> Result<(), Error>
+    requires { fronts.Opens openers.Extends ≡ kind_of (front cursor.old.left) }
+    ensures refusal { IfErr result (RefusesIn cursor.old) }
+    ensures later { IfOk result (λ _. Took cursor.old cursor.new) }
+{
+    enter(cursor, Opener::Extends)?;
+    let _ = quote(alloc, cursor)?;
+    Ok(())
+}
+
+// Where the next token stands, if it is shown.
+fn next_place(cursor: &Cursor<'_>) -> Option<Span>
+    ensures { StandsNext result cursor.now }
+{
+    match cursor.first_span() {
+        Some(span) => Some(span.copied()),
+        None => None,
+    }
+}
+
+// Reads the next item of the top level, where one stands there; the template extends this parent, as far as it is known.
+fn top_item(
+    setting: &Setting<'_>,
+    cursor: &mut Cursor<'_>,
+    names: &mut Names,
+    parent: Option<&str>,
+) -> Result<Option<Added>, Error>
+    ensures gives { GivesStep [] result (here names.new cursor.new) (here names.old cursor.old) (step (limits_of setting.now.limits) (body (below_top (limits_of setting.now.limits)) (limits_of setting.now.limits)) [] (here names.old cursor.old).seen (front cursor.old.left)) }
+    ensures refusal { IfErr result (RefusesIn cursor.old) }
+    ensures empty { IfErr result (λ _. AreEmptyTexts cursor.old.left → ⊥) }
+    ensures later { GoesByItem result cursor.old cursor.new }
+{
+    let inside = Setting {
+        alloc: setting.alloc,
+        limits: setting.limits,
+        parent,
+    };
+    let around = Around::nothing();
+    let below = setting.limits.bodies - 1;
+    item(&inside, cursor, names, &around, Extension::Free, below)
+}
+
+// That an item is of no use in a template that extends another: from its first token, whose place is known if it was
+// shown, to the one taken last.
+fn ignored(alloc: Global, cursor: &Cursor<'_>, first: Option<Span>) -> Error
+    ensures { (old : Position) → Took old cursor.now → StandsNext first old → RefusesIn old result }
+{
+    let text =
+        "This content would be ignored: only `extends`, `block` and `component` are allowed at the top level of a child template.";
+    match first {
+        Some(first) => Error::syntax_error(alloc, text, &up_to_last(cursor, &first)),
+        None => fault(alloc, cursor, text),
+    }
+}
+
+// From the start of a span to the end of the token taken last.
+fn up_to_last(cursor: &Cursor<'_>, first: &Span) -> Span
+    ensures within { IsWithin cursor.now.source first.now → IsWithin cursor.now.source result }
+    ensures starts { result.range.start ≡ first.now.range.start }
+    ensures ends { EndsWith first.now result ⊎ EndsWith cursor.now.span result }
+{
+    let last = cursor.current_span();
+    let mut span = first.copied();
+    if span.range.end <= last.range.end {
+        span.expand(last);
+    }
+    span
+}
