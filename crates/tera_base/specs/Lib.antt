@@ -3,6 +3,7 @@ pub mod Errors
 pub mod Values
 pub mod ValueView
 pub mod Text
+pub mod Keys
 pub mod formers
 pub mod Pairs
 pub mod Same

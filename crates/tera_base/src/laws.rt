@@ -1,6 +1,7 @@
 //! What equality decides, and that it agrees with hashes. Each function has the law as its promise.
 
-ghost use Rattle.std.specs.Prelude.{◌≡◌, ◌↔◌, IsTrue};
+ghost use Rattle.std.specs.Prelude.{◌≡◌, ◌↔◌, IsTrue, fold};
+ghost use Rattle.tera_base.specs.contracts.values.KeyHash.TheImpl as derived_hash;
 ghost use Rattle.tera_base.specs.ErrorView.{error_view, report_view, note_view};
 ghost use Rattle.tera_base.specs.Spanned.{node_of, span_of};
 ghost use Rattle.tera_base.specs.ValueView.{key_view, value_view, pairs_view};
@@ -19,7 +20,9 @@ pub fn same_key(a: &Key, b: &Key) -> bool
 
 /// Equal keys hash alike: they take one state of a hasher to one state.
 pub fn hashes_agree<H: Hasher>(a: &Key, b: &Key, first: &mut H, second: &mut H)
-    ensures { key_view a.now ≡ key_view b.now → first.old ≡ second.old → first.new ≡ second.new }
+    ensures alike { key_view a.now ≡ key_view b.now → first.old ≡ second.old → first.new ≡ second.new }
+    ensures first { first.new ≡ fold H.write first.old (derived_hash.ghosts.hash_input a.now) }
+    ensures second { second.new ≡ fold H.write second.old (derived_hash.ghosts.hash_input b.now) }
 {
     a.hash(first);
     b.hash(second);

@@ -5,6 +5,7 @@ mod contexts;
 mod copies;
 mod equality;
 mod errors;
+mod keys;
 mod kinds;
 pub mod laws;
 mod show;

@@ -1,16 +1,15 @@
 //! Values, and the keys of their maps.
 
-ghost use Rattle.std.specs.Prelude.{◌≡◌, ◌↔◌, [], ◌∷◌, ◌++◌, false, IsTrue, IfOk, OnOk, OnErr, IfErr, length, map, position, option_copied};
+ghost use Rattle.std.specs.Prelude.{◌≡◌, ◌↔◌, [], ◌∷◌, ◌++◌, false, IsTrue, IfOk, OnOk, OnErr, IfErr, length, map, option_copied};
 ghost use Rattle.std.specs.Iterator.Adapters.{zip_first, zip_second};
 ghost use Rattle.std.specs.List.{zip, list_any, IsDistinct};
-ghost use Rattle.std.specs.Option.{is_some};
 ghost use Rattle.std.specs.Slice.Iter.{iter_rest};
 ghost use Rattle.tera_base.specs.Errors.{IsMemory};
 ghost use Rattle.tera_base.specs.Pairs.{same_key, put, value_at};
 ghost use Rattle.tera_base.specs.ValueView.{key_view};
 
 use crate::errors::Error;
-use indexmap::{IndexSet, set};
+use crate::keys::Keys;
 use std::alloc::{AllocError, Global};
 use std::iter::Zip;
 use std::marker::Model;
@@ -48,7 +47,7 @@ pub type Map = MapOf<Value>;
 /// the same places.
 #[derive(Debug, Drop)]
 pub struct MapOf<V> {
-    keys: IndexSet<Key>,
+    keys: Keys,
     values: Vec<V>,
 }
 
@@ -63,9 +62,9 @@ impl<V> Model for MapOf<V> {
 
     ghost coded = { coded_list (coded× the_row.coded V.code) };
 
-    ghost view = { λ m. zip m.keys.keys m.values.items };
+    ghost view = { λ m. zip m.keys m.values.items };
 
-    ghost invariant = { λ m. length m.values.items ≡ length m.keys.keys };
+    ghost invariant = { λ m. length m.values.items ≡ length m.keys };
 }
 
 impl<V> MapOf<V> {
@@ -76,7 +75,7 @@ impl<V> MapOf<V> {
         ensures { result ≡ [] }
     {
         MapOf {
-            keys: IndexSet::new(alloc),
+            keys: Keys::new(alloc),
             values: Vec::new(alloc),
         }
     }
@@ -98,7 +97,7 @@ impl<V> MapOf<V> {
     pub fn get(&self, key: &Key) -> Option<&V>
         ensures { option_copied result ≡ value_at key.now self.now }
     {
-        match place_of(&self.keys, key) {
+        match self.keys.place_of(key) {
             Some(place) => Some(&self.values[place]),
             None => None,
         }
@@ -119,11 +118,11 @@ impl<V> MapOf<V> {
     }
 
     /// The pairs, in the order in which their keys came. No key comes twice.
-    pub fn iter(&self) -> Zip<set::Iter<'_, Key>, slice::Iter<'_, V>>
-        ensures pairs { zip (zip_first result) (iter_rest (zip_second result)) ≡ self.now }
+    pub fn iter(&self) -> Zip<slice::Iter<'_, Key>, slice::Iter<'_, V>>
+        ensures pairs { zip (iter_rest (zip_first result)) (iter_rest (zip_second result)) ≡ self.now }
         ensures distinct { IsDistinct same_key (keys_of self.now) }
     {
-        self.keys.iter().zip(self.values.iter())
+        self.keys.as_slice().iter().zip(self.values.iter())
     }
 
     /// The keys, in the order in which they came.
@@ -153,36 +152,27 @@ impl<V> MapOf<V> {
         ensures keys { IfOk result (λ m. map key_view (keys_of m) ≡ map key_view (keys_of self.now)) }
         ensures values { IfOk result (λ m. values_of m ≡ values.items) }
     {
-        let keys = copy_keys(&self.keys)?;
+        let keys = self.keys.copied()?;
         Ok(MapOf { keys, values })
     }
-}
-
-// The place of a key.
-#[tactic(auto, using(crate::proofs::Puts::place_derived, crate::proofs::Puts::found_derived))]
-fn place_of(keys: &IndexSet<Key>, key: &Key) -> Option<usize>
-    ensures place { result ≡ position (same_key key.now) keys.now.keys }
-    ensures found { is_some result ≡ list_any (same_key key.now) keys.now.keys }
-{
-    keys.get_index_of(key)
 }
 
 // Puts a pair among keys and values that stand at the same places.
 #[tactic(auto, using(crate::proofs::Puts::put_found, crate::proofs::Puts::put_new, crate::proofs::Puts::value_found, crate::proofs::Puts::value_new, crate::proofs::Puts::place_within))]
 fn put_pair<V: Drop>(
-    keys: &mut IndexSet<Key>,
+    keys: &mut Keys,
     values: &mut Vec<V>,
     key: Key,
     value: V,
 ) -> Result<Option<V>, Error>
-    requires { length values.old.items ≡ length keys.old.keys }
-    ensures beside { length values.new.items ≡ length keys.new.keys }
-    ensures before { IfOk result (λ before. before ≡ value_at key (zip keys.old.keys values.old.items)) }
-    ensures pairs { OnOk result (zip keys.new.keys values.new.items ≡ put key value (zip keys.old.keys values.old.items)) }
-    ensures unchanged { OnErr result (zip keys.new.keys values.new.items ≡ zip keys.old.keys values.old.items) }
+    requires { length values.old.items ≡ length keys.old }
+    ensures beside { length values.new.items ≡ length keys.new }
+    ensures before { IfOk result (λ before. before ≡ value_at key (zip keys.old values.old.items)) }
+    ensures pairs { OnOk result (zip keys.new values.new.items ≡ put key value (zip keys.old values.old.items)) }
+    ensures unchanged { OnErr result (zip keys.new values.new.items ≡ zip keys.old values.old.items) }
     ensures refusal { IfErr result IsMemory }
 {
-    match place_of(keys, &key) {
+    match keys.place_of(&key) {
         Some(place) => {
             drop(key);
             Ok(Some(replace(&mut values[place], value)))
@@ -195,30 +185,20 @@ fn put_pair<V: Drop>(
 }
 
 // Puts a new key and its value last.
-#[tactic(auto, using(crate::proofs::Puts::new_key))]
 fn push_pair<V: Drop>(
-    keys: &mut IndexSet<Key>,
+    keys: &mut Keys,
     values: &mut Vec<V>,
     key: Key,
     value: V,
 ) -> Result<(), AllocError>
-    requires { list_any (same_key key) keys.old.keys ≡ false }
-    ensures keys { OnOk result (keys.new.keys ≡ keys.old.keys ++ key ∷ []) }
+    requires { list_any (same_key key) keys.old ≡ false }
+    ensures keys { OnOk result (keys.new ≡ keys.old ++ key ∷ []) }
     ensures values { OnOk result (values.new.items ≡ values.old.items ++ value ∷ []) }
-    ensures same_keys { OnErr result (keys.new.keys ≡ keys.old.keys) }
+    ensures same_keys { OnErr result (keys.new ≡ keys.old) }
     ensures same_values { OnErr result (values.new.items ≡ values.old.items) }
 {
     values.reserve(1)?;
-    keys.insert(key)?;
+    keys.push(key)?;
     values.push(value)?;
     Ok(())
-}
-
-#[tactic(auto, using(crate::proofs::Rows::copied_keys, crate::proofs::Rows::copied_len))]
-fn copy_keys(keys: &IndexSet<Key>) -> Result<IndexSet<Key>, AllocError>
-    ensures same { IfOk result (λ c. map key_view c.keys ≡ map key_view keys.now.keys) }
-    ensures len { IfOk result (λ c. length c.keys ≡ length keys.now.keys) }
-{
-    let copies = keys.clone()?;
-    Ok(copies)
 }

@@ -14,9 +14,6 @@ use denote.Param.Weighed.{Weighed, most}
 use denote.Model.Placed.{held, view_places_where}
 use Rattle.std.specs.List.{zip}
 use Rattle.std.specs.Map.{values_of}
-use Rattle.std.specs.HashSet.{HashSet}
-use Rattle.std.specs.declared.hash.BuildHasherDefault.{BuildHasherDefault}
-use Rattle.std.specs.declared.hash.FoldHasher.{FoldHasher}
 use Rattle.std.specs.declared.alloc.Global.{Global}
 use Rattle.std.specs.contracts.alloc.Global as heap
 use Rattle.std.specs.contracts.impls.GlobalAllocator.TheImpl.{ghosts}
@@ -44,12 +41,8 @@ the_items X es = values_of es
 pub the_items_listed : (X : Type 0) (es : List (Key × X)) → listed _ (children (the_former this) X es) ≡ the_items X es
 the_items_listed X es = values_listed Key X es
 
--- the keys in the order in which they came
-abbrev Keys : Type 0
-Keys = HashSet Key (BuildHasherDefault FoldHasher)
-
 abbrev fields : Former {0}
-fields = via (pair (const Keys) (vec.the_former this Global)) Inside (λ X a. (a.keys, a.values)) (λ X v. record { keys = v.0; values = v.1 }) (λ X a. refl) (λ X v. refl)
+fields = via (pair (const (List Key)) (vec.the_former this Global)) Inside (λ X a. (a.keys, a.values)) (λ X v. record { keys = v.0; values = v.1 }) (λ X a. refl) (λ X v. refl)
 
 zip-map : {K X Y : Type 0} (h : X → Y) (ks : List K) (vs : List X) → zip ks (map h vs) ≡ map (on_value h) (zip ks vs)
 zip-map h [] vs = refl
@@ -65,8 +58,8 @@ zip-held K X (k ∷ ks) (v ∷ vs) e = λ i. (one_more (zip-held K X ks vs (omeg
 module _ (R S : RattleType) (h : R.Denot → S.Denot) where
   pub the_places : Alike R S h → Alike (C.the_row R) (C.the_row S) ((the_former this).map R.Denot S.Denot h)
   the_places a = view_places_where fields (the_former this) view
-      (λ X Y k u i. zip-map k u.keys.keys u.values.items i)
-      (λ X u. length u.values.items ≡ length u.keys.keys) (λ X Y k u e. sym (length-map u.values.items k) ∙ e) (λ X u e. zip-held Key X u.keys.keys u.values.items e)
+      (λ X Y k u i. zip-map k u.keys u.values.items i)
+      (λ X u. length u.values.items ≡ length u.keys) (λ X Y k u e. sym (length-map u.values.items k) ∙ e) (λ X u e. zip-held Key X u.keys u.values.items e)
       R.Denot S.Denot h (C.the_row R).coded (C.the_row S).coded
       (invariant R.Denot) (invariant S.Denot) (λ u. ℕ_set _ _) (λ u. ℕ_set _ _)
       (λ u e. length-map u.values.items h ∙ e) (λ u e. sym (length-map u.values.items h) ∙ e) (λ u e. e)

@@ -10,5 +10,5 @@ returns-in-Some g c =
 
 pub returns-in-None : goal.returns-in-None
 returns-in-None g c =
-    sym (value_new c.args.key.now c.self.inside.keys.keys c.self.inside.values.items (sym c.in-None.is ∙ c.place_of.ensures.place))
+    sym (value_new c.args.key.now c.self.inside.keys c.self.inside.values.items (sym c.in-None.is ∙ c.place_of.ensures.place))
     ∙ ap (value_at c.args.key.now) c.self.view_is

@@ -3,4 +3,4 @@ use Rattle.tera_base.proofs.Rows.{rows_len}
 use Rattle.tera_base.proofs.values.MapOf.len.Goals as goal
 
 pub returns : goal.returns
-returns g c = c.len.ensures.len ∙ rows_len _ _ _ c.self.view_is c.self.invariant
+returns g c = c.len.ensures ∙ rows_len _ _ _ c.self.view_is c.self.invariant
