@@ -1,5 +1,5 @@
 -- A cursor that goes on by one token.
-use Rattle.std.proofs.Common.{◌≡◌, ℕ, ◌<◌, ◌+◌, ◌^◌, length, false, List, Option, Some, None, Result, Ok, Err, ap, sym, ◌∙◌, refl, subst, arith}
+use Rattle.std.proofs.Common.{◌≡◌, ℕ, suc, ◌<◌, ◌+◌, ◌^◌, length, false, List, Option, Some, None, Result, Ok, Err, ap, sym, ◌∙◌, refl, subst, arith}
 use Rattle.tera_base.specs.declared.utils.Span.{Span}
 use Rattle.tera_base.specs.declared.errors.Error.{Error}
 use Rattle.tera_lexer.specs.grammar.Place.{IsWithin}
@@ -8,9 +8,9 @@ use Rattle.tera_lexer.specs.grammar.Tokens.{Tok, Items, Ended, Failed}
 use Rattle.tera_lexer.specs.reading.Stream.{Stream}
 use Rattle.tera_lexer.specs.code.Steps.{Stops, Steps}
 use Rattle.tera_lexer.specs.code.Seen.{seen}
-use Rattle.tera_lexer.specs.code.Cursors.{Sight, is_end, size}
+use Rattle.tera_lexer.specs.code.Cursors.{Sight, Takes, is_end, size}
 use Rattle.tera_lexer.specs.grammar.Lexed.{AreLexed}
-use Rattle.tera_lexer.specs.code.CursorView.{stopped_before, with_item, left_behind, in_sight, IsReadAhead, Follows, AreReadAhead, IsTokenAhead}
+use Rattle.tera_lexer.specs.code.CursorView.{stopped_before, with_item, left_behind, in_sight, position_of, IsReadAhead, Follows, AreReadAhead, IsTokenAhead}
 use Rattle.tera_lexer.specs.declared.lexer.tokens.Token.{Token}
 use Rattle.tera_lexer.specs.declared.lexer.cursor.Cursor.TheInside.{Inside}
 use Rattle.tera_lexer.proofs.Tilings.{lexed_behind}
@@ -106,6 +106,33 @@ took_ahead old new p third are first near far steps taken span =
       fits = subst (λ (l : List ℕ). length l < 2 ^ 64) (sym on.whole) are.fits;
       span = subst (IsWithin new.tokens.source) (sym span) (subst (λ l. IsWithin l p.1) (sym on.whole) is_first);
     }
+
+-- whether an item can be shown does not hang on what is behind it
+sight_of : (item : Option (Result (Token × Span) Error)) (m n : ℕ) → 0 < in_sight item m → 0 < in_sight item n
+sight_of None m n some = absurd (omega (arith, some))
+sight_of (Some (Ok p)) m n some = omega arith
+sight_of (Some (Err e)) m n some = absurd (omega (arith, some))
+
+-- and so the next token was taken
+pub took : (old new : Inside) (p : Token × Span) (third : Option (Result (Token × Span) Error)) → AreReadAhead old → old.first ≡ Some (Ok p) → new.first ≡ old.second → new.second ≡ third → Steps old.tokens third new.tokens → new.taken ≡ old.taken + 1 → new.current_span ≡ p.1 → Takes (position_of old) (Ok (Some p)) (position_of new)
+took old new p third are first near far steps taken span =
+    let on = further old.tokens new.tokens old.second third are.second steps in
+    let here : left_behind old.tokens old.first old.second ≡ toks.Token (seen p.0) p.1 (left_behind new.tokens old.second third)
+    = ap (λ o. left_behind old.tokens o old.second) first ∙ taken_left old.tokens new.tokens old.second third on p in
+    let left : left_behind new.tokens old.second third ≡ left_behind new.tokens new.first new.second = λ i. left_behind new.tokens (sym near i) (sym far i) in
+    let sight : in_sight old.first (in_sight old.second 0) ≡ suc (in_sight old.second 0) = ap (λ o. in_sight o (in_sight old.second 0)) first in
+    let next : in_sight new.first (in_sight new.second 0) ≡ in_sight old.second (in_sight new.second 0) = ap (λ o. in_sight o (in_sight new.second 0)) near in (
+      omega (arith, sight),
+      here ∙ ap (toks.Token (seen p.0) p.1) left,
+      subst (IsReadAhead old.tokens) first are.first,
+      on.whole,
+      taken,
+      span,
+      (
+        λ more. rw next (sight_of old.second 0 (in_sight new.second 0) (omega (arith, sight, more))),
+        λ some. let shown = sight_of old.second (in_sight new.second 0) 0 (rw (sym next) some) in omega (arith, sight, shown),
+      ),
+    )
 
 -- how many of the next two can be shown
 module _ (r : Stream) where

@@ -16,6 +16,7 @@ pub mod Escapes
 pub mod TagCuts
 pub mod Finds
 pub mod Texts
+pub mod Windows
 pub mod Lefts
 pub mod Tilings
 pub mod Standing

@@ -38,6 +38,20 @@ fn two_tokens_are_shown_ahead(rt: HostRuntime) -> Result<(), Fail> {
 }
 
 #[test]
+fn what_is_shown_is_skipped(rt: HostRuntime) -> Result<(), Fail> {
+    let mut cursor = cursor_of(rt.alloc(), "a{{ b");
+    assert!(rt; cursor.skip());
+    assert_eq!(rt; cursor.current_span().range, 0..1);
+    assert!(rt; cursor.skip());
+    assert!(rt; matches!(cursor.first(), Some(Token::Ident("b"))));
+    assert!(rt; cursor.skip());
+    assert!(rt; cursor.at_end());
+    assert!(rt; !cursor.skip());
+    assert_eq!(rt; cursor.current_span().range, 4..5);
+    Ok(())
+}
+
+#[test]
 fn the_end_of_the_input_is_told_behind_the_last_token(rt: HostRuntime) -> Result<(), Fail> {
     let mut cursor = cursor_of(rt.alloc(), "{{\n'a\n'");
     let _ = cursor.next_or_eoi()?;

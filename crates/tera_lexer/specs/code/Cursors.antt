@@ -65,6 +65,11 @@ Takes old (Ok (Some p)) new =
     × (new.source ≡ old.source) × (new.taken ≡ old.taken + 1) × (new.span ≡ p.1) × KeepsSight old new
 Takes old (Err e) new = (old.sight ≡ 0) × Stops old.source old.left e × (new ≡ record old { left = Ended })
 
+-- the next token was taken, where it can be shown, and else none
+abbrev pub Skips : Position → Bool → Position → Type 0
+Skips old true new = (p : Token × Span) × Takes old (Ok (Some p)) new
+Skips old false new = (old.sight ≡ 0) × (new ≡ old)
+
 -- the range of the token at this span, with the place where it ends
 abbrev pub IsAt : Span → Span → Type 0
 IsAt here span = (span.range.start ≡ here.range.start) × EndsWith here span

@@ -16,8 +16,9 @@ reading_of t = record {
   failed = t.failed;
 }
 
--- the counters are those of the place that is reached, and a character begins there, in a text
+-- what is left is kept; the counters are those of the place that is reached, and a character begins there, in a text
 pub record IsAtPlace (t : Inside) : Type 0 where
+  pub behind : t.rest.now ≡ drop t.place.byte t.source.now
   pub cut : IsCharBoundary t.source.now t.place.byte
   pub place : t.place ≡ place_after (take t.place.byte t.source.now)
   pub marks : IsValid (marks_of t.delimiters)

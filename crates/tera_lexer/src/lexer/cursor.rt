@@ -4,7 +4,7 @@ ghost use Rattle.std.specs.Prelude.{◌≡◌, ◌<◌, ◌≤◌, IfOk, IfErr, 
 ghost use Rattle.tera_lexer.specs.grammar.Place.{IsWithin};
 ghost use Rattle.tera_lexer.specs.grammar.Lexed.{AreLexed};
 ghost use Rattle.tera_lexer.specs.code.Seen.{seen};
-ghost use Rattle.std.specs.Option.{option_map};
+ghost use Rattle.std.specs.Option.{option_map, option_transpose};
 ghost use Rattle.tera_lexer.specs.code.CursorView.{IsTokenAhead};
 ghost use Rattle.tera_base.specs.Errors.{Tells, end_of};
 
@@ -44,7 +44,7 @@ impl<'a> Model for Cursor<'a> {
 }
 
 impl<'a> Cursor<'a> {
-    ghost use Rattle.tera_lexer.specs.code.Cursors.{nowhere, is_end, FirstIs, FirstStandsAt, SecondIs, SeesTwo, Takes, TakesOne, IsLater, RefusesFrom};
+    ghost use Rattle.tera_lexer.specs.code.Cursors.{nowhere, is_end, FirstIs, FirstStandsAt, SecondIs, SeesTwo, Skips, Takes, TakesOne, IsLater, RefusesFrom};
 
     /// A cursor before the next of the tokens. The next two are read.
     pub fn new(tokens: Tokens<'a>) -> Cursor<'a>
@@ -79,17 +79,41 @@ impl<'a> Cursor<'a> {
         ensures count { self.new.taken ≤ length self.new.source }
         ensures tokens { AreLexed self.old.left }
     {
+        self.step().transpose()
+    }
+
+    // The same, as the tokens answer it.
+    #[inline(always)]
+    fn step(&mut self) -> Option<Result<(Token<'a>, Span), Error>>
+        ensures takes { Takes self.old (option_transpose result) self.new }
+        ensures sight { SeesTwo self.new }
+        ensures count { self.new.taken ≤ length self.new.source }
+        ensures tokens { AreLexed self.old.left }
+    {
         let third = self.tokens.next();
         let second = mem::replace(&mut self.second, third);
-        match mem::replace(&mut self.first, second) {
-            Some(Ok((token, span))) => {
-                self.taken += 1;
-                self.current_span = span.copied();
-                Ok(Some((token, span)))
-            }
-            Some(Err(error)) => Err(error),
-            None => Ok(None),
+        let first = mem::replace(&mut self.first, second);
+        if let Some((_, span)) = shown(&first) {
+            self.taken += 1;
+            self.current_span = span.copied();
         }
+        first
+    }
+
+    /// Takes the next token and lets it go, where `first` shows one, and says whether it did. Else nothing is taken.
+    pub fn skip(&mut self) -> bool
+        ensures skips { Skips self.old result self.new }
+        ensures sight { SeesTwo self.new }
+        ensures count { self.new.taken ≤ length self.new.source }
+        ensures tokens { AreLexed self.old.left }
+    {
+        let Some((_, span)) = shown(&self.first) else {
+            return false;
+        };
+        self.current_span = span.copied();
+        self.taken += 1;
+        self.first = mem::replace(&mut self.second, self.tokens.next());
+        true
     }
 
     /// The next token. There is none at the end, at a fault, and where no memory was found for it.
@@ -153,8 +177,8 @@ impl<'a> Cursor<'a> {
         ensures later { IfOk result (λ _. IsLater self.old self.new) }
         ensures refusal { IfErr result (RefusesFrom self.old) }
     {
-        match self.next()? {
-            Some(item) => Ok(item),
+        match self.step() {
+            Some(item) => item,
             None => Err(self.eoi()),
         }
     }

@@ -3,7 +3,7 @@
 ghost use Rattle.std.specs.Prelude.{◌≡◌, ◌≤◌, ◌∷◌, ◌+◌, false, Some, IfSome, MatchOption, length, take, drop, get_or};
 ghost use Rattle.std.specs.Bool.{OnTrue};
 ghost use Rattle.std.specs.Str.{IsCharBoundary};
-ghost use Rattle.memchr.specs.Find.{IsFirstByte, FindsNeedle, Nowhere, OccursAt, is_byte3};
+ghost use Rattle.memchr.specs.Find.{IsFirstByte, FindsNeedle, Nowhere, OccursAt, Passes, is_byte3};
 ghost use Rattle.tera_lexer.specs.grammar.Marks.{marks_of, IsValid, begins, NowhereIn, dash_bytes};
 ghost use Rattle.tera_lexer.specs.grammar.Raw.{raw_word};
 ghost use Rattle.tera_lexer.specs.grammar.Division.{is_at_start, EndsText};
@@ -116,7 +116,7 @@ pub(crate) fn text_len(rest: &str, delimiters: &Delimiters) -> usize
     bytes.len()
 }
 
-// Where the first of three bytes stands. It is looked for nearby first, where the search would cost more.
+// Where the first of three bytes stands. It is looked for nearby first, where a search would cost more.
 fn next_of(a: u8, b: u8, c: u8, bytes: &[u8]) -> Option<usize>
     ensures { IsFirstByte (is_byte3 a b c) bytes.now result }
 {
@@ -126,9 +126,25 @@ fn next_of(a: u8, b: u8, c: u8, bytes: &[u8]) -> Option<usize>
             return Some(i);
         }
     }
-    let (_, far) = bytes.split_at(near);
-    let at = memchr3(a, b, c, far)?;
-    Some(near + at)
+    further_of(a, b, c, bytes, near)
+}
+
+// The same, where none stands before this place. A hit costs the least in a window of fewer than 64 bytes.
+fn further_of(a: u8, b: u8, c: u8, bytes: &[u8], first: usize) -> Option<usize>
+    requires within { first ≤ length bytes.now }
+    requires passed { Nowhere (Passes (is_byte3 a b c) bytes.now) 0 first }
+    ensures { IsFirstByte (is_byte3 a b c) bytes.now result }
+{
+    let mut from = first;
+    while from < bytes.len() {
+        let (_, rest) = bytes.split_at(from);
+        let (window, _) = rest.split_at(rest.len().min(63));
+        if let Some(at) = memchr3(a, b, c, window) {
+            return Some(from + at);
+        }
+        from += window.len();
+    }
+    None
 }
 
 /// How many bytes stand before the first such marker.

@@ -32,6 +32,8 @@ use tera_base::{Error, Span};
 #[derive(Drop)]
 pub(crate) struct Reader<'a> {
     source: &'a str,
+    // What is left of the source.
+    rest: &'a str,
     alloc: Global,
     delimiters: Delimiters,
     place: Place,
@@ -60,6 +62,7 @@ impl<'a> Reader<'a> {
     {
         Reader {
             source,
+            rest: source,
             alloc,
             delimiters,
             place: Place {
@@ -101,8 +104,7 @@ impl<'a> Reader<'a> {
         ensures rest { result.now ≡ self.now.rest }
         ensures valid { IsValid self.now.marks }
     {
-        let (_, rest) = self.source.split_at(self.place.byte);
-        rest
+        self.rest
     }
 
     // The next bytes, and the place behind them.
@@ -113,8 +115,7 @@ impl<'a> Reader<'a> {
         ensures place { result.1 ≡ place_after (self.now.front ++ take n self.now.rest) }
         ensures within { IsWithin (whole_of self.now) (span_of self.now.front (take n self.now.rest)) }
     {
-        let (_, rest) = self.source.split_at(self.place.byte);
-        let (text, _) = rest.split_at(n);
+        let (text, _) = self.rest.split_at(n);
         (text, self.place.after(text))
     }
 
@@ -128,8 +129,10 @@ impl<'a> Reader<'a> {
         ensures within { IsWithin (whole_of self.old) result.1 }
     {
         let (text, end) = self.peek(n);
+        let (_, rest) = self.rest.split_at(n);
         let span = self.place.to(end);
         self.place = end;
+        self.rest = rest;
         (text, span)
     }
 

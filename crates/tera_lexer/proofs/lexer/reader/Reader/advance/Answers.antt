@@ -1,4 +1,4 @@
-use Rattle.std.proofs.Common.{◌++◌, take, ap, sym, subst, ◌∙◌}
+use Rattle.std.proofs.Common.{◌++◌, take, drop, ap, sym, subst, ◌∙◌}
 use Rattle.std.specs.Str.{IsCharBoundary}
 use Rattle.tera_lexer.specs.grammar.Place.{place_after, joined}
 use Rattle.tera_lexer.specs.reading.State.{Progress}
@@ -15,7 +15,7 @@ advanced c =
 pub invariant_of-self : goal.invariant_of-self
 invariant_of-self c =
     let a = advanced (goal.at.invariant_of-self c).After-peek in
-    record { cut = a.cut; place = a.place; marks = c.self.invariant.marks; text = c.self.invariant.text }
+    record { behind = c.split_at.ensures.back ∙ ap (drop c.args.n) c.self.invariant.behind ∙ sym a.rest; cut = a.cut; place = a.place; marks = c.self.invariant.marks; text = c.self.invariant.text }
 
 pub returns-clause-state : goal.returns-clause-state
 returns-clause-state c =
