@@ -18,7 +18,7 @@ use Rattle.tera_grammar.specs.expressions.Reading.Front.{among, front_marks, fro
 use Rattle.tera_grammar.proofs.expressions.Fronts.{takes_ok}
 use Rattle.tera_lexer.specs.code.Seen.{seen}
 use Rattle.tera_lexer.specs.code.Steps.{Stops}
-use Rattle.tera_lexer.specs.code.Cursors.{Position, Takes, Sight, size}
+use Rattle.tera_lexer.specs.code.Cursors.{Position, Takes, Skips, Sight, SeesTwo, size}
 use Rattle.tera_lexer.proofs.Refusals.{token_later}
 use Rattle.tera_expr.specs.Taking.{Took}
 use Rattle.tera_lexer.specs.declared.lexer.tokens.Token.{Token as Lexed}
@@ -52,20 +52,22 @@ word_front_kind w s us = by (bytes_eq w (codes "or")) (bytes_eq w (codes "and"))
     by false false false false false true o ha hb hc hd he hf ho = rw (ha, hb, hc, hd, he, hf) refl
     by false false false false false false o ha hb hc hd he hf ho = rw (ha, hb, hc, hd, he, hf) refl
 
--- nothing stands where reading stops
-stopped_front : (source : List ℕ) (items : Items) (e : Error) → Stops source items e → kind_of (reading.front items) ≡ no_kind
+-- no token is seen where none is skipped
+pub unseen : (old new : Position) → Skips old false new → SeesTwo new → Sight 2 old.left 0
+unseen old new (none, same) sees = subst (Sight 2 old.left) none (subst SeesTwo same sees)
+
+-- a token that is not shown begins nothing
+pub unseen_front : (ts : Items) → Sight 2 ts 0 → no_kind ≡ kind_of (reading.front ts)
 unfolding front_of_token
-stopped_front source Ended e h = absurd h
-stopped_front source (Failed text span) e h = refl
-stopped_front source (Token (toks.Escaped text) span items) e h = refl
-stopped_front source (Token _ span items) e h = absurd h.0
+unseen_front Ended h = refl
+unseen_front (Failed text span) h = refl
+unseen_front (Token (toks.Escaped text) span items) h = refl
+unseen_front (Token _ span items) h = absurd h
 
 -- the token that was taken where something goes on with an operand
-pub front_taken : (old new : Position) (result : Result (Option (Lexed × Span)) Error) → Takes old result new → kind_of (reading.front old.left) ≢ no_kind
-    → (t : Tok) × (old.left ≡ Token t new.span new.left)
-front_taken old new (Ok None) h some = absurd (some (ap (λ is. kind_of (reading.front is)) h.0))
-front_taken old new (Err e) h some = absurd (some (stopped_front old.source old.left e h.1))
-front_taken old new (Ok (Some p)) h some = (seen p.0, h.1 ∙ ap (λ s. Token (seen p.0) s new.left) (sym h.5))
+pub front_taken : (old new : Position) (b : Bool) → Skips old b new → SeesTwo new → kind_of (reading.front old.left) ≢ no_kind → (t : Tok) × (old.left ≡ Token t new.span new.left)
+front_taken old new false h sees some = absurd (some (sym (unseen_front old.left (unseen old new h sees))))
+front_taken old new true (p, h) sees some = (seen p.0, h.1 ∙ ap (λ s. Token (seen p.0) s new.left) (sym h.5))
 
 -- a token was taken
 pub took_token : (old new : Position) (p : Lexed × Span) → Takes old (Ok (Some p)) new → Took old new
@@ -74,10 +76,9 @@ took_token old new p h =
     let fewer : size old.left ≡ size new.left + 1 = ap size h.1 in
     (token_later old new (seen p.0) p.1 h.1 h.5 h.3 h.4, omega (arith, fewer))
 
-pub front_took : (old new : Position) (result : Result (Option (Lexed × Span)) Error) → Takes old result new → kind_of (reading.front old.left) ≢ no_kind → Took old new
-front_took old new (Ok None) h some = absurd (some (ap (λ is. kind_of (reading.front is)) h.0))
-front_took old new (Err e) h some = absurd (some (stopped_front old.source old.left e h.1))
-front_took old new (Ok (Some p)) h some = took_token old new p h
+pub front_took : (old new : Position) (b : Bool) → Skips old b new → SeesTwo new → kind_of (reading.front old.left) ≢ no_kind → Took old new
+front_took old new false h sees some = absurd (some (sym (unseen_front old.left (unseen old new h sees))))
+front_took old new true (p, h) sees some = took_token old new p h
 
 front_is : (t : Tok) (s : Span) (us : Items) → reading.front (Token t s us) ≡ marked_front (among front_marks t) s us
 unfolding front_of_token
@@ -94,10 +95,10 @@ chosen_there Not s us h = by (takes (Operation operators.In) us) h
     by (Some x) h = cc
 chosen_there _ s us h = cc
 
-pub condition_taken : (old new : Position) (result : Result (Option (Lexed × Span)) Error) → Takes old result new → chosen ≡ kind_of (reading.front old.left)
+pub condition_taken : (old new : Position) (b : Bool) → Skips old b new → SeesTwo new → chosen ≡ kind_of (reading.front old.left)
     → reading.front old.left ≡ reading.joins (reading.leads_condition new.span) new.left
-condition_taken old new result h is =
-    let (t, left) = front_taken old new result h (λ none. let clash : chosen ≡ no_kind = is ∙ none in cc) in
+condition_taken old new b h sees is =
+    let (t, left) = front_taken old new b h sees (λ none. let clash : chosen ≡ no_kind = is ∙ none in cc) in
     let there : reading.front old.left ≡ marked_front (among front_marks t) new.span new.left = ap reading.front left ∙ front_is t new.span new.left in
     there ∙ chosen_there (among front_marks t) new.span new.left (is ∙ ap kind_of there)
 
@@ -124,10 +125,10 @@ some_ending Test h = cc
 some_ending Filter h = cc
 some_ending Subscript h = cc
 
-pub ending_taken : (old new : Position) (result : Result (Option (Lexed × Span)) Error) → Takes old result new → (e : Ending) → ending_kind e ≡ kind_of (reading.front old.left)
+pub ending_taken : (old new : Position) (b : Bool) → Skips old b new → SeesTwo new → (e : Ending) → ending_kind e ≡ kind_of (reading.front old.left)
     → reading.front old.left ≡ reading.closes (ending_of e new.span) new.left
-ending_taken old new result h e is =
-    let (t, left) = front_taken old new result h (λ none. some_ending e (is ∙ none)) in
+ending_taken old new b h sees e is =
+    let (t, left) = front_taken old new b h sees (λ none. some_ending e (is ∙ none)) in
     let there : reading.front old.left ≡ marked_front (among front_marks t) new.span new.left = ap reading.front left ∙ front_is t new.span new.left in
     there ∙ ending_there e (among front_marks t) new.span new.left (is ∙ ap kind_of there)
 
@@ -147,10 +148,10 @@ joined_there o n Not s us h = by n (takes (Operation operators.In) us) refl h
     by true (Some x) is h = (x, is, (NotIn s x.0, ap (front_not s) is, (let e : o ≡ operators.In = cc in sym e), refl))
 joined_there o n _ s us h = cc
 
-pub operator_taken : (old new : Position) (result : Result (Option (Lexed × Span)) Error) → Takes old result new → (o : BinaryOperator) (n : Bool) → joined_by o n ≡ kind_of (reading.front old.left)
+pub operator_taken : (old new : Position) (b : Bool) → Skips old b new → SeesTwo new → (o : BinaryOperator) (n : Bool) → joined_by o n ≡ kind_of (reading.front old.left)
     → OneOrTwo o n (reading.front old.left) new.left
-operator_taken old new result h o n is =
-    let (t, left) = front_taken old new result h (λ none. let clash : joined_by o n ≡ no_kind = is ∙ none in cc) in
+operator_taken old new b h sees o n is =
+    let (t, left) = front_taken old new b h sees (λ none. let clash : joined_by o n ≡ no_kind = is ∙ none in cc) in
     let there : reading.front old.left ≡ marked_front (among front_marks t) new.span new.left = ap reading.front left ∙ front_is t new.span new.left in
     subst (λ fr. OneOrTwo o n fr new.left) (sym there) (joined_there o n (among front_marks t) new.span new.left (is ∙ ap kind_of there))
 
@@ -158,18 +159,17 @@ behind : Items → Items
 behind (Token t s us) = us
 behind r = r
 
-pub not_in_taken : (fr : reading.Front) (o : BinaryOperator) (mid new : Position) (result : Result (Option (Lexed × Span)) Error) → OneOrTwo o true fr mid.left → Takes mid result new
-    → IsOperatorBefore fr o true new.left
-unfolding behind
-not_in_taken fr o mid new (Ok None) (x, is, before) h = let clash : mark (Operation operators.In) x.0 x.1 ≡ Ended = sym (takes_ok (Operation operators.In) mid.left x is) ∙ h.0 in cc
-not_in_taken fr o mid new (Err e) (x, is, before) h = absurd (subst (λ us. Stops mid.source us e) (takes_ok (Operation operators.In) mid.left x is) h.1).0
-not_in_taken fr o mid new (Ok (Some p)) (x, is, before) h = subst (IsOperatorBefore fr o true) (ap behind (sym (takes_ok (Operation operators.In) mid.left x is) ∙ h.1)) before
+not_in_unseen : (x : Span × Items) (items : Items) → takes (Operation operators.In) items ≡ Some x → Sight 2 items 0 → ⊥
+not_in_unseen x items is h = subst (λ us. Sight 2 us 0) (takes_ok (Operation operators.In) items x is) h
 
-pub not_in_took : (fr : reading.Front) (o : BinaryOperator) (mid new : Position) (result : Result (Option (Lexed × Span)) Error) → OneOrTwo o true fr mid.left → Takes mid result new
-    → Took mid new
-not_in_took fr o mid new (Ok None) (x, is, before) h = let clash : mark (Operation operators.In) x.0 x.1 ≡ Ended = sym (takes_ok (Operation operators.In) mid.left x is) ∙ h.0 in cc
-not_in_took fr o mid new (Err e) (x, is, before) h = absurd (subst (λ us. Stops mid.source us e) (takes_ok (Operation operators.In) mid.left x is) h.1).0
-not_in_took fr o mid new (Ok (Some p)) (x, is, before) h = took_token mid new p h
+pub not_in_taken : (fr : reading.Front) (o : BinaryOperator) (mid new : Position) (b : Bool) → OneOrTwo o true fr mid.left → Skips mid b new → SeesTwo new → IsOperatorBefore fr o true new.left
+unfolding behind
+not_in_taken fr o mid new false (x, is, before) h sees = absurd (not_in_unseen x mid.left is (unseen mid new h sees))
+not_in_taken fr o mid new true (x, is, before) (p, h) sees = subst (IsOperatorBefore fr o true) (ap behind (sym (takes_ok (Operation operators.In) mid.left x is) ∙ h.1)) before
+
+pub not_in_took : (fr : reading.Front) (o : BinaryOperator) (mid new : Position) (b : Bool) → OneOrTwo o true fr mid.left → Skips mid b new → SeesTwo new → Took mid new
+not_in_took fr o mid new false (x, is, before) h sees = absurd (not_in_unseen x mid.left is (unseen mid new h sees))
+not_in_took fr o mid new true (x, is, before) (p, h) sees = took_token mid new p h
 
 pub some_kind : (e : Ending) (k : Kind) → ending_kind e ≡ k → k ≢ no_kind
 some_kind e k is none = some_ending e (is ∙ none)
@@ -200,14 +200,6 @@ not_begins (Token u s us) h = by (same_token u (mark_token Not)) refl
     by : (x : Bool) → same_token u (mark_token Not) ≡ x → same_token u (mark_token Not) ≡ cond (same_token u (mark_token Not)) true (same_token u (mark_token (Operation operators.Minus)))
     by true hx = rw hx refl
     by false hx = rw hx (sym h)
-
--- a token that is not shown begins nothing
-pub unseen_front : (ts : Items) → Sight 2 ts 0 → no_kind ≡ kind_of (reading.front ts)
-unfolding front_of_token
-unseen_front Ended h = refl
-unseen_front (Failed text span) h = refl
-unseen_front (Token (toks.Escaped text) span items) h = refl
-unseen_front (Token _ span items) h = absurd h
 
 -- a name is shown
 pub name_shown : (ts : Items) (n : ℕ) (w : List ℕ) (s : Span) (us : Items) → ts ≡ Token (Ident w) s us → Sight 2 ts n → 0 < n

@@ -7,7 +7,7 @@ use Rattle.tera_lexer.specs.grammar.Tokens as toks
 use Rattle.tera_lexer.specs.grammar.Tokens.{Tok, Items, Ended, Failed, Token}
 use Rattle.tera_lexer.specs.code.Seen.{seen}
 use Rattle.tera_lexer.specs.code.Steps.{Stops}
-use Rattle.tera_lexer.specs.code.Cursors.{Position, Takes, size}
+use Rattle.tera_lexer.specs.code.Cursors.{Position, Skips, Sight, SeesTwo, size}
 use Rattle.tera_lexer.specs.declared.lexer.tokens.Token.{Token as Lexed}
 use Rattle.tera_tree.specs.Tree as tree
 use Rattle.tera_tree.specs.Tree.{Expr}
@@ -31,24 +31,20 @@ use Rattle.tera_tree.specs.View.{expression_view}
 use Rattle.tera_tree.specs.declared.ast.Expression.{Expression}
 use Rattle.tera_expr.specs.Taking.{Fails, GivesBy, Took}
 use Rattle.tera_expr.specs.declared.chains.Link.TheVariants.{Nothing, Called, Field, Item}
-use Rattle.tera_expr.proofs.Fronts.{took_token}
+use Rattle.tera_expr.proofs.Fronts.{took_token, unseen}
 use Rattle.tera_expr.proofs.Steps.{named, unnamed, counted, uncounted}
 
 pub shrinks : (old new : Position) → Took old new → size new.left < size old.left
 unfolding Took
 shrinks old new a = a.1
 
--- no link stands where reading stops
-stopped_link : (source : List ℕ) (items : Items) (e : Error) → Stops source items e → link_of items ≡ no_link
+-- no link stands where no token is seen
+unseen_link : (items : Items) → Sight 2 items 0 → link_of items ≡ no_link
 unfolding link_of
-stopped_link source Ended e h = absurd h
-stopped_link source (Failed text span) e h = refl
-stopped_link source (Token (toks.Escaped text) span items) e h = refl
-stopped_link source (Token _ span items) e h = absurd h.0
-
-ended_link : link_of Ended ≡ no_link
-unfolding link_of
-ended_link = refl
+unseen_link Ended h = refl
+unseen_link (Failed text span) h = refl
+unseen_link (Token (toks.Escaped text) span items) h = refl
+unseen_link (Token _ span items) h = absurd h
 
 marked_at : (m : Mark) (s : Span) (us : Items) → LinkAt (marked_link m s us) s us
 marked_at Dot s us = (refl, refl)
@@ -63,16 +59,14 @@ unfolding link_of
 token_at t s us = marked_at (among link_marks t) s us
 
 -- the token that was taken where a link begins
-pub link_taken : (old new : Position) (result : Result (Option (Lexed × Span)) Error) → Takes old result new → link_kind (link_of old.left) ≢ Nothing → LinkAt (link_of old.left) new.span new.left
-link_taken old new (Ok None) h some = absurd (some (ap (λ ts. link_kind (link_of ts)) h.0 ∙ ap link_kind ended_link))
-link_taken old new (Err e) h some = absurd (some (ap link_kind (stopped_link old.source old.left e h.1)))
-link_taken old new (Ok (Some p)) h some =
+pub link_taken : (old new : Position) (b : Bool) → Skips old b new → SeesTwo new → link_kind (link_of old.left) ≢ Nothing → LinkAt (link_of old.left) new.span new.left
+link_taken old new false h sees some = absurd (some (ap link_kind (unseen_link old.left (unseen old new h sees))))
+link_taken old new true (p, h) sees some =
     subst (λ s. LinkAt (link_of old.left) s new.left) (sym h.5) (subst (λ ts. LinkAt (link_of ts) p.1 new.left) (sym h.1) (token_at (seen p.0) p.1 new.left))
 
-pub link_took : (old new : Position) (result : Result (Option (Lexed × Span)) Error) → Takes old result new → link_kind (link_of old.left) ≢ Nothing → Took old new
-link_took old new (Ok None) h some = absurd (some (ap (λ ts. link_kind (link_of ts)) h.0 ∙ ap link_kind ended_link))
-link_took old new (Err e) h some = absurd (some (ap link_kind (stopped_link old.source old.left e h.1)))
-link_took old new (Ok (Some p)) h some = took_token old new p h
+pub link_took : (old new : Position) (b : Bool) → Skips old b new → SeesTwo new → link_kind (link_of old.left) ≢ Nothing → Took old new
+link_took old new false h sees some = absurd (some (ap link_kind (unseen_link old.left (unseen old new h sees))))
+link_took old new true (p, h) sees some = took_token old new p h
 
 -- a link of a kind
 abbrev pub joint_of : Bool → Span → Joint

@@ -14,7 +14,8 @@ use Rattle.tera_tree.specs.View.{expression_view}
 use Rattle.tera_tree.specs.declared.ast.Expression.{Expression}
 use Rattle.tera_grammar.specs.expressions.Output.{output, sub_output}
 use Rattle.tera_expr.specs.Taking.{Fails, GivesBy}
-use Rattle.tera_expr.specs.Chains.{IsPart, IsExtra, IsSubscript, subscripted}
+use Rattle.tera_expr.specs.Chains.{IsPart, IsSubscript, subscripted}
+use Rattle.tera_expr.specs.Elements.{IsExtra}
 use Rattle.tera_expr.specs.declared.subscripts.Subscript as read
 use Rattle.tera_expr.specs.declared.subscripts.Subscript.TheVariants.{Index, Slice}
 use Rattle.tera_expr.proofs.Steps.{failed, failed_past, failed_as, skipped, unskipped}

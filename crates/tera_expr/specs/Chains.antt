@@ -35,9 +35,6 @@ IsSubscript l here x s = ((o : Bool) (e : Expr) → subscripted x o e here ≡ s
 abbrev pub IsPart : Bool → Option Expression → Part → Type 0
 IsPart l x a = maybe_view x ≡ part_output l a
 
-abbrev pub IsExtra : Bool → Option Expression → Extra → Type 0
-IsExtra l x g = maybe_view x ≡ extra_output l g
-
 -- how a link begins, without where it stands
 abbrev pub link_kind : reading.Link → Link
 link_kind reading.no_link = Nothing

@@ -197,7 +197,7 @@ fn take_link(cursor: &mut Cursor<'_>)
     ensures past { LinkAt (reading.link_of cursor.old.left) cursor.new.span cursor.new.left }
     ensures later { Took cursor.old cursor.new }
 {
-    let _ = cursor.next();
+    let _ = cursor.skip();
 }
 
 // A field of a chain, whose dot was taken last.

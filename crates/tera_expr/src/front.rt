@@ -127,9 +127,9 @@ pub(crate) fn take_operator(cursor: &mut Cursor<'_>, operator: Operator, negated
     ensures past { IsOperatorBefore (reading.front cursor.old.left) (operator_of operator) negated cursor.new.left }
     ensures later { Took cursor.old cursor.new }
 {
-    let _ = cursor.next();
+    let _ = cursor.skip();
     if negated {
-        let _ = cursor.next();
+        let _ = cursor.skip();
     }
 }
 
@@ -140,7 +140,7 @@ pub(crate) fn take_condition(cursor: &mut Cursor<'_>)
     ensures past { reading.front cursor.old.left ≡ reading.joins (reading.leads_condition cursor.new.span) cursor.new.left }
     ensures later { Took cursor.old cursor.new }
 {
-    let _ = cursor.next();
+    let _ = cursor.skip();
 }
 
 /// Takes the first token of a test, a filter or a subscript.
@@ -150,7 +150,7 @@ pub(crate) fn take_ending(cursor: &mut Cursor<'_>, ending: Ending)
     ensures past { reading.front cursor.old.left ≡ reading.closes (ending_of ending cursor.new.span) cursor.new.left }
     ensures later { Took cursor.old cursor.new }
 {
-    let _ = cursor.next();
+    let _ = cursor.skip();
 }
 
 /// Whether a prefix begins here.

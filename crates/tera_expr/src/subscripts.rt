@@ -9,7 +9,8 @@ ghost use Rattle.tera_grammar.specs.expressions.Output.{place_of};
 ghost use Rattle.tera_grammar.specs.expressions.Reading.Front.{at};
 ghost use Rattle.tera_grammar.specs.expressions.Reading.Parts.{extra_of, part_of, slice_of, sub_of};
 ghost use Rattle.tera_grammar.specs.expressions.Reading.Loop.{expr};
-ghost use Rattle.tera_expr.specs.Chains.{IsExtra, IsPart, IsSubscript, subscripted};
+ghost use Rattle.tera_expr.specs.Chains.{IsPart, IsSubscript, subscripted};
+ghost use Rattle.tera_expr.specs.Elements.{IsExtra};
 ghost use Rattle.tera_expr.specs.Rooms.{room_of};
 ghost use Rattle.tera_expr.specs.Taking.{GivesBy, GoesOn, Refuses, Took};
 

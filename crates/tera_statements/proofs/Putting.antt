@@ -42,10 +42,10 @@ pub pair_put : (ks more : List Key) (vs others : List Value) (k : Key) (v : Valu
 pair_put ks more vs others k v values a b =
     ap (λ m. put_pairs (pairs_view (zip m vs)) values) a ∙ ap (λ m. put_pairs (pairs_view (zip (k ∷ more) m)) values) b
 
-pub all_put : (ks : List Key) (vs : List Value) (values : Sorted Val) → (ks ≡ []) ⊎ (length vs ≡ 0) → put_pairs (pairs_view (zip ks vs)) values ≡ values
+pub all_put : (ks : List Key) (vs : List Value) (values : Sorted Val) → (length ks ≡ 0) ⊎ (length vs ≡ 0) → put_pairs (pairs_view (zip ks vs)) values ≡ values
 all_put [] vs values h = refl
 all_put (k ∷ ks) [] values h = refl
-all_put (k ∷ ks) (v ∷ vs) values (inl h) = cc
+all_put (k ∷ ks) (v ∷ vs) values (inl h) = absurd (omega arith)
 all_put (k ∷ ks) (v ∷ vs) values (inr h) = absurd (omega arith)
 
 -- a map that stands for the pairs that were read

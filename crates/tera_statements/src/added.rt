@@ -58,6 +58,10 @@ pub(crate) fn push_node(nodes: &mut Vec<Node>, added: Added) -> Result<(), Error
 {
     match added {
         Added::Node(node) => {
+            // Many bodies have a single node.
+            if nodes.is_empty() {
+                nodes.reserve_exact(1)?;
+            }
             nodes.push(node)?;
             Ok(())
         }

@@ -118,8 +118,7 @@ fn nested(alloc: Global, branches: Vec<Branch>, otherwise: Vec<Node>) -> Result<
     let mut nodes = otherwise;
     'branches: while let Some(branch) = branches.pop() {
         let node = build::when(branch.condition, branch.body, nodes);
-        nodes = Vec::new(alloc);
-        nodes.push(node)?;
+        nodes = vec![in alloc; node]?;
     }
     Ok(nodes)
 }

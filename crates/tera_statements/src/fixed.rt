@@ -103,7 +103,7 @@ pub(crate) fn eat(cursor: &mut Cursor<'_>, wanted: Fixed) -> bool
     ensures { Eats result cursor.old cursor.new (takes (mark_of wanted) cursor.old.left) }
 {
     match cursor.first() {
-        Some(token) if wanted.is(token) => cursor.next().is_ok(),
+        Some(token) if wanted.is(token) => cursor.skip(),
         _ => false,
     }
 }
@@ -113,13 +113,11 @@ pub(crate) fn eat(cursor: &mut Cursor<'_>, wanted: Fixed) -> bool
 pub(crate) fn eat_name<'a>(cursor: &mut Cursor<'a>) -> Option<&'a str>
     ensures { EatsName result cursor.old cursor.new (taken_name cursor.old.left) }
 {
-    let Some(Token::Ident(_)) = cursor.first() else {
+    let Some(Token::Ident(name)) = cursor.first() else {
         return None;
     };
-    match cursor.next() {
-        Ok(Some((Token::Ident(name), _))) => Some(name),
-        _ => None,
-    }
+    let name = *name;
+    if cursor.skip() { Some(name) } else { None }
 }
 
 /// Takes the next token, where one has to come.
@@ -140,12 +138,11 @@ pub(crate) fn expect(alloc: Global, cursor: &mut Cursor<'_>, wanted: Fixed) -> R
     ensures refusal { IfErr result (Refuses cursor.old) }
     ensures later { IfOk result (λ _. Took cursor.old cursor.new) }
 {
-    let (token, span) = cursor.next_or_eoi()?;
-    if wanted.is(&token) {
-        Ok(())
-    } else {
-        Err(unexpected(alloc, &token, wanted.text(), &span))
+    if eat(cursor, wanted) {
+        return Ok(());
     }
+    let (token, span) = cursor.next_or_eoi()?;
+    Err(unexpected(alloc, &token, wanted.text(), &span))
 }
 
 /// Takes the next token, which has to be a name.
@@ -155,11 +152,11 @@ pub(crate) fn name<'a>(alloc: Global, cursor: &mut Cursor<'a>) -> Result<&'a str
     ensures refusal { IfErr result (Refuses cursor.old) }
     ensures later { IfOk result (λ _. Took cursor.old cursor.new) }
 {
-    let (token, span) = cursor.next_or_eoi()?;
-    match token {
-        Token::Ident(name) => Ok(name),
-        _ => Err(unexpected(alloc, &token, "identifier", &span)),
+    if let Some(name) = eat_name(cursor) {
+        return Ok(name);
     }
+    let (token, span) = cursor.next_or_eoi()?;
+    Err(unexpected(alloc, &token, "identifier", &span))
 }
 
 /// Whether the next token is a name.

@@ -9,4 +9,4 @@ use Rattle.tera_statements.proofs.components.by_text.Given as goal
 
 abbrev pub invariant-pairs : goal.invariant-pairs
 invariant-pairs l =
-    put_pairs (pairs_view (zip (zip_first l.key-iterator) (iter_rest (zip_second l.key-iterator)))) (map named_value l.values.entries) ≡ put_pairs (pairs_view l.pairs) []
+    put_pairs (pairs_view (zip (iter_rest (zip_first l.key-iterator)) (iter_rest (zip_second l.key-iterator)))) (map named_value l.values.entries) ≡ put_pairs (pairs_view l.pairs) []

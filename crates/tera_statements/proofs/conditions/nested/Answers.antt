@@ -11,8 +11,7 @@ branches-preserved c =
     let before = c.pop.new.self.items in
     let branch = c.in-Some.branch in
     let popped : c.branches.branches.items ≡ before ++ branch ∷ [] = search rules in
-    let one : c.push.new.self.items ≡ c.when-node.result ∷ [] = search rules in
-    ap (λ ns. nest (map branch_view before) (map node_view ns)) one
+    ap (λ ns. nest (map branch_view before) (map node_view ns)) c.in_ok-nodes.ensures.items
     ∙ ap (λ n. nest (map branch_view before) (n ∷ [])) c.when-node.ensures
     ∙ sym (nest_pop (map branch_view before) (branch_view branch) (map node_view c.branches.nodes.items))
     ∙ ap (λ bs. nest bs (map node_view c.branches.nodes.items)) (sym (map-append branch_view before (branch ∷ [])) ∙ ap (map branch_view) (sym popped))
