@@ -4,6 +4,7 @@ use std::time::Instant;
 
 unsafe extern "C" {
     fn tera_bench_tokens(bytes: *const u8, len: usize) -> u64;
+    fn tera_bench_nodes(bytes: *const u8, len: usize) -> u64;
     fn tera_bench_text(bytes: *const u8, len: usize) -> u64;
 }
 
@@ -19,14 +20,16 @@ fn shortest(mut run: impl FnMut() -> u64) -> f64 {
 }
 
 fn main() {
-    println!("{:12} {:>9} {:>9} {:>9}", "input", "tokens", "us", "MB/s");
+    println!("{:12} {:>9} {:>9} {:>9} {:>9} {:>9}", "input", "tokens", "us", "MB/s", "nodes", "us");
     for name in std::env::args().skip(1) {
         let source = std::fs::read(&name).expect("a file");
         let (bytes, len) = (source.as_ptr(), source.len());
         let count = unsafe { tera_bench_tokens(bytes, len) };
-        let seconds = shortest(|| unsafe { tera_bench_tokens(bytes, len) })
-            - shortest(|| unsafe { tera_bench_text(bytes, len) });
+        let text = shortest(|| unsafe { tera_bench_text(bytes, len) });
+        let seconds = shortest(|| unsafe { tera_bench_tokens(bytes, len) }) - text;
+        let nodes = unsafe { tera_bench_nodes(bytes, len) };
+        let parse = shortest(|| unsafe { tera_bench_nodes(bytes, len) }) - text;
         let short = name.rsplit('/').next().unwrap_or(&name);
-        println!("{:12} {:9} {:9.0} {:9.0}", short, count, seconds * 1e6, len as f64 / seconds / 1e6);
+        println!("{:12} {:9} {:9.0} {:9.0} {:9} {:9.0}", short, count, seconds * 1e6, len as f64 / seconds / 1e6, nodes, parse * 1e6);
     }
 }

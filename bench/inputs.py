@@ -33,6 +33,16 @@ def tagged():
             f"{{% if a == {item} %}}{text(90)}{{% endif %}}\n")
 
 
+def post():
+    number = random.randrange(1000)
+    return (f'<article class="post" id="post-{number}">\n  <h2><a href="{{{{ get_url(path=post.path) }}}}">{{{{ post.title | title }}}}</a></h2>\n'
+            f'  {{% if post.date %}}<time datetime="{{{{ post.date }}}}">{{{{ post.date | date(format="%d %B %Y") }}}}</time>{{% endif %}}\n'
+            f'  <p>{text(random.choice([80, 200, 400]))}</p>\n  {{# the tags, each with a link #}}\n'
+            f'  <ul>{{% for tag in post.tags %}}<li><a href="/tags/{{{{ tag | slugify }}}}/">{{{{ tag }}}}</a></li>{{% else %}}<li>{text(20)}</li>{{% endfor %}}</ul>\n'
+            f'  {{% if post.words > 1000 and not post.draft %}}{{{{ post.words // 200 }}}} minutes{{% elif post.draft %}}{text(20)}{{% else %}}{text(40)}{{% endif %}}\n'
+            f'</article>\n')
+
+
 def main():
     random.seed(7)
     folder = pathlib.Path(sys.argv[1])
@@ -50,6 +60,8 @@ def main():
         "rawshort": "a {%- raw -%} x {%- endraw -%} " * (SIZE // 32),
         "escapes": "{{ 'a' " + filled(lambda: "~ 'it\\'s a string with \\n escapes in it' ") + " }}",
         "string": "{{ '" + text(SIZE) + "' }}",
+        "page": filled(post),
+        "chain": "{% if a %}b" + "{% elif a %}b" * 62000 + "{% endif %}",
     }
     for name, source in inputs.items():
         (folder / name).write_text(source)

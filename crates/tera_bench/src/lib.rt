@@ -1,8 +1,9 @@
-//! The lexer for the benchmark in `bench`, which is no Rattle.
+//! The lexer and the parser for the benchmark in `bench`, which is no Rattle.
 #![tactic(auto)]
 
 use std::alloc::Global;
 use tera_lexer::{Delimiters, tokenize};
+use tera_parser::Parser;
 
 /// How many tokens the source has, to its end or to its fault; none if it is no text.
 #[unsafe(no_mangle)]
@@ -25,6 +26,19 @@ pub extern "C" fn tera_bench_tokens(alloc: Global, source: &[u8]) -> u64 {
 pub extern "C" fn tera_bench_text(source: &[u8]) -> u64 {
     match str::from_utf8(source) {
         Ok(text) => text.len() as u64,
+        Err(_) => 0,
+    }
+}
+
+/// How many nodes the tree of the source has at its top; none if it is refused or no text.
+#[unsafe(no_mangle)]
+pub extern "C" fn tera_bench_nodes(alloc: Global, source: &[u8]) -> u64 {
+    let Ok(text) = str::from_utf8(source) else {
+        return 0;
+    };
+    let parser = Parser::new(alloc, "input", text, Delimiters::default());
+    match parser.parse() {
+        Ok(output) => output.nodes.len() as u64,
         Err(_) => 0,
     }
 }
