@@ -1,5 +1,5 @@
 -- The name of a component ends where no dot follows.
-use Rattle.std.proofs.Common.{◌≡◌, ℕ, zero, suc, Option, Some, None, Result, Ok, Err, refl, sym, ap, subst, ◌∙◌}
+use Rattle.std.proofs.Common.{◌≡◌, ℕ, zero, suc, Some, None, Result, Ok, Err, refl, sym, ap, subst, ◌∙◌}
 use Rattle.std.specs.Prelude.{IfOk, String}
 use Rattle.std.specs.declared.alloc.Global.{Global}
 use Rattle.std.proofs.lemmas.Option.{none-some, same_Some}
@@ -18,7 +18,7 @@ use Rattle.tera_grammar.specs.expressions.Reading.Whole.{path_of}
 use Rattle.tera_grammar.proofs.Options.{bound}
 use Rattle.tera_grammar.proofs.expressions.Fronts.{skip_none}
 use Rattle.tera_grammar.proofs.expressions.Wholes.{left_over_ok}
-use Rattle.tera_expr.specs.Taking.{GivesPath}
+use Rattle.tera_parts.specs.Paths.{GivesPath}
 
 dotted_at_ends : (more : Place → Reads Dotted) → ((p : Place) (x : Dotted × Place) → more p ≡ Some x → skip Dot x.1 ≡ None)
     → (p : Place) (o : Reads Span) → skip Dot p ≡ o → (x : Dotted × Place) → dotted_at more p o ≡ Some x → skip Dot x.1 ≡ None

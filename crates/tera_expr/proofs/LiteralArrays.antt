@@ -25,14 +25,14 @@ use Rattle.tera_grammar.specs.expressions.Reading.Whole.{widest, outermost, left
 use Rattle.tera_grammar.proofs.expressions.Fronts.{skip_ok, none_skip}
 use Rattle.tera_grammar.proofs.expressions.InFront.{array_puts}
 use Rattle.tera_grammar.proofs.expressions.Wholes.{literal_array_found, literal_array_read}
-use Rattle.tera_expr.specs.Folding.{constant_of}
+use Rattle.tera_parts.specs.Folding.{constant_of}
 use Rattle.tera_expr.specs.Promises.{TookArray, TakesOnly}
-use Rattle.tera_expr.specs.Taking.{Fails, Took}
-use Rattle.tera_expr.proofs.Comprehending.{behind_end, behind_condition, behind_target, behind_in, behind_variables, by_variables}
-use Rattle.tera_expr.proofs.Going.{later}
+use Rattle.tera_expect.specs.Taking.{Fails, Took}
+use Rattle.tera_reader.proofs.Comprehending.{behind_end, behind_condition, behind_target, behind_in, behind_variables, by_variables}
+use Rattle.tera_expect.proofs.Going.{later}
 use Rattle.tera_expr.proofs.LiteralMaps.{Comes, opened}
 use Rattle.tera_expr.proofs.Passing.{took_tokens}
-use Rattle.tera_expr.proofs.RowSteps.{skip_taken, fails_by, bind_assoc, steps_by}
+use Rattle.tera_reader.proofs.RowSteps.{skip_taken, fails_by, bind_assoc, steps_by}
 
 -- an array is read where its row is; a comprehension has none, and is no constant
 abbrev Agrees : Span → Reads Tree → Reads Row → Type 0

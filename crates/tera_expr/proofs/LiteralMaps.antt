@@ -1,5 +1,5 @@
 -- From what is read of maps of constants to the grammar.
-use Rattle.std.proofs.Common.{◌≡◌, inl, inr, ℕ, Bool, false, Option, Some, None, Result, Ok, Err, refl, sym, ap, ◌∙◌}
+use Rattle.std.proofs.Common.{◌≡◌, inl, inr, false, Option, Some, None, Result, Ok, Err, refl, sym, ap, ◌∙◌}
 use Rattle.std.specs.Prelude.{IfOk}
 use Rattle.std.proofs.lemmas.Option.{none-some, same_Some}
 use Rattle.tera_base.specs.Values as values
@@ -11,7 +11,6 @@ use Rattle.tera_base.specs.declared.values.Value.{Value}
 use Rattle.tera_lexer.specs.code.Cursors.{Position}
 use Rattle.tera_lexer.specs.grammar.Tokens.{Items}
 use Rattle.tera_tree.specs.Tree as tree
-use Rattle.tera_tree.specs.Tree.{Expr}
 use Rattle.tera_grammar.specs.Limits.{Limits}
 use Rattle.tera_grammar.specs.expressions.Companions.{Opened, map_yield, map_value, IsMap}
 use Rattle.tera_grammar.specs.expressions.Concrete.{Tree, Atomic, Map, Row, of_entries}
@@ -26,12 +25,12 @@ use Rattle.tera_grammar.specs.expressions.Reading.Whole.{widest, outermost, left
 use Rattle.tera_grammar.proofs.expressions.Fronts.{none_skip}
 use Rattle.tera_grammar.proofs.expressions.InFront.{map_puts}
 use Rattle.tera_grammar.proofs.expressions.Wholes.{literal_map_found, literal_map_read}
-use Rattle.tera_expr.specs.Folding.{constant_of}
+use Rattle.tera_parts.specs.Folding.{constant_of}
 use Rattle.tera_expr.specs.Promises.{TookMap, TakesOnly}
-use Rattle.tera_expr.specs.Taking.{Fails, Took}
-use Rattle.tera_expr.proofs.Going.{later}
+use Rattle.tera_expect.specs.Taking.{Fails, Took}
+use Rattle.tera_expect.proofs.Going.{later}
 use Rattle.tera_expr.proofs.Passing.{took_tokens}
-use Rattle.tera_expr.proofs.RowSteps.{skip_taken, fails_by}
+use Rattle.tera_reader.proofs.RowSteps.{skip_taken, fails_by}
 
 -- what is read from some tokens, with those behind it
 abbrev pub Comes : {V X : Type 0} → (V → X → Type 0) → Result V Error → Items → Option (X × Items) → Type 0

@@ -5,7 +5,7 @@ use Rattle.tera_lexer.specs.grammar.Tokens.{Tok, Items, Ended, Failed, Token}
 use Rattle.tera_lexer.specs.code.Cursors.{Position, Passes, IsLater, size}
 use Rattle.tera_grammar.proofs.expressions.InFront.{in_front, Puts}
 use Rattle.tera_expr.specs.Promises.{last_span, TookTokens}
-use Rattle.tera_expr.specs.Taking.{GoesOn}
+use Rattle.tera_expect.specs.Taking.{GoesOn}
 
 -- how many tokens were passed
 passed_size : (n : ℕ) (items : Items) (s : Span) (left : Items) (here : Span) → Passes n items s left here → size items ≡ n + size left

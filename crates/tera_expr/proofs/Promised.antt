@@ -34,14 +34,14 @@ use Rattle.tera_grammar.proofs.expressions.Fronts.{ends_stop}
 use Rattle.tera_grammar.proofs.expressions.InFront.{attributes_puts, filter_puts, kwargs_puts, path_puts, yield_puts}
 use Rattle.tera_grammar.proofs.expressions.Only.{attributes_end, filter_end, path_end}
 use Rattle.tera_grammar.proofs.expressions.Wholes.{attributes_found_whole, attributes_read_whole, expression_found, expression_read, filter_found, filter_read_whole, kwargs_found, kwargs_read, path_found, path_read}
-use Rattle.tera_expr.specs.Attributes.{ListsAttributes}
-use Rattle.tera_expr.specs.Calls.{IsFilter, call_of}
+use Rattle.tera_reader.specs.Attributes.{ListsAttributes}
+use Rattle.tera_reader.specs.Calls.{IsFilter, call_of, AreArguments}
 use Rattle.tera_expr.specs.Promises.{TakesOnly, TookAttributes, TookExpression, TookFilter, TookKwargs, TookPath}
-use Rattle.tera_expr.specs.Rows.{AreArguments}
-use Rattle.tera_expr.specs.Taking.{Fails, GivesBy, GivesPath, GoesOn, Took}
-use Rattle.tera_expr.proofs.Going.{later, took_all}
+use Rattle.tera_expect.specs.Taking.{Fails, GivesBy, GoesOn, Took}
+use Rattle.tera_parts.specs.Paths.{GivesPath}
+use Rattle.tera_expect.proofs.Going.{later, took_all}
 use Rattle.tera_expr.proofs.Passing.{later_on, took_tokens}
-use Rattle.tera_expr.proofs.Steps.{failed, failed_as, skipped, unskipped}
+use Rattle.tera_expect.proofs.Steps.{failed, failed_as, skipped, unskipped}
 
 -- a call that went on behind tokens that were taken
 pub further_ok : {E : Type 0} (old mid new : Position) (r : Result E Error) → Took old mid → IfOk r (λ _. Took mid new) → IfOk r (λ _. Took old new)

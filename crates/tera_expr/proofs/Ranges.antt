@@ -11,8 +11,8 @@ use Rattle.tera_lexer.specs.grammar.Tokens.{Items, Ended, Failed, Token}
 use Rattle.tera_grammar.specs.expressions.Marks.{Mark}
 use Rattle.tera_grammar.specs.expressions.Reading.Front.{takes}
 use Rattle.tera_grammar.proofs.expressions.Fronts.{takes_ok}
-use Rattle.tera_expr.specs.Ranges.{RunsFrom}
-use Rattle.tera_expr.specs.Taking.{Took, Refuses}
+use Rattle.tera_parts.specs.Ranges.{RunsFrom}
+use Rattle.tera_expect.specs.Taking.{Took, Refuses}
 
 -- where the last of some tokens ends, one of them ends
 passed : (n : ℕ) (items : Items) (last : Span) (left : Items) (here : Span) → Passes n items last left here → (span : Span) → EndsWith here span → EndsWith last span ⊎ EndsIn items span

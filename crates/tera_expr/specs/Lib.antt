@@ -1,13 +1,1 @@
-pub mod Rooms
-pub mod Taking
-pub mod Fronts
-pub mod Frames
 pub mod Promises
-pub mod Unfold
-pub mod Rows
-pub mod Elements
-pub mod Folding
-pub mod Chains
-pub mod Calls
-pub mod Ranges
-pub mod Attributes

@@ -29,29 +29,23 @@ ghost use Rattle.tera_grammar.specs.expressions.Ends.{EndsAttributes, EndsFilter
 ghost use Rattle.tera_grammar.specs.expressions.Measures.{EachAttribute, EachRow, Within};
 ghost use Rattle.tera_grammar.specs.expressions.Output.{attributes_output};
 ghost use Rattle.tera_expr.specs.Promises.{TakesOnly, TookArray, TookAttributes, TookFilter, TookKwargs, TookMap};
-ghost use Rattle.tera_expr.specs.Rooms.{AreValid, limits_of};
+ghost use Rattle.tera_parts.specs.Rooms.{AreValid, limits_of};
 
-use crate::arguments::arguments;
-use crate::arrays::array;
-use crate::build as leaves;
-use crate::calls::filter_with;
-use crate::faults::reported_from;
-use crate::fixed::{Fixed, expect};
-use crate::limits::{Limits, Scope};
-use crate::literals::constant;
-use crate::maps::map;
-use crate::rows::Values;
 use std::alloc::Global;
 use std::collections::BTreeMap;
 use tera_base::{Error, Value};
+use tera_expect::{Fixed, expect};
 use tera_lexer::Cursor;
+use tera_parts::{Limits, Scope, Values, constant, leaves, reported_from};
+use tera_reader::arguments::arguments;
+use tera_reader::{array, filter_with, map};
 use tera_tree::{Expression, MapEntry};
 
 /// Reads the attributes of a call of a component, as many as stand there.
 ///
 /// Each value in braces is an expression with limits of its own. An error is the lexical fault, the end of the input,
 /// a syntax error, or `Memory`. After an error the cursor is not used again.
-#[tactic(auto, using(crate::proofs::Going::refused, crate::proofs::Passing::later_on))]
+#[tactic(auto, using(tera_expect::proofs::Going::refused, crate::proofs::Passing::later_on))]
 pub fn attributes(
     alloc: Global,
     cursor: &mut Cursor<'_>,
@@ -67,14 +61,14 @@ pub fn attributes(
     ensures later { IfOk result (λ _. IsLater cursor.old cursor.new) }
 {
     let mut links = 0;
-    crate::component_calls::attributes(alloc, cursor, &mut links, Values::outermost(scope))
+    tera_reader::attributes(alloc, cursor, &mut links, Values::outermost(scope))
 }
 
 /// Reads arguments with their parentheses.
 ///
 /// Each argument is an expression with limits of its own. An error is the lexical fault, the end of the input, a
 /// syntax error, or `Memory`. After an error the cursor is not used again.
-#[tactic(auto, using(crate::proofs::Going::refused, crate::proofs::Going::later, crate::proofs::Going::took_all, crate::proofs::Going::refused_behind))]
+#[tactic(auto, using(tera_expect::proofs::Going::refused, tera_expect::proofs::Going::later, tera_expect::proofs::Going::took_all, tera_expect::proofs::Going::refused_behind))]
 pub fn kwargs(
     alloc: Global,
     cursor: &mut Cursor<'_>,
@@ -98,7 +92,7 @@ pub fn kwargs(
 ///
 /// Each argument is an expression with limits of its own. An error is the lexical fault, the end of the input, a
 /// syntax error, or `Memory`. After an error the cursor is not used again.
-#[tactic(auto, using(crate::proofs::Going::refused, crate::proofs::Going::later, crate::proofs::Going::memory_refused))]
+#[tactic(auto, using(tera_expect::proofs::Going::refused, tera_expect::proofs::Going::later, tera_expect::proofs::Going::memory_refused))]
 pub fn filter(alloc: Global, cursor: &mut Cursor<'_>, scope: Scope) -> Result<Expression, Error>
     requires { AreValid (limits_of scope.limits) }
     // What was taken are the tokens of a filter within the limits, and it is returned.
@@ -118,7 +112,7 @@ pub fn filter(alloc: Global, cursor: &mut Cursor<'_>, scope: Scope) -> Result<Ex
 ///
 /// Each value is an expression with limits of its own. An error is the lexical fault, the end of the input, a syntax
 /// error, or `Memory`. After an error the cursor is not used again.
-#[tactic(auto, using(crate::proofs::Going::took_all, crate::proofs::Going::refused_behind, crate::proofs::Going::refused, crate::proofs::Going::later))]
+#[tactic(auto, using(tera_expect::proofs::Going::took_all, tera_expect::proofs::Going::refused_behind, tera_expect::proofs::Going::refused, tera_expect::proofs::Going::later))]
 pub fn literal_array(alloc: Global, cursor: &mut Cursor<'_>, limits: Limits) -> Result<Value, Error>
     requires { AreValid (limits_of limits) }
     // What was taken are the tokens of an array of constants within the limits, and its value is returned.
@@ -153,7 +147,7 @@ pub fn literal_array(alloc: Global, cursor: &mut Cursor<'_>, limits: Limits) -> 
 ///
 /// Each value is an expression with limits of its own. An error is the lexical fault, the end of the input, a syntax
 /// error, or `Memory`. After an error the cursor is not used again.
-#[tactic(auto, using(crate::proofs::Going::took_all, crate::proofs::Going::refused_behind, crate::proofs::Going::refused, crate::proofs::Going::later))]
+#[tactic(auto, using(tera_expect::proofs::Going::took_all, tera_expect::proofs::Going::refused_behind, tera_expect::proofs::Going::refused, tera_expect::proofs::Going::later))]
 pub fn literal_map(
     alloc: Global,
     cursor: &mut Cursor<'_>,

@@ -10,20 +10,19 @@ ghost use Rattle.tera_grammar.specs.expressions.Ends.{IsStop};
 ghost use Rattle.tera_grammar.specs.expressions.Measures.{Within};
 ghost use Rattle.tera_grammar.specs.expressions.Output.{output};
 ghost use Rattle.tera_expr.specs.Promises.{TakesOnly, TookExpression};
-ghost use Rattle.tera_expr.specs.Rooms.{AreValid, limits_of};
+ghost use Rattle.tera_parts.specs.Rooms.{AreValid, limits_of};
 
-use crate::limits::{Room, Scope};
-use crate::stack;
 use std::alloc::Global;
 use tera_base::Error;
 use tera_lexer::Cursor;
+use tera_parts::{Room, Scope};
 use tera_tree::Expression;
 
 /// Reads an expression.
 ///
 /// An error is the lexical fault, the end of the input, a syntax error, or `Memory`. After an error the cursor is
 /// not used again.
-#[tactic(auto, using(crate::proofs::Going::refused, crate::proofs::Going::later))]
+#[tactic(auto, using(tera_expect::proofs::Going::refused, tera_expect::proofs::Going::later))]
 pub fn expression(alloc: Global, cursor: &mut Cursor<'_>, scope: Scope) -> Result<Expression, Error>
     requires { AreValid (limits_of scope.limits) }
     // What was taken are the tokens of an expression within the limits, and it is returned.
@@ -36,5 +35,5 @@ pub fn expression(alloc: Global, cursor: &mut Cursor<'_>, scope: Scope) -> Resul
 {
     let mut links = scope.limits.links;
     let room = Room::widest(scope);
-    stack::expression(alloc, cursor, &mut links, room, scope.limits.depth, 0)
+    tera_reader::expression(alloc, cursor, &mut links, room, scope.limits.depth, 0)
 }

@@ -21,7 +21,7 @@ use Rattle.tera_grammar.specs.statements.Top.{Derives, IsTemplate}
 use Rattle.tera_grammar.proofs.statements.Tops.{template_complete, template_sound}
 use Rattle.tera_grammar.proofs.statements.Wholes.{derives_read, read_derives}
 use Rattle.tera_statements.specs.Items.{AreEmptyTexts}
-use Rattle.tera_statements.specs.Taking.{RefusesIn}
+use Rattle.tera_expect.specs.Taking.{RefusesIn}
 use Rattle.tera_tree.specs.Tree.{Output}
 use Rattle.tera_parser.specs.Notes.{error_about}
 use Rattle.tera_parser.proofs.About.{tells_about}

@@ -15,7 +15,7 @@ use Rattle.tera_grammar.specs.statements.Reading.{Place, Reader, Reads, at, bloc
 use Rattle.tera_grammar.specs.statements.Reading.Components.{Opened, ending_of, opened_of}
 use Rattle.tera_grammar.specs.statements.Reading.Parts.{closed, finish_of, name_if_any, tag}
 use Rattle.tera_statements.specs.Blocks.{new_block_of}
-use Rattle.tera_statements.proofs.Steps.{kept_by}
+use Rattle.tera_expect.proofs.Steps.{kept_by}
 
 -- the names with one more
 pub block_kept : (b c : List (List ℕ)) (more : List (List ℕ)) (text : List ℕ) → more ≡ b ++ text ∷ []

@@ -41,9 +41,9 @@ use Rattle.tera_grammar.proofs.statements.Expressions.{array_found, array_stands
 use Rattle.tera_statements.specs.Following.{GivesBefore}
 use Rattle.tera_expr.specs.Promises.{TakesOnly, TookArray, TookAttributes, TookExpression, TookFilter, TookMap, TookPath}
 use Rattle.tera_statements.specs.Reading.{AreAttributes, IsArray, IsComponent, IsExpression, IsFilter, IsMap}
-use Rattle.tera_statements.specs.Taking.{GivesBy, GoesOn, Took}
+use Rattle.tera_expect.specs.Taking.{GivesBy, GoesOn, Took}
 use Rattle.tera_statements.proofs.Following.{gives_before}
-use Rattle.tera_statements.proofs.Steps.{not_true}
+use Rattle.tera_expect.proofs.Steps.{not_true}
 
 -- what ends a part, as it is promised
 ends_stop : (r : Items) → ends_expression r ≡ true → IsStop r

@@ -23,12 +23,12 @@ use Rattle.tera_statements.specs.Conditions.{Conditional, conditional_of}
 use Rattle.tera_grammar.proofs.statements.Loops.{is_elif}
 use Rattle.tera_grammar.proofs.statements.Parts.{closed_stands}
 use Rattle.tera_statements.specs.Kinds.{closes}
-use Rattle.tera_statements.specs.Taking.{GivesBy}
+use Rattle.tera_expect.specs.Taking.{GivesBy}
 use Rattle.tera_statements.specs.declared.fronts.Closer.TheVariants as closers
 use Rattle.tera_grammar.specs.expressions.Reading.Front.{Takes}
 use Rattle.tera_statements.specs.Following.{followed}
 use Rattle.tera_statements.proofs.Following.{regrouped as together}
-use Rattle.tera_statements.proofs.Steps.{failed_as}
+use Rattle.tera_expect.proofs.Steps.{failed_as}
 
 -- a loop
 module _ (l : Limits) (self : Reader) (path : Path) (start : Edge) (first : Span) (seen : Names) (ts : Items) where

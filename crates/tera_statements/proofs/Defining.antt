@@ -19,7 +19,7 @@ use Rattle.tera_grammar.specs.statements.Reading.Components.{Opened, end_name_in
 use Rattle.tera_grammar.specs.statements.Reading.Parts.{closed, finish_of}
 use Rattle.tera_grammar.specs.statements.Types.{Sorted}
 use Rattle.tera_statements.specs.Components.{agreeing_name, new_component_of}
-use Rattle.tera_statements.proofs.Steps.{kept_by}
+use Rattle.tera_expect.proofs.Steps.{kept_by}
 
 module _ (l : Limits) (seen : List (List ℕ)) (ts : Items) where
   abbrev behind_name : ComponentName × Items → Takes Opened

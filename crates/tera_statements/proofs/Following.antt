@@ -11,8 +11,8 @@ use Rattle.tera_grammar.specs.expressions.Reading.Front.{Takes}
 use Rattle.tera_grammar.proofs.Options.{bound}
 use Rattle.tera_statements.specs.Following.{GivesBefore, IsUnended, followed}
 use Rattle.tera_expr.specs.Promises.{TakesOnly}
-use Rattle.tera_statements.specs.Taking.{Fails, GivesBy}
-use Rattle.tera_statements.proofs.Steps.{not_true}
+use Rattle.tera_expect.specs.Taking.{Fails, GivesBy}
+use Rattle.tera_expect.proofs.Steps.{not_true}
 
 true_false : true ≡ false → ⊥
 true_false e = cc

@@ -1,7 +1,5 @@
-pub mod Going
 pub mod Refusing
 pub mod NextTwo
-pub mod Steps
 pub mod Following
 pub mod Bridging
 pub mod Piping

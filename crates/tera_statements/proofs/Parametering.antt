@@ -37,9 +37,9 @@ use Rattle.tera_grammar.specs.statements.Types.{Sorted, put_name, type_named}
 use Rattle.tera_grammar.proofs.statements.Loops.{listing_on}
 use Rattle.tera_statements.specs.Parameters.{IsDefault, argument_as, has_default, taken_rest, typed, type_written}
 use Rattle.tera_statements.specs.Reading.{IsArray, IsMap}
-use Rattle.tera_statements.specs.Taking.{Eats, Fails, GivesBy, GoesOn}
-use Rattle.tera_statements.proofs.Going.{stays, took_goes}
-use Rattle.tera_statements.proofs.Steps.{failed}
+use Rattle.tera_expect.specs.Taking.{Eats, Fails, GivesBy, GoesOn}
+use Rattle.tera_expect.proofs.Going.{stays, took_goes}
+use Rattle.tera_expect.proofs.Steps.{failed}
 
 -- a token that had to come and did not, where none is read
 pub untaken : {A : Type 0} (read : Items → Option A) (old new : Position) (e : Error) → read Ended ≡ None → ((text : List ℕ) (span : Span) → read (Failed text span) ≡ None)

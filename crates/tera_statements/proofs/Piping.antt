@@ -26,7 +26,7 @@ use Rattle.tera_grammar.proofs.statements.Loops.{piping_ends, piping_on, piping_
 use Rattle.tera_statements.specs.Following.{GivesBefore, IsUnended, followed}
 use Rattle.tera_statements.specs.Heads.{AreFilters}
 use Rattle.tera_statements.specs.Reading.{IsFilter}
-use Rattle.tera_statements.specs.Taking.{Fails, GivesBy}
+use Rattle.tera_expect.specs.Taking.{Fails, GivesBy}
 use Rattle.tera_statements.proofs.Following.{joined, no_first, no_second}
 
 -- what ends no part ends no tag

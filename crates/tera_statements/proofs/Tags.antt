@@ -10,7 +10,7 @@ use Rattle.tera_grammar.specs.statements.Parts.{Edge}
 use Rattle.tera_grammar.specs.statements.Reading.Parts.{Front, Ends, Closes, Holds, Shows, Opens, Wrong, front, closed_at, closed}
 use Rattle.tera_grammar.proofs.statements.Parts.{FrontOf, front_is}
 use Rattle.tera_statements.specs.Kinds.{closer_of, closes}
-use Rattle.tera_statements.specs.Taking.{Fails}
+use Rattle.tera_expect.specs.Taking.{Fails}
 use Rattle.tera_statements.specs.declared.fronts.Closer.{Closer}
 
 closed_by : (wanted : Closer) (fr : Front) (ts us vs : Items) (t u : Tok) (s r : Span) → FrontOf ts fr → closes wanted fr ≡ true → ts ≡ Token t s us → us ≡ Token u r vs

@@ -12,7 +12,7 @@ use Rattle.tera_grammar.specs.statements.Reading.{Place, at, Reads}
 use Rattle.tera_grammar.specs.statements.Names as grammar_names
 use Rattle.tera_statements.specs.Around.{Stands}
 use Rattle.tera_statements.specs.Known.{names_of}
-use Rattle.tera_statements.specs.Taking.{Fails, GivesBy}
+use Rattle.tera_expect.specs.Taking.{Fails, GivesBy}
 use Rattle.tera_statements.specs.declared.added.Added.{Added}
 use Rattle.tera_statements.specs.declared.added.Added.TheVariants as added
 use Rattle.tera_statements.specs.declared.added.Names.{Names}

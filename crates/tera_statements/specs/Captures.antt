@@ -15,7 +15,7 @@ use Rattle.tera_grammar.specs.statements.Reading.{Place, Reader, at, body, set_b
 use Rattle.tera_grammar.specs.statements.Reading.Parts.{finish_of}
 use Rattle.tera_statements.specs.Adding.{IsAdded}
 use Rattle.tera_statements.specs.Around.{Stands, context_of}
-use Rattle.tera_statements.specs.Taking.{GivesBy}
+use Rattle.tera_expect.specs.Taking.{GivesBy}
 use Rattle.tera_statements.specs.declared.added.Added.{Added}
 use Rattle.tera_statements.specs.declared.around.Around.{Around}
 use Rattle.tera_statements.specs.declared.around.Context.{Context}

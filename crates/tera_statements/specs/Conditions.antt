@@ -12,7 +12,7 @@ use Rattle.tera_grammar.specs.statements.Reading.{Place, Reads, at, body}
 use Rattle.tera_grammar.specs.statements.Reading.Parts.{finish_of}
 use Rattle.tera_statements.specs.Adding.{IsBody}
 use Rattle.tera_statements.specs.Reading.{IsExpression}
-use Rattle.tera_statements.specs.Taking.{GivesBy}
+use Rattle.tera_expect.specs.Taking.{GivesBy}
 use Rattle.tera_statements.specs.declared.conditions.Branch.{Branch}
 
 abbrev pub branch_view : Branch → Expr × List Stmt

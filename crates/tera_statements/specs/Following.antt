@@ -5,7 +5,7 @@ use Rattle.tera_base.specs.declared.errors.Error.{Error}
 use Rattle.tera_lexer.specs.grammar.Tokens.{Items}
 use Rattle.tera_grammar.specs.Options.{◌>>=◌}
 use Rattle.tera_grammar.specs.expressions.Reading.Front.{Takes}
-use Rattle.tera_statements.specs.Taking.{GivesBy}
+use Rattle.tera_expect.specs.Taking.{GivesBy}
 
 -- one part, and another behind it
 unfoldable pub followed : {A B : Type 0} → Takes A → (Items → Takes B) → Takes (A × B)

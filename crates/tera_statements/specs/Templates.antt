@@ -18,7 +18,7 @@ use Rattle.tera_grammar.specs.statements.Reading.Loops.{Topping, turn, weight}
 use Rattle.tera_grammar.specs.statements.Reading.Parts.{front}
 use Rattle.tera_grammar.specs.statements.Top.{IsTemplate}
 use Rattle.tera_statements.specs.Adding.{IsAdded}
-use Rattle.tera_statements.specs.Taking.{Fails}
+use Rattle.tera_expect.specs.Taking.{Fails}
 use Rattle.tera_statements.specs.declared.added.Added.{Added}
 use Rattle.tera_statements.specs.Outputs.{output_view}
 use Rattle.tera_statements.specs.declared.outputs.ParserOutput.{ParserOutput}

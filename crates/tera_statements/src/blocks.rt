@@ -3,21 +3,20 @@
 ghost use Rattle.std.specs.Prelude.{IfErr, IfOk, ◌≡◌, ◌⊎◌, ◌++◌, ◌∷◌, [], false, true};
 ghost use Rattle.std.specs.Str.{bytes_eq};
 ghost use Rattle.tera_base.specs.Errors.{IsMemory};
-ghost use Rattle.tera_expr.specs.Rooms.{limits_of};
+ghost use Rattle.tera_parts.specs.Rooms.{limits_of};
 ghost use Rattle.tera_grammar.specs.statements.Reading as reading;
 ghost use Rattle.tera_grammar.specs.statements.Reading.{block_end, block_of, component_def_of};
 ghost use Rattle.tera_grammar.specs.statements.Parts.{Name};
 ghost use Rattle.tera_statements.specs.Adding.{AddsBy, here, seen_of};
 ghost use Rattle.tera_statements.specs.Blocks.{IsName, new_block_of};
 ghost use Rattle.tera_statements.specs.Known.{names_of};
-ghost use Rattle.tera_statements.specs.Taking.{GivesBy, Passes, Refuses, Took};
+ghost use Rattle.tera_expect.specs.Taking.{GivesBy, Passes, Refuses, Took};
 
 use crate::added::{Added, Names};
 use crate::around::{Around, Context, Opening};
 use crate::bodies::body;
 use crate::components::{closing_tag, opening_tag};
-use crate::faults::{renamed, reported};
-use crate::fixed::{eat_name, name};
+use crate::faults::renamed;
 use crate::fronts::Closer;
 use crate::names::{Known, keep_name, place_of};
 use crate::parts::{closed, finish};
@@ -25,12 +24,13 @@ use crate::settings::Setting;
 use crate::simple::{check_block, check_outermost};
 use std::alloc::Global;
 use tera_base::{Error, Span, Spanned};
+use tera_expect::{eat_name, name, reported};
 use tera_lexer::Cursor;
 use tera_tree::{ComponentDefinition, build};
 
 /// Reads the rest of a block, whose word was taken last.
 #[cycle(bodies)]
-#[tactic(auto, using(crate::proofs::Going::took_all, crate::proofs::Going::took_further, crate::proofs::Going::goes_took, crate::proofs::Going::refused_behind, crate::proofs::Going::refused_further, crate::proofs::Going::memory_refused))]
+#[tactic(auto, using(tera_expect::proofs::Going::took_all, tera_expect::proofs::Going::took_further, tera_expect::proofs::Going::goes_took, tera_expect::proofs::Going::refused_behind, tera_expect::proofs::Going::refused_further, tera_expect::proofs::Going::memory_refused))]
 pub(crate) fn block(
     setting: &Setting<'_>,
     cursor: &mut Cursor<'_>,
@@ -57,7 +57,7 @@ pub(crate) fn block(
 }
 
 // The name of a block that the template does not have yet, and where it stands. It is kept.
-#[tactic(auto, using(crate::proofs::Going::refused_behind, crate::proofs::Going::memory_refused))]
+#[tactic(auto, using(tera_expect::proofs::Going::refused_behind, tera_expect::proofs::Going::memory_refused))]
 fn new_block<'a>(
     setting: &Setting<'_>,
     cursor: &mut Cursor<'a>,
@@ -78,7 +78,7 @@ fn new_block<'a>(
 }
 
 // The closing tag of the block with this name.
-#[tactic(auto, using(crate::proofs::Going::took_all, crate::proofs::Going::took_further, crate::proofs::Going::refused_behind, crate::proofs::Going::refused_further))]
+#[tactic(auto, using(tera_expect::proofs::Going::took_all, tera_expect::proofs::Going::took_further, tera_expect::proofs::Going::refused_behind, tera_expect::proofs::Going::refused_further))]
 fn block_end(setting: &Setting<'_>, cursor: &mut Cursor<'_>, name: &str) -> Result<(), Error>
     ensures gives { (n : Name) → n.text ≡ name.now → Passes result cursor.new.left (block_end n cursor.old.left) }
     ensures refusal { IfErr result (Refuses cursor.old) }
@@ -109,7 +109,7 @@ fn check_name(alloc: Global, cursor: &Cursor<'_>, name: &str, end: &str) -> Resu
 
 /// Reads the rest of the definition of a component, whose word was taken last.
 #[cycle(bodies)]
-#[tactic(auto, using(crate::proofs::Going::took_all, crate::proofs::Going::took_further, crate::proofs::Going::goes_took, crate::proofs::Going::refused_behind, crate::proofs::Going::refused_further))]
+#[tactic(auto, using(tera_expect::proofs::Going::took_all, tera_expect::proofs::Going::took_further, tera_expect::proofs::Going::goes_took, tera_expect::proofs::Going::refused_behind, tera_expect::proofs::Going::refused_further))]
 pub(crate) fn definition(
     setting: &Setting<'_>,
     cursor: &mut Cursor<'_>,

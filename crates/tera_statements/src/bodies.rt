@@ -5,22 +5,22 @@ ghost use Rattle.tera_grammar.specs.statements.Grammar.{Path, in_loop};
 ghost use Rattle.tera_grammar.specs.statements.Reading as reading;
 ghost use Rattle.tera_statements.specs.Adding.{IsBody, here};
 ghost use Rattle.tera_statements.specs.Around.{Stands, context_of};
-ghost use Rattle.tera_expr.specs.Rooms.{limits_of};
-ghost use Rattle.tera_statements.specs.Taking.{GivesBy, GoesOn, Refuses};
+ghost use Rattle.tera_parts.specs.Rooms.{limits_of};
+ghost use Rattle.tera_expect.specs.Taking.{GivesBy, GoesOn, Refuses};
 
 use crate::added::{Names, push_node};
 use crate::around::{Around, Opening};
-use crate::faults::fault;
 use crate::items::item;
 use crate::settings::Setting;
 use crate::simple::Extension;
 use tera_base::Error;
+use tera_expect::fault;
 use tera_lexer::Cursor;
 use tera_tree::Node;
 
 /// Reads a body inside of what was opened, where so many may still open.
 #[cycle(bodies)]
-#[tactic(auto, using(crate::proofs::Going::goes_further, crate::proofs::Going::took_goes, crate::proofs::Going::stays, crate::proofs::Refusing::inside_further, crate::proofs::Going::memory_refused))]
+#[tactic(auto, using(tera_expect::proofs::Going::goes_further, tera_expect::proofs::Going::took_goes, tera_expect::proofs::Going::stays, crate::proofs::Refusing::inside_further, tera_expect::proofs::Going::memory_refused))]
 pub(crate) fn body(
     setting: &Setting<'_>,
     cursor: &mut Cursor<'_>,

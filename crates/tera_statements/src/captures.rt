@@ -3,7 +3,7 @@
 ghost use Rattle.std.specs.Prelude.{◌≡◌, ◌⊎◌, IfErr, IfOk, false, true};
 ghost use Rattle.std.specs.Str.{bytes_eq};
 ghost use Rattle.tera_base.specs.Errors.{IsMemory};
-ghost use Rattle.tera_expr.specs.Rooms.{limits_of};
+ghost use Rattle.tera_parts.specs.Rooms.{limits_of};
 ghost use Rattle.tera_grammar.specs.statements.Expressions.{ComponentName, component_of, component_text};
 ghost use Rattle.tera_grammar.specs.statements.Grammar.{Path, in_loop};
 ghost use Rattle.tera_grammar.specs.statements.Reading as reading;
@@ -11,7 +11,7 @@ ghost use Rattle.tera_grammar.specs.statements.Reading.{call_end, call_of, secti
 ghost use Rattle.tera_statements.specs.Adding.{AddsBy, here, seen_of};
 ghost use Rattle.tera_statements.specs.Captures.{GivesSetBody, GivesSetValue, IsCallEnd, IsNoBody};
 ghost use Rattle.tera_statements.specs.Reading.{IsComponent};
-ghost use Rattle.tera_statements.specs.Taking.{GivesBy, Refuses, Took};
+ghost use Rattle.tera_expect.specs.Taking.{GivesBy, Refuses, Took};
 ghost use Rattle.tera_tree.specs.Tree as tree;
 ghost use Rattle.tera_tree.specs.View.{expression_view, node_view};
 
@@ -20,14 +20,13 @@ use crate::around::{Around, Context, Opening};
 use crate::bodies::body;
 use crate::closing::{closed_attributes, closed_expression};
 use crate::expressions::component_name;
-use crate::faults::{fault, reported};
-use crate::fixed::{Fixed, begins, begins_name, eat, expect};
 use crate::fronts::Closer;
 use crate::heads::{closed_filters, section_filters};
 use crate::parts::{closed, closed_tag, finish, free_name, spanning};
 use crate::settings::Setting;
 use std::alloc::Global;
 use tera_base::{Error, Span};
+use tera_expect::{Fixed, begins, begins_name, eat, expect, fault, reported};
 use tera_lexer::{Cursor, Token};
 use tera_tree::{Expression, Node, build};
 
@@ -40,7 +39,7 @@ pub(crate) struct Variable<'a> {
 
 /// Reads the rest of a `set` or a `set_global`, whose word was taken last.
 #[cycle(bodies)]
-#[tactic(auto, using(crate::proofs::Going::took_all, crate::proofs::Going::refused_behind))]
+#[tactic(auto, using(tera_expect::proofs::Going::took_all, tera_expect::proofs::Going::refused_behind))]
 pub(crate) fn set(
     setting: &Setting<'_>,
     cursor: &mut Cursor<'_>,
@@ -66,7 +65,7 @@ pub(crate) fn set(
 }
 
 // The value of a variable, behind the equals sign, which was taken last.
-#[tactic(auto, using(crate::proofs::Going::took_all, crate::proofs::Going::refused_behind, crate::proofs::Going::memory_refused))]
+#[tactic(auto, using(tera_expect::proofs::Going::took_all, tera_expect::proofs::Going::refused_behind, tera_expect::proofs::Going::memory_refused))]
 fn set_value(
     setting: &Setting<'_>,
     cursor: &mut Cursor<'_>,
@@ -84,7 +83,7 @@ fn set_value(
 
 // The filters and the body that a variable takes, behind its name.
 #[cycle(bodies)]
-#[tactic(auto, using(crate::proofs::Going::took_all, crate::proofs::Going::took_further, crate::proofs::Going::goes_took, crate::proofs::Going::refused_behind, crate::proofs::Going::refused_further, crate::proofs::Going::memory_refused))]
+#[tactic(auto, using(tera_expect::proofs::Going::took_all, tera_expect::proofs::Going::took_further, tera_expect::proofs::Going::goes_took, tera_expect::proofs::Going::refused_behind, tera_expect::proofs::Going::refused_further, tera_expect::proofs::Going::memory_refused))]
 fn set_body(
     setting: &Setting<'_>,
     cursor: &mut Cursor<'_>,
@@ -123,7 +122,7 @@ fn check_set(alloc: Global, cursor: &Cursor<'_>) -> Result<(), Error>
 
 /// Reads the rest of a filter section, whose word was taken last.
 #[cycle(bodies)]
-#[tactic(auto, using(crate::proofs::Going::took_all, crate::proofs::Going::took_further, crate::proofs::Going::goes_took, crate::proofs::Going::refused_behind, crate::proofs::Going::refused_further, crate::proofs::Going::memory_refused))]
+#[tactic(auto, using(tera_expect::proofs::Going::took_all, tera_expect::proofs::Going::took_further, tera_expect::proofs::Going::goes_took, tera_expect::proofs::Going::refused_behind, tera_expect::proofs::Going::refused_further, tera_expect::proofs::Going::memory_refused))]
 pub(crate) fn section(
     setting: &Setting<'_>,
     cursor: &mut Cursor<'_>,
@@ -147,7 +146,7 @@ pub(crate) fn section(
 
 /// Reads the rest of a call of a component, whose `<` was taken last.
 #[cycle(bodies)]
-#[tactic(auto, using(crate::proofs::Going::took_all, crate::proofs::Going::took_further, crate::proofs::Going::goes_took, crate::proofs::Going::refused_behind, crate::proofs::Going::refused_further, crate::proofs::Going::memory_refused))]
+#[tactic(auto, using(tera_expect::proofs::Going::took_all, tera_expect::proofs::Going::took_further, tera_expect::proofs::Going::goes_took, tera_expect::proofs::Going::refused_behind, tera_expect::proofs::Going::refused_further, tera_expect::proofs::Going::memory_refused))]
 pub(crate) fn call(
     setting: &Setting<'_>,
     cursor: &mut Cursor<'_>,
@@ -197,7 +196,7 @@ fn called_name(alloc: Global, cursor: &mut Cursor<'_>) -> Result<String, Error>
 }
 
 // The closing tag of a call of the component with this name, and where its `>` stands.
-#[tactic(auto, using(crate::proofs::Going::took_all, crate::proofs::Going::refused_behind))]
+#[tactic(auto, using(tera_expect::proofs::Going::took_all, tera_expect::proofs::Going::refused_behind))]
 fn call_end(alloc: Global, cursor: &mut Cursor<'_>, name: &str) -> Result<Span, Error>
     ensures gives { (n : ComponentName) → component_text n ≡ name.now → GivesBy IsCallEnd result cursor.new.left (call_end n cursor.old.left) }
     ensures refusal { IfErr result (Refuses cursor.old) }

@@ -8,20 +8,20 @@ ghost use Rattle.tera_grammar.specs.statements.Expressions.{attributes_of, expre
 ghost use Rattle.tera_grammar.specs.statements.Reading.Parts.{finish_of, variable_end_of};
 ghost use Rattle.tera_statements.specs.Following.{followed};
 ghost use Rattle.tera_statements.specs.Reading.{AreAttributes, IsExpression};
-ghost use Rattle.tera_expr.specs.Rooms.{limits_of};
-ghost use Rattle.tera_statements.specs.Taking.{GivesBy, Refuses, Took};
+ghost use Rattle.tera_parts.specs.Rooms.{limits_of};
+ghost use Rattle.tera_expect.specs.Taking.{GivesBy, Refuses, Took};
 
 use crate::expressions::{attributes, expression};
-use crate::fixed::{Fixed, expect};
 use crate::parts::{finish, variable_end};
 use crate::settings::Setting;
 use tera_base::Error;
+use tera_expect::{Fixed, expect};
 use tera_expr::Scope;
 use tera_lexer::Cursor;
 use tera_tree::{Expression, MapEntry};
 
 /// Reads an expression, and the end of its tag.
-#[tactic(auto, using(crate::proofs::Going::goes_took, crate::proofs::Going::refused_further))]
+#[tactic(auto, using(tera_expect::proofs::Going::goes_took, tera_expect::proofs::Going::refused_further))]
 pub(crate) fn closed_expression(
     setting: &Setting<'_>,
     cursor: &mut Cursor<'_>,
@@ -41,7 +41,7 @@ pub(crate) fn closed_expression(
 }
 
 /// Reads an expression, and the end of its variable tag.
-#[tactic(auto, using(crate::proofs::Going::goes_took, crate::proofs::Going::refused_further))]
+#[tactic(auto, using(tera_expect::proofs::Going::goes_took, tera_expect::proofs::Going::refused_further))]
 pub(crate) fn shown_expression(
     setting: &Setting<'_>,
     cursor: &mut Cursor<'_>,
@@ -61,7 +61,7 @@ pub(crate) fn shown_expression(
 }
 
 /// Reads the attributes of a call of a component, and the `>` behind them.
-#[tactic(auto, using(crate::proofs::Going::goes_took, crate::proofs::Going::refused_further))]
+#[tactic(auto, using(tera_expect::proofs::Going::goes_took, tera_expect::proofs::Going::refused_further))]
 pub(crate) fn closed_attributes(
     setting: &Setting<'_>,
     cursor: &mut Cursor<'_>,

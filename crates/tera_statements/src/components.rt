@@ -4,7 +4,7 @@ ghost use Rattle.std.specs.Prelude.{◌≡◌, ◌++◌, ◌∷◌, [], IfErr, I
 ghost use Rattle.tera_base.specs.Errors.{IsMemory};
 ghost use Rattle.tera_base.specs.ValueView.{pairs_view, value_view};
 ghost use Rattle.tera_base.specs.declared.utils.Span.{Span};
-ghost use Rattle.tera_expr.specs.Rooms.{limits_of};
+ghost use Rattle.tera_parts.specs.Rooms.{limits_of};
 ghost use Rattle.tera_grammar.specs.expressions.Marks.{LeftBrace};
 ghost use Rattle.tera_grammar.specs.expressions.Reading.Front.{begins};
 ghost use Rattle.tera_grammar.specs.statements.Components.{put_pairs};
@@ -17,12 +17,11 @@ ghost use Rattle.tera_statements.specs.Components.{IsOpened, agreeing_name, new_
 ghost use Rattle.tera_statements.specs.Known.{names_of};
 ghost use Rattle.tera_statements.specs.Parameters.{IsMetadata};
 ghost use Rattle.tera_statements.specs.Reading.{IsComponent};
-ghost use Rattle.tera_statements.specs.Taking.{GivesBy, GoesOn, Passes, Refuses, Took};
+ghost use Rattle.tera_expect.specs.Taking.{GivesBy, GoesOn, Passes, Refuses, Took};
 ghost use Rattle.tera_tree.specs.Definitions.{named_value};
 
 use crate::expressions::{component_name, literal_map};
-use crate::faults::{noted, renamed, reported};
-use crate::fixed::{Fixed, begins, begins_name, expect};
+use crate::faults::renamed;
 use crate::fronts::Closer;
 use crate::names::{Known, keep_name, place_of};
 use crate::parameters::{Parameters, read_parameters};
@@ -31,6 +30,7 @@ use crate::settings::Setting;
 use std::alloc::{AllocError, Global};
 use std::collections::BTreeMap;
 use tera_base::{Error, Map, Span, Value};
+use tera_expect::{Fixed, begins, begins_name, expect, noted, reported};
 use tera_lexer::Cursor;
 
 /// What the opening tag of a component's definition says.
@@ -42,7 +42,7 @@ pub(crate) struct Opened {
 }
 
 /// Reads the opening tag of a component's definition, behind its first word. The name is kept.
-#[tactic(auto, using(crate::proofs::Going::took_all, crate::proofs::Going::took_further, crate::proofs::Going::goes_took, crate::proofs::Going::refused_behind, crate::proofs::Going::refused_further))]
+#[tactic(auto, using(tera_expect::proofs::Going::took_all, tera_expect::proofs::Going::took_further, tera_expect::proofs::Going::goes_took, tera_expect::proofs::Going::refused_behind, tera_expect::proofs::Going::refused_further))]
 pub(crate) fn opening_tag(
     setting: &Setting<'_>,
     cursor: &mut Cursor<'_>,
@@ -66,7 +66,7 @@ pub(crate) fn opening_tag(
 }
 
 // The name of a component that the template did not define before. It is kept.
-#[tactic(auto, using(crate::proofs::Going::refused_behind, crate::proofs::Going::memory_refused))]
+#[tactic(auto, using(tera_expect::proofs::Going::refused_behind, tera_expect::proofs::Going::memory_refused))]
 fn new_component(
     setting: &Setting<'_>,
     cursor: &mut Cursor<'_>,
@@ -86,7 +86,7 @@ fn new_component(
 }
 
 // That a component of the name, which was taken last, was defined before at the span.
-#[tactic(auto, using(crate::proofs::Going::same_refused))]
+#[tactic(auto, using(tera_expect::proofs::Going::same_refused))]
 fn known(setting: &Setting<'_>, cursor: &Cursor<'_>, name: &str, first: &Span) -> Error
     ensures { Refuses cursor.now result }
 {
@@ -96,7 +96,7 @@ fn known(setting: &Setting<'_>, cursor: &Cursor<'_>, name: &str, first: &Span) -
 }
 
 // The metadata of a component, where a map stands there.
-#[tactic(auto, using(crate::proofs::Going::took_goes, crate::proofs::Going::stays, crate::proofs::Going::memory_refused))]
+#[tactic(auto, using(tera_expect::proofs::Going::took_goes, tera_expect::proofs::Going::stays, tera_expect::proofs::Going::memory_refused))]
 fn metadata(
     setting: &Setting<'_>,
     cursor: &mut Cursor<'_>,
@@ -140,7 +140,7 @@ fn put_value(
 }
 
 /// Reads the closing tag of the definition of the component with this name.
-#[tactic(auto, using(crate::proofs::Going::took_all, crate::proofs::Going::took_further, crate::proofs::Going::refused_behind, crate::proofs::Going::refused_further))]
+#[tactic(auto, using(tera_expect::proofs::Going::took_all, tera_expect::proofs::Going::took_further, tera_expect::proofs::Going::refused_behind, tera_expect::proofs::Going::refused_further))]
 pub(crate) fn closing_tag(alloc: Global, cursor: &mut Cursor<'_>, name: &str) -> Result<(), Error>
     ensures gives { (start : Edge) (first : Span) (o : reading.Opened) → component_text o.name ≡ name.now → Passes result cursor.new.left (ending_of start first o cursor.old.left) }
     ensures refusal { IfErr result (Refuses cursor.old) }
@@ -152,7 +152,7 @@ pub(crate) fn closing_tag(alloc: Global, cursor: &mut Cursor<'_>, name: &str) ->
 }
 
 // The name at the end of a definition, where one stands there; it has to be that of the component.
-#[tactic(auto, using(crate::proofs::Going::took_goes, crate::proofs::Going::stays, crate::proofs::Going::refused_behind))]
+#[tactic(auto, using(tera_expect::proofs::Going::took_goes, tera_expect::proofs::Going::stays, tera_expect::proofs::Going::refused_behind))]
 fn end_name(alloc: Global, cursor: &mut Cursor<'_>, name: &str) -> Result<(), Error>
     ensures gives { Passes result cursor.new.left (agreeing_name name.now cursor.old.left) }
     ensures refusal { IfErr result (Refuses cursor.old) }

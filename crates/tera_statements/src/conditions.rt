@@ -2,7 +2,7 @@
 
 ghost use Rattle.std.specs.Prelude.{◌≡◌, ◌∷◌, IfErr, IfOk, map};
 ghost use Rattle.tera_base.specs.Errors.{IsMemory};
-ghost use Rattle.tera_expr.specs.Rooms.{limits_of};
+ghost use Rattle.tera_parts.specs.Rooms.{limits_of};
 ghost use Rattle.tera_grammar.specs.statements.Grammar.{InIf, Path, in_loop};
 ghost use Rattle.tera_grammar.specs.statements.Reading as reading;
 ghost use Rattle.tera_grammar.specs.statements.Reading.{branches, if_of};
@@ -10,7 +10,7 @@ ghost use Rattle.tera_grammar.specs.statements.Reading.Loops.{nest};
 ghost use Rattle.tera_statements.specs.Adding.{AddsBy, AreBranches, here, seen_of};
 ghost use Rattle.tera_statements.specs.Around.{Stands};
 ghost use Rattle.tera_statements.specs.Conditions.{GivesBranch, branch_view};
-ghost use Rattle.tera_statements.specs.Taking.{GivesBy, GoesOn, Refuses, Took};
+ghost use Rattle.tera_expect.specs.Taking.{GivesBy, GoesOn, Refuses, Took};
 ghost use Rattle.tera_tree.specs.View.{node_view};
 
 use crate::added::{Added, Names};
@@ -35,7 +35,7 @@ pub(crate) struct Branch {
 
 /// Reads the rest of an `if`, whose word was taken last.
 #[cycle(bodies)]
-#[tactic(auto, using(crate::proofs::Going::took_all, crate::proofs::Going::took_further, crate::proofs::Going::goes_took, crate::proofs::Going::refused_behind, crate::proofs::Going::refused_further))]
+#[tactic(auto, using(tera_expect::proofs::Going::took_all, tera_expect::proofs::Going::took_further, tera_expect::proofs::Going::goes_took, tera_expect::proofs::Going::refused_behind, tera_expect::proofs::Going::refused_further))]
 pub(crate) fn condition(
     setting: &Setting<'_>,
     cursor: &mut Cursor<'_>,
@@ -56,7 +56,7 @@ pub(crate) fn condition(
 
 // A condition, the end of its tag, and the body under it; the word before it stands at the span.
 #[cycle(bodies)]
-#[tactic(auto, using(crate::proofs::Going::took_all, crate::proofs::Going::took_further, crate::proofs::Going::refused_behind))]
+#[tactic(auto, using(tera_expect::proofs::Going::took_all, tera_expect::proofs::Going::took_further, tera_expect::proofs::Going::refused_behind))]
 fn read_branch(
     setting: &Setting<'_>,
     cursor: &mut Cursor<'_>,
@@ -80,7 +80,7 @@ fn read_branch(
 
 // The branches behind the first one, whose word stands at the span: any number of `elif`, and an `else` or none.
 #[cycle(bodies)]
-#[tactic(auto, using(crate::proofs::Going::goes_further, crate::proofs::Going::took_goes, crate::proofs::Going::took_all, crate::proofs::Going::stays, crate::proofs::Going::refused_behind, crate::proofs::Going::refused_further, crate::proofs::Going::memory_refused))]
+#[tactic(auto, using(tera_expect::proofs::Going::goes_further, tera_expect::proofs::Going::took_goes, tera_expect::proofs::Going::took_all, tera_expect::proofs::Going::stays, tera_expect::proofs::Going::refused_behind, tera_expect::proofs::Going::refused_further, tera_expect::proofs::Going::memory_refused))]
 fn other_branches(
     setting: &Setting<'_>,
     cursor: &mut Cursor<'_>,

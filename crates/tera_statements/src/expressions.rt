@@ -5,8 +5,8 @@ ghost use Rattle.tera_grammar.specs.statements.Expressions.{array_of, attributes
 ghost use Rattle.tera_grammar.proofs.statements.Expressions.{ends_attributes, ends_expression, ends_filter};
 ghost use Rattle.tera_statements.specs.Following.{GivesBefore};
 ghost use Rattle.tera_statements.specs.Reading.{AreAttributes, IsArray, IsComponent, IsExpression, IsFilter, IsMap};
-ghost use Rattle.tera_expr.specs.Rooms.{AreValid, limits_of};
-ghost use Rattle.tera_statements.specs.Taking.{GivesBy, GoesOn, Refuses, Took};
+ghost use Rattle.tera_parts.specs.Rooms.{AreValid, limits_of};
+ghost use Rattle.tera_expect.specs.Taking.{GivesBy, GoesOn, Refuses, Took};
 
 use std::alloc::Global;
 use tera_base::{Error, Value};
@@ -15,7 +15,7 @@ use tera_lexer::Cursor;
 use tera_tree::{Expression, MapEntry};
 
 /// Reads an expression, which the end of a tag ends.
-#[tactic(auto, using(crate::proofs::Going::is_refused))]
+#[tactic(auto, using(tera_expect::proofs::Going::is_refused))]
 pub(crate) fn expression(
     alloc: Global,
     cursor: &mut Cursor<'_>,
@@ -31,7 +31,7 @@ pub(crate) fn expression(
 
 /// Reads a filter's name and its arguments, which a bar or the end of a tag ends; its input is a constant of no
 /// value, which stands at the token taken last.
-#[tactic(auto, using(crate::proofs::Going::is_refused))]
+#[tactic(auto, using(tera_expect::proofs::Going::is_refused))]
 pub(crate) fn filter(
     alloc: Global,
     cursor: &mut Cursor<'_>,
@@ -46,7 +46,7 @@ pub(crate) fn filter(
 }
 
 /// Reads the attributes of a call of a component, which `/` or `>` ends.
-#[tactic(auto, using(crate::proofs::Going::is_refused))]
+#[tactic(auto, using(tera_expect::proofs::Going::is_refused))]
 pub(crate) fn attributes(
     alloc: Global,
     cursor: &mut Cursor<'_>,
@@ -61,7 +61,7 @@ pub(crate) fn attributes(
 }
 
 /// Reads names joined by dots.
-#[tactic(auto, using(crate::proofs::Going::is_refused))]
+#[tactic(auto, using(tera_expect::proofs::Going::is_refused))]
 pub(crate) fn component_name(alloc: Global, cursor: &mut Cursor<'_>) -> Result<String, Error>
     ensures gives { GivesBy IsComponent result cursor.new.left (component_of cursor.old.left) }
     ensures refusal { IfErr result (Refuses cursor.old) }
@@ -71,7 +71,7 @@ pub(crate) fn component_name(alloc: Global, cursor: &mut Cursor<'_>) -> Result<S
 }
 
 /// Reads a constant array from its bracket.
-#[tactic(auto, using(crate::proofs::Going::is_refused))]
+#[tactic(auto, using(tera_expect::proofs::Going::is_refused))]
 pub(crate) fn literal_array(
     alloc: Global,
     cursor: &mut Cursor<'_>,
@@ -86,7 +86,7 @@ pub(crate) fn literal_array(
 }
 
 /// Reads a constant map from its brace; `context` says in a fault what it is.
-#[tactic(auto, using(crate::proofs::Going::is_refused))]
+#[tactic(auto, using(tera_expect::proofs::Going::is_refused))]
 pub(crate) fn literal_map(
     alloc: Global,
     cursor: &mut Cursor<'_>,

@@ -1,7 +1,7 @@
 //! The heads of loops, and filters.
 
 ghost use Rattle.std.specs.Prelude.{IfErr, IfOk};
-ghost use Rattle.tera_expr.specs.Rooms.{limits_of};
+ghost use Rattle.tera_parts.specs.Rooms.{limits_of};
 ghost use Rattle.tera_grammar.specs.expressions.Reading.Atoms.{variables_of};
 ghost use Rattle.tera_grammar.specs.expressions.Reading.Front.{at};
 ghost use Rattle.tera_grammar.specs.expressions.Reading.Whole.{left_over};
@@ -10,15 +10,15 @@ ghost use Rattle.tera_grammar.specs.statements.Reading.Heads.{filters_of, loop_o
 ghost use Rattle.tera_grammar.specs.statements.Reading.Parts.{finish_of};
 ghost use Rattle.tera_statements.specs.Following.{followed};
 ghost use Rattle.tera_statements.specs.Heads.{AreAllFilters, AreFilters, AreVariables, IsLoop};
-ghost use Rattle.tera_statements.specs.Taking.{GivesBy, Refuses, Took};
+ghost use Rattle.tera_expect.specs.Taking.{GivesBy, Refuses, Took};
 
 use crate::closing::closed_expression;
 use crate::expressions::filter;
-use crate::fixed::{Fixed, eat, expect};
 use crate::parts::{finish, free_name};
 use crate::settings::Setting;
 use std::alloc::Global;
 use tera_base::Error;
+use tera_expect::{Fixed, eat, expect};
 use tera_expr::Scope;
 use tera_lexer::Cursor;
 use tera_tree::Expression;
@@ -32,7 +32,7 @@ pub(crate) struct LoopHead {
 }
 
 /// Reads the head of a loop, and the end of its tag.
-#[tactic(auto, using(crate::proofs::Going::took_all, crate::proofs::Going::refused_behind))]
+#[tactic(auto, using(tera_expect::proofs::Going::took_all, tera_expect::proofs::Going::refused_behind))]
 pub(crate) fn loop_head(setting: &Setting<'_>, cursor: &mut Cursor<'_>) -> Result<LoopHead, Error>
     ensures gives { GivesBy (λ h x. IsLoop h x.0) result cursor.new.left (followed (loop_of (limits_of setting.now.limits) cursor.old.left) finish_of) }
     ensures refusal { IfErr result (Refuses cursor.old) }
@@ -45,7 +45,7 @@ pub(crate) fn loop_head(setting: &Setting<'_>, cursor: &mut Cursor<'_>) -> Resul
 }
 
 // The variables of a loop: the name of the key, if any, and that of the value.
-#[tactic(auto, using(crate::proofs::Going::took_all, crate::proofs::Going::refused_behind, crate::proofs::Going::memory_refused))]
+#[tactic(auto, using(tera_expect::proofs::Going::took_all, tera_expect::proofs::Going::refused_behind, tera_expect::proofs::Going::memory_refused))]
 fn variables(alloc: Global, cursor: &mut Cursor<'_>) -> Result<(Option<String>, String), Error>
     ensures gives { GivesBy AreVariables result cursor.new.left (left_over (variables_of (at 0 cursor.old.left))) }
     ensures refusal { IfErr result (Refuses cursor.old) }
@@ -61,7 +61,7 @@ fn variables(alloc: Global, cursor: &mut Cursor<'_>) -> Result<(Option<String>, 
 }
 
 /// Reads filters, each behind its bar, and the end of their tag, and puts them behind those that are given.
-#[tactic(auto, using(crate::proofs::Going::goes_further, crate::proofs::Going::took_goes, crate::proofs::Going::took_further, crate::proofs::Going::goes_took, crate::proofs::Going::stays, crate::proofs::Going::refused_behind, crate::proofs::Going::refused_further, crate::proofs::Going::memory_refused))]
+#[tactic(auto, using(tera_expect::proofs::Going::goes_further, tera_expect::proofs::Going::took_goes, tera_expect::proofs::Going::took_further, tera_expect::proofs::Going::goes_took, tera_expect::proofs::Going::stays, tera_expect::proofs::Going::refused_behind, tera_expect::proofs::Going::refused_further, tera_expect::proofs::Going::memory_refused))]
 pub(crate) fn closed_filters(
     setting: &Setting<'_>,
     cursor: &mut Cursor<'_>,
@@ -86,7 +86,7 @@ pub(crate) fn closed_filters(
 }
 
 /// Reads a filter and others, each of those behind its bar, and the end of their tag.
-#[tactic(auto, using(crate::proofs::Going::goes_took, crate::proofs::Going::refused_further, crate::proofs::Going::memory_refused))]
+#[tactic(auto, using(tera_expect::proofs::Going::goes_took, tera_expect::proofs::Going::refused_further, tera_expect::proofs::Going::memory_refused))]
 pub(crate) fn section_filters(
     setting: &Setting<'_>,
     cursor: &mut Cursor<'_>,

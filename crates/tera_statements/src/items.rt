@@ -10,9 +10,9 @@ ghost use Rattle.tera_lexer.specs.code.Seen.{seen};
 ghost use Rattle.tera_statements.specs.Adding.{AddsBy, added_view, here, seen_of};
 ghost use Rattle.tera_statements.specs.Items.{AreEmptyTexts, Enters, GivesNext, GivesShown, GivesText, GoesByItem, text_in};
 ghost use Rattle.tera_statements.specs.Kinds.{kind_of, opener_of};
-ghost use Rattle.tera_expr.specs.Rooms.{limits_of};
+ghost use Rattle.tera_parts.specs.Rooms.{limits_of};
 ghost use Rattle.tera_statements.specs.Simple.{is_free};
-ghost use Rattle.tera_statements.specs.Taking.{Refuses, RefusesIn, Took};
+ghost use Rattle.tera_expect.specs.Taking.{Refuses, RefusesIn, Took};
 ghost use Rattle.tera_statements.specs.declared.fronts.Front.TheVariants as fronts;
 
 use crate::added::{Added, Names};
@@ -21,7 +21,6 @@ use crate::blocks::{block, definition};
 use crate::captures::{call, section, set, shown_node};
 use crate::closing::shown_expression;
 use crate::conditions::condition;
-use crate::fixed::take;
 use crate::fronts::{Front, Opener};
 use crate::loops::for_loop;
 use crate::parts::unknown_tag;
@@ -29,12 +28,13 @@ use crate::settings::Setting;
 use crate::simple::{Extension, Jump, extends, include, read_jump};
 use std::alloc::{AllocError, Global};
 use tera_base::Error;
+use tera_expect::take;
 use tera_lexer::{Cursor, Token};
 use tera_tree::Node;
 
 /// Reads the next item of a body, where one stands there.
 #[cycle(bodies)]
-#[tactic(auto, using(crate::proofs::Going::took_all, crate::proofs::Refusing::took_inside, crate::proofs::Refusing::memory_inside))]
+#[tactic(auto, using(tera_expect::proofs::Going::took_all, crate::proofs::Refusing::took_inside, crate::proofs::Refusing::memory_inside))]
 pub(crate) fn item(
     setting: &Setting<'_>,
     cursor: &mut Cursor<'_>,
@@ -99,7 +99,7 @@ fn content(alloc: Global, text: &str) -> Result<Added, AllocError>
 }
 
 /// A variable tag, which comes next.
-#[tactic(auto, using(crate::proofs::Going::took_all, crate::proofs::Refusing::took_inside, crate::proofs::Refusing::memory_inside))]
+#[tactic(auto, using(tera_expect::proofs::Going::took_all, crate::proofs::Refusing::took_inside, crate::proofs::Refusing::memory_inside))]
 pub(crate) fn shown(
     setting: &Setting<'_>,
     cursor: &mut Cursor<'_>,
@@ -116,7 +116,7 @@ pub(crate) fn shown(
 }
 
 /// Takes the start of a tag and its first token, which come next.
-#[tactic(auto, using(crate::proofs::Going::took_all, crate::proofs::Going::refused_behind))]
+#[tactic(auto, using(tera_expect::proofs::Going::took_all, tera_expect::proofs::Going::refused_behind))]
 pub(crate) fn enter(cursor: &mut Cursor<'_>, opener: Opener) -> Result<(), Error>
     requires { fronts.Opens opener ≡ kind_of (front cursor.old.left) }
     ensures enters { IfOk result (λ _. Enters (opener_of opener) cursor.old.left cursor.new) }

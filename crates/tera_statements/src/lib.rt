@@ -11,7 +11,6 @@ mod components;
 mod conditions;
 mod expressions;
 mod faults;
-mod fixed;
 mod fronts;
 mod heads;
 mod items;

@@ -1,13 +1,13 @@
 //! Loops, and the `else` of loops and conditions.
 
 ghost use Rattle.std.specs.Prelude.{IfErr, IfOk, ◌∷◌, ◌≡◌};
-ghost use Rattle.tera_expr.specs.Rooms.{limits_of};
+ghost use Rattle.tera_parts.specs.Rooms.{limits_of};
 ghost use Rattle.tera_grammar.specs.statements.Grammar.{Path, in_loop};
 ghost use Rattle.tera_grammar.specs.statements.Reading as reading;
 ghost use Rattle.tera_grammar.specs.statements.Reading.{else_of, for_of};
 ghost use Rattle.tera_statements.specs.Adding.{AddsBy, IsElse, here, seen_of};
 ghost use Rattle.tera_statements.specs.Around.{Stands, context_of};
-ghost use Rattle.tera_statements.specs.Taking.{GivesBy, GoesOn, Refuses, Took};
+ghost use Rattle.tera_expect.specs.Taking.{GivesBy, GoesOn, Refuses, Took};
 
 use crate::added::{Added, Names};
 use crate::around::{Around, Context, Opening};
@@ -22,7 +22,7 @@ use tera_tree::{Node, build};
 
 /// Reads the rest of a `for`, whose word was taken last.
 #[cycle(bodies)]
-#[tactic(auto, using(crate::proofs::Going::took_all, crate::proofs::Going::took_further, crate::proofs::Going::goes_took, crate::proofs::Going::refused_behind, crate::proofs::Going::refused_further))]
+#[tactic(auto, using(tera_expect::proofs::Going::took_all, tera_expect::proofs::Going::took_further, tera_expect::proofs::Going::goes_took, tera_expect::proofs::Going::refused_behind, tera_expect::proofs::Going::refused_further))]
 pub(crate) fn for_loop(
     setting: &Setting<'_>,
     cursor: &mut Cursor<'_>,
@@ -51,7 +51,7 @@ pub(crate) fn for_loop(
 
 /// Reads an `else` with its body, where one stands there.
 #[cycle(bodies)]
-#[tactic(auto, using(crate::proofs::Going::goes_further, crate::proofs::Going::took_goes, crate::proofs::Going::took_all, crate::proofs::Going::stays, crate::proofs::Going::refused_behind, crate::proofs::Going::refused_further))]
+#[tactic(auto, using(tera_expect::proofs::Going::goes_further, tera_expect::proofs::Going::took_goes, tera_expect::proofs::Going::took_all, tera_expect::proofs::Going::stays, tera_expect::proofs::Going::refused_behind, tera_expect::proofs::Going::refused_further))]
 pub(crate) fn else_body(
     setting: &Setting<'_>,
     cursor: &mut Cursor<'_>,

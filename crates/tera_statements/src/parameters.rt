@@ -5,7 +5,7 @@ ghost use Rattle.tera_base.specs.Errors.{IsMemory};
 ghost use Rattle.tera_base.specs.ValueView.{value_view};
 ghost use Rattle.tera_base.specs.Values.{Nothing};
 ghost use Rattle.tera_grammar.specs.Words.{is_none, is_one_of};
-ghost use Rattle.tera_expr.specs.Rooms.{limits_of};
+ghost use Rattle.tera_parts.specs.Rooms.{limits_of};
 ghost use Rattle.tera_grammar.specs.expressions.Marks.{Assign, Colon};
 ghost use Rattle.tera_grammar.specs.expressions.Reading.Front.{takes};
 ghost use Rattle.tera_grammar.specs.statements.Components.{is_nothing};
@@ -13,18 +13,17 @@ ghost use Rattle.tera_grammar.specs.statements.Reading.Components.{annotation_in
 ghost use Rattle.tera_grammar.specs.statements.Types.{has_type, put_name, type_named};
 ghost use Rattle.tera_statements.specs.Known.{names_of};
 ghost use Rattle.tera_statements.specs.Parameters.{AreParameters, IsAssigned, IsDefault, IsParameter, IsType, argument_as, arguments_view, has_default, taken_rest};
-ghost use Rattle.tera_statements.specs.Taking.{Fails, GivesAs, GivesBy, GoesOn, Refuses, Took, name_at};
+ghost use Rattle.tera_expect.specs.Taking.{Fails, GivesAs, GivesBy, GoesOn, Refuses, Took, name_at};
 ghost use Rattle.tera_tree.specs.View.{argument_view, default_view};
 
 use crate::expressions::{literal_array, literal_map};
-use crate::faults::{fault, noted, reported};
-use crate::fixed::{Fixed, begins, eat, expect, name, take};
 use crate::names::{Known, keep_name, place_of};
 use crate::parts::is_none;
 use crate::settings::Setting;
 use std::alloc::Global;
 use std::collections::BTreeMap;
 use tera_base::{Error, ErrorKind, Span, Value};
+use tera_expect::{Fixed, begins, eat, expect, fault, name, noted, reported, take};
 use tera_lexer::{Cursor, Token};
 use tera_tree::{ArgType, ComponentArgument};
 
@@ -36,7 +35,7 @@ pub(crate) struct Parameters {
 }
 
 /// Reads the parameters of a component, behind their opening parenthesis.
-#[tactic(auto, using(crate::proofs::Going::goes_further, crate::proofs::Going::took_goes, crate::proofs::Going::took_all, crate::proofs::Going::took_further, crate::proofs::Going::goes_took, crate::proofs::Going::refused_behind, crate::proofs::Going::refused_further, crate::proofs::Going::memory_refused))]
+#[tactic(auto, using(tera_expect::proofs::Going::goes_further, tera_expect::proofs::Going::took_goes, tera_expect::proofs::Going::took_all, tera_expect::proofs::Going::took_further, tera_expect::proofs::Going::goes_took, tera_expect::proofs::Going::refused_behind, tera_expect::proofs::Going::refused_further, tera_expect::proofs::Going::memory_refused))]
 pub(crate) fn read_parameters(
     setting: &Setting<'_>,
     cursor: &mut Cursor<'_>,
@@ -71,7 +70,7 @@ pub(crate) fn read_parameters(
 }
 
 // A default: a literal, a negative number, a word for no value, a constant array or a constant map.
-#[tactic(auto, using(crate::proofs::Going::took_all, crate::proofs::Going::refused_behind, crate::proofs::Going::memory_refused))]
+#[tactic(auto, using(tera_expect::proofs::Going::took_all, tera_expect::proofs::Going::refused_behind, tera_expect::proofs::Going::memory_refused))]
 fn default_value(setting: &Setting<'_>, cursor: &mut Cursor<'_>) -> Result<Value, Error>
     ensures gives { GivesBy IsDefault result cursor.new.left (default_of (limits_of setting.now.limits) cursor.old.left) }
     ensures refusal { IfErr result (Refuses cursor.old) }
@@ -96,7 +95,7 @@ fn default_value(setting: &Setting<'_>, cursor: &mut Cursor<'_>) -> Result<Value
 }
 
 // The number behind a minus, which was taken last.
-#[tactic(auto, using(crate::proofs::Going::took_all, crate::proofs::Going::refused_behind))]
+#[tactic(auto, using(tera_expect::proofs::Going::took_all, tera_expect::proofs::Going::refused_behind))]
 fn negative(alloc: Global, cursor: &mut Cursor<'_>) -> Result<Value, Error>
     ensures gives { GivesBy IsDefault result cursor.new.left (minus_of cursor.old.span cursor.old.left) }
     ensures refusal { IfErr result (Refuses cursor.old) }
@@ -138,7 +137,7 @@ fn no_default(alloc: Global, cursor: &Cursor<'_>, token: &Token<'_>) -> Error
 }
 
 // The type behind a colon, where one stands.
-#[tactic(auto, using(crate::proofs::Going::took_all, crate::proofs::Going::took_goes, crate::proofs::Going::stays, crate::proofs::Going::refused_behind))]
+#[tactic(auto, using(tera_expect::proofs::Going::took_all, tera_expect::proofs::Going::took_goes, tera_expect::proofs::Going::stays, tera_expect::proofs::Going::refused_behind))]
 fn argument_type(alloc: Global, cursor: &mut Cursor<'_>) -> Result<Option<ArgType>, Error>
     ensures gives { GivesBy IsType result cursor.new.left (annotation_in cursor.old.left (takes Colon cursor.old.left)) }
     ensures refusal { IfErr result (Refuses cursor.old) }
@@ -172,7 +171,7 @@ fn named_type(alloc: Global, cursor: &Cursor<'_>, name: &str) -> Result<ArgType,
 }
 
 // What a message says, as a fault at the token taken last.
-#[tactic(auto, using(crate::proofs::Going::memory_refused))]
+#[tactic(auto, using(tera_expect::proofs::Going::memory_refused))]
 fn at_name(alloc: Global, cursor: &Cursor<'_>, error: Error) -> Error
     ensures { Refuses cursor.now result }
 {
@@ -185,7 +184,7 @@ fn at_name(alloc: Global, cursor: &Cursor<'_>, error: Error) -> Error
 }
 
 // The default behind an equals sign, where one stands.
-#[tactic(auto, using(crate::proofs::Going::took_all, crate::proofs::Going::took_goes, crate::proofs::Going::stays, crate::proofs::Going::refused_behind))]
+#[tactic(auto, using(tera_expect::proofs::Going::took_all, tera_expect::proofs::Going::took_goes, tera_expect::proofs::Going::stays, tera_expect::proofs::Going::refused_behind))]
 fn assigned(setting: &Setting<'_>, cursor: &mut Cursor<'_>) -> Result<Option<Value>, Error>
     ensures gives { GivesBy IsAssigned result cursor.new.left (assigned_in (limits_of setting.now.limits) cursor.old.left (takes Assign cursor.old.left)) }
     ensures refusal { IfErr result (Refuses cursor.old) }
@@ -198,7 +197,7 @@ fn assigned(setting: &Setting<'_>, cursor: &mut Cursor<'_>) -> Result<Option<Val
 }
 
 // A name that is neither `body` nor that of an earlier parameter.
-#[tactic(auto, using(crate::proofs::Going::refused_behind))]
+#[tactic(auto, using(tera_expect::proofs::Going::refused_behind))]
 fn fresh_name<'a>(
     setting: &Setting<'_>,
     cursor: &mut Cursor<'a>,
@@ -225,7 +224,7 @@ fn fresh_name<'a>(
 }
 
 // That the name, which was taken last, is that of the parameter whose name stands at the span.
-#[tactic(auto, using(crate::proofs::Going::same_refused))]
+#[tactic(auto, using(tera_expect::proofs::Going::same_refused))]
 fn repeated(
     setting: &Setting<'_>,
     cursor: &Cursor<'_>,
@@ -249,7 +248,7 @@ fn repeated(
 }
 
 // The name of the rest parameter, behind its dots, and the closing parenthesis.
-#[tactic(auto, using(crate::proofs::Going::took_all, crate::proofs::Going::refused_behind, crate::proofs::Going::memory_refused))]
+#[tactic(auto, using(tera_expect::proofs::Going::took_all, tera_expect::proofs::Going::refused_behind, tera_expect::proofs::Going::memory_refused))]
 fn rest_parameter(
     setting: &Setting<'_>,
     cursor: &mut Cursor<'_>,
@@ -271,7 +270,7 @@ fn rest_parameter(
 }
 
 // A parameter, whose name is kept.
-#[tactic(auto, using(crate::proofs::Going::took_all, crate::proofs::Going::took_further, crate::proofs::Going::goes_further, crate::proofs::Going::refused_behind, crate::proofs::Going::refused_further, crate::proofs::Going::memory_refused))]
+#[tactic(auto, using(tera_expect::proofs::Going::took_all, tera_expect::proofs::Going::took_further, tera_expect::proofs::Going::goes_further, tera_expect::proofs::Going::refused_behind, tera_expect::proofs::Going::refused_further, tera_expect::proofs::Going::memory_refused))]
 fn parameter(
     setting: &Setting<'_>,
     cursor: &mut Cursor<'_>,

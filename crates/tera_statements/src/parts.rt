@@ -9,17 +9,16 @@ ghost use Rattle.tera_grammar.specs.statements.Reading.Heads.{free_name};
 ghost use Rattle.tera_grammar.specs.statements.Reading.Parts.{closed, closed_tag, finish_of, front, variable_end_of};
 ghost use Rattle.tera_statements.specs.Kinds.{closer_of, closes};
 ghost use Rattle.tera_statements.specs.Reading.{IsQuote};
-ghost use Rattle.tera_statements.specs.Taking.{GivesAs, GivesBy, Passes, Refuses, RefusesIn, Took, name_at};
+ghost use Rattle.tera_expect.specs.Taking.{GivesAs, GivesBy, Passes, Refuses, RefusesIn, Took, name_at};
 
-use crate::faults::{fault, reported, unexpected};
-use crate::fixed::{name, take};
 use crate::fronts::{Closer, Front};
 use std::alloc::Global;
 use tera_base::{Error, Span};
+use tera_expect::{fault, name, reported, take, unexpected};
 use tera_lexer::{Cursor, Token};
 
 /// The end of a tag.
-#[tactic(auto, unfolding(crate::specs::Taking::Took, crate::specs::Taking::Refuses))]
+#[tactic(auto, unfolding(tera_expect::specs::Taking::Took, tera_expect::specs::Taking::Refuses))]
 pub(crate) fn finish(alloc: Global, cursor: &mut Cursor<'_>) -> Result<(), Error>
     ensures gives { Passes result cursor.new.left (finish_of cursor.old.left) }
     ensures refusal { IfErr result (Refuses cursor.old) }
@@ -33,7 +32,7 @@ pub(crate) fn finish(alloc: Global, cursor: &mut Cursor<'_>) -> Result<(), Error
 }
 
 /// The end of a variable tag.
-#[tactic(auto, unfolding(crate::specs::Taking::Took, crate::specs::Taking::Refuses))]
+#[tactic(auto, unfolding(tera_expect::specs::Taking::Took, tera_expect::specs::Taking::Refuses))]
 pub(crate) fn variable_end(alloc: Global, cursor: &mut Cursor<'_>) -> Result<(), Error>
     ensures gives { Passes result cursor.new.left (variable_end_of cursor.old.left) }
     ensures refusal { IfErr result (Refuses cursor.old) }
@@ -47,7 +46,7 @@ pub(crate) fn variable_end(alloc: Global, cursor: &mut Cursor<'_>) -> Result<(),
 }
 
 /// A string, and where it stands.
-#[tactic(auto, unfolding(crate::specs::Taking::Took, crate::specs::Taking::Refuses), using(crate::proofs::Going::memory_refused))]
+#[tactic(auto, unfolding(tera_expect::specs::Taking::Took, tera_expect::specs::Taking::Refuses), using(tera_expect::proofs::Going::memory_refused))]
 pub(crate) fn quote(alloc: Global, cursor: &mut Cursor<'_>) -> Result<(String, Span), Error>
     ensures gives { GivesBy IsQuote result cursor.new.left (taken_quote cursor.old.left) }
     ensures refusal { IfErr result (Refuses cursor.old) }
@@ -62,7 +61,7 @@ pub(crate) fn quote(alloc: Global, cursor: &mut Cursor<'_>) -> Result<(String, S
 }
 
 /// A name that is not reserved; `purpose` ends the sentence that tells of one that is.
-#[tactic(auto, using(crate::proofs::Going::refused_behind))]
+#[tactic(auto, using(tera_expect::proofs::Going::refused_behind))]
 pub(crate) fn free_name<'a>(
     alloc: Global,
     cursor: &mut Cursor<'a>,
@@ -114,7 +113,7 @@ pub(crate) fn is_none(name: &str) -> bool
 
 /// Why nothing that is known stands here: the lexical fault, the end of the input, or an unknown tag, which is told
 /// at its first token. What is there is taken.
-#[tactic(auto, using(crate::proofs::Going::refused_behind, crate::proofs::Refusing::took_inside))]
+#[tactic(auto, using(tera_expect::proofs::Going::refused_behind, crate::proofs::Refusing::took_inside))]
 pub(crate) fn unknown_tag(alloc: Global, cursor: &mut Cursor<'_>) -> Error
     ensures refusal { Refuses cursor.old result }
     ensures inside { is_end cursor.old.left ≡ false → RefusesIn cursor.old result }
@@ -126,7 +125,7 @@ pub(crate) fn unknown_tag(alloc: Global, cursor: &mut Cursor<'_>) -> Error
 }
 
 // Takes the start of a tag and its first token, or a token that starts no tag.
-#[tactic(auto, using(crate::proofs::Going::took_all, crate::proofs::Going::refused_behind, crate::proofs::Refusing::took_inside, crate::proofs::Refusing::untaken_inside))]
+#[tactic(auto, using(tera_expect::proofs::Going::took_all, tera_expect::proofs::Going::refused_behind, crate::proofs::Refusing::took_inside, crate::proofs::Refusing::untaken_inside))]
 fn begin_tag(cursor: &mut Cursor<'_>) -> Result<(), Error>
     ensures refusal { IfErr result (Refuses cursor.old) }
     ensures inside { IfErr result (λ e. is_end cursor.old.left ≡ false → RefusesIn cursor.old e) }
@@ -150,7 +149,7 @@ pub(crate) fn closes(cursor: &Cursor<'_>, closer: Closer) -> bool
 }
 
 /// The start of a tag, with this closing token.
-#[tactic(auto, using(crate::proofs::Going::took_all, crate::proofs::Going::refused_behind))]
+#[tactic(auto, using(tera_expect::proofs::Going::took_all, tera_expect::proofs::Going::refused_behind))]
 pub(crate) fn closed(alloc: Global, cursor: &mut Cursor<'_>, closer: Closer) -> Result<(), Error>
     ensures gives { Passes result cursor.new.left (closed (closer_of closer) cursor.old.left) }
     ensures refusal { IfErr result (Refuses cursor.old) }
@@ -165,7 +164,7 @@ pub(crate) fn closed(alloc: Global, cursor: &mut Cursor<'_>, closer: Closer) -> 
 }
 
 /// A tag that holds this closing token alone.
-#[tactic(auto, using(crate::proofs::Going::took_all, crate::proofs::Going::refused_behind))]
+#[tactic(auto, using(tera_expect::proofs::Going::took_all, tera_expect::proofs::Going::refused_behind))]
 pub(crate) fn closed_tag(
     alloc: Global,
     cursor: &mut Cursor<'_>,

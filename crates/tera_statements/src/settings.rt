@@ -1,6 +1,6 @@
 //! What a template is read with.
 
-ghost use Rattle.tera_expr.specs.Rooms.{AreValid, limits_of};
+ghost use Rattle.tera_parts.specs.Rooms.{AreValid, limits_of};
 
 use std::alloc::Global;
 use tera_expr::Limits;

@@ -6,20 +6,20 @@ ghost use Rattle.tera_grammar.specs.statements.Reading.{break_of, extends_of, in
 ghost use Rattle.tera_statements.specs.Adding.{AddsAlone};
 ghost use Rattle.tera_statements.specs.Around.{holds_breaks};
 ghost use Rattle.tera_statements.specs.Simple.{is_free, jump_item, jump_output};
-ghost use Rattle.tera_statements.specs.Taking.{Refuses, TellsAs, Took};
+ghost use Rattle.tera_expect.specs.Taking.{Refuses, TellsAs, Took};
 ghost use Rattle.tera_tree.specs.View.{node_view};
 
 use crate::added::Added;
 use crate::around::{Around, Breaks, Opening};
-use crate::faults::{fault, noted, reported};
 use crate::parts::{finish, quote};
 use crate::settings::Setting;
 use tera_base::{Error, Spanned};
+use tera_expect::{fault, noted, reported};
 use tera_lexer::Cursor;
 use tera_tree::{Node, build};
 
 /// Reads the rest of an `include`.
-#[tactic(auto, using(crate::proofs::Going::took_all, crate::proofs::Going::refused_behind, crate::proofs::Going::memory_refused))]
+#[tactic(auto, using(tera_expect::proofs::Going::took_all, tera_expect::proofs::Going::refused_behind, tera_expect::proofs::Going::memory_refused))]
 pub(crate) fn include(
     setting: &Setting<'_>,
     cursor: &mut Cursor<'_>,
@@ -63,7 +63,7 @@ impl Jump {
 }
 
 /// Reads the rest of a `break` or a `continue`.
-#[tactic(auto, using(crate::proofs::Going::refused_behind, crate::proofs::Going::memory_refused))]
+#[tactic(auto, using(tera_expect::proofs::Going::refused_behind, tera_expect::proofs::Going::memory_refused))]
 pub(crate) fn read_jump(
     setting: &Setting<'_>,
     cursor: &mut Cursor<'_>,
@@ -80,7 +80,7 @@ pub(crate) fn read_jump(
 }
 
 // Refuses a `break` or a `continue`, whose word was taken last, where neither may stand.
-#[tactic(auto, using(crate::proofs::Going::same_refused))]
+#[tactic(auto, using(tera_expect::proofs::Going::same_refused))]
 fn check_jump(
     setting: &Setting<'_>,
     cursor: &Cursor<'_>,
@@ -137,7 +137,7 @@ impl<'p> Extension<'p> {
 }
 
 /// Reads the rest of an `extends`.
-#[tactic(auto, using(crate::proofs::Going::took_all, crate::proofs::Going::refused_behind))]
+#[tactic(auto, using(tera_expect::proofs::Going::took_all, tera_expect::proofs::Going::refused_behind))]
 pub(crate) fn extends(
     setting: &Setting<'_>,
     cursor: &mut Cursor<'_>,
@@ -199,7 +199,7 @@ pub(crate) fn late_extended(setting: &Setting<'_>, cursor: &Cursor<'_>) -> Error
 }
 
 /// Refuses what may stand in nothing else, with this text.
-#[tactic(auto, using(crate::proofs::Going::same_refused))]
+#[tactic(auto, using(tera_expect::proofs::Going::same_refused))]
 pub(crate) fn check_outermost(
     setting: &Setting<'_>,
     cursor: &Cursor<'_>,
@@ -220,7 +220,7 @@ pub(crate) fn check_outermost(
 }
 
 /// Refuses a block, whose word was taken last, where none may stand.
-#[tactic(auto, using(crate::proofs::Going::same_refused))]
+#[tactic(auto, using(tera_expect::proofs::Going::same_refused))]
 pub(crate) fn check_block(
     setting: &Setting<'_>,
     cursor: &Cursor<'_>,

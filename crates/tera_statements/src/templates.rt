@@ -16,8 +16,8 @@ ghost use Rattle.tera_statements.specs.Adding.{added_view, here};
 ghost use Rattle.tera_statements.specs.Outputs.{output_view};
 ghost use Rattle.tera_statements.specs.Items.{AreEmptyTexts, GivesStep, GoesByItem};
 ghost use Rattle.tera_statements.specs.Kinds.{kind_of};
-ghost use Rattle.tera_expr.specs.Rooms.{AreValid, limits_of};
-ghost use Rattle.tera_statements.specs.Taking.{RefusesIn, Took};
+ghost use Rattle.tera_parts.specs.Rooms.{AreValid, limits_of};
+ghost use Rattle.tera_expect.specs.Taking.{RefusesIn, Took};
 ghost use Rattle.tera_statements.specs.Templates.{Excludes, GivesTemplate, GivesTop, ReadsTemplate, StandsNext, below_top, phase_if_any, phase_of, weight_of};
 ghost use Rattle.tera_statements.specs.declared.fronts.Front.TheVariants as fronts;
 ghost use Rattle.tera_statements.specs.declared.fronts.Opener.TheVariants as openers;
@@ -25,7 +25,6 @@ ghost use Rattle.tera_tree.specs.View.{node_view};
 
 use crate::added::{Added, Names};
 use crate::around::Around;
-use crate::faults::fault;
 use crate::fronts::{Front, Opener};
 use crate::items::{enter, item};
 use crate::outputs::ParserOutput;
@@ -34,6 +33,7 @@ use crate::settings::Setting;
 use crate::simple::{Extension, again_extended, late_extended};
 use std::alloc::Global;
 use tera_base::{Error, Span};
+use tera_expect::fault;
 use tera_expr::Limits;
 use tera_lexer::Cursor;
 use tera_tree::Node;
@@ -246,7 +246,7 @@ fn late_extends(setting: &Setting<'_>, cursor: &mut Cursor<'_>, parent: Option<&
 }
 
 // Takes an `extends`, which comes next, up to its string.
-#[tactic(auto, using(crate::proofs::Going::took_all, crate::proofs::Refusing::took_inside, crate::proofs::Refusing::memory_inside))]
+#[tactic(auto, using(tera_expect::proofs::Going::took_all, crate::proofs::Refusing::took_inside, crate::proofs::Refusing::memory_inside))]
 fn take_extends(alloc: Global, cursor: &mut Cursor<'_>) -> Result<(), Error>
     requires { fronts.Opens openers.Extends ≡ kind_of (front cursor.old.left) }
     ensures refusal { IfErr result (RefusesIn cursor.old) }

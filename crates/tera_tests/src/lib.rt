@@ -6,6 +6,8 @@ mod calls;
 #[cfg(test)]
 mod compounds;
 #[cfg(test)]
+mod expected;
+#[cfg(test)]
 mod expression_faults;
 #[cfg(test)]
 mod expressions;

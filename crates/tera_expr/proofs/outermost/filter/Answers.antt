@@ -2,7 +2,7 @@ use Rattle.std.proofs.Common.{ap, ◌∙◌}
 use Rattle.tera_base.specs.Values as values
 use Rattle.tera_tree.specs.Tree as tree
 use Rattle.tera_tree.specs.View.{expression_view}
-use Rattle.tera_expr.specs.Rooms.{limits_of}
+use Rattle.tera_parts.specs.Rooms.{limits_of}
 use Rattle.tera_expr.proofs.Promised.{filter_was_found, filter_complete}
 use Rattle.tera_expr.proofs.outermost.filter.Goals as goal
 

@@ -1,5 +1,5 @@
 use Rattle.std.proofs.lemmas.Result.{err_from_is_err_and}
-use Rattle.tera_expr.specs.Rooms.{limits_of}
+use Rattle.tera_parts.specs.Rooms.{limits_of}
 use Rattle.tera_expr.proofs.Promised.{kwargs_missing, kwargs_by, kwargs_were_found, kwargs_complete, further_ok}
 use Rattle.tera_expr.proofs.outermost.kwargs.Goals as goal
 

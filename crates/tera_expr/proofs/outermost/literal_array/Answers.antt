@@ -6,10 +6,10 @@ use Rattle.tera_base.specs.ValueView.{value_view}
 use Rattle.tera_lexer.specs.grammar.Place.{IsWithin}
 use Rattle.tera_grammar.specs.expressions.Marks.{LeftBracket}
 use Rattle.tera_grammar.specs.expressions.Reading.Front.{at}
-use Rattle.tera_expr.specs.Folding.{constant_of}
-use Rattle.tera_expr.specs.Ranges.{RunsFrom}
-use Rattle.tera_expr.specs.Rooms.{limits_of}
-use Rattle.tera_expr.proofs.Going.{refused, took_all}
+use Rattle.tera_parts.specs.Folding.{constant_of}
+use Rattle.tera_parts.specs.Ranges.{RunsFrom}
+use Rattle.tera_parts.specs.Rooms.{limits_of}
+use Rattle.tera_expect.proofs.Going.{refused, took_all}
 use Rattle.tera_expr.proofs.LiteralArrays.{no_bracket, array_fails, array_comes, no_array_comes, array_took, array_taken}
 use Rattle.tera_expr.proofs.Ranges.{still_within, refused_from}
 use Rattle.tera_expr.proofs.outermost.literal_array.Goals as goal

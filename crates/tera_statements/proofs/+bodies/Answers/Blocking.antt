@@ -3,7 +3,7 @@ use Rattle.std.proofs.Common.{◌≡◌, ◌∙◌, [], ◌∷◌, ◌++◌, ap,
 use Rattle.std.proofs.lemmas.Result.{err_from_is_err_and}
 use Rattle.tera_tree.specs.Tree as tree
 use Rattle.tera_tree.specs.View.{nodes_of}
-use Rattle.tera_expr.specs.Rooms.{limits_of}
+use Rattle.tera_parts.specs.Rooms.{limits_of}
 use Rattle.tera_grammar.specs.statements.Grammar.{Block, Define}
 use Rattle.tera_grammar.specs.statements.Output.{AddsNode, AddsDefinition}
 use Rattle.tera_grammar.specs.statements.Reading.{body}
@@ -11,7 +11,7 @@ use Rattle.tera_grammar.specs.statements.Reading.Parts.{tag}
 use Rattle.tera_statements.specs.Adding.{here, seen_of}
 use Rattle.tera_statements.specs.Known.{names_of}
 use Rattle.tera_statements.proofs.Blocking.{barred, block_unnamed, block_unfinished, block_empty, block_unclosed, block_given, block_kept, component_kept, definition_empty, definition_given, definition_unclosed, nested, unopened}
-use Rattle.tera_statements.proofs.Steps.{failed_as, fails_by}
+use Rattle.tera_expect.proofs.Steps.{failed_as, fails_by}
 use Rattle.tera_grammar.specs.statements.Expressions.{component_text}
 use Rattle.tera_statements.proofs.Defining.{ending_keeps, same_definition}
 use Rattle.tera_statements.proofs.+bodies.Goals as goal

@@ -9,11 +9,11 @@ use Rattle.tera_grammar.specs.statements.Reading.{body}
 use Rattle.tera_grammar.proofs.statements.Loops.{going_ends, going_on, going_refused, going_starts}
 use Rattle.tera_statements.specs.Adding.{here}
 use Rattle.tera_statements.specs.Around.{context_of}
-use Rattle.tera_expr.specs.Rooms.{limits_of}
-use Rattle.tera_statements.specs.Taking.{GoesOn}
+use Rattle.tera_parts.specs.Rooms.{limits_of}
+use Rattle.tera_expect.specs.Taking.{GoesOn}
 use Rattle.tera_statements.proofs.Bodying.{no_depth}
-use Rattle.tera_statements.proofs.Going.{fewer, goes_further, stays, took_goes}
-use Rattle.tera_statements.proofs.Steps.{failed_as}
+use Rattle.tera_expect.proofs.Going.{fewer, goes_further, stays, took_goes}
+use Rattle.tera_expect.proofs.Steps.{failed_as}
 use Rattle.tera_statements.proofs.+bodies.Goals as goal
 
 pub bodies::body-returns-then-below-eq0-clause-gives : goal.bodies::body-returns-then-below-eq0-clause-gives

@@ -2,9 +2,9 @@
 use Rattle.std.proofs.Common.{◌≡◌, ◌∙◌, refl, sym, [], ap, inr, false}
 use Rattle.std.proofs.lemmas.Result.{err_from_is_err_and}
 use Rattle.tera_statements.specs.Adding.{seen_of}
-use Rattle.tera_statements.specs.Taking.{name_at}
+use Rattle.tera_expect.specs.Taking.{name_at}
 use Rattle.tera_statements.proofs.Capturing.{set_unnamed, set_named, set_without, no_filters, set_empty, set_unclosed, set_given, no_section, section_empty, section_unclosed, section_given, uncalled, no_attributes, call_unfinished, call_empty, call_unclosed, call_given}
-use Rattle.tera_statements.proofs.Steps.{failed_as}
+use Rattle.tera_expect.proofs.Steps.{failed_as}
 use Rattle.tera_tree.specs.Tree as tree
 use Rattle.tera_tree.specs.View.{expression_view, filters_of, nodes_of}
 use Rattle.tera_grammar.specs.statements.Grammar.{Capturing}
@@ -12,7 +12,7 @@ use Rattle.tera_grammar.specs.statements.Heads.{SetBody, Section, CallBody}
 use Rattle.tera_grammar.specs.statements.Output.{AddsNode}
 use Rattle.tera_grammar.specs.statements.Reading.Parts.{tag}
 use Rattle.tera_grammar.specs.expressions.Spans.{spanning}
-use Rattle.tera_statements.proofs.Going.{refused_behind, took_all, took_further}
+use Rattle.tera_expect.proofs.Going.{refused_behind, took_all, took_further}
 use Rattle.tera_statements.proofs.+bodies.Goals as goal
 
 pub captures::set-returns-in_err-name-clause-gives : goal.captures::set-returns-in_err-name-clause-gives

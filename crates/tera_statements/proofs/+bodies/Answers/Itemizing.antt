@@ -5,10 +5,10 @@ use Rattle.tera_grammar.specs.statements.Reading.{body}
 use Rattle.tera_grammar.specs.statements.Reading.Parts.{front}
 use Rattle.tera_statements.specs.Adding.{seen_of}
 use Rattle.tera_statements.specs.Kinds.{opener_of}
-use Rattle.tera_expr.specs.Rooms.{limits_of}
+use Rattle.tera_parts.specs.Rooms.{limits_of}
 use Rattle.tera_statements.proofs.Itemizing.{opens_item, opens_nothing, step_closed, step_ended, step_wrong}
 use Rattle.tera_statements.proofs.Refusing.{quiet, wrong_left}
-use Rattle.tera_statements.proofs.Steps.{failed_as}
+use Rattle.tera_expect.proofs.Steps.{failed_as}
 use Rattle.tera_statements.proofs.+bodies.Goals as goal
 
 pub items::item-returns-in-Ends-clause-gives : goal.items::item-returns-in-Ends-clause-gives

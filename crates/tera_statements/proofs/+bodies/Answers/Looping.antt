@@ -8,12 +8,12 @@ use Rattle.tera_grammar.specs.statements.Output.{AddsNode}
 use Rattle.tera_grammar.specs.statements.Reading.Parts.{tag}
 use Rattle.tera_statements.specs.Adding.{seen_of, here}
 use Rattle.tera_statements.proofs.Conditioning.{no_head, loop_empty, no_else, loop_unclosed, loop_given, without_else, else_unfinished, else_is, otherwise_given}
-use Rattle.tera_statements.proofs.Steps.{failed_as}
+use Rattle.tera_expect.proofs.Steps.{failed_as}
 use Rattle.tera_statements.specs.Around.{context_of}
-use Rattle.tera_expr.specs.Rooms.{limits_of}
+use Rattle.tera_parts.specs.Rooms.{limits_of}
 use Rattle.tera_grammar.specs.statements.Reading.{body}
 use Rattle.tera_statements.specs.declared.fronts.Closer.TheVariants as closers
-use Rattle.tera_statements.proofs.Going.{goes_all_ok, took_all}
+use Rattle.tera_expect.proofs.Going.{goes_all_ok, took_all}
 use Rattle.tera_statements.proofs.Tags.{closed_memory, unclosed}
 use Rattle.tera_statements.proofs.+bodies.Goals as goal
 

@@ -1,5 +1,5 @@
 use Rattle.std.proofs.Common.{◌≡◌, inr, refl, sym, ap, ◌∙◌}
-use Rattle.tera_statements.specs.Taking.{name_at}
+use Rattle.tera_expect.specs.Taking.{name_at}
 use Rattle.tera_statements.proofs.blocks.new_block.Goals as goal
 
 pub returns-then-is_some-clause-gives : goal.returns-then-is_some-clause-gives

@@ -9,7 +9,7 @@ use Rattle.tera_grammar.specs.expressions.Reading.Front.{takes}
 use Rattle.tera_grammar.specs.statements.Expressions.{attributes_of}
 use Rattle.tera_grammar.proofs.statements.Expressions.{ends_attributes}
 use Rattle.tera_statements.specs.Reading.{AreAttributes}
-use Rattle.tera_expr.specs.Rooms.{limits_of}
+use Rattle.tera_parts.specs.Rooms.{limits_of}
 use Rattle.tera_statements.proofs.Following.{follows_none, is_followed, not_followed}
 use Rattle.tera_statements.proofs.Piping.{no_greater}
 use Rattle.tera_statements.proofs.closing.closed_attributes.Goals as goal

@@ -3,7 +3,7 @@ use Rattle.tera_grammar.specs.statements.Expressions.{expression_of}
 use Rattle.tera_grammar.specs.statements.Reading.Parts.{finish_of}
 use Rattle.tera_grammar.proofs.statements.Expressions.{ends_expression}
 use Rattle.tera_statements.specs.Reading.{IsExpression}
-use Rattle.tera_expr.specs.Rooms.{limits_of}
+use Rattle.tera_parts.specs.Rooms.{limits_of}
 use Rattle.tera_statements.proofs.Following.{follows_none, is_followed, not_followed}
 use Rattle.tera_statements.proofs.Piping.{no_finish}
 use Rattle.tera_statements.proofs.closing.closed_expression.Goals as goal

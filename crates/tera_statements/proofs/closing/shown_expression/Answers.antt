@@ -3,7 +3,7 @@ use Rattle.tera_grammar.specs.statements.Expressions.{expression_of}
 use Rattle.tera_grammar.specs.statements.Reading.Parts.{variable_end_of}
 use Rattle.tera_grammar.proofs.statements.Expressions.{ends_expression}
 use Rattle.tera_statements.specs.Reading.{IsExpression}
-use Rattle.tera_expr.specs.Rooms.{limits_of}
+use Rattle.tera_parts.specs.Rooms.{limits_of}
 use Rattle.tera_statements.proofs.Following.{follows_none, is_followed, not_followed}
 use Rattle.tera_statements.proofs.Piping.{no_variable_end}
 use Rattle.tera_statements.proofs.closing.shown_expression.Goals as goal

@@ -1,5 +1,5 @@
-use Rattle.tera_statements.proofs.Going.{same_refused}
+use Rattle.tera_expect.proofs.Going.{same_refused}
 use Rattle.tera_statements.proofs.components.known.Goals as goal
 
 pub returns : goal.returns
-returns c = same_refused c.args.cursor.now c.reported-error.result c.noted.result c.noted.ensures c.reported-error.ensures
+returns c = same_refused c.args.cursor.now c.reported-error.result c.noted.result c.noted.ensures.tells c.reported-error.ensures.refusal

@@ -4,10 +4,10 @@ use Rattle.tera_base.specs.ValueView.{pairs_view, value_view}
 use Rattle.tera_grammar.specs.statements.Components.{put_pairs}
 use Rattle.tera_grammar.specs.statements.Expressions.{map_output}
 use Rattle.tera_tree.specs.Definitions.{named_value}
-use Rattle.tera_expr.specs.Rooms.{limits_of}
+use Rattle.tera_parts.specs.Rooms.{limits_of}
 use Rattle.tera_statements.proofs.Defining.{metadata_given, metadata_refused, no_metadata_there}
 use Rattle.tera_statements.proofs.Putting.{same_pairs}
-use Rattle.tera_statements.proofs.Steps.{failed_as}
+use Rattle.tera_expect.proofs.Steps.{failed_as}
 use Rattle.tera_statements.proofs.components.metadata.Goals as goal
 
 pub returns-then-not-begins-clause-gives : goal.returns-then-not-begins-clause-gives

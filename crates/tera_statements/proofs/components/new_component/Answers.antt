@@ -2,7 +2,7 @@ use Rattle.std.proofs.Common.{◌≡◌, inr, refl, sym, ap, ◌∙◌}
 use Rattle.std.specs.Option.{is_some}
 use Rattle.tera_grammar.specs.Words.{is_one_of}
 use Rattle.tera_statements.specs.Known.{names_of}
-use Rattle.tera_statements.proofs.Steps.{failed}
+use Rattle.tera_expect.proofs.Steps.{failed}
 use Rattle.std.proofs.lemmas.Result.{err_from_is_err_and}
 use Rattle.tera_statements.proofs.components.new_component.Goals as goal
 

@@ -1,4 +1,4 @@
-use Rattle.tera_expr.specs.Rooms.{limits_of}
+use Rattle.tera_parts.specs.Rooms.{limits_of}
 use Rattle.tera_statements.proofs.Bridging.{filter_gives, filter_fewer, went_on}
 use Rattle.tera_statements.proofs.expressions.filter.Goals as goal
 

@@ -1,4 +1,4 @@
-use Rattle.tera_expr.specs.Rooms.{limits_of}
+use Rattle.tera_parts.specs.Rooms.{limits_of}
 use Rattle.tera_statements.proofs.Bridging.{array_gives, array_fewer, took_some}
 use Rattle.tera_statements.proofs.expressions.literal_array.Goals as goal
 

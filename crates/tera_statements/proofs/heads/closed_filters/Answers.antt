@@ -1,7 +1,7 @@
 use Rattle.std.proofs.Common.{rules, ◌≡◌, [], ◌∷◌, ◌++◌}
 use Rattle.std.proofs.lemmas.Result.{err_from_is_err_and}
-use Rattle.tera_expr.specs.Rooms.{limits_of}
-use Rattle.tera_statements.proofs.Going.{stays, goes_further, goes_took, refused_further, took_goes, took_further, took_size}
+use Rattle.tera_parts.specs.Rooms.{limits_of}
+use Rattle.tera_expect.proofs.Going.{stays, goes_further, goes_took, refused_further, took_goes, took_further, took_size}
 use Rattle.tera_statements.proofs.Piping.{pipes_end, pipes_fail, pipes_on, pipes_open, pipes_start}
 use Rattle.tera_statements.proofs.heads.closed_filters.Goals as goal
 

@@ -1,6 +1,6 @@
 use Rattle.tera_lexer.specs.code.Cursors.{size}
-use Rattle.tera_expr.specs.Rooms.{limits_of}
-use Rattle.tera_statements.specs.Taking.{GoesOn}
+use Rattle.tera_parts.specs.Rooms.{limits_of}
+use Rattle.tera_expect.specs.Taking.{GoesOn}
 use Rattle.tera_statements.proofs.Piping.{Pipes}
 use Rattle.tera_statements.proofs.heads.closed_filters.Given as goal
 

@@ -1,8 +1,8 @@
 use Rattle.std.proofs.Common.{◌≡◌, refl}
 use Rattle.std.proofs.lemmas.Result.{err_from_is_err_and}
-use Rattle.tera_expr.specs.Rooms.{limits_of}
+use Rattle.tera_parts.specs.Rooms.{limits_of}
 use Rattle.tera_statements.proofs.Looping.{head_aimless, head_given, head_unnamed, head_without}
-use Rattle.tera_statements.proofs.Steps.{failed_as}
+use Rattle.tera_expect.proofs.Steps.{failed_as}
 use Rattle.tera_statements.proofs.heads.loop_head.Goals as goal
 
 pub returns-in_err-key-clause-gives : goal.returns-in_err-key-clause-gives

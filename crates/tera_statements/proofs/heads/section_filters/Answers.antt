@@ -10,9 +10,9 @@ use Rattle.tera_grammar.specs.statements.Parts.{Edge}
 use Rattle.tera_grammar.proofs.statements.Expressions.{ends_filter}
 use Rattle.tera_statements.specs.Heads.{AreAllFilters, AreFilters}
 use Rattle.tera_statements.specs.Reading.{IsFilter}
-use Rattle.tera_expr.specs.Rooms.{limits_of}
+use Rattle.tera_parts.specs.Rooms.{limits_of}
 use Rattle.tera_statements.proofs.Following.{are_followed, follows_none}
-use Rattle.tera_statements.proofs.Going.{goes_took_ok, refused_further_err}
+use Rattle.tera_expect.proofs.Going.{goes_took_ok, refused_further_err}
 use Rattle.tera_statements.proofs.Piping.{ended_filters, no_filters_end}
 use Rattle.tera_statements.proofs.heads.section_filters.Goals as goal
 

@@ -5,9 +5,9 @@ use Rattle.tera_grammar.specs.expressions.Reading.Front.{at}
 use Rattle.tera_grammar.specs.expressions.Reading.Atoms.{variables_of}
 use Rattle.tera_grammar.specs.expressions.Reading.Whole.{left_over}
 use Rattle.tera_grammar.specs.statements.Reading.Heads.{free_name}
-use Rattle.tera_statements.specs.Taking.{name_at}
+use Rattle.tera_expect.specs.Taking.{name_at}
 use Rattle.tera_statements.proofs.Looping.{no_variable, one_variable, two_variables, no_second_variable}
-use Rattle.tera_statements.proofs.Steps.{failed_as}
+use Rattle.tera_expect.proofs.Steps.{failed_as}
 use Rattle.tera_statements.proofs.heads.variables.Goals as goal
 
 pub returns-in_err-first-clause-gives : goal.returns-in_err-first-clause-gives

@@ -4,9 +4,9 @@ use Rattle.tera_tree.specs.Tree as tree
 use Rattle.tera_grammar.specs.statements.Grammar.{Shown, Single}
 use Rattle.tera_grammar.specs.statements.Output.{AddsNode}
 use Rattle.tera_grammar.specs.statements.Reading.Parts.{front}
-use Rattle.tera_expr.specs.Rooms.{limits_of}
+use Rattle.tera_parts.specs.Rooms.{limits_of}
 use Rattle.tera_statements.proofs.Itemizing.{shown_taken, shows_given, shows_nothing, shows_tag}
-use Rattle.tera_statements.proofs.Steps.{failed_as}
+use Rattle.tera_expect.proofs.Steps.{failed_as}
 use Rattle.tera_statements.proofs.items.shown.Goals as goal
 
 pub returns-in_err-expr-clause-gives : goal.returns-in_err-expr-clause-gives

@@ -3,10 +3,10 @@ use Rattle.std.proofs.lemmas.Result.{err_from_is_err_and}
 use Rattle.tera_grammar.specs.statements.Reading.Components as reading
 use Rattle.tera_statements.specs.Known.{names_of}
 use Rattle.tera_statements.specs.Parameters.{has_default}
-use Rattle.tera_expr.specs.Rooms.{limits_of}
-use Rattle.tera_statements.specs.Taking.{name_at}
+use Rattle.tera_parts.specs.Rooms.{limits_of}
+use Rattle.tera_expect.specs.Taking.{name_at}
 use Rattle.tera_statements.proofs.Parametering.{annotation_known, argument_is, at_behind, at_read, mistyped, no_annotation, no_assigned, no_fresh_name, parameter_given}
-use Rattle.tera_statements.proofs.Steps.{failed_as, fails_by}
+use Rattle.tera_expect.proofs.Steps.{failed_as, fails_by}
 use Rattle.tera_statements.proofs.parameters.parameter.Goals as goal
 
 pub returns-in_err-name-clause-gives : goal.returns-in_err-name-clause-gives

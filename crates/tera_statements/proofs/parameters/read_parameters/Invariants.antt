@@ -2,8 +2,8 @@ use Rattle.tera_lexer.specs.code.Cursors.{size}
 use Rattle.tera_grammar.specs.statements.Reading.Loops.{Listing}
 use Rattle.tera_statements.specs.Known.{names_of}
 use Rattle.tera_statements.specs.Parameters.{arguments_view}
-use Rattle.tera_expr.specs.Rooms.{limits_of}
-use Rattle.tera_statements.specs.Taking.{GoesOn}
+use Rattle.tera_parts.specs.Rooms.{limits_of}
+use Rattle.tera_expect.specs.Taking.{GoesOn}
 use Rattle.tera_statements.proofs.parameters.read_parameters.Given as goal
 
 abbrev pub invariant-parameters : goal.invariant-parameters

@@ -1,5 +1,5 @@
 use Rattle.std.proofs.Common.{◌≡◌, inr, refl}
-use Rattle.tera_statements.specs.Taking.{name_at}
+use Rattle.tera_expect.specs.Taking.{name_at}
 use Rattle.tera_statements.proofs.parameters.rest_parameter.Goals as goal
 
 pub returns-then-not-eat-clause-gives : goal.returns-then-not-eat-clause-gives

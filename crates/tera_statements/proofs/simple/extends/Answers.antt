@@ -4,7 +4,7 @@ use Rattle.tera_grammar.specs.statements.Grammar.{Extends, Single, is_outermost}
 use Rattle.tera_grammar.specs.statements.Output.{AddsParent}
 use Rattle.tera_grammar.specs.statements.Reading.{extends_of}
 use Rattle.tera_grammar.specs.statements.Reading.Parts.{tag}
-use Rattle.tera_statements.proofs.Steps.{failed, fails_by}
+use Rattle.tera_expect.proofs.Steps.{failed, fails_by}
 use Rattle.tera_statements.proofs.simple.extends.Goals as goal
 
 pub returns-in_err-parent-clause-gives : goal.returns-in_err-parent-clause-gives

@@ -10,4 +10,4 @@ returns-in-Some c = λ old took stands.
     covered old c.args.cursor.now c.in-Some.first c.up_to_last.result _ _ took there c.up_to_last.ensures.within c.up_to_last.ensures.starts c.up_to_last.ensures.ends c.syntax_error.ensures.tells
 
 pub returns-in-None : goal.returns-in-None
-returns-in-None c = λ old took stands. took_inside _ _ _ took c.fault.ensures
+returns-in-None c = λ old took stands. took_inside _ _ _ took c.fault.ensures.refusal

@@ -1,6 +1,6 @@
 use Rattle.std.proofs.Common.{◌≡◌, ◌∙◌, sym}
 use Rattle.tera_grammar.specs.statements.Reading.{at}
-use Rattle.tera_expr.specs.Rooms.{limits_of}
+use Rattle.tera_parts.specs.Rooms.{limits_of}
 use Rattle.tera_statements.specs.Templates.{phase_of}
 use Rattle.tera_statements.proofs.Refusing.{quiet}
 use Rattle.tera_statements.proofs.Topping.{late_excluded, no_phase}

@@ -5,11 +5,11 @@ use Rattle.tera_grammar.specs.statements.Reading.{Place, Starting, at, body}
 use Rattle.tera_grammar.specs.statements.Reading.Loops.{with_added}
 use Rattle.tera_grammar.proofs.statements.Loops.{topping_ends, topping_left, topping_on, topping_starts}
 use Rattle.tera_statements.specs.Adding.{here, seen_of}
-use Rattle.tera_expr.specs.Rooms.{limits_of}
-use Rattle.tera_statements.specs.Taking.{GoesOn}
+use Rattle.tera_parts.specs.Rooms.{limits_of}
+use Rattle.tera_expect.specs.Taking.{GoesOn}
 use Rattle.tera_statements.specs.Templates.{below_top, phase_of}
 use Rattle.tera_statements.specs.Outputs.{output_view}
-use Rattle.tera_statements.proofs.Going.{fewer, goes_further, stays, took_goes}
+use Rattle.tera_expect.proofs.Going.{fewer, goes_further, stays, took_goes}
 use Rattle.tera_statements.proofs.Refusing.{empty_adds, empty_ends, goes_empty, goes_inside, not_both}
 use Rattle.tera_statements.proofs.Topping.{excluded_fails, opens}
 use Rattle.tera_statements.proofs.templates.whole.Goals as goal

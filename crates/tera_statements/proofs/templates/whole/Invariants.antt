@@ -1,7 +1,7 @@
 use Rattle.tera_lexer.specs.code.Cursors.{size}
 use Rattle.tera_statements.specs.Adding.{here}
-use Rattle.tera_expr.specs.Rooms.{limits_of}
-use Rattle.tera_statements.specs.Taking.{GoesOn}
+use Rattle.tera_parts.specs.Rooms.{limits_of}
+use Rattle.tera_expect.specs.Taking.{GoesOn}
 use Rattle.tera_statements.specs.Templates.{TopOf, phase_of}
 use Rattle.tera_statements.specs.Outputs.{output_view}
 use Rattle.tera_statements.proofs.templates.whole.Given as goal

@@ -1,0 +1,54 @@
+//! Faults at tokens.
+
+ghost use Rattle.std.specs.Prelude.{[], MatchResult, string_bytes};
+ghost use Rattle.tera_base.specs.ErrorView.{NoteOf};
+ghost use Rattle.tera_base.specs.Errors.{IsMemory, Tells};
+ghost use Rattle.tera_lexer.specs.code.Cursors.{TellsAt};
+ghost use Rattle.tera_expect.specs.Taking.{IsNoted, Refuses, TellsAs};
+
+use std::alloc::{AllocError, Global};
+use tera_base::{Error, ErrorKind, Span};
+use tera_lexer::{Cursor, Token};
+
+/// A fault at the token taken last; `Memory` where its text finds none.
+#[tactic(auto, using(crate::proofs::Going::last_refused))]
+pub fn fault(alloc: Global, cursor: &Cursor<'_>, text: &str) -> Error
+    ensures tells { Tells text.now cursor.now.span result }
+    ensures refusal { Refuses cursor.now result }
+{
+    Error::syntax_error(alloc, text, cursor.current_span())
+}
+
+/// A fault at the token taken last, whose text was made; `Memory` where it was not.
+#[tactic(auto, using(crate::proofs::Going::last_refused, crate::proofs::Going::memory_refused))]
+pub fn reported(alloc: Global, cursor: &Cursor<'_>, message: Result<String, AllocError>) -> Error
+    ensures tells { MatchResult message (λ text. Tells (string_bytes text) cursor.now.span result) (λ _. IsMemory result) }
+    ensures refusal { Refuses cursor.now result }
+{
+    Error::reported(alloc, message, cursor.current_span())
+}
+
+/// The fault of a token, which stands at the span, where another has to stand.
+pub fn unexpected(alloc: Global, token: &Token<'_>, wanted: &str, span: &Span) -> Error
+    ensures { TellsAt span.now result }
+{
+    let message = format!(in alloc; "Found {token} but expected {wanted}.");
+    Error::reported(alloc, message, span)
+}
+
+/// The error with a note on a place of the source, if it is a fault; `Memory` where the note finds none.
+/// The note names no file.
+pub fn noted(error: Error, label: &str, span: &Span) -> Error
+    ensures adds { IsNoted error (NoteOf label.now [] span.now) result }
+    ensures tells { TellsAs error result }
+{
+    match error.kind {
+        ErrorKind::SyntaxError(mut report) => match report.add_note(label, "", span) {
+            Ok(()) => Error {
+                kind: ErrorKind::SyntaxError(report),
+            },
+            Err(refused) => refused,
+        },
+        kind => Error { kind },
+    }
+}

@@ -1,0 +1,10 @@
+pub mod Rooms
+pub mod Paths
+pub mod Fronts
+pub mod Literals
+pub mod Unfold
+pub mod Rows
+pub mod Keys
+pub mod Folding
+pub mod Ranges
+pub mod Attributes

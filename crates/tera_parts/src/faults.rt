@@ -1,0 +1,124 @@
+//! The faults of expressions.
+
+ghost use Rattle.tera_base.specs.Errors.{TellsBy};
+ghost use Rattle.tera_lexer.specs.code.Cursors.{TellsAt};
+ghost use Rattle.tera_lexer.specs.grammar.Place.{IsWithin};
+ghost use Rattle.tera_parts.specs.Ranges.{RunsFrom};
+ghost use Rattle.tera_expect.specs.Taking.{Refuses};
+
+use std::alloc::{AllocError, Global};
+use tera_base::{Error, Span};
+use tera_expect::{Fixed, expect, fault, reported};
+use tera_lexer::{Cursor, Token};
+
+/// A fault from the token at the span to the token taken last, whose text was made.
+pub fn reported_from(
+    alloc: Global,
+    cursor: &Cursor<'_>,
+    first: &Span,
+    message: Result<String, AllocError>,
+) -> Error
+    requires { IsWithin cursor.now.source first.now }
+    ensures { TellsBy (λ text span. RunsFrom first.now cursor.now span) result }
+{
+    let last = cursor.current_span();
+    let mut span = first.copied();
+    if span.range.end <= last.range.end {
+        span.expand(last);
+    }
+    Error::reported(alloc, message, &span)
+}
+
+/// What is told of more expressions or links than may be open.
+pub(crate) const TOO_COMPLEX: &str = "The expression is too complex";
+
+/// That more expressions or links are open than may be.
+pub fn too_complex(alloc: Global, cursor: &Cursor<'_>) -> Error
+    ensures { Refuses cursor.now result }
+{
+    fault(alloc, cursor, TOO_COMPLEX)
+}
+
+/// That a token begins no expression, which was taken.
+pub(crate) fn no_expression(alloc: Global, cursor: &Cursor<'_>, token: &Token<'_>) -> Error
+    ensures { Refuses cursor.now result }
+{
+    let message = format!(in alloc;
+        "Found {token} but expected one of: integer, string, bool, ident, `-`, `not`, `<`, `{{`, `[` or `(`"
+    );
+    reported(alloc, cursor, message)
+}
+
+/// That a token, which stands at the span, is no key of a map.
+pub(crate) fn no_key(alloc: Global, token: &Token<'_>, span: &Span) -> Error
+    ensures { TellsAt span.now result }
+{
+    let message = format!(in alloc;
+        "Found {token} but expected `...`, a string, an integer or a bool."
+    );
+    Error::reported(alloc, message, span)
+}
+
+/// That a token, which was taken, is no value of an attribute.
+pub(crate) fn no_attribute_value(alloc: Global, cursor: &Cursor<'_>, token: &Token<'_>) -> Error
+    ensures { Refuses cursor.now result }
+{
+    let message = format!(in alloc; "Expected \"string\" or {{expression}} but found {token}");
+    reported(alloc, cursor, message)
+}
+
+/// That no name stands behind the `<` of a component, which was taken last.
+pub fn no_component_name(alloc: Global, cursor: &Cursor<'_>) -> Error
+    ensures { Refuses cursor.now result }
+{
+    fault(
+        alloc,
+        cursor,
+        "Found `<` but expected identifier after it for component call. Use `<` for comparisons in proper context.",
+    )
+}
+
+/// That the next token does not end a component; it is told at the token before.
+#[tactic(auto, unfolding(tera_expect::specs::Taking::Refuses), using(tera_expect::proofs::Going::last_refused))]
+pub(crate) fn unclosed_component(alloc: Global, cursor: &mut Cursor<'_>) -> Error
+    ensures { Refuses cursor.old result }
+{
+    let last = cursor.current_span().copied();
+    match cursor.next_or_eoi() {
+        Ok((token, _)) => {
+            let message = format!(in alloc; "Found {token} but expected `/` or `>`");
+            Error::reported(alloc, message, &last)
+        }
+        Err(error) => error,
+    }
+}
+
+/// That a `not` stands behind an operand without `in`; it is taken.
+#[tactic(auto, using(tera_expect::proofs::Going::refused_behind))]
+pub fn misplaced_not(alloc: Global, cursor: &mut Cursor<'_>) -> Error
+    ensures { Refuses cursor.old result }
+{
+    match expect(alloc, cursor, Fixed::Not) {
+        Ok(()) => fault(
+            alloc,
+            cursor,
+            "`not` is only valid here as part of `not in`",
+        ),
+        Err(error) => error,
+    }
+}
+
+/// That a prefix stands behind a prefix; it is taken.
+#[tactic(auto, unfolding(tera_expect::specs::Taking::Refuses, tera_expect::specs::Taking::Took), using(tera_expect::proofs::Going::refused_behind))]
+pub fn consecutive(alloc: Global, cursor: &mut Cursor<'_>) -> Error
+    ensures { Refuses cursor.old result }
+{
+    match cursor.next_or_eoi() {
+        Ok((_, span)) => Error::syntax_error(
+            alloc,
+            "`-` and `not` cannot be used consecutively.",
+            &span,
+        ),
+        Err(error) => error,
+    }
+}

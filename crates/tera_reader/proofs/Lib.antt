@@ -1,0 +1,13 @@
+pub mod Stacking
+pub mod RowSteps
+pub mod Arguing
+pub mod ArgumentRows
+pub mod Listing
+pub mod Comprehending
+pub mod Arraying
+pub mod Slicing
+pub mod Linking
+pub mod Calling
+pub mod Pairing
+pub mod Attributing
+pub mod Closing

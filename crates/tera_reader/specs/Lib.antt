@@ -1,0 +1,6 @@
+pub mod Frames
+pub mod Unfold
+pub mod Elements
+pub mod Chains
+pub mod Calls
+pub mod Attributes

@@ -1,0 +1,228 @@
+//! Arrays and comprehensions.
+
+ghost use Rattle.std.specs.Prelude.{◌≡◌, ℕ, IfErr, IfOk};
+ghost use Rattle.tera_tree.specs.View.{expression_view};
+ghost use Rattle.tera_grammar.specs.Words.{is_reserved};
+ghost use Rattle.tera_grammar.specs.expressions.Concrete.{Element, Tree, of_items};
+ghost use Rattle.tera_grammar.specs.expressions.Marks.{RightBracket};
+ghost use Rattle.tera_grammar.specs.expressions.Output.{output};
+ghost use Rattle.tera_grammar.specs.expressions.Reading.Atoms.{array_of, comprehension_of, items_from, variables_of};
+ghost use Rattle.tera_grammar.specs.expressions.Reading.Front.{at, takes};
+ghost use Rattle.tera_grammar.specs.expressions.Reading.Parts.{element_of, extra_of};
+ghost use Rattle.tera_grammar.specs.expressions.Stack.{HeadGives};
+ghost use Rattle.tera_reader.specs.Elements.{AreVariables, IsExtra, IsItem, variable_at};
+ghost use Rattle.tera_parts.specs.Literals.{MayBeNegated};
+ghost use Rattle.tera_parts.specs.Rooms.{room_of};
+ghost use Rattle.tera_parts.specs.Rows.{reader_of};
+ghost use Rattle.tera_expect.specs.Taking.{GivesAs, GivesBy, GoesOn, Refuses, Took, mark_of, name_at, place_at};
+
+use crate::rows::value;
+use std::alloc::Global;
+use tera_base::{Error, Span};
+use tera_expect::{Fixed, eat, expect, fault, name, reported};
+use tera_lexer::Cursor;
+use tera_parts::{Values, array_or_constant, more, spanning};
+use tera_tree::{ArrayEntry, Expression, build};
+
+/// An array or a comprehension, behind its bracket, which stands at the span and was taken last.
+#[cycle(reader)]
+#[tactic(auto, using(tera_expect::proofs::Going::took_all, tera_expect::proofs::Going::refused_behind, tera_expect::proofs::Going::memory_refused, crate::proofs::Arraying::array_negatable))]
+pub fn array(
+    alloc: Global,
+    cursor: &mut Cursor<'_>,
+    links: &mut usize,
+    values: Values,
+    first: &Span,
+) -> Result<Expression, Error>
+    ensures gives { HeadGives expression_view values.room.scope.in_loop result cursor.new.span (at links.new cursor.new.left) (array_of (reader_of values) (room_of values.room) first.now (at links.old cursor.old.left)) }
+    ensures negatable { IfOk result (λ e. MayBeNegated (expression_view e)) }
+    ensures refusal { IfErr result (Refuses cursor.old) }
+    ensures later { IfOk result (λ _. Took cursor.old cursor.new) }
+{
+    let room = values.room.in_array(alloc, cursor)?;
+    let inside = Values { room, ..values };
+    if eat(cursor, Fixed::RightBracket) {
+        let span = spanning(first, cursor.current_span());
+        return Ok(array_or_constant(alloc, Vec::new(alloc), span)?);
+    }
+    if eat(cursor, Fixed::Spread) {
+        let spread = value(alloc, cursor, links, inside, 0)?;
+        let spread = ArrayEntry::Spread(spread);
+        return items(alloc, cursor, links, inside, first, spread);
+    }
+    let element = value(alloc, cursor, links, inside, 0)?;
+    if eat(cursor, Fixed::For) {
+        return comprehension(alloc, cursor, links, values, first, element);
+    }
+    let element = ArrayEntry::Item(element);
+    items(alloc, cursor, links, inside, first, element)
+}
+
+// The items behind the first one of an array, whose bracket stands at the span.
+#[cycle(reader)]
+#[tactic(auto, using(tera_expect::proofs::Going::took_all, tera_expect::proofs::Going::refused_behind, tera_expect::proofs::Going::memory_refused, crate::proofs::Arraying::array_negatable))]
+fn items(
+    alloc: Global,
+    cursor: &mut Cursor<'_>,
+    links: &mut usize,
+    values: Values,
+    first: &Span,
+    element: ArrayEntry,
+) -> Result<Expression, Error>
+    ensures gives { (x : Element) → IsItem values.room.scope.in_loop element x → HeadGives expression_view values.room.scope.in_loop result cursor.new.span (at links.new cursor.new.left) (items_from (reader_of values) (room_of values.room) first.now x (at links.old cursor.old.left)) }
+    ensures negatable { IfOk result (λ e. MayBeNegated (expression_view e)) }
+    ensures refusal { IfErr result (Refuses cursor.old) }
+    ensures later { IfOk result (λ _. Took cursor.old cursor.new) }
+{
+    let mut items = Vec::new(alloc);
+    items.push(element)?;
+    let mut open = more(alloc, cursor, Fixed::RightBracket)?;
+    'elements: while open {
+        let element = item(alloc, cursor, links, values)?;
+        items.push(element)?;
+        open = more(alloc, cursor, Fixed::RightBracket)?;
+    }
+    let span = spanning(first, cursor.current_span());
+    Ok(array_or_constant(alloc, items, span)?)
+}
+
+// An item of an array, or a spread.
+#[cycle(reader)]
+#[tactic(auto, using(tera_expect::proofs::Going::took_all, tera_expect::proofs::Going::refused_behind))]
+fn item(
+    alloc: Global,
+    cursor: &mut Cursor<'_>,
+    links: &mut usize,
+    values: Values,
+) -> Result<ArrayEntry, Error>
+    ensures gives { GivesBy (IsItem values.room.scope.in_loop) result (at links.new cursor.new.left) (element_of (reader_of values) (room_of values.room) of_items (at links.old cursor.old.left)) }
+    ensures refusal { IfErr result (Refuses cursor.old) }
+    ensures later { IfOk result (λ _. Took cursor.old cursor.new) }
+{
+    if eat(cursor, Fixed::Spread) {
+        let spread = value(alloc, cursor, links, values, 0)?;
+        return Ok(ArrayEntry::Spread(spread));
+    }
+    let element = value(alloc, cursor, links, values, 0)?;
+    Ok(ArrayEntry::Item(element))
+}
+
+// A comprehension behind its `for`, which was taken last; its bracket stands at the span.
+#[cycle(reader)]
+#[tactic(auto, using(tera_expect::proofs::Going::took_all, tera_expect::proofs::Going::took_further, tera_expect::proofs::Going::refused_behind, tera_expect::proofs::Going::refused_further, tera_expect::proofs::Going::memory_refused, crate::proofs::Arraying::comprehension_negatable))]
+fn comprehension(
+    alloc: Global,
+    cursor: &mut Cursor<'_>,
+    links: &mut usize,
+    values: Values,
+    first: &Span,
+    element: Expression,
+) -> Result<Expression, Error>
+    ensures gives { (t : Tree) → expression_view element ≡ output values.room.scope.in_loop t → HeadGives expression_view values.room.scope.in_loop result cursor.new.span (at links.new cursor.new.left) (comprehension_of (reader_of values) (room_of values.room) first.now t cursor.old.span (at links.old cursor.old.left)) }
+    ensures negatable { IfOk result (λ e. MayBeNegated (expression_view e)) }
+    ensures refusal { IfErr result (Refuses cursor.old) }
+    ensures later { IfOk result (λ _. Took cursor.old cursor.new) }
+{
+    let named = variables(alloc, cursor)?;
+    expect(alloc, cursor, Fixed::In)?;
+    let target = value(alloc, cursor, links, values, 1)?;
+    let condition = extra(alloc, cursor, links, values, Fixed::If, 1)?;
+    close_comprehension(alloc, cursor)?;
+    let span = spanning(first, cursor.current_span());
+    let (key, variable) = named;
+    Ok(build::comprehension(alloc, element, key, variable, target, condition, span)?)
+}
+
+/// An expression behind a token of its own, at a least power, where that token stands.
+#[cycle(reader)]
+#[tactic(auto, using(tera_expect::proofs::Going::took_all, tera_expect::proofs::Going::took_goes, tera_expect::proofs::Going::stays, tera_expect::proofs::Going::refused_behind))]
+pub(crate) fn extra(
+    alloc: Global,
+    cursor: &mut Cursor<'_>,
+    links: &mut usize,
+    values: Values,
+    before: Fixed,
+    least: u8,
+) -> Result<Option<Expression>, Error>
+    ensures gives { GivesBy (IsExtra values.room.scope.in_loop) result (at links.new cursor.new.left) (extra_of (reader_of values) (room_of values.room) (mark_of before) least (at links.old cursor.old.left)) }
+    ensures refusal { IfErr result (Refuses cursor.old) }
+    ensures later { IfOk result (λ _. GoesOn cursor.old cursor.new) }
+{
+    if eat(cursor, before) {
+        Ok(Some(value(alloc, cursor, links, values, least)?))
+    } else {
+        Ok(None)
+    }
+}
+
+// The variables of a comprehension.
+#[tactic(auto, using(tera_expect::proofs::Going::took_all, tera_expect::proofs::Going::refused_behind, tera_expect::proofs::Going::memory_refused))]
+fn variables(alloc: Global, cursor: &mut Cursor<'_>) -> Result<(Option<String>, String), Error>
+    ensures gives { (i : ℕ) → GivesBy AreVariables result (at i cursor.new.left) (variables_of (at i cursor.old.left)) }
+    ensures refusal { IfErr result (Refuses cursor.old) }
+    ensures later { IfOk result (λ _. Took cursor.old cursor.new) }
+{
+    let first = variable_name(alloc, cursor)?;
+    if eat(cursor, Fixed::Comma) {
+        let second = variable_name(alloc, cursor)?;
+        let key = String::from_str(alloc, first)?;
+        return Ok((Some(key), String::from_str(alloc, second)?));
+    }
+    Ok((None, String::from_str(alloc, first)?))
+}
+
+// The name of what a comprehension goes over.
+#[tactic(auto, using(tera_expect::proofs::Going::refused_behind))]
+fn variable_name<'a>(alloc: Global, cursor: &mut Cursor<'a>) -> Result<&'a str, Error>
+    ensures gives { GivesAs (name_at cursor.new.span) result cursor.new.left (variable_at cursor.old.left) }
+    ensures refusal { IfErr result (Refuses cursor.old) }
+    ensures later { IfOk result (λ _. Took cursor.old cursor.new) }
+{
+    let name = name(alloc, cursor)?;
+    if is_reserved(name) {
+        let message = format!(in alloc;
+            "{name} is a reserved keyword of Tera, it cannot be used as a list comprehension variable."
+        );
+        return Err(reported(alloc, cursor, message));
+    }
+    Ok(name)
+}
+
+/// Whether no variable of a loop or of a comprehension has the name.
+#[tactic(auto, unfolding(crate::specs::Unfold::is_reserved))]
+pub(crate) fn is_reserved(name: &str) -> bool
+    ensures { result ≡ is_reserved name.now }
+{
+    matches!(
+        name,
+        "loop"
+            | "self"
+            | "and"
+            | "or"
+            | "not"
+            | "is"
+            | "in"
+            | "continue"
+            | "break"
+            | "none"
+            | "None"
+            | "null"
+    )
+}
+
+// The bracket behind a comprehension.
+#[tactic(auto, using(tera_expect::proofs::Going::refused_behind))]
+fn close_comprehension(alloc: Global, cursor: &mut Cursor<'_>) -> Result<(), Error>
+    ensures gives { GivesAs (place_at cursor.new.span) result cursor.new.left (takes RightBracket cursor.old.left) }
+    ensures refusal { IfErr result (Refuses cursor.old) }
+    ensures later { IfOk result (λ _. Took cursor.old cursor.new) }
+{
+    if eat(cursor, Fixed::For) {
+        return Err(fault(
+            alloc,
+            cursor,
+            "List comprehensions support only a single `for` clause.",
+        ));
+    }
+    expect(alloc, cursor, Fixed::RightBracket)
+}

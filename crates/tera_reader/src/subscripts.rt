@@ -1,0 +1,164 @@
+//! Subscripts.
+
+ghost use Rattle.std.specs.Prelude.{◌≡◌, IfErr, IfOk};
+ghost use Rattle.tera_base.specs.declared.utils.Span.{Span};
+ghost use Rattle.tera_tree.specs.View.{expression_view};
+ghost use Rattle.tera_grammar.specs.expressions.Concrete.{Part};
+ghost use Rattle.tera_grammar.specs.expressions.Marks.{Colon};
+ghost use Rattle.tera_grammar.specs.expressions.Output.{place_of};
+ghost use Rattle.tera_grammar.specs.expressions.Reading.Front.{at};
+ghost use Rattle.tera_grammar.specs.expressions.Reading.Parts.{extra_of, part_of, slice_of, sub_of};
+ghost use Rattle.tera_grammar.specs.expressions.Reading.Loop.{expr};
+ghost use Rattle.tera_reader.specs.Chains.{IsPart, IsSubscript, subscripted};
+ghost use Rattle.tera_reader.specs.Elements.{IsExtra};
+ghost use Rattle.tera_parts.specs.Rooms.{room_of};
+ghost use Rattle.tera_expect.specs.Taking.{GivesBy, GoesOn, Refuses, Took};
+
+use crate::stack::expression;
+use std::alloc::{AllocError, Global};
+use tera_base::{Error, Span};
+use tera_expect::{Fixed, begins, eat, expect};
+use tera_lexer::Cursor;
+use tera_parts::Room;
+use tera_tree::{Expression, build};
+
+/// What stands between the brackets of a subscript.
+#[derive(Drop)]
+pub(crate) enum Subscript {
+    Index(Expression),
+    Slice {
+        start: Option<Expression>,
+        end: Option<Expression>,
+        step: Option<Expression>,
+    },
+}
+
+/// Reads what stands in a subscript, whose opening bracket was taken last, up to the closing one.
+#[cycle(reader)]
+#[tactic(auto, unfolding(crate::specs::Unfold::sub_of), using(tera_expect::proofs::Going::took_all, tera_expect::proofs::Going::refused_behind, tera_expect::proofs::Going::memory_refused))]
+pub(crate) fn read_subscript(
+    alloc: Global,
+    cursor: &mut Cursor<'_>,
+    links: &mut usize,
+    room: Room,
+    below: usize,
+) -> Result<Subscript, Error>
+    ensures gives { GivesBy (IsSubscript room.scope.in_loop cursor.new.span) result (at links.new cursor.new.left) (sub_of (expr below) (room_of room) (at links.old cursor.old.left)) }
+    ensures refusal { IfErr result (Refuses cursor.old) }
+    ensures later { IfOk result (λ _. Took cursor.old cursor.new) }
+{
+    let inside = room.in_subscript(alloc, cursor)?;
+    if eat(cursor, Fixed::Colon) {
+        return slice(alloc, cursor, links, inside, below, None);
+    }
+    let first = expression(alloc, cursor, links, inside, below, 0)?;
+    if eat(cursor, Fixed::Colon) {
+        return slice(alloc, cursor, links, inside, below, Some(first));
+    }
+    expect(alloc, cursor, Fixed::RightBracket)?;
+    Ok(Subscript::Index(first))
+}
+
+// The end and the step of a slice, whose first colon was taken.
+#[cycle(reader)]
+#[tactic(auto, using(tera_expect::proofs::Going::goes_took, tera_expect::proofs::Going::goes_further, tera_expect::proofs::Going::refused_further, tera_expect::proofs::Going::memory_refused))]
+fn slice(
+    alloc: Global,
+    cursor: &mut Cursor<'_>,
+    links: &mut usize,
+    room: Room,
+    below: usize,
+    start: Option<Expression>,
+) -> Result<Subscript, Error>
+    ensures gives { (a : Part) (s : Span) → IsPart room.scope.in_loop start a → GivesBy (IsSubscript room.scope.in_loop cursor.new.span) result (at links.new cursor.new.left) (slice_of (expr below) (room_of room) a s (at links.old cursor.old.left)) }
+    ensures refusal { IfErr result (Refuses cursor.old) }
+    ensures later { IfOk result (λ _. Took cursor.old cursor.new) }
+{
+    let end = end(alloc, cursor, links, room, below)?;
+    let step = step(alloc, cursor, links, room, below)?;
+    expect(alloc, cursor, Fixed::RightBracket)?;
+    Ok(Subscript::Slice { start, end, step })
+}
+
+// The end of a slice, which may be left out.
+#[cycle(reader)]
+#[tactic(auto, unfolding(crate::specs::Unfold::part_of, crate::specs::Unfold::skip), using(tera_expect::proofs::Going::stays, tera_expect::proofs::Going::took_goes, tera_expect::proofs::Going::memory_refused))]
+fn end(
+    alloc: Global,
+    cursor: &mut Cursor<'_>,
+    links: &mut usize,
+    room: Room,
+    below: usize,
+) -> Result<Option<Expression>, Error>
+    ensures gives { GivesBy (IsPart room.scope.in_loop) result (at links.new cursor.new.left) (part_of (expr below) (room_of room) (at links.old cursor.old.left)) }
+    ensures refusal { IfErr result (Refuses cursor.old) }
+    ensures later { IfOk result (λ _. GoesOn cursor.old cursor.new) }
+{
+    if begins(cursor, Fixed::Colon) || begins(cursor, Fixed::RightBracket) {
+        return Ok(None);
+    }
+    Ok(Some(expression(alloc, cursor, links, room, below, 0)?))
+}
+
+// The step of a slice behind a second colon, if it has one.
+#[cycle(reader)]
+#[tactic(auto, unfolding(crate::specs::Unfold::extra_of, crate::specs::Unfold::skip), using(tera_expect::proofs::Going::stays, tera_expect::proofs::Going::took_goes, tera_expect::proofs::Going::took_all, tera_expect::proofs::Going::refused_behind, tera_expect::proofs::Going::memory_refused))]
+fn step(
+    alloc: Global,
+    cursor: &mut Cursor<'_>,
+    links: &mut usize,
+    room: Room,
+    below: usize,
+) -> Result<Option<Expression>, Error>
+    ensures gives { GivesBy (IsExtra room.scope.in_loop) result (at links.new cursor.new.left) (extra_of (expr below) (room_of room) Colon 0 (at links.old cursor.old.left)) }
+    ensures refusal { IfErr result (Refuses cursor.old) }
+    ensures later { IfOk result (λ _. GoesOn cursor.old cursor.new) }
+{
+    if !eat(cursor, Fixed::Colon) {
+        return Ok(None);
+    }
+    Ok(Some(expression(alloc, cursor, links, room, below, 0)?))
+}
+
+/// An operand with a subscript, up to the bracket at the span.
+pub(crate) fn with_subscript(
+    alloc: Global,
+    operand: Expression,
+    subscript: Subscript,
+    optional: bool,
+    last: &Span,
+) -> Result<Expression, AllocError>
+    ensures { IfOk result (λ e. expression_view e ≡ subscripted subscript optional (expression_view operand) last.now) }
+{
+    let mut span = place(&operand).copied();
+    span.expand(last);
+    match subscript {
+        Subscript::Index(index) => build::get_item(alloc, operand, index, optional, span),
+        Subscript::Slice { start, end, step } => {
+            build::slice(alloc, operand, start, end, step, optional, span)
+        }
+    }
+}
+
+// Where an expression stands.
+fn place(expression: &Expression) -> &Span
+    ensures { result.now ≡ place_of (expression_view expression.now) }
+{
+    match expression {
+        Expression::Const(s) => s.span(),
+        Expression::Array(s) => s.span(),
+        Expression::Map(s) => s.span(),
+        Expression::Var(s) => s.span(),
+        Expression::GetAttr(s) => s.span(),
+        Expression::GetItem(s) => s.span(),
+        Expression::Slice(s) => s.span(),
+        Expression::Filter(s) => s.span(),
+        Expression::Test(s) => s.span(),
+        Expression::Ternary(s) => s.span(),
+        Expression::ListComprehension(s) => s.span(),
+        Expression::ComponentCall(s) => s.span(),
+        Expression::FunctionCall(s) => s.span(),
+        Expression::UnaryOperation(s) => s.span(),
+        Expression::BinaryOperation(s) => s.span(),
+    }
+}
