@@ -1,4 +1,4 @@
-// Times the lexer over each file, without the time that it takes to see that the file is a text.
+// Times the lexer and the parser over each file, without the time that it takes to see that the file is a text.
 use std::hint::black_box;
 use std::time::Instant;
 
