@@ -1,4 +1,4 @@
-//! The expressions of the template engine Tera.
+//! The expressions of the template engine Tera: their reading, and their source text.
 #![tactic(auto)]
 
 mod components;
@@ -8,4 +8,5 @@ mod whole;
 pub use components::component_name;
 pub use outermost::{attributes, filter, kwargs, literal_array, literal_map};
 pub use tera_parts::{Limits, Scope};
+pub use tera_source::source_of;
 pub use whole::expression;

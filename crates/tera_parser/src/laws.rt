@@ -1,11 +1,19 @@
 //! Laws of the definitions, and what equality decides: each function has the law as its promise.
 
-ghost use Rattle.std.specs.Prelude.{◌≡◌, ◌↔◌, IsTrue, ℕ, List};
+ghost use Rattle.std.specs.Prelude.{◌≡◌, ◌↔◌, IsTrue, ℕ, List, false};
 ghost use Rattle.tera_lexer.specs.grammar.Marks.{Marks, IsValid};
 ghost use Rattle.tera_tree.specs.Tree.{Output};
 ghost use Rattle.tera_grammar.specs.Limits.{Limits};
-ghost use Rattle.tera_statements.specs.Outputs.{output_view};
+ghost use Rattle.tera_grammar.specs.expressions.Constants.{IsLiteralNumber};
+ghost use Rattle.tera_grammar.specs.expressions.Output.{output};
+ghost use Rattle.tera_grammar.specs.statements.Constants.{EachOfOutput};
 ghost use Rattle.tera_grammar.specs.statements.Top.{Derives};
+ghost use Rattle.tera_grammar.specs.statements.Trees.{IsRight};
+ghost use Rattle.tera_source.specs.Outermost.{EachOfBody};
+ghost use Rattle.tera_source.specs.Nodes as trees;
+ghost use Rattle.tera_source.specs.Parts.{EachPart};
+ghost use Rattle.tera_source.specs.Printing.{PrintsBack};
+ghost use Rattle.tera_statements.specs.Outputs.{output_view};
 
 use tera_statements::ParserOutput;
 
@@ -13,6 +21,34 @@ use tera_statements::ParserOutput;
 pub fn one_output()
     ensures { (l : Limits) (m : Marks) → IsValid m → (source : List ℕ) (one other : Output) →
         Derives l m source one → Derives l m source other → one ≡ other }
+{}
+
+/// In the tree of a source no two blocks have one name, nor two components; each `break` and `continue` stands in a loop,
+/// with no body that is taken as a value between; and where the source extends another template, texts of white space
+/// and blocks alone stand at its top level.
+pub fn right_trees()
+    ensures { (l : Limits) (m : Marks) (source : List ℕ) (read : Output) → Derives l m source read → IsRight read }
+{}
+
+/// Each number among the constants of the tree of a source is greater than the least `i64`, so no minus overflows.
+pub fn constants()
+    ensures { (l : Limits) (m : Marks) → IsValid m → (source : List ℕ) (read : Output) →
+        Derives l m source read → EachOfOutput IsLiteralNumber read }
+{}
+
+/// An expression that is parsed, written back and parsed again is itself, apart from places. It has a source text, and in
+/// a variable tag between the default markers this has a derivation within the same limits, of one node alone, which
+/// shows the expression. So it is for each expression in a derivation of a source, at any depth (`of_sources`), and for
+/// each that a node of its tree shows, sets, goes over or asks (`of_trees`).
+///
+/// What [`crate::Parser::parse`] answers is the output of a derivation, by its clause `sound`; what
+/// [`crate::expr::source_of`] answers is the source text, or `Memory`, by `text` and `memory`; and that text is parsed,
+/// or `Memory` is answered, by `complete`.
+pub fn printed_back()
+    ensures of_sources { (l : Limits) (m : Marks) (source : List ℕ) (read : Output) (d : Derives l m source read) →
+        EachOfBody (λ in_loop e. EachPart (λ part. PrintsBack l (output in_loop part)) e) false d.2.0 }
+    ensures of_trees { (l : Limits) (m : Marks) (source : List ℕ) (read : Output) → Derives l m source read →
+        trees.EachOfOutput (PrintsBack l) read }
 {}
 
 /// Outputs are equal exactly where they mean the same, places included.

@@ -34,10 +34,10 @@ pub mod lexer {
     pub use tera_lexer::{Cursor, Delimiters, Token, Tokens, tokenize};
 }
 
-/// The reading of expressions.
+/// The reading of expressions, and their source text.
 pub mod expr {
     pub use tera_expr::{
         Limits, Scope, attributes, component_name, expression, filter, kwargs, literal_array,
-        literal_map,
+        literal_map, source_of,
     };
 }

@@ -1,0 +1,11 @@
+pub mod Source
+pub mod Placeless
+pub mod Standing
+pub mod Printing
+pub mod Outermost
+pub mod Parts
+pub mod Nodes
+pub mod Writable
+pub mod Bodies
+pub mod Contexts
+pub mod Writing

@@ -1,0 +1,469 @@
+//! Expressions, written at the end of a text.
+
+ghost use Rattle.std.specs.Prelude.{◌≡◌, ◌++◌, ℕ, suc, true, false, codes, string_bytes, OnOk};
+ghost use Rattle.tera_base.specs.ValueView.{key_view, value_view};
+ghost use Rattle.tera_tree.specs.View.{expression_view, name_view, maybe_view, args_view, item_view, items_view, entry_view, entries_view};
+ghost use Rattle.tera_tree.specs.declared.ast.ComponentCall.{out-ComponentCall};
+ghost use Rattle.tera_source.specs.Contexts as at;
+ghost use Rattle.tera_source.specs.Contexts.{before, behind, behind_prefix, above, left_of, right_of};
+ghost use Rattle.tera_source.specs.Writing.{comma_text, dotted, dot_text, bracket_text, names_text, test_text, operator_text, has_args, optional_args, is_bare, attribute_value, attribute_text, text, unary_text, written, maybe_text, args_text, item_text, items_text, key_source, entry_text, entries_text, one_attribute, attributes_text};
+
+use crate::constants::{push_comma, push_constant, push_key};
+use crate::context::{Context, takes_negation};
+use crate::operators::operator_text;
+use crate::texts::{push_dotted, push_quoted};
+use std::alloc::AllocError;
+use std::collections::BTreeMap;
+use std::fmt::Write;
+use tera_base::{Key, Value};
+use tera_tree::{
+    Array, ArrayEntry, BinaryOperation, ComponentCall, Expression, Filter, FunctionCall, GetAttr,
+    GetItem, ListComprehension, Map, MapEntry, Slice, Ternary, Test, UnaryOperation, UnaryOperator,
+};
+
+/// An expression where it stands, in parentheses if it breaks what is asked there.
+#[cycle(writing)]
+pub(crate) fn push_expression(
+    out: &mut String,
+    e: &Expression,
+    context: Context,
+) -> Result<(), AllocError>
+    ensures { OnOk result (string_bytes out.new ≡ string_bytes out.old ++ written (expression_view e.now) context) }
+{
+    if !context.bars(e) {
+        return push_bare(out, e, false, context);
+    }
+    out.push_str("( ")?;
+    push_bare(out, e, false, Context::free())?;
+    out.push_str(" )")
+}
+
+// An expression without parentheses around it. A test and `in` may be negated.
+#[cycle(writing)]
+#[tactic(auto, using(tera_tree::proofs::Views::view_const, tera_tree::proofs::Views::view_array, tera_tree::proofs::Views::view_var, tera_tree::proofs::Views::view_get_attr, tera_tree::proofs::Views::view_get_item, tera_tree::proofs::Views::view_slice, tera_tree::proofs::Views::view_filter, tera_tree::proofs::Views::view_test, tera_tree::proofs::Views::view_ternary, tera_tree::proofs::Views::view_comprehension, tera_tree::proofs::Views::view_call, tera_tree::proofs::Views::view_function_call, tera_tree::proofs::Views::view_unary, tera_tree::proofs::Views::view_binary, tera_tree::proofs::Views::view_map))]
+fn push_bare(
+    out: &mut String,
+    e: &Expression,
+    negated: bool,
+    context: Context,
+) -> Result<(), AllocError>
+    ensures { OnOk result (string_bytes out.new ≡ string_bytes out.old ++ text negated (expression_view e.now) context) }
+{
+    match e {
+        Expression::Const(s) => push_constant(out, s.node()),
+        Expression::Array(s) => push_array(out, s.node()),
+        Expression::Map(s) => push_map(out, s.node()),
+        Expression::Var(s) => out.push_str(s.node().name.as_str()),
+        Expression::GetAttr(s) => push_get_attr(out, s.node(), context),
+        Expression::GetItem(s) => push_get_item(out, s.node(), context),
+        Expression::Slice(s) => push_slice(out, s.node(), context),
+        Expression::Filter(s) => push_filter(out, s.node(), context),
+        Expression::Test(s) => push_test(out, s.node(), negated, context),
+        Expression::Ternary(s) => push_ternary(out, s.node(), context),
+        Expression::ListComprehension(s) => push_comprehension(out, s.node()),
+        Expression::ComponentCall(s) => push_component_call(out, s.node()),
+        Expression::FunctionCall(s) => push_function_call(out, s.node()),
+        Expression::UnaryOperation(s) => push_unary(out, s.node(), context),
+        Expression::BinaryOperation(s) => push_binary(out, s.node(), negated, context),
+    }
+}
+
+#[cycle(writing)]
+fn push_array(out: &mut String, array: &Array) -> Result<(), AllocError>
+    ensures { OnOk result (string_bytes out.new ≡ string_bytes out.old ++ (codes "[" ++ (items_text false (items_view array.now.items.items) ++ codes " ]"))) }
+{
+    out.push_str("[")?;
+    push_items(out, &array.items)?;
+    out.push_str(" ]")
+}
+
+#[cycle(writing)]
+fn push_map(out: &mut String, map: &Map) -> Result<(), AllocError>
+    ensures { OnOk result (string_bytes out.new ≡ string_bytes out.old ++ (codes "{" ++ (entries_text false (entries_view map.now.entries.items) ++ codes " }"))) }
+{
+    out.push_str("{")?;
+    push_entries(out, &map.entries)?;
+    out.push_str(" }")
+}
+
+#[cycle(writing)]
+fn push_get_attr(out: &mut String, field: &GetAttr, context: Context) -> Result<(), AllocError>
+    ensures { OnOk result (string_bytes out.new ≡ string_bytes out.old
+        ++ (written (expression_view field.now.expr) (before 21 context) ++ (dot_text field.now.optional ++ string_bytes field.now.name))) }
+{
+    push_expression(out, &field.expr, context.before(21))?;
+    out.push_str(if field.optional { " ?. " } else { " . " })?;
+    out.push_str(field.name.as_str())
+}
+
+#[cycle(writing)]
+fn push_get_item(out: &mut String, field: &GetItem, context: Context) -> Result<(), AllocError>
+    ensures { OnOk result (string_bytes out.new ≡ string_bytes out.old
+        ++ (written (expression_view field.now.expr) (before 21 context)
+        ++ (bracket_text field.now.optional ++ (codes " " ++ (written (expression_view field.now.sub_expr) at.free ++ codes " ]"))))) }
+{
+    push_expression(out, &field.expr, context.before(21))?;
+    push_bracket(out, field.optional)?;
+    out.push_str(" ")?;
+    push_expression(out, &field.sub_expr, Context::free())?;
+    out.push_str(" ]")
+}
+
+#[cycle(writing)]
+fn push_slice(out: &mut String, part: &Slice, context: Context) -> Result<(), AllocError>
+    ensures { OnOk result (string_bytes out.new ≡ string_bytes out.old
+        ++ (written (expression_view part.now.expr) (before 21 context)
+        ++ (bracket_text part.now.optional ++ (maybe_text (codes " ") 0 (maybe_view part.now.start) ++ (codes " :" ++ (maybe_text (codes " ") 0 (maybe_view part.now.end) ++ (maybe_text (codes " : ") 0 (maybe_view part.now.step) ++ codes " ]"))))))) }
+{
+    push_expression(out, &part.expr, context.before(21))?;
+    push_bracket(out, part.optional)?;
+    push_maybe(out, " ", &part.start, Context::free())?;
+    out.push_str(" :")?;
+    push_maybe(out, " ", &part.end, Context::free())?;
+    push_maybe(out, " : ", &part.step, Context::free())?;
+    out.push_str(" ]")
+}
+
+fn push_bracket(out: &mut String, optional: bool) -> Result<(), AllocError>
+    ensures { OnOk result (string_bytes out.new ≡ string_bytes out.old ++ bracket_text optional) }
+{
+    out.push_str(if optional { " ?[" } else { " [" })
+}
+
+#[cycle(writing)]
+fn push_filter(out: &mut String, filter: &Filter, context: Context) -> Result<(), AllocError>
+    ensures { OnOk result (string_bytes out.new ≡ string_bytes out.old
+        ++ (written (expression_view filter.now.expr) (before 18 context)
+        ++ (codes " | " ++ (string_bytes filter.now.name ++ optional_args (args_view filter.now.kwargs.entries) (args_text false (args_view filter.now.kwargs.entries)))))) }
+{
+    push_expression(out, &filter.expr, context.before(18))?;
+    out.push_str(" | ")?;
+    out.push_str(filter.name.as_str())?;
+    push_optional_args(out, &filter.kwargs)
+}
+
+#[cycle(writing)]
+fn push_test(
+    out: &mut String,
+    test: &Test,
+    negated: bool,
+    context: Context,
+) -> Result<(), AllocError>
+    ensures { OnOk result (string_bytes out.new ≡ string_bytes out.old
+        ++ (written (expression_view test.now.expr) (before 6 context)
+        ++ (test_text negated ++ (string_bytes test.now.name ++ optional_args (args_view test.now.kwargs.entries) (args_text false (args_view test.now.kwargs.entries)))))) }
+{
+    push_expression(out, &test.expr, context.before(6))?;
+    out.push_str(if negated { " is not " } else { " is " })?;
+    out.push_str(test.name.as_str())?;
+    push_optional_args(out, &test.kwargs)
+}
+
+#[cycle(writing)]
+fn push_ternary(out: &mut String, choice: &Ternary, context: Context) -> Result<(), AllocError>
+    ensures { OnOk result (string_bytes out.new ≡ string_bytes out.old
+        ++ (written (expression_view choice.now.true_expr) (before 1 context)
+        ++ (codes " if " ++ (written (expression_view choice.now.expr) at.free ++ (codes " else " ++ written (expression_view choice.now.false_expr) (behind 0 context)))))) }
+{
+    push_expression(out, &choice.true_expr, context.before(1))?;
+    out.push_str(" if ")?;
+    push_expression(out, &choice.expr, Context::free())?;
+    out.push_str(" else ")?;
+    push_expression(out, &choice.false_expr, context.behind(0))
+}
+
+#[cycle(writing)]
+fn push_comprehension(out: &mut String, list: &ListComprehension) -> Result<(), AllocError>
+    ensures { OnOk result (string_bytes out.new ≡ string_bytes out.old
+        ++ (codes "[ " ++ (written (expression_view list.now.expr) at.free
+        ++ (codes " for " ++ (names_text (name_view list.now.key) (string_bytes list.now.value) ++ (codes " in " ++ (written (expression_view list.now.target) (above 1) ++ (maybe_text (codes " if ") 1 (maybe_view list.now.condition) ++ codes " ]")))))))) }
+{
+    out.push_str("[ ")?;
+    push_expression(out, &list.expr, Context::free())?;
+    out.push_str(" for ")?;
+    push_names(out, &list.key, list.value.as_str())?;
+    push_target(out, list)
+}
+
+// What a comprehension goes over, to its end.
+#[cycle(writing)]
+fn push_target(out: &mut String, list: &ListComprehension) -> Result<(), AllocError>
+    ensures { OnOk result (string_bytes out.new ≡ string_bytes out.old
+        ++ (codes " in " ++ (written (expression_view list.now.target) (above 1) ++ (maybe_text (codes " if ") 1 (maybe_view list.now.condition) ++ codes " ]")))) }
+{
+    out.push_str(" in ")?;
+    push_expression(out, &list.target, Context::above(1))?;
+    push_maybe(out, " if ", &list.condition, Context::above(1))?;
+    out.push_str(" ]")
+}
+
+// The variables of a comprehension.
+fn push_names(out: &mut String, key: &Option<String>, value: &str) -> Result<(), AllocError>
+    ensures { OnOk result (string_bytes out.new ≡ string_bytes out.old ++ names_text (name_view key.now) value.now) }
+{
+    if let Some(key) = key {
+        out.push_str(key.as_str())?;
+        out.push_str(" , ")?;
+    }
+    out.push_str(value)
+}
+
+#[cycle(writing)]
+fn push_component_call(out: &mut String, call: &ComponentCall) -> Result<(), AllocError>
+    ensures { let c = out-ComponentCall call.now in OnOk result (string_bytes out.new ≡ string_bytes out.old
+        ++ (codes "< " ++ (dotted (string_bytes c.name) ++ (attributes_text (entries_view c.kwargs.items) ++ codes " / >")))) }
+{
+    out.push_str("< ")?;
+    push_dotted(out, call.name.as_str())?;
+    push_attributes(out, &call.kwargs)?;
+    out.push_str(" / >")
+}
+
+#[cycle(writing)]
+fn push_function_call(out: &mut String, call: &FunctionCall) -> Result<(), AllocError>
+    ensures { OnOk result (string_bytes out.new ≡ string_bytes out.old
+        ++ (string_bytes call.now.name ++ (codes " (" ++ (args_text false (args_view call.now.kwargs.entries) ++ codes " )")))) }
+{
+    out.push_str(call.name.as_str())?;
+    push_args(out, &call.kwargs)
+}
+
+#[cycle(writing)]
+fn push_unary(
+    out: &mut String,
+    operation: &UnaryOperation,
+    context: Context,
+) -> Result<(), AllocError>
+    ensures { OnOk result (string_bytes out.new ≡ string_bytes out.old ++ unary_text operation.now.op (expression_view operation.now.expr) context) }
+{
+    match operation.op {
+        UnaryOperator::Minus => {
+            out.push_str("- ")?;
+            push_expression(out, &operation.expr, context.behind_prefix(20))
+        }
+        UnaryOperator::Not => push_negation(out, &operation.expr, context),
+    }
+}
+
+#[cycle(writing)]
+fn push_negation(out: &mut String, e: &Expression, context: Context) -> Result<(), AllocError>
+    ensures { OnOk result (string_bytes out.new ≡ string_bytes out.old ++ unary_text UnaryOperator.Not (expression_view e.now) context) }
+{
+    if takes_negation(e) {
+        return push_bare(out, e, true, context);
+    }
+    out.push_str("not ")?;
+    push_expression(out, e, context.behind_prefix(5))
+}
+
+#[cycle(writing)]
+fn push_binary(
+    out: &mut String,
+    operation: &BinaryOperation,
+    negated: bool,
+    context: Context,
+) -> Result<(), AllocError>
+    ensures { OnOk result (string_bytes out.new ≡ string_bytes out.old
+        ++ (written (expression_view operation.now.left) (before (suc (left_of operation.now.op)) context)
+        ++ (operator_text negated operation.now.op ++ written (expression_view operation.now.right) (behind (right_of operation.now.op) context)))) }
+{
+    let op = operation.op;
+    push_expression(out, &operation.left, context.before_operator(op))?;
+    out.push_str(operator_text(op, negated))?;
+    push_expression(out, &operation.right, context.behind_operator(op))
+}
+
+// An expression that may be there, behind what stands before it.
+#[cycle(writing)]
+fn push_maybe(
+    out: &mut String,
+    before: &str,
+    e: &Option<Expression>,
+    context: Context,
+) -> Result<(), AllocError>
+    ensures { (power : ℕ) → context ≡ above power → OnOk result (string_bytes out.new ≡ string_bytes out.old ++ maybe_text before.now power (maybe_view e.now)) }
+{
+    match e {
+        Some(e) => push_behind(out, before, e, context),
+        None => Ok(()),
+    }
+}
+
+#[cycle(writing)]
+fn push_behind(
+    out: &mut String,
+    before: &str,
+    e: &Expression,
+    context: Context,
+) -> Result<(), AllocError>
+    ensures { OnOk result (string_bytes out.new ≡ string_bytes out.old ++ (before.now ++ written (expression_view e.now) context)) }
+{
+    out.push_str(before)?;
+    push_expression(out, e, context)
+}
+
+// The arguments of a test or a filter, which has parentheses only around some.
+#[cycle(writing)]
+fn push_optional_args(
+    out: &mut String,
+    args: &BTreeMap<String, Expression>,
+) -> Result<(), AllocError>
+    ensures { OnOk result (string_bytes out.new ≡ string_bytes out.old ++ optional_args (args_view args.now.entries) (args_text false (args_view args.now.entries))) }
+{
+    if has_args(args) {
+        push_args(out, args)
+    } else {
+        Ok(())
+    }
+}
+
+#[tactic(auto, using(crate::proofs::Rows::has_none, crate::proofs::Rows::has_some))]
+fn has_args(args: &BTreeMap<String, Expression>) -> bool
+    ensures { result ≡ has_args (args_view args.now.entries) }
+{
+    !args.is_empty()
+}
+
+#[cycle(writing)]
+fn push_args(out: &mut String, args: &BTreeMap<String, Expression>) -> Result<(), AllocError>
+    ensures { OnOk result (string_bytes out.new ≡ string_bytes out.old ++ (codes " (" ++ (args_text false (args_view args.now.entries) ++ codes " )"))) }
+{
+    out.push_str(" (")?;
+    let mut later = false;
+    for (name, e) in args.iter() {
+        push_arg(out, later, name.as_str(), e)?;
+        later = true;
+    }
+    out.push_str(" )")
+}
+
+// One of several arguments.
+#[cycle(writing)]
+fn push_arg(out: &mut String, later: bool, name: &str, e: &Expression) -> Result<(), AllocError>
+    ensures { OnOk result (string_bytes out.new ≡ string_bytes out.old ++ (comma_text later ++ (name.now ++ (codes " = " ++ written (expression_view e.now) at.free)))) }
+{
+    push_comma(out, later)?;
+    out.push_str(name)?;
+    push_behind(out, " = ", e, Context::free())
+}
+
+#[cycle(writing)]
+fn push_items(out: &mut String, items: &Vec<ArrayEntry>) -> Result<(), AllocError>
+    ensures { OnOk result (string_bytes out.new ≡ string_bytes out.old ++ items_text false (items_view items.now.items)) }
+{
+    let mut later = false;
+    for item in items {
+        push_item(out, later, item)?;
+        later = true;
+    }
+    Ok(())
+}
+
+// One of several items.
+#[cycle(writing)]
+fn push_item(out: &mut String, later: bool, item: &ArrayEntry) -> Result<(), AllocError>
+    ensures { OnOk result (string_bytes out.new ≡ string_bytes out.old ++ (comma_text later ++ item_text (item_view item.now))) }
+{
+    push_comma(out, later)?;
+    match item {
+        ArrayEntry::Item(e) => push_expression(out, e, Context::free()),
+        ArrayEntry::Spread(e) => push_behind(out, "... ", e, Context::free()),
+    }
+}
+
+#[cycle(writing)]
+fn push_entries(out: &mut String, entries: &Vec<MapEntry>) -> Result<(), AllocError>
+    ensures { OnOk result (string_bytes out.new ≡ string_bytes out.old ++ entries_text false (entries_view entries.now.items)) }
+{
+    let mut later = false;
+    for entry in entries {
+        push_entry(out, later, entry)?;
+        later = true;
+    }
+    Ok(())
+}
+
+// One of several entries of a map.
+#[cycle(writing)]
+fn push_entry(out: &mut String, later: bool, entry: &MapEntry) -> Result<(), AllocError>
+    ensures { OnOk result (string_bytes out.new ≡ string_bytes out.old ++ (comma_text later ++ entry_text (entry_view entry.now))) }
+{
+    push_comma(out, later)?;
+    match entry {
+        MapEntry::KeyValue { key, value } => push_pair(out, key, value),
+        MapEntry::Spread(e) => push_behind(out, "... ", e, Context::free()),
+    }
+}
+
+#[cycle(writing)]
+fn push_pair(out: &mut String, key: &Key, value: &Expression) -> Result<(), AllocError>
+    ensures { OnOk result (string_bytes out.new ≡ string_bytes out.old ++ (key_source (key_view key.now) ++ (codes " : " ++ written (expression_view value.now) at.free))) }
+{
+    push_key(out, key)?;
+    push_behind(out, " : ", value, Context::free())
+}
+
+#[cycle(writing)]
+fn push_attributes(out: &mut String, attributes: &Vec<MapEntry>) -> Result<(), AllocError>
+    ensures { OnOk result (string_bytes out.new ≡ string_bytes out.old ++ attributes_text (entries_view attributes.now.items)) }
+{
+    for attribute in attributes {
+        out.push_str(" ")?;
+        push_attribute(out, attribute)?;
+    }
+    Ok(())
+}
+
+#[cycle(writing)]
+fn push_attribute(out: &mut String, attribute: &MapEntry) -> Result<(), AllocError>
+    ensures { OnOk result (string_bytes out.new ≡ string_bytes out.old ++ one_attribute (entry_view attribute.now)) }
+{
+    match attribute {
+        MapEntry::KeyValue { key, value } => push_named(out, key, value),
+        MapEntry::Spread(e) => push_braced(out, "{ ... ", e),
+    }
+}
+
+// A name alone is the variable of that name.
+#[cycle(writing)]
+fn push_named(out: &mut String, name: &Key, value: &Expression) -> Result<(), AllocError>
+    ensures { OnOk result (string_bytes out.new ≡ string_bytes out.old ++ attribute_text (key_view name.now) (expression_view value.now) (written (expression_view value.now) at.free)) }
+{
+    write!(out, "{name}")?;
+    if is_bare(name, value) {
+        return Ok(());
+    }
+    out.push_str(" = ")?;
+    push_attribute_value(out, value)
+}
+
+#[tactic(auto, using(tera_tree::proofs::Views::view_var))]
+fn is_bare(name: &Key, value: &Expression) -> bool
+    ensures { result ≡ is_bare (key_view name.now) (expression_view value.now) }
+{
+    match (name, value) {
+        (Key::String(name), Expression::Var(variable)) => *name == variable.node().name,
+        _ => false,
+    }
+}
+
+#[cycle(writing)]
+fn push_attribute_value(out: &mut String, value: &Expression) -> Result<(), AllocError>
+    ensures { OnOk result (string_bytes out.new ≡ string_bytes out.old ++ attribute_value (expression_view value.now) (written (expression_view value.now) at.free)) }
+{
+    if let Expression::Const(s) = value
+        && let Value::String(text) = s.node()
+    {
+        return push_quoted(out, text.as_str());
+    }
+    push_braced(out, "{ ", value)
+}
+
+// An expression in braces, of which the first is given.
+#[cycle(writing)]
+fn push_braced(out: &mut String, brace: &str, e: &Expression) -> Result<(), AllocError>
+    ensures { OnOk result (string_bytes out.new ≡ string_bytes out.old ++ (brace.now ++ (written (expression_view e.now) at.free ++ codes " }"))) }
+{
+    push_behind(out, brace, e, Context::free())?;
+    out.push_str(" }")
+}
