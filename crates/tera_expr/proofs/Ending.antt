@@ -18,7 +18,8 @@ use Rattle.tera_grammar.specs.expressions.Reading.Whole.{path_of}
 use Rattle.tera_grammar.proofs.Options.{bound}
 use Rattle.tera_grammar.proofs.expressions.Fronts.{skip_none}
 use Rattle.tera_grammar.proofs.expressions.Wholes.{left_over_ok}
-use Rattle.tera_parts.specs.Paths.{GivesPath}
+use Rattle.tera_expect.specs.Taking.{GivesBy}
+use Rattle.tera_reader.specs.Outermost.{IsComponent}
 
 dotted_at_ends : (more : Place → Reads Dotted) → ((p : Place) (x : Dotted × Place) → more p ≡ Some x → skip Dot x.1 ≡ None)
     → (p : Place) (o : Reads Span) → skip Dot p ≡ o → (x : Dotted × Place) → dotted_at more p o ≡ Some x → skip Dot x.1 ≡ None
@@ -58,6 +59,6 @@ not_taken items none = λ there. let (span, behind, is) = there in none-some _ (
 pub path_ends : (items : Items) (x : Path × Items) → path_of items ≡ Some x → EndsPath x.1
 path_ends items x h = not_taken x.1 (no_dot_behind items x h)
 
-pub path_ended : (old new : Items) (r : Result (String Global) Error) → GivesPath old r new → IfOk r (λ _. EndsPath new)
+pub path_ended : (old new : Items) (r : Result (String Global) Error) → GivesBy IsComponent r new (path_of old) → IfOk r (λ _. EndsPath new)
 path_ended old new (Ok s) (x, read, shows) = path_ends old (x, new) read
 path_ended old new (Err e) gives = tt

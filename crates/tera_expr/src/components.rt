@@ -10,7 +10,6 @@ ghost use Rattle.tera_expr.specs.Promises.{TakesOnly, TookPath};
 use std::alloc::Global;
 use tera_base::Error;
 use tera_lexer::Cursor;
-use tera_parts::dotted_name;
 
 /// Reads names joined by dots.
 ///
@@ -27,5 +26,5 @@ pub fn component_name(alloc: Global, cursor: &mut Cursor<'_>) -> Result<String, 
     ensures refusal { IfErr result (RefusesFrom cursor.old) }
     ensures later { IfOk result (λ _. IsLater cursor.old cursor.new) }
 {
-    dotted_name(alloc, cursor)
+    tera_reader::component_name(alloc, cursor)
 }

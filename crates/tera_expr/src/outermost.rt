@@ -34,11 +34,8 @@ ghost use Rattle.tera_parts.specs.Rooms.{AreValid, limits_of};
 use std::alloc::Global;
 use std::collections::BTreeMap;
 use tera_base::{Error, Value};
-use tera_expect::{Fixed, expect};
 use tera_lexer::Cursor;
-use tera_parts::{Limits, Scope, Values, constant, leaves, reported_from};
-use tera_reader::arguments::arguments;
-use tera_reader::{array, filter_with, map};
+use tera_parts::{Limits, Scope};
 use tera_tree::{Expression, MapEntry};
 
 /// Reads the attributes of a call of a component, as many as stand there.
@@ -60,15 +57,14 @@ pub fn attributes(
     ensures refusal { IfErr result (RefusesFrom cursor.old) }
     ensures later { IfOk result (λ _. IsLater cursor.old cursor.new) }
 {
-    let mut links = 0;
-    tera_reader::attributes(alloc, cursor, &mut links, Values::outermost(scope))
+    tera_reader::attributes(alloc, cursor, scope)
 }
 
 /// Reads arguments with their parentheses.
 ///
 /// Each argument is an expression with limits of its own. An error is the lexical fault, the end of the input, a
 /// syntax error, or `Memory`. After an error the cursor is not used again.
-#[tactic(auto, using(tera_expect::proofs::Going::refused, tera_expect::proofs::Going::later, tera_expect::proofs::Going::took_all, tera_expect::proofs::Going::refused_behind))]
+#[tactic(auto, using(tera_expect::proofs::Going::refused, tera_expect::proofs::Going::later))]
 pub fn kwargs(
     alloc: Global,
     cursor: &mut Cursor<'_>,
@@ -83,16 +79,14 @@ pub fn kwargs(
     ensures refusal { IfErr result (RefusesFrom cursor.old) }
     ensures later { IfOk result (λ _. IsLater cursor.old cursor.new) }
 {
-    expect(alloc, cursor, Fixed::LeftParen)?;
-    let mut links = 0;
-    arguments(alloc, cursor, &mut links, Values::outermost(scope))
+    tera_reader::kwargs(alloc, cursor, scope)
 }
 
 /// Reads the name of a filter and its arguments. What it filters is no value, at the token taken last before.
 ///
 /// Each argument is an expression with limits of its own. An error is the lexical fault, the end of the input, a
 /// syntax error, or `Memory`. After an error the cursor is not used again.
-#[tactic(auto, using(tera_expect::proofs::Going::refused, tera_expect::proofs::Going::later, tera_expect::proofs::Going::memory_refused))]
+#[tactic(auto, using(tera_expect::proofs::Going::refused, tera_expect::proofs::Going::later))]
 pub fn filter(alloc: Global, cursor: &mut Cursor<'_>, scope: Scope) -> Result<Expression, Error>
     requires { AreValid (limits_of scope.limits) }
     // What was taken are the tokens of a filter within the limits, and it is returned.
@@ -103,16 +97,14 @@ pub fn filter(alloc: Global, cursor: &mut Cursor<'_>, scope: Scope) -> Result<Ex
     ensures refusal { IfErr result (RefusesFrom cursor.old) }
     ensures later { IfOk result (λ _. IsLater cursor.old cursor.new) }
 {
-    let input = leaves::none(alloc, cursor.current_span().copied())?;
-    let mut links = 0;
-    filter_with(alloc, cursor, &mut links, Values::outermost(scope), input)
+    tera_reader::filter(alloc, cursor, scope)
 }
 
 /// Reads an array of constants from its bracket on.
 ///
 /// Each value is an expression with limits of its own. An error is the lexical fault, the end of the input, a syntax
 /// error, or `Memory`. After an error the cursor is not used again.
-#[tactic(auto, using(tera_expect::proofs::Going::took_all, tera_expect::proofs::Going::refused_behind, tera_expect::proofs::Going::refused, tera_expect::proofs::Going::later))]
+#[tactic(auto, using(tera_expect::proofs::Going::refused, tera_expect::proofs::Going::later))]
 pub fn literal_array(alloc: Global, cursor: &mut Cursor<'_>, limits: Limits) -> Result<Value, Error>
     requires { AreValid (limits_of limits) }
     // What was taken are the tokens of an array of constants within the limits, and its value is returned.
@@ -123,31 +115,14 @@ pub fn literal_array(alloc: Global, cursor: &mut Cursor<'_>, limits: Limits) -> 
     ensures refusal { IfErr result (RefusesFrom cursor.old) }
     ensures later { IfOk result (λ _. IsLater cursor.old cursor.new) }
 {
-    expect(alloc, cursor, Fixed::LeftBracket)?;
-    let first = cursor.current_span().copied();
-    let mut links = 0;
-    let values = Values::outermost(Scope {
-        in_loop: false,
-        limits,
-    });
-    let array = array(alloc, cursor, &mut links, values, &first)?;
-    match constant(array) {
-        Some(value) => Ok(value),
-        None => {
-            let message = String::from_str(
-                alloc,
-                "Invalid default argument: this array should only contain literal values.",
-            );
-            Err(reported_from(alloc, cursor, &first, message))
-        }
-    }
+    tera_reader::literal_array(alloc, cursor, limits)
 }
 
 /// Reads a map of constants from its brace on; a fault tells of what it stands in as the context.
 ///
 /// Each value is an expression with limits of its own. An error is the lexical fault, the end of the input, a syntax
 /// error, or `Memory`. After an error the cursor is not used again.
-#[tactic(auto, using(tera_expect::proofs::Going::took_all, tera_expect::proofs::Going::refused_behind, tera_expect::proofs::Going::refused, tera_expect::proofs::Going::later))]
+#[tactic(auto, using(tera_expect::proofs::Going::refused, tera_expect::proofs::Going::later))]
 pub fn literal_map(
     alloc: Global,
     cursor: &mut Cursor<'_>,
@@ -163,21 +138,5 @@ pub fn literal_map(
     ensures refusal { IfErr result (RefusesFrom cursor.old) }
     ensures later { IfOk result (λ _. IsLater cursor.old cursor.new) }
 {
-    expect(alloc, cursor, Fixed::LeftBrace)?;
-    let first = cursor.current_span().copied();
-    let mut links = 0;
-    let values = Values::outermost(Scope {
-        in_loop: false,
-        limits,
-    });
-    let map = map(alloc, cursor, &mut links, values, &first)?;
-    match constant(map) {
-        Some(value) => Ok(value),
-        None => {
-            let message = format!(in alloc;
-                "Invalid {context}: this map should only contain literal values."
-            );
-            Err(reported_from(alloc, cursor, &first, message))
-        }
-    }
+    tera_reader::literal_map(alloc, cursor, context, limits)
 }

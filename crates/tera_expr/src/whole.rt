@@ -15,7 +15,7 @@ ghost use Rattle.tera_parts.specs.Rooms.{AreValid, limits_of};
 use std::alloc::Global;
 use tera_base::Error;
 use tera_lexer::Cursor;
-use tera_parts::{Room, Scope};
+use tera_parts::Scope;
 use tera_tree::Expression;
 
 /// Reads an expression.
@@ -33,7 +33,5 @@ pub fn expression(alloc: Global, cursor: &mut Cursor<'_>, scope: Scope) -> Resul
     ensures refusal { IfErr result (RefusesFrom cursor.old) }
     ensures later { IfOk result (λ _. IsLater cursor.old cursor.new) }
 {
-    let mut links = scope.limits.links;
-    let room = Room::widest(scope);
-    tera_reader::expression(alloc, cursor, &mut links, room, scope.limits.depth, 0)
+    tera_reader::expression(alloc, cursor, scope)
 }

@@ -11,3 +11,7 @@ pub mod Calling
 pub mod Pairing
 pub mod Attributing
 pub mod Closing
+pub mod LiteralMaps
+pub mod LiteralArrays
+pub mod Ranges
+pub mod OutermostLemmas

@@ -4,3 +4,4 @@ pub mod Elements
 pub mod Chains
 pub mod Calls
 pub mod Attributes
+pub mod Outermost

@@ -27,7 +27,7 @@ use tera_tree::{ArrayEntry, Expression, build};
 /// An array or a comprehension, behind its bracket, which stands at the span and was taken last.
 #[cycle(reader)]
 #[tactic(auto, using(tera_expect::proofs::Going::took_all, tera_expect::proofs::Going::refused_behind, tera_expect::proofs::Going::memory_refused, crate::proofs::Arraying::array_negatable))]
-pub fn array(
+pub(crate) fn array(
     alloc: Global,
     cursor: &mut Cursor<'_>,
     links: &mut usize,

@@ -91,7 +91,7 @@ fn test(
 /// A filter of an expression, whose name comes next.
 #[cycle(reader)]
 #[tactic(auto, using(tera_expect::proofs::Going::refused_behind, tera_expect::proofs::Going::memory_refused))]
-pub fn filter_with(
+pub(crate) fn filter_with(
     alloc: Global,
     cursor: &mut Cursor<'_>,
     links: &mut usize,

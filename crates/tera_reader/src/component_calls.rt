@@ -67,7 +67,7 @@ fn begins_name(cursor: &Cursor<'_>) -> bool
 /// The attributes of a call of a component.
 #[cycle(reader)]
 #[tactic(auto, using(tera_expect::proofs::Going::stays, tera_expect::proofs::Going::goes_took, tera_expect::proofs::Going::took_goes, tera_expect::proofs::Going::refused_further, tera_expect::proofs::Going::memory_refused))]
-pub fn attributes(
+pub(crate) fn attributes(
     alloc: Global,
     cursor: &mut Cursor<'_>,
     links: &mut usize,

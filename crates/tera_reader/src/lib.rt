@@ -1,19 +1,18 @@
 //! Reads expressions over a stack of those that are open, and what stands in them between brackets.
 #![tactic(auto)]
 
-pub mod arguments;
+mod arguments;
 mod arrays;
 mod calls;
 mod chains;
 mod component_calls;
 mod frames;
 mod maps;
+mod outermost;
 mod rows;
 mod stack;
 mod subscripts;
 
-pub use arrays::array;
-pub use calls::filter_with;
-pub use component_calls::attributes;
-pub use maps::map;
-pub use stack::expression;
+pub use outermost::{
+    attributes, component_name, expression, filter, kwargs, literal_array, literal_map,
+};

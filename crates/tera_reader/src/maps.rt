@@ -24,7 +24,7 @@ use tera_tree::{Expression, MapEntry};
 /// A map, behind its brace, which stands at the span and was taken last.
 #[cycle(reader)]
 #[tactic(auto, using(tera_expect::proofs::Going::took_all, tera_expect::proofs::Going::took_goes, tera_expect::proofs::Going::goes_took, tera_expect::proofs::Going::refused_behind, tera_expect::proofs::Going::refused_further, tera_expect::proofs::Going::memory_refused, tera_expect::proofs::Going::stays))]
-pub fn map(
+pub(crate) fn map(
     alloc: Global,
     cursor: &mut Cursor<'_>,
     links: &mut usize,

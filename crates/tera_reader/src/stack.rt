@@ -33,7 +33,7 @@ use tera_tree::{Expression, UnaryOperator, build};
 
 /// Reads an expression, from a least power on, where so many may open.
 #[cycle(reader)]
-pub fn expression(
+pub(crate) fn expression(
     alloc: Global,
     cursor: &mut Cursor<'_>,
     links: &mut usize,

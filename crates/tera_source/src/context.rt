@@ -6,7 +6,9 @@ ghost use Rattle.tera_tree.specs.View.{expression_view};
 ghost use Rattle.tera_source.specs.Contexts as at;
 ghost use Rattle.tera_source.specs.Contexts.{left_of, right_of, prefix_breaks, operator_breaks, is_negative, takes_negation, unary_breaks, breaks};
 
-use crate::operators::{left_power, right_power};
+use crate::operators::{
+    FILTER_POWER, MINUS_POWER, NEGATION_POWER, TERNARY_POWER, TEST_POWER, left_power, right_power,
+};
 use tera_base::Value;
 use tera_tree::{BinaryOperator, Expression, UnaryOperation, UnaryOperator};
 
@@ -91,10 +93,10 @@ impl Context {
         ensures { result ≡ breaks (expression_view e.now) self }
     {
         match e {
-            Expression::Const(s) => is_negative(s.node()) && self.bars_prefix(20),
-            Expression::Filter(_) => 17 < self.left,
-            Expression::Test(_) => 5 < self.left,
-            Expression::Ternary(_) => self.bars_operator(0, 0),
+            Expression::Const(s) => is_negative(s.node()) && self.bars_prefix(MINUS_POWER),
+            Expression::Filter(_) => FILTER_POWER < self.left,
+            Expression::Test(_) => TEST_POWER < self.left,
+            Expression::Ternary(_) => self.bars_operator(TERNARY_POWER, TERNARY_POWER),
             Expression::UnaryOperation(s) => self.bars_unary(s.node()),
             Expression::BinaryOperation(s) => self.bars_binary(s.node().op),
             _ => false,
@@ -106,7 +108,7 @@ impl Context {
         ensures { result ≡ unary_breaks operation.now.op (expression_view operation.now.expr) self }
     {
         match operation.op {
-            UnaryOperator::Minus => self.bars_prefix(20),
+            UnaryOperator::Minus => self.bars_prefix(MINUS_POWER),
             UnaryOperator::Not => self.bars_negation(&operation.expr),
         }
     }
@@ -115,12 +117,12 @@ impl Context {
         ensures { result ≡ unary_breaks UnaryOperator.Not (expression_view e.now) self }
     {
         match e {
-            Expression::Test(_) => 5 < self.left,
+            Expression::Test(_) => TEST_POWER < self.left,
             Expression::BinaryOperation(s) => match s.node().op {
-                BinaryOperator::In => self.bars_operator(5, 6),
-                _ => self.bars_prefix(5),
+                BinaryOperator::In => self.bars_binary(BinaryOperator::In),
+                _ => self.bars_prefix(NEGATION_POWER),
             },
-            _ => self.bars_prefix(5),
+            _ => self.bars_prefix(NEGATION_POWER),
         }
     }
 

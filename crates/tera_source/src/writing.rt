@@ -10,7 +10,9 @@ ghost use Rattle.tera_source.specs.Writing.{comma_text, dotted, dot_text, bracke
 
 use crate::constants::{push_comma, push_constant, push_key};
 use crate::context::{Context, takes_negation};
-use crate::operators::operator_text;
+use crate::operators::{
+    CLOSED, FILTER_POWER, MINUS_POWER, NEGATION_POWER, TERNARY_POWER, TEST_POWER, operator_text,
+};
 use crate::texts::{push_dotted, push_quoted};
 use std::alloc::AllocError;
 use std::collections::BTreeMap;
@@ -91,7 +93,7 @@ fn push_get_attr(out: &mut String, field: &GetAttr, context: Context) -> Result<
     ensures { OnOk result (string_bytes out.new ≡ string_bytes out.old
         ++ (written (expression_view field.now.expr) (before 21 context) ++ (dot_text field.now.optional ++ string_bytes field.now.name))) }
 {
-    push_expression(out, &field.expr, context.before(21))?;
+    push_expression(out, &field.expr, context.before(CLOSED))?;
     out.push_str(if field.optional { " ?. " } else { " . " })?;
     out.push_str(field.name.as_str())
 }
@@ -102,7 +104,7 @@ fn push_get_item(out: &mut String, field: &GetItem, context: Context) -> Result<
         ++ (written (expression_view field.now.expr) (before 21 context)
         ++ (bracket_text field.now.optional ++ (codes " " ++ (written (expression_view field.now.sub_expr) at.free ++ codes " ]"))))) }
 {
-    push_expression(out, &field.expr, context.before(21))?;
+    push_expression(out, &field.expr, context.before(CLOSED))?;
     push_bracket(out, field.optional)?;
     out.push_str(" ")?;
     push_expression(out, &field.sub_expr, Context::free())?;
@@ -115,7 +117,7 @@ fn push_slice(out: &mut String, part: &Slice, context: Context) -> Result<(), Al
         ++ (written (expression_view part.now.expr) (before 21 context)
         ++ (bracket_text part.now.optional ++ (maybe_text (codes " ") 0 (maybe_view part.now.start) ++ (codes " :" ++ (maybe_text (codes " ") 0 (maybe_view part.now.end) ++ (maybe_text (codes " : ") 0 (maybe_view part.now.step) ++ codes " ]"))))))) }
 {
-    push_expression(out, &part.expr, context.before(21))?;
+    push_expression(out, &part.expr, context.before(CLOSED))?;
     push_bracket(out, part.optional)?;
     push_maybe(out, " ", &part.start, Context::free())?;
     out.push_str(" :")?;
@@ -136,7 +138,7 @@ fn push_filter(out: &mut String, filter: &Filter, context: Context) -> Result<()
         ++ (written (expression_view filter.now.expr) (before 18 context)
         ++ (codes " | " ++ (string_bytes filter.now.name ++ optional_args (args_view filter.now.kwargs.entries) (args_text false (args_view filter.now.kwargs.entries)))))) }
 {
-    push_expression(out, &filter.expr, context.before(18))?;
+    push_expression(out, &filter.expr, context.before(FILTER_POWER + 1))?;
     out.push_str(" | ")?;
     out.push_str(filter.name.as_str())?;
     push_optional_args(out, &filter.kwargs)
@@ -153,7 +155,7 @@ fn push_test(
         ++ (written (expression_view test.now.expr) (before 6 context)
         ++ (test_text negated ++ (string_bytes test.now.name ++ optional_args (args_view test.now.kwargs.entries) (args_text false (args_view test.now.kwargs.entries)))))) }
 {
-    push_expression(out, &test.expr, context.before(6))?;
+    push_expression(out, &test.expr, context.before(TEST_POWER + 1))?;
     out.push_str(if negated { " is not " } else { " is " })?;
     out.push_str(test.name.as_str())?;
     push_optional_args(out, &test.kwargs)
@@ -165,11 +167,11 @@ fn push_ternary(out: &mut String, choice: &Ternary, context: Context) -> Result<
         ++ (written (expression_view choice.now.true_expr) (before 1 context)
         ++ (codes " if " ++ (written (expression_view choice.now.expr) at.free ++ (codes " else " ++ written (expression_view choice.now.false_expr) (behind 0 context)))))) }
 {
-    push_expression(out, &choice.true_expr, context.before(1))?;
+    push_expression(out, &choice.true_expr, context.before(TERNARY_POWER + 1))?;
     out.push_str(" if ")?;
     push_expression(out, &choice.expr, Context::free())?;
     out.push_str(" else ")?;
-    push_expression(out, &choice.false_expr, context.behind(0))
+    push_expression(out, &choice.false_expr, context.behind(TERNARY_POWER))
 }
 
 #[cycle(writing)]
@@ -192,8 +194,13 @@ fn push_target(out: &mut String, list: &ListComprehension) -> Result<(), AllocEr
         ++ (codes " in " ++ (written (expression_view list.now.target) (above 1) ++ (maybe_text (codes " if ") 1 (maybe_view list.now.condition) ++ codes " ]")))) }
 {
     out.push_str(" in ")?;
-    push_expression(out, &list.target, Context::above(1))?;
-    push_maybe(out, " if ", &list.condition, Context::above(1))?;
+    push_expression(out, &list.target, Context::above(TERNARY_POWER + 1))?;
+    push_maybe(
+        out,
+        " if ",
+        &list.condition,
+        Context::above(TERNARY_POWER + 1),
+    )?;
     out.push_str(" ]")
 }
 
@@ -239,7 +246,7 @@ fn push_unary(
     match operation.op {
         UnaryOperator::Minus => {
             out.push_str("- ")?;
-            push_expression(out, &operation.expr, context.behind_prefix(20))
+            push_expression(out, &operation.expr, context.behind_prefix(MINUS_POWER))
         }
         UnaryOperator::Not => push_negation(out, &operation.expr, context),
     }
@@ -253,7 +260,7 @@ fn push_negation(out: &mut String, e: &Expression, context: Context) -> Result<(
         return push_bare(out, e, true, context);
     }
     out.push_str("not ")?;
-    push_expression(out, e, context.behind_prefix(5))
+    push_expression(out, e, context.behind_prefix(NEGATION_POWER))
 }
 
 #[cycle(writing)]

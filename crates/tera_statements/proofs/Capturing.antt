@@ -1,12 +1,12 @@
 -- Reading the statements that take their body as a value.
-use Rattle.std.proofs.Common.{◌≡◌, ℕ, Bool, true, false, List, ◌∷◌, Option, Some, None, refl, sym, ap, ◌∙◌}
+use Rattle.std.proofs.Common.{◌≡◌, Bool, true, false, ◌∷◌, Option, Some, None, refl, sym, ap, ◌∙◌}
 use Rattle.std.specs.Str.{bytes_eq}
 use Rattle.tera_base.specs.declared.utils.Span.{Span}
 use Rattle.tera_lexer.specs.grammar.Tokens.{Items}
-use Rattle.tera_grammar.specs.Options.{◌>>=◌, guard}
+use Rattle.tera_grammar.specs.Options.{◌>>=◌}
 use Rattle.tera_grammar.specs.expressions.Operators.{GreaterThan}
 use Rattle.tera_grammar.specs.expressions.Marks.{Bar, Assign, Operation}
-use Rattle.tera_grammar.specs.expressions.Reading.Front.{Takes, takes}
+use Rattle.tera_grammar.specs.expressions.Reading.Front.{takes}
 use Rattle.tera_grammar.specs.statements.Expressions.{Limits, Expression, Filtering, Attributes, ComponentName, attributes_of, component_of, component_text, expression_of, filter_of}
 use Rattle.tera_grammar.specs.statements.Grammar.{Body, Item, Single, Set, Capturing, InCapture, Path, in_loop}
 use Rattle.tera_grammar.specs.statements.Heads.{Filters, NoFilters, SetBody, Section, CallBody}
@@ -16,12 +16,11 @@ use Rattle.tera_grammar.specs.statements.Reading.{Place, Reader, Reads, at, call
 use Rattle.tera_grammar.specs.statements.Reading.Heads.{filters_in, filters_of, free_name}
 use Rattle.tera_grammar.specs.statements.Reading.Parts.{closed, closed_tag, finish_of, tag}
 use Rattle.tera_grammar.specs.statements.Reading.Components.{is_name}
-use Rattle.tera_grammar.proofs.Options.{bind_both}
 use Rattle.tera_grammar.proofs.statements.Expressions.{component_begins, component_stands}
 use Rattle.tera_grammar.proofs.statements.Heads.{filters_steps}
 use Rattle.tera_statements.specs.Captures.{IsNone}
-use Rattle.tera_statements.specs.Following.{followed}
-use Rattle.tera_statements.proofs.Following.{no_second, regrouped}
+use Rattle.tera_statements.specs.Heads.{attributes_to_end, expression_to_end, filters_to_end, section_to_end}
+use Rattle.tera_statements.proofs.Ending.{filters_unended, one_to_end, two_to_end}
 
 module _ (l : Limits) (self : Reader) (path : Path) (global : Bool) (start : Edge) (first : Span) (seen : Names) where
   -- behind the name comes a value, or not
@@ -35,146 +34,128 @@ module _ (l : Limits) (self : Reader) (path : Path) (global : Bool) (start : Edg
   set_named ts us n o named is = rw (named, is) refl
 
   module _ (n : Name) (items : Items) (sign : Span) (us : Items) where
-    abbrev value_of : Takes (Expression × Edge)
-    value_of = followed (expression_of l (in_loop path) us) finish_of
+    abbrev with_value : Reads Item
+    with_value = set_behind l self path global start first seen n items (Some (sign, us))
 
-    abbrev value_item : (Expression × Edge) × Items → Reads Item
-    value_item x = Some (Single (Set global (tag start first x.0.1) n sign x.0.0), at seen x.1)
+    abbrev value_set : (Expression × Edge) × Items → Reads Item
+    value_set x = Some (Single (Set global (tag start first x.0.1) n sign x.0.0), at seen x.1)
 
-    value_is : set_behind l self path global start first seen n items (Some (sign, us)) ≡ (value_of >>= value_item)
-    unfolding set_behind
-    value_is = regrouped value_item (expression_of l (in_loop path) us) finish_of
+    value_is : with_value ≡ (expression_to_end l (in_loop path) us >>= value_set)
+    unfolding set_behind expression_to_end
+    value_is = sym (one_to_end (expression_of l (in_loop path) us) value_set)
 
-    pub no_value : value_of ≡ None → set_behind l self path global start first seen n items (Some (sign, us)) ≡ None
-    no_value h = value_is ∙ ap (λ o. o >>= value_item) h
+    pub no_value : expression_to_end l (in_loop path) us ≡ None → with_value ≡ None
+    no_value h = value_is ∙ ap (λ o. o >>= value_set) h
 
-    pub value_given : (x : Expression × Edge) (vs : Items) → value_of ≡ Some (x, vs)
-        → set_behind l self path global start first seen n items (Some (sign, us)) ≡ Some (Single (Set global (tag start first x.1) n sign x.0), at seen vs)
-    value_given x vs h = value_is ∙ ap (λ o. o >>= value_item) h
+    pub value_given : (x : Expression × Edge) (vs : Items) → expression_to_end l (in_loop path) us ≡ Some (x, vs)
+        → with_value ≡ Some (Single (Set global (tag start first x.1) n sign x.0), at seen vs)
+    value_given x vs h = value_is ∙ ap (λ o. o >>= value_set) h
 
   module _ (n : Name) (ts : Items) where
-    abbrev pub set_filters : Takes (Filters × Edge)
-    set_filters = followed (filters_of l (in_loop path) ts) finish_of
+    abbrev with_body : Reads Item
+    with_body = set_behind l self path global start first seen n ts None
 
     abbrev set_inside : (Filters × Edge) × Items → Reads Item
     set_inside x =
         self (InCapture ∷ path) (at seen x.1) >>= λ b. closed_tag AtEndSet b.1.tokens >>= λ e.
         Some (Capturing (SetBody global (tag start first x.0.1) n x.0.0 e.0) b.0, at b.1.seen e.1)
 
-    set_is : set_behind l self path global start first seen n ts None ≡ (set_filters >>= set_inside)
-    unfolding set_behind
-    set_is = regrouped set_inside (filters_of l (in_loop path) ts) finish_of
+    set_is : with_body ≡ (filters_to_end l (in_loop path) ts >>= set_inside)
+    unfolding set_behind filters_to_end
+    set_is = sym (one_to_end (filters_of l (in_loop path) ts) set_inside)
 
-    pub no_filters : set_filters ≡ None → set_behind l self path global start first seen n ts None ≡ None
-    no_filters h = set_is ∙ ap (λ o. o >>= set_inside) h
+    pub set_unended : filters_to_end l (in_loop path) ts ≡ None → with_body ≡ None
+    set_unended h = set_is ∙ ap (λ o. o >>= set_inside) h
 
-    module _ (x : Filters × Edge) (us : Items) (read : set_filters ≡ Some (x, us)) where
-      set_so : set_behind l self path global start first seen n ts None ≡ set_inside (x, us)
+    module _ (x : Filters × Edge) (us : Items) (read : filters_to_end l (in_loop path) ts ≡ Some (x, us)) where
+      set_so : with_body ≡ set_inside (x, us)
       set_so = set_is ∙ ap (λ o. o >>= set_inside) read
 
-      pub set_empty : self (InCapture ∷ path) (at seen us) ≡ None → set_behind l self path global start first seen n ts None ≡ None
+      pub set_empty : self (InCapture ∷ path) (at seen us) ≡ None → with_body ≡ None
       set_empty h = set_so ∙ rw h refl
 
       module _ (b : Body) (p : Place) (inside : self (InCapture ∷ path) (at seen us) ≡ Some (b, p)) where
-        pub set_unclosed : closed_tag AtEndSet p.tokens ≡ None → set_behind l self path global start first seen n ts None ≡ None
+        pub set_unclosed : closed_tag AtEndSet p.tokens ≡ None → with_body ≡ None
         set_unclosed h = set_so ∙ rw (inside, h) refl
 
-        pub set_given : (e : Tag) (ws : Items) → closed_tag AtEndSet p.tokens ≡ Some (e, ws)
-            → set_behind l self path global start first seen n ts None ≡ Some (Capturing (SetBody global (tag start first x.1) n x.0 e) b, at p.seen ws)
-        set_given e ws h = set_so ∙ rw (inside, h) refl
+        pub set_given : (e : Tag) (vs : Items) → closed_tag AtEndSet p.tokens ≡ Some (e, vs)
+            → with_body ≡ Some (Capturing (SetBody global (tag start first x.1) n x.0 e) b, at p.seen vs)
+        set_given e vs h = set_so ∙ rw (inside, h) refl
 
     -- neither filters nor the end of the tag
     none_there : takes Bar ts ≡ None → filters_of l (in_loop path) ts ≡ Some (NoFilters, ts)
     unfolding filters_in
     none_there h = filters_steps l (in_loop path) ts ∙ ap (filters_in (filters_of l (in_loop path)) l (in_loop path) ts) h
 
-    pub set_without : IsNone ts → set_behind l self path global start first seen n ts None ≡ None
-    set_without h = no_filters (no_second (filters_of l (in_loop path) ts) finish_of (NoFilters, ts) (none_there h.bar) h.finish)
+    pub set_without : IsNone ts → with_body ≡ None
+    set_without h = set_unended (filters_unended l (in_loop path) ts NoFilters ts (none_there h.bar) h.finish)
 
 module _ (l : Limits) (self : Reader) (path : Path) (start : Edge) (first : Span) (seen : Names) (ts : Items) where
-  abbrev other_filters : Items → Takes (Filters × Edge)
-  other_filters items = followed (filters_of l (in_loop path) items) finish_of
+  abbrev section : Reads Item
+  section = section_of l self path start first seen ts
 
-  abbrev pub section_filters : Takes (Filtering × (Filters × Edge))
-  section_filters = followed (filter_of l (in_loop path) ts) other_filters
-
-  abbrev section_inside : (Filtering × (Filters × Edge)) × Items → Reads Item
+  abbrev section_inside : (Filtering × Filters × Edge) × Items → Reads Item
   section_inside x =
       self (InCapture ∷ path) (at seen x.1) >>= λ b. closed_tag AtEndFilter b.1.tokens >>= λ e.
-      Some (Capturing (Section (tag start first x.0.1.1) x.0.0 x.0.1.0 e.0) b.0, at b.1.seen e.1)
+      Some (Capturing (Section (tag start first x.0.2) x.0.0 x.0.1 e.0) b.0, at b.1.seen e.1)
 
-  abbrev behind_filter : Filtering × Items → (Filters × Edge) × Items → Reads Item
-  behind_filter g x = section_inside ((g.0, x.0), x.1)
+  section_is : section ≡ (section_to_end l (in_loop path) ts >>= section_inside)
+  unfolding section_of section_to_end
+  section_is = sym (two_to_end (filter_of l (in_loop path) ts) (filters_of l (in_loop path)) section_inside)
 
-  abbrev one_by_one : Filtering × Items → Reads Item
-  one_by_one g = filters_of l (in_loop path) g.1 >>= λ fs. finish_of fs.1 >>= λ f. behind_filter g ((fs.0, f.0), f.1)
+  pub section_unended : section_to_end l (in_loop path) ts ≡ None → section ≡ None
+  section_unended h = section_is ∙ ap (λ o. o >>= section_inside) h
 
-  abbrev at_once : Filtering × Items → Reads Item
-  at_once g = other_filters g.1 >>= behind_filter g
-
-  section_is : section_of l self path start first seen ts ≡ (section_filters >>= section_inside)
-  unfolding section_of
-  section_is =
-      bind_both (filter_of l (in_loop path) ts) one_by_one at_once (λ g is. regrouped (behind_filter g) (filters_of l (in_loop path) g.1) finish_of)
-      ∙ regrouped section_inside (filter_of l (in_loop path) ts) other_filters
-
-  pub no_section : section_filters ≡ None → section_of l self path start first seen ts ≡ None
-  no_section h = section_is ∙ ap (λ o. o >>= section_inside) h
-
-  module _ (x : Filtering × (Filters × Edge)) (us : Items) (read : section_filters ≡ Some (x, us)) where
-    section_so : section_of l self path start first seen ts ≡ section_inside (x, us)
+  module _ (x : Filtering × Filters × Edge) (us : Items) (read : section_to_end l (in_loop path) ts ≡ Some (x, us)) where
+    section_so : section ≡ section_inside (x, us)
     section_so = section_is ∙ ap (λ o. o >>= section_inside) read
 
-    pub section_empty : self (InCapture ∷ path) (at seen us) ≡ None → section_of l self path start first seen ts ≡ None
+    pub section_empty : self (InCapture ∷ path) (at seen us) ≡ None → section ≡ None
     section_empty h = section_so ∙ rw h refl
 
     module _ (b : Body) (p : Place) (inside : self (InCapture ∷ path) (at seen us) ≡ Some (b, p)) where
-      pub section_unclosed : closed_tag AtEndFilter p.tokens ≡ None → section_of l self path start first seen ts ≡ None
+      pub section_unclosed : closed_tag AtEndFilter p.tokens ≡ None → section ≡ None
       section_unclosed h = section_so ∙ rw (inside, h) refl
 
-      pub section_given : (e : Tag) (ws : Items) → closed_tag AtEndFilter p.tokens ≡ Some (e, ws)
-          → section_of l self path start first seen ts ≡ Some (Capturing (Section (tag start first x.1.1) x.0 x.1.0 e) b, at p.seen ws)
-      section_given e ws h = section_so ∙ rw (inside, h) refl
+      pub section_given : (e : Tag) (vs : Items) → closed_tag AtEndFilter p.tokens ≡ Some (e, vs)
+          → section ≡ Some (Capturing (Section (tag start first x.2) x.0 x.1 e) b, at p.seen vs)
+      section_given e vs h = section_so ∙ rw (inside, h) refl
 
 module _ (l : Limits) (self : Reader) (path : Path) (start : Edge) (first : Span) (seen : Names) (ts : Items) where
-  pub uncalled : component_of ts ≡ None → call_of l self path start first seen ts ≡ None
+  abbrev call : Reads Item
+  call = call_of l self path start first seen ts
+
+  pub uncalled : component_of ts ≡ None → call ≡ None
   unfolding call_of
   uncalled h = rw h refl
 
   module _ (n : ComponentName) (us : Items) (called : component_of ts ≡ Some (n, us)) where
-    abbrev pub call_attributes : Takes (Attributes × Span)
-    call_attributes = followed (attributes_of l (in_loop path) us) (takes (Operation GreaterThan))
+    abbrev call_inside : (Attributes × Span × Edge) × Items → Reads Item
+    call_inside x =
+        self (InCapture ∷ path) (at seen x.1) >>= λ b. call_end n b.1.tokens >>= λ e.
+        Some (Capturing (CallBody (tag start first x.0.2) n x.0.0 x.0.1 e.0.0 e.0.1 e.0.2) b.0, at b.1.seen e.1)
 
-    abbrev call_behind : (Attributes × Span) × Items → Reads Item
-    call_behind x =
-        finish_of x.1 >>= λ f. self (InCapture ∷ path) (at seen f.1) >>= λ b. call_end n b.1.tokens >>= λ e.
-        Some (Capturing (CallBody (tag start first f.0) n x.0.0 x.0.1 e.0.0 e.0.1 e.0.2) b.0, at b.1.seen e.1)
+    call_is : call ≡ (attributes_to_end l (in_loop path) us >>= call_inside)
+    unfolding call_of attributes_to_end
+    call_is = rw called (sym (two_to_end (attributes_of l (in_loop path) us) (takes (Operation GreaterThan)) call_inside))
 
-    call_is : call_of l self path start first seen ts ≡ (call_attributes >>= call_behind)
-    unfolding call_of
-    call_is = rw called (regrouped call_behind (attributes_of l (in_loop path) us) (takes (Operation GreaterThan)))
+    pub call_unended : attributes_to_end l (in_loop path) us ≡ None → call ≡ None
+    call_unended h = call_is ∙ ap (λ o. o >>= call_inside) h
 
-    pub no_attributes : call_attributes ≡ None → call_of l self path start first seen ts ≡ None
-    no_attributes h = call_is ∙ ap (λ o. o >>= call_behind) h
+    module _ (x : Attributes × Span × Edge) (vs : Items) (given : attributes_to_end l (in_loop path) us ≡ Some (x, vs)) where
+      call_so : call ≡ call_inside (x, vs)
+      call_so = call_is ∙ ap (λ o. o >>= call_inside) given
 
-    module _ (a : Attributes × Span) (vs : Items) (given : call_attributes ≡ Some (a, vs)) where
-      call_so : call_of l self path start first seen ts ≡ call_behind (a, vs)
-      call_so = call_is ∙ ap (λ o. o >>= call_behind) given
+      pub call_empty : self (InCapture ∷ path) (at seen vs) ≡ None → call ≡ None
+      call_empty h = call_so ∙ rw h refl
 
-      pub call_unfinished : finish_of vs ≡ None → call_of l self path start first seen ts ≡ None
-      call_unfinished h = call_so ∙ rw h refl
+      module _ (b : Body) (p : Place) (inside : self (InCapture ∷ path) (at seen vs) ≡ Some (b, p)) where
+        pub call_unclosed : call_end n p.tokens ≡ None → call ≡ None
+        call_unclosed h = call_so ∙ rw (inside, h) refl
 
-      module _ (f : Edge) (ws : Items) (ended : finish_of vs ≡ Some (f, ws)) where
-        pub call_empty : self (InCapture ∷ path) (at seen ws) ≡ None → call_of l self path start first seen ts ≡ None
-        call_empty h = call_so ∙ rw (ended, h) refl
-
-        module _ (b : Body) (p : Place) (inside : self (InCapture ∷ path) (at seen ws) ≡ Some (b, p)) where
-          pub call_unclosed : call_end n p.tokens ≡ None → call_of l self path start first seen ts ≡ None
-          call_unclosed h = call_so ∙ rw (ended, inside, h) refl
-
-          pub call_given : (e : Tag × ComponentName × Span) (xs : Items) → call_end n p.tokens ≡ Some (e, xs)
-              → call_of l self path start first seen ts ≡ Some (Capturing (CallBody (tag start first f) n a.0 a.1 e.0 e.1 e.2) b, at p.seen xs)
-          call_given e xs h = call_so ∙ rw (ended, inside, h) refl
+        pub call_given : (e : Tag × ComponentName × Span) (ws : Items) → call_end n p.tokens ≡ Some (e, ws)
+            → call ≡ Some (Capturing (CallBody (tag start first x.2) n x.0 x.1 e.0 e.1 e.2) b, at p.seen ws)
+        call_given e ws h = call_so ∙ rw (inside, h) refl
 
 -- the closing tag of a call
 module _ (n : ComponentName) (ts : Items) where

@@ -1,8 +1,8 @@
 -- Reading loops and conditions.
-use Rattle.std.proofs.Common.{◌≡◌, ℕ, suc, Bool, true, false, List, [], ◌∷◌, ◌++◌, map, Option, Some, None, refl, sym, ap, ◌∙◌}
+use Rattle.std.proofs.Common.{◌≡◌, ℕ, Bool, false, List, ◌∷◌, map, Option, Some, None, refl, sym, ap, ◌∙◌}
 use Rattle.tera_base.specs.declared.utils.Span.{Span}
 use Rattle.tera_lexer.specs.grammar.Tokens.{Items}
-use Rattle.tera_grammar.specs.Options.{◌>>=◌, guard}
+use Rattle.tera_grammar.specs.Options.{◌>>=◌}
 use Rattle.tera_grammar.specs.statements.Expressions.{Limits, Expression, expression_of}
 use Rattle.tera_grammar.specs.statements.Grammar.{Body, Branches, Elif, Item, Else, NoElse, Otherwise, For, If, InFor, InForElse, InIf, Path, in_loop}
 use Rattle.tera_grammar.specs.statements.Heads.{Loop}
@@ -20,51 +20,50 @@ use Rattle.tera_base.specs.declared.errors.Error.{Error}
 use Rattle.tera_tree.specs.declared.ast.Node.{Node}
 use Rattle.tera_statements.specs.Adding.{AreBranches, IsBody, IsElse}
 use Rattle.tera_statements.specs.Conditions.{Conditional, conditional_of}
+use Rattle.tera_statements.specs.Heads.{expression_to_end, loop_to_end}
+use Rattle.tera_statements.proofs.Ending.{one_to_end}
 use Rattle.tera_grammar.proofs.statements.Loops.{is_elif}
 use Rattle.tera_grammar.proofs.statements.Parts.{closed_stands}
 use Rattle.tera_statements.specs.Kinds.{closes}
 use Rattle.tera_expect.specs.Taking.{GivesBy}
 use Rattle.tera_statements.specs.declared.fronts.Closer.TheVariants as closers
-use Rattle.tera_grammar.specs.expressions.Reading.Front.{Takes}
-use Rattle.tera_statements.specs.Following.{followed}
-use Rattle.tera_statements.proofs.Following.{regrouped as together}
 use Rattle.tera_expect.proofs.Steps.{failed_as}
 
 -- a loop
 module _ (l : Limits) (self : Reader) (path : Path) (start : Edge) (first : Span) (seen : Names) (ts : Items) where
-  abbrev pub loop_head : Takes (Loop × Edge)
-  loop_head = followed (loop_of l ts) finish_of
+  abbrev looped : Reads Item
+  looped = for_of l self path start first seen ts
 
   abbrev loop_inside : (Loop × Edge) × Items → Reads Item
   loop_inside x =
       self (InFor ∷ path) (at seen x.1) >>= λ b. else_of self (InForElse ∷ path) b.1 >>= λ o. closed_tag AtEndFor o.1.tokens >>= λ e.
       Some (For (tag start first x.0.1) x.0.0 b.0 o.0 e.0, at o.1.seen e.1)
 
-  for_is : for_of l self path start first seen ts ≡ (loop_head >>= loop_inside)
-  unfolding for_of
-  for_is = together loop_inside (loop_of l ts) finish_of
+  loop_is : looped ≡ (loop_to_end l ts >>= loop_inside)
+  unfolding for_of loop_to_end
+  loop_is = sym (one_to_end (loop_of l ts) loop_inside)
 
-  pub no_head : loop_head ≡ None → for_of l self path start first seen ts ≡ None
-  no_head h = for_is ∙ ap (λ o. o >>= loop_inside) h
+  pub loop_unended : loop_to_end l ts ≡ None → looped ≡ None
+  loop_unended h = loop_is ∙ ap (λ o. o >>= loop_inside) h
 
-  module _ (x : Loop × Edge) (us : Items) (head : loop_head ≡ Some (x, us)) where
-    for_so : for_of l self path start first seen ts ≡ loop_inside (x, us)
-    for_so = for_is ∙ ap (λ o. o >>= loop_inside) head
+  module _ (x : Loop × Edge) (us : Items) (head : loop_to_end l ts ≡ Some (x, us)) where
+    loop_so : looped ≡ loop_inside (x, us)
+    loop_so = loop_is ∙ ap (λ o. o >>= loop_inside) head
 
-    pub loop_empty : self (InFor ∷ path) (at seen us) ≡ None → for_of l self path start first seen ts ≡ None
-    loop_empty h = for_so ∙ rw h refl
+    pub loop_empty : self (InFor ∷ path) (at seen us) ≡ None → looped ≡ None
+    loop_empty h = loop_so ∙ rw h refl
 
     module _ (b : Body) (p : Place) (inside : self (InFor ∷ path) (at seen us) ≡ Some (b, p)) where
-      pub no_else : else_of self (InForElse ∷ path) p ≡ None → for_of l self path start first seen ts ≡ None
-      no_else h = for_so ∙ rw (inside, h) refl
+      pub no_else : else_of self (InForElse ∷ path) p ≡ None → looped ≡ None
+      no_else h = loop_so ∙ rw (inside, h) refl
 
       module _ (o : Else) (q : Place) (other : else_of self (InForElse ∷ path) p ≡ Some (o, q)) where
-        pub loop_unclosed : closed_tag AtEndFor q.tokens ≡ None → for_of l self path start first seen ts ≡ None
-        loop_unclosed h = for_so ∙ rw (inside, other, h) refl
+        pub loop_unclosed : closed_tag AtEndFor q.tokens ≡ None → looped ≡ None
+        loop_unclosed h = loop_so ∙ rw (inside, other, h) refl
 
-        pub loop_given : (e : Tag) (ws : Items) → closed_tag AtEndFor q.tokens ≡ Some (e, ws)
-            → for_of l self path start first seen ts ≡ Some (For (tag start first x.1) x.0 b o e, at q.seen ws)
-        loop_given e ws h = for_so ∙ rw (inside, other, h) refl
+        pub loop_given : (e : Tag) (vs : Items) → closed_tag AtEndFor q.tokens ≡ Some (e, vs)
+            → looped ≡ Some (For (tag start first x.1) x.0 b o e, at q.seen vs)
+        loop_given e vs h = loop_so ∙ rw (inside, other, h) refl
 
 -- an `else`, or none
 module _ (self : Reader) (path : Path) (seen : Names) (ts : Items) where
@@ -97,27 +96,18 @@ module _ (self : Reader) (path : Path) (seen : Names) (ts : Items) where
 
 -- a condition with its body
 module _ (l : Limits) (below : ℕ) (path : Path) (seen : Names) (ts : Items) where
-  abbrev pub condition_head : Takes (Expression × Edge)
-  condition_head = followed (expression_of l (in_loop path) ts) finish_of
+  abbrev conditional : Reads Conditional
+  conditional = conditional_of l below path (at seen ts)
 
-  abbrev condition_inside : (Expression × Edge) × Items → Reads Conditional
-  condition_inside x = body below l path (at seen x.1) >>= λ b. Some ((x.0.0, x.0.1, b.0), b.1)
+  pub no_condition : expression_to_end l (in_loop path) ts ≡ None → conditional ≡ None
+  no_condition h = rw h refl
 
-  condition_is : conditional_of l below path (at seen ts) ≡ (condition_head >>= condition_inside)
-  condition_is = together condition_inside (expression_of l (in_loop path) ts) finish_of
+  module _ (c : Expression × Edge) (us : Items) (read : expression_to_end l (in_loop path) ts ≡ Some (c, us)) where
+    pub condition_empty : body below l path (at seen us) ≡ None → conditional ≡ None
+    condition_empty h = rw (read, h) refl
 
-  pub no_condition : condition_head ≡ None → conditional_of l below path (at seen ts) ≡ None
-  no_condition h = condition_is ∙ ap (λ o. o >>= condition_inside) h
-
-  module _ (x : Expression × Edge) (us : Items) (head : condition_head ≡ Some (x, us)) where
-    condition_so : conditional_of l below path (at seen ts) ≡ condition_inside (x, us)
-    condition_so = condition_is ∙ ap (λ o. o >>= condition_inside) head
-
-    pub condition_empty : body below l path (at seen us) ≡ None → conditional_of l below path (at seen ts) ≡ None
-    condition_empty h = condition_so ∙ rw h refl
-
-    pub condition_given : (b : Body) (p : Place) → body below l path (at seen us) ≡ Some (b, p) → conditional_of l below path (at seen ts) ≡ Some ((x.0, x.1, b), p)
-    condition_given b p h = condition_so ∙ rw h refl
+    pub condition_given : (b : Body) (p : Place) → body below l path (at seen us) ≡ Some (b, p) → conditional ≡ Some ((c.0, c.1, b), p)
+    condition_given b p h = rw (read, h) refl
 
 -- an `else` whose body is read
 module _ (self : Reader) (path : Path) (seen : Names) (ts : Items) (x : Edge × Span) (us : Items) (there : closed AtElse ts ≡ Some (x, us)) where
@@ -128,9 +118,12 @@ module _ (self : Reader) (path : Path) (seen : Names) (ts : Items) (x : Edge × 
 
 -- the parts of a condition with its body, taken together
 module _ (l : Limits) (below : ℕ) (path : Path) (seen : Names) where
+  abbrev with_body : (Expression × Edge) × Items → Reads Conditional
+  with_body c = body below l path (at seen c.1) >>= λ b. Some ((c.0.0, c.0.1, b.0), b.1)
+
   regrouped : {Z : Type 0} (k : Conditional × Place → Reads Z) (c : Option (Expression × Items))
       → (c >>= λ c. finish_of c.1 >>= λ f. body below l path (at seen f.1) >>= λ b. k ((c.0, f.0, b.0), b.1))
-      ≡ ((c >>= λ c. finish_of c.1 >>= λ f. body below l path (at seen f.1) >>= λ b. Some ((c.0, f.0, b.0), b.1)) >>= k)
+      ≡ (((c >>= λ c. finish_of c.1 >>= λ f. Some ((c.0, f.0), f.1)) >>= with_body) >>= k)
   regrouped k None = refl
   regrouped k (Some c) = by_finish (finish_of c.1)
     where
@@ -139,7 +132,7 @@ module _ (l : Limits) (below : ℕ) (path : Path) (seen : Names) where
       by_body f (Some b) = refl
 
       by_finish : (f : Option (Edge × Items)) → (f >>= λ f. body below l path (at seen f.1) >>= λ b. k ((c.0, f.0, b.0), b.1))
-          ≡ ((f >>= λ f. body below l path (at seen f.1) >>= λ b. Some ((c.0, f.0, b.0), b.1)) >>= k)
+          ≡ (((f >>= λ f. Some ((c.0, f.0), f.1)) >>= with_body) >>= k)
       by_finish None = refl
       by_finish (Some f) = by_body f (body below l path (at seen f.1))
 
@@ -152,7 +145,7 @@ module _ (l : Limits) (below : ℕ) (path : Path) (start : Edge) (first : Span) 
   Others x = branches l (body below l) (InIf ∷ path) x.1 >>= λ bs. Closing x.0.1 x.0.0 x.0.2 bs
 
   if_is : if_of l (body below l) path start first seen ts ≡ (conditional_of l below (InIf ∷ path) (at seen ts) >>= Others)
-  unfolding if_of
+  unfolding if_of expression_to_end
   if_is = regrouped l below (InIf ∷ path) seen Others (expression_of l (in_loop path) ts)
 
   pub no_first : conditional_of l below (InIf ∷ path) (at seen ts) ≡ None → if_of l (body below l) path start first seen ts ≡ None
@@ -188,7 +181,7 @@ module _ (l : Limits) (below : ℕ) (path : Path) (seen : Names) (ts us : Items)
   front_elif = ap front (closed_stands AtElif ts (x, us) there)
 
   branch_is : branch_in l (body below l) path All seen ts (front ts) ≡ (conditional_of l below path (at seen us) >>= Next)
-  unfolding branch_in
+  unfolding branch_in expression_to_end
   branch_is = ap (branch_in l (body below l) path All seen ts) front_elif ∙ regrouped l below path seen Next (expression_of l (in_loop path) us)
 
   pub no_elif_branch : conditional_of l below path (at seen us) ≡ None → branch_in l (body below l) path All seen ts (front ts) ≡ None

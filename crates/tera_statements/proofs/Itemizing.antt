@@ -19,14 +19,12 @@ use Rattle.tera_grammar.specs.statements.Reading.{Place, Reader, Reads, at, show
 use Rattle.tera_grammar.specs.statements.Reading.Parts as reading
 use Rattle.tera_grammar.specs.statements.Reading.Parts.{front, variable_end_of}
 use Rattle.tera_grammar.proofs.statements.Parts.{FrontOf, front_is}
-use Rattle.tera_statements.specs.Following.{followed}
 use Rattle.tera_statements.specs.Kinds.{kind_of, opener_kind, opener_of}
 use Rattle.tera_statements.specs.declared.fronts.Front.{Front}
 use Rattle.tera_statements.specs.declared.fronts.Front.TheVariants as fronts
 use Rattle.tera_statements.specs.declared.fronts.Opener.{Opener}
 use Rattle.tera_statements.specs.declared.fronts.Opener.TheVariants as openers
 use Rattle.tera_statements.specs.declared.fronts.Closer.{Closer}
-use Rattle.tera_statements.proofs.Following.{regrouped}
 
 -- a token that is there is taken, or no memory was found
 pub err_takes : (old new : Position) (e : Error) (t : Tok) (s : Span) (us : Items) → old.left ≡ Token t s us → TakesOne old (Err e) new → IsMemory e
@@ -183,23 +181,25 @@ module _ (l : Limits) (self : Reader) (path : Path) (seen : Names) where
   step_holds fr text span us h = ap (step l self path seen) h
 
   module _ (fr : reading.Front) (start : Edge) (us : Items) (is : fr ≡ reading.Shows start us) where
-    abbrev pub shown_tag : Takes (Expression × Edge)
-    shown_tag = followed (expression_of l (in_loop path) us) variable_end_of
+    abbrev shown : Reads Item → Option (Option (Item × Place))
+    shown r = r >>= λ x. Some (Some x)
 
-    abbrev shown_item : (Expression × Edge) × Items → Reads Item
-    shown_item x = Some (Single (Shown start x.0.0 x.0.1), at seen x.1)
+    shows_so : step l self path seen fr ≡ shown (shown_of l path start seen us)
+    unfolding step
+    shows_so = ap (step l self path seen) is
 
-    shows_so : step l self path seen fr ≡ ((shown_tag >>= shown_item) >>= λ x. Some (Some x))
-    unfolding step shown_of
-    shows_so =
-        ap (step l self path seen) is
-        ∙ ap (λ (r : Reads Item). r >>= λ x. Some (Some x)) (regrouped shown_item (expression_of l (in_loop path) us) variable_end_of)
-
-    pub shows_nothing : shown_tag ≡ None → step l self path seen fr ≡ None
+    pub shows_nothing : expression_of l (in_loop path) us ≡ None → step l self path seen fr ≡ None
+    unfolding shown_of
     shows_nothing h = shows_so ∙ rw h refl
 
-    pub shows_given : (x : Expression × Edge) (vs : Items) → shown_tag ≡ Some (x, vs) → step l self path seen fr ≡ Some (Some (Single (Shown start x.0 x.1), at seen vs))
-    shows_given x vs h = shows_so ∙ rw h refl
+    module _ (e : Expression) (vs : Items) (read : expression_of l (in_loop path) us ≡ Some (e, vs)) where
+      pub shows_unended : variable_end_of vs ≡ None → step l self path seen fr ≡ None
+      unfolding shown_of
+      shows_unended h = shows_so ∙ rw (read, h) refl
+
+      pub shows_given : (f : Edge) (ws : Items) → variable_end_of vs ≡ Some (f, ws) → step l self path seen fr ≡ Some (Some (Single (Shown start e f), at seen ws))
+      unfolding shown_of
+      shows_given f ws h = shows_so ∙ rw (read, h) refl
 
   module _ (fr : reading.Front) (o : parts.Opener) (start : Edge) (first : Span) (us : Items) (is : fr ≡ reading.Opens o start first us) where
     pub opens_nothing : tag_of l self path o start first seen us ≡ None → step l self path seen fr ≡ None

@@ -1,8 +1,7 @@
 pub mod Refusing
 pub mod NextTwo
-pub mod Following
-pub mod Bridging
 pub mod Piping
+pub mod Ending
 pub mod Tags
 pub mod Looping
 pub mod Standing

@@ -18,8 +18,8 @@ use Rattle.tera_grammar.specs.statements.Reading.Heads.{free_name, loop_of}
 use Rattle.tera_grammar.specs.statements.Reading.Parts.{finish_of}
 use Rattle.tera_grammar.proofs.Options.{bound, guard_not}
 use Rattle.tera_grammar.proofs.expressions.Fronts.{none_skip}
-use Rattle.tera_statements.specs.Following.{followed}
-use Rattle.tera_statements.proofs.Following.{made_first, no_first}
+use Rattle.tera_statements.specs.Heads.{expression_to_end, loop_to_end}
+use Rattle.tera_statements.proofs.Ending.{ended_one}
 
 -- a free name is a name that is not reserved
 pub record IsFree (ts us : Items) (n : Name) : Type 0 where
@@ -77,42 +77,38 @@ pub no_second_variable : (i : ℕ) (ts us vs : Items) (s : Span) (n : Name) → 
     → variables_of (at i ts) ≡ None
 no_second_variable i ts us vs s n h comma none = from_first i ts us n h ∙ ap (second_at n (at i us)) (skip_taken Comma i us vs s comma) ∙ second_fails i us vs s n none
 
--- a whole head, with the end of its tag
+-- a head
 module _ (l : Limits) (ts : Items) where
-  abbrev pub ended_head : Takes (Loop × Edge)
-  ended_head = followed (loop_of l ts) finish_of
-
-  pub head_unnamed : left_over (variables_of (at 0 ts)) ≡ None → ended_head ≡ None
-  unfolding loop_of
-  head_unnamed h = no_first (loop_of l ts) finish_of (rw h refl)
+  pub head_unnamed : left_over (variables_of (at 0 ts)) ≡ None → loop_to_end l ts ≡ None
+  unfolding loop_of loop_to_end
+  head_unnamed h = rw h refl
 
   module _ (v : Name × Second) (us : Items) (named : left_over (variables_of (at 0 ts)) ≡ Some (v, us)) where
-    pub head_without : takes (Operation In) us ≡ None → ended_head ≡ None
-    unfolding loop_of
-    head_without h = no_first (loop_of l ts) finish_of (rw (named, h) refl)
+    pub head_without : takes (Operation In) us ≡ None → loop_to_end l ts ≡ None
+    unfolding loop_of loop_to_end
+    head_without h = rw (named, h) refl
 
     module _ (word : Span) (vs : Items) (there : takes (Operation In) us ≡ Some (word, vs)) where
-      abbrev over : Expression → Loop
-      over e = record { first = v.0; second = v.1; word = word; target = e }
+      abbrev pub head : Expression → Loop
+      head e = record { first = v.0; second = v.1; word = word; target = e }
 
-      abbrev ended_target : Takes (Expression × Edge)
-      ended_target = followed (expression_of l true vs) finish_of
+      abbrev whole : (Expression × Edge) × Items → Takes (Loop × Edge)
+      whole x = Some ((head x.0.0, x.0.1), x.1)
 
-      abbrev over_it : Expression × Items → Takes Loop
-      over_it e = Some (over e.0, e.1)
+      abbrev headed : Expression × Items → Takes Loop
+      headed e = Some (head e.0, e.1)
 
-      abbrev over_both : (Expression × Edge) × Items → Takes (Loop × Edge)
-      over_both z = Some ((over z.0.0, z.0.1), z.1)
+      by_target : (o : Takes Expression)
+          → ((o >>= headed) >>= λ lp. finish_of lp.1 >>= λ f. Some ((lp.0, f.0), f.1)) ≡ ((o >>= λ e. finish_of e.1 >>= λ f. Some ((e.0, f.0), f.1)) >>= whole)
+      by_target None = refl
+      by_target (Some e) = sym (ended_one e.0 (finish_of e.1) whole)
 
-      loop_is : loop_of l ts ≡ (expression_of l true vs >>= over_it)
-      unfolding loop_of
-      loop_is = rw (named, there) refl
+      head_is : loop_to_end l ts ≡ (expression_to_end l true vs >>= whole)
+      unfolding loop_of loop_to_end expression_to_end
+      head_is = rw (named, there) (by_target (expression_of l true vs))
 
-      head_is : ended_head ≡ (ended_target >>= over_both)
-      head_is = ap (λ (o : Takes Loop). followed o finish_of) loop_is ∙ made_first over (expression_of l true vs) finish_of
+      pub head_aimless : expression_to_end l true vs ≡ None → loop_to_end l ts ≡ None
+      head_aimless h = head_is ∙ ap (λ o. o >>= whole) h
 
-      pub head_aimless : ended_target ≡ None → ended_head ≡ None
-      head_aimless h = head_is ∙ rw h refl
-
-      pub head_given : (x : Expression × Edge) (ws : Items) → ended_target ≡ Some (x, ws) → ended_head ≡ Some ((over x.0, x.1), ws)
-      head_given x ws h = head_is ∙ rw h refl
+      pub head_given : (x : Expression × Edge) (ws : Items) → expression_to_end l true vs ≡ Some (x, ws) → loop_to_end l ts ≡ Some ((head x.0, x.1), ws)
+      head_given x ws h = head_is ∙ ap (λ o. o >>= whole) h

@@ -1,16 +1,16 @@
 -- Conditions, as they are read.
-use Rattle.std.specs.Prelude.{◌≡◌, ℕ, Bool, List, map, Option, Some, None, Result, Ok, Err}
+use Rattle.std.specs.Prelude.{ℕ, Bool, List, map, Some, Result}
 use Rattle.tera_base.specs.declared.errors.Error.{Error}
 use Rattle.tera_tree.specs.Tree.{Expr, Stmt}
 use Rattle.tera_tree.specs.View.{expression_view, node_view}
 use Rattle.tera_grammar.specs.Options.{◌>>=◌}
 use Rattle.tera_grammar.specs.statements.Expressions as expressions
-use Rattle.tera_grammar.specs.statements.Expressions.{Limits, expression_of}
+use Rattle.tera_grammar.specs.statements.Expressions.{Limits}
 use Rattle.tera_grammar.specs.statements.Grammar.{Body, Path, in_loop}
 use Rattle.tera_grammar.specs.statements.Parts.{Edge}
 use Rattle.tera_grammar.specs.statements.Reading.{Place, Reads, at, body}
-use Rattle.tera_grammar.specs.statements.Reading.Parts.{finish_of}
 use Rattle.tera_statements.specs.Adding.{IsBody}
+use Rattle.tera_statements.specs.Heads.{expression_to_end}
 use Rattle.tera_statements.specs.Reading.{IsExpression}
 use Rattle.tera_expect.specs.Taking.{GivesBy}
 use Rattle.tera_statements.specs.declared.conditions.Branch.{Branch}
@@ -24,7 +24,7 @@ Conditional = expressions.Expression × Edge × Body
 
 abbrev pub conditional_of : Limits → ℕ → Path → Place → Reads Conditional
 conditional_of l below path p =
-    expression_of l (in_loop path) p.tokens >>= λ c. finish_of c.1 >>= λ f. body below l path (at p.seen f.1) >>= λ b. Some ((c.0, f.0, b.0), b.1)
+    expression_to_end l (in_loop path) p.tokens >>= λ c. body below l path (at p.seen c.1) >>= λ b. Some ((c.0.0, c.0.1, b.0), b.1)
 
 abbrev pub IsConditional : Bool → Branch → Conditional → Type 0
 IsConditional in_loop b c = IsExpression in_loop b.condition c.0 × IsBody in_loop b.body.items c.2

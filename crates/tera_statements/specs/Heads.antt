@@ -1,14 +1,22 @@
 -- The heads of statements, as they are read.
-use Rattle.std.specs.Prelude.{◌≡◌, ℕ, Bool, true, List, ◌∷◌, ◌++◌, map, Option, String, string_bytes}
+use Rattle.std.specs.Prelude.{◌≡◌, Bool, true, List, ◌∷◌, ◌++◌, map, Option, Some, String, string_bytes}
 use Rattle.std.specs.declared.alloc.Global.{Global}
 use Rattle.tera_base.specs.declared.utils.Span.{Span}
-use Rattle.tera_tree.specs.Tree.{Expr}
+use Rattle.tera_lexer.specs.grammar.Tokens.{Items}
 use Rattle.tera_tree.specs.View.{expression_view, name_view}
 use Rattle.tera_tree.specs.declared.ast.Expression.{Expression}
+use Rattle.tera_grammar.specs.Options.{◌>>=◌}
 use Rattle.tera_grammar.specs.expressions.Concrete.{Name, Second}
+use Rattle.tera_grammar.specs.expressions.Marks.{Operation}
+use Rattle.tera_grammar.specs.expressions.Operators.{GreaterThan}
 use Rattle.tera_grammar.specs.expressions.Output.{key_variable, value_variable}
-use Rattle.tera_grammar.specs.statements.Expressions.{Filtering, filter_output}
+use Rattle.tera_grammar.specs.expressions.Reading.Front.{Takes, takes}
+use Rattle.tera_grammar.specs.statements.Expressions as expressions
+use Rattle.tera_grammar.specs.statements.Expressions.{Attributes, Filtering, Limits, attributes_of, expression_of, filter_of, filter_output}
 use Rattle.tera_grammar.specs.statements.Heads.{Loop, Filters, filters_output}
+use Rattle.tera_grammar.specs.statements.Parts.{Edge}
+use Rattle.tera_grammar.specs.statements.Reading.Heads.{filters_of, loop_of}
+use Rattle.tera_grammar.specs.statements.Reading.Parts.{finish_of}
 use Rattle.tera_statements.specs.Reading.{IsExpression}
 use Rattle.tera_statements.specs.declared.heads.LoopHead.{LoopHead}
 
@@ -26,3 +34,23 @@ AreFilters in_loop before es fs = map expression_view es ≡ map expression_view
 -- a filter, whose input stands at the span, and others
 abbrev pub AreAllFilters : Bool → Span → List Expression → Filtering → Filters → Type 0
 AreAllFilters in_loop span es f fs = map expression_view es ≡ filter_output in_loop span f ∷ filters_output in_loop fs
+
+-- what tags hold, and their end
+unfoldable pub expression_to_end : Limits → Bool → Items → Takes (expressions.Expression × Edge)
+expression_to_end l in_loop items = expression_of l in_loop items >>= λ e. finish_of e.1 >>= λ f. Some ((e.0, f.0), f.1)
+
+unfoldable pub loop_to_end : Limits → Items → Takes (Loop × Edge)
+loop_to_end l items = loop_of l items >>= λ lp. finish_of lp.1 >>= λ f. Some ((lp.0, f.0), f.1)
+
+unfoldable pub filters_to_end : Limits → Bool → Items → Takes (Filters × Edge)
+filters_to_end l in_loop items = filters_of l in_loop items >>= λ fs. finish_of fs.1 >>= λ f. Some ((fs.0, f.0), f.1)
+
+unfoldable pub section_to_end : Limits → Bool → Items → Takes (Filtering × Filters × Edge)
+section_to_end l in_loop items =
+    filter_of l in_loop items >>= λ g. filters_of l in_loop g.1 >>= λ fs. finish_of fs.1 >>= λ f. Some ((g.0, fs.0, f.0), f.1)
+
+-- attributes, the `>` behind them, and the end of the tag
+unfoldable pub attributes_to_end : Limits → Bool → Items → Takes (Attributes × Span × Edge)
+attributes_to_end l in_loop items =
+    attributes_of l in_loop items >>= λ a. takes (Operation GreaterThan) a.1 >>= λ last. finish_of last.1 >>= λ f.
+    Some ((a.0, last.0, f.0), f.1)

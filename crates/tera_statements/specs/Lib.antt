@@ -1,5 +1,4 @@
 pub mod Known
-pub mod Following
 pub mod Kinds
 pub mod Reading
 pub mod Unfold

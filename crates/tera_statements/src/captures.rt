@@ -5,7 +5,6 @@ ghost use Rattle.std.specs.Str.{bytes_eq};
 ghost use Rattle.tera_base.specs.Errors.{IsMemory};
 ghost use Rattle.tera_parts.specs.Rooms.{limits_of};
 ghost use Rattle.tera_grammar.specs.statements.Expressions.{ComponentName, component_of, component_text};
-ghost use Rattle.tera_grammar.specs.statements.Grammar.{Path, in_loop};
 ghost use Rattle.tera_grammar.specs.statements.Reading as reading;
 ghost use Rattle.tera_grammar.specs.statements.Reading.{call_end, call_of, section_of, set_of};
 ghost use Rattle.tera_statements.specs.Adding.{AddsBy, here, seen_of};
@@ -18,16 +17,15 @@ ghost use Rattle.tera_tree.specs.View.{expression_view, node_view};
 use crate::added::{Added, Names};
 use crate::around::{Around, Context, Opening};
 use crate::bodies::body;
-use crate::closing::{closed_attributes, closed_expression};
-use crate::expressions::component_name;
 use crate::fronts::Closer;
-use crate::heads::{closed_filters, section_filters};
+use crate::heads::{attributes_to_end, expression_to_end, filters_to_end, section_to_end};
 use crate::parts::{closed, closed_tag, finish, free_name, spanning};
 use crate::settings::Setting;
 use std::alloc::Global;
 use tera_base::{Error, Span};
 use tera_expect::{Fixed, begins, begins_name, eat, expect, fault, reported};
 use tera_lexer::{Cursor, Token};
+use tera_reader::component_name;
 use tera_tree::{Expression, Node, build};
 
 /// A variable that is set, for the whole template or not.
@@ -65,7 +63,7 @@ pub(crate) fn set(
 }
 
 // The value of a variable, behind the equals sign, which was taken last.
-#[tactic(auto, using(tera_expect::proofs::Going::took_all, tera_expect::proofs::Going::refused_behind, tera_expect::proofs::Going::memory_refused))]
+#[tactic(auto, using(tera_expect::proofs::Going::refused_behind, tera_expect::proofs::Going::memory_refused))]
 fn set_value(
     setting: &Setting<'_>,
     cursor: &mut Cursor<'_>,
@@ -76,7 +74,7 @@ fn set_value(
     ensures refusal { IfErr result (Refuses cursor.old) }
     ensures later { IfOk result (λ _. Took cursor.old cursor.new) }
 {
-    let value = closed_expression(setting, cursor, around.in_loop)?;
+    let value = expression_to_end(setting, cursor, around.in_loop)?;
     let name = String::from_str(setting.alloc, variable.name)?;
     Ok(Added::Node(build::set(name, value, variable.global)))
 }
@@ -98,7 +96,7 @@ fn set_body(
     ensures later { IfOk result (λ _. Took cursor.old cursor.new) }
 {
     check_set(setting.alloc, cursor)?;
-    let filters = closed_filters(setting, cursor, around.in_loop, Vec::new(setting.alloc))?;
+    let filters = filters_to_end(setting, cursor, around.in_loop, Vec::new(setting.alloc))?;
     let inside = body(setting, cursor, names, around, opening, below)?;
     closed_tag(setting.alloc, cursor, Closer::EndSet)?;
     let name = String::from_str(setting.alloc, variable.name)?;
@@ -138,7 +136,7 @@ pub(crate) fn section(
         context: Context::Filter,
         at: cursor.current_span().copied(),
     };
-    let filters = section_filters(setting, cursor, around.in_loop)?;
+    let filters = section_to_end(setting, cursor, around.in_loop)?;
     let inside = body(setting, cursor, names, around, &opening, below)?;
     closed_tag(setting.alloc, cursor, Closer::EndFilter)?;
     Ok(Added::Node(build::filter_section(filters, inside)))
@@ -163,8 +161,7 @@ pub(crate) fn call(
         at: cursor.current_span().copied(),
     };
     let name = called_name(setting.alloc, cursor)?;
-    let attributes = closed_attributes(setting, cursor, around.in_loop)?;
-    finish(setting.alloc, cursor)?;
+    let attributes = attributes_to_end(setting, cursor, around.in_loop)?;
     let inside = body(setting, cursor, names, around, &opening, below)?;
     let last = call_end(setting.alloc, cursor, name.as_str())?;
     let span = spanning(&opening.at, &last);

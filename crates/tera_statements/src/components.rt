@@ -20,7 +20,6 @@ ghost use Rattle.tera_statements.specs.Reading.{IsComponent};
 ghost use Rattle.tera_expect.specs.Taking.{GivesBy, GoesOn, Passes, Refuses, Took};
 ghost use Rattle.tera_tree.specs.Definitions.{named_value};
 
-use crate::expressions::{component_name, literal_map};
 use crate::faults::renamed;
 use crate::fronts::Closer;
 use crate::names::{Known, keep_name, place_of};
@@ -32,6 +31,7 @@ use std::collections::BTreeMap;
 use tera_base::{Error, Map, Span, Value};
 use tera_expect::{Fixed, begins, begins_name, expect, noted, reported};
 use tera_lexer::Cursor;
+use tera_reader::{component_name, literal_map};
 
 /// What the opening tag of a component's definition says.
 #[derive(Drop)]

@@ -16,8 +16,8 @@ ghost use Rattle.tera_tree.specs.View.{node_view};
 use crate::added::{Added, Names};
 use crate::around::{Around, Context, Opening};
 use crate::bodies::body;
-use crate::closing::closed_expression;
 use crate::fronts::Closer;
+use crate::heads::expression_to_end;
 use crate::loops::else_body;
 use crate::parts::{closed, closed_tag, closes};
 use crate::settings::Setting;
@@ -69,7 +69,7 @@ fn read_branch(
     ensures refusal { IfErr result (Refuses cursor.old) }
     ensures later { IfOk result (λ _. Took cursor.old cursor.new) }
 {
-    let condition = closed_expression(setting, cursor, around.in_loop)?;
+    let condition = expression_to_end(setting, cursor, around.in_loop)?;
     let opening = Opening {
         context: Context::Condition,
         at: word.copied(),

@@ -1,27 +1,39 @@
-//! The heads of loops, and filters.
+//! What stands in opening tags, up to their end.
 
 ghost use Rattle.std.specs.Prelude.{IfErr, IfOk};
 ghost use Rattle.tera_parts.specs.Rooms.{limits_of};
 ghost use Rattle.tera_grammar.specs.expressions.Reading.Atoms.{variables_of};
 ghost use Rattle.tera_grammar.specs.expressions.Reading.Front.{at};
 ghost use Rattle.tera_grammar.specs.expressions.Reading.Whole.{left_over};
-ghost use Rattle.tera_grammar.specs.statements.Expressions.{filter_of};
-ghost use Rattle.tera_grammar.specs.statements.Reading.Heads.{filters_of, loop_of};
-ghost use Rattle.tera_grammar.specs.statements.Reading.Parts.{finish_of};
-ghost use Rattle.tera_statements.specs.Following.{followed};
-ghost use Rattle.tera_statements.specs.Heads.{AreAllFilters, AreFilters, AreVariables, IsLoop};
-ghost use Rattle.tera_expect.specs.Taking.{GivesBy, Refuses, Took};
+ghost use Rattle.tera_grammar.specs.statements.Reading.Heads.{filters_of};
+ghost use Rattle.tera_statements.specs.Heads.{AreAllFilters, AreFilters, AreVariables, IsLoop, attributes_to_end, expression_to_end, filters_to_end, loop_to_end, section_to_end};
+ghost use Rattle.tera_statements.specs.Reading.{AreAttributes, IsExpression};
+ghost use Rattle.tera_expect.specs.Taking.{GivesBy, GoesOn, Refuses, Took};
 
-use crate::closing::closed_expression;
-use crate::expressions::filter;
 use crate::parts::{finish, free_name};
 use crate::settings::Setting;
 use std::alloc::Global;
 use tera_base::Error;
 use tera_expect::{Fixed, eat, expect};
-use tera_expr::Scope;
 use tera_lexer::Cursor;
-use tera_tree::Expression;
+use tera_reader::{attributes, expression, filter};
+use tera_tree::{Expression, MapEntry};
+
+/// Reads an expression, and the end of its tag.
+#[tactic(auto, using(tera_expect::proofs::Going::took_all, tera_expect::proofs::Going::refused_behind))]
+pub(crate) fn expression_to_end(
+    setting: &Setting<'_>,
+    cursor: &mut Cursor<'_>,
+    in_loop: bool,
+) -> Result<Expression, Error>
+    ensures gives { GivesBy (λ e x. IsExpression in_loop e x.0) result cursor.new.left (expression_to_end (limits_of setting.now.limits) in_loop cursor.old.left) }
+    ensures refusal { IfErr result (Refuses cursor.old) }
+    ensures later { IfOk result (λ _. Took cursor.old cursor.new) }
+{
+    let expr = expression(setting.alloc, cursor, setting.scope(in_loop))?;
+    finish(setting.alloc, cursor)?;
+    Ok(expr)
+}
 
 /// The head of a loop: the names of the key, if any, and of the value, and what the loop goes over.
 #[derive(Drop)]
@@ -33,14 +45,14 @@ pub(crate) struct LoopHead {
 
 /// Reads the head of a loop, and the end of its tag.
 #[tactic(auto, using(tera_expect::proofs::Going::took_all, tera_expect::proofs::Going::refused_behind))]
-pub(crate) fn loop_head(setting: &Setting<'_>, cursor: &mut Cursor<'_>) -> Result<LoopHead, Error>
-    ensures gives { GivesBy (λ h x. IsLoop h x.0) result cursor.new.left (followed (loop_of (limits_of setting.now.limits) cursor.old.left) finish_of) }
+pub(crate) fn loop_to_end(setting: &Setting<'_>, cursor: &mut Cursor<'_>) -> Result<LoopHead, Error>
+    ensures gives { GivesBy (λ h x. IsLoop h x.0) result cursor.new.left (loop_to_end (limits_of setting.now.limits) cursor.old.left) }
     ensures refusal { IfErr result (Refuses cursor.old) }
     ensures later { IfOk result (λ _. Took cursor.old cursor.new) }
 {
     let (key, value) = variables(setting.alloc, cursor)?;
     expect(setting.alloc, cursor, Fixed::In)?;
-    let target = closed_expression(setting, cursor, true)?;
+    let target = expression_to_end(setting, cursor, true)?;
     Ok(LoopHead { key, value, target })
 }
 
@@ -60,48 +72,73 @@ fn variables(alloc: Global, cursor: &mut Cursor<'_>) -> Result<(Option<String>, 
     Ok((None, String::from_str(alloc, first)?))
 }
 
-/// Reads filters, each behind its bar, and the end of their tag, and puts them behind those that are given.
-#[tactic(auto, using(tera_expect::proofs::Going::goes_further, tera_expect::proofs::Going::took_goes, tera_expect::proofs::Going::took_further, tera_expect::proofs::Going::goes_took, tera_expect::proofs::Going::stays, tera_expect::proofs::Going::refused_behind, tera_expect::proofs::Going::refused_further, tera_expect::proofs::Going::memory_refused))]
-pub(crate) fn closed_filters(
+// Filters, each behind its bar, which are put behind those that are given.
+#[tactic(auto, using(tera_expect::proofs::Going::goes_further, tera_expect::proofs::Going::took_goes, tera_expect::proofs::Going::took_further, tera_expect::proofs::Going::took_all, tera_expect::proofs::Going::stays, tera_expect::proofs::Going::refused_behind, tera_expect::proofs::Going::refused_further, tera_expect::proofs::Going::memory_refused))]
+fn more_filters(
     setting: &Setting<'_>,
     cursor: &mut Cursor<'_>,
     in_loop: bool,
     before: Vec<Expression>,
 ) -> Result<Vec<Expression>, Error>
-    ensures gives { GivesBy (λ es x. AreFilters in_loop before.items es.items x.0) result cursor.new.left (followed (filters_of (limits_of setting.now.limits) in_loop cursor.old.left) finish_of) }
+    ensures gives { GivesBy (λ es fs. AreFilters in_loop before.items es.items fs) result cursor.new.left (filters_of (limits_of setting.now.limits) in_loop cursor.old.left) }
+    ensures refusal { IfErr result (Refuses cursor.old) }
+    ensures later { IfOk result (λ _. GoesOn cursor.old cursor.new) }
+{
+    let mut filters = before;
+    'filters: while eat(cursor, Fixed::Bar) {
+        let filter = filter(setting.alloc, cursor, setting.scope(in_loop))?;
+        filters.push(filter)?;
+    }
+    Ok(filters)
+}
+
+/// Reads filters, each behind its bar, and the end of their tag, and puts them behind those that are given.
+#[tactic(auto, using(tera_expect::proofs::Going::goes_took, tera_expect::proofs::Going::refused_further))]
+pub(crate) fn filters_to_end(
+    setting: &Setting<'_>,
+    cursor: &mut Cursor<'_>,
+    in_loop: bool,
+    before: Vec<Expression>,
+) -> Result<Vec<Expression>, Error>
+    ensures gives { GivesBy (λ es x. AreFilters in_loop before.items es.items x.0) result cursor.new.left (filters_to_end (limits_of setting.now.limits) in_loop cursor.old.left) }
     ensures refusal { IfErr result (Refuses cursor.old) }
     ensures later { IfOk result (λ _. Took cursor.old cursor.new) }
 {
-    let scope = Scope {
-        in_loop,
-        limits: setting.limits,
-    };
-    let mut filters = before;
-    'filters: while eat(cursor, Fixed::Bar) {
-        let filter = filter(setting.alloc, cursor, scope)?;
-        filters.push(filter)?;
-    }
+    let filters = more_filters(setting, cursor, in_loop, before)?;
     finish(setting.alloc, cursor)?;
     Ok(filters)
 }
 
 /// Reads a filter and others, each of those behind its bar, and the end of their tag.
-#[tactic(auto, using(tera_expect::proofs::Going::goes_took, tera_expect::proofs::Going::refused_further, tera_expect::proofs::Going::memory_refused))]
-pub(crate) fn section_filters(
+#[tactic(auto, using(tera_expect::proofs::Going::refused_behind, tera_expect::proofs::Going::memory_refused))]
+pub(crate) fn section_to_end(
     setting: &Setting<'_>,
     cursor: &mut Cursor<'_>,
     in_loop: bool,
 ) -> Result<Vec<Expression>, Error>
-    ensures gives { GivesBy (λ es x. AreAllFilters in_loop cursor.old.span es.items x.0 x.1.0) result cursor.new.left (followed (filter_of (limits_of setting.now.limits) in_loop cursor.old.left) (λ items. followed (filters_of (limits_of setting.now.limits) in_loop items) finish_of)) }
+    ensures gives { GivesBy (λ es x. AreAllFilters in_loop cursor.old.span es.items x.0 x.1) result cursor.new.left (section_to_end (limits_of setting.now.limits) in_loop cursor.old.left) }
     ensures refusal { IfErr result (Refuses cursor.old) }
     ensures later { IfOk result (λ _. Took cursor.old cursor.new) }
 {
-    let scope = Scope {
-        in_loop,
-        limits: setting.limits,
-    };
     let mut first = Vec::new(setting.alloc);
-    let one = filter(setting.alloc, cursor, scope)?;
+    let one = filter(setting.alloc, cursor, setting.scope(in_loop))?;
     first.push(one)?;
-    closed_filters(setting, cursor, in_loop, first)
+    filters_to_end(setting, cursor, in_loop, first)
+}
+
+/// Reads the attributes of a call of a component, the `>` behind them, and the end of their tag.
+#[tactic(auto, using(tera_expect::proofs::Going::goes_took, tera_expect::proofs::Going::took_all, tera_expect::proofs::Going::refused_further, tera_expect::proofs::Going::refused_behind))]
+pub(crate) fn attributes_to_end(
+    setting: &Setting<'_>,
+    cursor: &mut Cursor<'_>,
+    in_loop: bool,
+) -> Result<Vec<MapEntry>, Error>
+    ensures gives { GivesBy (λ es x. AreAttributes in_loop es.items x.0) result cursor.new.left (attributes_to_end (limits_of setting.now.limits) in_loop cursor.old.left) }
+    ensures refusal { IfErr result (Refuses cursor.old) }
+    ensures later { IfOk result (λ _. Took cursor.old cursor.new) }
+{
+    let entries = attributes(setting.alloc, cursor, setting.scope(in_loop))?;
+    expect(setting.alloc, cursor, Fixed::GreaterThan)?;
+    finish(setting.alloc, cursor)?;
+    Ok(entries)
 }

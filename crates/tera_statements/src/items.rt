@@ -19,17 +19,17 @@ use crate::added::{Added, Names};
 use crate::around::Around;
 use crate::blocks::{block, definition};
 use crate::captures::{call, section, set, shown_node};
-use crate::closing::shown_expression;
 use crate::conditions::condition;
 use crate::fronts::{Front, Opener};
 use crate::loops::for_loop;
-use crate::parts::unknown_tag;
+use crate::parts::{unknown_tag, variable_end};
 use crate::settings::Setting;
 use crate::simple::{Extension, Jump, extends, include, read_jump};
 use std::alloc::{AllocError, Global};
 use tera_base::Error;
 use tera_expect::take;
 use tera_lexer::{Cursor, Token};
+use tera_reader::expression;
 use tera_tree::Node;
 
 /// Reads the next item of a body, where one stands there.
@@ -111,7 +111,8 @@ pub(crate) fn shown(
     ensures later { IfOk result (λ _. Took cursor.old cursor.new) }
 {
     let _ = take(cursor)?;
-    let expr = shown_expression(setting, cursor, around.in_loop)?;
+    let expr = expression(setting.alloc, cursor, setting.scope(around.in_loop))?;
+    variable_end(setting.alloc, cursor)?;
     Ok(Added::Node(shown_node(expr)))
 }
 

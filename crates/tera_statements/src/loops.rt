@@ -13,7 +13,7 @@ use crate::added::{Added, Names};
 use crate::around::{Around, Context, Opening};
 use crate::bodies::body;
 use crate::fronts::Closer;
-use crate::heads::loop_head;
+use crate::heads::loop_to_end;
 use crate::parts::{closed, closed_tag, closes, finish};
 use crate::settings::Setting;
 use tera_base::Error;
@@ -38,7 +38,7 @@ pub(crate) fn for_loop(
         context: Context::Loop,
         at: cursor.current_span().copied(),
     };
-    let head = loop_head(setting, cursor)?;
+    let head = loop_to_end(setting, cursor)?;
     let inside = body(setting, cursor, names, around, &opening, below)?;
     let otherwise = Opening {
         context: Context::LoopElse,

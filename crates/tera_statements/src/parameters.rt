@@ -16,7 +16,6 @@ ghost use Rattle.tera_statements.specs.Parameters.{AreParameters, IsAssigned, Is
 ghost use Rattle.tera_expect.specs.Taking.{Fails, GivesAs, GivesBy, GoesOn, Refuses, Took, name_at};
 ghost use Rattle.tera_tree.specs.View.{argument_view, default_view};
 
-use crate::expressions::{literal_array, literal_map};
 use crate::names::{Known, keep_name, place_of};
 use crate::parts::is_none;
 use crate::settings::Setting;
@@ -25,6 +24,7 @@ use std::collections::BTreeMap;
 use tera_base::{Error, ErrorKind, Span, Value};
 use tera_expect::{Fixed, begins, eat, expect, fault, name, noted, reported, take};
 use tera_lexer::{Cursor, Token};
+use tera_reader::{literal_array, literal_map};
 use tera_tree::{ArgType, ComponentArgument};
 
 /// The parameters of a component: its arguments, and the name of the one that takes the rest.

@@ -3,7 +3,7 @@
 ghost use Rattle.tera_parts.specs.Rooms.{AreValid, limits_of};
 
 use std::alloc::Global;
-use tera_expr::Limits;
+use tera_parts::{Limits, Scope};
 
 /// What stays the same while an item of the top level is read.
 #[derive(Drop)]
@@ -15,4 +15,19 @@ pub(crate) struct Setting<'a> {
     /// The template that is extended, as far as it is known.
     pub parent: Option<&'a str>,
     ghost valid: { AreValid (limits_of limits) },
+}
+
+impl Setting<'_> {
+    ghost use Rattle.std.specs.Prelude.{◌≡◌};
+
+    /// Where an expression stands, in a loop or not.
+    pub(crate) fn scope(&self, in_loop: bool) -> Scope
+        ensures in_loop { result.in_loop ≡ in_loop }
+        ensures limits { result.limits ≡ self.now.limits }
+    {
+        Scope {
+            in_loop,
+            limits: self.limits,
+        }
+    }
 }

@@ -34,8 +34,8 @@ use crate::simple::{Extension, again_extended, late_extended};
 use std::alloc::Global;
 use tera_base::{Error, Span};
 use tera_expect::fault;
-use tera_expr::Limits;
 use tera_lexer::Cursor;
+use tera_parts::Limits;
 use tera_tree::Node;
 
 impl ParserOutput {
@@ -135,7 +135,7 @@ fn is_blank(text: &str) -> bool
     text.trim_start().is_empty()
 }
 
-/// Reads the tokens that are left as a whole template, within limits that [`Limits::valid`](tera_expr::Limits::valid)
+/// Reads the tokens that are left as a whole template, within limits that [`Limits::valid`](tera_parts::Limits::valid)
 /// accepts.
 ///
 /// An error is the first fault that is met from left to right: the lexical fault, the end of the input, or a syntax

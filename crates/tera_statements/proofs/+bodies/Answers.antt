@@ -98,9 +98,6 @@ captures::call-returns-in_err-name-clause-gives t c = captures.captures::call-re
 pub captures::call-returns-in_err-attributes-clause-gives : goal.captures::call-returns-in_err-attributes-clause-gives
 captures::call-returns-in_err-attributes-clause-gives t c = captures.captures::call-returns-in_err-attributes-clause-gives t c
 
-pub captures::call-returns-in_err-finish-clause-gives : goal.captures::call-returns-in_err-finish-clause-gives
-captures::call-returns-in_err-finish-clause-gives t c = captures.captures::call-returns-in_err-finish-clause-gives t c
-
 pub captures::call-returns-in_err-inside-clause-gives : goal.captures::call-returns-in_err-inside-clause-gives
 captures::call-returns-in_err-inside-clause-gives t c = captures.captures::call-returns-in_err-inside-clause-gives t c
 
@@ -109,12 +106,6 @@ captures::call-returns-in_err-last-clause-gives t c = captures.captures::call-re
 
 pub captures::call-returns-clause-gives : goal.captures::call-returns-clause-gives
 captures::call-returns-clause-gives t c = captures.captures::call-returns-clause-gives t c
-
-pub captures::call-returns-in_err-last-clause-refusal : goal.captures::call-returns-in_err-last-clause-refusal
-captures::call-returns-in_err-last-clause-refusal t c = captures.captures::call-returns-in_err-last-clause-refusal t c
-
-pub captures::call-returns-clause-later : goal.captures::call-returns-clause-later
-captures::call-returns-clause-later t c = captures.captures::call-returns-clause-later t c
 
 pub blocks::block-returns-in_err-check_block-clause-gives : goal.blocks::block-returns-in_err-check_block-clause-gives
 blocks::block-returns-in_err-check_block-clause-gives t c = blocks.blocks::block-returns-in_err-check_block-clause-gives t c

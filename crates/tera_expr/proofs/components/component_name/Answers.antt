@@ -3,10 +3,10 @@ use Rattle.tera_expr.proofs.Promised.{path_was_found, path_complete}
 use Rattle.tera_expr.proofs.components.component_name.Goals as goal
 
 pub returns-clause-found : goal.returns-clause-found
-returns-clause-found c = path_was_found c.args.cursor.now c.dotted_name.new.cursor c.dotted_name.result c.dotted_name.ensures.gives c.dotted_name.ensures.later
+returns-clause-found c = path_was_found c.args.cursor.now c.component_name.new.cursor c.component_name.result c.component_name.ensures.gives c.component_name.ensures.later
 
 pub returns-clause-ends : goal.returns-clause-ends
-returns-clause-ends c = path_ended c.args.cursor.now.left c.dotted_name.new.cursor.left c.dotted_name.result c.dotted_name.ensures.gives
+returns-clause-ends c = path_ended c.args.cursor.now.left c.component_name.new.cursor.left c.component_name.result c.component_name.ensures.gives
 
 pub returns-clause-complete : goal.returns-clause-complete
-returns-clause-complete c = path_complete c.args.cursor.now c.dotted_name.new.cursor c.dotted_name.result c.dotted_name.ensures.gives
+returns-clause-complete c = path_complete c.args.cursor.now c.component_name.new.cursor c.component_name.result c.component_name.ensures.gives

@@ -3,11 +3,7 @@ use Rattle.tera_expr.proofs.Promised.{attributes_found, attributes_complete}
 use Rattle.tera_expr.proofs.outermost.attributes.Goals as goal
 
 pub returns-clause-found : goal.returns-clause-found
-returns-clause-found c =
-    attributes_found (limits_of c.args.scope.limits) c.args.scope.in_loop c.args.cursor.now c.attributes.new.cursor c.attributes.new.links c.attributes.result
-    (rw (c.outermost.ensures.reader, c.outermost.ensures.room, c.outermost.ensures.scope) at c.attributes.ensures.gives) c.attributes.ensures.later
+returns-clause-found c = attributes_found (limits_of c.args.scope.limits) c.args.scope.in_loop c.args.cursor.now c.attributes.new.cursor c.attributes.result c.attributes.ensures.gives c.attributes.ensures.later
 
 pub returns-clause-complete : goal.returns-clause-complete
-returns-clause-complete c =
-    attributes_complete (limits_of c.args.scope.limits) c.args.scope.in_loop c.args.cursor.now c.attributes.new.cursor c.attributes.new.links c.attributes.result
-    (rw (c.outermost.ensures.reader, c.outermost.ensures.room, c.outermost.ensures.scope) at c.attributes.ensures.gives)
+returns-clause-complete c = attributes_complete (limits_of c.args.scope.limits) c.args.scope.in_loop c.args.cursor.now c.attributes.new.cursor c.attributes.result c.attributes.ensures.gives

@@ -1,18 +1,17 @@
 -- Of statements that take their body as a value.
-use Rattle.std.proofs.Common.{◌≡◌, ◌∙◌, refl, sym, [], ap, inr, false}
+use Rattle.std.proofs.Common.{◌∙◌, refl, sym, ap, inr, false}
 use Rattle.std.proofs.lemmas.Result.{err_from_is_err_and}
 use Rattle.tera_statements.specs.Adding.{seen_of}
 use Rattle.tera_expect.specs.Taking.{name_at}
-use Rattle.tera_statements.proofs.Capturing.{set_unnamed, set_named, set_without, no_filters, set_empty, set_unclosed, set_given, no_section, section_empty, section_unclosed, section_given, uncalled, no_attributes, call_unfinished, call_empty, call_unclosed, call_given}
+use Rattle.tera_statements.proofs.Capturing.{set_unnamed, set_named, set_without, set_unended, set_empty, set_unclosed, set_given, section_unended, section_empty, section_unclosed, section_given, uncalled, call_unended, call_empty, call_unclosed, call_given}
 use Rattle.tera_expect.proofs.Steps.{failed_as}
 use Rattle.tera_tree.specs.Tree as tree
-use Rattle.tera_tree.specs.View.{expression_view, filters_of, nodes_of}
+use Rattle.tera_tree.specs.View.{filters_of, nodes_of}
 use Rattle.tera_grammar.specs.statements.Grammar.{Capturing}
 use Rattle.tera_grammar.specs.statements.Heads.{SetBody, Section, CallBody}
 use Rattle.tera_grammar.specs.statements.Output.{AddsNode}
 use Rattle.tera_grammar.specs.statements.Reading.Parts.{tag}
 use Rattle.tera_grammar.specs.expressions.Spans.{spanning}
-use Rattle.tera_expect.proofs.Going.{refused_behind, took_all, took_further}
 use Rattle.tera_statements.proofs.+bodies.Goals as goal
 
 pub captures::set-returns-in_err-name-clause-gives : goal.captures::set-returns-in_err-name-clause-gives
@@ -43,7 +42,7 @@ pub captures::set_body-returns-in_err-filters-clause-gives : goal.captures::set_
 captures::set_body-returns-in_err-filters-clause-gives t c = λ path stands is start first n named.
     let p = err_from_is_err_and c.from_residual-in_err-filters.result c.from_residual-in_err-filters.ensures.1 in
     let fact = rw stands.loop at c.in_err-filters.ensures.gives in
-    rw (p.1, p.2) (failed_as _ _ _ (λ h. no_filters _ _ path _ start first _ n _ h) fact)
+    rw (p.1, p.2) (failed_as _ _ _ (λ h. set_unended _ _ path _ start first _ n _ h) fact)
 
 pub captures::set_body-returns-in_err-inside-clause-gives : goal.captures::set_body-returns-in_err-inside-clause-gives
 captures::set_body-returns-in_err-inside-clause-gives t c = λ path stands is start first n named.
@@ -75,7 +74,7 @@ pub captures::section-returns-in_err-filters-clause-gives : goal.captures::secti
 captures::section-returns-in_err-filters-clause-gives t c = λ path stands start.
     let p = err_from_is_err_and c.from_residual.result c.from_residual.ensures.1 in
     let fact = rw stands.loop at c.in_err-filters.ensures.gives in
-    rw (p.1, p.2) (failed_as _ _ _ (λ h. no_section _ _ path start _ _ _ h) fact)
+    rw (p.1, p.2) (failed_as _ _ _ (λ h. section_unended _ _ path start _ _ _ h) fact)
 
 pub captures::section-returns-in_err-inside-clause-gives : goal.captures::section-returns-in_err-inside-clause-gives
 captures::section-returns-in_err-inside-clause-gives t c = λ path stands start.
@@ -95,7 +94,7 @@ captures::section-returns-clause-gives t c = λ path stands start.
     let (x, read, are) = rw stands.loop at c.in_ok-filters.ensures.gives in
     let (b, inside, shows) = c.in_ok-inside.ensures.gives path stands in
     let (e, closed) = c.in_ok-closed_tag.ensures.gives in (
-      Capturing (Section (tag start c.args.cursor.now.span x.1.1) x.0 x.1.0 e) b,
+      Capturing (Section (tag start c.args.cursor.now.span x.2) x.0 x.1 e) b,
       section_given _ _ path start c.args.cursor.now.span (seen_of c.args.names.now) _ x _ read b _ inside e _ closed,
       ap AddsNode (c.filter_section.ensures ∙ (λ i. tree.FilterSection (filters_of (are i)) (nodes_of (shows i)))),
     )
@@ -110,53 +109,32 @@ captures::call-returns-in_err-attributes-clause-gives t c = λ path stands start
     let p = err_from_is_err_and c.from_residual-in_err-attributes.result c.from_residual-in_err-attributes.ensures.1 in
     let (n, called, is) = c.in_ok-name.ensures.gives in
     let fact = rw stands.loop at c.in_err-attributes.ensures.gives in
-    rw (p.1, p.2) (failed_as _ _ _ (λ h. no_attributes _ _ path start _ _ _ n _ called h) fact)
-
-pub captures::call-returns-in_err-finish-clause-gives : goal.captures::call-returns-in_err-finish-clause-gives
-captures::call-returns-in_err-finish-clause-gives t c = λ path stands start.
-    let p = err_from_is_err_and c.from_residual-in_err-finish.result c.from_residual-in_err-finish.ensures.1 in
-    let (n, called, is) = c.in_ok-name.ensures.gives in
-    let (a, given, are) = rw stands.loop at c.in_ok-attributes.ensures.gives in
-    rw (p.1, p.2) (failed_as _ _ _ (λ h. call_unfinished _ _ path start _ _ _ n _ called a _ given h) c.in_err-finish.ensures.gives)
+    rw (p.1, p.2) (failed_as _ _ _ (λ h. call_unended _ _ path start _ _ _ n _ called h) fact)
 
 pub captures::call-returns-in_err-inside-clause-gives : goal.captures::call-returns-in_err-inside-clause-gives
 captures::call-returns-in_err-inside-clause-gives t c = λ path stands start.
     let p = err_from_is_err_and c.from_residual-in_err-inside.result c.from_residual-in_err-inside.ensures.1 in
     let (n, called, is) = c.in_ok-name.ensures.gives in
-    let (a, given, are) = rw stands.loop at c.in_ok-attributes.ensures.gives in
-    let (f, ended) = c.in_ok-finish.ensures.gives in
-    rw (p.1, p.2) (failed_as _ _ _ (λ h. call_empty _ _ path start _ (seen_of c.args.names.now) _ n _ called a _ given f _ ended h) (c.in_err-inside.ensures.gives path stands))
+    let (x, given, are) = rw stands.loop at c.in_ok-attributes.ensures.gives in
+    rw (p.1, p.2) (failed_as _ _ _ (λ h. call_empty _ _ path start _ (seen_of c.args.names.now) _ n _ called x _ given h) (c.in_err-inside.ensures.gives path stands))
 
 pub captures::call-returns-in_err-last-clause-gives : goal.captures::call-returns-in_err-last-clause-gives
 captures::call-returns-in_err-last-clause-gives t c = λ path stands start.
     let p = err_from_is_err_and c.from_residual-in_err-last.result c.from_residual-in_err-last.ensures.1 in
     let (n, called, is) = c.in_ok-name.ensures.gives in
-    let (a, given, are) = rw stands.loop at c.in_ok-attributes.ensures.gives in
-    let (f, ended) = c.in_ok-finish.ensures.gives in
+    let (x, given, are) = rw stands.loop at c.in_ok-attributes.ensures.gives in
     let (b, inside, shows) = c.in_ok-inside.ensures.gives path stands in
-    rw (p.1, p.2) (failed_as _ _ _ (λ h. call_unclosed _ _ path start _ (seen_of c.args.names.now) _ n _ called a _ given f _ ended b _ inside h)
+    rw (p.1, p.2) (failed_as _ _ _ (λ h. call_unclosed _ _ path start _ (seen_of c.args.names.now) _ n _ called x _ given b _ inside h)
     (c.in_err-last.ensures.gives n (sym is ∙ sym c.as_str.ensures.value)))
 
 pub captures::call-returns-clause-gives : goal.captures::call-returns-clause-gives
 captures::call-returns-clause-gives t c = λ path stands start.
     let (n, called, is) = c.in_ok-name.ensures.gives in
-    let (a, given, are) = rw stands.loop at c.in_ok-attributes.ensures.gives in
-    let (f, ended) = c.in_ok-finish.ensures.gives in
+    let (x, given, are) = rw stands.loop at c.in_ok-attributes.ensures.gives in
     let (b, inside, shows) = c.in_ok-inside.ensures.gives path stands in
     let (e, closed, ends) = c.in_ok-last.ensures.gives n (sym is ∙ sym c.as_str.ensures.value) in
     let span = c.spanning-span.ensures ∙ (λ i. spanning ((c.copied.ensures ∙ c.current_span.ensures.span) i) (ends i)) in (
-      Capturing (CallBody (tag start c.args.cursor.now.span f) n a.0 a.1 e.0 e.1 e.2) b,
-      call_given _ _ path start c.args.cursor.now.span (seen_of c.args.names.now) _ n _ called a _ given f _ ended b _ inside e _ closed,
+      Capturing (CallBody (tag start c.args.cursor.now.span x.2) n x.0 x.1 e.0 e.1 e.2) b,
+      call_given _ _ path start c.args.cursor.now.span (seen_of c.args.names.now) _ n _ called x _ given b _ inside e _ closed,
       ap AddsNode (c.shown_node.ensures ∙ ap tree.Shown (c.in_ok-call.ensures ∙ (λ i. tree.ComponentCall (is i) (are i) (nodes_of (shows i)) false (span i)))),
     )
-
-pub captures::call-returns-in_err-last-clause-refusal : goal.captures::call-returns-in_err-last-clause-refusal
-captures::call-returns-in_err-last-clause-refusal t c =
-    let p = err_from_is_err_and c.from_residual-in_err-last.result c.from_residual-in_err-last.ensures.1 in
-    let head = took_all _ _ _ (took_all _ _ _ c.in_ok-name.ensures.later c.in_ok-attributes.ensures.later) c.in_ok-finish.ensures.later in
-    rw (p.1, p.2) (refused_behind _ _ _ (took_further _ _ _ head c.in_ok-inside.ensures.later) c.in_err-last.ensures.refusal)
-
-pub captures::call-returns-clause-later : goal.captures::call-returns-clause-later
-captures::call-returns-clause-later t c =
-    let head = took_all _ _ _ (took_all _ _ _ c.in_ok-name.ensures.later c.in_ok-attributes.ensures.later) c.in_ok-finish.ensures.later in
-    took_all _ _ _ (took_further _ _ _ head c.in_ok-inside.ensures.later) c.in_ok-last.ensures.later

@@ -57,13 +57,17 @@ pub conditions::read_branch-returns-in_err-body-clause-gives : goal.conditions::
 conditions::read_branch-returns-in_err-body-clause-gives t c = λ path stands.
     let p = err_from_is_err_and c.from_residual-in_err-body.result c.from_residual-in_err-body.ensures.1 in
     let (x, read, is) = rw stands.loop at c.in_ok-condition.ensures.gives in
-    rw (p.1, p.2) (failed_as _ _ _ (λ h. condition_empty (limits_of c.args.setting.now.limits) c.args.below (InIf ∷ path) (seen_of c.args.names.now) c.args.cursor.now.left x c.closed_expression.new.cursor.left read h) (c.in_err-body.ensures.gives path stands))
+    rw (p.1, p.2) (failed_as _ _ _ (λ h. condition_empty (limits_of c.args.setting.now.limits) c.args.below (InIf ∷ path) (seen_of c.args.names.now) c.args.cursor.now.left
+    x c.expression_to_end.new.cursor.left read h) (c.in_err-body.ensures.gives path stands))
 
 pub conditions::read_branch-returns-clause-gives : goal.conditions::read_branch-returns-clause-gives
 conditions::read_branch-returns-clause-gives t c = λ path stands.
     let (x, read, is) = rw stands.loop at c.in_ok-condition.ensures.gives in
-    let (b, inside, shows) = c.in_ok-body.ensures.gives path stands in
-    ((x.0, x.1, b), condition_given (limits_of c.args.setting.now.limits) c.args.below (InIf ∷ path) (seen_of c.args.names.now) c.args.cursor.now.left x c.closed_expression.new.cursor.left read b _ inside, (is, shows))
+    let (b, inside, shows) = c.in_ok-body.ensures.gives path stands in (
+      (x.0, x.1, b),
+      condition_given (limits_of c.args.setting.now.limits) c.args.below (InIf ∷ path) (seen_of c.args.names.now) c.args.cursor.now.left x c.expression_to_end.new.cursor.left read b _ inside,
+      (is, shows),
+    )
 
 pub conditions::other_branches-branches-init : goal.conditions::other_branches-branches-init
 conditions::other_branches-branches-init t c = record {

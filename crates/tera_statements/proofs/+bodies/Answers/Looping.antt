@@ -1,13 +1,13 @@
 -- Of loops.
-use Rattle.std.proofs.Common.{◌≡◌, ◌∙◌, ap, ◌∷◌, inl, map, refl, sym}
+use Rattle.std.proofs.Common.{◌∙◌, ap, ◌∷◌, inl, map, sym}
 use Rattle.std.proofs.lemmas.Result.{err_from_is_err_and}
 use Rattle.tera_tree.specs.Tree as tree
 use Rattle.tera_tree.specs.View.{nodes_of, node_view}
-use Rattle.tera_grammar.specs.statements.Grammar.{For, NoElse, Otherwise}
+use Rattle.tera_grammar.specs.statements.Grammar.{For, NoElse}
 use Rattle.tera_grammar.specs.statements.Output.{AddsNode}
 use Rattle.tera_grammar.specs.statements.Reading.Parts.{tag}
 use Rattle.tera_statements.specs.Adding.{seen_of, here}
-use Rattle.tera_statements.proofs.Conditioning.{no_head, loop_empty, no_else, loop_unclosed, loop_given, without_else, else_unfinished, else_is, otherwise_given}
+use Rattle.tera_statements.proofs.Conditioning.{loop_unended, loop_empty, no_else, loop_unclosed, loop_given, without_else, else_unfinished, otherwise_given}
 use Rattle.tera_expect.proofs.Steps.{failed_as}
 use Rattle.tera_statements.specs.Around.{context_of}
 use Rattle.tera_parts.specs.Rooms.{limits_of}
@@ -20,7 +20,7 @@ use Rattle.tera_statements.proofs.+bodies.Goals as goal
 pub loops::for_loop-returns-in_err-head-clause-gives : goal.loops::for_loop-returns-in_err-head-clause-gives
 loops::for_loop-returns-in_err-head-clause-gives t c = λ path stands start.
     let p = err_from_is_err_and c.from_residual.result c.from_residual.ensures.1 in
-    rw (p.1, p.2) (failed_as _ _ _ (λ h. no_head _ _ path start _ _ _ h) c.in_err-head.ensures.gives)
+    rw (p.1, p.2) (failed_as _ _ _ (λ h. loop_unended _ _ path start _ _ _ h) c.in_err-head.ensures.gives)
 
 pub loops::for_loop-returns-in_err-inside-clause-gives : goal.loops::for_loop-returns-in_err-inside-clause-gives
 loops::for_loop-returns-in_err-inside-clause-gives t c = λ path stands start.
