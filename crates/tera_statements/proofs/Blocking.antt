@@ -1,9 +1,8 @@
 -- Reading blocks and the definitions of components.
-use Rattle.std.proofs.Common.{◌≡◌, ℕ, Bool, true, false, not, List, [], ◌∷◌, ◌++◌, Option, Some, None, append-nil, refl, sym, ap, ◌∙◌}
-use Rattle.std.specs.Str.{bytes_eq}
+use Rattle.std.proofs.Common.{◌≡◌, ℕ, true, false, not, List, [], ◌∷◌, ◌++◌, Option, Some, None, append-nil, refl, sym, ap, ◌∙◌}
 use Rattle.tera_base.specs.declared.utils.Span.{Span}
 use Rattle.tera_lexer.specs.grammar.Tokens.{Items}
-use Rattle.tera_grammar.specs.Options.{◌>>=◌, guard}
+use Rattle.tera_grammar.specs.Options.{◌>>=◌}
 use Rattle.tera_grammar.specs.Words.{is_one_of}
 use Rattle.tera_grammar.specs.expressions.Reading.Front.{taken_name}
 use Rattle.tera_grammar.specs.statements.Components.{Head}

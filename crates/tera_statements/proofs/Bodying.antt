@@ -1,5 +1,5 @@
 -- Reading bodies.
-use Rattle.std.proofs.Common.{◌≡◌, ℕ, Bool, true, false, None, refl, ap}
+use Rattle.std.proofs.Common.{◌≡◌, ℕ, Bool, true, false, None, ap}
 use Rattle.tera_grammar.specs.statements.Expressions.{Limits}
 use Rattle.tera_grammar.specs.statements.Grammar.{Path}
 use Rattle.tera_grammar.specs.statements.Reading.{Place, body}

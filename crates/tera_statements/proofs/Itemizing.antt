@@ -1,5 +1,5 @@
 -- The items of bodies, by what their tokens begin with.
-use Rattle.std.proofs.Common.{◌≡◌, ℕ, Bool, true, false, List, Option, Some, None, Result, Ok, Err, inl, inr, refl, sym, ap, subst, ◌∙◌}
+use Rattle.std.proofs.Common.{◌≡◌, ℕ, List, Option, Some, None, Err, inl, inr, refl, sym, ap, subst, ◌∙◌}
 use Rattle.tera_base.specs.Errors.{IsMemory}
 use Rattle.tera_base.specs.declared.errors.Error.{Error}
 use Rattle.tera_base.specs.declared.utils.Span.{Span}
@@ -9,9 +9,8 @@ use Rattle.tera_lexer.specs.grammar.Tokens as toks
 use Rattle.tera_lexer.specs.grammar.Tokens.{Tok, Items, Token}
 use Rattle.tera_lexer.specs.declared.lexer.delimiters.Kind.TheVariants as kind
 use Rattle.tera_grammar.specs.Options.{◌>>=◌}
-use Rattle.tera_grammar.specs.expressions.Reading.Front.{Takes}
 use Rattle.tera_grammar.specs.statements.Expressions.{Limits, Expression, expression_of}
-use Rattle.tera_grammar.specs.statements.Grammar.{Body, Item, Path, Shown, Single, Text, in_loop}
+use Rattle.tera_grammar.specs.statements.Grammar.{Item, Path, Shown, Single, Text, in_loop}
 use Rattle.tera_grammar.specs.statements.Names.{Names}
 use Rattle.tera_grammar.specs.statements.Parts as parts
 use Rattle.tera_grammar.specs.statements.Parts.{Edge, opener_token, start_yield}
@@ -20,10 +19,8 @@ use Rattle.tera_grammar.specs.statements.Reading.Parts as reading
 use Rattle.tera_grammar.specs.statements.Reading.Parts.{front, variable_end_of}
 use Rattle.tera_grammar.proofs.statements.Parts.{FrontOf, front_is}
 use Rattle.tera_statements.specs.Kinds.{kind_of, opener_kind, opener_of}
-use Rattle.tera_statements.specs.declared.fronts.Front.{Front}
 use Rattle.tera_statements.specs.declared.fronts.Front.TheVariants as fronts
 use Rattle.tera_statements.specs.declared.fronts.Opener.{Opener}
-use Rattle.tera_statements.specs.declared.fronts.Opener.TheVariants as openers
 use Rattle.tera_statements.specs.declared.fronts.Closer.{Closer}
 
 -- a token that is there is taken, or no memory was found

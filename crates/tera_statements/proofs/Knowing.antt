@@ -1,5 +1,5 @@
 -- Names that were met.
-use Rattle.std.proofs.Common.{◌≡◌, Bool, true, false, ◌||◌, cond, List, ℕ, [], ◌∷◌, ◌++◌, Option, Some, None, is_some, option_copied, Global, String, string_bytes, refl, sym, ap, ◌∙◌}
+use Rattle.std.proofs.Common.{◌≡◌, Bool, true, false, ◌||◌, cond, List, ℕ, [], ◌∷◌, ◌++◌, Option, Some, None, is_some, option_copied, Global, String, string_bytes, refl, ap, ◌∙◌}
 use Rattle.std.specs.Borrow.{Bor}
 use Rattle.std.specs.Map.{lookup}
 use Rattle.std.specs.Str.{bytes_eq}

@@ -1,5 +1,5 @@
 -- Reading the parameters of components.
-use Rattle.std.proofs.Common.{rules, ◌≡◌, ◌⊎◌, ℕ, ℤ, pos, ◌-ℤ◌, neg_ℤ, to_z, of_z, w64, Global, String, string_bytes, arith, Bool, true, false, not, ◌||◌, codes, List, [], ◌∷◌, ◌++◌, inl, inr, Option, Some, None, Result, Ok, Err, refl, sym, ap, subst, ◌∙◌}
+use Rattle.std.proofs.Common.{rules, ◌≡◌, ◌⊎◌, ℕ, ℤ, pos, ◌-ℤ◌, neg_ℤ, to_z, of_z, w64, Global, String, string_bytes, arith, Bool, true, false, codes, List, [], ◌∷◌, ◌++◌, inl, inr, Option, Some, None, Result, Ok, Err, refl, sym, ap, subst, ◌∙◌}
 use Rattle.std.specs.Option.{is_some}
 use Rattle.std.specs.Prelude.{IfErr, IfOk}
 use Rattle.tera_base.specs.Errors.{IsMemory}

@@ -1,5 +1,5 @@
 -- Filters in their loop.
-use Rattle.std.proofs.Common.{◌≡◌, List, [], ◌∷◌, ◌++◌, map, Option, Some, None, sym, ap, ◌∙◌, append-nil, append_assoc, refl}
+use Rattle.std.proofs.Common.{◌≡◌, List, [], ◌∷◌, ◌++◌, map, Some, None, sym, ap, ◌∙◌, append-nil, append_assoc, refl}
 use Rattle.std.proofs.lemmas.List.{map-append}
 use Rattle.std.specs.Prelude.{Bool}
 use Rattle.tera_base.specs.declared.errors.Error.{Error}

@@ -1,7 +1,6 @@
 -- Putting pairs among others, by their names.
-use Rattle.std.proofs.Common.{◌≡◌, ◌⊎◌, inl, inr, ℕ, List, [], ◌∷◌, length, map, Global, String, string_bytes, Ordering, Less, Equal, Greater, nat_cmp, string_cmp, refl, ap, ◌∙◌, arith}
+use Rattle.std.proofs.Common.{◌≡◌, ◌⊎◌, inl, inr, ℕ, List, [], ◌∷◌, length, map, Global, String, string_bytes, Ordering, Less, Equal, Greater, string_cmp, refl, ap, ◌∙◌, arith}
 use Rattle.std.specs.BTreeMap.{insert_entry}
-use Rattle.std.specs.Cmp.Lexicographic.{slice_cmp}
 use Rattle.std.specs.FinMap.Entries.{by_order}
 use Rattle.std.specs.List.{zip}
 use Rattle.std.specs.Ordering.{match_ordering}

@@ -1,5 +1,5 @@
 -- Refusals in the tokens that are left, and tokens of which none is refused: empty texts.
-use Rattle.std.proofs.Common.{◌≡◌, ℕ, zero, suc, ◌+◌, ◌<◌, Bool, true, false, List, [], Option, Some, None, Result, Err, inl, inr, ⊎_elim, refl, sym, ap, subst, ◌∙◌, arith}
+use Rattle.std.proofs.Common.{◌≡◌, ℕ, zero, suc, ◌+◌, Bool, true, false, List, [], Some, None, Err, inl, inr, ⊎_elim, refl, sym, ap, subst, ◌∙◌, arith}
 use Rattle.tera_base.proofs.Tellings.{tells_weaker, tells_memory}
 use Rattle.tera_base.specs.Errors.{IsMemory}
 use Rattle.tera_base.specs.declared.errors.Error.{Error}

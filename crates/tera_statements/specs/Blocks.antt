@@ -1,5 +1,5 @@
 -- Blocks, as they are read.
-use Rattle.std.specs.Prelude.{◌≡◌, ℕ, not, List, Option, Some}
+use Rattle.std.specs.Prelude.{◌≡◌, ℕ, not, List, Some}
 use Rattle.std.specs.Borrow.{Bor}
 use Rattle.tera_base.specs.declared.utils.Span.{Span}
 use Rattle.tera_lexer.specs.grammar.Tokens.{Items}

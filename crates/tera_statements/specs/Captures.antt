@@ -1,5 +1,5 @@
 -- The statements that take their body as a value, as they are read.
-use Rattle.std.specs.Prelude.{◌≡◌, ℕ, Bool, List, Option, Some, None, Result}
+use Rattle.std.specs.Prelude.{◌≡◌, ℕ, Bool, List, Some, None, Result}
 use Rattle.tera_base.specs.declared.errors.Error.{Error}
 use Rattle.tera_base.specs.declared.utils.Span.{Span}
 use Rattle.tera_lexer.specs.code.Cursors.{Position}

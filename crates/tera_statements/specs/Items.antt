@@ -9,7 +9,7 @@ use Rattle.tera_grammar.specs.statements.Names.{Names}
 use Rattle.tera_grammar.specs.statements.Parts.{Edge, Opener}
 use Rattle.tera_grammar.specs.statements.Reading.{Place, Reader, at, body, step}
 use Rattle.tera_grammar.specs.statements.Reading.Parts.{Front, Opens, front}
-use Rattle.tera_statements.specs.Adding.{GivesItem, IsAdded}
+use Rattle.tera_statements.specs.Adding.{GivesItem}
 use Rattle.tera_statements.specs.Around.{Stands}
 use Rattle.tera_expect.specs.Taking.{Fails, Took}
 use Rattle.tera_statements.specs.declared.added.Added.{Added}

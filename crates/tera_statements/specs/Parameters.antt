@@ -1,5 +1,5 @@
 -- The parameters of components, as they are read.
-use Rattle.std.specs.Prelude.{◌≡◌, ℕ, Bool, List, [], ◌∷◌, ◌++◌, map, Option, Some, None, String, string_bytes}
+use Rattle.std.specs.Prelude.{◌≡◌, ℕ, Bool, List, [], map, Option, Some, None, String, string_bytes}
 use Rattle.std.specs.declared.alloc.Global.{Global}
 use Rattle.tera_base.specs.ValueView.{value_view}
 use Rattle.tera_base.specs.Values.{Val}

@@ -1,12 +1,10 @@
 -- Of blocks and definitions.
-use Rattle.std.proofs.Common.{◌≡◌, ◌∙◌, [], ◌∷◌, ◌++◌, ap, sym, string_bytes}
+use Rattle.std.proofs.Common.{◌∙◌, [], ◌∷◌, ◌++◌, ap, sym, string_bytes}
 use Rattle.std.proofs.lemmas.Result.{err_from_is_err_and}
 use Rattle.tera_tree.specs.Tree as tree
 use Rattle.tera_tree.specs.View.{nodes_of}
-use Rattle.tera_parts.specs.Rooms.{limits_of}
 use Rattle.tera_grammar.specs.statements.Grammar.{Block, Define}
 use Rattle.tera_grammar.specs.statements.Output.{AddsNode, AddsDefinition}
-use Rattle.tera_grammar.specs.statements.Reading.{body}
 use Rattle.tera_grammar.specs.statements.Reading.Parts.{tag}
 use Rattle.tera_statements.specs.Adding.{here, seen_of}
 use Rattle.tera_statements.specs.Known.{names_of}

@@ -1,5 +1,5 @@
 -- Of items.
-use Rattle.std.proofs.Common.{◌≡◌, ◌∙◌, inr, refl}
+use Rattle.std.proofs.Common.{inr, refl}
 use Rattle.std.proofs.lemmas.Result.{err_from_is_err_and}
 use Rattle.tera_grammar.specs.statements.Reading.{body}
 use Rattle.tera_grammar.specs.statements.Reading.Parts.{front}

@@ -1,4 +1,4 @@
-use Rattle.std.proofs.Common.{◌≡◌, inr, refl, sym, ap, ◌∙◌}
+use Rattle.std.proofs.Common.{inr, refl, sym, ◌∙◌}
 use Rattle.tera_expect.specs.Taking.{name_at}
 use Rattle.tera_statements.proofs.blocks.new_block.Goals as goal
 

@@ -1,4 +1,4 @@
-use Rattle.std.proofs.Common.{◌≡◌, Some, None, inr, refl, sym, ap, ◌∙◌}
+use Rattle.std.proofs.Common.{Some, None, inr, refl, sym, ap, ◌∙◌}
 use Rattle.std.specs.Str.{bytes_eq}
 use Rattle.tera_grammar.specs.statements.Reading.Components.{end_name_in}
 use Rattle.std.proofs.lemmas.Result.{err_from_is_err_and}

@@ -1,4 +1,4 @@
-use Rattle.std.proofs.Common.{◌≡◌, [], None, Some, map, sym, ap, ◌∙◌}
+use Rattle.std.proofs.Common.{[], None, Some, map, sym, ap, ◌∙◌}
 use Rattle.std.proofs.lemmas.Result.{err_from_is_err_and}
 use Rattle.tera_base.specs.ValueView.{pairs_view, value_view}
 use Rattle.tera_grammar.specs.statements.Components.{put_pairs}

@@ -1,4 +1,3 @@
-use Rattle.std.proofs.Common.{◌≡◌}
 use Rattle.std.proofs.lemmas.Result.{err_from_is_err_and}
 use Rattle.tera_statements.proofs.Defining.{no_new_name, no_paren, no_parameters, no_metadata, head_unfinished, opened_given}
 use Rattle.tera_expect.proofs.Steps.{failed_as}

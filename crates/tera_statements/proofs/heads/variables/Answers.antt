@@ -1,4 +1,4 @@
-use Rattle.std.proofs.Common.{◌≡◌, Some, refl, ap, ◌∙◌}
+use Rattle.std.proofs.Common.{Some, refl, ap}
 use Rattle.std.proofs.lemmas.Result.{err_from_is_err_and}
 use Rattle.tera_grammar.specs.expressions.Concrete.{no_second, second}
 use Rattle.tera_grammar.specs.expressions.Reading.Front.{at}

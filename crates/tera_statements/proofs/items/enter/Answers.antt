@@ -1,5 +1,4 @@
-use Rattle.std.proofs.lemmas.Result.{err_from_is_err_and}
-use Rattle.tera_statements.proofs.Itemizing.{entered, err_takes, opens_tag}
+use Rattle.tera_statements.proofs.Itemizing.{entered, opens_tag}
 use Rattle.tera_statements.proofs.items.enter.Goals as goal
 
 pub returns-clause-enters : goal.returns-clause-enters

@@ -1,4 +1,4 @@
-use Rattle.std.proofs.Common.{◌≡◌, None, Some, refl, ap}
+use Rattle.std.proofs.Common.{None, Some, refl, ap}
 use Rattle.std.proofs.lemmas.Result.{err_from_is_err_and}
 use Rattle.tera_grammar.specs.statements.Reading.Components.{assigned_in}
 use Rattle.tera_parts.specs.Rooms.{limits_of}

@@ -1,4 +1,4 @@
-use Rattle.std.proofs.Common.{◌≡◌, inr, sym, ap, ◌∙◌}
+use Rattle.std.proofs.Common.{inr, sym, ap, ◌∙◌}
 use Rattle.std.specs.Option.{is_some}
 use Rattle.tera_statements.specs.Known.{names_of}
 use Rattle.tera_expect.specs.Taking.{name_at}

@@ -1,4 +1,4 @@
-use Rattle.std.proofs.Common.{◌≡◌, ap, subst, ◌∙◌}
+use Rattle.std.proofs.Common.{ap, subst, ◌∙◌}
 use Rattle.tera_base.specs.Values as values
 use Rattle.tera_lexer.specs.code.Seen.{seen}
 use Rattle.tera_lexer.specs.grammar.Tokens.{Token}

@@ -1,4 +1,4 @@
-use Rattle.std.proofs.Common.{◌≡◌, inr, refl}
+use Rattle.std.proofs.Common.{inr, refl}
 use Rattle.tera_expect.specs.Taking.{name_at}
 use Rattle.tera_statements.proofs.parameters.rest_parameter.Goals as goal
 

@@ -1,7 +1,5 @@
-use Rattle.std.proofs.Common.{◌≡◌}
-use Rattle.std.proofs.lemmas.Result.{err_from_is_err_and}
 use Rattle.tera_grammar.specs.statements.Reading.Parts.{finish_of, tag}
-use Rattle.tera_expect.proofs.Steps.{failed, passed}
+use Rattle.tera_expect.proofs.Steps.{passed}
 use Rattle.tera_statements.proofs.parts.closed_tag.Goals as goal
 
 pub returns-clause-gives : goal.returns-clause-gives

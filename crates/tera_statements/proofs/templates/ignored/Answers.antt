@@ -1,5 +1,3 @@
-use Rattle.std.proofs.Common.{Some}
-use Rattle.tera_statements.specs.Templates.{StandsNext}
 use Rattle.tera_statements.proofs.Refusing.{took_inside}
 use Rattle.tera_statements.proofs.Topping.{covered}
 use Rattle.tera_statements.proofs.templates.ignored.Goals as goal

@@ -1,4 +1,4 @@
-use Rattle.std.proofs.Common.{◌≡◌, ◌∙◌}
+use Rattle.std.proofs.Common.{◌∙◌}
 use Rattle.tera_statements.proofs.Topping.{blank_by}
 use Rattle.tera_statements.proofs.templates.is_blank.Goals as goal
 

@@ -1,12 +1,10 @@
-use Rattle.std.proofs.Common.{◌≡◌, ◌∙◌, [], false, ap, inr, subst, sym}
+use Rattle.std.proofs.Common.{◌∙◌, [], false, ap, inr, sym}
 use Rattle.std.proofs.lemmas.Result.{err_from_is_err_and}
 use Rattle.tera_grammar.specs.statements.Reading.{body}
 use Rattle.tera_grammar.specs.statements.Reading.Loops.{turn, weight}
-use Rattle.tera_lexer.specs.code.Cursors.{Position}
 use Rattle.tera_statements.specs.Adding.{here, seen_of}
 use Rattle.tera_parts.specs.Rooms.{limits_of}
-use Rattle.tera_expect.specs.Taking.{Took}
-use Rattle.tera_statements.specs.Templates.{StandsNext, below_top, phase_if_any, phase_of}
+use Rattle.tera_statements.specs.Templates.{below_top, phase_if_any, phase_of}
 use Rattle.tera_statements.proofs.Refusing.{empty_adds, silent_turns}
 use Rattle.tera_statements.proofs.Topping.{fails_excluded, turn_excluded}
 use Rattle.tera_statements.proofs.templates.next_item.Goals as goal

@@ -1,4 +1,3 @@
-use Rattle.std.specs.Prelude.{Result, Ok, Err, ◌≡◌, ◌⊎◌}
 use Rattle.tera_parts.specs.Rooms.{limits_of}
 use Rattle.tera_statements.proofs.Topping.{template_given}
 use Rattle.tera_statements.proofs.templates.read_template.Goals as goal

@@ -1,4 +1,4 @@
-use Rattle.std.proofs.Common.{◌≡◌, ◌∙◌, sym}
+use Rattle.std.proofs.Common.{◌∙◌, sym}
 use Rattle.tera_grammar.specs.statements.Reading.{at}
 use Rattle.tera_parts.specs.Rooms.{limits_of}
 use Rattle.tera_statements.specs.Templates.{phase_of}

@@ -1,4 +1,4 @@
-use Rattle.std.proofs.Common.{◌≡◌, ◌∙◌, [], false, ap, inl, inr, refl, subst, sym}
+use Rattle.std.proofs.Common.{◌∙◌, [], false, ap, inr, refl, subst, sym}
 use Rattle.std.proofs.lemmas.Result.{err_from_is_err_and}
 use Rattle.tera_lexer.specs.code.Cursors.{Position, is_end}
 use Rattle.tera_grammar.specs.statements.Reading.{Place, Starting, at, body}
