@@ -1,10 +1,12 @@
-// Times the lexer and the parser over each file, without the time that it takes to see that the file is a text.
+// Times the lexer, the parser and the writing of expressions over each file: the first two without the time that it
+// takes to see that the file is a text, the last without that of the parse before it.
 use std::hint::black_box;
 use std::time::Instant;
 
 unsafe extern "C" {
     fn tera_bench_tokens(bytes: *const u8, len: usize) -> u64;
     fn tera_bench_nodes(bytes: *const u8, len: usize) -> u64;
+    fn tera_bench_written(bytes: *const u8, len: usize) -> u64;
     fn tera_bench_text(bytes: *const u8, len: usize) -> u64;
 }
 
@@ -20,7 +22,7 @@ fn shortest(mut run: impl FnMut() -> u64) -> f64 {
 }
 
 fn main() {
-    println!("{:12} {:>9} {:>9} {:>9} {:>9} {:>9}", "input", "tokens", "us", "MB/s", "nodes", "us");
+    println!("{:12} {:>9} {:>9} {:>9} {:>9} {:>9} {:>9} {:>9}", "input", "tokens", "us", "MB/s", "nodes", "us", "written", "us");
     for name in std::env::args().skip(1) {
         let source = std::fs::read(&name).expect("a file");
         let (bytes, len) = (source.as_ptr(), source.len());
@@ -28,8 +30,12 @@ fn main() {
         let text = shortest(|| unsafe { tera_bench_text(bytes, len) });
         let seconds = shortest(|| unsafe { tera_bench_tokens(bytes, len) }) - text;
         let nodes = unsafe { tera_bench_nodes(bytes, len) };
-        let parse = shortest(|| unsafe { tera_bench_nodes(bytes, len) }) - text;
+        let whole = shortest(|| unsafe { tera_bench_nodes(bytes, len) });
+        let parse = whole - text;
+        let written = unsafe { tera_bench_written(bytes, len) };
+        let write = shortest(|| unsafe { tera_bench_written(bytes, len) }) - whole;
         let short = name.rsplit('/').next().unwrap_or(&name);
-        println!("{:12} {:9} {:9.0} {:9.0} {:9} {:9.0}", short, count, seconds * 1e6, len as f64 / seconds / 1e6, nodes, parse * 1e6);
+        print!("{:12} {:9} {:9.0} {:9.0}", short, count, seconds * 1e6, len as f64 / seconds / 1e6);
+        println!(" {:9} {:9.0} {:9} {:9.0}", nodes, parse * 1e6, written, write * 1e6);
     }
 }

@@ -1,9 +1,11 @@
-//! The lexer and the parser for the benchmark in `bench`, which is no Rattle.
+//! The lexer, the parser and the writing of expressions for the benchmark in `bench`, which is no Rattle.
 #![tactic(auto)]
 
 use std::alloc::Global;
 use tera_lexer::{Delimiters, tokenize};
 use tera_parser::Parser;
+use tera_source::source_of;
+use tera_tree::Node;
 
 /// How many tokens the source has, to its end or to its fault; none if it is no text.
 #[unsafe(no_mangle)]
@@ -41,4 +43,30 @@ pub extern "C" fn tera_bench_nodes(alloc: Global, source: &[u8]) -> u64 {
         Ok(output) => output.nodes.len() as u64,
         Err(_) => 0,
     }
+}
+
+/// How many bytes the source texts of the expressions at the top of the tree have, each written for itself; none if
+/// the source is refused or no text.
+#[unsafe(no_mangle)]
+pub extern "C" fn tera_bench_written(alloc: Global, source: &[u8]) -> u64 {
+    let Ok(text) = str::from_utf8(source) else {
+        return 0;
+    };
+    let parser = Parser::new(alloc, "input", text, Delimiters::default());
+    match parser.parse() {
+        Ok(output) => written(alloc, &output.nodes),
+        Err(_) => 0,
+    }
+}
+
+fn written(alloc: Global, nodes: &Vec<Node>) -> u64 {
+    let mut count = 0u64;
+    for node in nodes {
+        if let Node::Expression(e) = node
+            && let Ok(text) = source_of(alloc, e)
+        {
+            count = count.wrapping_add(text.len() as u64);
+        }
+    }
+    count
 }

@@ -2,10 +2,6 @@
 #![tactic(auto)]
 
 #[cfg(test)]
-mod lexemes;
-#[cfg(test)]
-mod looking;
-#[cfg(test)]
-mod pieces;
+mod tokens;
 #[cfg(test)]
 mod values;

@@ -6,6 +6,7 @@ mod notes;
 mod parsing;
 
 pub use parsing::Parser;
+pub use tera_expr::Limits;
 pub use tera_statements::ParserOutput;
 
 /// Spans, errors and values.

@@ -1,7 +1,5 @@
-//! Tests of the source text of expressions: printed, parsed, and printed again.
+//! Tests of the source text of expressions that are made by hand.
 #![tactic(auto)]
 
 #[cfg(test)]
-mod printed;
-#[cfg(test)]
-mod refused;
+mod made;

@@ -1,5 +1,6 @@
 //! Each public call that `parse` and `show` do not show by themselves.
 
+use std::process::Abort;
 use std::test::Fail;
 use tera_lexer::laws as lexer_laws;
 use tera_parser::laws;
@@ -24,34 +25,30 @@ fn spans_and_nodes(rt: HostRuntime) -> Result<(), Fail> {
     Ok(())
 }
 
+// The text and the place that the error tells.
+fn told(rt: &impl Abort, error: Error) -> (String, Span) {
+    let ErrorKind::SyntaxError(report) = error.kind else {
+        panic!(rt; "memory is left");
+    };
+    let ReportError { message, span, .. } = Box::into_inner(report);
+    (message, span)
+}
+
 #[test]
 fn errors(rt: HostRuntime) -> Result<(), Fail> {
     let ErrorKind::Message(message) = Error::message(rt.alloc(), "what").kind else {
         panic!(rt; "memory is left");
     };
     assert_eq!(rt; message.as_str(), "what");
-    let ErrorKind::SyntaxError(report) = Error::syntax_error(rt.alloc(), "why", &place()).kind
-    else {
-        panic!(rt; "memory is left");
-    };
-    assert_eq!(rt; report.message.as_str(), "why");
-    assert_eq!(rt; report.span, place());
-    let ErrorKind::SyntaxError(report) = ReportError::unexpected_end_of_input(
-        rt.alloc(),
-        &place(),
-    ).kind
-    else {
-        panic!(rt; "memory is left");
-    };
-    assert_eq!(rt; report.message.as_str(), "Unexpected end of input");
-    assert_eq!(rt; (report.span.start_line, report.span.start_col), (3, 4));
-    assert_eq!(rt; report.span.range, 5..6);
-    let told = Error::reported(rt.alloc(), String::from_str(rt.alloc(), "how"), &place());
-    let ErrorKind::SyntaxError(report) = told.kind else {
-        panic!(rt; "memory is left");
-    };
-    assert_eq!(rt; report.message.as_str(), "how");
-    assert_eq!(rt; report.span, place());
+    let (message, span) = told(&rt, Error::syntax_error(rt.alloc(), "why", &place()));
+    assert_eq!(rt; (message.as_str(), span), ("why", place()));
+    let how = String::from_str(rt.alloc(), "how");
+    let (message, span) = told(&rt, Error::reported(rt.alloc(), how, &place()));
+    assert_eq!(rt; (message.as_str(), span), ("how", place()));
+    let end = ReportError::unexpected_end_of_input(rt.alloc(), &place());
+    let (message, span) = told(&rt, end);
+    assert_eq!(rt; message.as_str(), "Unexpected end of input");
+    assert_eq!(rt; (span.start_line, span.start_col, span.range), (3, 4, 5..6));
     Ok(())
 }
 

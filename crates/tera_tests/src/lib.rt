@@ -1,29 +1,15 @@
-//! Tests of expressions, the parser and the program's library, over memory readers and writers.
+//! Tests of tokens that are asked for, of components and types, and of the program's library.
 #![tactic(auto)]
 
 #[cfg(test)]
 mod calls;
 #[cfg(test)]
-mod compounds;
+mod components;
 #[cfg(test)]
 mod expected;
-#[cfg(test)]
-mod expression_faults;
-#[cfg(test)]
-mod expressions;
-#[cfg(test)]
-mod limits;
-#[cfg(test)]
-mod markers;
-#[cfg(test)]
-mod operators;
-#[cfg(test)]
-mod printed;
 #[cfg(test)]
 mod shown;
 #[cfg(test)]
 mod streams;
-#[cfg(test)]
-mod trees;
 #[cfg(test)]
 mod types;

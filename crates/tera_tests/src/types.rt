@@ -8,7 +8,7 @@ use tera_parser::ast::{
     ComponentArgument, ComponentDefinition, Expression, Node, Type, UnaryOperator,
 };
 use tera_parser::laws::same_output;
-use tera_parser::value::{Error, ErrorKind, Key, Map, Span, Value};
+use tera_parser::value::{Key, Map, Span, Value};
 use tera_tree::{build, laws};
 
 const ALL: [Type; 7] = [
@@ -45,17 +45,6 @@ fn types_by_name(rt: HostRuntime) -> Result<(), Fail> {
     }
     assert_eq!(rt; Type::from_str(rt.alloc(), "INTEGER")?, Type::Integer);
     assert_eq!(rt; Type::from_str(rt.alloc(), "bYtEs")?, Type::Bytes);
-    Ok(())
-}
-
-#[test]
-fn another_name_is_refused(rt: HostRuntime) -> Result<(), Fail> {
-    let text =
-        "Found float but the only types allowed are: string, bool, integer, number, array, map and bytes";
-    let wanted = Error {
-        kind: ErrorKind::Message(String::from_str(rt.alloc(), text)?),
-    };
-    assert_eq!(rt; Type::from_str(rt.alloc(), "float"), Err(wanted));
     Ok(())
 }
 

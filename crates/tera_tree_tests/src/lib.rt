@@ -1,14 +1,8 @@
-//! Tests of trees that are made from their parts: printed texts, lines, taking apart, and calls of components.
+//! Tests of trees that are made from their parts: printed texts, long chains, and texts of values.
 #![tactic(auto)]
 
 #[cfg(test)]
 mod chains;
-#[cfg(test)]
-mod components;
-#[cfg(test)]
-mod definitions;
-#[cfg(test)]
-mod lines;
 #[cfg(test)]
 mod making;
 #[cfg(test)]

@@ -1,0 +1,163 @@
+//! The cases of one file, compared.
+
+use crate::answers::answer;
+use crate::beginnings::refused_badly;
+use crate::faces::broken;
+use crate::kept::are_kept;
+use crate::settings::{Setting, read, setting_of, source_of_case};
+use case_files::{Case, Options, Section, Shown};
+use std::alloc::AllocError;
+
+/// How many cases were compared.
+#[derive(Clone, Copy, Debug, PartialEq, Eq)]
+pub(crate) struct Count {
+    pub(crate) cases: u64,
+    /// The beginnings of accepted sources that were read.
+    pub(crate) beginnings: u64,
+    pub(crate) different: u64,
+}
+
+/// Why a file was not compared to its end.
+#[derive(Clone, Copy, Debug, PartialEq, Eq)]
+pub(crate) enum Stop {
+    Memory,
+    Read,
+    Write,
+    Wrong { line: usize, what: &'static str },
+}
+
+impl From<AllocError> for Stop {
+    fn from(_error: AllocError) -> Stop {
+        Stop::Memory
+    }
+}
+
+/// Compares each case of the sections, and prints each difference.
+pub(crate) fn compare_all(
+    rt: &HostRuntime,
+    file: &str,
+    sections: &Vec<Section>,
+) -> Result<Count, Stop> {
+    let mut count = Count {
+        cases: 0,
+        beginnings: 0,
+        different: 0,
+    };
+    for section in sections {
+        compare_section(rt, file, section, &mut count)?;
+    }
+    Ok(count)
+}
+
+fn compare_section(
+    rt: &HostRuntime,
+    file: &str,
+    section: &Section,
+    count: &mut Count,
+) -> Result<(), Stop> {
+    let Some(setting) = setting_of(rt.alloc(), file, &section.options)? else {
+        let what = "markers or limits that no template can be read with";
+        return Err(Stop::Wrong {
+            line: section.line,
+            what,
+        });
+    };
+    for case in &section.cases {
+        count.cases = count.cases.saturating_add(1);
+        if !compare(rt, &setting, &section.options, case, count)? {
+            count.different = count.different.saturating_add(1);
+        }
+    }
+    Ok(())
+}
+
+// Whether the answer is the one that is wanted, and each beginning of an accepted source has an answer.
+fn compare(
+    rt: &HostRuntime,
+    setting: &Setting<'_>,
+    options: &Options,
+    case: &Case,
+    count: &mut Count,
+) -> Result<bool, Stop> {
+    let alloc = rt.alloc();
+    let source = source_of_case(alloc, setting, options, case.source.as_str())?;
+    let found = answer(alloc, setting, options, source.as_str())?;
+    let wanted = case.wanted.as_str();
+    if found.as_str() != wanted {
+        return differs(rt, setting.file, case, source.as_str(), found.as_str());
+    }
+    if options.uncut || !is_read_whole(options.shown) {
+        return Ok(true);
+    }
+    let Ok(output) = read(alloc, setting, source.as_str()) else {
+        return Ok(true);
+    };
+    if let Some(what) = broken(alloc, &output)? {
+        return fails(rt, setting.file, case, what);
+    }
+    if !are_kept(alloc, setting, &output)? {
+        let what = "an expression whose source text is not read as it";
+        return fails(rt, setting.file, case, what);
+    }
+    cut(rt, setting, case, source.as_str(), count)
+}
+
+// Whether the source is read as a template.
+fn is_read_whole(shown: Shown) -> bool {
+    matches!(
+        shown,
+        Shown::Tree | Shown::Ends | Shown::Spans | Shown::Beginnings | Shown::WrittenBack
+    )
+}
+
+// Whether each beginning of the source is a template, or has a fault that stands in it.
+fn cut(
+    rt: &HostRuntime,
+    setting: &Setting<'_>,
+    case: &Case,
+    source: &str,
+    count: &mut Count,
+) -> Result<bool, Stop> {
+    for at in 0..=source.len() {
+        let Some(beginning) = source.get(..at) else {
+            continue;
+        };
+        count.beginnings = count.beginnings.saturating_add(1);
+        if refused_badly(rt.alloc(), setting, beginning)? {
+            return badly_cut(rt, setting.file, case, at);
+        }
+    }
+    Ok(true)
+}
+
+fn differs(
+    rt: &HostRuntime,
+    file: &str,
+    case: &Case,
+    source: &str,
+    found: &str,
+) -> Result<bool, Stop> {
+    let line = case.line;
+    let wanted = case.wanted.as_str();
+    match println!(rt; "{file}:{line}: {source:?}\n  wanted {wanted:?}\n  found  {found:?}") {
+        Ok(()) => Ok(false),
+        Err(_) => Err(Stop::Write),
+    }
+}
+
+fn fails(rt: &HostRuntime, file: &str, case: &Case, what: &str) -> Result<bool, Stop> {
+    let line = case.line;
+    match println!(rt; "{file}:{line}: it has {what}") {
+        Ok(()) => Ok(false),
+        Err(_) => Err(Stop::Write),
+    }
+}
+
+fn badly_cut(rt: &HostRuntime, file: &str, case: &Case, at: usize) -> Result<bool, Stop> {
+    let line = case.line;
+    let what = "neither a tree nor a fault that stands in it";
+    match println!(rt; "{file}:{line}: cut off behind {at} bytes it has {what}") {
+        Ok(()) => Ok(false),
+        Err(_) => Err(Stop::Write),
+    }
+}

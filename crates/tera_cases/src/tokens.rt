@@ -1,0 +1,64 @@
+//! The tokens of a source.
+
+use crate::settings::Setting;
+use case_files::Shown;
+use std::alloc::{AllocError, Global};
+use tera_base::{Error, ErrorKind, Span};
+use tera_lexer::{Token, tokenize};
+
+/// The tokens of the source, and at last its fault.
+pub(crate) fn listing(
+    alloc: Global,
+    setting: &Setting<'_>,
+    shown: Shown,
+    source: &str,
+) -> Result<String, AllocError> {
+    let delimiters = setting.delimiters.clone()?;
+    let mut all = String::new(alloc);
+    if delimiters.validate(alloc).is_err() {
+        return Ok(all);
+    }
+    for item in tokenize(alloc, source, delimiters) {
+        let text = match &item {
+            Ok((token, span)) => token_text(alloc, shown, token, span)?,
+            Err(error) => fault_text(alloc, shown, error)?,
+        };
+        if !all.is_empty() {
+            all.push_str("; ")?;
+        }
+        all.push_str(text.as_str())?;
+    }
+    Ok(all)
+}
+
+fn token_text(
+    alloc: Global,
+    shown: Shown,
+    token: &Token<'_>,
+    span: &Span,
+) -> Result<String, AllocError> {
+    let place = place_text(alloc, shown, span)?;
+    match shown {
+        Shown::TokenNames => format!(in alloc; "{place} {token}"),
+        _ => format!(in alloc; "{place} {token:?}"),
+    }
+}
+
+fn fault_text(alloc: Global, shown: Shown, error: &Error) -> Result<String, AllocError> {
+    let ErrorKind::SyntaxError(report) = &error.kind else {
+        return Err(AllocError);
+    };
+    let place = place_text(alloc, shown, &report.span)?;
+    let message = report.message.as_str();
+    format!(in alloc; "{place} {message}")
+}
+
+fn place_text(alloc: Global, shown: Shown, span: &Span) -> Result<String, AllocError> {
+    let (line, column) = (span.start_line, span.start_col);
+    let (last, end) = (span.end_line, span.end_col);
+    let range = &span.range;
+    match shown {
+        Shown::TokenPlaces => format!(in alloc; "{line}:{column}-{last}:{end} ({range:?})"),
+        _ => format!(in alloc; "{range:?}"),
+    }
+}
