@@ -9,7 +9,7 @@ use Rattle.tera_base.specs.Values.{Pairs, Vals}
 use Rattle.tera_base.specs.ValueView.{value_view}
 use Rattle.tera_base.specs.declared.errors.Error.{Error}
 use Rattle.tera_base.specs.declared.values.Value.{Value}
-use Rattle.tera_lexer.specs.code.Cursors.{IsLater, Position}
+use Rattle.tera_lexer.specs.code.Cursors.{Position}
 use Rattle.tera_lexer.specs.grammar.Tokens.{Items}
 use Rattle.tera_tree.specs.View.{args_view, entries_view, expression_view}
 use Rattle.tera_tree.specs.declared.ast.Expression.{Expression}

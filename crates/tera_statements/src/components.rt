@@ -1,7 +1,6 @@
 //! The tags of a component's definition.
 
 ghost use Rattle.std.specs.Prelude.{◌≡◌, ◌++◌, ◌∷◌, [], IfErr, IfOk, OnOk, map, string_bytes};
-ghost use Rattle.tera_base.specs.Errors.{IsMemory};
 ghost use Rattle.tera_base.specs.ValueView.{pairs_view, value_view};
 ghost use Rattle.tera_base.specs.declared.utils.Span.{Span};
 ghost use Rattle.tera_parts.specs.Rooms.{limits_of};

@@ -5,7 +5,6 @@ ghost use Rattle.tera_base.specs.Errors.{IsMemory};
 ghost use Rattle.tera_grammar.specs.statements.Names as grammar_names;
 ghost use Rattle.tera_grammar.specs.statements.Output.{AddsNothing};
 ghost use Rattle.tera_grammar.specs.statements.Reading.{at, body, step};
-ghost use Rattle.tera_grammar.specs.statements.Reading.Loops as loops;
 ghost use Rattle.tera_grammar.specs.statements.Reading.Loops.{node_weight, turn, weight, with_added};
 ghost use Rattle.tera_grammar.specs.statements.Reading.Parts.{front};
 ghost use Rattle.tera_grammar.specs.statements.Top.{is_blank};
