@@ -8,14 +8,19 @@ ghost use Rattle.tera_base.specs.ValueView.{key_view};
 use crate::values::Key;
 use indexmap::IndexSet;
 use std::alloc::{AllocError, Global};
+use std::hash::{BuildHasherDefault, DefaultHasher};
 use std::marker::Model;
+
+// SipHash: keys of a source that were chosen so that their hashes are equal are harder to find than under the
+// hash that a set has by itself.
+type KeySet = IndexSet<Key, BuildHasherDefault<DefaultHasher>>;
 
 /// Keys in the order in which they came, none twice. They stand apart from the map, so that a value is small; the
 /// first key takes memory for it.
 #[derive(Debug, Drop)]
 pub(crate) struct Keys {
     alloc: Global,
-    set: Option<Box<IndexSet<Key>>>,
+    set: Option<Box<KeySet>>,
 }
 
 impl Model for Keys {
@@ -83,7 +88,7 @@ impl Keys {
                 set.insert(key)?;
             }
             None => {
-                let mut set = IndexSet::new(self.alloc);
+                let mut set = IndexSet::with_hasher(self.alloc, BuildHasherDefault::new());
                 set.insert(key)?;
                 self.set = Some(Box::new(self.alloc, set)?);
             }
@@ -108,7 +113,7 @@ impl Keys {
 }
 
 #[tactic(auto, using(crate::proofs::Rows::copied_keys, crate::proofs::Rows::copied_len))]
-fn copy_set(keys: &IndexSet<Key>) -> Result<IndexSet<Key>, AllocError>
+fn copy_set(keys: &KeySet) -> Result<KeySet, AllocError>
     ensures same { IfOk result (λ c. map key_view c.keys ≡ map key_view keys.now.keys) }
     ensures len { IfOk result (λ c. length c.keys ≡ length keys.now.keys) }
 {
