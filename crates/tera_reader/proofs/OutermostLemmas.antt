@@ -26,7 +26,9 @@ use Rattle.tera_grammar.specs.expressions.Reading.Loop.{expr}
 use Rattle.tera_grammar.specs.expressions.Reading.Whole.{kwargs_of, left_over, outermost, widest}
 use Rattle.tera_grammar.specs.expressions.Stack.{Gives}
 use Rattle.tera_grammar.specs.statements.Expressions as parts
-use Rattle.tera_grammar.specs.statements.Expressions.{LiteralArray, LiteralMap, array_of, map_of}
+use Rattle.tera_grammar.specs.statements.Expressions.{LiteralArray, LiteralMap}
+use Rattle.tera_grammar.specs.statements.Reading.Expressions as readings
+use Rattle.tera_grammar.specs.statements.Reading.Expressions.{array_of, map_of}
 use Rattle.tera_expect.specs.Taking.{Fails, GivesBy}
 use Rattle.tera_parts.specs.Paths.{GivesPath}
 use Rattle.tera_reader.specs.Attributes.{ListsAttributes}
@@ -46,16 +48,16 @@ module _ (limits : Limits) (l : Bool) (old new : Items) (k : ℕ) where
   abbrev tree_read : Reads parts.Expression
   tree_read = expr limits.depth (widest limits l) 0 (at limits.links old)
 
-  pub expression_alone : (r : Result Expression Error) → Gives expression_view l r (at k new) tree_read → GivesBy (IsExpression l) r new (parts.expression_of limits l old)
-  unfolding parts.expression_of parts.expression_output
+  pub expression_alone : (r : Result Expression Error) → Gives expression_view l r (at k new) tree_read → GivesBy (IsExpression l) r new (readings.expression_of limits l old)
+  unfolding readings.expression_of parts.expression_output
   expression_alone (Ok e) gives = alone (IsExpression l) (Ok e) k new tree_read gives
   expression_alone (Err e) gives = alone (IsExpression l) (Err e) k new tree_read gives
 
   -- attributes
   pub attributes_alone : (r : Result (Vec (MapEntryOf Expression) Global) Error)
       → GivesBy (ListsAttributes l) r (at k new) (attributes_of (outermost limits) (widest limits l) (at 0 old))
-      → GivesBy (λ (es : Vec (MapEntryOf Expression) Global) a. AreAttributes l es.items a) r new (parts.attributes_of limits l old)
-  unfolding parts.attributes_of parts.attributes_output
+      → GivesBy (λ (es : Vec (MapEntryOf Expression) Global) a. AreAttributes l es.items a) r new (readings.attributes_of limits l old)
+  unfolding readings.attributes_of parts.attributes_output
   attributes_alone r gives = alone (ListsAttributes l) r k new (attributes_of (outermost limits) (widest limits l) (at 0 old)) gives
 
   -- arguments with their parentheses
@@ -98,12 +100,12 @@ module _ (limits : Limits) (l : Bool) (old new : Items) (k : ℕ) where
   filter_by span input here (Err e) is h = h
 
   pub filter_alone : (span : Span) (input : Expr) (here : Span) (r : Result Expression Error) → input ≡ tree.Const values.Nothing span
-      → GivesBy (calls.IsFilter l input here) r (at k new) filter_read → GivesBy (IsFilter l span) r new (parts.filter_of limits l old)
-  unfolding parts.filter_of
+      → GivesBy (calls.IsFilter l input here) r (at k new) filter_read → GivesBy (IsFilter l span) r new (readings.filter_of limits l old)
+  unfolding readings.filter_of
   filter_alone span input here r is gives = alone (IsFilter l span) r k new filter_read (filter_by span input here r is gives)
 
 -- the name of a component
-pub component_alone : (old new : Items) (r : Result (String Global) Error) → GivesPath old r new → GivesBy IsComponent r new (parts.component_of old)
+pub component_alone : (old new : Items) (r : Result (String Global) Error) → GivesPath old r new → GivesBy IsComponent r new (readings.component_of old)
 unfolding parts.component_text
 component_alone old new (Ok s) gives = gives
 component_alone old new (Err e) gives = gives

@@ -7,7 +7,8 @@ use Rattle.tera_grammar.specs.Options.{◌>>=◌}
 use Rattle.tera_grammar.specs.expressions.Operators.{GreaterThan}
 use Rattle.tera_grammar.specs.expressions.Marks.{Bar, Assign, Operation}
 use Rattle.tera_grammar.specs.expressions.Reading.Front.{takes}
-use Rattle.tera_grammar.specs.statements.Expressions.{Limits, Expression, Filtering, Attributes, ComponentName, attributes_of, component_of, component_text, expression_of, filter_of}
+use Rattle.tera_grammar.specs.statements.Expressions.{Limits, Expression, Filtering, Attributes, ComponentName, component_text}
+use Rattle.tera_grammar.specs.statements.Reading.Expressions.{attributes_of, component_of, expression_of, filter_of}
 use Rattle.tera_grammar.specs.statements.Grammar.{Body, Item, Single, Set, Capturing, InCapture, Path, in_loop}
 use Rattle.tera_grammar.specs.statements.Heads.{Filters, NoFilters, SetBody, Section, CallBody}
 use Rattle.tera_grammar.specs.statements.Names.{Names}

@@ -3,7 +3,8 @@ use Rattle.std.proofs.Common.{◌≡◌, ℕ, Bool, false, List, ◌∷◌, map,
 use Rattle.tera_base.specs.declared.utils.Span.{Span}
 use Rattle.tera_lexer.specs.grammar.Tokens.{Items}
 use Rattle.tera_grammar.specs.Options.{◌>>=◌}
-use Rattle.tera_grammar.specs.statements.Expressions.{Limits, Expression, expression_of}
+use Rattle.tera_grammar.specs.statements.Expressions.{Limits, Expression}
+use Rattle.tera_grammar.specs.statements.Reading.Expressions.{expression_of}
 use Rattle.tera_grammar.specs.statements.Grammar.{Body, Branches, Elif, Item, Else, NoElse, Otherwise, For, If, InFor, InForElse, InIf, Path, in_loop}
 use Rattle.tera_grammar.specs.statements.Heads.{Loop}
 use Rattle.tera_grammar.specs.statements.Names.{Names}

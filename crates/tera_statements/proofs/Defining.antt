@@ -12,7 +12,8 @@ use Rattle.tera_grammar.specs.Words.{is_one_of}
 use Rattle.tera_grammar.specs.expressions.Marks.{LeftBrace, LeftParen}
 use Rattle.tera_grammar.specs.expressions.Reading.Front.{Takes, begins, takes}
 use Rattle.tera_grammar.specs.statements.Components.{Head, Parameters, component_texts, definition_of, metadata_output, put_arguments, rest_of}
-use Rattle.tera_grammar.specs.statements.Expressions.{Limits, ComponentName, LiteralMap, component_of, component_text, map_of}
+use Rattle.tera_grammar.specs.statements.Expressions.{Limits, ComponentName, LiteralMap, component_text}
+use Rattle.tera_grammar.specs.statements.Reading.Expressions.{component_of, map_of}
 use Rattle.tera_grammar.specs.statements.Names.{agrees}
 use Rattle.tera_grammar.specs.statements.Parts.{AtEndComponent, Edge}
 use Rattle.tera_grammar.specs.statements.Reading.Components.{Opened, end_name_in, ending_of, head, is_name, metadata_in, opened_of, parameters_of}

@@ -9,7 +9,8 @@ use Rattle.tera_grammar.specs.Options.{◌>>=◌}
 use Rattle.tera_grammar.specs.expressions.Marks.{Operation}
 use Rattle.tera_grammar.specs.expressions.Operators.{GreaterThan}
 use Rattle.tera_grammar.specs.expressions.Reading.Front.{Takes, takes}
-use Rattle.tera_grammar.specs.statements.Expressions.{Attributes, Expression, Filtering, Limits, attributes_of, expression_of, filter_of}
+use Rattle.tera_grammar.specs.statements.Expressions.{Attributes, Expression, Filtering, Limits}
+use Rattle.tera_grammar.specs.statements.Reading.Expressions.{attributes_of, expression_of, filter_of}
 use Rattle.tera_grammar.specs.statements.Heads.{Filters, filters_output}
 use Rattle.tera_grammar.specs.statements.Parts.{Edge}
 use Rattle.tera_grammar.specs.statements.Reading.Heads.{filters_of}

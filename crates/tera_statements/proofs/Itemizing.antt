@@ -9,7 +9,8 @@ use Rattle.tera_lexer.specs.grammar.Tokens as toks
 use Rattle.tera_lexer.specs.grammar.Tokens.{Tok, Items, Token}
 use Rattle.tera_lexer.specs.declared.lexer.delimiters.Kind.TheVariants as kind
 use Rattle.tera_grammar.specs.Options.{◌>>=◌}
-use Rattle.tera_grammar.specs.statements.Expressions.{Limits, Expression, expression_of}
+use Rattle.tera_grammar.specs.statements.Expressions.{Limits, Expression}
+use Rattle.tera_grammar.specs.statements.Reading.Expressions.{expression_of}
 use Rattle.tera_grammar.specs.statements.Grammar.{Item, Path, Shown, Single, Text, in_loop}
 use Rattle.tera_grammar.specs.statements.Names.{Names}
 use Rattle.tera_grammar.specs.statements.Parts as parts

@@ -11,7 +11,8 @@ use Rattle.tera_grammar.specs.expressions.Operators.{In}
 use Rattle.tera_grammar.specs.expressions.Reading.Atoms.{second_at, variables_of}
 use Rattle.tera_grammar.specs.expressions.Reading.Front.{Place, Reads, Takes, at, moved, name_of, skip, taken_name, takes}
 use Rattle.tera_grammar.specs.expressions.Reading.Whole.{left_over}
-use Rattle.tera_grammar.specs.statements.Expressions.{Expression, Limits, expression_of}
+use Rattle.tera_grammar.specs.statements.Expressions.{Expression, Limits}
+use Rattle.tera_grammar.specs.statements.Reading.Expressions.{expression_of}
 use Rattle.tera_grammar.specs.statements.Heads.{Loop}
 use Rattle.tera_grammar.specs.statements.Parts.{Edge}
 use Rattle.tera_grammar.specs.statements.Reading.Heads.{free_name, loop_of}

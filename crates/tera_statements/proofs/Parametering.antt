@@ -29,7 +29,8 @@ use Rattle.tera_grammar.specs.expressions.Reading.Front.{Takes, begins, literal_
 use Rattle.tera_grammar.proofs.expressions.Fronts.{takes_ok}
 use Rattle.tera_grammar.specs.statements.Components.{Annotation, Assigned, Default, LiteralDefault, MinusDefault, NothingDefault, ArrayDefault, MapDefault, Parameter, Parameters, Closed, Rest, Final, argument_of, default_has_type, is_body, is_known, type_of_argument}
 use Rattle.tera_grammar.specs.statements.Components as components
-use Rattle.tera_grammar.specs.statements.Expressions.{Limits, array_of, map_of}
+use Rattle.tera_grammar.specs.statements.Expressions.{Limits}
+use Rattle.tera_grammar.specs.statements.Reading.Expressions.{array_of, map_of}
 use Rattle.tera_grammar.specs.statements.Parts.{Name}
 use Rattle.tera_grammar.specs.statements.Reading.Components.{annotation_in, assigned_in, at_in, default_at, default_by, default_of, fresh_name, minus_of, parameter, parameter_behind, parameter_of, parameters_at, parameters_behind, parameters_in, parameters_of}
 use Rattle.tera_grammar.specs.statements.Reading.Loops.{Listing}

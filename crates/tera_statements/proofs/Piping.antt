@@ -10,7 +10,8 @@ use Rattle.tera_tree.specs.View.{expression_view}
 use Rattle.tera_tree.specs.declared.ast.Expression.{Expression}
 use Rattle.tera_grammar.specs.expressions.Marks.{Bar}
 use Rattle.tera_grammar.specs.expressions.Reading.Front.{takes}
-use Rattle.tera_grammar.specs.statements.Expressions.{Filtering, Limits, filter_of}
+use Rattle.tera_grammar.specs.statements.Expressions.{Filtering, Limits}
+use Rattle.tera_grammar.specs.statements.Reading.Expressions.{filter_of}
 use Rattle.tera_grammar.specs.statements.Heads.{Filters}
 use Rattle.tera_grammar.specs.statements.Reading.Heads.{filters_of}
 use Rattle.tera_grammar.specs.statements.Reading.Loops.{Piping}

@@ -5,7 +5,8 @@ use Rattle.tera_grammar.specs.Options.{◌>>=◌, guard}
 use Rattle.tera_grammar.specs.Words.{is_one_of}
 use Rattle.tera_grammar.specs.expressions.Reading.Front.{Takes}
 use Rattle.tera_grammar.specs.statements.Components.{component_texts}
-use Rattle.tera_grammar.specs.statements.Expressions.{ComponentName, component_of, component_text}
+use Rattle.tera_grammar.specs.statements.Expressions.{ComponentName, component_text}
+use Rattle.tera_grammar.specs.statements.Reading.Expressions.{component_of}
 use Rattle.tera_grammar.specs.statements.Names.{agrees}
 use Rattle.tera_grammar.specs.statements.Reading.Components as reading
 use Rattle.tera_grammar.specs.statements.Reading.Components.{end_name_in, is_name}

@@ -12,7 +12,8 @@ use Rattle.tera_grammar.specs.expressions.Operators.{GreaterThan}
 use Rattle.tera_grammar.specs.expressions.Output.{key_variable, value_variable}
 use Rattle.tera_grammar.specs.expressions.Reading.Front.{Takes, takes}
 use Rattle.tera_grammar.specs.statements.Expressions as expressions
-use Rattle.tera_grammar.specs.statements.Expressions.{Attributes, Filtering, Limits, attributes_of, expression_of, filter_of, filter_output}
+use Rattle.tera_grammar.specs.statements.Expressions.{Attributes, Filtering, Limits, filter_output}
+use Rattle.tera_grammar.specs.statements.Reading.Expressions.{attributes_of, expression_of, filter_of}
 use Rattle.tera_grammar.specs.statements.Heads.{Loop, Filters, filters_output}
 use Rattle.tera_grammar.specs.statements.Parts.{Edge}
 use Rattle.tera_grammar.specs.statements.Reading.Heads.{filters_of, loop_of}

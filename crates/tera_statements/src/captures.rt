@@ -4,7 +4,8 @@ ghost use Rattle.std.specs.Prelude.{◌≡◌, ◌⊎◌, IfErr, IfOk, false, tr
 ghost use Rattle.std.specs.Str.{bytes_eq};
 ghost use Rattle.tera_base.specs.Errors.{IsMemory};
 ghost use Rattle.tera_parts.specs.Rooms.{limits_of};
-ghost use Rattle.tera_grammar.specs.statements.Expressions.{ComponentName, component_of, component_text};
+ghost use Rattle.tera_grammar.specs.statements.Expressions.{ComponentName, component_text};
+ghost use Rattle.tera_grammar.specs.statements.Reading.Expressions.{component_of};
 ghost use Rattle.tera_grammar.specs.statements.Reading as reading;
 ghost use Rattle.tera_grammar.specs.statements.Reading.{call_end, call_of, section_of, set_of};
 ghost use Rattle.tera_statements.specs.Adding.{AddsBy, here, seen_of};

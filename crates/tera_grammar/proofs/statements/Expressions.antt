@@ -16,7 +16,8 @@ use Rattle.tera_grammar.proofs.expressions.Only.{attributes_end}
 use Rattle.tera_grammar.proofs.expressions.Later.{IsInside, yield_later, args_later, attributes_later, dotted_later, row_later}
 use Rattle.tera_grammar.proofs.expressions.Bodiless.{has_body, output_bodiless}
 use Rattle.tera_grammar.proofs.expressions.Wholes as wholes
-use Rattle.tera_grammar.specs.statements.Expressions.{Limits, Expression, IsExpression, expression_yield, expression_output, expression_of, Filtering, IsFilter, filter_yield, filter_of, Attributes, AreAttributes, attributes_yield, attributes_of, ComponentName, component_yield, component_of, LiteralArray, IsLiteralArray, array_yield, array_of, LiteralMap, IsLiteralMap, map_yield, map_of}
+use Rattle.tera_grammar.specs.statements.Expressions.{Limits, Expression, IsExpression, expression_yield, expression_output, Filtering, IsFilter, filter_yield, Attributes, AreAttributes, attributes_yield, ComponentName, component_yield, LiteralArray, IsLiteralArray, array_yield, LiteralMap, IsLiteralMap, map_yield}
+use Rattle.tera_grammar.specs.statements.Reading.Expressions.{expression_of, filter_of, attributes_of, component_of, array_of, map_of}
 use Rattle.tera_grammar.specs.expressions.Ends.{IsStop}
 use Rattle.tera_grammar.proofs.statements.Inside.{IsClosed}
 use Rattle.tera_grammar.proofs.Options.{bytes_same}

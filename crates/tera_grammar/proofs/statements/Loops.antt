@@ -14,7 +14,8 @@ use Rattle.tera_grammar.specs.statements.Types.{Sorted, put_name}
 use Rattle.tera_grammar.specs.Options.{◌>>=◌, guard}
 use Rattle.tera_grammar.specs.statements.Names.{Names, no_names}
 use Rattle.tera_grammar.specs.statements.Parts.{Edge, AtElif, OpensExtends}
-use Rattle.tera_grammar.specs.statements.Expressions.{Limits, Expression, expression_of, expression_output, Filtering, filter_of, filter_output}
+use Rattle.tera_grammar.specs.statements.Expressions.{Limits, Expression, expression_output, Filtering, filter_output}
+use Rattle.tera_grammar.specs.statements.Reading.Expressions.{expression_of, filter_of}
 use Rattle.tera_grammar.specs.statements.Components.{Parameter, argument_of, Parameters, put_arguments, rest_of, More}
 use Rattle.tera_grammar.specs.statements.Heads.{Filters, NoFilters, Piped, filters_output, SetBody, Section, CallBody}
 use Rattle.tera_grammar.specs.statements.Grammar.{is_outermost, Text, Shown, Set, Include, Extends, Break, Continue, Body, Done, Then, Item, Single, Block, Define, Capturing, For, If, Branches, Elif, Last, Else, Path, in_loop}

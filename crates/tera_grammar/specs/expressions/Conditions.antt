@@ -71,9 +71,9 @@ abbrev mutual
 
   -- the second truth says whether the fields are those of a loop
   pub AreLinks : Bool → Bool → Links → Type 0
-  AreLinks in_loop c no_links = Unit {0}
-  AreLinks in_loop c (field d n ls) = (is_field_of c n.text ≡ true) × AreLinks in_loop c ls
-  AreLinks in_loop c (item b s ls) = IsSub in_loop s × AreLinks in_loop c ls
+  AreLinks in_loop looping no_links = Unit {0}
+  AreLinks in_loop looping (field d n ls) = (is_field_of looping n.text ≡ true) × AreLinks in_loop looping ls
+  AreLinks in_loop looping (item b s ls) = IsSub in_loop s × AreLinks in_loop looping ls
 
   pub IsSub : Bool → Sub → Type 0
   IsSub in_loop (index e c) = IsExpression in_loop e

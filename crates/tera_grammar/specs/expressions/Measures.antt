@@ -89,6 +89,8 @@ subscripts = record { opening = 0; subscript = 1; array = 0 }
 abbrev pub arrays : Weight
 arrays = record { opening = 0; subscript = 0; array = 1 }
 
+-- The height of an expression: one for itself, and one for each expression that is opened in it, along the deepest way
+-- inside. So an expression that opens none has the height 1.
 abbrev pub height : Tree → ℕ
 height t = suc (deep openings t)
 

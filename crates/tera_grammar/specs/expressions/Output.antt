@@ -14,6 +14,8 @@ use Rattle.tera_grammar.specs.expressions.Operators.{operator_made}
 use Rattle.tera_grammar.specs.expressions.Concrete.{Name, Quote, Simple, Escaped, Lit, Number, Quoted, Truth, Sign, Negative, Negates, Joint, plain_dot, optional_dot, Bracket, plain_bracket, optional_bracket, Negation, plainly, negated, Second, no_second, second, Dotted, no_dots, dots, Op, Single, NotIn, Tree, Atomic, Prefix, Suffixed, Infix, Atom, Literal, Null, Chain, Call, Paren, Array, Comprehension, Map, Component, Links, no_links, field, item, Sub, index, slice, Part, absent, present, Extra, no_extra, extra, Row, ended, only, then, Element, plain, spread, pair, argument, Attributes, no_attributes, bare, quoted, valued, spreading, Suffix, Test, Filter, Subscript, Args, no_args, args, Operator, Binary, Condition}
 use Rattle.tera_grammar.specs.expressions.Spans.{spanning, sign_span, row_end, args_end, first, last}
 use Rattle.tera_grammar.specs.Words.{is_loop}
+-- where an expression stands
+pub use Rattle.tera_tree.specs.Spans.{expr_span as place_of}
 
 abbrev pub quote_text : Quote → List ℕ
 quote_text (Simple text) = text
@@ -101,24 +103,6 @@ abbrev pub is_constant : Expr → Bool
 is_constant (tree.Const v span) = true
 is_constant _ = false
 
--- where an expression stands
-abbrev pub place_of : Expr → Span
-place_of (tree.Const v s) = s
-place_of (tree.Var n s) = s
-place_of (tree.GetAttr e n o s) = s
-place_of (tree.GetItem e i o s) = s
-place_of (tree.Slice e a b c o s) = s
-place_of (tree.UnaryOperation o e s) = s
-place_of (tree.BinaryOperation o a b s) = s
-place_of (tree.Test e n g s) = s
-place_of (tree.Filter e n g s) = s
-place_of (tree.FunctionCall n g s) = s
-place_of (tree.Ternary c a b s) = s
-place_of (tree.Array is s) = s
-place_of (tree.Map es s) = s
-place_of (tree.ListComprehension e k v t c s) = s
-place_of (tree.ComponentCall n es b o s) = s
-
 abbrev pub is_optional_joint : Joint → Bool
 is_optional_joint (plain_dot s) = false
 is_optional_joint (optional_dot s) = true
@@ -183,9 +167,9 @@ abbrev mutual
 
   -- a chain up to here, and its further links
   pub links_output : Bool → Bool → Expr → Links → Expr
-  links_output in_loop c e no_links = e
-  links_output in_loop c e (field d n ls) = links_output in_loop c (field_output c e d n) ls
-  links_output in_loop c e (item b s ls) = links_output in_loop c (sub_output in_loop (is_optional_bracket b) e s) ls
+  links_output in_loop looping e no_links = e
+  links_output in_loop looping e (field d n ls) = links_output in_loop looping (field_output looping e d n) ls
+  links_output in_loop looping e (item b s ls) = links_output in_loop looping (sub_output in_loop (is_optional_bracket b) e s) ls
 
   pub sub_output : Bool → Bool → Expr → Sub → Expr
   sub_output in_loop optional e (index i c) = tree.GetItem e (output in_loop i) optional (spanning (place_of e) c)

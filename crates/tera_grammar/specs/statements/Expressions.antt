@@ -1,6 +1,6 @@
 -- What the statements use of expressions and of the parts that are read with them: their types, conditions,
--- tokens, outputs and reading functions. The statements know no more of them than the names below and the laws
--- in `proofs/statements/Expressions`.
+-- tokens and outputs. The statements know no more of them than the names below, the reading functions in
+-- `Reading/Expressions` and the laws in `proofs/statements/Expressions`.
 use Rattle.std.specs.Prelude.{ℕ, Bool, List}
 use Rattle.tera_base.specs.Values.{Vals, Pairs}
 use Rattle.tera_base.specs.declared.utils.Span.{Span}
@@ -16,8 +16,6 @@ use Rattle.tera_grammar.specs.expressions.Companions.{Opened, Path, EachArgs, Ar
 pub use Rattle.tera_grammar.specs.Limits.{Limits}
 pub use Rattle.tera_grammar.specs.expressions.Concrete.{Attributes}
 pub use Rattle.tera_grammar.specs.expressions.Companions.{Filtering}
--- The reading functions: what is read, and the tokens behind it.
-unfoldable pub use Rattle.tera_grammar.specs.expressions.Reading.Whole.{expression_of, filter_of, all_attributes as attributes_of, path_of as component_of, literal_array_of as array_of, literal_map_of as map_of}
 
 abbrev pub Expression : Type 0
 Expression = Tree

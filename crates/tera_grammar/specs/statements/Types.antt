@@ -1,5 +1,5 @@
 -- The types of a component's arguments, and pairs in the order of their names.
-use Rattle.std.specs.Prelude.{ℕ, Bool, true, false, List, [], ◌∷◌, Option, Some, None, map, if◌then◌else◌, codes}
+use Rattle.std.specs.Prelude.{ℕ, Bool, true, false, List, [], ◌∷◌, Option, Some, None, map, if◌then◌else◌}
 use Rattle.std.specs.Char.{to_ascii_lowercase}
 use Rattle.std.specs.FinMap.Entries.{put}
 use Rattle.std.specs.Cmp.Lexicographic.{slice_cmp}
@@ -9,16 +9,8 @@ use Rattle.tera_base.specs.Values as values
 use Rattle.tera_base.specs.Values.{KeyVal, TextKey, I64Key, TruthKey, Val}
 use Rattle.tera_tree.specs.declared.ast.ArgType.{ArgType}
 use Rattle.tera_tree.specs.declared.ast.ArgType.TheVariants as types
-
 -- the name of a type
-abbrev pub type_name : ArgType → List ℕ
-type_name types.String = codes "string"
-type_name types.Bool = codes "bool"
-type_name types.Integer = codes "integer"
-type_name types.Number = codes "number"
-type_name types.Array = codes "array"
-type_name types.Map = codes "map"
-type_name types.Bytes = codes "bytes"
+pub use Rattle.tera_tree.specs.Types.{type_name}
 
 abbrev pub type_among : List ArgType → List ℕ → Option ArgType
 type_among [] name = None

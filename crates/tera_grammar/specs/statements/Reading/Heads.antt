@@ -11,7 +11,8 @@ use Rattle.tera_grammar.specs.Words.{is_reserved}
 use Rattle.tera_grammar.specs.statements.Parts.{Name}
 use Rattle.tera_grammar.specs.expressions.Reading.Atoms.{variables_of}
 use Rattle.tera_grammar.specs.expressions.Reading.Whole.{left_over}
-use Rattle.tera_grammar.specs.statements.Expressions.{Limits, expression_of, filter_of}
+use Rattle.tera_grammar.specs.statements.Expressions.{Limits}
+use Rattle.tera_grammar.specs.statements.Reading.Expressions.{expression_of, filter_of}
 use Rattle.tera_grammar.specs.statements.Heads.{Loop, Filters, NoFilters, Piped}
 
 -- a name that is not reserved
