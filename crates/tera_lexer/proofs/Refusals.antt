@@ -4,7 +4,7 @@ use Rattle.std.specs.Prelude.{codes}
 use Rattle.tera_lexer.specs.grammar.Place.{IsWithin}
 use Rattle.tera_lexer.specs.grammar.Tokens.{Tok, Items, Ended, Failed, Token}
 use Rattle.tera_base.specs.Errors.{Tells, IsMemory, end_of}
-use Rattle.tera_lexer.specs.grammar.Faults.{Faults}
+use Rattle.tera_lexer.specs.grammar.Faults.{Faults, IsEndBehind, IsEndOf}
 use Rattle.tera_lexer.specs.code.Steps.{Stops}
 use Rattle.tera_lexer.specs.code.Cursors.{Position, IsAt, FaultsFrom, RefusesFrom, Passes, IsLater, TellsAt, TakesOne}
 use Rattle.tera_base.specs.declared.utils.Span.{Span}
@@ -14,18 +14,18 @@ use Rattle.tera_base.proofs.Tellings.{tells_weaker, tells_memory}
 
 -- a fault at the next token
 at_next : (t : Tok) (here span : Span) (items : Items) (text : List ℕ) → IsAt here span → Faults (Token t here items) text span
-at_next t here span items text at = inr (inl (at.0, inl at.1))
+at_next t here span items text at = inr (inr (inl (at.0, inl at.1)))
 
 pub token_refuses : (old : Position) (t : Tok) (here : Span) (items : Items) (e : Error) → old.left ≡ Token t here items → IsWithin old.source here → TellsAt here e → RefusesFrom old e
 token_refuses old t here items e is within told =
     tells_weaker (λ text span. span ≡ here) (λ text span. IsWithin old.source span × FaultsFrom old.span old.left text span) e
-    (λ text span at. rw at (within, inr (rw is (at_next t here here items text (refl, (refl, refl, refl)))))) told
+    (λ text span at. rw at (within, inr (inr (rw is (at_next t here here items text ((refl, refl, refl), (refl, refl, refl))))))) told
 
 -- the end of the input, at the token taken last
-end_refuses : (old : Position) (e : Error) → IsWithin old.source old.span → Tells (codes "Unexpected end of input") (end_of old.span) e → RefusesFrom old e
-end_refuses old e within told =
+end_refuses : (old : Position) (e : Error) → old.left ≡ Ended → IsWithin old.source old.span → Tells (codes "Unexpected end of input") (end_of old.span) e → RefusesFrom old e
+end_refuses old e ended within told =
     tells_weaker (λ text span. (text ≡ codes "Unexpected end of input") × (span ≡ end_of old.span)) (λ text span. IsWithin old.source span × FaultsFrom old.span old.left text span) e
-    (λ text span is. let back = sym is.1 in subst (λ s. IsWithin old.source s × FaultsFrom old.span old.left text s) back (within, inl (refl, (refl, refl, refl)))) told
+    (λ text span is. let back = sym is.1 in subst (λ s. IsWithin old.source s × FaultsFrom old.span old.left text s) back (within, inr (inl (rw ended (is.0, refl))))) told
 
 -- where reading stops
 memory_refuses : (old : Position) (e : Error) → IsMemory e → RefusesFrom old e
@@ -35,27 +35,34 @@ stops_refuses : (old : Position) (items : Items) (e : Error) → old.left ≡ it
 stops_refuses old Ended e is stops = absurd stops
 stops_refuses old (Failed told here) e is (within, tells) =
     tells_weaker (λ text span. (text ≡ told) × (span ≡ here)) (λ text span. IsWithin old.source span × FaultsFrom old.span old.left text span) e
-    (λ text span at. rw at.1 (within, inr (rw is (inl (at.0, refl))))) tells
+    (λ text span at. rw at.1 (within, inr (inr (rw is (inl (at.0, refl)))))) tells
 stops_refuses old (Token t here items) e is (takes, memory) = memory_refuses old e memory
 
 pub untaken_refuses : (old new : Position) (e : Error) → IsWithin old.source old.span → TakesOne old (Err e) new → RefusesFrom old e
 untaken_refuses old new e within told =
-    ⊎_elim (λ end. end_refuses old e within end.1) (λ stops. stops_refuses old old.left e refl stops.1) told
+    ⊎_elim (λ end. end_refuses old e end.0 within end.1) (λ stops. stops_refuses old old.left e refl stops.1) told
+
+-- the end of the input behind some tokens is behind the one before them
+end_behind : (here : Span) (items : Items) (text : List ℕ) (span : Span) → IsEndOf items text span → IsEndBehind here items text span
+end_behind here Ended text span ends = absurd ends
+end_behind here (Failed told at) text span ends = absurd ends
+end_behind here (Token t at items) text span ends = ends
 
 -- a fault from the next token on is one of the tokens
+pub later_faults : (t : Tok) (here : Span) (items : Items) (text : List ℕ) (span : Span) → Faults items text span → Faults (Token t here items) text span
+later_faults t here items text span f =
+    ⊎_elim (λ lexical. inl lexical) (λ more. inr (⊎_elim (λ ends. inl (end_behind here items text span ends)) (λ covers. inr (inr covers)) more)) f
+
 pub lift_faults : (t : Tok) (here : Span) (items : Items) (text : List ℕ) (span : Span) → FaultsFrom here items text span → Faults (Token t here items) text span
 lift_faults t here items text span f =
-    ⊎_elim (λ at. at_next t here span items text at) (λ g. ⊎_elim (λ lexical. inl lexical) (λ covers. inr (inr covers)) g) f
-
-pub later_faults : (t : Tok) (here : Span) (items : Items) (text : List ℕ) (span : Span) → Faults items text span → Faults (Token t here items) text span
-later_faults t here items text span f = ⊎_elim (λ lexical. inl lexical) (λ covers. inr (inr covers)) f
+    ⊎_elim (λ at. at_next t here span items text at) (λ more. ⊎_elim (λ ends. inr (inl ends)) (λ later. later_faults t here items text span later) more) f
 
 -- a fault behind tokens that were taken is one from these on
 passes_faults : (n : ℕ) (items : Items) (last : Span) (left : Items) (here : Span) → Passes n items last left here → (text : List ℕ) (span : Span) → FaultsFrom here left text span → FaultsFrom last items text span
 passes_faults zero items last left here (left_is, span_is) text span f = subst (λ l. FaultsFrom last l text span) left_is (subst (λ s. FaultsFrom s left text span) span_is f)
 passes_faults (suc n) Ended last left here passes text span f = absurd passes
 passes_faults (suc n) (Failed told at) last left here passes text span f = absurd passes
-passes_faults (suc n) (Token t at items) last left here passes text span f = inr (lift_faults t at items text span (passes_faults n items at left here passes text span f))
+passes_faults (suc n) (Token t at items) last left here passes text span f = inr (inr (lift_faults t at items text span (passes_faults n items at left here passes text span f)))
 
 passes_on : (n k : ℕ) (items : Items) (last : Span) (mid : Items) (there : Span) (left : Items) (here : Span) → Passes n items last mid there → Passes k mid there left here → Passes (n + k) items last left here
 passes_on zero k items last mid there left here (left_is, span_is) more =

@@ -8,7 +8,7 @@ use Rattle.tera_lexer.specs.grammar.Tokens as toks
 use Rattle.tera_lexer.specs.grammar.Tokens.{Tok, Items, Ended, Failed}
 use Rattle.tera_lexer.specs.code.Steps.{TakesMemory, Stops}
 use Rattle.tera_lexer.specs.code.Seen.{seen}
-use Rattle.tera_lexer.specs.grammar.Faults.{Faults, EndsWith}
+use Rattle.tera_lexer.specs.grammar.Faults.{BeginsWith, EndsWith, Faults, IsEndBehind}
 use Rattle.tera_lexer.specs.declared.lexer.tokens.Token.{Token}
 
 -- a cursor over the tokens of a source: those that are not taken yet; how many of the next two it can show;
@@ -70,13 +70,13 @@ abbrev pub Skips : Position → Bool → Position → Type 0
 Skips old true new = (p : Token × Span) × Takes old (Ok (Some p)) new
 Skips old false new = (old.sight ≡ 0) × (new ≡ old)
 
--- the range of the token at this span, with the place where it ends
+-- the place of the token at this span
 abbrev pub IsAt : Span → Span → Type 0
-IsAt here span = (span.range.start ≡ here.range.start) × EndsWith here span
+IsAt here span = BeginsWith here span × EndsWith here span
 
--- a fault at the token taken last, or in the tokens that are left
+-- a fault at the token taken last, the end of the input behind it, or a fault in the tokens that are left
 abbrev pub FaultsFrom : Span → Items → List ℕ → Span → Type 0
-FaultsFrom last items text span = IsAt last span ⊎ Faults items text span
+FaultsFrom last items text span = IsAt last span ⊎ IsEndBehind last items text span ⊎ Faults items text span
 
 -- a refusal is want of memory, or a syntax error of the source at the token taken last or later
 abbrev pub RefusesFrom : Position → Error → Type 0

@@ -1,7 +1,12 @@
 -- What a fault of some tokens tells.
-use Rattle.std.specs.Prelude.{◌≡◌, ◌⊎◌, ℕ, List}
+use Rattle.std.specs.Prelude.{◌≡◌, ◌⊎◌, ℕ, List, codes}
+use Rattle.tera_base.specs.Errors.{end_of}
 use Rattle.tera_base.specs.declared.utils.Span.{Span}
 use Rattle.tera_lexer.specs.grammar.Tokens.{Items, Ended, Failed, Token}
+
+-- the span begins where the token at this place begins: in bytes, and by line and column
+abbrev pub BeginsWith : Span → Span → Type 0
+BeginsWith here span = (span.range.start ≡ here.range.start) × (span.start_line ≡ here.start_line) × (span.start_col ≡ here.start_col)
 
 -- the span ends where the token at this place ends
 abbrev pub EndsWith : Span → Span → Type 0
@@ -17,7 +22,7 @@ abbrev pub Covers : Items → Span → Type 0
 Covers Ended span = ⊥
 Covers (Failed text here) span = ⊥
 Covers (Token t here items) span =
-    ((span.range.start ≡ here.range.start) × EndsIn (Token t here items) span) ⊎ Covers items span
+    (BeginsWith here span × EndsIn (Token t here items) span) ⊎ Covers items span
 
 -- the text and the span of the fault in which the tokens end
 abbrev pub IsFaultOf : Items → List ℕ → Span → Type 0
@@ -25,6 +30,19 @@ IsFaultOf Ended text span = ⊥
 IsFaultOf (Failed told here) text span = (text ≡ told) × (span ≡ here)
 IsFaultOf (Token t here items) text span = IsFaultOf items text span
 
--- the lexical fault in which the tokens end, or a span that covers tokens
+-- the text and the span of the end of the input, where only these tokens follow the one at a place: its line and column
+-- are those of the end of the last
+abbrev pub IsEndBehind : Span → Items → List ℕ → Span → Type 0
+IsEndBehind last Ended text span = (text ≡ codes "Unexpected end of input") × (span ≡ end_of last)
+IsEndBehind last (Failed told here) text span = ⊥
+IsEndBehind last (Token t here items) text span = IsEndBehind here items text span
+
+-- the same, of the end behind some tokens
+abbrev pub IsEndOf : Items → List ℕ → Span → Type 0
+IsEndOf Ended text span = ⊥
+IsEndOf (Failed told here) text span = ⊥
+IsEndOf (Token t here items) text span = IsEndBehind here items text span
+
+-- the lexical fault in which the tokens end, the end of the input behind them, or a span that covers tokens
 abbrev pub Faults : Items → List ℕ → Span → Type 0
-Faults items text span = IsFaultOf items text span ⊎ Covers items span
+Faults items text span = IsFaultOf items text span ⊎ IsEndOf items text span ⊎ Covers items span

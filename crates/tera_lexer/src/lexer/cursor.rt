@@ -173,6 +173,8 @@ impl<'a> Cursor<'a> {
     /// An error is that of `next`, after which none is left, or the end of the input, at which the cursor stays.
     pub fn next_or_eoi(&mut self) -> Result<(Token<'a>, Span), Error>
         ensures takes { TakesOne self.old result self.new }
+        ensures sight { SeesTwo self.new }
+        ensures count { self.new.taken ≤ length self.new.source }
         ensures tokens { AreLexed self.old.left }
         ensures later { IfOk result (λ _. IsLater self.old self.new) }
         ensures refusal { IfErr result (RefusesFrom self.old) }
