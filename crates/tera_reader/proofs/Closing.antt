@@ -5,7 +5,7 @@ use Rattle.tera_base.specs.declared.errors.Error.{Error}
 use Rattle.tera_base.specs.declared.utils.Span.{Span}
 use Rattle.tera_lexer.specs.grammar.Tokens.{Items}
 use Rattle.tera_lexer.specs.code.Cursors.{Position, size}
-use Rattle.tera_tree.specs.Tree as tree
+use Rattle.tera_nodes.specs.Tree as tree
 use Rattle.tera_grammar.specs.Options.{◌>>=◌}
 use Rattle.tera_grammar.specs.expressions.Operators.{Div, GreaterThan}
 use Rattle.tera_grammar.specs.expressions.Marks.{Dot, Operation}

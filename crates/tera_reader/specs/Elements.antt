@@ -3,12 +3,12 @@ use Rattle.std.specs.Prelude.{◌≡◌, Bool, cond, Option, Some, None, String,
 use Rattle.std.specs.declared.alloc.Global.{Global}
 use Rattle.tera_base.specs.ValueView.{key_view}
 use Rattle.tera_lexer.specs.grammar.Tokens.{Items}
-use Rattle.tera_tree.specs.View.{expression_view, maybe_view, name_view}
-use Rattle.tera_tree.specs.declared.ast.ArrayEntryOf.{ArrayEntryOf}
-use Rattle.tera_tree.specs.declared.ast.ArrayEntryOf.TheVariants as items
-use Rattle.tera_tree.specs.declared.ast.MapEntryOf.{MapEntryOf}
-use Rattle.tera_tree.specs.declared.ast.MapEntryOf.TheVariants as entries
-use Rattle.tera_tree.specs.declared.ast.Expression.{Expression}
+use Rattle.tera_nodes.specs.View.{expression_view, maybe_view, name_view}
+use Rattle.tera_nodes.specs.declared.ast.ArrayEntryOf.{ArrayEntryOf}
+use Rattle.tera_nodes.specs.declared.ast.ArrayEntryOf.TheVariants as items
+use Rattle.tera_nodes.specs.declared.ast.MapEntryOf.{MapEntryOf}
+use Rattle.tera_nodes.specs.declared.ast.MapEntryOf.TheVariants as entries
+use Rattle.tera_nodes.specs.declared.ast.Expression.{Expression}
 use Rattle.tera_grammar.specs.Words.{is_reserved}
 use Rattle.tera_grammar.specs.Options.{◌>>=◌}
 use Rattle.tera_grammar.specs.expressions.Concrete.{Name, Second, Extra, Element, plain, spread, pair}

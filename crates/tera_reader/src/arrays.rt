@@ -1,7 +1,7 @@
 //! Arrays and comprehensions.
 
 ghost use Rattle.std.specs.Prelude.{◌≡◌, ℕ, IfErr, IfOk};
-ghost use Rattle.tera_tree.specs.View.{expression_view};
+ghost use Rattle.tera_nodes.specs.View.{expression_view};
 ghost use Rattle.tera_grammar.specs.Words.{is_reserved};
 ghost use Rattle.tera_grammar.specs.expressions.Concrete.{Element, Tree, of_items};
 ghost use Rattle.tera_grammar.specs.expressions.Marks.{RightBracket};

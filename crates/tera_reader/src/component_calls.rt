@@ -2,7 +2,7 @@
 
 ghost use Rattle.std.specs.Prelude.{◌≡◌, IfErr, IfOk};
 ghost use Rattle.std.specs.Option.{is_some};
-ghost use Rattle.tera_tree.specs.View.{expression_view};
+ghost use Rattle.tera_nodes.specs.View.{expression_view};
 ghost use Rattle.tera_grammar.specs.expressions.Marks.{Assign, LeftBrace};
 ghost use Rattle.tera_grammar.specs.expressions.Reading.Atoms.{component_of};
 ghost use Rattle.tera_grammar.specs.expressions.Reading.Front.{at, name_of, skip, taken_name};

@@ -3,7 +3,8 @@
 ghost use Rattle.std.specs.Prelude.{◌≡◌, ◌++◌, map, string_bytes, IfOk, IfErr, OnOk};
 ghost use Rattle.std.specs.List.{flat_map};
 ghost use Rattle.tera_base.specs.Errors.{IsMemory};
-ghost use Rattle.tera_tree.specs.View.{name_view, definition_view};
+ghost use Rattle.tera_nodes.specs.View.{name_view};
+ghost use Rattle.tera_tree.specs.View.{definition_view};
 ghost use Rattle.tera_statements.specs.Outputs.{output_view};
 ghost use Rattle.tera_text.specs.TreeText.{parent_text, definition_text, text_of};
 

@@ -6,12 +6,12 @@ use denote.Param.Weighed.{most}
 use Rattle.tera_base.specs.ValueView.{key_view, value_view, pairs_view}
 use Rattle.tera_base.specs.declared.values.Key.{Key}
 use Rattle.tera_base.specs.declared.values.Value.{Value, size-Value}
-use Rattle.tera_tree.specs.View.{expression_view, args_view, item_view, items_view, entry_view, entries_view}
-use Rattle.tera_tree.specs.declared.ast.Expression.{Expression}
-use Rattle.tera_tree.specs.declared.ast.ArrayEntryOf.{ArrayEntryOf}
-use Rattle.tera_tree.specs.declared.ast.ArrayEntryOf.TheVariants.{Item, Spread}
-use Rattle.tera_tree.specs.declared.ast.MapEntryOf.{MapEntryOf}
-use Rattle.tera_tree.specs.declared.ast.MapEntryOf.TheVariants as entries
+use Rattle.tera_nodes.specs.View.{expression_view, args_view, item_view, items_view, entry_view, entries_view}
+use Rattle.tera_nodes.specs.declared.ast.Expression.{Expression}
+use Rattle.tera_nodes.specs.declared.ast.ArrayEntryOf.{ArrayEntryOf}
+use Rattle.tera_nodes.specs.declared.ast.ArrayEntryOf.TheVariants.{Item, Spread}
+use Rattle.tera_nodes.specs.declared.ast.MapEntryOf.{MapEntryOf}
+use Rattle.tera_nodes.specs.declared.ast.MapEntryOf.TheVariants as entries
 use Rattle.tera_source.specs.Contexts.{free}
 use Rattle.tera_source.specs.Bodies.{item_has_body, items_have_body, entry_has_body, entries_have_body}
 use Rattle.tera_source.specs.Writing.{comma_text, key_source, constant_text, pairs_text, written, args_text, item_text, items_text, entry_text, entries_text, one_attribute, attributes_text, has_args}

@@ -1,7 +1,7 @@
 //! Whether a component is called with a body in an expression.
 
 ghost use Rattle.std.specs.Prelude.{◌≡◌, not, ◌||◌};
-ghost use Rattle.tera_tree.specs.View.{expression_view, maybe_view, args_view, item_view, items_view, entry_view, entries_view};
+ghost use Rattle.tera_nodes.specs.View.{expression_view, maybe_view, args_view, item_view, items_view, entry_view, entries_view};
 ghost use Rattle.tera_source.specs.Bodies.{has_body, maybe_has_body, args_have_body, item_has_body, items_have_body, entry_has_body, entries_have_body};
 
 use std::collections::BTreeMap;
@@ -9,7 +9,7 @@ use tera_tree::{ArrayEntry, Expression, MapEntry};
 
 /// Whether the expression is a call of a component with a body, or holds one.
 #[cycle(bodies)]
-#[tactic(auto, using(tera_tree::proofs::Views::view_const, tera_tree::proofs::Views::view_array, tera_tree::proofs::Views::view_var, tera_tree::proofs::Views::view_get_attr, tera_tree::proofs::Views::view_get_item, tera_tree::proofs::Views::view_slice, tera_tree::proofs::Views::view_filter, tera_tree::proofs::Views::view_test, tera_tree::proofs::Views::view_ternary, tera_tree::proofs::Views::view_comprehension, tera_tree::proofs::Views::view_call, tera_tree::proofs::Views::view_function_call, tera_tree::proofs::Views::view_unary, tera_tree::proofs::Views::view_binary, tera_tree::proofs::Views::view_map))]
+#[tactic(auto, using(tera_nodes::proofs::Views::view_const, tera_nodes::proofs::Views::view_array, tera_nodes::proofs::Views::view_var, tera_nodes::proofs::Views::view_get_attr, tera_nodes::proofs::Views::view_get_item, tera_nodes::proofs::Views::view_slice, tera_nodes::proofs::Views::view_filter, tera_nodes::proofs::Views::view_test, tera_nodes::proofs::Views::view_ternary, tera_nodes::proofs::Views::view_comprehension, tera_nodes::proofs::Views::view_call, tera_nodes::proofs::Views::view_function_call, tera_nodes::proofs::Views::view_unary, tera_nodes::proofs::Views::view_binary, tera_nodes::proofs::Views::view_map))]
 pub(crate) fn has_body(e: &Expression) -> bool
     ensures { result ≡ has_body (expression_view e.now) }
 {

@@ -2,8 +2,8 @@
 
 ghost use Rattle.std.specs.Prelude.{◌≡◌, ◌++◌, ℕ, suc, true, false, codes, string_bytes, OnOk};
 ghost use Rattle.tera_base.specs.ValueView.{key_view, value_view};
-ghost use Rattle.tera_tree.specs.View.{expression_view, name_view, maybe_view, args_view, item_view, items_view, entry_view, entries_view};
-ghost use Rattle.tera_tree.specs.declared.ast.ComponentCall.{out-ComponentCall};
+ghost use Rattle.tera_nodes.specs.View.{expression_view, name_view, maybe_view, args_view, item_view, items_view, entry_view, entries_view};
+ghost use Rattle.tera_nodes.specs.declared.ast.ComponentCall.{out-ComponentCall};
 ghost use Rattle.tera_source.specs.Contexts as at;
 ghost use Rattle.tera_source.specs.Contexts.{before, behind, behind_prefix, above, left_of, right_of};
 ghost use Rattle.tera_source.specs.Writing.{comma_text, dotted, dot_text, bracket_text, names_text, test_text, operator_text, has_args, optional_args, is_bare, attribute_value, attribute_text, text, unary_text, written, maybe_text, args_text, item_text, items_text, key_source, entry_text, entries_text, one_attribute, attributes_text};
@@ -42,7 +42,7 @@ pub(crate) fn push_expression(
 
 // An expression without parentheses around it. A test and `in` may be negated.
 #[cycle(writing)]
-#[tactic(auto, using(tera_tree::proofs::Views::view_const, tera_tree::proofs::Views::view_array, tera_tree::proofs::Views::view_var, tera_tree::proofs::Views::view_get_attr, tera_tree::proofs::Views::view_get_item, tera_tree::proofs::Views::view_slice, tera_tree::proofs::Views::view_filter, tera_tree::proofs::Views::view_test, tera_tree::proofs::Views::view_ternary, tera_tree::proofs::Views::view_comprehension, tera_tree::proofs::Views::view_call, tera_tree::proofs::Views::view_function_call, tera_tree::proofs::Views::view_unary, tera_tree::proofs::Views::view_binary, tera_tree::proofs::Views::view_map))]
+#[tactic(auto, using(tera_nodes::proofs::Views::view_const, tera_nodes::proofs::Views::view_array, tera_nodes::proofs::Views::view_var, tera_nodes::proofs::Views::view_get_attr, tera_nodes::proofs::Views::view_get_item, tera_nodes::proofs::Views::view_slice, tera_nodes::proofs::Views::view_filter, tera_nodes::proofs::Views::view_test, tera_nodes::proofs::Views::view_ternary, tera_nodes::proofs::Views::view_comprehension, tera_nodes::proofs::Views::view_call, tera_nodes::proofs::Views::view_function_call, tera_nodes::proofs::Views::view_unary, tera_nodes::proofs::Views::view_binary, tera_nodes::proofs::Views::view_map))]
 fn push_bare(
     out: &mut String,
     e: &Expression,
@@ -444,7 +444,7 @@ fn push_named(out: &mut String, name: &Key, value: &Expression) -> Result<(), Al
     push_attribute_value(out, value)
 }
 
-#[tactic(auto, using(tera_tree::proofs::Views::view_var))]
+#[tactic(auto, using(tera_nodes::proofs::Views::view_var))]
 fn is_bare(name: &Key, value: &Expression) -> bool
     ensures { result ≡ is_bare (key_view name.now) (expression_view value.now) }
 {

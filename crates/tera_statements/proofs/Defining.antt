@@ -5,7 +5,8 @@ use Rattle.std.specs.Str.{bytes_eq}
 use Rattle.tera_base.specs.Values.{Val}
 use Rattle.tera_base.specs.declared.utils.Span.{Span}
 use Rattle.tera_lexer.specs.grammar.Tokens.{Items}
-use Rattle.tera_tree.specs.Tree.{Argument, Definition, Stmt}
+use Rattle.tera_nodes.specs.Tree.{Stmt}
+use Rattle.tera_tree.specs.Tree.{Argument, Definition}
 use Rattle.tera_grammar.specs.Options.{◌>>=◌, guard}
 use Rattle.tera_grammar.proofs.Options.{bound}
 use Rattle.tera_grammar.specs.Words.{is_one_of}

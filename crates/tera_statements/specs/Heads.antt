@@ -3,8 +3,8 @@ use Rattle.std.specs.Prelude.{◌≡◌, Bool, true, List, ◌∷◌, ◌++◌, 
 use Rattle.std.specs.declared.alloc.Global.{Global}
 use Rattle.tera_base.specs.declared.utils.Span.{Span}
 use Rattle.tera_lexer.specs.grammar.Tokens.{Items}
-use Rattle.tera_tree.specs.View.{expression_view, name_view}
-use Rattle.tera_tree.specs.declared.ast.Expression.{Expression}
+use Rattle.tera_nodes.specs.View.{expression_view, name_view}
+use Rattle.tera_nodes.specs.declared.ast.Expression.{Expression}
 use Rattle.tera_grammar.specs.Options.{◌>>=◌}
 use Rattle.tera_grammar.specs.expressions.Concrete.{Name, Second}
 use Rattle.tera_grammar.specs.expressions.Marks.{Operation}

@@ -6,7 +6,8 @@ use Rattle.tera_base.specs.Values.{Val}
 use Rattle.tera_base.specs.declared.values.Value.{Value}
 use Rattle.tera_tree.specs.Definitions.{named_argument, named_value}
 use Rattle.tera_tree.specs.Tree.{Argument}
-use Rattle.tera_tree.specs.View.{argument_view, default_view, name_view}
+use Rattle.tera_nodes.specs.View.{name_view}
+use Rattle.tera_tree.specs.View.{argument_view, default_view}
 use Rattle.tera_tree.specs.declared.ast.ArgType.{ArgType}
 use Rattle.tera_tree.specs.declared.ast.ComponentArgument.{ComponentArgument}
 use Rattle.tera_grammar.specs.statements.Components as components

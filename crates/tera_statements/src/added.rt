@@ -5,7 +5,7 @@ ghost use Rattle.tera_base.specs.Errors.{IsMemory};
 ghost use Rattle.tera_grammar.specs.statements.Names.{no_names};
 ghost use Rattle.tera_grammar.specs.statements.Output.{added_nodes};
 ghost use Rattle.tera_statements.specs.Adding.{added_view, seen_of};
-ghost use Rattle.tera_tree.specs.View.{node_view};
+ghost use Rattle.tera_nodes.specs.View.{node_view};
 
 use crate::names::Known;
 use std::alloc::Global;

@@ -12,8 +12,8 @@ ghost use Rattle.tera_statements.specs.Adding.{AddsBy, here, seen_of};
 ghost use Rattle.tera_statements.specs.Captures.{GivesSetBody, GivesSetValue, IsCallEnd, IsNoBody};
 ghost use Rattle.tera_statements.specs.Reading.{IsComponent};
 ghost use Rattle.tera_expect.specs.Taking.{GivesBy, Refuses, Took};
-ghost use Rattle.tera_tree.specs.Tree as tree;
-ghost use Rattle.tera_tree.specs.View.{expression_view, node_view};
+ghost use Rattle.tera_nodes.specs.Tree as tree;
+ghost use Rattle.tera_nodes.specs.View.{expression_view, node_view};
 
 use crate::added::{Added, Names};
 use crate::around::{Around, Context, Opening};

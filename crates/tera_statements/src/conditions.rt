@@ -11,7 +11,7 @@ ghost use Rattle.tera_statements.specs.Adding.{AddsBy, AreBranches, here, seen_o
 ghost use Rattle.tera_statements.specs.Around.{Stands};
 ghost use Rattle.tera_statements.specs.Conditions.{GivesBranch, branch_view};
 ghost use Rattle.tera_expect.specs.Taking.{GivesBy, GoesOn, Refuses, Took};
-ghost use Rattle.tera_tree.specs.View.{node_view};
+ghost use Rattle.tera_nodes.specs.View.{node_view};
 
 use crate::added::{Added, Names};
 use crate::around::{Around, Context, Opening};

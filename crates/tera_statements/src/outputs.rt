@@ -6,8 +6,9 @@ ghost use Rattle.std.specs.Cmp.{on_equiv, on_per, partial_equiv_from_equiv};
 ghost use Rattle.tera_statements.specs.Outputs.{output_view};
 ghost use Rattle.tera_tree.specs.DefinitionLaws.{output_equivalence};
 ghost use Rattle.tera_tree.specs.Definitions.{definition_eq, empty_output, output_eq};
-ghost use Rattle.tera_tree.specs.Same.{stmt_eq};
-ghost use Rattle.tera_tree.specs.View.{definition_view, node_view};
+ghost use Rattle.tera_nodes.specs.Same.{stmt_eq};
+ghost use Rattle.tera_nodes.specs.View.{node_view};
+ghost use Rattle.tera_tree.specs.View.{definition_view};
 
 use std::alloc::{AllocError, Global};
 use tera_tree::{ComponentDefinition, Node};

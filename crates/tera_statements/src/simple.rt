@@ -7,7 +7,7 @@ ghost use Rattle.tera_statements.specs.Adding.{AddsAlone};
 ghost use Rattle.tera_statements.specs.Around.{holds_breaks};
 ghost use Rattle.tera_statements.specs.Simple.{is_free, jump_item, jump_output};
 ghost use Rattle.tera_expect.specs.Taking.{Refuses, TellsAs, Took};
-ghost use Rattle.tera_tree.specs.View.{node_view};
+ghost use Rattle.tera_nodes.specs.View.{node_view};
 
 use crate::added::Added;
 use crate::around::{Around, Breaks, Opening};

@@ -20,7 +20,7 @@ ghost use Rattle.tera_expect.specs.Taking.{RefusesIn, Took};
 ghost use Rattle.tera_statements.specs.Templates.{Excludes, GivesTemplate, GivesTop, ReadsTemplate, StandsNext, below_top, phase_if_any, phase_of, weight_of};
 ghost use Rattle.tera_statements.specs.declared.fronts.Front.TheVariants as fronts;
 ghost use Rattle.tera_statements.specs.declared.fronts.Opener.TheVariants as openers;
-ghost use Rattle.tera_tree.specs.View.{node_view};
+ghost use Rattle.tera_nodes.specs.View.{node_view};
 
 use crate::added::{Added, Names};
 use crate::around::Around;

@@ -1,8 +1,4 @@
-pub mod Views
-pub mod Texts
-pub mod Copying
 pub mod Names
-pub mod Equals
 pub mod Defined
 pub mod Coming
 pub mod Refusals

@@ -8,9 +8,8 @@ use Rattle.std.specs.Str.{bytes_eq}
 use Rattle.tera_base.specs.Same.{value_eq}
 use Rattle.tera_base.specs.Values.{Val}
 use Rattle.tera_base.specs.ValueView.{value_view}
-use Rattle.tera_base.specs.declared.utils.Span.{Span}
 use Rattle.tera_base.specs.declared.values.Value.{Value}
-use Rattle.tera_tree.specs.Same.{stmt_eq}
+use Rattle.tera_nodes.specs.Same.{stmt_eq}
 use Rattle.tera_tree.specs.Tree.{Argument, Definition, Output}
 use Rattle.tera_tree.specs.View.{argument_view}
 use Rattle.tera_tree.specs.declared.ast.ComponentArgument.{ComponentArgument}
@@ -22,10 +21,6 @@ empty_definition = record { name = []; arguments = []; rest = None; metadata = [
 
 abbrev pub empty_output : Output
 empty_output = record { parent = None; nodes = []; definitions = [] }
-
--- the place of a node that stands nowhere
-abbrev pub nowhere : Span
-nowhere = record { start_line = 0; start_col = 0; end_line = 0; end_col = 0; range = record { start = 0; end = 0 } }
 
 -- an argument and a value of the metadata, each with its name
 abbrev pub named_argument : String Global × ComponentArgument → List ℕ × Argument

@@ -1,10 +1,6 @@
 pub mod Tree
 pub mod View
-pub mod Text
-pub mod Spans
 pub mod Types
-pub mod Same
-pub mod SameLaws
 pub mod Definitions
 pub mod DefinitionLaws
 pub mod Outcomes

@@ -1,5 +1,5 @@
 use Rattle.std.proofs.Common.{◌≡◌, drop, ◌*◌, ◌+◌}
-use Rattle.tera_tree.specs.View.{args_view, items_view, entries_view}
+use Rattle.tera_nodes.specs.View.{args_view, items_view, entries_view}
 use Rattle.tera_source.specs.Bodies.{args_have_body, items_have_body, entries_have_body}
 use Rattle.tera_source.proofs.bodies.+bodies.Given as goal
 

@@ -1,5 +1,5 @@
 use Rattle.std.proofs.Common.{◌≡◌, ◌++◌, drop, false, string_bytes, ◌*◌, ◌+◌}
-use Rattle.tera_tree.specs.View.{args_view, items_view, entries_view}
+use Rattle.tera_nodes.specs.View.{args_view, items_view, entries_view}
 use Rattle.tera_source.specs.Writing.{args_text, items_text, entries_text, attributes_text}
 use Rattle.tera_source.proofs.writing.+writing.Given as goal
 
