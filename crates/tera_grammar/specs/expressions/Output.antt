@@ -15,7 +15,7 @@ use Rattle.tera_grammar.specs.expressions.Concrete.{Name, Quote, Simple, Escaped
 use Rattle.tera_grammar.specs.expressions.Spans.{spanning, sign_span, row_end, args_end, first, last}
 use Rattle.tera_grammar.specs.Words.{is_loop}
 -- where an expression stands
-pub use Rattle.tera_tree.specs.Spans.{expr_span as place_of}
+pub use Rattle.tera_nodes.specs.Spans.{expr_span as place_of}
 
 abbrev pub quote_text : Quote → List ℕ
 quote_text (Simple text) = text
