@@ -55,7 +55,7 @@ pub last_refused : (old : Position) (e : Error) → IsWithin old.source old.span
 unfolding Refuses
 last_refused old e within told =
     tells_weaker (λ text span. span ≡ old.span) (λ text span. IsWithin old.source span × FaultsFrom old.span old.left text span) e
-    (λ text span is. let back = sym is in subst (λ s. IsWithin old.source s × FaultsFrom old.span old.left text s) back (within, inl (refl, (refl, refl, refl)))) told
+    (λ text span is. let back = sym is in subst (λ s. IsWithin old.source s × FaultsFrom old.span old.left text s) back (within, inl ((refl, refl, refl), (refl, refl, refl)))) told
 
 -- what outermost calls promise
 pub refused : (old : Position) (e : Error) → Refuses old e → RefusesFrom old e
