@@ -34,6 +34,6 @@ refused_from m old mid new e read first more told =
     tells_weaker (λ text span. RunsFrom mid.span new span) (λ text span. IsWithin old.source span × FaultsFrom old.span old.left text span) e
     (λ text span (within, starts, ends). (
       subst (λ s. IsWithin s span) (more.0.source ∙ first.0.source) within,
-      inr (inr (subst (λ ts. Covers ts span) (sym (takes_ok m old.left (mid.span, mid.left) read))
-          (inl (starts, ⊎_elim (λ here. inl here) (λ there. passed more.0.count mid.left mid.span new.left new.span more.0.passes span there) ends)))),
+      inr (inr (inr (inr (subst (λ ts. Covers ts span) (sym (takes_ok m old.left (mid.span, mid.left) read))
+          (inl (starts, ⊎_elim (λ here. inl here) (λ there. passed more.0.count mid.left mid.span new.left new.span more.0.passes span there) ends)))))),
     )) told

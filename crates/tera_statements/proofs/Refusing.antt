@@ -32,7 +32,7 @@ pub inside_refused : (old : Position) (e : Error) → RefusesIn old e → Refuse
 unfolding RefusesIn Refuses
 inside_refused old e told =
     tells_weaker (λ text span. IsWithin old.source span × Faults old.left text span) (λ text span. IsWithin old.source span × FaultsFrom old.span old.left text span) e
-    (λ text span f. (f.0, inr f.1)) told
+    (λ text span f. (f.0, inr (inr f.1))) told
 
 pub memory_inside : (old : Position) (e : Error) → IsMemory e → RefusesIn old e
 unfolding RefusesIn

@@ -7,7 +7,7 @@ use Rattle.tera_base.specs.Errors.{IsMemory, Tells}
 use Rattle.tera_base.specs.declared.errors.Error.{Error}
 use Rattle.tera_base.specs.declared.utils.Span.{Span}
 use Rattle.tera_lexer.specs.code.Cursors.{Passes, Position, size}
-use Rattle.tera_lexer.specs.grammar.Faults.{Covers, EndsIn, EndsWith, Faults}
+use Rattle.tera_lexer.specs.grammar.Faults.{BeginsWith, Covers, EndsIn, EndsWith, Faults}
 use Rattle.tera_lexer.specs.grammar.Place.{IsWithin}
 use Rattle.tera_lexer.specs.grammar.Tokens.{Tok, Items, Ended, Failed, Token}
 use Rattle.tera_tree.specs.Tree.{Output}
@@ -81,7 +81,7 @@ some_passed (suc n) t first items last left here passes fewer span ends = passed
 
 -- a fault from the next token on
 pub covered : (old new : Position) (first span : Span) (text : List ℕ) (e : Error) → Took old new → StandsNext (Some first) old
-    → (IsWithin new.source first → IsWithin new.source span) → span.range.start ≡ first.range.start → EndsWith first span ⊎ EndsWith new.span span → Tells text span e → RefusesIn old e
+    → (IsWithin new.source first → IsWithin new.source span) → BeginsWith first span → EndsWith first span ⊎ EndsWith new.span span → Tells text span e → RefusesIn old e
 unfolding Took RefusesIn
 covered old new first span text e took ((t, behind, is), there) within starts ends told =
     let inside : IsWithin old.source span = subst (λ source. IsWithin source span) took.0.source (within (subst (λ source. IsWithin source first) (sym took.0.source) there)) in
@@ -89,7 +89,7 @@ covered old new first span text e took ((t, behind, is), there) within starts en
     let fewer = subst (λ ts. size new.left < size ts) is took.1 in
     let covers : Covers (Token t first behind) span = inl (starts, ⊎_elim (λ here. inl here) (λ there. some_passed took.0.count t first behind old.span new.left new.span passes fewer span there) ends) in
     tells_weaker (λ words s. (words ≡ text) × (s ≡ span)) (λ words s. IsWithin old.source s × Faults old.left words s) e
-    (λ words s same. subst (λ v. IsWithin old.source v × Faults old.left words v) (sym same.1) (inside, inr (subst (λ ts. Covers ts span) (sym is) covers))) told
+    (λ words s same. subst (λ v. IsWithin old.source v × Faults old.left words v) (sym same.1) (inside, inr (inr (subst (λ ts. Covers ts span) (sym is) covers)))) told
 
 -- what is refused of a template of which so much has been read
 pub excluded_fails : (l : Limits) (ts : Items) (here : Place) (out : Output) (ph : reading.Phase) (e : Error) → TopOf l ts here out ph → IsMemory e ⊎ Excludes l here ph → Fails (template l ts) e

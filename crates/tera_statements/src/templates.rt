@@ -9,7 +9,7 @@ ghost use Rattle.tera_grammar.specs.statements.Reading.Loops.{node_weight, turn,
 ghost use Rattle.tera_grammar.specs.statements.Reading.Parts.{front};
 ghost use Rattle.tera_grammar.specs.statements.Top.{is_blank};
 ghost use Rattle.tera_lexer.specs.code.Cursors.{Position};
-ghost use Rattle.tera_lexer.specs.grammar.Faults.{EndsWith};
+ghost use Rattle.tera_lexer.specs.grammar.Faults.{BeginsWith, EndsWith};
 ghost use Rattle.tera_lexer.specs.grammar.Place.{IsWithin};
 ghost use Rattle.tera_statements.specs.Adding.{added_view, here};
 ghost use Rattle.tera_statements.specs.Outputs.{output_view};
@@ -304,7 +304,7 @@ fn ignored(alloc: Global, cursor: &Cursor<'_>, first: Option<Span>) -> Error
 // From the start of a span to the end of the token taken last.
 fn up_to_last(cursor: &Cursor<'_>, first: &Span) -> Span
     ensures within { IsWithin cursor.now.source first.now → IsWithin cursor.now.source result }
-    ensures starts { result.range.start ≡ first.now.range.start }
+    ensures starts { BeginsWith first.now result }
     ensures ends { EndsWith first.now result ⊎ EndsWith cursor.now.span result }
 {
     let last = cursor.current_span();
