@@ -6,7 +6,6 @@ ghost use Rattle.tera_tree.specs.View.{definition_view};
 use crate::ast::{ArgType, ComponentDefinition};
 use std::alloc::Global;
 use tera_base::Error;
-
 pub use tera_nodes::laws::{same_expression, same_node};
 
 /// The name of a type gives the type back.

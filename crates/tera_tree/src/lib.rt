@@ -13,12 +13,11 @@ mod types;
 pub use argument_infos::{ComponentArg, ComponentArgType};
 pub use ast::{ArgType, ComponentArgument, ComponentDefinition};
 pub use infos::ComponentInfo;
-pub use tera_nodes::build;
 pub use tera_nodes::{
     Array, ArrayEntry, ArrayEntryOf, ArrayOf, BinaryOperation, BinaryOperationOf, BinaryOperator,
     Block, BlockOf, BlockSet, ComponentCall, Expression, Filter, FilterOf, FilterSection, ForLoop,
     FunctionCall, FunctionCallOf, GetAttr, GetAttrOf, GetItem, GetItemOf, If, Include,
     ListComprehension, ListComprehensionOf, Map, MapEntry, MapEntryOf, MapOf, Node, Set, SetOf,
     Slice, SliceOf, Ternary, TernaryOf, Test, TestOf, UnaryOperation, UnaryOperationOf,
-    UnaryOperator, Var, WithArguments, WithAttributes,
+    UnaryOperator, Var, WithArguments, WithAttributes, build,
 };
