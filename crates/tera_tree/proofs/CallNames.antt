@@ -1,8 +1,10 @@
 -- Names, and maps by names.
-use Rattle.std.proofs.Common.{◌≡◌, ℕ, zero, suc, ◌+◌, ◌<◌, Bool, true, false, not, cond, ◌||◌, List, [], ◌∷◌, ◌++◌, length, take, drop, get_or, map, filter, Option, Some, None, is_some, String, string_bytes, Global, Bor, nat_cmp, Ordering, Less, Equal, Greater, ◌⊎◌, inl, inr, subst, refl, sym, ap, ◌∙◌, append_assoc, append-nil, ◌≤◌, ◌==◌, codes, arith}
+use Rattle.std.proofs.Common.{◌≡◌, ℕ, zero, suc, ◌+◌, ◌<◌, Bool, true, false, not, cond, ◌||◌, List, [], ◌∷◌, ◌++◌, length, take, drop, get_or, map, filter, Option, Some, None, is_some, String, string_bytes, Global, Bor, nat_cmp, string_cmp, Ordering, Less, Equal, Greater, ◌⊎◌, inl, inr, subst, refl, sym, ap, ◌∙◌, append_assoc, append-nil, ◌≤◌, ◌==◌, codes, arith}
 use Rattle.std.proofs.lemmas.Bool.Decides.{nat_tests}
 use Rattle.std.specs.BTreeMap.{is_at}
 use Rattle.std.specs.Cmp.Lexicographic.{slice_cmp}
+use Rattle.std.specs.List.{AllByRecursion}
+use Rattle.std.specs.List.Sorted.{IsStrictlySortedBy}
 use Rattle.std.specs.Map.{lookup, keys_of}
 use Rattle.std.specs.BTreeSet.{insert_key}
 use Rattle.std.specs.Ordering.{is_eq, match_ordering}
@@ -125,6 +127,16 @@ texts_insert (m ∷ ns) n = texts_by_order (slice_cmp nat_cmp n.now m.now) _ _ _
 pub names_of : (es : List Entry) → map string_bytes (keys_of es) ≡ map (λ a. a.0) (arguments_view es)
 names_of [] = refl
 names_of (e ∷ es) = ap (λ ns. string_bytes e.0 ∷ ns) (names_of es)
+
+-- names that ascend as texts ascend as bytes
+above : (k : String Global) (es : List Entry) → AllByRecursion (λ l. string_cmp k l ≡ Less) (keys_of es) → AllByRecursion (λ m. slice_cmp nat_cmp (string_bytes k) m ≡ Less) (argument_names (arguments_view es))
+above k [] all = tt
+above k (e ∷ es) all = (all.0, above k es all.1)
+
+pub arguments_ordered : (es : List Entry) → IsStrictlySortedBy string_cmp (keys_of es) → IsStrictlySortedBy (slice_cmp nat_cmp) (argument_names (arguments_view es))
+unfolding IsStrictlySortedBy
+arguments_ordered [] h = tt
+arguments_ordered (e ∷ es) h = (above e.0 es h.0, arguments_ordered es h.1)
 
 abbrev pub name_cmp : Name → Name → Ordering
 name_cmp x y = slice_cmp nat_cmp x.now y.now

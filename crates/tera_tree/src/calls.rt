@@ -2,8 +2,11 @@
 
 ghost use Rattle.std.specs.Prelude.{◌≡◌, ℕ, List, [], ◌++◌, map, length, IfOk, OnOk, MatchResult, Result, Option, string_bytes};
 ghost use Rattle.std.specs.Borrow.{Bor};
+ghost use Rattle.std.specs.Cmp.Lexicographic.{slice_cmp};
 ghost use Rattle.std.specs.Fn.{FnReturnsAt};
 ghost use Rattle.std.specs.Iterator.{Drains, IsFinite};
+ghost use Rattle.std.specs.List.Sorted.{IsStrictlySortedBy};
+ghost use Rattle.std.specs.Ordering.{nat_cmp};
 ghost use Rattle.tera_base.specs.Errors.{IsMemory};
 ghost use Rattle.tera_tree.specs.Outcomes.{Outcome, ComesTo};
 ghost use Rattle.tera_base.specs.Contexts.{context_view, put_all};
@@ -186,7 +189,8 @@ impl ComponentDefinition {
 
     // The names of the arguments, in byte order.
     fn listed_arguments(&self, alloc: Global) -> Result<Vec<&str>, AllocError>
-        ensures { IfOk result (λ v. texts v.items ≡ map (λ a. a.0) (arguments_view self.now.kwargs.entries)) }
+        ensures names { IfOk result (λ v. texts v.items ≡ map (λ a. a.0) (arguments_view self.now.kwargs.entries)) }
+        ensures ordered { IfOk result (λ v. IsStrictlySortedBy (slice_cmp nat_cmp) (texts v.items)) }
     {
         let mut names = Vec::new(alloc);
         for name in self.kwargs.keys() {
@@ -197,7 +201,8 @@ impl ComponentDefinition {
 
     /// The names of the arguments, in byte order.
     pub fn kwargs_list(&self, alloc: Global) -> Result<Vec<&str>, Error>
-        ensures { MatchResult result (λ v. texts v.items ≡ map (λ a. a.0) (arguments_view self.now.kwargs.entries)) IsMemory }
+        ensures names { MatchResult result (λ v. texts v.items ≡ map (λ a. a.0) (arguments_view self.now.kwargs.entries)) IsMemory }
+        ensures ordered { IfOk result (λ v. IsStrictlySortedBy (slice_cmp nat_cmp) (texts v.items)) }
     {
         Ok(self.listed_arguments(alloc)?)
     }
@@ -259,7 +264,18 @@ fn sorted_names<'a>(alloc: Global, names: &[&'a str]) -> Result<Vec<&'a str>, Al
     for name in names {
         sorted.insert(*name)?;
     }
-    sorted.into_iter().collect(alloc)
+    listed_names(alloc, &sorted)
+}
+
+// The names of a set, in its order.
+fn listed_names<'a>(alloc: Global, sorted: &BTreeSet<&'a str>) -> Result<Vec<&'a str>, AllocError>
+    ensures { IfOk result (λ v. v.items ≡ sorted.now.keys) }
+{
+    let mut names = Vec::new(alloc);
+    for name in sorted {
+        names.push(*name)?;
+    }
+    Ok(names)
 }
 
 #[tactic(auto, using(crate::proofs::CallNames::possible_texts))]

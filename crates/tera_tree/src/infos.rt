@@ -1,7 +1,10 @@
 //! What a catalogue of components is told of one.
 
 ghost use Rattle.std.specs.Prelude.{◌≡◌, IfOk, IfErr, map};
+ghost use Rattle.std.specs.Cmp.Lexicographic.{slice_cmp};
+ghost use Rattle.std.specs.List.Sorted.{IsStrictlySortedBy};
 ghost use Rattle.std.specs.Option.{option_map};
+ghost use Rattle.std.specs.Ordering.{nat_cmp};
 ghost use Rattle.tera_base.specs.Errors.{IsMemory};
 ghost use Rattle.tera_tree.specs.Calls.{arguments_view};
 ghost use Rattle.tera_tree.specs.Definitions.{named_value};
@@ -31,6 +34,7 @@ impl ComponentInfo {
         definition: &ComponentDefinition,
     ) -> Result<ComponentInfo, Error>
         ensures info { IfOk result (λ i. info_view i ≡ info_of (definition_view definition.now)) }
+        ensures ordered { IfOk result (λ i. IsStrictlySortedBy (slice_cmp nat_cmp) (map (λ a. a.name) (info_view i).arguments)) }
         ensures refusal { IfErr result IsMemory }
     {
         Ok(ComponentInfo {
@@ -90,7 +94,8 @@ fn told_arguments(
     alloc: Global,
     arguments: &BTreeMap<String, ComponentArgument>,
 ) -> Result<Vec<ComponentArg>, AllocError>
-    ensures { IfOk result (λ told. map arg_view told.items ≡ map argument_info (arguments_view arguments.now.entries)) }
+    ensures told { IfOk result (λ told. map arg_view told.items ≡ map argument_info (arguments_view arguments.now.entries)) }
+    ensures ordered { IfOk result (λ told. IsStrictlySortedBy (slice_cmp nat_cmp) (map (λ a. a.name) (map arg_view told.items))) }
 {
     let mut told = Vec::new(alloc);
     for (name, argument) in arguments {

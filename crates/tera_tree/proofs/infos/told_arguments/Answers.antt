@@ -1,10 +1,16 @@
-use Rattle.std.proofs.Common.{[], ◌∷◌, ◌++◌, map, sym, ap, ◌∙◌}
+use Rattle.std.proofs.Common.{◌≡◌, ℕ, List, [], ◌∷◌, ◌++◌, map, refl, sym, ap, ◌∙◌}
 use Rattle.std.proofs.lemmas.List.{map-append}
-use Rattle.tera_tree.specs.Calls.{arguments_view}
+use Rattle.tera_tree.specs.Calls.{arguments_view, argument_names}
 use Rattle.tera_tree.specs.Definitions.{named_argument}
 use Rattle.tera_tree.specs.Infos.{argument_info, arg_view}
-use Rattle.tera_tree.proofs.CallNames.{Entry, done_more, arguments_more, all_done}
+use Rattle.tera_tree.specs.Tree.{Argument}
+use Rattle.tera_tree.proofs.CallNames.{Entry, done_more, arguments_more, arguments_ordered, all_done}
 use Rattle.tera_tree.proofs.infos.told_arguments.Goals as goal
+
+-- what is told has the names of the arguments
+told_names : (rows : List (List ℕ × Argument)) → map (λ a. a.name) (map argument_info rows) ≡ argument_names rows
+told_names [] = refl
+told_names (a ∷ rows) = ap (λ ns. a.0 ∷ ns) (told_names rows)
 
 pub loop-name-preserved : goal.loop-name-preserved
 loop-name-preserved c =
@@ -18,5 +24,9 @@ loop-name-preserved c =
           ∙ rw (l.invariant.2, c.in_ok-told.ensures, c.as_str.ensures.value) (sym (ap (λ es. map argument_info es) (arguments_more done e) ∙ map-append argument_info (arguments_view done) (named_argument e ∷ []))),
     )
 
-pub returns : goal.returns
-returns c = c.loop-name.invariant.2 ∙ ap (λ es. map argument_info es) (all_done _ c.loop-name.invariant.0 c.loop-name.name-iterator c.loop-name.invariant.1 c.in-None.ensures.steps.0)
+pub returns-clause-told : goal.returns-clause-told
+returns-clause-told c = c.loop-name.invariant.2 ∙ ap (λ es. map argument_info es) (all_done _ c.loop-name.invariant.0 c.loop-name.name-iterator c.loop-name.invariant.1 c.in-None.ensures.steps.0)
+
+pub returns-clause-ordered : goal.returns-clause-ordered
+returns-clause-ordered c =
+    rw (returns-clause-told c, told_names (arguments_view c.args.arguments.now.entries)) (arguments_ordered c.args.arguments.now.entries c.into_iter-name-iterator.ensures.into_iter_gives.5)
