@@ -23,35 +23,58 @@ pub(crate) fn answer(
     source: &str,
 ) -> Result<String, AllocError> {
     match options.shown {
-        Shown::Tree => tree(alloc, setting, options, Detail::Start, source),
-        Shown::Ends => tree(alloc, setting, options, Detail::Both, source),
-        Shown::Spans => spans_of(alloc, setting, source),
         Shown::Beginnings => lengths(alloc, setting, source),
-        Shown::WrittenBack => written_back(alloc, setting, source),
         Shown::Tokens | Shown::TokenPlaces | Shown::TokenNames => {
             listing(alloc, setting, options.shown, source)
         }
-        Shown::Context => context(alloc, setting, source),
-        Shown::Parameters => parameters(alloc, setting, source),
         Shown::Cursor => trace(alloc, setting, source),
         Shown::Expression | Shown::Filter | Shown::Attributes => {
             front(alloc, setting, options.shown, source)
         }
         Shown::Markers => are_markers(alloc, source),
         Shown::Limits => are_limits(alloc, options, source),
+        Shown::Tree
+        | Shown::Ends
+        | Shown::Spans
+        | Shown::WrittenBack
+        | Shown::Context
+        | Shown::Parameters => of_template(alloc, setting, options, source),
     }
 }
 
-fn tree(
+// What is shown of the template, or of its fault. No tree is held where something may fail: it is shown by a call
+// that takes a reference.
+fn of_template(
     alloc: Global,
     setting: &Setting<'_>,
     options: &Options,
-    detail: Detail,
     source: &str,
 ) -> Result<String, AllocError> {
     match read(alloc, setting, source) {
-        Ok(output) => lines(alloc, options, &output),
-        Err(error) => error_text(alloc, setting.file, detail, &error),
+        Ok(output) => of_tree(alloc, setting, options, &output),
+        Err(error) => error_text(alloc, setting.file, detail_of(options.shown), &error),
+    }
+}
+
+fn of_tree(
+    alloc: Global,
+    setting: &Setting<'_>,
+    options: &Options,
+    output: &ParserOutput,
+) -> Result<String, AllocError> {
+    match options.shown {
+        Shown::Spans => spans(alloc, output),
+        Shown::WrittenBack => written_back(alloc, setting, output),
+        Shown::Context => context(alloc, setting.file, output),
+        Shown::Parameters => parameters(alloc, output),
+        _ => lines(alloc, options, output),
+    }
+}
+
+fn detail_of(shown: Shown) -> Detail {
+    match shown {
+        Shown::Ends | Shown::Spans => Detail::Both,
+        _ => Detail::Start,
     }
 }
 
@@ -66,13 +89,6 @@ fn lines(alloc: Global, options: &Options, output: &ParserOutput) -> Result<Stri
         String::from_str(alloc, lines.strip_prefix("expr ").unwrap_or(lines))
     } else {
         String::from_str(alloc, lines)
-    }
-}
-
-fn spans_of(alloc: Global, setting: &Setting<'_>, source: &str) -> Result<String, AllocError> {
-    match read(alloc, setting, source) {
-        Ok(output) => spans(alloc, &output),
-        Err(error) => error_text(alloc, setting.file, Detail::Both, &error),
     }
 }
 

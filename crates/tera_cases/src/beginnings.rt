@@ -2,7 +2,7 @@
 
 use crate::settings::{Setting, read};
 use std::alloc::{AllocError, Global};
-use tera_base::ErrorKind;
+use tera_base::{Error, ErrorKind};
 
 /// Whether the source has neither a tree nor a fault that stands in it.
 pub(crate) fn refused_badly(
@@ -10,15 +10,20 @@ pub(crate) fn refused_badly(
     setting: &Setting<'_>,
     source: &str,
 ) -> Result<bool, AllocError> {
-    let Err(error) = read(alloc, setting, source) else {
-        return Ok(false);
-    };
-    match error.kind {
+    match read(alloc, setting, source) {
+        Ok(_output) => Ok(false),
+        Err(error) => lies_outside(&error, source.len()),
+    }
+}
+
+// Whether the error is no fault that stands in a source of this length.
+fn lies_outside(error: &Error, length: usize) -> Result<bool, AllocError> {
+    match &error.kind {
         ErrorKind::Memory => Err(AllocError),
         ErrorKind::Message(_) => Ok(true),
         ErrorKind::SyntaxError(report) => {
             let range = &report.span.range;
-            Ok(range.end < range.start || source.len() < range.end)
+            Ok(range.end < range.start || length < range.end)
         }
     }
 }

@@ -1,9 +1,9 @@
 //! The context of a component that a template defines and calls.
 
 use crate::faults::{Detail, error_text};
-use crate::settings::{Setting, read};
 use std::alloc::{AllocError, Global};
 use tera_base::{Context, Error, Key, Value};
+use tera_parser::ParserOutput;
 use tera_tree::{ComponentCall, ComponentDefinition, Expression, MapEntry, Node};
 
 /// The names and values with which the first component of the template is shown by the call that stands last.
@@ -12,20 +12,16 @@ use tera_tree::{ComponentCall, ComponentDefinition, Expression, MapEntry, Node};
 /// argument. The body of the call is its first text.
 pub(crate) fn context(
     alloc: Global,
-    setting: &Setting<'_>,
-    source: &str,
+    file: &str,
+    output: &ParserOutput,
 ) -> Result<String, AllocError> {
-    let output = match read(alloc, setting, source) {
-        Ok(output) => output,
-        Err(error) => return error_text(alloc, setting.file, Detail::Start, &error),
-    };
     let definition = output.component_definitions.first();
     let (Some(definition), Some(call)) = (definition, last_call(&output.nodes)) else {
         return String::from_str(alloc, "no component and its call");
     };
     match built(alloc, definition, call, &output.nodes) {
         Ok(made) => lines(alloc, &made),
-        Err(error) => error_text(alloc, setting.file, Detail::Start, &error),
+        Err(error) => error_text(alloc, file, Detail::Start, &error),
     }
 }
 

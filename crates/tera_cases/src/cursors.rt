@@ -3,6 +3,7 @@
 use crate::faults::{Detail, error_text};
 use crate::settings::Setting;
 use std::alloc::{AllocError, Global};
+use tera_base::Error;
 use tera_lexer::{Cursor, tokenize};
 
 /// A line for each place of a cursor: the range of the token taken last, and what is seen from there.
@@ -13,22 +14,31 @@ pub(crate) fn trace(
     setting: &Setting<'_>,
     source: &str,
 ) -> Result<String, AllocError> {
-    let mut text = String::new(alloc);
     let (one, other) = (setting.delimiters.clone()?, setting.delimiters.clone()?);
     if one.validate(alloc).is_err() || other.validate(alloc).is_err() {
-        return Ok(text);
+        return Ok(String::new(alloc));
     }
     let mut taking = Cursor::new(tokenize(alloc, source, one));
     let mut skipping = Cursor::new(tokenize(alloc, source, other));
+    steps(alloc, setting.file, &mut taking, &mut skipping)
+}
+
+fn steps(
+    alloc: Global,
+    file: &str,
+    taking: &mut Cursor<'_>,
+    skipping: &mut Cursor<'_>,
+) -> Result<String, AllocError> {
+    let mut text = String::new(alloc);
     for _place in 0..u64::MAX {
         if taking.at_end() {
             break;
         }
-        let line = step(alloc, setting.file, &mut taking, &mut skipping)?;
+        let line = step(alloc, file, taking, skipping)?;
         text.push_str(line.as_str())?;
         text.push_str("\n")?;
     }
-    let end = last(alloc, setting.file, &mut taking)?;
+    let end = last(alloc, file, taking)?;
     text.push_str(end.as_str())?;
     Ok(text)
 }
@@ -43,24 +53,41 @@ fn step(
     let seen = seen(alloc, taking)?;
     let was_seen = taking.first().is_some();
     match taking.next_or_eoi() {
-        Ok(_) => {
-            let is_same = skipping.skip() && skipping.current_span() == taking.current_span();
-            let told = if is_same {
-                ""
-            } else {
-                ", which is not skipped"
-            };
-            format!(in alloc; "{seen}{told}")
-        }
+        Ok(_token) => taken(alloc, seen.as_str(), taking, skipping),
         Err(error) => {
-            let told = error_text(alloc, file, Detail::Start, &error)?;
-            let hidden = if was_seen || skipping.skip() {
-                "what was shown is "
-            } else {
-                ""
-            };
-            format!(in alloc; "{seen}{hidden}{told}")
+            let is_behind = was_seen || skipping.skip();
+            refused(alloc, file, seen.as_str(), is_behind, &error)
         }
+    }
+}
+
+// Behind a token that was taken, which the other cursor skips.
+fn taken(
+    alloc: Global,
+    seen: &str,
+    taking: &Cursor<'_>,
+    skipping: &mut Cursor<'_>,
+) -> Result<String, AllocError> {
+    if skipping.skip() && skipping.current_span() == taking.current_span() {
+        String::from_str(alloc, seen)
+    } else {
+        format!(in alloc; "{seen}, which is not skipped")
+    }
+}
+
+// Where no token was taken, which was not to be shown ahead either.
+fn refused(
+    alloc: Global,
+    file: &str,
+    seen: &str,
+    was_seen: bool,
+    error: &Error,
+) -> Result<String, AllocError> {
+    let told = error_text(alloc, file, Detail::Start, error)?;
+    if was_seen {
+        format!(in alloc; "{seen}what was shown is {told}")
+    } else {
+        format!(in alloc; "{seen}{told}")
     }
 }
 

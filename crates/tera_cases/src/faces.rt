@@ -10,8 +10,7 @@ pub(crate) fn broken(
     alloc: Global,
     output: &ParserOutput,
 ) -> Result<Option<&'static str>, AllocError> {
-    let copy = output.clone()?;
-    if copy != *output {
+    if !equals_its_copy(output)? {
         return Ok(Some("a copy that is another tree"));
     }
     let mut left = parts_of(alloc, output)?;
@@ -25,6 +24,13 @@ pub(crate) fn broken(
         push_inner(&mut left, part)?;
     }
     Ok(None)
+}
+
+fn equals_its_copy(output: &ParserOutput) -> Result<bool, AllocError> {
+    match output.clone() {
+        Ok(copy) => Ok(copy == *output),
+        Err(error) => Err(error),
+    }
 }
 
 fn has_one_face(alloc: Global, part: Part<'_>) -> Result<bool, AllocError> {

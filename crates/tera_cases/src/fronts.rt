@@ -44,29 +44,34 @@ fn behind_first(
         return Err(Error::message(alloc, "no limits"));
     }
     match shown {
-        Shown::Filter => {
-            let read = filter(alloc, cursor, scope)?;
-            Ok(expression_text(alloc, &read)?)
-        }
-        Shown::Attributes => {
-            let read = attributes(alloc, cursor, scope)?;
-            Ok(attributes_text(alloc, &read)?)
-        }
-        _ => {
-            let read = expression(alloc, cursor, scope)?;
-            Ok(expression_text(alloc, &read)?)
-        }
+        Shown::Filter => expression_text(alloc, filter(alloc, cursor, scope)),
+        Shown::Attributes => attributes_text(alloc, attributes(alloc, cursor, scope)),
+        _ => expression_text(alloc, expression(alloc, cursor, scope)),
     }
 }
 
-fn expression_text(alloc: Global, read: &Expression) -> Result<String, AllocError> {
-    let range = &read.span().range;
-    format!(in alloc; "{range:?} {read}")
+fn expression_text(alloc: Global, read: Result<Expression, Error>) -> Result<String, Error> {
+    match read {
+        Ok(expression) => placed_text(alloc, &expression),
+        Err(error) => Err(error),
+    }
 }
 
-fn attributes_text(alloc: Global, read: &Vec<MapEntry>) -> Result<String, AllocError> {
+fn placed_text(alloc: Global, expression: &Expression) -> Result<String, Error> {
+    let range = &expression.span().range;
+    Ok(format!(in alloc; "{range:?} {expression}")?)
+}
+
+fn attributes_text(alloc: Global, read: Result<Vec<MapEntry>, Error>) -> Result<String, Error> {
+    match read {
+        Ok(attributes) => row_text(alloc, &attributes),
+        Err(error) => Err(error),
+    }
+}
+
+fn row_text(alloc: Global, attributes: &Vec<MapEntry>) -> Result<String, Error> {
     let mut all = String::new(alloc);
-    for attribute in read {
+    for attribute in attributes {
         if !all.is_empty() {
             all.push_str(", ")?;
         }

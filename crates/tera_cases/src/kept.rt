@@ -20,7 +20,7 @@ pub(crate) fn are_kept(
             break;
         };
         if let Part::Node(node) = part {
-            if !is_node_kept(alloc, setting, node)? {
+            if !is_node_kept(alloc, setting, node) {
                 return Ok(false);
             }
         }
@@ -30,7 +30,7 @@ pub(crate) fn are_kept(
 }
 
 // The same of the expressions of the node outside of its bodies.
-fn is_node_kept(alloc: Global, setting: &Setting<'_>, node: &Node) -> Result<bool, AllocError> {
+fn is_node_kept(alloc: Global, setting: &Setting<'_>, node: &Node) -> bool {
     match node {
         Node::Expression(Expression::ComponentCall(call)) if !call.node().self_closing => {
             are_attributes_kept(alloc, setting, &call.node().kwargs)
@@ -41,27 +41,27 @@ fn is_node_kept(alloc: Global, setting: &Setting<'_>, node: &Node) -> Result<boo
         Node::ForLoop(turns) => is_kept(alloc, setting, &turns.target),
         Node::If(choice) => is_kept(alloc, setting, &choice.expr),
         Node::FilterSection(section) => are_filters_kept(alloc, setting, &section.filters),
-        _ => Ok(true),
+        _ => true,
     }
 }
 
-// The same of the attributes of a call with a body. A name alone is no expression.
-fn are_attributes_kept(
-    alloc: Global,
-    setting: &Setting<'_>,
-    attributes: &Vec<MapEntry>,
-) -> Result<bool, AllocError> {
+// The same of the attributes of a call with a body.
+fn are_attributes_kept(alloc: Global, setting: &Setting<'_>, attributes: &Vec<MapEntry>) -> bool {
     for attribute in attributes {
-        let expression = match attribute {
-            MapEntry::KeyValue { key, value } if is_name_alone(key, value) => continue,
-            MapEntry::KeyValue { key: _, value } => value,
-            MapEntry::Spread(expression) => expression,
-        };
-        if !is_kept(alloc, setting, expression)? {
-            return Ok(false);
+        if !is_attribute_kept(alloc, setting, attribute) {
+            return false;
         }
     }
-    Ok(true)
+    true
+}
+
+// A name alone is no expression.
+fn is_attribute_kept(alloc: Global, setting: &Setting<'_>, attribute: &MapEntry) -> bool {
+    match attribute {
+        MapEntry::KeyValue { key, value } if is_name_alone(key, value) => true,
+        MapEntry::KeyValue { key: _, value } => is_kept(alloc, setting, value),
+        MapEntry::Spread(expression) => is_kept(alloc, setting, expression),
+    }
 }
 
 fn is_name_alone(key: &Key, value: &Expression) -> bool {
@@ -74,31 +74,23 @@ fn is_name_alone(key: &Key, value: &Expression) -> bool {
 }
 
 // The same of the arguments of filters that stand behind no expression.
-fn are_filters_kept(
-    alloc: Global,
-    setting: &Setting<'_>,
-    filters: &Vec<Expression>,
-) -> Result<bool, AllocError> {
+fn are_filters_kept(alloc: Global, setting: &Setting<'_>, filters: &Vec<Expression>) -> bool {
     for filter in filters {
-        if !are_arguments_kept(alloc, setting, filter)? {
-            return Ok(false);
+        if !are_arguments_kept(alloc, setting, filter) {
+            return false;
         }
     }
-    Ok(true)
+    true
 }
 
-fn are_arguments_kept(
-    alloc: Global,
-    setting: &Setting<'_>,
-    filter: &Expression,
-) -> Result<bool, AllocError> {
+fn are_arguments_kept(alloc: Global, setting: &Setting<'_>, filter: &Expression) -> bool {
     let Expression::Filter(filter) = filter else {
-        return Ok(true);
+        return true;
     };
     for (_name, value) in filter.node().kwargs.iter() {
-        if !is_kept(alloc, setting, value)? {
-            return Ok(false);
+        if !is_kept(alloc, setting, value) {
+            return false;
         }
     }
-    Ok(true)
+    true
 }

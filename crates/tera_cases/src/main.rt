@@ -14,6 +14,7 @@ mod kept;
 mod parameters;
 mod parts;
 mod settings;
+mod soundness;
 mod spans;
 mod subject;
 mod tokens;

@@ -1,56 +1,70 @@
 //! What is told of the components that a template defines.
 
-use crate::faults::{Detail, error_text};
-use crate::settings::{Setting, read};
 use std::alloc::{AllocError, Global};
 use tera_base::Error;
+use tera_parser::ParserOutput;
 use tera_tree::{ComponentArg, ComponentDefinition, ComponentInfo};
 
 /// What is told of each component, and the names of its parameters.
-pub(crate) fn parameters(
-    alloc: Global,
-    setting: &Setting<'_>,
-    source: &str,
-) -> Result<String, AllocError> {
-    let output = match read(alloc, setting, source) {
-        Ok(output) => output,
-        Err(error) => return error_text(alloc, setting.file, Detail::Start, &error),
-    };
+pub(crate) fn parameters(alloc: Global, output: &ParserOutput) -> Result<String, AllocError> {
     let mut all = String::new(alloc);
     for definition in &output.component_definitions {
         if !all.is_empty() {
             all.push_str("\n")?;
         }
-        let Ok(told) = told(alloc, definition) else {
-            return Err(AllocError);
-        };
-        all.push_str(told.as_str())?;
+        push_told(alloc, &mut all, definition)?;
     }
     Ok(all)
 }
 
-// What is told of the component, where a copy of that tells the same.
-fn told(alloc: Global, definition: &ComponentDefinition) -> Result<String, Error> {
-    let info = ComponentInfo::from_definition(alloc, definition)?;
-    let copy = info.clone()?;
-    let (first, second) = (info_text(alloc, &info)?, info_text(alloc, &copy)?);
-    let names = names(alloc, definition)?;
-    if first == second {
-        Ok(format!(in alloc; "{first}\n{names}")?)
-    } else {
-        Ok(format!(in alloc; "{first}, and of a copy {second}\n{names}")?)
+// What is told of the component, and on a line below it the names of its parameters.
+fn push_told(
+    alloc: Global,
+    all: &mut String,
+    definition: &ComponentDefinition,
+) -> Result<(), AllocError> {
+    let told = told(alloc, definition)?;
+    all.push_str(told.as_str())?;
+    all.push_str("\n")?;
+    match definition.kwargs_list(alloc) {
+        Ok(names) => push_names(all, names.as_slice()),
+        Err(_) => Err(AllocError),
     }
 }
 
-fn names(alloc: Global, definition: &ComponentDefinition) -> Result<String, Error> {
-    let mut all = String::new(alloc);
-    for name in definition.kwargs_list(alloc)? {
-        if !all.is_empty() {
+fn push_names(all: &mut String, names: &[&str]) -> Result<(), AllocError> {
+    for (at, name) in names.iter().enumerate() {
+        if at != 0 {
             all.push_str(" ")?;
         }
         all.push_str(name)?;
     }
-    Ok(all)
+    Ok(())
+}
+
+fn told(alloc: Global, definition: &ComponentDefinition) -> Result<String, AllocError> {
+    match ComponentInfo::from_definition(alloc, definition) {
+        Ok(info) => told_twice(alloc, &info),
+        Err(_) => Err(AllocError),
+    }
+}
+
+// What the information tells, where a copy of it tells the same.
+fn told_twice(alloc: Global, info: &ComponentInfo) -> Result<String, AllocError> {
+    let first = info_text(alloc, info)?;
+    let second = told_by_copy(alloc, info)?;
+    if first == second {
+        Ok(first)
+    } else {
+        format!(in alloc; "{first}, and of a copy {second}")
+    }
+}
+
+fn told_by_copy(alloc: Global, info: &ComponentInfo) -> Result<String, AllocError> {
+    match info.clone() {
+        Ok(copy) => info_text(alloc, &copy),
+        Err(error) => Err(error),
+    }
 }
 
 fn info_text(alloc: Global, info: &ComponentInfo) -> Result<String, AllocError> {

@@ -3,7 +3,7 @@
 use case_files::{Numbers, Options};
 use std::alloc::{AllocError, Global};
 use std::borrow::CowStr;
-use tera_base::{Error, ErrorKind};
+use tera_base::Error;
 use tera_expr::Limits;
 use tera_lexer::Delimiters;
 use tera_parser::{Parser, ParserOutput};
@@ -93,15 +93,20 @@ pub(crate) fn read(
     source: &str,
 ) -> Result<ParserOutput, Error> {
     let delimiters = setting.delimiters.clone()?;
+    read_between(alloc, setting, delimiters, source)
+}
+
+/// The tree of the source between these markers.
+pub(crate) fn read_between(
+    alloc: Global,
+    setting: &Setting<'_>,
+    delimiters: Delimiters,
+    source: &str,
+) -> Result<ParserOutput, Error> {
     delimiters.validate(alloc)?;
     let limits = setting.limits;
     if !limits.valid() {
         return Err(Error::message(alloc, "no limits"));
     }
     Parser::with_limits(alloc, setting.file, source, delimiters, limits).parse()
-}
-
-/// That memory failed.
-pub(crate) fn is_memory(error: &Error) -> bool {
-    matches!(error.kind, ErrorKind::Memory)
 }

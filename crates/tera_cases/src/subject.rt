@@ -2,9 +2,8 @@
 
 use crate::answers::answer;
 use crate::beginnings::refused_badly;
-use crate::faces::broken;
-use crate::kept::are_kept;
-use crate::settings::{Setting, read, setting_of, source_of_case};
+use crate::settings::{Setting, setting_of, source_of_case};
+use crate::soundness::{Soundness, soundness_of};
 use case_files::{Case, Options, Section, Shown};
 use std::alloc::AllocError;
 
@@ -62,9 +61,18 @@ fn compare_section(
             what,
         });
     };
+    compare_cases(rt, &setting, section, count)
+}
+
+fn compare_cases(
+    rt: &HostRuntime,
+    setting: &Setting<'_>,
+    section: &Section,
+    count: &mut Count,
+) -> Result<(), Stop> {
     for case in &section.cases {
         count.cases = count.cases.saturating_add(1);
-        if !compare(rt, &setting, &section.options, case, count)? {
+        if !compare(rt, setting, &section.options, case, count)? {
             count.different = count.different.saturating_add(1);
         }
     }
@@ -89,17 +97,11 @@ fn compare(
     if options.uncut || !is_read_whole(options.shown) {
         return Ok(true);
     }
-    let Ok(output) = read(alloc, setting, source.as_str()) else {
-        return Ok(true);
-    };
-    if let Some(what) = broken(alloc, &output)? {
-        return fails(rt, setting.file, case, what);
+    match soundness_of(alloc, setting, source.as_str())? {
+        Soundness::NoTree => Ok(true),
+        Soundness::Broken(what) => fails(rt, setting.file, case, what),
+        Soundness::Sound => cut(rt, setting, case, source.as_str(), count),
     }
-    if !are_kept(alloc, setting, &output)? {
-        let what = "an expression whose source text is not read as it";
-        return fails(rt, setting.file, case, what);
-    }
-    cut(rt, setting, case, source.as_str(), count)
 }
 
 // Whether the source is read as a template.

@@ -4,7 +4,7 @@ use crate::settings::Setting;
 use case_files::Shown;
 use std::alloc::{AllocError, Global};
 use tera_base::{Error, ErrorKind, Span};
-use tera_lexer::{Token, tokenize};
+use tera_lexer::{Token, Tokens, tokenize};
 
 /// The tokens of the source, and at last its fault.
 pub(crate) fn listing(
@@ -14,21 +14,34 @@ pub(crate) fn listing(
     source: &str,
 ) -> Result<String, AllocError> {
     let delimiters = setting.delimiters.clone()?;
-    let mut all = String::new(alloc);
     if delimiters.validate(alloc).is_err() {
-        return Ok(all);
+        return Ok(String::new(alloc));
     }
-    for item in tokenize(alloc, source, delimiters) {
-        let text = match &item {
-            Ok((token, span)) => token_text(alloc, shown, token, span)?,
-            Err(error) => fault_text(alloc, shown, error)?,
-        };
+    let mut tokens = tokenize(alloc, source, delimiters);
+    items_text(alloc, shown, &mut tokens)
+}
+
+fn items_text(alloc: Global, shown: Shown, tokens: &mut Tokens<'_>) -> Result<String, AllocError> {
+    let mut all = String::new(alloc);
+    for item in tokens {
+        let text = item_text(alloc, shown, item)?;
         if !all.is_empty() {
             all.push_str("; ")?;
         }
         all.push_str(text.as_str())?;
     }
     Ok(all)
+}
+
+fn item_text(
+    alloc: Global,
+    shown: Shown,
+    item: Result<(Token<'_>, Span), Error>,
+) -> Result<String, AllocError> {
+    match item {
+        Ok((token, span)) => token_text(alloc, shown, &token, &span),
+        Err(error) => fault_text(alloc, shown, &error),
+    }
 }
 
 fn token_text(

@@ -1,11 +1,11 @@
 //! Source texts of expressions that were read.
 
 use crate::faults::{Detail, error_text};
-use crate::settings::{Setting, read};
+use crate::settings::{Setting, read_between};
 use std::alloc::{AllocError, Global};
 use tera_base::Error;
 use tera_lexer::Delimiters;
-use tera_parser::{Parser, ParserOutput};
+use tera_parser::ParserOutput;
 use tera_source::source_of;
 use tera_tree::{Expression, Node};
 
@@ -13,19 +13,18 @@ use tera_tree::{Expression, Node};
 pub(crate) fn written_back(
     alloc: Global,
     setting: &Setting<'_>,
-    source: &str,
+    output: &ParserOutput,
 ) -> Result<String, AllocError> {
-    let first = match read(alloc, setting, source) {
-        Ok(output) => written_alone(alloc, &output),
-        Err(error) => Err(error),
-    };
-    let first = match first {
-        Ok(written) => written,
-        Err(error) => return error_text(alloc, setting.file, Detail::Start, &error),
-    };
+    match written_alone(alloc, output) {
+        Ok(first) => read_back(alloc, setting, &first),
+        Err(error) => error_text(alloc, setting.file, Detail::Start, &error),
+    }
+}
+
+fn read_back(alloc: Global, setting: &Setting<'_>, first: &Written) -> Result<String, AllocError> {
     let text = first.source.as_str();
-    match read_again(alloc, setting, text) {
-        Ok(second) if second == first => String::from_str(alloc, text),
+    match written_again(alloc, setting, text) {
+        Ok(second) if second == *first => String::from_str(alloc, text),
         Ok(second) => format!(in alloc; "{text}, and then {}", second.source),
         Err(error) => {
             let told = error_text(alloc, setting.file, Detail::Start, &error)?;
@@ -35,17 +34,13 @@ pub(crate) fn written_back(
 }
 
 /// Whether the source text of the expression is read as this expression, and written again.
-pub(crate) fn is_kept(
-    alloc: Global,
-    setting: &Setting<'_>,
-    expression: &Expression,
-) -> Result<bool, AllocError> {
-    let Ok(first) = written_of(alloc, expression) else {
-        return Ok(false);
-    };
-    match read_again(alloc, setting, first.source.as_str()) {
-        Ok(second) => Ok(second == first),
-        Err(_) => Ok(false),
+pub(crate) fn is_kept(alloc: Global, setting: &Setting<'_>, expression: &Expression) -> bool {
+    match written_of(alloc, expression) {
+        Ok(first) => match written_again(alloc, setting, first.source.as_str()) {
+            Ok(second) => second == first,
+            Err(_) => false,
+        },
+        Err(_) => false,
     }
 }
 
@@ -71,14 +66,10 @@ fn written_alone(alloc: Global, output: &ParserOutput) -> Result<Written, Error>
 }
 
 // The same of what is read of the text, between the markers that are usual.
-fn read_again(alloc: Global, setting: &Setting<'_>, text: &str) -> Result<Written, Error> {
+fn written_again(alloc: Global, setting: &Setting<'_>, text: &str) -> Result<Written, Error> {
     let source = format!(in alloc; "{{{{ {text} }}}}")?;
-    let limits = setting.limits;
-    if !limits.valid() {
-        return Err(Error::message(alloc, "no limits"));
+    match read_between(alloc, setting, Delimiters::default(), source.as_str()) {
+        Ok(output) => written_alone(alloc, &output),
+        Err(error) => Err(error),
     }
-    let marks = Delimiters::default();
-    let parser = Parser::with_limits(alloc, setting.file, source.as_str(), marks, limits);
-    let output = parser.parse()?;
-    written_alone(alloc, &output)
 }
