@@ -1,34 +1,34 @@
 -- Reading blocks and the definitions of components.
-use Rattle.std.proofs.Common.{◌≡◌, ℕ, true, false, not, List, [], ◌∷◌, ◌++◌, Option, Some, None, append-nil, refl, sym, ap, ◌∙◌}
+use Rattle.std.proofs.Common.{◌≡◌, ℕ, true, false, not, List, ◌∷◌, Option, Some, None, refl, ap, ◌∙◌}
 use Rattle.tera_base.specs.declared.utils.Span.{Span}
 use Rattle.tera_lexer.specs.grammar.Tokens.{Items}
 use Rattle.tera_grammar.specs.Options.{◌>>=◌}
-use Rattle.tera_grammar.specs.Words.{is_one_of}
 use Rattle.tera_grammar.specs.expressions.Reading.Front.{taken_name}
 use Rattle.tera_grammar.specs.statements.Components.{Head}
 use Rattle.tera_grammar.specs.statements.Expressions.{Limits, component_text}
 use Rattle.tera_grammar.specs.statements.Grammar.{Body, Item, Block, Define, InBlock, InComponent, Path, is_outermost, may_block, text_if_any}
-use Rattle.tera_grammar.specs.statements.Names.{Names, agrees, block_named, component_named, ◌and_then◌}
+use Rattle.tera_grammar.specs.statements.Names.{agrees, block_named, component_named}
 use Rattle.tera_grammar.specs.statements.Parts.{AtEndBlock, Edge, Name, Tag}
 use Rattle.tera_grammar.specs.statements.Reading.{Place, Reader, Reads, at, block_end, block_of, component_def_of}
 use Rattle.tera_grammar.specs.statements.Reading.Components.{Opened, ending_of, opened_of}
+use Rattle.tera_grammar.specs.statements.Reading.Meeting.{Met, Seen, meet, ◌having◌}
 use Rattle.tera_grammar.specs.statements.Reading.Parts.{closed, finish_of, name_if_any, tag}
 use Rattle.tera_statements.specs.Blocks.{new_block_of}
 use Rattle.tera_expect.proofs.Steps.{kept_by}
 
 -- the names with one more
-pub block_kept : (b c : List (List ℕ)) (more : List (List ℕ)) (text : List ℕ) → more ≡ b ++ text ∷ []
-    → record { blocks = more; components = c } ≡ (record { blocks = b; components = c } and_then block_named text)
-block_kept b c more text h = λ i. record { blocks = h i; components = sym (append-nil c) i }
+pub block_kept : (b c more : Met) (text : List ℕ) → more ≡ meet text b
+    → record { blocks = more; components = c } ≡ (record { blocks = b; components = c } having block_named text)
+block_kept b c more text h = λ i. record { blocks = h i; components = c }
 
-pub component_kept : (b c : List (List ℕ)) (more : List (List ℕ)) (text : List ℕ) → more ≡ c ++ text ∷ []
-    → record { blocks = b; components = more } ≡ (record { blocks = b; components = c } and_then component_named text)
-component_kept b c more text h = λ i. record { blocks = sym (append-nil b) i; components = h i }
+pub component_kept : (b c more : Met) (text : List ℕ) → more ≡ meet text c
+    → record { blocks = b; components = more } ≡ (record { blocks = b; components = c } having component_named text)
+component_kept b c more text h = λ i. record { blocks = b; components = h i }
 
-module _ (self : Reader) (path : Path) (start : Edge) (first : Span) (seen : Names) (ts : Items) where
+module _ (self : Reader) (path : Path) (start : Edge) (first : Span) (seen : Seen) (ts : Items) where
   abbrev behind_name : Name × Items → Reads Item
   behind_name n =
-      finish_of n.1 >>= λ f. self (InBlock ∷ path) (at (seen and_then block_named n.0.text) f.1) >>= λ b. block_end n.0 b.1.tokens >>= λ e.
+      finish_of n.1 >>= λ f. self (InBlock ∷ path) (at (seen having block_named n.0.text) f.1) >>= λ b. block_end n.0 b.1.tokens >>= λ e.
       Some (Block (tag start first f.0) n.0 b.0 e.0.0 e.0.1, at b.1.seen e.1)
 
   pub barred : may_block path ≡ false → block_of self path start first seen ts ≡ None
@@ -37,7 +37,7 @@ module _ (self : Reader) (path : Path) (start : Edge) (first : Span) (seen : Nam
 
   block_is : may_block path ≡ true → block_of self path start first seen ts ≡ (new_block_of seen.blocks ts >>= behind_name)
   unfolding block_of
-  block_is h = rw h (kept_by (taken_name ts) (λ n. not (is_one_of seen.blocks n.0.text)) behind_name)
+  block_is h = rw h (kept_by (taken_name ts) (λ n. not (seen.blocks n.0.text)) behind_name)
 
   module _ (may : may_block path ≡ true) where
     pub block_unnamed : new_block_of seen.blocks ts ≡ None → block_of self path start first seen ts ≡ None
@@ -51,10 +51,10 @@ module _ (self : Reader) (path : Path) (start : Edge) (first : Span) (seen : Nam
       block_unfinished h = block_named_so ∙ rw h refl
 
       module _ (f : Edge) (vs : Items) (ended : finish_of us ≡ Some (f, vs)) where
-        pub block_empty : self (InBlock ∷ path) (at (seen and_then block_named n.text) vs) ≡ None → block_of self path start first seen ts ≡ None
+        pub block_empty : self (InBlock ∷ path) (at (seen having block_named n.text) vs) ≡ None → block_of self path start first seen ts ≡ None
         block_empty h = block_named_so ∙ rw (ended, h) refl
 
-        module _ (b : Body) (p : Place) (inside : self (InBlock ∷ path) (at (seen and_then block_named n.text) vs) ≡ Some (b, p)) where
+        module _ (b : Body) (p : Place) (inside : self (InBlock ∷ path) (at (seen having block_named n.text) vs) ≡ Some (b, p)) where
           pub block_unclosed : block_end n p.tokens ≡ None → block_of self path start first seen ts ≡ None
           block_unclosed h = block_named_so ∙ rw (ended, inside, h) refl
 
@@ -62,7 +62,7 @@ module _ (self : Reader) (path : Path) (start : Edge) (first : Span) (seen : Nam
               → block_of self path start first seen ts ≡ Some (Block (tag start first f) n b e.0 e.1, at p.seen ws)
           block_given e ws h = block_named_so ∙ rw (ended, inside, h) refl
 
-module _ (l : Limits) (self : Reader) (path : Path) (start : Edge) (first : Span) (seen : Names) (ts : Items) where
+module _ (l : Limits) (self : Reader) (path : Path) (start : Edge) (first : Span) (seen : Seen) (ts : Items) where
   pub nested : is_outermost path ≡ false → component_def_of l self path start first seen ts ≡ None
   unfolding component_def_of
   nested h = rw h refl
@@ -73,11 +73,11 @@ module _ (l : Limits) (self : Reader) (path : Path) (start : Edge) (first : Span
     unopened h = rw (may, h) refl
 
     module _ (o : Opened) (us : Items) (open_tag : opened_of l seen.components ts ≡ Some (o, us)) where
-      pub definition_empty : self (InComponent ∷ path) (at (seen and_then component_named (component_text o.name)) us) ≡ None → component_def_of l self path start first seen ts ≡ None
+      pub definition_empty : self (InComponent ∷ path) (at (seen having component_named (component_text o.name)) us) ≡ None → component_def_of l self path start first seen ts ≡ None
       unfolding component_def_of
       definition_empty h = rw (may, open_tag, h) refl
 
-      module _ (b : Body) (p : Place) (inside : self (InComponent ∷ path) (at (seen and_then component_named (component_text o.name)) us) ≡ Some (b, p)) where
+      module _ (b : Body) (p : Place) (inside : self (InComponent ∷ path) (at (seen having component_named (component_text o.name)) us) ≡ Some (b, p)) where
         pub definition_unclosed : ending_of start first o p.tokens ≡ None → component_def_of l self path start first seen ts ≡ None
         unfolding component_def_of
         definition_unclosed h = rw (may, open_tag, inside, h) refl

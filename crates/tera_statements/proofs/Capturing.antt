@@ -11,7 +11,7 @@ use Rattle.tera_grammar.specs.statements.Expressions.{Limits, Expression, Filter
 use Rattle.tera_grammar.specs.statements.Reading.Expressions.{attributes_of, component_of, expression_of, filter_of}
 use Rattle.tera_grammar.specs.statements.Grammar.{Body, Item, Single, Set, Capturing, InCapture, Path, in_loop}
 use Rattle.tera_grammar.specs.statements.Heads.{Filters, NoFilters, SetBody, Section, CallBody}
-use Rattle.tera_grammar.specs.statements.Names.{Names}
+use Rattle.tera_grammar.specs.statements.Reading.Meeting.{Seen}
 use Rattle.tera_grammar.specs.statements.Parts.{AtEndCall, AtEndFilter, AtEndSet, Edge, Name, Tag}
 use Rattle.tera_grammar.specs.statements.Reading.{Place, Reader, Reads, at, call_end, call_of, section_of, set_behind, set_of}
 use Rattle.tera_grammar.specs.statements.Reading.Heads.{filters_in, filters_of, free_name}
@@ -23,7 +23,7 @@ use Rattle.tera_statements.specs.Captures.{IsNone}
 use Rattle.tera_statements.specs.Heads.{attributes_to_end, expression_to_end, filters_to_end, section_to_end}
 use Rattle.tera_statements.proofs.Ending.{filters_unended, one_to_end, two_to_end}
 
-module _ (l : Limits) (self : Reader) (path : Path) (global : Bool) (start : Edge) (first : Span) (seen : Names) where
+module _ (l : Limits) (self : Reader) (path : Path) (global : Bool) (start : Edge) (first : Span) (seen : Seen) where
   -- behind the name comes a value, or not
   pub set_unnamed : (ts : Items) → free_name ts ≡ None → set_of l self path global start first seen ts ≡ None
   unfolding set_of
@@ -91,7 +91,7 @@ module _ (l : Limits) (self : Reader) (path : Path) (global : Bool) (start : Edg
     pub set_without : IsNone ts → with_body ≡ None
     set_without h = set_unended (filters_unended l (in_loop path) ts NoFilters ts (none_there h.bar) h.finish)
 
-module _ (l : Limits) (self : Reader) (path : Path) (start : Edge) (first : Span) (seen : Names) (ts : Items) where
+module _ (l : Limits) (self : Reader) (path : Path) (start : Edge) (first : Span) (seen : Seen) (ts : Items) where
   abbrev section : Reads Item
   section = section_of l self path start first seen ts
 
@@ -122,7 +122,7 @@ module _ (l : Limits) (self : Reader) (path : Path) (start : Edge) (first : Span
           → section ≡ Some (Capturing (Section (tag start first x.2) x.0 x.1 e) b, at p.seen vs)
       section_given e vs h = section_so ∙ rw (inside, h) refl
 
-module _ (l : Limits) (self : Reader) (path : Path) (start : Edge) (first : Span) (seen : Names) (ts : Items) where
+module _ (l : Limits) (self : Reader) (path : Path) (start : Edge) (first : Span) (seen : Seen) (ts : Items) where
   abbrev call : Reads Item
   call = call_of l self path start first seen ts
 

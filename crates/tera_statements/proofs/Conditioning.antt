@@ -7,7 +7,7 @@ use Rattle.tera_grammar.specs.statements.Expressions.{Limits, Expression}
 use Rattle.tera_grammar.specs.statements.Reading.Expressions.{expression_of}
 use Rattle.tera_grammar.specs.statements.Grammar.{Body, Branches, Elif, Item, Else, NoElse, Otherwise, For, If, InFor, InForElse, InIf, Path, in_loop}
 use Rattle.tera_grammar.specs.statements.Heads.{Loop}
-use Rattle.tera_grammar.specs.statements.Names.{Names}
+use Rattle.tera_grammar.specs.statements.Reading.Meeting.{Seen}
 use Rattle.tera_grammar.specs.statements.Parts.{AtElif, AtElse, AtEndSet, AtEndBlock, AtEndFor, AtEndIf, AtEndFilter, AtEndComponent, AtEndCall, Edge, Tag}
 use Rattle.tera_grammar.specs.statements.Reading.{Place, Reader, Reads, at, body, branch_in, branches, else_in, else_of, for_of, if_of}
 use Rattle.tera_grammar.specs.statements.Reading.Heads.{loop_of}
@@ -31,7 +31,7 @@ use Rattle.tera_statements.specs.declared.fronts.Closer.TheVariants as closers
 use Rattle.tera_expect.proofs.Steps.{failed_as}
 
 -- a loop
-module _ (l : Limits) (self : Reader) (path : Path) (start : Edge) (first : Span) (seen : Names) (ts : Items) where
+module _ (l : Limits) (self : Reader) (path : Path) (start : Edge) (first : Span) (seen : Seen) (ts : Items) where
   abbrev looped : Reads Item
   looped = for_of l self path start first seen ts
 
@@ -67,7 +67,7 @@ module _ (l : Limits) (self : Reader) (path : Path) (start : Edge) (first : Span
         loop_given e vs h = loop_so ∙ rw (inside, other, h) refl
 
 -- an `else`, or none
-module _ (self : Reader) (path : Path) (seen : Names) (ts : Items) where
+module _ (self : Reader) (path : Path) (seen : Seen) (ts : Items) where
   else_absent : (fr : Front) → closed_at AtElse fr ≡ None → else_in self path seen ts fr ≡ Some (NoElse, at seen ts)
   unfolding else_in
   else_absent (Closes AtElse start first us) h = cc
@@ -96,7 +96,7 @@ module _ (self : Reader) (path : Path) (seen : Names) (ts : Items) where
       else_is = else_present (front ts) x us there ∙ rw ended refl
 
 -- a condition with its body
-module _ (l : Limits) (below : ℕ) (path : Path) (seen : Names) (ts : Items) where
+module _ (l : Limits) (below : ℕ) (path : Path) (seen : Seen) (ts : Items) where
   abbrev conditional : Reads Conditional
   conditional = conditional_of l below path (at seen ts)
 
@@ -111,14 +111,14 @@ module _ (l : Limits) (below : ℕ) (path : Path) (seen : Names) (ts : Items) wh
     condition_given b p h = rw (read, h) refl
 
 -- an `else` whose body is read
-module _ (self : Reader) (path : Path) (seen : Names) (ts : Items) (x : Edge × Span) (us : Items) (there : closed AtElse ts ≡ Some (x, us)) where
+module _ (self : Reader) (path : Path) (seen : Seen) (ts : Items) (x : Edge × Span) (us : Items) (there : closed AtElse ts ≡ Some (x, us)) where
   module _ (f : Edge) (vs : Items) (ended : finish_of us ≡ Some (f, vs)) where
     pub otherwise_given : (r : Result (Vec Node Global) Error) (q : Place) → GivesBy (λ ns b. IsBody (in_loop path) ns.items b) r q (self path (at seen vs)) → GivesBy (λ ns o. IsElse (in_loop path) ns.items o) r q (else_of self path (at seen ts))
     otherwise_given (Ok ns) q (b, read, shows) = (Otherwise (tag x.0 x.1 f) b, else_is self path seen ts x us there f vs ended ∙ rw read refl, shows)
     otherwise_given (Err e) q h = failed_as (self path (at seen vs)) (else_of self path (at seen ts)) e (λ none. else_is self path seen ts x us there f vs ended ∙ rw none refl) h
 
 -- the parts of a condition with its body, taken together
-module _ (l : Limits) (below : ℕ) (path : Path) (seen : Names) where
+module _ (l : Limits) (below : ℕ) (path : Path) (seen : Seen) where
   abbrev with_body : (Expression × Edge) × Items → Reads Conditional
   with_body c = body below l path (at seen c.1) >>= λ b. Some ((c.0.0, c.0.1, b.0), b.1)
 
@@ -138,7 +138,7 @@ module _ (l : Limits) (below : ℕ) (path : Path) (seen : Names) where
       by_finish (Some f) = by_body f (body below l path (at seen f.1))
 
 -- an `if`: a first condition with its body, the others, and the closing tag
-module _ (l : Limits) (below : ℕ) (path : Path) (start : Edge) (first : Span) (seen : Names) (ts : Items) where
+module _ (l : Limits) (below : ℕ) (path : Path) (start : Edge) (first : Span) (seen : Seen) (ts : Items) where
   abbrev Closing : Edge → Expression → Body → Branches × Place → Reads Item
   Closing f c b bs = closed_tag AtEndIf bs.1.tokens >>= λ e. Some (If (tag start first f) c b bs.0 e.0, at bs.1.seen e.1)
 
@@ -171,7 +171,7 @@ module _ (l : Limits) (below : ℕ) (path : Path) (start : Edge) (first : Span) 
 abbrev elif_with : Edge × Span → Conditional → Branches × Place → Reads Branches
 elif_with x c bs = Some (Elif (tag x.0 x.1 c.1) c.0 c.2 bs.0, bs.1)
 
-module _ (l : Limits) (below : ℕ) (path : Path) (seen : Names) (ts us : Items) (x : Edge × Span) (there : closed AtElif ts ≡ Some (x, us)) where
+module _ (l : Limits) (below : ℕ) (path : Path) (seen : Seen) (ts us : Items) (x : Edge × Span) (there : closed AtElif ts ≡ Some (x, us)) where
   abbrev All : Place → Reads Branches
   All p = branches l (body below l) path p
 

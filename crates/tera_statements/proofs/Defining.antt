@@ -9,7 +9,6 @@ use Rattle.tera_nodes.specs.Tree.{Stmt}
 use Rattle.tera_tree.specs.Tree.{Argument, Definition}
 use Rattle.tera_grammar.specs.Options.{◌>>=◌, guard}
 use Rattle.tera_grammar.proofs.Options.{bound}
-use Rattle.tera_grammar.specs.Words.{is_one_of}
 use Rattle.tera_grammar.specs.expressions.Marks.{LeftBrace, LeftParen}
 use Rattle.tera_grammar.specs.expressions.Reading.Front.{Takes, begins, takes}
 use Rattle.tera_grammar.specs.statements.Components.{Head, Parameters, component_texts, definition_of, metadata_output, put_arguments, rest_of}
@@ -19,19 +18,20 @@ use Rattle.tera_grammar.specs.statements.Names.{agrees}
 use Rattle.tera_grammar.specs.statements.Parts.{AtEndComponent, Edge}
 use Rattle.tera_grammar.specs.statements.Reading.Components.{Opened, end_name_in, ending_of, head, is_name, metadata_in, opened_of, parameters_of}
 use Rattle.tera_grammar.specs.statements.Reading.Parts.{closed, finish_of}
+use Rattle.tera_grammar.specs.statements.Reading.Meeting.{Met, nothing_met}
 use Rattle.tera_grammar.specs.statements.Types.{Sorted}
 use Rattle.tera_statements.specs.Components.{agreeing_name, new_component_of}
 use Rattle.tera_expect.proofs.Steps.{kept_by}
 
-module _ (l : Limits) (seen : List (List ℕ)) (ts : Items) where
+module _ (l : Limits) (seen : Met) (ts : Items) where
   abbrev behind_name : ComponentName × Items → Takes Opened
   behind_name n =
-      takes LeftParen n.1 >>= λ paren. parameters_of l [] paren.1 >>= λ ps. metadata_in l ps.1 (begins LeftBrace ps.1) >>= λ m. finish_of m.1 >>= λ f.
+      takes LeftParen n.1 >>= λ paren. parameters_of l nothing_met paren.1 >>= λ ps. metadata_in l ps.1 (begins LeftBrace ps.1) >>= λ m. finish_of m.1 >>= λ f.
       Some (record { name = n.0; paren = paren.0; parameters = ps.0; metadata = m.0; finish = f.0 }, f.1)
 
   opened_is : opened_of l seen ts ≡ (new_component_of seen ts >>= behind_name)
   unfolding opened_of
-  opened_is = kept_by (component_of ts) (λ n. not (is_one_of seen (component_text n.0))) behind_name
+  opened_is = kept_by (component_of ts) (λ n. not (seen (component_text n.0))) behind_name
 
   pub no_new_name : new_component_of seen ts ≡ None → opened_of l seen ts ≡ None
   no_new_name h = opened_is ∙ ap (λ o. o >>= behind_name) h
@@ -44,10 +44,10 @@ module _ (l : Limits) (seen : List (List ℕ)) (ts : Items) where
     no_paren h = opened_behind ∙ rw h refl
 
     module _ (paren : Span) (vs : Items) (there : takes LeftParen us ≡ Some (paren, vs)) where
-      pub no_parameters : parameters_of l [] vs ≡ None → opened_of l seen ts ≡ None
+      pub no_parameters : parameters_of l nothing_met vs ≡ None → opened_of l seen ts ≡ None
       no_parameters h = opened_behind ∙ rw (there, h) refl
 
-      module _ (ps : Parameters) (ws : Items) (listed : parameters_of l [] vs ≡ Some (ps, ws)) where
+      module _ (ps : Parameters) (ws : Items) (listed : parameters_of l nothing_met vs ≡ Some (ps, ws)) where
         pub no_metadata : metadata_in l ws (begins LeftBrace ws) ≡ None → opened_of l seen ts ≡ None
         no_metadata h = opened_behind ∙ rw (there, listed, h) refl
 

@@ -12,7 +12,7 @@ use Rattle.tera_grammar.specs.Options.{◌>>=◌}
 use Rattle.tera_grammar.specs.statements.Expressions.{Limits, Expression}
 use Rattle.tera_grammar.specs.statements.Reading.Expressions.{expression_of}
 use Rattle.tera_grammar.specs.statements.Grammar.{Item, Path, Shown, Single, Text, in_loop}
-use Rattle.tera_grammar.specs.statements.Names.{Names}
+use Rattle.tera_grammar.specs.statements.Reading.Meeting.{Seen}
 use Rattle.tera_grammar.specs.statements.Parts as parts
 use Rattle.tera_grammar.specs.statements.Parts.{Edge, opener_token, start_yield}
 use Rattle.tera_grammar.specs.statements.Reading.{Place, Reader, Reads, at, shown_of, step, tag_of}
@@ -137,7 +137,7 @@ entered o ts us vs t u s r there one two =
     span_first t u s r us vs h = cc
 
 -- what the next step comes to
-module _ (l : Limits) (self : Reader) (path : Path) (seen : Names) where
+module _ (l : Limits) (self : Reader) (path : Path) (seen : Seen) where
   step_ended_by : (fr : reading.Front) → fronts.Ends ≡ kind_of fr → step l self path seen fr ≡ Some None
   unfolding step
   step_ended_by reading.Ends h = refl

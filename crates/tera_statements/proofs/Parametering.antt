@@ -1,5 +1,5 @@
 -- Reading the parameters of components.
-use Rattle.std.proofs.Common.{rules, ◌≡◌, ◌⊎◌, ℕ, ℤ, pos, ◌-ℤ◌, neg_ℤ, to_z, of_z, w64, Global, String, string_bytes, arith, Bool, true, false, codes, List, [], ◌∷◌, ◌++◌, inl, inr, Option, Some, None, Result, Ok, Err, refl, sym, ap, subst, ◌∙◌}
+use Rattle.std.proofs.Common.{rules, ◌≡◌, ◌⊎◌, ℕ, ℤ, pos, ◌-ℤ◌, neg_ℤ, to_z, of_z, w64, Global, String, string_bytes, arith, Bool, true, false, codes, List, inl, inr, Option, Some, None, Result, Ok, Err, refl, sym, ap, subst, ◌∙◌}
 use Rattle.std.specs.Option.{is_some}
 use Rattle.std.specs.Prelude.{IfErr, IfOk}
 use Rattle.tera_base.specs.Errors.{IsMemory}
@@ -21,7 +21,7 @@ use Rattle.tera_lexer.specs.grammar.Tokens.{Tok, Items, Ended, Failed, Token}
 use Rattle.tera_tree.specs.Tree.{Argument}
 use Rattle.tera_tree.specs.declared.ast.ArgType.{ArgType}
 use Rattle.tera_grammar.specs.Options.{◌>>=◌, guard}
-use Rattle.tera_grammar.specs.Words.{is_none, is_one_of}
+use Rattle.tera_grammar.specs.Words.{is_none}
 use Rattle.tera_grammar.specs.expressions.Concrete.{Lit}
 use Rattle.tera_grammar.specs.expressions.Marks.{Mark, mark, mark_token, Assign, At, Colon, Comma, LeftBrace, LeftBracket, Operation, RightParen, Spread}
 use Rattle.tera_grammar.specs.expressions.Operators.{Minus}
@@ -32,6 +32,7 @@ use Rattle.tera_grammar.specs.statements.Components as components
 use Rattle.tera_grammar.specs.statements.Expressions.{Limits}
 use Rattle.tera_grammar.specs.statements.Reading.Expressions.{array_of, map_of}
 use Rattle.tera_grammar.specs.statements.Parts.{Name}
+use Rattle.tera_grammar.specs.statements.Reading.Meeting.{Met, meet}
 use Rattle.tera_grammar.specs.statements.Reading.Components.{annotation_in, assigned_in, at_in, default_at, default_by, default_of, fresh_name, minus_of, parameter, parameter_behind, parameter_of, parameters_at, parameters_behind, parameters_in, parameters_of}
 use Rattle.tera_grammar.specs.statements.Reading.Loops.{Listing}
 use Rattle.tera_grammar.specs.statements.Types.{Sorted, put_name, type_named}
@@ -67,7 +68,7 @@ abbrev pub none_word : Tok → Bool
 none_word (toks.Ident text) = is_none text
 none_word t = false
 
-pub at_behind : (l : Limits) (seen : List (List ℕ)) (ts us : Items) (at : Option Span) → at_in ts (takes At ts) ≡ (at, us) → parameter_of l seen ts ≡ parameter_behind l seen at us
+pub at_behind : (l : Limits) (seen : Met) (ts us : Items) (at : Option Span) → at_in ts (takes At ts) ≡ (at, us) → parameter_of l seen ts ≡ parameter_behind l seen at us
 at_behind l seen ts us at h = ap (λ (y : Option Span × Items). parameter_behind l seen y.0 y.1) h
 
 -- defaults that are one token, or begin with a minus
@@ -161,15 +162,15 @@ map_default l ts q (Ok v) there (m, read, is) = (MapDefault m, begun_map l ts th
 map_default l ts q (Err e) there h = rw (begun_map l ts there) (failed (map_of l ts) (λ m. Some (MapDefault m.0, m.1)) e h)
 
 -- names
-module _ (seen : List (List ℕ)) (ts us : Items) (n : Name) (named : taken_name ts ≡ Some (n, us)) where
+module _ (seen : Met) (ts us : Items) (n : Name) (named : taken_name ts ≡ Some (n, us)) where
   pub named_body : is_body n.text ≡ true → fresh_name seen ts ≡ None
   named_body h = rw (named, h) refl
 
   module _ (other : is_body n.text ≡ false) where
-    pub named_again : is_one_of seen n.text ≡ true → fresh_name seen ts ≡ None
+    pub named_again : seen n.text ≡ true → fresh_name seen ts ≡ None
     named_again h = rw (named, other, h) refl
 
-    pub fresh_given : is_one_of seen n.text ≡ false → fresh_name seen ts ≡ Some (n, us)
+    pub fresh_given : seen n.text ≡ false → fresh_name seen ts ≡ Some (n, us)
     fresh_given h = rw (named, other, h) refl
 
 -- a type that is written is one
@@ -219,7 +220,7 @@ typed_is (Some a) v t h k = ap (λ u. typed u v) h ∙ known_typed (type_named a
     known_typed None k = cc
 
 -- the parts of a parameter
-module _ (l : Limits) (seen : List (List ℕ)) (at : Option Span) (ts : Items) where
+module _ (l : Limits) (seen : Met) (at : Option Span) (ts : Items) where
   pub no_fresh_name : fresh_name seen ts ≡ None → parameter_behind l seen at ts ≡ None
   unfolding parameter_behind
   no_fresh_name h = rw h refl
@@ -261,7 +262,7 @@ argument_is at n t d typ v implicit same written known value = λ i. record {
 }
 
 -- what the parameters go on with
-abbrev pub next_parameters : Limits → List (List ℕ) → Items → Takes Parameters
+abbrev pub next_parameters : Limits → Met → Items → Takes Parameters
 next_parameters l seen ts = parameters_in (parameters_of l) l seen ts (takes RightParen ts)
 
 -- the name of the rest parameter with the closing parenthesis, by itself and as the end of all
@@ -293,7 +294,7 @@ rest_by : (o : Option (Name × Items)) (dots : Span) (n : Name) (us : Items) →
 rest_by None dots n us h = cc
 rest_by (Some m) dots n us h = end_by (takes RightParen m.1) dots m.0 n us h
 
-module _ (l : Limits) (seen : List (List ℕ)) (ts : Items) where
+module _ (l : Limits) (seen : Met) (ts : Items) where
   pub closed_there : (end : Span) (us : Items) → takes RightParen ts ≡ Some (end, us) → next_parameters l seen ts ≡ Some (Closed end, us)
   unfolding parameters_in
   closed_there end us h = ap (parameters_in (parameters_of l) l seen ts) h
@@ -328,15 +329,15 @@ module _ (l : Limits) (seen : List (List ℕ)) (ts : Items) where
 
         pub no_comma : takes RightParen us ≡ None → takes Comma us ≡ None → next_parameters l seen ts ≡ None
         unfolding parameters_behind
-        no_comma none h = behind_it ∙ ap (parameters_behind (parameters_of l) seen p us) none ∙ ap (λ o. o >>= λ c. parameters_of l (seen ++ p.name.text ∷ []) c.1 >>= λ ps. Some (components.More p c.0 ps.0, ps.1)) h
+        no_comma none h = behind_it ∙ ap (parameters_behind (parameters_of l) seen p us) none ∙ ap (λ o. o >>= λ c. parameters_of l (meet p.name.text seen) c.1 >>= λ ps. Some (components.More p c.0 ps.0, ps.1)) h
 
 -- one parameter more
-pub listing_more : (l : Limits) (start here : Items) (seen more : List (List ℕ)) (gathered grown : Sorted Argument) → Listing l start here seen gathered
+pub listing_more : (l : Limits) (start here : Items) (seen more : Met) (gathered grown : Sorted Argument) → Listing l start here seen gathered
     → takes RightParen here ≡ None → takes Spread here ≡ None → (p : Parameter) (us : Items) → parameter_of l seen here ≡ Some (p, us)
     → takes RightParen us ≡ None → (comma : Span) (vs : Items) → takes Comma us ≡ Some (comma, vs)
-    → more ≡ seen ++ p.name.text ∷ [] → grown ≡ put_name p.name.text (argument_of p) gathered → Listing l start vs more grown
+    → more ≡ meet p.name.text seen → grown ≡ put_name p.name.text (argument_of p) gathered → Listing l start vs more grown
 listing_more l start here seen more gathered grown g no_end no_dots p us read no_last comma vs stands named put =
-    subst (λ s. Listing l start vs s grown) (sym named) (subst (λ a. Listing l start vs (seen ++ p.name.text ∷ []) a) (sym put)
+    subst (λ s. Listing l start vs s grown) (sym named) (subst (λ a. Listing l start vs (meet p.name.text seen) a) (sym put)
     (listing_on l start here seen gathered g no_end no_dots (p, us) read no_last (comma, vs) stands))
 
 -- where a token was not taken, the same stands there

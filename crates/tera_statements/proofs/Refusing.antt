@@ -13,7 +13,7 @@ use Rattle.tera_lexer.proofs.Refusals as refusals
 use Rattle.tera_lexer.proofs.Refusals.{later_faults, lift_faults}
 use Rattle.tera_grammar.specs.statements.Expressions.{Limits}
 use Rattle.tera_grammar.specs.statements.Grammar.{Item, Path, Single, Text}
-use Rattle.tera_grammar.specs.statements.Names.{Names}
+use Rattle.tera_grammar.specs.statements.Reading.Meeting.{Seen}
 use Rattle.tera_grammar.specs.statements.Output.{AddsNothing, added_by}
 use Rattle.tera_grammar.specs.statements.Reading as reading
 use Rattle.tera_grammar.specs.statements.Reading.{Place, Reader, step}
@@ -129,7 +129,7 @@ same_first : (x y : Item × Place) → Some (Some x) ≡ Some (Some y) → x.0 �
 same_first x y h = let same : x ≡ y = cc in ap (λ (z : Item × Place). z.0) same
 
 -- what the next step over empty texts comes to
-module _ (l : Limits) (self : Reader) (path : Path) (seen : Names) where
+module _ (l : Limits) (self : Reader) (path : Path) (seen : Seen) where
   holds_nothing : (text : List ℕ) (span : Span) (us : Items) → step l self path seen (reading.Parts.Holds text span us) ≡ Some None → ⊥
   unfolding step
   holds_nothing text span us h = cc

@@ -9,9 +9,9 @@ use Rattle.tera_grammar.specs.statements.Grammar.{Item, Path, Body, Branches, El
 use Rattle.tera_grammar.specs.statements.Output.{Adds, AddsNothing, AddsNode, AddsParent, AddsDefinition, added_by, branch_output, else_output, output}
 use Rattle.tera_grammar.specs.statements.Parts.{Edge}
 use Rattle.tera_grammar.specs.statements.Reading.{Place, at, Reads}
-use Rattle.tera_grammar.specs.statements.Names as grammar_names
+use Rattle.tera_grammar.specs.statements.Reading.Meeting.{Seen}
 use Rattle.tera_statements.specs.Around.{Stands}
-use Rattle.tera_statements.specs.Known.{names_of}
+use Rattle.tera_statements.specs.Known.{met_of}
 use Rattle.tera_expect.specs.Taking.{Fails, GivesBy}
 use Rattle.tera_statements.specs.declared.added.Added.{Added}
 use Rattle.tera_statements.specs.declared.added.Added.TheVariants as added
@@ -38,8 +38,8 @@ abbrev pub IsElse : Bool → List Node → Else → Type 0
 IsElse in_loop ns o = map node_view ns ≡ else_output in_loop o
 
 -- the names so far, and the place where a reading stands
-abbrev pub seen_of : Names → grammar_names.Names
-seen_of n = record { blocks = names_of n.blocks.entries; components = names_of n.components.entries }
+abbrev pub seen_of : Names → Seen
+seen_of n = record { blocks = met_of n.blocks; components = met_of n.components }
 
 abbrev pub here : Names → Position → Place
 here n p = at (seen_of n) p.left
@@ -49,8 +49,8 @@ abbrev pub AddsBy : Around → Result Added Error → Place → (Path → Edge �
 AddsBy around r q read = (path : Path) → Stands path around → (start : Edge) → GivesBy (IsAdded (in_loop path)) r q (read path start)
 
 -- likewise one that reads tokens alone
-abbrev pub AddsAlone : Around → Result Added Error → Position → (Path → Edge → grammar_names.Names → Reads Item) → Type 0
-AddsAlone around r new read = (path : Path) → Stands path around → (start : Edge) (seen : grammar_names.Names) → GivesBy (IsAdded (in_loop path)) r (at seen new.left) (read path start seen)
+abbrev pub AddsAlone : Around → Result Added Error → Position → (Path → Edge → Seen → Reads Item) → Type 0
+AddsAlone around r new read = (path : Path) → Stands path around → (start : Edge) (seen : Seen) → GivesBy (IsAdded (in_loop path)) r (at seen new.left) (read path start seen)
 
 -- the item that comes next in a body
 abbrev pub GivesItem : Bool → Result Added Error → Place → Option (Option (Item × Place)) → Type 0

@@ -9,7 +9,7 @@ use Rattle.tera_grammar.specs.expressions.Reading.Front.{takes}
 use Rattle.tera_grammar.specs.statements.Expressions.{Limits, ComponentName}
 use Rattle.tera_grammar.specs.statements.Grammar as grammar
 use Rattle.tera_grammar.specs.statements.Grammar.{Path, in_loop}
-use Rattle.tera_grammar.specs.statements.Names.{Names}
+use Rattle.tera_grammar.specs.statements.Reading.Meeting.{Seen}
 use Rattle.tera_grammar.specs.statements.Parts.{Edge, Name, Tag}
 use Rattle.tera_grammar.specs.statements.Reading.{Place, Reader, at, body, set_behind}
 use Rattle.tera_grammar.specs.statements.Reading.Parts.{finish_of}
@@ -23,7 +23,7 @@ use Rattle.tera_statements.specs.declared.around.Context.{Context}
 -- a variable of this name takes a value, behind the equals sign at the span of the old place
 abbrev pub GivesSetValue : Limits → Around → List ℕ → Bool → Result Added Error → Position → Position → Type 0
 GivesSetValue l around name global r new old =
-    (path : Path) → Stands path around → (self : Reader) (start : Edge) (first : Span) (seen : Names) (n : Name) (items : Items) → n.text ≡ name
+    (path : Path) → Stands path around → (self : Reader) (start : Edge) (first : Span) (seen : Seen) (n : Name) (items : Items) → n.text ≡ name
     → GivesBy (IsAdded (in_loop path)) r (at seen new.left) (set_behind l self path global start first seen n items (Some (old.span, old.left)))
 
 -- likewise filters and a body, in a context that is a capture

@@ -2,21 +2,21 @@
 use Rattle.std.specs.Prelude.{ℕ, not, List, Option, Some}
 use Rattle.tera_lexer.specs.grammar.Tokens.{Items}
 use Rattle.tera_grammar.specs.Options.{◌>>=◌, guard}
-use Rattle.tera_grammar.specs.Words.{is_one_of}
 use Rattle.tera_grammar.specs.expressions.Reading.Front.{Takes}
 use Rattle.tera_grammar.specs.statements.Components.{component_texts}
 use Rattle.tera_grammar.specs.statements.Expressions.{ComponentName, component_text}
 use Rattle.tera_grammar.specs.statements.Reading.Expressions.{component_of}
 use Rattle.tera_grammar.specs.statements.Names.{agrees}
+use Rattle.tera_grammar.specs.statements.Reading.Meeting.{Met}
 use Rattle.tera_grammar.specs.statements.Reading.Components as reading
 use Rattle.tera_grammar.specs.statements.Reading.Components.{end_name_in, is_name}
 use Rattle.tera_statements.specs.Parameters.{AreParameters, IsMetadata}
 use Rattle.tera_statements.specs.Reading.{IsComponent}
 use Rattle.tera_statements.specs.declared.components.Opened.{Opened}
 
--- the name of a component that is not among these
-abbrev pub new_component_of : List (List ℕ) → Items → Takes ComponentName
-new_component_of seen items = component_of items >>= λ n. guard (not (is_one_of seen (component_text n.0))) >>= λ u. Some n
+-- the name of a component that was not met
+abbrev pub new_component_of : Met → Items → Takes ComponentName
+new_component_of seen items = component_of items >>= λ n. guard (not (seen (component_text n.0))) >>= λ u. Some n
 
 -- what the opening tag says
 abbrev pub IsOpened : Opened → reading.Opened → Type 0

@@ -5,7 +5,7 @@ use Rattle.tera_lexer.specs.code.Cursors.{Position}
 use Rattle.tera_lexer.specs.grammar.Tokens.{Items, Ended, Failed, Token, Tok, Content}
 use Rattle.tera_grammar.specs.statements.Expressions.{Limits}
 use Rattle.tera_grammar.specs.statements.Grammar.{Item, Path, in_loop}
-use Rattle.tera_grammar.specs.statements.Names.{Names}
+use Rattle.tera_grammar.specs.statements.Reading.Meeting.{Seen}
 use Rattle.tera_grammar.specs.statements.Parts.{Edge, Opener}
 use Rattle.tera_grammar.specs.statements.Reading.{Place, Reader, at, body, step}
 use Rattle.tera_grammar.specs.statements.Reading.Parts.{Front, Opens, front}
@@ -37,10 +37,10 @@ text_in t = []
 
 -- a text, and an expression that is shown, which tokens with this front begin with
 abbrev pub GivesText : Result Added Error → Items → Front → Type 0
-GivesText r new fr = (l : Limits) (self : Reader) (path : Path) (seen : Names) → GivesItem (in_loop path) r (at seen new) (step l self path seen fr)
+GivesText r new fr = (l : Limits) (self : Reader) (path : Path) (seen : Seen) → GivesItem (in_loop path) r (at seen new) (step l self path seen fr)
 
 abbrev pub GivesShown : Limits → Around → Result Added Error → Items → Front → Type 0
-GivesShown l around r new fr = (self : Reader) (path : Path) → Stands path around → (seen : Names) → GivesItem (in_loop path) r (at seen new) (step l self path seen fr)
+GivesShown l around r new fr = (self : Reader) (path : Path) → Stands path around → (seen : Seen) → GivesItem (in_loop path) r (at seen new) (step l self path seen fr)
 
 -- empty texts alone, as comments are
 abbrev pub AreEmptyTexts : Items → Type 0

@@ -1,5 +1,5 @@
 -- The parameters of components, as they are read.
-use Rattle.std.specs.Prelude.{◌≡◌, ℕ, Bool, List, [], map, Option, Some, None, String, string_bytes}
+use Rattle.std.specs.Prelude.{◌≡◌, Bool, List, [], map, Option, Some, None, String, string_bytes}
 use Rattle.std.specs.declared.alloc.Global.{Global}
 use Rattle.tera_base.specs.ValueView.{value_view}
 use Rattle.tera_base.specs.Values.{Val}
@@ -18,6 +18,7 @@ use Rattle.tera_grammar.specs.expressions.Concrete.{Name}
 use Rattle.tera_grammar.specs.expressions.Marks.{RightParen}
 use Rattle.tera_grammar.specs.expressions.Reading.Front.{Takes, takes}
 use Rattle.tera_grammar.specs.statements.Reading.Components.{fresh_name}
+use Rattle.tera_grammar.specs.statements.Reading.Meeting.{Met}
 use Rattle.tera_grammar.specs.statements.Types.{Sorted, type_named, type_of}
 use Rattle.tera_lexer.specs.grammar.Tokens.{Items}
 use Rattle.tera_statements.specs.declared.parameters.Parameters.{Parameters}
@@ -61,7 +62,7 @@ abbrev pub has_default : Argument → Bool
 has_default a = default_has_type a.typ a.default
 
 -- the name of the rest parameter, and the closing parenthesis
-abbrev pub taken_rest : List (List ℕ) → Items → Takes Name
+abbrev pub taken_rest : Met → Items → Takes Name
 taken_rest seen items = fresh_name seen items >>= λ n. takes RightParen n.1 >>= λ end. Some (n.0, end.1)
 
 -- metadata

@@ -9,7 +9,7 @@ use Rattle.tera_lexer.specs.grammar.Tokens.{Items}
 use Rattle.tera_tree.specs.Tree.{Output}
 use Rattle.tera_grammar.specs.statements.Expressions.{Limits}
 use Rattle.tera_grammar.specs.statements.Grammar.{Body, Item}
-use Rattle.tera_grammar.specs.statements.Names.{no_names}
+use Rattle.tera_grammar.specs.statements.Reading.Meeting.{nothing_seen}
 use Rattle.tera_grammar.specs.statements.Output.{added_by, output_of}
 use Rattle.tera_grammar.specs.statements.Reading as reading
 use Rattle.tera_grammar.specs.statements.Reading.{Place, at, body, step, template}
@@ -49,7 +49,7 @@ below_top l = l.bodies - 1
 
 -- so much of the tokens has been read, and what has been read so far comes to this
 abbrev pub TopOf : Limits → Items → Place → Output → reading.Phase → Type 0
-TopOf l ts here out ph = Topping l (below_top l) (at no_names ts) here out ph
+TopOf l ts here out ph = Topping l (below_top l) (at nothing_seen ts) here out ph
 
 -- no tokens of which so much has been read are those of a template
 abbrev pub Excludes : Limits → Place → reading.Phase → Type 0

@@ -2,7 +2,7 @@
 
 ghost use Rattle.std.specs.Prelude.{◌≡◌, ◌++◌, IfErr, OnOk, map};
 ghost use Rattle.tera_base.specs.Errors.{IsMemory};
-ghost use Rattle.tera_grammar.specs.statements.Names.{no_names};
+ghost use Rattle.tera_grammar.specs.statements.Reading.Meeting.{nothing_seen};
 ghost use Rattle.tera_grammar.specs.statements.Output.{added_nodes};
 ghost use Rattle.tera_statements.specs.Adding.{added_view, seen_of};
 ghost use Rattle.tera_nodes.specs.View.{node_view};
@@ -42,7 +42,7 @@ pub(crate) struct Names {
 impl Names {
     /// No names.
     pub fn new(alloc: Global) -> Names
-        ensures { seen_of result ≡ no_names }
+        ensures { seen_of result ≡ nothing_seen }
     {
         Names {
             blocks: Known::new(alloc),

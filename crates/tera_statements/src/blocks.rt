@@ -1,15 +1,16 @@
 //! Blocks, and the definitions of components.
 
-ghost use Rattle.std.specs.Prelude.{IfErr, IfOk, ◌≡◌, ◌⊎◌, ◌++◌, ◌∷◌, [], false, true};
+ghost use Rattle.std.specs.Prelude.{IfErr, IfOk, ◌≡◌, ◌⊎◌, false, true};
 ghost use Rattle.std.specs.Str.{bytes_eq};
 ghost use Rattle.tera_base.specs.Errors.{IsMemory};
 ghost use Rattle.tera_parts.specs.Rooms.{limits_of};
 ghost use Rattle.tera_grammar.specs.statements.Reading as reading;
 ghost use Rattle.tera_grammar.specs.statements.Reading.{block_end, block_of, component_def_of};
 ghost use Rattle.tera_grammar.specs.statements.Parts.{Name};
+ghost use Rattle.tera_grammar.specs.statements.Reading.Meeting.{meet};
 ghost use Rattle.tera_statements.specs.Adding.{AddsBy, here, seen_of};
 ghost use Rattle.tera_statements.specs.Blocks.{IsName, new_block_of};
-ghost use Rattle.tera_statements.specs.Known.{names_of};
+ghost use Rattle.tera_statements.specs.Known.{met_of};
 ghost use Rattle.tera_expect.specs.Taking.{GivesBy, Passes, Refuses, Took};
 
 use crate::added::{Added, Names};
@@ -63,8 +64,8 @@ fn new_block<'a>(
     cursor: &mut Cursor<'a>,
     blocks: &mut Known,
 ) -> Result<(&'a str, Span), Error>
-    ensures gives { GivesBy IsName result cursor.new.left (new_block_of (names_of blocks.old.entries) cursor.old.left) }
-    ensures kept { IfOk result (λ n. names_of blocks.new.entries ≡ names_of blocks.old.entries ++ n.0.now ∷ []) }
+    ensures gives { GivesBy IsName result cursor.new.left (new_block_of (met_of blocks.old) cursor.old.left) }
+    ensures kept { IfOk result (λ n. met_of blocks.new ≡ meet n.0.now (met_of blocks.old)) }
     ensures refusal { IfErr result (Refuses cursor.old) }
     ensures later { IfOk result (λ _. Took cursor.old cursor.new) }
 {

@@ -1,6 +1,6 @@
 //! The tags of a component's definition.
 
-ghost use Rattle.std.specs.Prelude.{◌≡◌, ◌++◌, ◌∷◌, [], IfErr, IfOk, OnOk, map, string_bytes};
+ghost use Rattle.std.specs.Prelude.{◌≡◌, [], IfErr, IfOk, OnOk, map, string_bytes};
 ghost use Rattle.tera_base.specs.ValueView.{pairs_view, value_view};
 ghost use Rattle.tera_base.specs.declared.utils.Span.{Span};
 ghost use Rattle.tera_parts.specs.Rooms.{limits_of};
@@ -12,8 +12,9 @@ ghost use Rattle.tera_grammar.specs.statements.Expressions.{component_text};
 ghost use Rattle.tera_grammar.specs.statements.Parts.{Edge};
 ghost use Rattle.tera_grammar.specs.statements.Reading.Components as reading;
 ghost use Rattle.tera_grammar.specs.statements.Reading.Components.{ending_of, metadata_in, opened_of};
+ghost use Rattle.tera_grammar.specs.statements.Reading.Meeting.{meet};
 ghost use Rattle.tera_statements.specs.Components.{IsOpened, agreeing_name, new_component_of};
-ghost use Rattle.tera_statements.specs.Known.{names_of};
+ghost use Rattle.tera_statements.specs.Known.{met_of};
 ghost use Rattle.tera_statements.specs.Parameters.{IsMetadata};
 ghost use Rattle.tera_statements.specs.Reading.{IsComponent};
 ghost use Rattle.tera_expect.specs.Taking.{GivesBy, GoesOn, Passes, Refuses, Took};
@@ -47,8 +48,8 @@ pub(crate) fn opening_tag(
     cursor: &mut Cursor<'_>,
     seen: &mut Known,
 ) -> Result<Opened, Error>
-    ensures gives { GivesBy IsOpened result cursor.new.left (opened_of (limits_of setting.now.limits) (names_of seen.old.entries) cursor.old.left) }
-    ensures kept { IfOk result (λ o. names_of seen.new.entries ≡ names_of seen.old.entries ++ string_bytes o.name ∷ []) }
+    ensures gives { GivesBy IsOpened result cursor.new.left (opened_of (limits_of setting.now.limits) (met_of seen.old) cursor.old.left) }
+    ensures kept { IfOk result (λ o. met_of seen.new ≡ meet (string_bytes o.name) (met_of seen.old)) }
     ensures refusal { IfErr result (Refuses cursor.old) }
     ensures later { IfOk result (λ _. Took cursor.old cursor.new) }
 {
@@ -71,8 +72,8 @@ fn new_component(
     cursor: &mut Cursor<'_>,
     seen: &mut Known,
 ) -> Result<String, Error>
-    ensures gives { GivesBy IsComponent result cursor.new.left (new_component_of (names_of seen.old.entries) cursor.old.left) }
-    ensures kept { IfOk result (λ s. names_of seen.new.entries ≡ names_of seen.old.entries ++ string_bytes s ∷ []) }
+    ensures gives { GivesBy IsComponent result cursor.new.left (new_component_of (met_of seen.old) cursor.old.left) }
+    ensures kept { IfOk result (λ s. met_of seen.new ≡ meet (string_bytes s) (met_of seen.old)) }
     ensures refusal { IfErr result (Refuses cursor.old) }
     ensures later { IfOk result (λ _. Took cursor.old cursor.new) }
 {

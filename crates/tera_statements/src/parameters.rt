@@ -1,17 +1,18 @@
 //! The parameters of components.
 
-ghost use Rattle.std.specs.Prelude.{◌≡◌, ◌⊎◌, ◌++◌, ◌∷◌, ◌||◌, [], IfErr, IfOk, OnOk, Some, false, string_bytes, true};
+ghost use Rattle.std.specs.Prelude.{◌≡◌, ◌⊎◌, ◌||◌, IfErr, IfOk, OnOk, Some, false, string_bytes, true};
 ghost use Rattle.tera_base.specs.Errors.{IsMemory};
 ghost use Rattle.tera_base.specs.ValueView.{value_view};
 ghost use Rattle.tera_base.specs.Values.{Nothing};
-ghost use Rattle.tera_grammar.specs.Words.{is_none, is_one_of};
+ghost use Rattle.tera_grammar.specs.Words.{is_none};
 ghost use Rattle.tera_parts.specs.Rooms.{limits_of};
 ghost use Rattle.tera_grammar.specs.expressions.Marks.{Assign, Colon};
 ghost use Rattle.tera_grammar.specs.expressions.Reading.Front.{takes};
 ghost use Rattle.tera_grammar.specs.statements.Components.{is_nothing};
 ghost use Rattle.tera_grammar.specs.statements.Reading.Components.{annotation_in, assigned_in, default_of, fresh_name, minus_of, parameter_of, parameters_of};
 ghost use Rattle.tera_grammar.specs.statements.Types.{has_type, put_name, type_named};
-ghost use Rattle.tera_statements.specs.Known.{names_of};
+ghost use Rattle.tera_grammar.specs.statements.Reading.Meeting.{meet, nothing_met};
+ghost use Rattle.tera_statements.specs.Known.{met_of};
 ghost use Rattle.tera_statements.specs.Parameters.{AreParameters, IsAssigned, IsDefault, IsParameter, IsType, argument_as, arguments_view, has_default, taken_rest};
 ghost use Rattle.tera_expect.specs.Taking.{Fails, GivesAs, GivesBy, GoesOn, Refuses, Took, name_at};
 ghost use Rattle.tera_tree.specs.View.{argument_view, default_view};
@@ -40,7 +41,7 @@ pub(crate) fn read_parameters(
     setting: &Setting<'_>,
     cursor: &mut Cursor<'_>,
 ) -> Result<Parameters, Error>
-    ensures gives { GivesBy AreParameters result cursor.new.left (parameters_of (limits_of setting.now.limits) [] cursor.old.left) }
+    ensures gives { GivesBy AreParameters result cursor.new.left (parameters_of (limits_of setting.now.limits) nothing_met cursor.old.left) }
     ensures refusal { IfErr result (Refuses cursor.old) }
     ensures later { IfOk result (λ _. Took cursor.old cursor.new) }
 {
@@ -204,8 +205,7 @@ fn fresh_name<'a>(
     seen: &Known,
     rest: bool,
 ) -> Result<&'a str, Error>
-    ensures gives { GivesAs (name_at cursor.new.span) result cursor.new.left (fresh_name (names_of seen.now.entries) cursor.old.left) }
-    ensures fresh { IfOk result (λ n. is_one_of (names_of seen.now.entries) n.now ≡ false) }
+    ensures gives { GivesAs (name_at cursor.new.span) result cursor.new.left (fresh_name (met_of seen.now) cursor.old.left) }
     ensures refusal { IfErr result (Refuses cursor.old) }
     ensures later { IfOk result (λ _. Took cursor.old cursor.new) }
 {
@@ -254,7 +254,7 @@ fn rest_parameter(
     cursor: &mut Cursor<'_>,
     seen: &Known,
 ) -> Result<String, Error>
-    ensures gives { GivesBy (λ s n. string_bytes s ≡ n.text) result cursor.new.left (taken_rest (names_of seen.now.entries) cursor.old.left) }
+    ensures gives { GivesBy (λ s n. string_bytes s ≡ n.text) result cursor.new.left (taken_rest (met_of seen.now) cursor.old.left) }
     ensures refusal { IfErr result (Refuses cursor.old) }
     ensures later { IfOk result (λ _. Took cursor.old cursor.new) }
 {
@@ -276,8 +276,8 @@ fn parameter(
     cursor: &mut Cursor<'_>,
     seen: &mut Known,
 ) -> Result<(String, ComponentArgument), Error>
-    ensures gives { GivesBy IsParameter result cursor.new.left (parameter_of (limits_of setting.now.limits) (names_of seen.old.entries) cursor.old.left) }
-    ensures kept { IfOk result (λ p. names_of seen.new.entries ≡ names_of seen.old.entries ++ string_bytes p.0 ∷ []) }
+    ensures gives { GivesBy IsParameter result cursor.new.left (parameter_of (limits_of setting.now.limits) (met_of seen.old) cursor.old.left) }
+    ensures kept { IfOk result (λ p. met_of seen.new ≡ meet (string_bytes p.0) (met_of seen.old)) }
     ensures refusal { IfErr result (Refuses cursor.old) }
     ensures later { IfOk result (λ _. Took cursor.old cursor.new) }
 {

@@ -2,9 +2,9 @@
 
 ghost use Rattle.std.specs.Prelude.{◌≡◌, ◌⊎◌, IfErr, IfOk, None, OnOk, []};
 ghost use Rattle.tera_base.specs.Errors.{IsMemory};
-ghost use Rattle.tera_grammar.specs.statements.Names as grammar_names;
 ghost use Rattle.tera_grammar.specs.statements.Output.{AddsNothing};
 ghost use Rattle.tera_grammar.specs.statements.Reading.{at, body, step};
+ghost use Rattle.tera_grammar.specs.statements.Reading.Meeting.{Seen};
 ghost use Rattle.tera_grammar.specs.statements.Reading.Loops.{node_weight, turn, weight, with_added};
 ghost use Rattle.tera_grammar.specs.statements.Reading.Parts.{front};
 ghost use Rattle.tera_grammar.specs.statements.Top.{is_blank};
@@ -216,7 +216,7 @@ fn refuse_extends(
     phase: Phase,
 ) -> Result<(), Error>
     ensures stays { IfOk result (λ _. cursor.new ≡ cursor.old) }
-    ensures excludes { IfErr result (λ _. (seen : grammar_names.Names) → Excludes (limits_of setting.now.limits) (at seen cursor.old.left) (phase_of phase)) }
+    ensures excludes { IfErr result (λ _. (seen : Seen) → Excludes (limits_of setting.now.limits) (at seen cursor.old.left) (phase_of phase)) }
     ensures refusal { IfErr result (RefusesIn cursor.old) }
     ensures empty { IfErr result (λ _. AreEmptyTexts cursor.old.left → ⊥) }
 {

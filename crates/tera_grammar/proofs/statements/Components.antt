@@ -1,5 +1,5 @@
 -- The definition of a component, but for its body: what is read of it is its tokens, and those are read as it.
-use Rattle.std.proofs.Common.{◌≡◌, ◌<◌, ◌≤◌, ℕ, zero, suc, Bool, true, false, List, [], ◌∷◌, ◌++◌, Option, Some, None, refl, sym, ap, subst, ◌∙◌, append_assoc, append-nil, arith, le_refl}
+use Rattle.std.proofs.Common.{◌≡◌, ◌<◌, ◌≤◌, ℕ, zero, suc, Bool, true, false, Option, Some, None, refl, sym, ap, subst, ◌∙◌, arith, le_refl}
 use Rattle.std.proofs.lemmas.Option.{same_Some}
 use Rattle.tera_base.specs.declared.utils.Span.{Span}
 use Rattle.tera_lexer.specs.code.Cursors.{size}
@@ -11,16 +11,15 @@ use Rattle.tera_grammar.specs.expressions.Operators.{Minus}
 use Rattle.tera_grammar.specs.expressions.Marks.{mark, Mark, LeftParen, RightParen, LeftBracket, LeftBrace, Comma, Colon, Spread, Assign, At, Operation}
 use Rattle.tera_grammar.specs.Options.{◌>>=◌}
 use Rattle.tera_grammar.specs.expressions.Concrete.{Number, Quoted, Truth, Simple, Escaped}
-use Rattle.tera_grammar.specs.Words.{is_one_of}
-use Rattle.tera_grammar.specs.Words.{AreDistinct}
 use Rattle.tera_grammar.specs.statements.Names.{agrees}
 use Rattle.tera_grammar.specs.statements.Parts.{Edge, Name, name_yield, OpensComponent, opener_token, AtEndComponent, closer_token, start_yield, finish_yield}
 use Rattle.tera_grammar.specs.statements.Expressions.{Limits, ComponentName, component_yield, component_text, LiteralMap, map_yield}
 use Rattle.tera_grammar.specs.statements.Reading.Expressions.{array_of, map_of}
 use Rattle.tera_grammar.specs.statements.Components.{Default, LiteralDefault, MinusDefault, NothingDefault, ArrayDefault, MapDefault, FitsDefault, default_yield, Annotation, Assigned, Parameter, at_yield, annotation_yield, assigned_yield, parameter_yield, is_known, is_body, FitsAssigned, FitsParameter, Parameters, Closed, Rest, Final, More, parameters_yield, parameter_names, FitEach, FitParameters, Head, head_yield, ending_yield, metadata_yield, component_if_any_yield, component_texts, FitsMetadata, FitsHead}
 use Rattle.tera_grammar.specs.statements.Reading.Components.{minus_of, default_marks, default_by, default_at, default_of, at_in, annotation_in, assigned_in, parameter, fresh_name, parameter_behind, parameter_of, parameters_behind, parameters_at, parameters_in, parameters_by, parameters_of, metadata_in, Opened, opened_of, is_name, end_name_in, head, ending_of}
+use Rattle.tera_grammar.specs.statements.Reading.Meeting.{Met, meet, nothing_met}
 use Rattle.tera_grammar.proofs.Options.{bound, bind_both, guard_ok, guard_not}
-use Rattle.tera_grammar.proofs.statements.Names.{distinct-more, not-before}
+use Rattle.tera_grammar.proofs.statements.Names.{AreNew, all_new, new_distinct}
 use Rattle.tera_grammar.proofs.statements.Expressions.{component_stands, component_found, component_size, component_begins, array_stands, array_found, array_size, array_begins, map_stands, map_found, map_size, map_begins}
 use Rattle.tera_grammar.proofs.statements.Parts.{finish_stands, closed_stands}
 
@@ -175,17 +174,17 @@ module _ (l : Limits) where
   assigned_found None rest fits none = ap (assigned_in l rest) none
   assigned_found (Some d) rest fits none = rw (default_found d.value rest fits) refl
 
-  fresh_name_stands : (seen : List (List ℕ)) (ts : Items) (x : Name × Items) → fresh_name seen ts ≡ Some x → (is_body x.0.text ≡ false) × (is_one_of seen x.0.text ≡ false) × (ts ≡ name_yield x.0 x.1)
+  fresh_name_stands : (seen : Met) (ts : Items) (x : Name × Items) → fresh_name seen ts ≡ Some x → (is_body x.0.text ≡ false) × (seen x.0.text ≡ false) × (ts ≡ name_yield x.0 x.1)
   fresh_name_stands seen ts x h =
       bound _ _ _ h (λ n read rest. bound _ _ _ rest (λ u other more. bound _ _ _ more (λ v fresh made.
-      subst (λ (y : Name × Items). (is_body y.0.text ≡ false) × (is_one_of seen y.0.text ≡ false) × (ts ≡ name_yield y.0 y.1)) (same_Some n x made)
+      subst (λ (y : Name × Items). (is_body y.0.text ≡ false) × (seen y.0.text ≡ false) × (ts ≡ name_yield y.0 y.1)) (same_Some n x made)
       (guard_not _ u other, guard_not _ v fresh, taken_name_ok ts n read))))
 
   -- a parameter
-  abbrev ParameterStands : List (List ℕ) → Items → Parameter × Items → Type 0
-  ParameterStands seen ts x = FitsParameter l x.0 × (is_one_of seen x.0.name.text ≡ false) × (ts ≡ parameter_yield x.0 x.1)
+  abbrev ParameterStands : Met → Items → Parameter × Items → Type 0
+  ParameterStands seen ts x = FitsParameter l x.0 × (seen x.0.name.text ≡ false) × (ts ≡ parameter_yield x.0 x.1)
 
-  parameter_behind_stands : (seen : List (List ℕ)) (at : Option Span) (ts : Items) (x : Parameter × Items) → parameter_behind l seen at ts ≡ Some x → ParameterStands seen (at_yield at ts) x
+  parameter_behind_stands : (seen : Met) (at : Option Span) (ts : Items) (x : Parameter × Items) → parameter_behind l seen at ts ≡ Some x → ParameterStands seen (at_yield at ts) x
   unfolding parameter_behind
   parameter_behind_stands seen at ts x h =
       bound _ _ _ h (λ n named rest. bound _ _ _ rest (λ t typed rest'. bound _ _ _ rest' (λ d defaulted more. bound _ _ _ more (λ u fits made.
@@ -195,7 +194,7 @@ module _ (l : Limits) where
       subst (ParameterStands seen (at_yield at ts)) (same_Some (parameter at n.0 t.0 d.0, d.1) x made)
       ((name.0, type.0, value.0, guard_ok _ u fits), name.1, ap (at_yield at) (name.2 ∙ ap (name_yield n.0) (type.1 ∙ ap (annotation_yield t.0) value.1)))))))
 
-  parameter_stands : (seen : List (List ℕ)) (ts : Items) (x : Parameter × Items) → parameter_of l seen ts ≡ Some x → ParameterStands seen ts x
+  parameter_stands : (seen : Met) (ts : Items) (x : Parameter × Items) → parameter_of l seen ts ≡ Some x → ParameterStands seen ts x
   parameter_stands seen ts x h =
       let found = parameter_behind_stands seen (at_in ts (takes At ts)).0 (at_in ts (takes At ts)).1 x h in
       (found.0, found.1, at_stands ts (takes At ts) refl ∙ found.2)
@@ -208,7 +207,7 @@ module _ (l : Limits) where
   no_colon None rest none = none
   no_colon (Some d) rest none = refl
 
-  parameter_found : (seen : List (List ℕ)) (p : Parameter) (rest : Items) → FitsParameter l p → is_one_of seen p.name.text ≡ false → takes Colon rest ≡ None → takes Assign rest ≡ None
+  parameter_found : (seen : Met) (p : Parameter) (rest : Items) → FitsParameter l p → seen p.name.text ≡ false → takes Colon rest ≡ None → takes Assign rest ≡ None
       → parameter_of l seen (parameter_yield p rest) ≡ Some (p, rest)
   unfolding parameter_behind
   parameter_found seen p rest fits fresh colon sign =
@@ -216,28 +215,28 @@ module _ (l : Limits) where
       ∙ rw (fits.0, fresh, annotation_found p.type (assigned_yield p.default rest) fits.1 (no_colon p.default rest colon), assigned_found p.default rest fits.2 sign, fits.3) refl
 
   -- parameters
-  abbrev ParametersStand : List (List ℕ) → Items → Parameters × Items → Type 0
-  ParametersStand seen ts x = FitEach l x.0 × (AreDistinct seen → AreDistinct (seen ++ parameter_names x.0)) × (ts ≡ parameters_yield x.0 x.1)
+  abbrev ParametersStand : Met → Items → Parameters × Items → Type 0
+  ParametersStand seen ts x = FitEach l x.0 × AreNew seen (parameter_names x.0) × (ts ≡ parameters_yield x.0 x.1)
 
-  abbrev AllStand : (List (List ℕ) → Items → Takes Parameters) → Type 0
-  AllStand again = (seen : List (List ℕ)) (ts : Items) (x : Parameters × Items) → again seen ts ≡ Some x → ParametersStand seen ts x
+  abbrev AllStand : (Met → Items → Takes Parameters) → Type 0
+  AllStand again = (seen : Met) (ts : Items) (x : Parameters × Items) → again seen ts ≡ Some x → ParametersStand seen ts x
 
-  parameters_behind_stand : (again : List (List ℕ) → Items → Takes Parameters) → AllStand again → (seen : List (List ℕ)) (p : Parameter) (ts us : Items) (o : Option (Span × Items)) (x : Parameters × Items)
+  parameters_behind_stand : (again : Met → Items → Takes Parameters) → AllStand again → (seen : Met) (p : Parameter) (ts us : Items) (o : Option (Span × Items)) (x : Parameters × Items)
       → ParameterStands seen ts (p, us) → takes RightParen us ≡ o → parameters_behind again seen p us o ≡ Some x → ParametersStand seen ts x
   unfolding parameters_behind
   parameters_behind_stand again goes seen p ts us (Some end) x stands is h =
       subst (ParametersStand seen ts) (same_Some (Final p end.0, end.1) x h)
-      (stands.0, λ d. distinct-more seen p.name.text stands.1 d, stands.2 ∙ ap (parameter_yield p) (takes_ok RightParen us end is))
+      (stands.0, (stands.1, tt), stands.2 ∙ ap (parameter_yield p) (takes_ok RightParen us end is))
   parameters_behind_stand again goes seen p ts us None x stands is h =
       bound _ _ _ h (λ comma read more. bound _ _ _ more (λ ps others made.
-      let then = goes (seen ++ p.name.text ∷ []) comma.1 ps others in
+      let then = goes (meet p.name.text seen) comma.1 ps others in
       subst (ParametersStand seen ts) (same_Some (More p comma.0 ps.0, ps.1) x made) (
         (stands.0, then.0),
-        λ d. subst AreDistinct (append_assoc seen (p.name.text ∷ []) (parameter_names ps.0)) (then.1 (distinct-more seen p.name.text stands.1 d)),
+        (stands.1, then.1),
         stands.2 ∙ ap (parameter_yield p) (takes_ok Comma us comma read ∙ ap (mark Comma comma.0) then.2),
       )))
 
-  parameters_at_stand : (again : List (List ℕ) → Items → Takes Parameters) → AllStand again → (seen : List (List ℕ)) (ts : Items) (o : Option (Span × Items)) (x : Parameters × Items)
+  parameters_at_stand : (again : Met → Items → Takes Parameters) → AllStand again → (seen : Met) (ts : Items) (o : Option (Span × Items)) (x : Parameters × Items)
       → takes Spread ts ≡ o → parameters_at again l seen ts o ≡ Some x → ParametersStand seen ts x
   unfolding parameters_at
   parameters_at_stand again goes seen ts (Some dots) x is h =
@@ -245,18 +244,18 @@ module _ (l : Limits) where
       let name = fresh_name_stands seen dots.1 n named in
       subst (ParametersStand seen ts) (same_Some (Rest dots.0 n.0 end.0, end.1) x made) (
         name.0,
-        λ d. distinct-more seen n.0.text name.1 d,
+        (name.1, tt),
         takes_ok Spread ts dots is ∙ ap (mark Spread dots.0) (name.2 ∙ ap (name_yield n.0) (takes_ok RightParen n.1 end ended)),
       )))
   parameters_at_stand again goes seen ts None x is h =
       bound _ _ _ h (λ p read more.
       parameters_behind_stand again goes seen p.0 ts p.1 (takes RightParen p.1) x (parameter_stands seen ts p read) refl more)
 
-  parameters_in_stand : (again : List (List ℕ) → Items → Takes Parameters) → AllStand again → (seen : List (List ℕ)) (ts : Items) (o : Option (Span × Items)) (x : Parameters × Items)
+  parameters_in_stand : (again : Met → Items → Takes Parameters) → AllStand again → (seen : Met) (ts : Items) (o : Option (Span × Items)) (x : Parameters × Items)
       → takes RightParen ts ≡ o → parameters_in again l seen ts o ≡ Some x → ParametersStand seen ts x
   unfolding parameters_in
   parameters_in_stand again goes seen ts (Some end) x is h =
-      subst (ParametersStand seen ts) (same_Some (Closed end.0, end.1) x h) (tt, λ d. subst AreDistinct (sym (append-nil seen)) d, takes_ok RightParen ts end is)
+      subst (ParametersStand seen ts) (same_Some (Closed end.0, end.1) x h) (tt, tt, takes_ok RightParen ts end is)
   parameters_in_stand again goes seen ts None x is h = parameters_at_stand again goes seen ts (takes Spread ts) x refl h
 
   parameters_by_stand : (n : ℕ) → AllStand (parameters_by n l)
@@ -269,10 +268,10 @@ module _ (l : Limits) where
   parameters_stand seen ts x h = parameters_by_stand (suc (size ts)) seen ts x h
 
   -- the number that bounds them has no say
-  abbrev Agree : (List (List ℕ) → Items → Takes Parameters) → (List (List ℕ) → Items → Takes Parameters) → Items → Type 0
-  Agree again other ts = (seen : List (List ℕ)) (us : Items) → size us < size ts → again seen us ≡ other seen us
+  abbrev Agree : (Met → Items → Takes Parameters) → (Met → Items → Takes Parameters) → Items → Type 0
+  Agree again other ts = (seen : Met) (us : Items) → size us < size ts → again seen us ≡ other seen us
 
-  behind_agree : (again other : List (List ℕ) → Items → Takes Parameters) (seen : List (List ℕ)) (p : Parameter) (ts us : Items) → ts ≡ parameter_yield p us → Agree again other ts
+  behind_agree : (again other : Met → Items → Takes Parameters) (seen : Met) (p : Parameter) (ts us : Items) → ts ≡ parameter_yield p us → Agree again other ts
       → (o : Option (Span × Items)) → parameters_behind again seen p us o ≡ parameters_behind other seen p us o
   unfolding parameters_behind
   behind_agree again other seen p ts us is goes (Some end) = refl
@@ -280,22 +279,22 @@ module _ (l : Limits) where
       bind_both _ _ _ (λ comma read.
       let shorter : size comma.1 < size ts =
       subst (λ v. size comma.1 < size v) (sym (is ∙ ap (parameter_yield p) (takes_ok Comma us comma read))) (omega (arith, parameter_size p (mark Comma comma.0 comma.1))) in
-      ap (λ r. r >>= λ ps. Some (More p comma.0 ps.0, ps.1)) (goes (seen ++ p.name.text ∷ []) comma.1 shorter))
+      ap (λ r. r >>= λ ps. Some (More p comma.0 ps.0, ps.1)) (goes (meet p.name.text seen) comma.1 shorter))
 
-  at_agree : (again other : List (List ℕ) → Items → Takes Parameters) (seen : List (List ℕ)) (ts : Items) → Agree again other ts
+  at_agree : (again other : Met → Items → Takes Parameters) (seen : Met) (ts : Items) → Agree again other ts
       → (o : Option (Span × Items)) → parameters_at again l seen ts o ≡ parameters_at other l seen ts o
   unfolding parameters_at
   at_agree again other seen ts goes (Some dots) = refl
   at_agree again other seen ts goes None =
       bind_both _ _ _ (λ p read. behind_agree again other seen p.0 ts p.1 (parameter_stands seen ts p read).2 goes (takes RightParen p.1))
 
-  in_agree : (again other : List (List ℕ) → Items → Takes Parameters) (seen : List (List ℕ)) (ts : Items) → Agree again other ts
+  in_agree : (again other : Met → Items → Takes Parameters) (seen : Met) (ts : Items) → Agree again other ts
       → (o : Option (Span × Items)) → parameters_in again l seen ts o ≡ parameters_in other l seen ts o
   unfolding parameters_in
   in_agree again other seen ts goes (Some end) = refl
   in_agree again other seen ts goes None = at_agree again other seen ts goes (takes Spread ts)
 
-  parameters_agree : (n k : ℕ) (seen : List (List ℕ)) (ts : Items) → size ts < n → size ts < k → parameters_by n l seen ts ≡ parameters_by k l seen ts
+  parameters_agree : (n k : ℕ) (seen : Met) (ts : Items) → size ts < n → size ts < k → parameters_by n l seen ts ≡ parameters_by k l seen ts
   unfolding parameters_by
   parameters_agree zero k seen ts hn hk = absurd (omega arith)
   parameters_agree (suc n) zero seen ts hn hk = absurd (omega arith)
@@ -303,7 +302,7 @@ module _ (l : Limits) where
       in_agree (parameters_by n l) (parameters_by k l) seen ts (λ s us lt. parameters_agree n k s us (omega arith) (omega arith)) (takes RightParen ts)
 
   -- parameters, by what comes next
-  pub parameters_steps : (seen : List (List ℕ)) (ts : Items) → parameters_of l seen ts ≡ parameters_in (parameters_of l) l seen ts (takes RightParen ts)
+  pub parameters_steps : (seen : Met) (ts : Items) → parameters_of l seen ts ≡ parameters_in (parameters_of l) l seen ts (takes RightParen ts)
   unfolding parameters_of parameters_by
   parameters_steps seen ts =
       in_agree (parameters_by (size ts) l) (parameters_of l) seen ts (λ s us lt. parameters_agree (size ts) (suc (size us)) s us lt (omega arith)) (takes RightParen ts)
@@ -317,7 +316,7 @@ module _ (l : Limits) where
   no_dots (Some span) n rest = refl
 
   -- what is read at a parameter
-  read_behind : (seen : List (List ℕ)) (p : Parameter) (us : Items) → FitsParameter l p → is_one_of seen p.name.text ≡ false → takes Colon us ≡ None → takes Assign us ≡ None
+  read_behind : (seen : Met) (p : Parameter) (us : Items) → FitsParameter l p → seen p.name.text ≡ false → takes Colon us ≡ None → takes Assign us ≡ None
       → parameters_of l seen (parameter_yield p us) ≡ parameters_behind (parameters_of l) seen p us (takes RightParen us)
   unfolding parameters_in parameters_at
   read_behind seen p us fits fresh colon sign =
@@ -327,17 +326,17 @@ module _ (l : Limits) where
       ∙ ap (parameters_at (parameters_of l) l seen (parameter_yield p us)) (no_dots p.at p.name behind)
       ∙ ap (λ o. o >>= λ q. parameters_behind (parameters_of l) seen q.0 q.1 (takes RightParen q.1)) (parameter_found seen p us fits fresh colon sign)
 
-  parameters_found : (ps : Parameters) (seen : List (List ℕ)) (rest : Items) → FitEach l ps → AreDistinct (seen ++ parameter_names ps) → parameters_of l seen (parameters_yield ps rest) ≡ Some (ps, rest)
+  parameters_found : (ps : Parameters) (seen : Met) (rest : Items) → FitEach l ps → AreNew seen (parameter_names ps) → parameters_of l seen (parameters_yield ps rest) ≡ Some (ps, rest)
   unfolding parameters_in parameters_at parameters_behind
-  parameters_found (Closed end) seen rest fits distinct = parameters_steps seen _
-  parameters_found (Rest dots n end) seen rest fits distinct =
-      parameters_steps seen (parameters_yield (Rest dots n end) rest) ∙ rw (fits, not-before seen n.text [] distinct) refl
-  parameters_found (Final p end) seen rest fits distinct =
-      read_behind seen p (mark RightParen end rest) fits (not-before seen p.name.text [] distinct) refl refl
-  parameters_found (More p comma ps) seen rest fits distinct =
-      read_behind seen p (mark Comma comma (parameters_yield ps rest)) fits.0 (not-before seen p.name.text (parameter_names ps) distinct) refl refl
+  parameters_found (Closed end) seen rest fits new = parameters_steps seen _
+  parameters_found (Rest dots n end) seen rest fits new =
+      parameters_steps seen (parameters_yield (Rest dots n end) rest) ∙ rw (fits, new.0) refl
+  parameters_found (Final p end) seen rest fits new =
+      read_behind seen p (mark RightParen end rest) fits new.0 refl refl
+  parameters_found (More p comma ps) seen rest fits new =
+      read_behind seen p (mark Comma comma (parameters_yield ps rest)) fits.0 new.0 refl refl
       ∙ ap (λ o. o >>= λ qs. Some (More p comma qs.0, qs.1))
-      (parameters_found ps (seen ++ p.name.text ∷ []) rest fits.1 (subst AreDistinct (sym (append_assoc seen (p.name.text ∷ []) (parameter_names ps))) distinct))
+      (parameters_found ps (meet p.name.text seen) rest fits.1 new.1)
 
   -- metadata
   metadata_stands : (ts : Items) (b : Bool) (x : Option LiteralMap × Items) → metadata_in l ts b ≡ Some x → FitsMetadata l x.0 × (ts ≡ metadata_yield x.0 x.1)
@@ -356,34 +355,34 @@ module _ (l : Limits) where
       let begins : begins LeftBrace (map_yield m rest) ≡ true = ap (begins LeftBrace) is in
       ap (metadata_in l (map_yield m rest)) begins ∙ ap (λ o. o >>= λ n. Some (Some n.0, n.1)) (map_found l m rest fits)
 
-  pub record OpenedStands (seen : List (List ℕ)) (ts : Items) (x : Opened × Items) : Type 0 where
-    pub fresh : is_one_of seen (component_text x.0.name) ≡ false
+  pub record OpenedStands (seen : Met) (ts : Items) (x : Opened × Items) : Type 0 where
+    pub fresh : seen (component_text x.0.name) ≡ false
     pub parameters : FitParameters l x.0.parameters
     pub metadata : FitsMetadata l x.0.metadata
     pub tokens : ts ≡ opened_yield x.0 x.1
 
-  pub opened_stands : (seen : List (List ℕ)) (ts : Items) (x : Opened × Items) → opened_of l seen ts ≡ Some x → OpenedStands seen ts x
+  pub opened_stands : (seen : Met) (ts : Items) (x : Opened × Items) → opened_of l seen ts ≡ Some x → OpenedStands seen ts x
   unfolding opened_of
   opened_stands seen ts x h =
       bound _ _ _ h (λ n named rest1. bound _ _ _ rest1 (λ u fresh rest2. bound _ _ _ rest2 (λ paren opened rest3. bound _ _ _ rest3 (λ ps listed rest4. bound _ _ _ rest4 (λ m meant more. bound _ _ _ more (λ f ended made.
-      let parameters = parameters_stand [] paren.1 ps listed in
+      let parameters = parameters_stand nothing_met paren.1 ps listed in
       let metadata = metadata_stands ps.1 (begins LeftBrace ps.1) m meant in
       subst (OpenedStands seen ts) (same_Some (record { name = n.0; paren = paren.0; parameters = ps.0; metadata = m.0; finish = f.0 }, f.1) x made) (record {
         fresh = guard_not _ u fresh;
-        parameters = (parameters.0, parameters.1 tt);
+        parameters = (parameters.0, new_distinct nothing_met (parameter_names ps.0) parameters.1);
         metadata = metadata.0;
         tokens = component_stands ts n named ∙ ap (component_yield n.0) (takes_ok LeftParen n.1 paren opened ∙ ap (mark LeftParen paren.0)
             (parameters.2 ∙ ap (parameters_yield ps.0) (metadata.1 ∙ ap (metadata_yield m.0) (finish_stands m.1 f ended))));
       })))))))
 
-  pub opened_found : (seen : List (List ℕ)) (o : Opened) (rest : Items) → is_one_of seen (component_text o.name) ≡ false → FitParameters l o.parameters → FitsMetadata l o.metadata
+  pub opened_found : (seen : Met) (o : Opened) (rest : Items) → seen (component_text o.name) ≡ false → FitParameters l o.parameters → FitsMetadata l o.metadata
       → opened_of l seen (opened_yield o rest) ≡ Some (o, rest)
   unfolding opened_of
   opened_found seen o rest fresh parameters metadata =
       rw (
         component_found o.name (mark LeftParen o.paren (parameters_yield o.parameters (metadata_yield o.metadata (finish_yield o.finish rest)))) refl,
         fresh,
-        parameters_found o.parameters [] (metadata_yield o.metadata (finish_yield o.finish rest)) parameters.0 parameters.1,
+        parameters_found o.parameters nothing_met (metadata_yield o.metadata (finish_yield o.finish rest)) parameters.0 (all_new (parameter_names o.parameters) parameters.1),
         metadata_found o.metadata (finish_yield o.finish rest) metadata refl,
       ) refl
 

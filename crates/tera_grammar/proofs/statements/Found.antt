@@ -14,7 +14,8 @@ use Rattle.tera_grammar.specs.expressions.Concrete.{quote_token}
 use Rattle.tera_grammar.specs.expressions.Marks.{mark, Assign, Operation}
 use Rattle.tera_grammar.specs.Options.{◌>>=◌}
 use Rattle.tera_grammar.specs.Words.{is_reserved}
-use Rattle.tera_grammar.specs.statements.Names.{Names, agrees, block_named, component_named, ◌and_then◌}
+use Rattle.tera_grammar.specs.statements.Names.{agrees, block_named, component_named, ◌and_then◌}
+use Rattle.tera_grammar.specs.statements.Reading.Meeting.{Seen, ◌having◌}
 use Rattle.tera_grammar.specs.statements.Parts.{Edge, Name, name_yield, name_if_any_yield, Tag, Opener, OpensSet, OpensInclude, OpensExtends, OpensBlock, OpensFor, OpensIf, OpensFilter, OpensComponent, OpensBreak, OpensContinue, OpensCall, opener_token, AtElif, AtElse, AtEndSet, AtEndBlock, AtEndFor, AtEndIf, AtEndFilter, AtEndCall, closer_token, start_yield, opening, closing, finish}
 use Rattle.tera_grammar.specs.statements.Expressions.{Limits, expression_yield, filter_yield, attributes_yield, ComponentName, component_yield, component_text}
 use Rattle.tera_grammar.specs.statements.Heads.{loop_yield, filters_yield, Capture, SetBody, Section, CallBody, capture_yield, capture_end, FitsCapture}
@@ -60,11 +61,11 @@ abbrev begun : Edge → Opener → Span → Items → Items
 begun start o first us = start_yield start (Token (opener_token o) first us)
 
 module _ (l : Limits) (d : ℕ) (f : Reader) (sound : Sound l d f) where
-  none_found : (path : Path) (seen : Names) (ts : Items) (x : Else × Place) → Some (NoElse, at seen ts) ≡ Some x → FoundElse l d path (at seen ts) x.0 x.1
+  none_found : (path : Path) (seen : Seen) (ts : Items) (x : Else × Place) → Some (NoElse, at seen ts) ≡ Some x → FoundElse l d path (at seen ts) x.0 x.1
   none_found path seen ts x h = subst (λ (y : Else × Place). FoundElse l d path (at seen ts) y.0 y.1) (same_Some _ _ h)
       (record { tokens = refl; named = named_nothing seen; fits = tt; height = zero-le })
 
-  pub else_found : (path : Path) (seen : Names) (ts : Items) (fr : Front) (x : Else × Place) → FrontOf ts fr → else_in f path seen ts fr ≡ Some x → FoundElse l d path (at seen ts) x.0 x.1
+  pub else_found : (path : Path) (seen : Seen) (ts : Items) (fr : Front) (x : Else × Place) → FrontOf ts fr → else_in f path seen ts fr ≡ Some x → FoundElse l d path (at seen ts) x.0 x.1
   unfolding else_in
   else_found path seen ts (Closes AtElse start first us) x is h =
       bound _ _ _ h (λ e ended more. bound _ _ _ more (λ b read made.
@@ -77,7 +78,7 @@ module _ (l : Limits) (d : ℕ) (f : Reader) (sound : Sound l d f) where
       })))
   else_found path seen ts fr x is h = none_found path seen ts x h
 
-  last_found : (path : Path) (seen : Names) (ts : Items) (fr : Front) (x : Branches × Place) → FrontOf ts fr → (else_in f path seen ts fr >>= λ o. Some (Last o.0, o.1)) ≡ Some x → FoundBranches l d path (at seen ts) x.0 x.1
+  last_found : (path : Path) (seen : Seen) (ts : Items) (fr : Front) (x : Branches × Place) → FrontOf ts fr → (else_in f path seen ts fr >>= λ o. Some (Last o.0, o.1)) ≡ Some x → FoundBranches l d path (at seen ts) x.0 x.1
   last_found path seen ts fr x is h =
       bound _ _ _ h (λ o read made.
       let found = else_found path seen ts fr o is read in
@@ -85,7 +86,7 @@ module _ (l : Limits) (d : ℕ) (f : Reader) (sound : Sound l d f) where
       (record { tokens = found.tokens; named = found.named; fits = found.fits; height = found.height }))
 
   branch_found : (path : Path) (again : Place → Reads Branches) → ((p : Place) (x : Branches × Place) → again p ≡ Some x → FoundBranches l d path p x.0 x.1) →
-      (seen : Names) (ts : Items) (fr : Front) (x : Branches × Place) → FrontOf ts fr → branch_in l f path again seen ts fr ≡ Some x → FoundBranches l d path (at seen ts) x.0 x.1
+      (seen : Seen) (ts : Items) (fr : Front) (x : Branches × Place) → FrontOf ts fr → branch_in l f path again seen ts fr ≡ Some x → FoundBranches l d path (at seen ts) x.0 x.1
   unfolding branch_in
   branch_found path again goes seen ts (Closes AtElif start first us) x is h =
       bound _ _ _ h (λ c read rest1. bound _ _ _ rest1 (λ e ended rest2. bound _ _ _ rest2 (λ b inside more. bound _ _ _ more (λ bs others made.
@@ -111,15 +112,15 @@ module _ (l : Limits) (d : ℕ) (f : Reader) (sound : Sound l d f) where
   branches_found path p x h = branches_by_found (suc (size p.tokens)) path p x h
 
   -- what an item is read as
-  abbrev Finds : Path → Names → Items → Item × Place → Type 0
+  abbrev Finds : Path → Seen → Items → Item × Place → Type 0
   Finds path seen ts x = FoundItem l d path (at seen ts) x.0 x.1
 
-  single_found : (path : Path) (seen : Names) (ts vs : Items) (p : Plain) (x : Item × Place) → ts ≡ plain_yield p vs → FitsPlain l path p → Some (Single p, at seen vs) ≡ Some x → Finds path seen ts x
+  single_found : (path : Path) (seen : Seen) (ts vs : Items) (p : Plain) (x : Item × Place) → ts ≡ plain_yield p vs → FitsPlain l path p → Some (Single p, at seen vs) ≡ Some x → Finds path seen ts x
   single_found path seen ts vs p x is fits h =
       subst (Finds path seen ts) (same_Some _ _ h) (record { tokens = is; named = named_nothing seen; fits = fits; height = zero-le })
 
   -- a body that is taken as a value
-  capture_found : (path : Path) (seen : Names) (ts us : Items) (c : Capture) (b : Body × Place) (vs : Items) (x : Item × Place) → ts ≡ capture_yield c us → FitsCapture l (in_loop path) c
+  capture_found : (path : Path) (seen : Seen) (ts us : Items) (c : Capture) (b : Body × Place) (vs : Items) (x : Item × Place) → ts ≡ capture_yield c us → FitsCapture l (in_loop path) c
       → f (InCapture ∷ path) (at seen us) ≡ Some b → b.1.tokens ≡ capture_end c vs → Some (Capturing c b.0, at b.1.seen vs) ≡ Some x → Finds path seen ts x
   capture_found path seen ts us c b vs x is fits read end h =
       let found = sound (InCapture ∷ path) (at seen us) b read in
@@ -130,7 +131,7 @@ module _ (l : Limits) (d : ℕ) (f : Reader) (sound : Sound l d f) where
         height = found.height;
       })
 
-  set_behind_found : (path : Path) (global : Bool) (start : Edge) (first : Span) (seen : Names) (ts us : Items) (n : Name) (sign : Option (Span × Items)) (x : Item × Place)
+  set_behind_found : (path : Path) (global : Bool) (start : Edge) (first : Span) (seen : Seen) (ts us : Items) (n : Name) (sign : Option (Span × Items)) (x : Item × Place)
       → ts ≡ begun start (OpensSet global) first (name_yield n us) → is_reserved n.text ≡ false → takes Assign us ≡ sign → set_behind l f path global start first seen n us sign ≡ Some x → Finds path seen ts x
   unfolding set_behind
   set_behind_found path global start first seen ts us n (Some sign) x is free stands h =
@@ -146,7 +147,7 @@ module _ (l : Limits) (d : ℕ) (f : Reader) (sound : Sound l d f) where
       (is ∙ ap (λ v. begun start (OpensSet global) first (name_yield n v)) (filters.1 ∙ ap (filters_yield fs.0) (finish_stands fs.1 g ended)))
       (free, filters.0) read (closed_tag_stands AtEndSet b.1.tokens e closed) made))))
 
-  set_found : (path : Path) (global : Bool) (start : Edge) (first : Span) (seen : Names) (ts us : Items) (x : Item × Place)
+  set_found : (path : Path) (global : Bool) (start : Edge) (first : Span) (seen : Seen) (ts us : Items) (x : Item × Place)
       → ts ≡ begun start (OpensSet global) first us → set_of l f path global start first seen us ≡ Some x → Finds path seen ts x
   unfolding set_of
   set_found path global start first seen ts us x is h =
@@ -154,7 +155,7 @@ module _ (l : Limits) (d : ℕ) (f : Reader) (sound : Sound l d f) where
       let name = free_name_stands us n named in
       set_behind_found path global start first seen ts n.1 n.0 (takes Assign n.1) x (is ∙ ap (begun start (OpensSet global) first) name.1) name.0 refl more)
 
-  include_found : (path : Path) (start : Edge) (first : Span) (seen : Names) (ts us : Items) (x : Item × Place)
+  include_found : (path : Path) (start : Edge) (first : Span) (seen : Seen) (ts us : Items) (x : Item × Place)
       → ts ≡ begun start OpensInclude first us → include_of start first seen us ≡ Some x → Finds path seen ts x
   unfolding include_of
   include_found path start first seen ts us x is h =
@@ -162,7 +163,7 @@ module _ (l : Limits) (d : ℕ) (f : Reader) (sound : Sound l d f) where
       single_found path seen ts g.1 (Include (tag start first g.0) q.0.0 q.0.1) x
       (is ∙ ap (begun start OpensInclude first) (quote_stands us q read ∙ ap (Token (quote_token q.0.0) q.0.1) (finish_stands q.1 g ended))) tt made))
 
-  extends_found : (path : Path) (start : Edge) (first : Span) (seen : Names) (ts us : Items) (x : Item × Place)
+  extends_found : (path : Path) (start : Edge) (first : Span) (seen : Seen) (ts us : Items) (x : Item × Place)
       → ts ≡ begun start OpensExtends first us → extends_of path start first seen us ≡ Some x → Finds path seen ts x
   unfolding extends_of
   extends_found path start first seen ts us x is h =
@@ -171,7 +172,7 @@ module _ (l : Limits) (d : ℕ) (f : Reader) (sound : Sound l d f) where
       (is ∙ ap (begun start OpensExtends first) (quote_stands us q read ∙ ap (Token (quote_token q.0.0) q.0.1) (finish_stands q.1 g ended))) (guard_ok _ u may) made)))
 
   break_found : (path : Path) (o : Opener) (make : Tag → Plain) → ((t : Tag) (vs : Items) → opening o t (finish t vs) ≡ plain_yield (make t) vs) → ((t : Tag) → may_break path ≡ true → FitsPlain l path (make t))
-      → (start : Edge) (first : Span) (seen : Names) (ts us : Items) (x : Item × Place) → ts ≡ begun start o first us → break_of path make start first seen us ≡ Some x → Finds path seen ts x
+      → (start : Edge) (first : Span) (seen : Seen) (ts us : Items) (x : Item × Place) → ts ≡ begun start o first us → break_of path make start first seen us ≡ Some x → Finds path seen ts x
   unfolding break_of
   break_found path o make yields fits start first seen ts us x is h =
       bound _ _ _ h (λ u may more. bound _ _ _ more (λ g ended made.
@@ -190,12 +191,12 @@ module _ (l : Limits) (d : ℕ) (f : Reader) (sound : Sound l d f) where
             ∙ ap (λ v. start_yield e.0.0 (Token (closer_token AtEndBlock) e.0.1 v)) (name_if_any_stands e.1 ∙ ap (name_if_any_yield (name_if_any e.1).0) (finish_stands (name_if_any e.1).1 g ended)),
       ))))
 
-  block_found : (path : Path) (start : Edge) (first : Span) (seen : Names) (ts us : Items) (x : Item × Place)
+  block_found : (path : Path) (start : Edge) (first : Span) (seen : Seen) (ts us : Items) (x : Item × Place)
       → ts ≡ begun start OpensBlock first us → block_of f path start first seen us ≡ Some x → Finds path seen ts x
   unfolding block_of
   block_found path start first seen ts us x is h =
       bound _ _ _ h (λ u may rest1. bound _ _ _ rest1 (λ n named rest2. bound _ _ _ rest2 (λ v fresh rest3. bound _ _ _ rest3 (λ g ended rest4. bound _ _ _ rest4 (λ b read more. bound _ _ _ more (λ e closed made.
-      let found = sound (InBlock ∷ path) (at (seen and_then block_named n.0.text) g.1) b read in
+      let found = sound (InBlock ∷ path) (at (seen having block_named n.0.text) g.1) b read in
       let end = block_end_stands n.0 b.1.tokens e closed in
       subst (Finds path seen ts) (same_Some (Block (tag start first g.0) n.0 b.0 e.0.0 e.0.1, at b.1.seen e.1) x made) (record {
         tokens = is ∙ ap (begun start OpensBlock first) (taken_name_ok us n named ∙ ap (name_yield n.0) (finish_stands n.1 g ended
@@ -205,13 +206,13 @@ module _ (l : Limits) (d : ℕ) (f : Reader) (sound : Sound l d f) where
         height = found.height;
       })))))))
 
-  define_found : (path : Path) (start : Edge) (first : Span) (seen : Names) (ts us : Items) (x : Item × Place)
+  define_found : (path : Path) (start : Edge) (first : Span) (seen : Seen) (ts us : Items) (x : Item × Place)
       → ts ≡ begun start OpensComponent first us → component_def_of l f path start first seen us ≡ Some x → Finds path seen ts x
   unfolding component_def_of
   define_found path start first seen ts us x is h =
       bound _ _ _ h (λ u may rest1. bound _ _ _ rest1 (λ o opened rest2. bound _ _ _ rest2 (λ b read more. bound _ _ _ more (λ e closed made.
       let head = opened_stands l seen.components us o opened in
-      let found = sound (InComponent ∷ path) (at (seen and_then component_named (component_text o.0.name)) o.1) b read in
+      let found = sound (InComponent ∷ path) (at (seen having component_named (component_text o.0.name)) o.1) b read in
       let end = ending_stands l start first o.0 b.1.tokens e closed in
       subst (Finds path seen ts) (same_Some (Define e.0 b.0, at b.1.seen e.1) x made) (record {
         tokens = is ∙ ap (begun start OpensComponent first) (head.tokens ∙ ap (opened_yield o.0) (found.tokens ∙ ap (yield b.0) end.tokens)) ∙ end.opened _;
@@ -220,7 +221,7 @@ module _ (l : Limits) (d : ℕ) (f : Reader) (sound : Sound l d f) where
         height = found.height;
       })))))
 
-  section_found : (path : Path) (start : Edge) (first : Span) (seen : Names) (ts us : Items) (x : Item × Place)
+  section_found : (path : Path) (start : Edge) (first : Span) (seen : Seen) (ts us : Items) (x : Item × Place)
       → ts ≡ begun start OpensFilter first us → section_of l f path start first seen us ≡ Some x → Finds path seen ts x
   unfolding section_of
   section_found path start first seen ts us x is h =
@@ -244,7 +245,7 @@ module _ (l : Limits) (d : ℕ) (f : Reader) (sound : Sound l d f) where
             ∙ ap (λ v. start_yield e.0.0 (Token (closer_token AtEndCall) e.0.1 v)) (component_stands e.1 m named ∙ ap (component_yield m.0) (takes_ok (Operation GreaterThan) m.1 end last ∙ ap (mark (Operation GreaterThan) end.0) (finish_stands end.1 g ended))),
       ))))))
 
-  call_found : (path : Path) (start : Edge) (first : Span) (seen : Names) (ts us : Items) (x : Item × Place)
+  call_found : (path : Path) (start : Edge) (first : Span) (seen : Seen) (ts us : Items) (x : Item × Place)
       → ts ≡ begun start OpensCall first us → call_of l f path start first seen us ≡ Some x → Finds path seen ts x
   unfolding call_of
   call_found path start first seen ts us x is h =
@@ -255,7 +256,7 @@ module _ (l : Limits) (d : ℕ) (f : Reader) (sound : Sound l d f) where
       (is ∙ ap (begun start OpensCall first) (component_stands us n named ∙ ap (component_yield n.0) (attributes.1 ∙ ap (attributes_yield a.0) (takes_ok (Operation GreaterThan) a.1 last shut ∙ ap (mark (Operation GreaterThan) last.0) (finish_stands last.1 g ended)))))
       (attributes.0, end.0) read end.1 made))))))
 
-  for_found : (path : Path) (start : Edge) (first : Span) (seen : Names) (ts us : Items) (x : Item × Place)
+  for_found : (path : Path) (start : Edge) (first : Span) (seen : Seen) (ts us : Items) (x : Item × Place)
       → ts ≡ begun start OpensFor first us → for_of l f path start first seen us ≡ Some x → Finds path seen ts x
   unfolding for_of
   for_found path start first seen ts us x is h =
@@ -271,7 +272,7 @@ module _ (l : Limits) (d : ℕ) (f : Reader) (sound : Sound l d f) where
         height = omega (arith, found.height, then.height);
       }))))))
 
-  if_found : (path : Path) (start : Edge) (first : Span) (seen : Names) (ts us : Items) (x : Item × Place)
+  if_found : (path : Path) (start : Edge) (first : Span) (seen : Seen) (ts us : Items) (x : Item × Place)
       → ts ≡ begun start OpensIf first us → if_of l f path start first seen us ≡ Some x → Finds path seen ts x
   unfolding if_of
   if_found path start first seen ts us x is h =
@@ -287,7 +288,7 @@ module _ (l : Limits) (d : ℕ) (f : Reader) (sound : Sound l d f) where
         height = omega (arith, found.height, then.height);
       }))))))
 
-  tag_found : (path : Path) (o : Opener) (start : Edge) (first : Span) (seen : Names) (ts us : Items) (x : Item × Place)
+  tag_found : (path : Path) (o : Opener) (start : Edge) (first : Span) (seen : Seen) (ts us : Items) (x : Item × Place)
       → ts ≡ begun start o first us → tag_of l f path o start first seen us ≡ Some x → Finds path seen ts x
   tag_found path (OpensSet global) start first seen ts us x is h = set_found path global start first seen ts us x is h
   tag_found path OpensInclude start first seen ts us x is h = include_found path start first seen ts us x is h
@@ -301,7 +302,7 @@ module _ (l : Limits) (d : ℕ) (f : Reader) (sound : Sound l d f) where
   tag_found path OpensContinue start first seen ts us x is h = break_found path OpensContinue Continue (λ t vs. refl) (λ t may. may) start first seen ts us x is h
   tag_found path OpensCall start first seen ts us x is h = call_found path start first seen ts us x is h
 
-  shown_found : (path : Path) (start : Edge) (seen : Names) (ts us : Items) (x : Item × Place) → FrontOf ts (Shows start us) → shown_of l path start seen us ≡ Some x → Finds path seen ts x
+  shown_found : (path : Path) (start : Edge) (seen : Seen) (ts us : Items) (x : Item × Place) → FrontOf ts (Shows start us) → shown_of l path start seen us ≡ Some x → Finds path seen ts x
   unfolding shown_of
   shown_found path start seen ts us x is h =
       bound _ _ _ h (λ e read more. bound _ _ _ more (λ g ended made.
@@ -310,7 +311,7 @@ module _ (l : Limits) (d : ℕ) (f : Reader) (sound : Sound l d f) where
       (is ∙ ap (Token (toks.Start kind.Variable start.dash) start.span) (shown.1 ∙ ap (expression_yield e.0) (variable_end_stands e.1 g ended))) shown.0 made))
 
   -- a step finds an item
-  pub step_found : (path : Path) (seen : Names) (ts : Items) (fr : Front) (x : Item × Place) → FrontOf ts fr → step l f path seen fr ≡ Some (Some x) → FoundItem l d path (at seen ts) x.0 x.1
+  pub step_found : (path : Path) (seen : Seen) (ts : Items) (fr : Front) (x : Item × Place) → FrontOf ts fr → step l f path seen fr ≡ Some (Some x) → FoundItem l d path (at seen ts) x.0 x.1
   unfolding step
   step_found path seen ts Ends x is h = cc
   step_found path seen ts (Closes c start first us) x is h = cc

@@ -13,7 +13,7 @@ use Rattle.tera_grammar.specs.expressions.Concrete.{Quote}
 use Rattle.tera_grammar.specs.expressions.Marks.{RightParen, Comma, Spread, Bar}
 use Rattle.tera_grammar.specs.statements.Types.{Sorted, put_name}
 use Rattle.tera_grammar.specs.Options.{◌>>=◌, guard}
-use Rattle.tera_grammar.specs.statements.Names.{Names, no_names}
+use Rattle.tera_grammar.specs.statements.Reading.Meeting.{Met, Seen, meet, nothing_met, nothing_seen}
 use Rattle.tera_grammar.specs.statements.Parts.{Edge, AtElif, OpensExtends}
 use Rattle.tera_grammar.specs.statements.Expressions.{Limits, Expression, expression_output, Filtering, filter_output}
 use Rattle.tera_grammar.specs.statements.Reading.Expressions.{expression_of, filter_of}
@@ -255,34 +255,34 @@ pub rest_of-list : (before : List (Parameter × Span)) (ps : Parameters) → res
 rest_of-list [] ps = refl
 rest_of-list (p ∷ before) ps = rest_of-list before ps
 
-module _ (l : Limits) (start here : Items) (seen : List (List ℕ)) (gathered : Sorted Argument) where
-  pub listing_starts : gathered ≡ [] → seen ≡ [] → start ≡ here → Listing l start here seen gathered
+module _ (l : Limits) (start here : Items) (seen : Met) (gathered : Sorted Argument) where
+  pub listing_starts : gathered ≡ [] → seen ≡ nothing_met → start ≡ here → Listing l start here seen gathered
   listing_starts none nothing same = record {
     before = [];
-    reads = bind_again (parameters_of l [] start) _ (λ x. refl) ∙ ap (λ v. parameters_of l v start >>= λ ps. Some (ps.0, ps.1)) (sym nothing) ∙ ap (λ p. parameters_of l seen p >>= λ ps. Some (ps.0, ps.1)) same;
+    reads = bind_again (parameters_of l nothing_met start) _ (λ x. refl) ∙ ap (λ v. parameters_of l v start >>= λ ps. Some (ps.0, ps.1)) (sym nothing) ∙ ap (λ p. parameters_of l seen p >>= λ ps. Some (ps.0, ps.1)) same;
     shows = λ ps. ap (put_arguments ps) (sym none);
   }
 
   -- what is left comes to what stands next
-  pub listing_steps : (g : Listing l start here seen gathered) → parameters_of l [] start ≡ (parameters_in (parameters_of l) l seen here (takes RightParen here) >>= λ ps. Some (list g.before ps.0, ps.1))
+  pub listing_steps : (g : Listing l start here seen gathered) → parameters_of l nothing_met start ≡ (parameters_in (parameters_of l) l seen here (takes RightParen here) >>= λ ps. Some (list g.before ps.0, ps.1))
   listing_steps g = g.reads ∙ ap (λ o. o >>= λ ps. Some (list g.before ps.0, ps.1)) (parameters_steps l seen here)
 
   pub listing_ends : (x : Parameters × Items) (g : Listing l start here seen gathered) → parameters_in (parameters_of l) l seen here (takes RightParen here) ≡ Some x
-      → (ps : Parameters) × (parameters_of l [] start ≡ Some (ps, x.1)) × (put_arguments x.0 gathered ≡ put_arguments ps []) × (rest_of ps ≡ rest_of x.0)
+      → (ps : Parameters) × (parameters_of l nothing_met start ≡ Some (ps, x.1)) × (put_arguments x.0 gathered ≡ put_arguments ps []) × (rest_of ps ≡ rest_of x.0)
   listing_ends x g read =
       (list g.before x.0, listing_steps g ∙ ap (λ o. o >>= λ ps. Some (list g.before ps.0, ps.1)) read, sym (g.shows x.0), rest_of-list g.before x.0)
 
-  pub listing_refused : (g : Listing l start here seen gathered) → parameters_in (parameters_of l) l seen here (takes RightParen here) ≡ None → parameters_of l [] start ≡ None
+  pub listing_refused : (g : Listing l start here seen gathered) → parameters_in (parameters_of l) l seen here (takes RightParen here) ≡ None → parameters_of l nothing_met start ≡ None
   listing_refused g none = listing_steps g ∙ ap (λ o. o >>= λ ps. Some (list g.before ps.0, ps.1)) none
 
   pub listing_on : (g : Listing l start here seen gathered) → takes RightParen here ≡ None → takes Spread here ≡ None → (p : Parameter × Items) → parameter_of l seen here ≡ Some p
       → takes RightParen p.1 ≡ None → (comma : Span × Items) → takes Comma p.1 ≡ Some comma
-      → Listing l start comma.1 (seen ++ p.0.name.text ∷ []) (put_name p.0.name.text (argument_of p.0) gathered)
+      → Listing l start comma.1 (meet p.0.name.text seen) (put_name p.0.name.text (argument_of p.0) gathered)
   unfolding parameters_in parameters_at parameters_behind
   listing_on g no_end no_dots p read no_last comma stands = record {
     before = g.before ++ (p.0, comma.0) ∷ [];
     reads =
-        let next = seen ++ p.0.name.text ∷ [] in
+        let next = meet p.0.name.text seen in
         let steps : parameters_in (parameters_of l) l seen here (takes RightParen here) ≡ (parameters_of l next comma.1 >>= λ ps. Some (More p.0 comma.0 ps.0, ps.1)) =
         ap (parameters_in (parameters_of l) l seen here) no_end ∙ ap (parameters_at (parameters_of l) l seen here) no_dots
         ∙ ap (λ o. o >>= λ q. parameters_behind (parameters_of l) seen q.0 q.1 (takes RightParen q.1)) read
@@ -369,7 +369,7 @@ stops w h None = refl
 stops w h (Some b) = none_left (is_end b.1.tokens) (join w b.0) (phases-join w b.0 Starting ∙ rw h refl)
 
 -- an `extends` that is read adds the parent
-extends_adds : (path : Path) (start : Edge) (first : Span) (seen : Names) (us : Items) (x : Item × Place) → extends_of path start first seen us ≡ Some x → weight (added_by false x.0) ≡ Parent
+extends_adds : (path : Path) (start : Edge) (first : Span) (seen : Seen) (us : Items) (x : Item × Place) → extends_of path start first seen us ≡ Some x → weight (added_by false x.0) ≡ Parent
 unfolding extends_of
 extends_adds path start first seen us x h =
     let made : (Quote × Span) × Items → Edge × Items → Option (Item × Place) = λ q f. Some (Single (Extends (tag start first f.0) q.0.0 q.0.1), at seen f.1) in
@@ -380,7 +380,7 @@ extends_adds path start first seen us x h =
 
 module _ (l : Limits) (d : ℕ) (opens : l.bodies ≡ suc d) (ts : Items) (here : Place) (out : Output) (ph : Phase) where
   abbrev First : Place
-  First = at no_names ts
+  First = at nothing_seen ts
 
   abbrev TopOn : Place → Output → Phase → Type 0
   TopOn p o q = Topping l d First p o q

@@ -1,87 +1,113 @@
--- Lists of names with no two equal.
-use Rattle.std.proofs.Common.{◌≡◌, ◌≢◌, ℕ, false, List, [], ◌∷◌, ◌++◌, refl, sym, ap, subst, ◌∙◌, append_assoc, append-nil}
+-- Names with no two equal, as names that are met one after another.
+use Rattle.std.proofs.Common.{◌≡◌, ◌≢◌, ℕ, false, List, [], ◌∷◌, ◌++◌, refl, ap, subst, ◌∙◌}
 use Rattle.std.specs.List.{AllByRecursion}
-use Rattle.tera_grammar.specs.Words.{is_one_of}
 use Rattle.tera_grammar.specs.Words.{AreDistinct}
 use Rattle.tera_grammar.specs.statements.Names.{Names, no_names, block_named, component_named, ◌and_then◌, NamesAreDistinct}
+use Rattle.tera_grammar.specs.statements.Reading.Meeting.{Met, Seen, meet, meet_all, nothing_met, nothing_seen, ◌having◌}
 use Rattle.tera_grammar.proofs.Options.{or_false, bytes_apart, bytes_differ}
 
-apart_from_all : (m n : List ℕ) (ms : List (List ℕ)) → m ≢ n → AllByRecursion (λ k. m ≢ k) ms → AllByRecursion (λ k. m ≢ k) (ms ++ n ∷ [])
-apart_from_all m n [] ne d = (ne, tt)
-apart_from_all m n (k ∷ ks) ne d = (d.0, apart_from_all m n ks ne d.1)
+-- no name was met before
+abbrev pub AreNew : Met → List (List ℕ) → Type 0
+AreNew met [] = Unit {0}
+AreNew met (n ∷ ns) = (met n ≡ false) × AreNew (meet n met) ns
 
--- one name more, which is not there yet
-pub distinct-more : (ns : List (List ℕ)) (n : List ℕ) → is_one_of ns n ≡ false → AreDistinct ns → AreDistinct (ns ++ n ∷ [])
-distinct-more [] n h d = (tt, tt)
-distinct-more (m ∷ ms) n h d =
-    let (ne, others) = or_false _ _ h in
-    (apart_from_all m n ms (λ e. bytes_differ n m ne (sym e)) d.0, distinct-more ms n others d.1)
+abbrev NoneMet : Met → List (List ℕ) → Type 0
+NoneMet met ns = AllByRecursion (λ m. met m ≡ false) ns
 
-all_front : (P : List ℕ → Type 0) (xs ys : List (List ℕ)) → AllByRecursion P (xs ++ ys) → AllByRecursion P xs
-all_front P [] ys h = tt
-all_front P (x ∷ xs) ys h = (h.0, all_front P xs ys h.1)
+unmet_before : (n : List ℕ) (met : Met) (ns : List (List ℕ)) → NoneMet (meet n met) ns → NoneMet met ns
+unmet_before n met [] h = tt
+unmet_before n met (m ∷ ms) h = ((or_false _ _ h.0).1, unmet_before n met ms h.1)
 
--- those at the front
-pub distinct-front : (xs ys : List (List ℕ)) → AreDistinct (xs ++ ys) → AreDistinct xs
-distinct-front [] ys h = tt
-distinct-front (x ∷ xs) ys h = (all_front _ xs ys h.0, distinct-front xs ys h.1)
+unmet_apart : (n : List ℕ) (met : Met) (ns : List (List ℕ)) → NoneMet (meet n met) ns → AllByRecursion (λ m. n ≢ m) ns
+unmet_apart n met [] h = tt
+unmet_apart n met (m ∷ ms) h = (bytes_differ n m (or_false _ _ h.0).0, unmet_apart n met ms h.1)
 
-middle : (P : List ℕ → Type 0) (xs : List (List ℕ)) (n : List ℕ) (ys : List (List ℕ)) → AllByRecursion P (xs ++ n ∷ ys) → P n
-middle P [] n ys h = h.0
-middle P (x ∷ xs) n ys h = middle P xs n ys h.1
+unmet_behind : (n : List ℕ) (met : Met) (ns : List (List ℕ)) → AllByRecursion (λ m. n ≢ m) ns → NoneMet met ns → NoneMet (meet n met) ns
+unmet_behind n met [] apart h = tt
+unmet_behind n met (m ∷ ms) apart h = (rw (bytes_apart n m apart.0, h.0) refl, unmet_behind n met ms apart.1 h.1)
 
--- a name is not among those before it
-pub not-before : (xs : List (List ℕ)) (n : List ℕ) (ys : List (List ℕ)) → AreDistinct (xs ++ n ∷ ys) → is_one_of xs n ≡ false
-not-before [] n ys h = refl
-not-before (x ∷ xs) n ys h =
-    let ne : n ≢ x = λ e. middle (λ k. x ≢ k) xs n ys h.0 (sym e) in
-    rw (bytes_apart n x ne, not-before xs n ys h.1) refl
+none_met : (met : Met) (ns : List (List ℕ)) → AreNew met ns → NoneMet met ns
+none_met met [] new = tt
+none_met met (n ∷ ns) new = (new.0, unmet_before n met ns (none_met (meet n met) ns new.1))
 
--- and so for the two kinds of names
-pub and_then_assoc : (a b c : Names) → (a and_then b) and_then c ≡ a and_then (b and_then c)
-and_then_assoc a b c = λ i. record { blocks = append_assoc a.blocks b.blocks c.blocks i; components = append_assoc a.components b.components c.components i }
+-- new names are distinct
+pub new_distinct : (met : Met) (ns : List (List ℕ)) → AreNew met ns → AreDistinct ns
+new_distinct met [] new = tt
+new_distinct met (n ∷ ns) new = (unmet_apart n met ns (none_met (meet n met) ns new.1), new_distinct (meet n met) ns new.1)
 
-pub and_then_none : (a : Names) → a and_then no_names ≡ a
-and_then_none a = λ i. record { blocks = append-nil a.blocks i; components = append-nil a.components i }
+distinct_new : (met : Met) (ns : List (List ℕ)) → NoneMet met ns → AreDistinct ns → AreNew met ns
+distinct_new met [] none distinct = tt
+distinct_new met (n ∷ ns) none distinct = (none.0, distinct_new (meet n met) ns (unmet_behind n met ns distinct.0 none.1) distinct.1)
 
-pub block_more : (seen : Names) (n : List ℕ) → is_one_of seen.blocks n ≡ false → NamesAreDistinct seen → NamesAreDistinct (seen and_then block_named n)
-block_more seen n h d = (distinct-more seen.blocks n h d.0, subst AreDistinct (sym (append-nil seen.components)) d.1)
+nothing_unmet : (ns : List (List ℕ)) → NoneMet nothing_met ns
+nothing_unmet [] = tt
+nothing_unmet (n ∷ ns) = (refl, nothing_unmet ns)
 
-pub component_more : (seen : Names) (n : List ℕ) → is_one_of seen.components n ≡ false → NamesAreDistinct seen → NamesAreDistinct (seen and_then component_named n)
-component_more seen n h d = (subst AreDistinct (sym (append-nil seen.blocks)) d.0, distinct-more seen.components n h d.1)
-
-pub names-front : (a b : Names) → NamesAreDistinct (a and_then b) → NamesAreDistinct a
-names-front a b h = (distinct-front a.blocks b.blocks h.0, distinct-front a.components b.components h.1)
+-- distinct names are new where nothing was met
+pub all_new : (ns : List (List ℕ)) → AreDistinct ns → AreNew nothing_met ns
+all_new ns distinct = distinct_new nothing_met ns (nothing_unmet ns) distinct
 
 -- the names of what comes first, and of what comes then
-pub first_names : (seen a b : Names) → NamesAreDistinct (seen and_then (a and_then b)) → NamesAreDistinct (seen and_then a)
-first_names seen a b h = names-front (seen and_then a) b (subst NamesAreDistinct (sym (and_then_assoc seen a b)) h)
+meet_append : (xs ys : List (List ℕ)) (met : Met) → meet_all ys (meet_all xs met) ≡ meet_all (xs ++ ys) met
+meet_append [] ys met = refl
+meet_append (x ∷ xs) ys met = meet_append xs ys (meet x met)
 
-pub then_names : (seen a b : Names) → NamesAreDistinct (seen and_then (a and_then b)) → NamesAreDistinct ((seen and_then a) and_then b)
-then_names seen a b h = subst NamesAreDistinct (sym (and_then_assoc seen a b)) h
+new_first : (met : Met) (xs ys : List (List ℕ)) → AreNew met (xs ++ ys) → AreNew met xs
+new_first met [] ys new = tt
+new_first met (x ∷ xs) ys new = (new.0, new_first (meet x met) xs ys new.1)
 
--- The names that were seen grew by these, and are distinct as before.
-pub record Named (ns old new : Names) : Type 0 where
-  pub grown : new ≡ old and_then ns
-  pub distinct : NamesAreDistinct old → NamesAreDistinct new
+new_then : (met : Met) (xs ys : List (List ℕ)) → AreNew met (xs ++ ys) → AreNew (meet_all xs met) ys
+new_then met [] ys new = new
+new_then met (x ∷ xs) ys new = new_then (meet x met) xs ys new.1
 
-pub named_nothing : (old : Names) → Named no_names old old
-named_nothing old = record { grown = sym (and_then_none old); distinct = λ h. h }
+new_both : (met : Met) (xs ys : List (List ℕ)) → AreNew met xs → AreNew (meet_all xs met) ys → AreNew met (xs ++ ys)
+new_both met [] ys first then = then
+new_both met (x ∷ xs) ys first then = (first.0, new_both (meet x met) xs ys first.1 then)
 
-pub named_both : (ns ms : Names) {old mid new : Names} → Named ns old mid → Named ms mid new → Named (ns and_then ms) old new
+-- and so for the two kinds of names
+abbrev pub NamesAreNew : Seen → Names → Type 0
+NamesAreNew seen n = AreNew seen.blocks n.blocks × AreNew seen.components n.components
+
+pub names_distinct : (n : Names) → NamesAreNew nothing_seen n → NamesAreDistinct n
+names_distinct n new = (new_distinct nothing_met n.blocks new.0, new_distinct nothing_met n.components new.1)
+
+pub names_new : (n : Names) → NamesAreDistinct n → NamesAreNew nothing_seen n
+names_new n distinct = (all_new n.blocks distinct.0, all_new n.components distinct.1)
+
+pub having_both : (seen : Seen) (a b : Names) → (seen having a) having b ≡ seen having (a and_then b)
+having_both seen a b = λ i. record { blocks = meet_append a.blocks b.blocks seen.blocks i; components = meet_append a.components b.components seen.components i }
+
+pub first_names : (seen : Seen) (a b : Names) → NamesAreNew seen (a and_then b) → NamesAreNew seen a
+first_names seen a b new = (new_first seen.blocks a.blocks b.blocks new.0, new_first seen.components a.components b.components new.1)
+
+pub then_names : (seen : Seen) (a b : Names) → NamesAreNew seen (a and_then b) → NamesAreNew (seen having a) b
+then_names seen a b new = (new_then seen.blocks a.blocks b.blocks new.0, new_then seen.components a.components b.components new.1)
+
+both_names : (seen : Seen) (a b : Names) → NamesAreNew seen a → NamesAreNew (seen having a) b → NamesAreNew seen (a and_then b)
+both_names seen a b first then = (new_both seen.blocks a.blocks b.blocks first.0 then.0, new_both seen.components a.components b.components first.1 then.1)
+
+-- These names were met, each of them for the first time.
+pub record Named (ns : Names) (old new : Seen) : Type 0 where
+  pub grown : new ≡ old having ns
+  pub fresh : NamesAreNew old ns
+
+pub named_nothing : (old : Seen) → Named no_names old old
+named_nothing old = record { grown = refl; fresh = (tt, tt) }
+
+pub named_both : (ns ms : Names) {old mid new : Seen} → Named ns old mid → Named ms mid new → Named (ns and_then ms) old new
 named_both ns ms {old = old} a b = record {
-  grown = b.grown ∙ ap (λ k. k and_then ms) a.grown ∙ and_then_assoc old ns ms;
-  distinct = λ h. b.distinct (a.distinct h);
+  grown = b.grown ∙ ap (λ k. k having ms) a.grown ∙ having_both old ns ms;
+  fresh = both_names old ns ms a.fresh (subst (λ seen. NamesAreNew seen ms) a.grown b.fresh);
 }
 
-pub named_block : (n : List ℕ) (ns : Names) {old new : Names} → is_one_of old.blocks n ≡ false → Named ns (old and_then block_named n) new → Named (block_named n and_then ns) old new
-named_block n ns {old = old} fresh a = record {
-  grown = a.grown ∙ and_then_assoc old (block_named n) ns;
-  distinct = λ h. a.distinct (block_more old n fresh h);
+pub named_block : (n : List ℕ) (ns : Names) {old new : Seen} → old.blocks n ≡ false → Named ns (old having block_named n) new → Named (block_named n and_then ns) old new
+named_block n ns {old = old} unmet a = record {
+  grown = a.grown ∙ having_both old (block_named n) ns;
+  fresh = both_names old (block_named n) ns ((unmet, tt), tt) a.fresh;
 }
 
-pub named_component : (n : List ℕ) (ns : Names) {old new : Names} → is_one_of old.components n ≡ false → Named ns (old and_then component_named n) new → Named (component_named n and_then ns) old new
-named_component n ns {old = old} fresh a = record {
-  grown = a.grown ∙ and_then_assoc old (component_named n) ns;
-  distinct = λ h. a.distinct (component_more old n fresh h);
+pub named_component : (n : List ℕ) (ns : Names) {old new : Seen} → old.components n ≡ false → Named ns (old having component_named n) new → Named (component_named n and_then ns) old new
+named_component n ns {old = old} unmet a = record {
+  grown = a.grown ∙ having_both old (component_named n) ns;
+  fresh = both_names old (component_named n) ns (tt, (unmet, tt)) a.fresh;
 }

@@ -6,11 +6,12 @@ use Rattle.tera_lexer.specs.code.Cursors.{is_end}
 use Rattle.tera_lexer.specs.grammar.Tokens.{Items, Ended, Failed, Token}
 use Rattle.tera_grammar.specs.expressions.Concrete.{Quote}
 use Rattle.tera_grammar.specs.Options.{◌>>=◌}
-use Rattle.tera_grammar.specs.statements.Names.{no_names, NamesAreDistinct}
+use Rattle.tera_grammar.specs.statements.Reading.Meeting.{nothing_seen}
 use Rattle.tera_grammar.specs.statements.Parts.{Tag}
 use Rattle.tera_grammar.specs.statements.Expressions.{Limits}
-use Rattle.tera_grammar.specs.statements.Grammar.{Text, Shown, Set, Include, Extends, Break, Continue, Body, Done, Then, Item, Single, Block, Define, Capturing, For, If, yield}
+use Rattle.tera_grammar.specs.statements.Grammar.{Text, Shown, Set, Include, Extends, Break, Continue, Body, Done, Then, Item, Single, Block, Define, Capturing, For, If, yield, names}
 use Rattle.tera_grammar.specs.statements.Reading.{at, Phase, Starting, Standing, Extending, behind_text, from_start, next_phase, phases, template}
+use Rattle.tera_grammar.proofs.statements.Names.{names_distinct, names_new}
 use Rattle.tera_grammar.specs.statements.Top.{is_blank, is_silent, is_kept, IsExtends, Each, join, Child, TopLevel, IsTemplate}
 use Rattle.tera_grammar.proofs.Options.{bound, guard_ok}
 use Rattle.tera_grammar.proofs.statements.Found.{body_sound}
@@ -127,12 +128,12 @@ pub template_sound : (l : Limits) (ts : Items) (b : Body) → template l ts ≡ 
 unfolding template
 template_sound l ts b h =
     bound _ _ _ h (λ x read rest. bound _ _ _ rest (λ u left more. bound _ _ _ more (λ ph phased made.
-    let found = body_sound l l.bodies [] (at no_names ts) x read in
+    let found = body_sound l l.bodies [] (at nothing_seen ts) x read in
     let same : x.0 ≡ b = same_Some _ _ made in
     subst (IsTemplate l ts) same (record {
       tokens = found.tokens ∙ ap (yield x.0) (end_is x.1.tokens (guard_ok _ u left));
       fits = found.fits;
-      distinct = subst NamesAreDistinct found.named.grown (found.named.distinct (tt, tt));
+      distinct = names_distinct (names x.0) found.named.fresh;
       top = top_found x.0 ph phased;
       low = found.height;
     }))))
@@ -142,7 +143,7 @@ pub template_complete : (l : Limits) (ts : Items) (b : Body) → IsTemplate l ts
 unfolding template
 template_complete l ts b h =
     let (ph, phased) = top_read b h.top in
-    rw (h.tokens, whole b l l.bodies [] no_names Ended h.fits h.low h.distinct tt, phased) refl
+    rw (h.tokens, whole b l l.bodies [] nothing_seen Ended h.fits h.low (names_new (names b) h.distinct) tt, phased) refl
 
 -- no list of tokens has two
 pub one_template : (l : Limits) (ts : Items) (b c : Body) → IsTemplate l ts b → IsTemplate l ts c → b ≡ c

@@ -7,7 +7,6 @@ use Rattle.tera_lexer.specs.declared.lexer.delimiters.Kind.TheVariants as kind
 use Rattle.tera_grammar.specs.expressions.Operators.{GreaterThan}
 use Rattle.tera_grammar.specs.expressions.Marks.{mark, Operation}
 use Rattle.tera_grammar.specs.Options.{◌>>=◌}
-use Rattle.tera_grammar.specs.statements.Names.{Names}
 use Rattle.tera_grammar.specs.statements.Parts.{Name, name_if_any_yield, AtElif, AtEndBlock, AtEndFor, AtEndIf, closer_token, start_yield, closing, finish}
 use Rattle.tera_grammar.specs.statements.Expressions.{Limits, expression_yield, attributes_yield}
 use Rattle.tera_grammar.specs.statements.Components.{ending_yield}
@@ -15,6 +14,7 @@ use Rattle.tera_grammar.specs.statements.Heads.{filters_yield, Capture, SetBody,
 use Rattle.tera_grammar.specs.statements.Grammar.{Plain, Text, Shown, Set, Include, Extends, Break, Continue, plain_yield, Body, Done, Then, Item, Single, Block, Define, Capturing, For, If, Branches, Elif, Last, Else, NoElse, Otherwise, yield, item_yield, branches_yield, else_yield, Path, in_loop}
 use Rattle.tera_grammar.specs.statements.Reading.{Place, at, Reads, Reader, branch_in, branches_by, branches, step, go_on, items_by, items, body}
 use Rattle.tera_grammar.specs.statements.Reading.Parts.{Front, Closes, front, tag}
+use Rattle.tera_grammar.specs.statements.Reading.Meeting.{Seen}
 use Rattle.tera_grammar.proofs.Options.{bind_both}
 use Rattle.tera_grammar.proofs.statements.Expressions.{expression_stands, expression_size, filter_size, attributes_size, component_size}
 use Rattle.tera_grammar.proofs.statements.Parts.{finish_stands, FrontOf, front_is}
@@ -93,7 +93,7 @@ module _ (l : Limits) (d : ℕ) (f : Reader) (sound : Sound l d f) (path : Path)
   items_steps p =
       bind_both _ _ _ (go_on_agree (items_by (size p.tokens) l f path) (items l f path) p (λ q lt. items_agree (size p.tokens) (suc (size q.tokens)) q lt (omega arith)))
 
-  branch_agree : (again other : Place → Reads Branches) (seen : Names) (ts : Items) → ((q : Place) → size q.tokens < size ts → again q ≡ other q) →
+  branch_agree : (again other : Place → Reads Branches) (seen : Seen) (ts : Items) → ((q : Place) → size q.tokens < size ts → again q ≡ other q) →
       (fr : Front) → FrontOf ts fr → branch_in l f path again seen ts fr ≡ branch_in l f path other seen ts fr
   unfolding branch_in
   branch_agree again other seen ts goes (Closes AtElif start first us) is =

@@ -8,8 +8,7 @@ use Rattle.tera_grammar.specs.expressions.Reading.Front.{takes, taken_name, Take
 use Rattle.tera_grammar.specs.expressions.Operators.{GreaterThan}
 use Rattle.tera_grammar.specs.expressions.Marks.{Assign, Operation}
 use Rattle.tera_grammar.specs.Options.{◌>>=◌, guard}
-use Rattle.tera_grammar.specs.Words.{is_one_of}
-use Rattle.tera_grammar.specs.statements.Names.{agrees, Names, no_names, block_named, component_named, ◌and_then◌}
+use Rattle.tera_grammar.specs.statements.Names.{agrees, block_named, component_named}
 use Rattle.tera_grammar.specs.statements.Parts.{Edge, Name, Tag, Opener, OpensSet, OpensInclude, OpensExtends, OpensBlock, OpensFor, OpensIf, OpensFilter, OpensComponent, OpensBreak, OpensContinue, OpensCall, AtElif, AtElse, AtEndSet, AtEndBlock, AtEndFor, AtEndIf, AtEndFilter, AtEndCall}
 use Rattle.tera_grammar.specs.statements.Expressions.{Limits, Filtering, Attributes, ComponentName, component_text}
 use Rattle.tera_grammar.specs.statements.Reading.Expressions.{expression_of, filter_of, attributes_of, component_of}
@@ -17,20 +16,22 @@ use Rattle.tera_grammar.specs.statements.Heads.{Filters, Capture, SetBody, Secti
 use Rattle.tera_grammar.specs.statements.Grammar.{Plain, Text, Shown, Set, Include, Extends, Break, Continue, Body, Done, Then, Item, Single, Block, Define, Capturing, For, If, Branches, Elif, Last, Else, NoElse, Otherwise, InFor, InForElse, InBlock, InIf, InComponent, InCapture, Path, may_block, may_break, in_loop, is_outermost, text_if_any}
 use Rattle.tera_grammar.specs.statements.Top.{is_blank, is_kept}
 use Rattle.tera_grammar.specs.statements.Reading.Parts.{Front, Ends, Closes, Holds, Shows, Opens, Wrong, front, name_if_any, finish_of, variable_end_of, tag, closed, closed_tag}
+use Rattle.tera_grammar.specs.statements.Reading.Meeting.{Seen, nothing_seen, ◌having◌}
 use Rattle.tera_grammar.specs.statements.Reading.Heads.{free_name, loop_of, filters_of}
 use Rattle.tera_grammar.specs.statements.Reading.Components.{opened_of, ending_of}
 pub mod Expressions
 pub mod Parts
+pub mod Meeting
 pub mod Heads
 pub mod Components
 pub mod Loops
 
 -- Where the reading stands: the names so far, and the tokens that are not yet taken.
 pub record Place : Type 0 where
-  pub seen : Names
+  pub seen : Seen
   pub tokens : Items
 
-abbrev pub at : Names → Items → Place
+abbrev pub at : Seen → Items → Place
 at seen items = record { seen = seen; tokens = items }
 
 -- what is read, and the place behind it
@@ -41,7 +42,7 @@ Reads A = Option (A × Place)
 abbrev pub Reader : Type 0
 Reader = Path → Place → Reads Body
 
-unfoldable pub else_in : Reader → Path → Names → Items → Front → Reads Else
+unfoldable pub else_in : Reader → Path → Seen → Items → Front → Reads Else
 else_in self path seen items (Closes AtElse start first us) =
     finish_of us >>= λ f. self path (at seen f.1) >>= λ b. Some (Otherwise (tag start first f.0) b.0, b.1)
 else_in self path seen items front = Some (NoElse, at seen items)
@@ -50,7 +51,7 @@ else_in self path seen items front = Some (NoElse, at seen items)
 abbrev pub else_of : Reader → Path → Place → Reads Else
 else_of self path p = else_in self path p.seen p.tokens (front p.tokens)
 
-unfoldable pub branch_in : Limits → Reader → Path → (Place → Reads Branches) → Names → Items → Front → Reads Branches
+unfoldable pub branch_in : Limits → Reader → Path → (Place → Reads Branches) → Seen → Items → Front → Reads Branches
 branch_in l self path again seen items (Closes AtElif start first us) =
     expression_of l (in_loop path) us >>= λ c. finish_of c.1 >>= λ f. self path (at seen f.1) >>= λ b. again b.1 >>= λ bs.
     Some (Elif (tag start first f.0) c.0 b.0 bs.0, bs.1)
@@ -65,7 +66,7 @@ unfoldable pub branches : Limits → Reader → Path → Place → Reads Branche
 branches l self path p = branches_by (suc (size p.tokens)) l self path p
 
 -- the rest of a `set`, behind its name: a value, or filters and a body
-unfoldable pub set_behind : Limits → Reader → Path → Bool → Edge → Span → Names → Name → Items → Option (Span × Items) → Reads Item
+unfoldable pub set_behind : Limits → Reader → Path → Bool → Edge → Span → Seen → Name → Items → Option (Span × Items) → Reads Item
 set_behind l self path global start first seen name items (Some sign) =
     expression_of l (in_loop path) sign.1 >>= λ e. finish_of e.1 >>= λ f.
     Some (Single (Set global (tag start first f.0) name sign.0 e.0), at seen f.1)
@@ -75,20 +76,20 @@ set_behind l self path global start first seen name items None =
     Some (Capturing (SetBody global (tag start first f.0) name fs.0 e.0) b.0, at b.1.seen e.1)
 
 -- The statements, behind the first token of their tag.
-unfoldable pub set_of : Limits → Reader → Path → Bool → Edge → Span → Names → Items → Reads Item
+unfoldable pub set_of : Limits → Reader → Path → Bool → Edge → Span → Seen → Items → Reads Item
 set_of l self path global start first seen items =
     free_name items >>= λ n. set_behind l self path global start first seen n.0 n.1 (takes Assign n.1)
 
-unfoldable pub include_of : Edge → Span → Names → Items → Reads Item
+unfoldable pub include_of : Edge → Span → Seen → Items → Reads Item
 include_of start first seen items =
     taken_quote items >>= λ q. finish_of q.1 >>= λ f. Some (Single (Include (tag start first f.0) q.0.0 q.0.1), at seen f.1)
 
-unfoldable pub extends_of : Path → Edge → Span → Names → Items → Reads Item
+unfoldable pub extends_of : Path → Edge → Span → Seen → Items → Reads Item
 extends_of path start first seen items =
     taken_quote items >>= λ q. guard (is_outermost path) >>= λ u. finish_of q.1 >>= λ f.
     Some (Single (Extends (tag start first f.0) q.0.0 q.0.1), at seen f.1)
 
-unfoldable pub break_of : Path → (Tag → Plain) → Edge → Span → Names → Items → Reads Item
+unfoldable pub break_of : Path → (Tag → Plain) → Edge → Span → Seen → Items → Reads Item
 break_of path make start first seen items =
     guard (may_break path) >>= λ u. finish_of items >>= λ f. Some (Single (make (tag start first f.0)), at seen f.1)
 
@@ -98,21 +99,21 @@ block_end n items =
     closed AtEndBlock items >>= λ x. guard (agrees n.text (text_if_any (name_if_any x.1).0)) >>= λ u.
     finish_of (name_if_any x.1).1 >>= λ f. Some ((tag x.0.0 x.0.1 f.0, (name_if_any x.1).0), f.1)
 
-unfoldable pub block_of : Reader → Path → Edge → Span → Names → Items → Reads Item
+unfoldable pub block_of : Reader → Path → Edge → Span → Seen → Items → Reads Item
 block_of self path start first seen items =
-    guard (may_block path) >>= λ u. taken_name items >>= λ n. guard (not (is_one_of seen.blocks n.0.text)) >>= λ v.
-    finish_of n.1 >>= λ f. self (InBlock ∷ path) (at (seen and_then block_named n.0.text) f.1) >>= λ b.
+    guard (may_block path) >>= λ u. taken_name items >>= λ n. guard (not (seen.blocks n.0.text)) >>= λ v.
+    finish_of n.1 >>= λ f. self (InBlock ∷ path) (at (seen having block_named n.0.text) f.1) >>= λ b.
     block_end n.0 b.1.tokens >>= λ e.
     Some (Block (tag start first f.0) n.0 b.0 e.0.0 e.0.1, at b.1.seen e.1)
 
-unfoldable pub component_def_of : Limits → Reader → Path → Edge → Span → Names → Items → Reads Item
+unfoldable pub component_def_of : Limits → Reader → Path → Edge → Span → Seen → Items → Reads Item
 component_def_of l self path start first seen items =
     guard (is_outermost path) >>= λ u. opened_of l seen.components items >>= λ o.
-    self (InComponent ∷ path) (at (seen and_then component_named (component_text o.0.name)) o.1) >>= λ b.
+    self (InComponent ∷ path) (at (seen having component_named (component_text o.0.name)) o.1) >>= λ b.
     ending_of start first o.0 b.1.tokens >>= λ h.
     Some (Define h.0 b.0, at b.1.seen h.1)
 
-unfoldable pub section_of : Limits → Reader → Path → Edge → Span → Names → Items → Reads Item
+unfoldable pub section_of : Limits → Reader → Path → Edge → Span → Seen → Items → Reads Item
 section_of l self path start first seen items =
     filter_of l (in_loop path) items >>= λ g. filters_of l (in_loop path) g.1 >>= λ fs. finish_of fs.1 >>= λ f.
     self (InCapture ∷ path) (at seen f.1) >>= λ b. closed_tag AtEndFilter b.1.tokens >>= λ e.
@@ -124,25 +125,25 @@ call_end n items =
     closed AtEndCall items >>= λ x. component_of x.1 >>= λ m. guard (bytes_eq (component_text m.0) (component_text n)) >>= λ u.
     takes (Operation GreaterThan) m.1 >>= λ end. finish_of end.1 >>= λ f. Some ((tag x.0.0 x.0.1 f.0, m.0, end.0), f.1)
 
-unfoldable pub call_of : Limits → Reader → Path → Edge → Span → Names → Items → Reads Item
+unfoldable pub call_of : Limits → Reader → Path → Edge → Span → Seen → Items → Reads Item
 call_of l self path start first seen items =
     component_of items >>= λ n. attributes_of l (in_loop path) n.1 >>= λ a. takes (Operation GreaterThan) a.1 >>= λ last. finish_of last.1 >>= λ f.
     self (InCapture ∷ path) (at seen f.1) >>= λ b. call_end n.0 b.1.tokens >>= λ e.
     Some (Capturing (CallBody (tag start first f.0) n.0 a.0 last.0 e.0.0 e.0.1 e.0.2) b.0, at b.1.seen e.1)
 
-unfoldable pub for_of : Limits → Reader → Path → Edge → Span → Names → Items → Reads Item
+unfoldable pub for_of : Limits → Reader → Path → Edge → Span → Seen → Items → Reads Item
 for_of l self path start first seen items =
     loop_of l items >>= λ lp. finish_of lp.1 >>= λ f. self (InFor ∷ path) (at seen f.1) >>= λ b.
     else_of self (InForElse ∷ path) b.1 >>= λ o. closed_tag AtEndFor o.1.tokens >>= λ e.
     Some (For (tag start first f.0) lp.0 b.0 o.0 e.0, at o.1.seen e.1)
 
-unfoldable pub if_of : Limits → Reader → Path → Edge → Span → Names → Items → Reads Item
+unfoldable pub if_of : Limits → Reader → Path → Edge → Span → Seen → Items → Reads Item
 if_of l self path start first seen items =
     expression_of l (in_loop path) items >>= λ c. finish_of c.1 >>= λ f. self (InIf ∷ path) (at seen f.1) >>= λ b.
     branches l self (InIf ∷ path) b.1 >>= λ bs. closed_tag AtEndIf bs.1.tokens >>= λ e.
     Some (If (tag start first f.0) c.0 b.0 bs.0 e.0, at bs.1.seen e.1)
 
-abbrev pub tag_of : Limits → Reader → Path → Opener → Edge → Span → Names → Items → Reads Item
+abbrev pub tag_of : Limits → Reader → Path → Opener → Edge → Span → Seen → Items → Reads Item
 tag_of l self path (OpensSet global) start first seen items = set_of l self path global start first seen items
 tag_of l self path OpensInclude start first seen items = include_of start first seen items
 tag_of l self path OpensExtends start first seen items = extends_of path start first seen items
@@ -155,12 +156,12 @@ tag_of l self path OpensBreak start first seen items = break_of path Break start
 tag_of l self path OpensContinue start first seen items = break_of path Continue start first seen items
 tag_of l self path OpensCall start first seen items = call_of l self path start first seen items
 
-unfoldable pub shown_of : Limits → Path → Edge → Names → Items → Reads Item
+unfoldable pub shown_of : Limits → Path → Edge → Seen → Items → Reads Item
 shown_of l path start seen items =
     expression_of l (in_loop path) items >>= λ e. variable_end_of e.1 >>= λ f. Some (Single (Shown start e.0 f.0), at seen f.1)
 
 -- what comes next in a body: nothing more, or an item
-unfoldable pub step : Limits → Reader → Path → Names → Front → Option (Option (Item × Place))
+unfoldable pub step : Limits → Reader → Path → Seen → Front → Option (Option (Item × Place))
 step l self path seen Ends = Some None
 step l self path seen (Closes c start first items) = Some None
 step l self path seen (Holds text span items) = Some (Some (Single (Text text span), at seen items))
@@ -215,4 +216,4 @@ phases ph (Then i b) = next_phase ph i >>= λ q. phases q b
 -- a whole template
 unfoldable pub template : Limits → Items → Option Body
 template l ts =
-    body l.bodies l [] (at no_names ts) >>= λ b. guard (is_end b.1.tokens) >>= λ u. phases Starting b.0 >>= λ ph. Some b.0
+    body l.bodies l [] (at nothing_seen ts) >>= λ b. guard (is_end b.1.tokens) >>= λ u. phases Starting b.0 >>= λ ph. Some b.0

@@ -1,5 +1,5 @@
 -- Reading the definition of a component, but for its body.
-use Rattle.std.specs.Prelude.{ℕ, zero, suc, Bool, true, false, not, List, [], ◌∷◌, ◌++◌, Option, Some, None}
+use Rattle.std.specs.Prelude.{ℕ, zero, suc, Bool, true, false, not, List, [], ◌∷◌, Option, Some, None}
 use Rattle.tera_base.specs.declared.utils.Span.{Span}
 use Rattle.tera_lexer.specs.code.Cursors.{size}
 use Rattle.tera_lexer.specs.grammar.Tokens.{Tok, Items, Token, Ident, Integer, Symbol}
@@ -8,13 +8,13 @@ use Rattle.tera_grammar.specs.expressions.Operators.{Minus}
 use Rattle.tera_grammar.specs.expressions.Marks.{mark, Mark, LeftParen, RightParen, LeftBracket, LeftBrace, Comma, Colon, Spread, Assign, At, Operation}
 use Rattle.tera_grammar.specs.Words.{is_none}
 use Rattle.tera_grammar.specs.Options.{◌>>=◌, guard}
-use Rattle.tera_grammar.specs.Words.{is_one_of}
 use Rattle.tera_grammar.specs.statements.Names.{agrees}
 use Rattle.tera_grammar.specs.statements.Parts.{Edge, Name, AtEndComponent}
 use Rattle.tera_grammar.specs.statements.Expressions.{Limits, ComponentName, component_text, LiteralMap}
 use Rattle.tera_grammar.specs.statements.Reading.Expressions.{component_of, array_of, map_of}
 use Rattle.tera_grammar.specs.statements.Components.{Default, LiteralDefault, MinusDefault, NothingDefault, ArrayDefault, MapDefault, Annotation, Assigned, Parameter, is_known, is_body, argument_of, default_has_type, Parameters, Closed, Rest, Final, More, component_texts, Head}
 use Rattle.tera_grammar.specs.statements.Reading.Parts.{finish_of, closed, tag}
+use Rattle.tera_grammar.specs.statements.Reading.Meeting.{Met, meet, nothing_met}
 
 -- the number behind a minus
 abbrev pub minus_at : Span → Tok → Span → Items → Takes Default
@@ -63,12 +63,12 @@ abbrev pub parameter : Option Span → Name → Option Annotation → Option Ass
 parameter at name type default = record { at = at; name = name; type = type; default = default }
 
 -- a name that is neither `body` nor that of an earlier parameter
-abbrev pub fresh_name : List (List ℕ) → Items → Takes Name
+abbrev pub fresh_name : Met → Items → Takes Name
 fresh_name seen items =
-    taken_name items >>= λ n. guard (not (is_body n.0.text)) >>= λ u. guard (not (is_one_of seen n.0.text)) >>= λ v. Some n
+    taken_name items >>= λ n. guard (not (is_body n.0.text)) >>= λ u. guard (not (seen n.0.text)) >>= λ v. Some n
 
 -- a parameter, behind `@`, if any
-unfoldable pub parameter_behind : Limits → List (List ℕ) → Option Span → Items → Takes Parameter
+unfoldable pub parameter_behind : Limits → Met → Option Span → Items → Takes Parameter
 parameter_behind l seen at items =
     fresh_name seen items >>= λ n.
     annotation_in n.1 (takes Colon n.1) >>= λ t.
@@ -76,34 +76,34 @@ parameter_behind l seen at items =
     guard (default_has_type (argument_of (parameter at n.0 t.0 d.0)).typ (argument_of (parameter at n.0 t.0 d.0)).default) >>= λ u.
     Some (parameter at n.0 t.0 d.0, d.1)
 
-abbrev pub parameter_of : Limits → List (List ℕ) → Items → Takes Parameter
+abbrev pub parameter_of : Limits → Met → Items → Takes Parameter
 parameter_of l seen items =
     parameter_behind l seen (at_in items (takes At items)).0 (at_in items (takes At items)).1
 
 -- behind a parameter: the closing parenthesis, or a comma and others
-unfoldable pub parameters_behind : (List (List ℕ) → Items → Takes Parameters) → List (List ℕ) → Parameter → Items → Option (Span × Items) → Takes Parameters
+unfoldable pub parameters_behind : (Met → Items → Takes Parameters) → Met → Parameter → Items → Option (Span × Items) → Takes Parameters
 parameters_behind again seen p items (Some end) = Some (Final p end.0, end.1)
 parameters_behind again seen p items None =
-    takes Comma items >>= λ comma. again (seen ++ p.name.text ∷ []) comma.1 >>= λ ps. Some (More p comma.0 ps.0, ps.1)
+    takes Comma items >>= λ comma. again (meet p.name.text seen) comma.1 >>= λ ps. Some (More p comma.0 ps.0, ps.1)
 
 -- the rest parameter, or another
-unfoldable pub parameters_at : (List (List ℕ) → Items → Takes Parameters) → Limits → List (List ℕ) → Items → Option (Span × Items) → Takes Parameters
+unfoldable pub parameters_at : (Met → Items → Takes Parameters) → Limits → Met → Items → Option (Span × Items) → Takes Parameters
 parameters_at again l seen items (Some dots) =
     fresh_name seen dots.1 >>= λ n. takes RightParen n.1 >>= λ end. Some (Rest dots.0 n.0 end.0, end.1)
 parameters_at again l seen items None =
     parameter_of l seen items >>= λ p. parameters_behind again seen p.0 p.1 (takes RightParen p.1)
 
 -- none, where the closing parenthesis stands there
-unfoldable pub parameters_in : (List (List ℕ) → Items → Takes Parameters) → Limits → List (List ℕ) → Items → Option (Span × Items) → Takes Parameters
+unfoldable pub parameters_in : (Met → Items → Takes Parameters) → Limits → Met → Items → Option (Span × Items) → Takes Parameters
 parameters_in again l seen items (Some end) = Some (Closed end.0, end.1)
 parameters_in again l seen items None = parameters_at again l seen items (takes Spread items)
 
 -- The number bounds the parameters. One more than the tokens is enough.
-unfoldable pub parameters_by : ℕ → Limits → List (List ℕ) → Items → Takes Parameters
+unfoldable pub parameters_by : ℕ → Limits → Met → Items → Takes Parameters
 parameters_by zero l seen items = None
 parameters_by (suc n) l seen items = parameters_in (parameters_by n l) l seen items (takes RightParen items)
 
-unfoldable pub parameters_of : Limits → List (List ℕ) → Items → Takes Parameters
+unfoldable pub parameters_of : Limits → Met → Items → Takes Parameters
 parameters_of l seen items = parameters_by (suc (size items)) l seen items
 
 -- metadata, where it stands there
@@ -119,10 +119,10 @@ pub record Opened : Type 0 where
   pub metadata : Option LiteralMap
   pub finish : Edge
 
-unfoldable pub opened_of : Limits → List (List ℕ) → Items → Takes Opened
+unfoldable pub opened_of : Limits → Met → Items → Takes Opened
 opened_of l seen items =
-    component_of items >>= λ n. guard (not (is_one_of seen (component_text n.0))) >>= λ u.
-    takes LeftParen n.1 >>= λ paren. parameters_of l [] paren.1 >>= λ ps.
+    component_of items >>= λ n. guard (not (seen (component_text n.0))) >>= λ u.
+    takes LeftParen n.1 >>= λ paren. parameters_of l nothing_met paren.1 >>= λ ps.
     metadata_in l ps.1 (begins LeftBrace ps.1) >>= λ m. finish_of m.1 >>= λ f.
     Some (record { name = n.0; paren = paren.0; parameters = ps.0; metadata = m.0; finish = f.0 }, f.1)
 

@@ -17,6 +17,7 @@ use Rattle.tera_grammar.specs.statements.Output.{Adds, AddsNothing, AddsNode, Ad
 use Rattle.tera_grammar.specs.statements.Reading.{Place, Reads, body, Phase, Starting, Standing, Extending, phases}
 use Rattle.tera_grammar.specs.statements.Reading.Heads.{filters_of}
 use Rattle.tera_grammar.specs.statements.Reading.Components.{parameters_of}
+use Rattle.tera_grammar.specs.statements.Reading.Meeting.{Met, nothing_met}
 use Rattle.tera_grammar.specs.statements.Top.{is_blank, join}
 
 -- Some items of a body have been read, and its reading comes to what follows from here.
@@ -72,9 +73,9 @@ list [] ps = ps
 list (p ∷ before) ps = More p.0 p.1 (list before ps)
 
 -- likewise some parameters of a component, with their names and their arguments
-pub record Listing (l : Limits) (start here : Items) (seen : List (List ℕ)) (gathered : Sorted Argument) : Type 0 where
+pub record Listing (l : Limits) (start here : Items) (seen : Met) (gathered : Sorted Argument) : Type 0 where
   pub before : List (Parameter × Span)
-  pub reads : parameters_of l [] start ≡ (parameters_of l seen here >>= λ ps. Some (list before ps.0, ps.1))
+  pub reads : parameters_of l nothing_met start ≡ (parameters_of l seen here >>= λ ps. Some (list before ps.0, ps.1))
   pub shows : (ps : Parameters) → put_arguments (list before ps) [] ≡ put_arguments ps gathered
 
 -- what is gathered of a template, with what an item adds

@@ -1,13 +1,14 @@
 -- Of blocks and definitions.
-use Rattle.std.proofs.Common.{◌∙◌, [], ◌∷◌, ◌++◌, ap, sym, string_bytes}
+use Rattle.std.proofs.Common.{◌∙◌, ap, sym, string_bytes}
 use Rattle.std.proofs.lemmas.Result.{err_from_is_err_and}
 use Rattle.tera_nodes.specs.Tree as tree
 use Rattle.tera_nodes.specs.View.{nodes_of}
 use Rattle.tera_grammar.specs.statements.Grammar.{Block, Define}
 use Rattle.tera_grammar.specs.statements.Output.{AddsNode, AddsDefinition}
+use Rattle.tera_grammar.specs.statements.Reading.Meeting.{meet}
 use Rattle.tera_grammar.specs.statements.Reading.Parts.{tag}
 use Rattle.tera_statements.specs.Adding.{here, seen_of}
-use Rattle.tera_statements.specs.Known.{names_of}
+use Rattle.tera_statements.specs.Known.{met_of}
 use Rattle.tera_statements.proofs.Blocking.{barred, block_unnamed, block_unfinished, block_empty, block_unclosed, block_given, block_kept, component_kept, definition_empty, definition_given, definition_unclosed, nested, unopened}
 use Rattle.tera_expect.proofs.Steps.{failed_as, fails_by}
 use Rattle.tera_grammar.specs.statements.Expressions.{component_text}
@@ -39,7 +40,7 @@ blocks::block-returns-in_err-inside-clause-gives t c = λ path stands start.
     let (n, named, is) = c.in_ok-name.ensures.gives in
     let (f, ended) = c.in_ok-finish.ensures.gives in
     let seen = seen_of c.args.names.now in
-    let kept = block_kept seen.blocks seen.components (names_of c.new_block.new.blocks.entries) n.text (c.in_ok-name.ensures.kept ∙ ap (λ t. seen.blocks ++ t ∷ []) is.0) in
+    let kept = block_kept seen.blocks seen.components (met_of c.new_block.new.blocks) n.text (c.in_ok-name.ensures.kept ∙ ap (λ t. meet t seen.blocks) is.0) in
     rw (p.1, p.2) (failed_as _ _ _ (λ h. block_empty _ path start _ seen _ may n _ named f _ ended (rw (sym kept) h)) (c.in_err-inside.ensures.gives path stands))
 
 pub blocks::block-returns-in_err-block_end-clause-gives : goal.blocks::block-returns-in_err-block_end-clause-gives
@@ -49,7 +50,7 @@ blocks::block-returns-in_err-block_end-clause-gives t c = λ path stands start.
     let (n, named, is) = c.in_ok-name.ensures.gives in
     let (f, ended) = c.in_ok-finish.ensures.gives in
     let seen = seen_of c.args.names.now in
-    let kept = block_kept seen.blocks seen.components (names_of c.new_block.new.blocks.entries) n.text (c.in_ok-name.ensures.kept ∙ ap (λ t. seen.blocks ++ t ∷ []) is.0) in
+    let kept = block_kept seen.blocks seen.components (met_of c.new_block.new.blocks) n.text (c.in_ok-name.ensures.kept ∙ ap (λ t. meet t seen.blocks) is.0) in
     let (b, inside, shows) = c.in_ok-inside.ensures.gives path stands in
     rw (p.1, p.2) (failed_as _ _ _ (λ h. block_unclosed _ path start _ seen _ may n _ named f _ ended b (here c.body.new.names c.body.new.cursor) (rw (sym kept) inside) h) (c.in_err-block_end.ensures.gives n (sym is.0)))
 
@@ -59,7 +60,7 @@ blocks::block-returns-clause-gives t c = λ path stands start.
     let (n, named, is) = c.in_ok-name.ensures.gives in
     let (f, ended) = c.in_ok-finish.ensures.gives in
     let seen = seen_of c.args.names.now in
-    let kept = block_kept seen.blocks seen.components (names_of c.new_block.new.blocks.entries) n.text (c.in_ok-name.ensures.kept ∙ ap (λ t. seen.blocks ++ t ∷ []) is.0) in
+    let kept = block_kept seen.blocks seen.components (met_of c.new_block.new.blocks) n.text (c.in_ok-name.ensures.kept ∙ ap (λ t. meet t seen.blocks) is.0) in
     let (b, inside, shows) = c.in_ok-inside.ensures.gives path stands in
     let (e, closed) = c.in_ok-block_end.ensures.gives n (sym is.0) in
     let text = ap string_bytes c.in_ok-name-3.ensures.node ∙ c.in_ok-name-2.ensures.ok ∙ is.0 in
@@ -86,7 +87,7 @@ blocks::definition-returns-in_err-inside-clause-gives t c = λ path stands start
     let may = sym stands.outermost ∙ c.in_ok-check_outermost.ensures.stands in
     let (o, named, is) = c.in_ok-opened.ensures.gives in
     let seen = seen_of c.args.names.now in
-    let kept = component_kept seen.blocks seen.components (names_of c.opening_tag.new.seen.entries) (component_text o.name) (c.in_ok-opened.ensures.kept ∙ ap (λ t. seen.components ++ t ∷ []) is.0) in
+    let kept = component_kept seen.blocks seen.components (met_of c.opening_tag.new.seen) (component_text o.name) (c.in_ok-opened.ensures.kept ∙ ap (λ t. meet t seen.components) is.0) in
     rw (p.1, p.2) (failed_as _ _ _ (λ h. definition_empty _ _ path start _ seen _ may o _ named (rw (sym kept) h)) (c.in_err-inside.ensures.gives path stands))
 
 pub blocks::definition-returns-in_err-closing_tag-clause-gives : goal.blocks::definition-returns-in_err-closing_tag-clause-gives
@@ -95,7 +96,7 @@ blocks::definition-returns-in_err-closing_tag-clause-gives t c = λ path stands 
     let may = sym stands.outermost ∙ c.in_ok-check_outermost.ensures.stands in
     let (o, named, is) = c.in_ok-opened.ensures.gives in
     let seen = seen_of c.args.names.now in
-    let kept = component_kept seen.blocks seen.components (names_of c.opening_tag.new.seen.entries) (component_text o.name) (c.in_ok-opened.ensures.kept ∙ ap (λ t. seen.components ++ t ∷ []) is.0) in
+    let kept = component_kept seen.blocks seen.components (met_of c.opening_tag.new.seen) (component_text o.name) (c.in_ok-opened.ensures.kept ∙ ap (λ t. meet t seen.components) is.0) in
     let (b, inside, shows) = c.in_ok-inside.ensures.gives path stands in
     rw (p.1, p.2) (failed_as _ _ _ (λ h. definition_unclosed _ _ path start _ seen _ may o _ named b (here c.body.new.names c.body.new.cursor) (rw (sym kept) inside) h)
     (c.in_err-closing_tag.ensures.gives start c.args.cursor.now.span o (sym is.0 ∙ sym c.as_str.ensures.value)))
@@ -105,7 +106,7 @@ blocks::definition-returns-clause-gives t c = λ path stands start.
     let may = sym stands.outermost ∙ c.in_ok-check_outermost.ensures.stands in
     let (o, named, is) = c.in_ok-opened.ensures.gives in
     let seen = seen_of c.args.names.now in
-    let kept = component_kept seen.blocks seen.components (names_of c.opening_tag.new.seen.entries) (component_text o.name) (c.in_ok-opened.ensures.kept ∙ ap (λ t. seen.components ++ t ∷ []) is.0) in
+    let kept = component_kept seen.blocks seen.components (met_of c.opening_tag.new.seen) (component_text o.name) (c.in_ok-opened.ensures.kept ∙ ap (λ t. meet t seen.components) is.0) in
     let (b, inside, shows) = c.in_ok-inside.ensures.gives path stands in
     let (h, ended) = c.in_ok-closing_tag.ensures.gives start c.args.cursor.now.span o (sym is.0 ∙ sym c.as_str.ensures.value) in
     let whole = same_definition o _ _ _ _ _ _ is.0 is.1.0 is.1.1 is.2 shows ∙ ending_keeps start _ o _ _ h _ ended in (

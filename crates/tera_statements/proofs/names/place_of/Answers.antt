@@ -2,4 +2,4 @@ use Rattle.tera_statements.proofs.Knowing.{known_as}
 use Rattle.tera_statements.proofs.names.place_of.Goals as goal
 
 pub returns : goal.returns
-returns c = known_as c.args.name.now c.args.names.now.entries c.get.result c.get.ensures.value
+returns c = known_as c.args.names.now c.args.name.now c.get.result c.get.ensures.value

@@ -1,6 +1,6 @@
 use Rattle.std.proofs.Common.{inr, sym, ap, ◌∙◌}
 use Rattle.std.specs.Option.{is_some}
-use Rattle.tera_statements.specs.Known.{names_of}
+use Rattle.tera_statements.specs.Known.{met_of}
 use Rattle.tera_expect.specs.Taking.{name_at}
 use Rattle.tera_statements.proofs.Parametering.{fresh_given, named_again}
 use Rattle.tera_statements.proofs.parameters.fresh_name.Goals as goal
@@ -8,9 +8,9 @@ use Rattle.tera_statements.proofs.parameters.fresh_name.Goals as goal
 pub returns-in-Some-clause-gives : goal.returns-in-Some-clause-gives
 returns-in-Some-clause-gives c =
     let known = sym c.place_of.ensures ∙ ap is_some c.in-Some.is in
-    inr (named_again (names_of c.args.seen.now.entries) _ _ (name_at c.name.new.cursor.span c.in_ok-name.name) c.in_ok-name.ensures.gives (sym c.eq.ensures ∙ c.if-eq.false) known)
+    inr (named_again (met_of c.args.seen.now) _ _ (name_at c.name.new.cursor.span c.in_ok-name.name) c.in_ok-name.ensures.gives (sym c.eq.ensures ∙ c.if-eq.false) known)
 
 pub returns-in-None-clause-gives : goal.returns-in-None-clause-gives
 returns-in-None-clause-gives c =
     let unknown = sym c.place_of.ensures ∙ ap is_some c.in-None.is in
-    fresh_given (names_of c.args.seen.now.entries) _ _ (name_at c.name.new.cursor.span c.in_ok-name.name) c.in_ok-name.ensures.gives (sym c.eq.ensures ∙ c.if-eq.false) unknown
+    fresh_given (met_of c.args.seen.now) _ _ (name_at c.name.new.cursor.span c.in_ok-name.name) c.in_ok-name.ensures.gives (sym c.eq.ensures ∙ c.if-eq.false) unknown

@@ -1,7 +1,8 @@
-use Rattle.std.proofs.Common.{◌++◌, ◌∷◌, [], sym, ap, ◌∙◌}
+use Rattle.std.proofs.Common.{sym, ap, ◌∙◌}
 use Rattle.std.proofs.lemmas.Result.{err_from_is_err_and}
 use Rattle.tera_grammar.specs.statements.Reading.Components as reading
-use Rattle.tera_statements.specs.Known.{names_of}
+use Rattle.tera_grammar.specs.statements.Reading.Meeting.{meet}
+use Rattle.tera_statements.specs.Known.{met_of}
 use Rattle.tera_statements.specs.Parameters.{has_default}
 use Rattle.tera_parts.specs.Rooms.{limits_of}
 use Rattle.tera_expect.specs.Taking.{name_at}
@@ -12,7 +13,7 @@ use Rattle.tera_statements.proofs.parameters.parameter.Goals as goal
 pub returns-in_err-name-clause-gives : goal.returns-in_err-name-clause-gives
 returns-in_err-name-clause-gives c =
     let l = limits_of c.args.setting.now.limits in
-    let seen = names_of c.args.seen.now.entries in
+    let seen = met_of c.args.seen.now in
     let ts = c.args.cursor.now.left in
     let (at, is, opens) = at_read c.eat-implicit.result c.args.cursor.now c.eat-implicit.new.cursor c.eat-implicit.ensures in
     let p = err_from_is_err_and c.from_residual.result c.from_residual.ensures.1 in
@@ -21,7 +22,7 @@ returns-in_err-name-clause-gives c =
 pub returns-in_err-typ-clause-gives : goal.returns-in_err-typ-clause-gives
 returns-in_err-typ-clause-gives c =
     let l = limits_of c.args.setting.now.limits in
-    let seen = names_of c.args.seen.now.entries in
+    let seen = met_of c.args.seen.now in
     let ts = c.args.cursor.now.left in
     let (at, is, opens) = at_read c.eat-implicit.result c.args.cursor.now c.eat-implicit.new.cursor c.eat-implicit.ensures in
     let p = err_from_is_err_and c.from_residual-in_err-typ.result c.from_residual-in_err-typ.ensures.1 in
@@ -31,7 +32,7 @@ returns-in_err-typ-clause-gives c =
 pub returns-in_err-default-clause-gives : goal.returns-in_err-default-clause-gives
 returns-in_err-default-clause-gives c =
     let l = limits_of c.args.setting.now.limits in
-    let seen = names_of c.args.seen.now.entries in
+    let seen = met_of c.args.seen.now in
     let ts = c.args.cursor.now.left in
     let (at, is, opens) = at_read c.eat-implicit.result c.args.cursor.now c.eat-implicit.new.cursor c.eat-implicit.ensures in
     let p = err_from_is_err_and c.from_residual-in_err-default.result c.from_residual-in_err-default.ensures.1 in
@@ -42,7 +43,7 @@ returns-in_err-default-clause-gives c =
 pub returns-in_err-check_default-clause-gives : goal.returns-in_err-check_default-clause-gives
 returns-in_err-check_default-clause-gives c =
     let l = limits_of c.args.setting.now.limits in
-    let seen = names_of c.args.seen.now.entries in
+    let seen = met_of c.args.seen.now in
     let ts = c.args.cursor.now.left in
     let (at, is, opens) = at_read c.eat-implicit.result c.args.cursor.now c.eat-implicit.new.cursor c.eat-implicit.ensures in
     let p = err_from_is_err_and c.from_residual-in_err-check_default.result c.from_residual-in_err-check_default.ensures.1 in
@@ -55,7 +56,7 @@ returns-in_err-check_default-clause-gives c =
 pub returns-clause-gives : goal.returns-clause-gives
 returns-clause-gives c =
     let l = limits_of c.args.setting.now.limits in
-    let seen = names_of c.args.seen.now.entries in
+    let seen = met_of c.args.seen.now in
     let ts = c.args.cursor.now.left in
     let (at, is, opens) = at_read c.eat-implicit.result c.args.cursor.now c.eat-implicit.new.cursor c.eat-implicit.ensures in
     let n = name_at c.fresh_name.new.cursor.span c.in_ok-name.name in
@@ -68,4 +69,4 @@ returns-clause-gives c =
     )
 
 pub returns-clause-kept : goal.returns-clause-kept
-returns-clause-kept c = c.in_ok-keep_name.ensures.kept ∙ ap (λ t. names_of c.args.seen.now.entries ++ t ∷ []) (sym c.in_ok-from_str.ensures.ok)
+returns-clause-kept c = c.in_ok-keep_name.ensures.kept ∙ ap (λ t. meet t (met_of c.args.seen.now)) (sym c.in_ok-from_str.ensures.ok)

@@ -1,4 +1,4 @@
-use Rattle.std.proofs.Common.{[], ◌∷◌, ◌++◌, None, Some, refl, sym, ap, ◌∙◌}
+use Rattle.std.proofs.Common.{None, Some, refl, sym, ap, ◌∙◌}
 use Rattle.std.proofs.lemmas.Result.{err_from_is_err_and}
 use Rattle.tera_grammar.specs.expressions.Marks.{Comma, RightParen, Spread}
 use Rattle.tera_grammar.specs.expressions.Reading.Front.{takes}
@@ -6,7 +6,9 @@ use Rattle.tera_grammar.specs.statements.Components.{Closed, Final, Rest}
 use Rattle.tera_grammar.specs.statements.Reading.Components.{parameter_of}
 use Rattle.tera_grammar.specs.statements.Types.{put_name}
 use Rattle.tera_grammar.proofs.statements.Loops.{listing_ends, listing_refused, listing_starts}
-use Rattle.tera_statements.specs.Known.{names_of}
+use Rattle.tera_grammar.specs.statements.Reading.Meeting.{meet}
+use Rattle.tera_statements.specs.Known.{met_of}
+use Rattle.tera_statements.proofs.Knowing.{empty_met}
 use Rattle.tera_statements.specs.Parameters.{arguments_view}
 use Rattle.tera_parts.specs.Rooms.{limits_of}
 use Rattle.tera_expect.proofs.Going.{goes_further, goes_took, refused_behind, refused_further, stays, took_all, took_further, took_goes, took_size}
@@ -16,8 +18,8 @@ use Rattle.tera_statements.proofs.parameters.read_parameters.Goals as goal
 
 pub parameters-init : goal.parameters-init
 parameters-init c = record {
-  listing = listing_starts (limits_of c.args.setting.now.limits) c.args.cursor.now.left c.args.cursor.now.left (names_of c.new-seen.result.entries) (arguments_view c.new-arguments.result.entries)
-      (ap arguments_view c.new-arguments.ensures.empty) (ap names_of c.new-seen.ensures.empty) refl;
+  listing = listing_starts (limits_of c.args.setting.now.limits) c.args.cursor.now.left c.args.cursor.now.left (met_of c.new-seen.result) (arguments_view c.new-arguments.result.entries)
+      (ap arguments_view c.new-arguments.ensures.empty) (empty_met c.new-seen.result c.new-seen.ensures.empty) refl;
   later = stays c.args.cursor.now;
 }
 
@@ -25,7 +27,7 @@ pub returns-then-eat-clause-gives : goal.returns-then-eat-clause-gives
 returns-then-eat-clause-gives c =
     let l = limits_of c.args.setting.now.limits in
     let here = c.parameters.cursor.left in
-    let seen = names_of c.parameters.seen.entries in
+    let seen = met_of c.parameters.seen in
     let end = rw c.if-eat.true at c.eat.ensures in
     let (ps, read, puts, rest) = listing_ends l c.args.cursor.now.left here seen _ (Closed c.eat.new.cursor.span, c.eat.new.cursor.left) c.parameters.invariant.listing
     (closed_there l seen here c.eat.new.cursor.span c.eat.new.cursor.left end.0) in
@@ -35,7 +37,7 @@ pub returns-in_err-rest_parameter-clause-gives : goal.returns-in_err-rest_parame
 returns-in_err-rest_parameter-clause-gives c =
     let l = limits_of c.args.setting.now.limits in
     let here = c.parameters.cursor.left in
-    let seen = names_of c.parameters.seen.entries in
+    let seen = met_of c.parameters.seen in
     let no_end = rw c.if-eat.false at c.eat.ensures in
     let dots = rw c.if-eat-2.true at c.eat-in-parameters.ensures in
     let there = same_place (takes Spread) c.parameters.cursor c.eat.new.cursor _ no_end.1 dots.0 in
@@ -46,7 +48,7 @@ pub returns-then-eat-2-clause-gives : goal.returns-then-eat-2-clause-gives
 returns-then-eat-2-clause-gives c =
     let l = limits_of c.args.setting.now.limits in
     let here = c.parameters.cursor.left in
-    let seen = names_of c.parameters.seen.entries in
+    let seen = met_of c.parameters.seen in
     let no_end = rw c.if-eat.false at c.eat.ensures in
     let dots = rw c.if-eat-2.true at c.eat-in-parameters.ensures in
     let there = same_place (takes Spread) c.parameters.cursor c.eat.new.cursor _ no_end.1 dots.0 in
@@ -59,7 +61,7 @@ pub returns-in_err-name-clause-gives : goal.returns-in_err-name-clause-gives
 returns-in_err-name-clause-gives c =
     let l = limits_of c.args.setting.now.limits in
     let here = c.parameters.cursor.left in
-    let seen = names_of c.parameters.seen.entries in
+    let seen = met_of c.parameters.seen in
     let no_end = rw c.if-eat.false at c.eat.ensures in
     let no_dots = rw c.if-eat-2.false at c.eat-in-parameters.ensures in
     let other = same_place (takes Spread) c.parameters.cursor c.eat.new.cursor None no_end.1 no_dots.0 in
@@ -71,7 +73,7 @@ pub returns-then-eat-3-clause-gives : goal.returns-then-eat-3-clause-gives
 returns-then-eat-3-clause-gives c =
     let l = limits_of c.args.setting.now.limits in
     let here = c.parameters.cursor.left in
-    let seen = names_of c.parameters.seen.entries in
+    let seen = met_of c.parameters.seen in
     let no_end = rw c.if-eat.false at c.eat.ensures in
     let no_dots = rw c.if-eat-2.false at c.eat-in-parameters.ensures in
     let other = same_place (takes Spread) c.parameters.cursor c.eat.new.cursor None no_end.1 no_dots.0 in
@@ -86,7 +88,7 @@ pub returns-in_err-expect-clause-gives : goal.returns-in_err-expect-clause-gives
 returns-in_err-expect-clause-gives c =
     let l = limits_of c.args.setting.now.limits in
     let here = c.parameters.cursor.left in
-    let seen = names_of c.parameters.seen.entries in
+    let seen = met_of c.parameters.seen in
     let no_end = rw c.if-eat.false at c.eat.ensures in
     let no_dots = rw c.if-eat-2.false at c.eat-in-parameters.ensures in
     let other = same_place (takes Spread) c.parameters.cursor c.eat.new.cursor None no_end.1 no_dots.0 in
@@ -101,7 +103,7 @@ pub parameters-preserved : goal.parameters-preserved
 parameters-preserved c =
     let l = limits_of c.args.setting.now.limits in
     let here = c.parameters.cursor.left in
-    let seen = names_of c.parameters.seen.entries in
+    let seen = met_of c.parameters.seen in
     let no_end = rw c.if-eat.false at c.eat.ensures in
     let no_dots = rw c.if-eat-2.false at c.eat-in-parameters.ensures in
     let other = same_place (takes Spread) c.parameters.cursor c.eat.new.cursor None no_end.1 no_dots.0 in
@@ -116,7 +118,7 @@ parameters-preserved c =
     let behind = took_all _ _ _ (took_further _ _ _ c.in_ok-name.ensures.later third) c.in_ok-expect.ensures.later in
     record {
       listing = listing_more l c.args.cursor.now.left here seen _ _ _ c.parameters.invariant.listing no_end.0 other q _ there no_last.0 _ _ comma
-          (c.in_ok-name.ensures.kept ∙ ap (λ t. seen ++ t ∷ []) is.0)
+          (c.in_ok-name.ensures.kept ∙ ap (λ t. meet t seen) is.0)
           (c.in_ok-put_argument.ensures.puts ∙ (λ i. put_name (is.0 i) (is.1 i) (arguments_view c.parameters.arguments.entries)));
       later = goes_further _ _ _ c.parameters.invariant.later (took_goes _ _ (goes_took _ _ _ ahead behind));
     }
