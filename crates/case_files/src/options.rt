@@ -35,6 +35,14 @@ pub enum Shown {
     Filter,
     /// The attributes of a component behind the first token.
     Attributes,
+    /// The arguments with their parentheses behind the first token.
+    Arguments,
+    /// The names joined by dots behind the first token.
+    Name,
+    /// The array of constants behind the first token.
+    Array,
+    /// The map of constants behind the first token.
+    Map,
     /// Whether the source names markers that a template can be read with.
     Markers,
     /// Whether the source names limits that a template can be read within.
@@ -74,6 +82,8 @@ pub struct Options {
     pub escapes: bool,
     /// The sources are too long to try each of their beginnings.
     pub uncut: bool,
+    /// Each answer is asked for again where memory is refused.
+    pub refused: bool,
 }
 
 impl Numbers {
@@ -120,6 +130,7 @@ impl Options {
             in_loop: false,
             escapes: false,
             uncut: false,
+            refused: false,
         }
     }
 
@@ -146,6 +157,7 @@ impl Options {
             "in a loop" => self.in_loop = true,
             "escapes" => self.escapes = true,
             "uncut" => self.uncut = true,
+            "memory refused" => self.refused = true,
             _ => return wrong(line, "an option that is unknown"),
         }
         Ok(())
@@ -168,6 +180,10 @@ fn what_is_shown(line: usize, text: &str) -> Result<Shown, CaseError> {
         "expression" => Shown::Expression,
         "filter" => Shown::Filter,
         "attributes" => Shown::Attributes,
+        "arguments" => Shown::Arguments,
+        "name" => Shown::Name,
+        "array" => Shown::Array,
+        "map" => Shown::Map,
         "markers" => Shown::Markers,
         "limits" => Shown::Limits,
         _ => return wrong(line, "an option that shows what is unknown"),

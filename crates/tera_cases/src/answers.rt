@@ -6,12 +6,15 @@ use crate::cursors::trace;
 use crate::faults::{Detail, error_text};
 use crate::fronts::front;
 use crate::parameters::parameters;
-use crate::settings::{Setting, limits_of, markers_of, read};
+use crate::settings::{Setting, limits_of, markers_of};
+use crate::shown::{is_shown, told_lines};
 use crate::spans::spans;
 use crate::tokens::listing;
+use crate::trees::{Use, read};
 use crate::written::written_back;
 use case_files::{Options, Shown, words};
 use std::alloc::{AllocError, Global};
+use tera_base::Error;
 use tera_parser::ParserOutput;
 use tera_show::tree_text;
 
@@ -19,55 +22,91 @@ use tera_show::tree_text;
 pub(crate) fn answer(
     alloc: Global,
     setting: &Setting<'_>,
-    options: &Options,
     source: &str,
 ) -> Result<String, AllocError> {
-    match options.shown {
+    match setting.options.shown {
         Shown::Beginnings => lengths(alloc, setting, source),
         Shown::Tokens | Shown::TokenPlaces | Shown::TokenNames => {
-            listing(alloc, setting, options.shown, source)
+            listing(alloc, setting, source)
         }
         Shown::Cursor => trace(alloc, setting, source),
-        Shown::Expression | Shown::Filter | Shown::Attributes => {
-            front(alloc, setting, options.shown, source)
-        }
+        Shown::Expression
+        | Shown::Filter
+        | Shown::Attributes
+        | Shown::Arguments
+        | Shown::Name
+        | Shown::Array
+        | Shown::Map => { front(alloc, setting, source) }
         Shown::Markers => are_markers(alloc, source),
-        Shown::Limits => are_limits(alloc, options, source),
+        Shown::Limits => are_limits(alloc, setting.options, source),
+        Shown::Tree if setting.options.markers.is_empty() => tree(alloc, setting, source),
         Shown::Tree
         | Shown::Ends
         | Shown::Spans
         | Shown::WrittenBack
         | Shown::Context
-        | Shown::Parameters => of_template(alloc, setting, options, source),
+        | Shown::Parameters => of_template(alloc, setting, source),
     }
 }
 
-// What is shown of the template, or of its fault. No tree is held where something may fail: it is shown by a call
-// that takes a reference.
-fn of_template(
-    alloc: Global,
-    setting: &Setting<'_>,
-    options: &Options,
-    source: &str,
-) -> Result<String, AllocError> {
-    match read(alloc, setting, source) {
-        Ok(output) => of_tree(alloc, setting, options, &output),
-        Err(error) => error_text(alloc, setting.file, detail_of(options.shown), &error),
+/// Whether what is shown of a source is shown of its tree.
+pub(crate) fn is_template(shown: Shown) -> bool {
+    matches!(
+        shown,
+        Shown::Tree
+            | Shown::Ends
+            | Shown::Spans
+            | Shown::WrittenBack
+            | Shown::Context
+            | Shown::Parameters
+    )
+}
+
+// The tree or the fault, where `show` writes it too.
+fn tree(alloc: Global, setting: &Setting<'_>, source: &str) -> Result<String, AllocError> {
+    let answer = of_template(alloc, setting, source)?;
+    if is_shown(alloc, setting, source, answer.as_str())? {
+        Ok(answer)
+    } else {
+        format!(in alloc; "{answer}, which is not shown")
     }
 }
 
-fn of_tree(
+// What is shown of the template, or of its fault.
+fn of_template(alloc: Global, setting: &Setting<'_>, source: &str) -> Result<String, AllocError> {
+    read(alloc, setting, source, &Showing { setting })
+}
+
+#[derive(Drop)]
+struct Showing<'a> {
+    setting: &'a Setting<'a>,
+}
+
+impl Use for Showing<'_> {
+    type Made = String;
+
+    fn of_tree(&self, alloc: Global, output: &ParserOutput) -> Result<String, AllocError> {
+        of_tree(alloc, self.setting, output)
+    }
+
+    fn of_fault(&self, alloc: Global, error: &Error) -> Result<String, AllocError> {
+        let detail = detail_of(self.setting.options.shown);
+        error_text(alloc, self.setting.file, detail, error)
+    }
+}
+
+/// What is shown of the tree.
+pub(crate) fn of_tree(
     alloc: Global,
     setting: &Setting<'_>,
-    options: &Options,
     output: &ParserOutput,
 ) -> Result<String, AllocError> {
-    match options.shown {
+    match setting.options.shown {
         Shown::Spans => spans(alloc, output),
         Shown::WrittenBack => written_back(alloc, setting, output),
         Shown::Context => context(alloc, setting.file, output),
         Shown::Parameters => parameters(alloc, output),
-        _ => lines(alloc, options, output),
+        _ => lines(alloc, setting.options, output),
     }
 }
 
@@ -78,17 +117,10 @@ fn detail_of(shown: Shown) -> Detail {
     }
 }
 
-// The lines of the tree; of an expression that is all of it the text alone.
 fn lines(alloc: Global, options: &Options, output: &ParserOutput) -> Result<String, AllocError> {
-    let Ok(text) = tree_text(alloc, output) else {
-        return Err(AllocError);
-    };
-    let text = text.as_str();
-    let lines = text.strip_suffix("\n").unwrap_or(text);
-    if options.expressions {
-        String::from_str(alloc, lines.strip_prefix("expr ").unwrap_or(lines))
-    } else {
-        String::from_str(alloc, lines)
+    match tree_text(alloc, output) {
+        Ok(text) => String::from_str(alloc, told_lines(options, text.as_str())),
+        Err(_) => Err(AllocError),
     }
 }
 

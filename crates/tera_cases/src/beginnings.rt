@@ -1,29 +1,55 @@
 //! Beginnings of a source.
 
-use crate::settings::{Setting, read};
+use crate::settings::Setting;
+use crate::trees::{Use, read};
 use std::alloc::{AllocError, Global};
 use tera_base::{Error, ErrorKind};
+use tera_parser::ParserOutput;
 
-/// Whether the source has neither a tree nor a fault that stands in it.
-pub(crate) fn refused_badly(
+/// What a beginning of a source is.
+#[derive(Clone, Copy)]
+pub(crate) enum Beginning {
+    Template,
+    /// It has a fault that stands in it.
+    Refused,
+    /// It has neither a tree nor such a fault.
+    Wrong,
+}
+
+pub(crate) fn beginning_of(
     alloc: Global,
     setting: &Setting<'_>,
     source: &str,
-) -> Result<bool, AllocError> {
-    match read(alloc, setting, source) {
-        Ok(_output) => Ok(false),
-        Err(error) => lies_outside(&error, source.len()),
-    }
+) -> Result<Beginning, AllocError> {
+    let length = source.len();
+    read(alloc, setting, source, &Cutting { length })
 }
 
-// Whether the error is no fault that stands in a source of this length.
-fn lies_outside(error: &Error, length: usize) -> Result<bool, AllocError> {
-    match &error.kind {
-        ErrorKind::Memory => Err(AllocError),
-        ErrorKind::Message(_) => Ok(true),
-        ErrorKind::SyntaxError(report) => {
-            let range = &report.span.range;
-            Ok(range.end < range.start || length < range.end)
+// A source of this length.
+#[derive(Drop)]
+struct Cutting {
+    length: usize,
+}
+
+impl Use for Cutting {
+    type Made = Beginning;
+
+    fn of_tree(&self, _alloc: Global, _output: &ParserOutput) -> Result<Beginning, AllocError> {
+        Ok(Beginning::Template)
+    }
+
+    fn of_fault(&self, _alloc: Global, error: &Error) -> Result<Beginning, AllocError> {
+        match &error.kind {
+            ErrorKind::Memory => Err(AllocError),
+            ErrorKind::Message(_) => Ok(Beginning::Wrong),
+            ErrorKind::SyntaxError(report) => {
+                let range = &report.span.range;
+                if range.start <= range.end && range.end <= self.length {
+                    Ok(Beginning::Refused)
+                } else {
+                    Ok(Beginning::Wrong)
+                }
+            }
         }
     }
 }
@@ -47,14 +73,13 @@ pub(crate) fn lengths(
         let Some(beginning) = source.get(..at) else {
             continue;
         };
-        let is_read = read(alloc, setting, beginning).is_ok();
-        open = match (open, is_read) {
-            (Some(run), true) => Some(Run { last: at, ..run }),
-            (None, true) => Some(Run {
+        open = match (open, beginning_of(alloc, setting, beginning)?) {
+            (Some(run), Beginning::Template) => Some(Run { last: at, ..run }),
+            (None, Beginning::Template) => Some(Run {
                 first: at,
                 last: at,
             }),
-            (run, false) => {
+            (run, _) => {
                 push_run(alloc, &mut all, run)?;
                 None
             }

@@ -26,7 +26,8 @@ pub(crate) fn broken(
     Ok(None)
 }
 
-fn equals_its_copy(output: &ParserOutput) -> Result<bool, AllocError> {
+/// Whether a copy of the tree equals it.
+pub(crate) fn equals_its_copy(output: &ParserOutput) -> Result<bool, AllocError> {
     match output.clone() {
         Ok(copy) => Ok(copy == *output),
         Err(error) => Err(error),

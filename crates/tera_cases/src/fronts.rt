@@ -4,8 +4,11 @@ use crate::faults::{Detail, error_text};
 use crate::settings::Setting;
 use case_files::Shown;
 use std::alloc::{AllocError, Global};
-use tera_base::Error;
-use tera_expr::{Scope, attributes, expression, filter};
+use std::collections::BTreeMap;
+use tera_base::{Error, Value};
+use tera_expr::{
+    Scope, attributes, component_name, expression, filter, kwargs, literal_array, literal_map,
+};
 use tera_lexer::{Cursor, tokenize};
 use tera_tree::{Expression, MapEntry};
 
@@ -13,7 +16,6 @@ use tera_tree::{Expression, MapEntry};
 pub(crate) fn front(
     alloc: Global,
     setting: &Setting<'_>,
-    shown: Shown,
     source: &str,
 ) -> Result<String, AllocError> {
     let delimiters = setting.delimiters.clone()?;
@@ -21,15 +23,16 @@ pub(crate) fn front(
         return Ok(String::new(alloc));
     }
     let scope = Scope {
-        in_loop: setting.in_loop,
+        in_loop: setting.options.in_loop,
         limits: setting.limits,
     };
     let mut cursor = Cursor::new(tokenize(alloc, source, delimiters));
-    let answer = behind_first(alloc, &mut cursor, scope, shown);
+    let answer = behind_first(alloc, &mut cursor, scope, setting.options.shown);
     let end = cursor.current_span().range.end;
     match answer {
         Ok(text) => format!(in alloc; "{text}, up to {end}"),
-        Err(error) => error_text(alloc, setting.file, Detail::Start, &error),
+        // Notes are about no file yet.
+        Err(error) => error_text(alloc, "", Detail::Start, &error),
     }
 }
 
@@ -46,6 +49,13 @@ fn behind_first(
     match shown {
         Shown::Filter => expression_text(alloc, filter(alloc, cursor, scope)),
         Shown::Attributes => attributes_text(alloc, attributes(alloc, cursor, scope)),
+        Shown::Arguments => arguments_text(alloc, kwargs(alloc, cursor, scope)),
+        Shown::Name => component_name(alloc, cursor),
+        Shown::Array => value_text(alloc, literal_array(alloc, cursor, scope.limits)),
+        Shown::Map => {
+            let read = literal_map(alloc, cursor, "default argument", scope.limits);
+            value_text(alloc, read)
+        }
         _ => expression_text(alloc, expression(alloc, cursor, scope)),
     }
 }
@@ -79,4 +89,38 @@ fn row_text(alloc: Global, attributes: &Vec<MapEntry>) -> Result<String, Error> 
         all.push_str(text.as_str())?;
     }
     Ok(all)
+}
+
+fn arguments_text(
+    alloc: Global,
+    read: Result<BTreeMap<String, Expression>, Error>,
+) -> Result<String, Error> {
+    match read {
+        Ok(arguments) => pairs_text(alloc, &arguments),
+        Err(error) => Err(error),
+    }
+}
+
+fn pairs_text(alloc: Global, arguments: &BTreeMap<String, Expression>) -> Result<String, Error> {
+    let mut all = String::new(alloc);
+    for (name, value) in arguments {
+        if !all.is_empty() {
+            all.push_str(", ")?;
+        }
+        let name = name.as_str();
+        let text = format!(in alloc; "{name}={value}")?;
+        all.push_str(text.as_str())?;
+    }
+    Ok(all)
+}
+
+fn value_text(alloc: Global, read: Result<Value, Error>) -> Result<String, Error> {
+    match read {
+        Ok(value) => constant_text(alloc, &value),
+        Err(error) => Err(error),
+    }
+}
+
+fn constant_text(alloc: Global, value: &Value) -> Result<String, Error> {
+    Ok(format!(in alloc; "{value}")?)
 }

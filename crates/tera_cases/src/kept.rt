@@ -20,7 +20,7 @@ pub(crate) fn are_kept(
             break;
         };
         if let Part::Node(node) = part {
-            if !is_node_kept(alloc, setting, node) {
+            if !is_node_kept(alloc, setting, node)? {
                 return Ok(false);
             }
         }
@@ -30,7 +30,7 @@ pub(crate) fn are_kept(
 }
 
 // The same of the expressions of the node outside of its bodies.
-fn is_node_kept(alloc: Global, setting: &Setting<'_>, node: &Node) -> bool {
+fn is_node_kept(alloc: Global, setting: &Setting<'_>, node: &Node) -> Result<bool, AllocError> {
     match node {
         Node::Expression(Expression::ComponentCall(call)) if !call.node().self_closing => {
             are_attributes_kept(alloc, setting, &call.node().kwargs)
@@ -41,24 +41,32 @@ fn is_node_kept(alloc: Global, setting: &Setting<'_>, node: &Node) -> bool {
         Node::ForLoop(turns) => is_kept(alloc, setting, &turns.target),
         Node::If(choice) => is_kept(alloc, setting, &choice.expr),
         Node::FilterSection(section) => are_filters_kept(alloc, setting, &section.filters),
-        _ => true,
+        _ => Ok(true),
     }
 }
 
 // The same of the attributes of a call with a body.
-fn are_attributes_kept(alloc: Global, setting: &Setting<'_>, attributes: &Vec<MapEntry>) -> bool {
+fn are_attributes_kept(
+    alloc: Global,
+    setting: &Setting<'_>,
+    attributes: &Vec<MapEntry>,
+) -> Result<bool, AllocError> {
     for attribute in attributes {
-        if !is_attribute_kept(alloc, setting, attribute) {
-            return false;
+        if !is_attribute_kept(alloc, setting, attribute)? {
+            return Ok(false);
         }
     }
-    true
+    Ok(true)
 }
 
 // A name alone is no expression.
-fn is_attribute_kept(alloc: Global, setting: &Setting<'_>, attribute: &MapEntry) -> bool {
+fn is_attribute_kept(
+    alloc: Global,
+    setting: &Setting<'_>,
+    attribute: &MapEntry,
+) -> Result<bool, AllocError> {
     match attribute {
-        MapEntry::KeyValue { key, value } if is_name_alone(key, value) => true,
+        MapEntry::KeyValue { key, value } if is_name_alone(key, value) => Ok(true),
         MapEntry::KeyValue { key: _, value } => is_kept(alloc, setting, value),
         MapEntry::Spread(expression) => is_kept(alloc, setting, expression),
     }
@@ -74,23 +82,31 @@ fn is_name_alone(key: &Key, value: &Expression) -> bool {
 }
 
 // The same of the arguments of filters that stand behind no expression.
-fn are_filters_kept(alloc: Global, setting: &Setting<'_>, filters: &Vec<Expression>) -> bool {
+fn are_filters_kept(
+    alloc: Global,
+    setting: &Setting<'_>,
+    filters: &Vec<Expression>,
+) -> Result<bool, AllocError> {
     for filter in filters {
-        if !are_arguments_kept(alloc, setting, filter) {
-            return false;
+        if !are_arguments_kept(alloc, setting, filter)? {
+            return Ok(false);
         }
     }
-    true
+    Ok(true)
 }
 
-fn are_arguments_kept(alloc: Global, setting: &Setting<'_>, filter: &Expression) -> bool {
+fn are_arguments_kept(
+    alloc: Global,
+    setting: &Setting<'_>,
+    filter: &Expression,
+) -> Result<bool, AllocError> {
     let Expression::Filter(filter) = filter else {
-        return true;
+        return Ok(true);
     };
     for (_name, value) in filter.node().kwargs.iter() {
-        if !is_kept(alloc, setting, value) {
-            return false;
+        if !is_kept(alloc, setting, value)? {
+            return Ok(false);
         }
     }
-    true
+    Ok(true)
 }

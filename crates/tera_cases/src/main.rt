@@ -13,11 +13,14 @@ mod fronts;
 mod kept;
 mod parameters;
 mod parts;
+mod refusals;
 mod settings;
+mod shown;
 mod soundness;
 mod spans;
 mod subject;
 mod tokens;
+mod trees;
 mod written;
 
 use crate::subject::{Count, Stop, compare_all};
@@ -26,7 +29,7 @@ use std::process::ExitCode;
 use std::{env, fs};
 
 // How a run ended.
-#[derive(Clone, Copy, PartialEq, Eq)]
+#[derive(Clone, Copy)]
 enum End {
     // Each answer is what is wanted.
     Equal,

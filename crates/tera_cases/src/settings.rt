@@ -3,25 +3,23 @@
 use case_files::{Numbers, Options};
 use std::alloc::{AllocError, Global};
 use std::borrow::CowStr;
-use tera_base::Error;
 use tera_expr::Limits;
 use tera_lexer::Delimiters;
-use tera_parser::{Parser, ParserOutput};
 
-/// Markers and limits, and the file that faults are about.
+/// Options of a section with their markers and limits, and the file that faults are about.
 #[derive(Drop)]
 pub(crate) struct Setting<'a> {
     pub(crate) file: &'a str,
+    pub(crate) options: &'a Options,
     pub(crate) delimiters: Delimiters,
     pub(crate) limits: Limits,
-    pub(crate) in_loop: bool,
 }
 
 /// The setting of the options, if a template can be read with them.
 pub(crate) fn setting_of<'a>(
     alloc: Global,
     file: &'a str,
-    options: &Options,
+    options: &'a Options,
 ) -> Result<Option<Setting<'a>>, AllocError> {
     let delimiters = markers_of(options.markers.as_slice())?;
     let limits = limits_of(options.limits);
@@ -30,9 +28,9 @@ pub(crate) fn setting_of<'a>(
     }
     Ok(Some(Setting {
         file,
+        options,
         delimiters,
         limits,
-        in_loop: options.in_loop,
     }))
 }
 
@@ -75,38 +73,12 @@ pub(crate) fn limits_of(numbers: Numbers) -> Limits {
 pub(crate) fn source_of_case(
     alloc: Global,
     setting: &Setting<'_>,
-    options: &Options,
     source: &str,
 ) -> Result<String, AllocError> {
-    if !options.expressions {
+    if !setting.options.expressions {
         return String::from_str(alloc, source);
     }
     let start = setting.delimiters.variable_start.as_str();
     let end = setting.delimiters.variable_end.as_str();
     format!(in alloc; "{start} {source} {end}")
-}
-
-/// The tree of the source.
-pub(crate) fn read(
-    alloc: Global,
-    setting: &Setting<'_>,
-    source: &str,
-) -> Result<ParserOutput, Error> {
-    let delimiters = setting.delimiters.clone()?;
-    read_between(alloc, setting, delimiters, source)
-}
-
-/// The tree of the source between these markers.
-pub(crate) fn read_between(
-    alloc: Global,
-    setting: &Setting<'_>,
-    delimiters: Delimiters,
-    source: &str,
-) -> Result<ParserOutput, Error> {
-    delimiters.validate(alloc)?;
-    let limits = setting.limits;
-    if !limits.valid() {
-        return Err(Error::message(alloc, "no limits"));
-    }
-    Parser::with_limits(alloc, setting.file, source, delimiters, limits).parse()
 }

@@ -2,12 +2,14 @@
 
 use crate::faces::broken;
 use crate::kept::are_kept;
-use crate::settings::{Setting, read};
+use crate::settings::Setting;
+use crate::trees::{Use, read};
 use std::alloc::{AllocError, Global};
+use tera_base::Error;
 use tera_parser::ParserOutput;
 
 /// Whether a source has a tree of which all holds that has to.
-#[derive(Clone, Copy, Debug, PartialEq, Eq)]
+#[derive(Clone, Copy)]
 pub(crate) enum Soundness {
     NoTree,
     Sound,
@@ -15,14 +17,29 @@ pub(crate) enum Soundness {
     Broken(&'static str),
 }
 
+/// Whether the source has such a tree.
 pub(crate) fn soundness_of(
     alloc: Global,
     setting: &Setting<'_>,
     source: &str,
 ) -> Result<Soundness, AllocError> {
-    match read(alloc, setting, source) {
-        Ok(output) => of_tree(alloc, setting, &output),
-        Err(_) => Ok(Soundness::NoTree),
+    read(alloc, setting, source, &Sounding { setting })
+}
+
+#[derive(Drop)]
+struct Sounding<'a> {
+    setting: &'a Setting<'a>,
+}
+
+impl Use for Sounding<'_> {
+    type Made = Soundness;
+
+    fn of_tree(&self, alloc: Global, output: &ParserOutput) -> Result<Soundness, AllocError> {
+        of_tree(alloc, self.setting, output)
+    }
+
+    fn of_fault(&self, _alloc: Global, _error: &Error) -> Result<Soundness, AllocError> {
+        Ok(Soundness::NoTree)
     }
 }
 

@@ -1,14 +1,15 @@
 //! The cases of one file, compared.
 
 use crate::answers::answer;
-use crate::beginnings::refused_badly;
+use crate::beginnings::{Beginning, beginning_of};
+use crate::refusals::wrong_refusals;
 use crate::settings::{Setting, setting_of, source_of_case};
 use crate::soundness::{Soundness, soundness_of};
 use case_files::{Case, Options, Section, Shown};
 use std::alloc::AllocError;
 
 /// How many cases were compared.
-#[derive(Clone, Copy, Debug, PartialEq, Eq)]
+#[derive(Clone, Copy)]
 pub(crate) struct Count {
     pub(crate) cases: u64,
     /// The beginnings of accepted sources that were read.
@@ -17,7 +18,7 @@ pub(crate) struct Count {
 }
 
 /// Why a file was not compared to its end.
-#[derive(Clone, Copy, Debug, PartialEq, Eq)]
+#[derive(Clone, Copy)]
 pub(crate) enum Stop {
     Memory,
     Read,
@@ -72,40 +73,58 @@ fn compare_cases(
 ) -> Result<(), Stop> {
     for case in &section.cases {
         count.cases = count.cases.saturating_add(1);
-        if !compare(rt, setting, &section.options, case, count)? {
+        if !compare(rt, setting, case, count)? {
             count.different = count.different.saturating_add(1);
         }
     }
     Ok(())
 }
 
-// Whether the answer is the one that is wanted, and each beginning of an accepted source has an answer.
+// Whether the answer is the one that is wanted, and what else is asked of the case holds.
 fn compare(
     rt: &HostRuntime,
     setting: &Setting<'_>,
-    options: &Options,
     case: &Case,
     count: &mut Count,
 ) -> Result<bool, Stop> {
     let alloc = rt.alloc();
-    let source = source_of_case(alloc, setting, options, case.source.as_str())?;
-    let found = answer(alloc, setting, options, source.as_str())?;
+    let source = source_of_case(alloc, setting, case.source.as_str())?;
+    let source = source.as_str();
+    let found = answer(alloc, setting, source)?;
     let wanted = case.wanted.as_str();
     if found.as_str() != wanted {
-        return differs(rt, setting.file, case, source.as_str(), found.as_str());
+        return differs(rt, setting.file, case, source, found.as_str());
     }
-    if options.uncut || !is_read_whole(options.shown) {
+    let options = setting.options;
+    if options.refused {
+        return match wrong_refusals(alloc, &*setting, source, wanted)? {
+            Some(what) => fails(rt, setting.file, case, what),
+            None => Ok(true),
+        };
+    }
+    if options.uncut || !is_cut(options.shown) {
         return Ok(true);
     }
-    match soundness_of(alloc, setting, source.as_str())? {
+    compare_tree(rt, setting, case, source, count)
+}
+
+// Whether the tree of the source, if it has one, is sound, and each beginning of the source has an answer.
+fn compare_tree(
+    rt: &HostRuntime,
+    setting: &Setting<'_>,
+    case: &Case,
+    source: &str,
+    count: &mut Count,
+) -> Result<bool, Stop> {
+    match soundness_of(rt.alloc(), setting, source)? {
         Soundness::NoTree => Ok(true),
         Soundness::Broken(what) => fails(rt, setting.file, case, what),
-        Soundness::Sound => cut(rt, setting, case, source.as_str(), count),
+        Soundness::Sound => cut(rt, setting, case, source, count),
     }
 }
 
-// Whether the source is read as a template.
-fn is_read_whole(shown: Shown) -> bool {
+// Whether each beginning of the source is read.
+fn is_cut(shown: Shown) -> bool {
     matches!(
         shown,
         Shown::Tree | Shown::Ends | Shown::Spans | Shown::Beginnings | Shown::WrittenBack
@@ -125,7 +144,7 @@ fn cut(
             continue;
         };
         count.beginnings = count.beginnings.saturating_add(1);
-        if refused_badly(rt.alloc(), setting, beginning)? {
+        if let Beginning::Wrong = beginning_of(rt.alloc(), setting, beginning)? {
             return badly_cut(rt, setting.file, case, at);
         }
     }

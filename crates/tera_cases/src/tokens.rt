@@ -10,7 +10,6 @@ use tera_lexer::{Token, Tokens, tokenize};
 pub(crate) fn listing(
     alloc: Global,
     setting: &Setting<'_>,
-    shown: Shown,
     source: &str,
 ) -> Result<String, AllocError> {
     let delimiters = setting.delimiters.clone()?;
@@ -18,7 +17,7 @@ pub(crate) fn listing(
         return Ok(String::new(alloc));
     }
     let mut tokens = tokenize(alloc, source, delimiters);
-    items_text(alloc, shown, &mut tokens)
+    items_text(alloc, setting.options.shown, &mut tokens)
 }
 
 fn items_text(alloc: Global, shown: Shown, tokens: &mut Tokens<'_>) -> Result<String, AllocError> {

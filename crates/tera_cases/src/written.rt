@@ -1,7 +1,8 @@
 //! Source texts of expressions that were read.
 
 use crate::faults::{Detail, error_text};
-use crate::settings::{Setting, read_between};
+use crate::settings::Setting;
+use crate::trees::{Use, read_between};
 use std::alloc::{AllocError, Global};
 use tera_base::Error;
 use tera_lexer::Delimiters;
@@ -15,32 +16,30 @@ pub(crate) fn written_back(
     setting: &Setting<'_>,
     output: &ParserOutput,
 ) -> Result<String, AllocError> {
-    match written_alone(alloc, output) {
-        Ok(first) => read_back(alloc, setting, &first),
-        Err(error) => error_text(alloc, setting.file, Detail::Start, &error),
-    }
-}
-
-fn read_back(alloc: Global, setting: &Setting<'_>, first: &Written) -> Result<String, AllocError> {
+    let first = match written_alone(alloc, setting, output)? {
+        Ok(written) => written,
+        Err(told) => return Ok(told),
+    };
     let text = first.source.as_str();
-    match written_again(alloc, setting, text) {
-        Ok(second) if second == *first => String::from_str(alloc, text),
+    match written_again(alloc, setting, text)? {
+        Ok(second) if second == first => String::from_str(alloc, text),
         Ok(second) => format!(in alloc; "{text}, and then {}", second.source),
-        Err(error) => {
-            let told = error_text(alloc, setting.file, Detail::Start, &error)?;
-            format!(in alloc; "{text}, and then {told}")
-        }
+        Err(told) => format!(in alloc; "{text}, and then {told}"),
     }
 }
 
 /// Whether the source text of the expression is read as this expression, and written again.
-pub(crate) fn is_kept(alloc: Global, setting: &Setting<'_>, expression: &Expression) -> bool {
-    match written_of(alloc, expression) {
-        Ok(first) => match written_again(alloc, setting, first.source.as_str()) {
-            Ok(second) => second == first,
-            Err(_) => false,
-        },
-        Err(_) => false,
+pub(crate) fn is_kept(
+    alloc: Global,
+    setting: &Setting<'_>,
+    expression: &Expression,
+) -> Result<bool, AllocError> {
+    let Ok(first) = written_of(alloc, setting, expression)? else {
+        return Ok(false);
+    };
+    match written_again(alloc, setting, first.source.as_str())? {
+        Ok(second) => Ok(second == first),
+        Err(_) => Ok(false),
     }
 }
 
@@ -51,25 +50,59 @@ struct Written {
     tree: String,
 }
 
-fn written_of(alloc: Global, expression: &Expression) -> Result<Written, Error> {
-    let source = source_of(alloc, expression)?;
-    let tree = format!(in alloc; "{expression}")?;
-    Ok(Written { source, tree })
+// What is written, or what a fault tells.
+type WrittenOr = Result<Written, String>;
+
+fn written_of(
+    alloc: Global,
+    setting: &Setting<'_>,
+    expression: &Expression,
+) -> Result<WrittenOr, AllocError> {
+    match source_of(alloc, expression) {
+        Ok(source) => {
+            let tree = format!(in alloc; "{expression}")?;
+            Ok(Ok(Written { source, tree }))
+        }
+        Err(error) => Ok(Err(error_text(alloc, setting.file, Detail::Start, &error)?)),
+    }
 }
 
 // The same of the expression that the output holds alone.
-fn written_alone(alloc: Global, output: &ParserOutput) -> Result<Written, Error> {
+fn written_alone(
+    alloc: Global,
+    setting: &Setting<'_>,
+    output: &ParserOutput,
+) -> Result<WrittenOr, AllocError> {
     match output.nodes.as_slice() {
-        [Node::Expression(expression)] => written_of(alloc, expression),
-        _ => Err(Error::message(alloc, "not one expression")),
+        [Node::Expression(expression)] => written_of(alloc, setting, expression),
+        _ => Ok(Err(String::from_str(alloc, "not one expression")?)),
+    }
+}
+
+#[derive(Drop)]
+struct Writing<'a> {
+    setting: &'a Setting<'a>,
+}
+
+impl Use for Writing<'_> {
+    type Made = WrittenOr;
+
+    fn of_tree(&self, alloc: Global, output: &ParserOutput) -> Result<WrittenOr, AllocError> {
+        written_alone(alloc, self.setting, output)
+    }
+
+    fn of_fault(&self, alloc: Global, error: &Error) -> Result<WrittenOr, AllocError> {
+        Ok(Err(error_text(alloc, self.setting.file, Detail::Start, error)?))
     }
 }
 
 // The same of what is read of the text, between the markers that are usual.
-fn written_again(alloc: Global, setting: &Setting<'_>, text: &str) -> Result<Written, Error> {
+fn written_again(
+    alloc: Global,
+    setting: &Setting<'_>,
+    text: &str,
+) -> Result<WrittenOr, AllocError> {
     let source = format!(in alloc; "{{{{ {text} }}}}")?;
-    match read_between(alloc, setting, Delimiters::default(), source.as_str()) {
-        Ok(output) => written_alone(alloc, &output),
-        Err(error) => Err(error),
-    }
+    let marks = Delimiters::default();
+    read_between(alloc, setting, marks, source.as_str(), &Writing { setting })
 }

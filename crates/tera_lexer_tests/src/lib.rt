@@ -1,7 +1,5 @@
-//! Tests of values, maps, spans and errors, and of the lexer.
+//! Tests of tokens that are made by hand, and of what comes behind a fault.
 #![tactic(auto)]
 
 #[cfg(test)]
 mod tokens;
-#[cfg(test)]
-mod values;

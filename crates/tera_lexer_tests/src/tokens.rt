@@ -1,6 +1,5 @@
-//! Tokens that are made by hand, what comes behind a fault, and a copy of markers.
+//! Tokens that are made by hand, and what comes behind a fault.
 
-use std::borrow::CowStr;
 use std::test::Fail;
 use tera_lexer::{Delimiters, Token, tokenize};
 
@@ -38,16 +37,5 @@ fn a_fault_is_the_last_item(rt: HostRuntime) -> Result<(), Fail> {
     for _again in 0..3 {
         assert!(rt; tokens.next().is_none());
     }
-    Ok(())
-}
-
-#[test]
-fn a_copy_has_the_same_markers(rt: HostRuntime) -> Result<(), Fail> {
-    let mut given = Delimiters::default();
-    given.variable_end = CowStr::Borrowed("é");
-    given.comment_start = CowStr::Owned(String::from_str(rt.alloc(), "(*")?);
-    let copy = given.clone()?;
-    assert_eq!(rt; copy, given);
-    assert_eq!(rt; copy.comment_start.as_str(), "(*");
     Ok(())
 }

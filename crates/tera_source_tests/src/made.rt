@@ -3,12 +3,9 @@
 use std::alloc::{AllocError, Global};
 use std::process::Abort;
 use std::test::Fail;
-use tera_parser::Parser;
-use tera_parser::ast::{BinaryOperator, Expression, MapEntry, Node, UnaryOperator};
-use tera_parser::lexer::Delimiters;
-use tera_parser::value::{Error, Key, Span, Value};
+use tera_base::{Error, Key, Span, Value};
 use tera_source::source_of;
-use tera_tree::build;
+use tera_tree::{BinaryOperator, Expression, MapEntry, Node, UnaryOperator, build};
 
 // Whether the expression has no text, as a component is called with a body in it.
 fn is_refused(alloc: Global, e: &Expression) -> bool {
@@ -16,19 +13,32 @@ fn is_refused(alloc: Global, e: &Expression) -> bool {
     source_of(alloc, e) == Err(refusal)
 }
 
+// A call of a component with a text as its body.
+fn call_with_body(alloc: Global) -> Result<Expression, AllocError> {
+    let mut body = Vec::new(alloc);
+    body.push(Node::Content(String::from_str(alloc, "hi")?))?;
+    let name = String::from_str(alloc, "box")?;
+    let attributes = Vec::new(alloc);
+    build::component_call(alloc, name, attributes, body, false, Span::default())
+}
+
+// The negation of what was made.
+fn negated(alloc: Global, made: Result<Expression, AllocError>) -> Result<Expression, AllocError> {
+    match made {
+        Ok(e) => build::unary(alloc, UnaryOperator::Not, e, Span::default()),
+        Err(error) => Err(error),
+    }
+}
+
 #[test]
-fn a_call_with_a_body_is_refused(rt: HostRuntime) -> Result<(), Fail> {
-    let alloc = rt.alloc();
-    let template = "{% <box a=\"1\" b> %}hi{% </box> %}";
-    let parser = Parser::new(alloc, "page.html", template, Delimiters::default());
-    let mut output = parser.parse()?;
-    let Some(Node::Expression(call)) = output.nodes.pop() else {
-        panic!(rt; "a call is an expression");
-    };
-    assert!(rt; is_refused(alloc, &call));
-    let around = build::unary(alloc, UnaryOperator::Not, call, Span::default())?;
-    assert!(rt; is_refused(alloc, &around), "what holds it is refused too");
-    Ok(())
+fn what_holds_a_call_with_a_body_is_refused(rt: HostRuntime) -> Result<(), Fail> {
+    match negated(rt.alloc(), call_with_body(rt.alloc())) {
+        Ok(e) => {
+            assert!(rt; is_refused(rt.alloc(), &e));
+            Ok(())
+        }
+        Err(error) => Err(error.into()),
+    }
 }
 
 // A variable of this name, whether it is one or not.

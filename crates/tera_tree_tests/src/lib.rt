@@ -1,11 +1,15 @@
-//! Tests of trees that are made from their parts: printed texts, long chains, and texts of values.
+//! Tests of trees and definitions that are made from their parts: printed texts, long chains, types, and contexts.
 #![tactic(auto)]
 
 #[cfg(test)]
 mod chains;
 #[cfg(test)]
+mod components;
+#[cfg(test)]
+mod debugged;
+#[cfg(test)]
 mod making;
 #[cfg(test)]
 mod printed;
 #[cfg(test)]
-mod values;
+mod types;

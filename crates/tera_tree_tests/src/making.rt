@@ -66,21 +66,6 @@ impl Maker {
         Ok(Key::String(self.text(text)?))
     }
 
-    pub(crate) fn text_value(&self, text: &str) -> Made<Value> {
-        Ok(Value::String(self.text(text)?))
-    }
-
-    /// An array of these values.
-    pub(crate) fn items(&self, values: Made<Vec<Value>>) -> Made<Value> {
-        Ok(Value::Array(values?))
-    }
-
-    /// The array of the text `a`, 1 and no value.
-    pub(crate) fn some_items(&self) -> Made<Value> {
-        let first = self.two(self.text_value("a"), Ok(Value::I64(1)));
-        self.items(more(first, Ok(Value::None)))
-    }
-
     pub(crate) fn constant(&self, value: Made<Value>) -> Made<Expression> {
         build::constant(self.alloc, value?, Span::default())
     }

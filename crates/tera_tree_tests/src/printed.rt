@@ -5,13 +5,10 @@ use std::alloc::{AllocError, Global};
 use std::fmt::Display;
 use std::process::Abort;
 use std::test::Fail;
-use tera_base::Value;
 use tera_text::push_definition;
-use tera_tree::{
-    BinaryOperator, ComponentArgument, ComponentDefinition, Expression, Node, UnaryOperator,
-};
+use tera_tree::{BinaryOperator, ComponentArgument, ComponentDefinition, Expression, Node};
 
-pub(crate) fn shown<T: Display>(alloc: Global, x: &T) -> Result<String, AllocError> {
+fn shown<T: Display>(alloc: Global, x: &T) -> Result<String, AllocError> {
     format!(in alloc; "{x}")
 }
 
@@ -47,16 +44,6 @@ fn expect(
 }
 
 #[test]
-fn constants(rt: HostRuntime) -> Result<(), Fail> {
-    let m = Maker { alloc: rt.alloc() };
-    let bytes = Value::Bytes(Vec::from_array(rt.alloc(), [97u8])?);
-    expect(&rt, rt.alloc(), "<bytes>", m.constant(Ok(bytes)))?;
-    let undefined = m.constant(Ok(Value::Undefined));
-    expect(&rt, rt.alloc(), "undefined", undefined)?;
-    Ok(())
-}
-
-#[test]
 fn arrays_and_maps_of_nothing(rt: HostRuntime) -> Result<(), Fail> {
     let m = Maker { alloc: rt.alloc() };
     expect(&rt, rt.alloc(), "[]", m.array(m.none()))?;
@@ -71,37 +58,6 @@ fn a_component_call_with_a_body(rt: HostRuntime) -> Result<(), Fail> {
     let call = m.component_call(m.some_entries(), body, false);
     let text = "<box{a: 1, ...b}>[nodes: 2]<box/>";
     expect(&rt, rt.alloc(), text, call)?;
-    Ok(())
-}
-
-#[test]
-fn operators(rt: HostRuntime) -> Result<(), Fail> {
-    for (op, sign) in [(UnaryOperator::Not, "not"), (UnaryOperator::Minus, "-")] {
-        assert_eq!(rt; shown(rt.alloc(), &op)?.as_str(), sign);
-    }
-    for (op, sign) in [
-        (BinaryOperator::Mul, "*"),
-        (BinaryOperator::Div, "/"),
-        (BinaryOperator::Mod, "%"),
-        (BinaryOperator::Plus, "+"),
-        (BinaryOperator::Minus, "-"),
-        (BinaryOperator::FloorDiv, "//"),
-        (BinaryOperator::Power, "**"),
-        (BinaryOperator::LessThan, "<"),
-        (BinaryOperator::GreaterThan, ">"),
-        (BinaryOperator::LessThanOrEqual, "<="),
-        (BinaryOperator::GreaterThanOrEqual, ">="),
-        (BinaryOperator::Equal, "=="),
-        (BinaryOperator::NotEqual, "!="),
-        (BinaryOperator::And, "and"),
-        (BinaryOperator::Or, "or"),
-        (BinaryOperator::StrConcat, "~"),
-        (BinaryOperator::In, "in"),
-        (BinaryOperator::Is, "is"),
-        (BinaryOperator::Pipe, "|"),
-    ] {
-        assert_eq!(rt; shown(rt.alloc(), &op)?.as_str(), sign);
-    }
     Ok(())
 }
 

@@ -3,13 +3,11 @@
 use std::alloc::{AllocError, Global};
 use std::process::Abort;
 use std::test::Fail;
-use tera_parser::ParserOutput;
-use tera_parser::ast::{
-    ComponentArgument, ComponentDefinition, Expression, Node, Type, UnaryOperator,
+use tera_base::{Map, Span, Value};
+use tera_tree::{
+    ArgType as Type, ComponentArgument, ComponentDefinition, Expression, Node, UnaryOperator,
+    build, laws,
 };
-use tera_parser::laws::same_output;
-use tera_parser::value::{Key, Map, Span, Value};
-use tera_tree::{build, laws};
 
 const ALL: [Type; 7] = [
     Type::String,
@@ -153,20 +151,5 @@ fn nodes_and_definitions_equal_their_copies(rt: HostRuntime) -> Result<(), Fail>
     assert!(rt; !laws::same_definition(&definition, &ComponentDefinition::empty(rt.alloc())));
     assert!(rt; laws::same_node(&Node::Break, &Node::Break));
     assert!(rt; !laws::same_node(&Node::Break, &Node::Continue));
-    Ok(())
-}
-
-#[test]
-fn an_output_equals_its_copy(rt: HostRuntime) -> Result<(), Fail> {
-    let mut output = ParserOutput::empty(rt.alloc());
-    assert!(rt; is_copied(&output)?);
-    output.nodes.push(Node::Continue)?;
-    assert!(rt; is_copied(&output)?);
-    let empty = ParserOutput::empty(rt.alloc());
-    assert_ne!(rt; output, empty);
-    assert!(rt; !same_output(&output, &empty));
-    assert!(rt; same_output(&empty, &empty));
-    let key = Key::String(String::from_str(rt.alloc(), "k")?);
-    assert!(rt; is_copied(&key)?);
     Ok(())
 }

@@ -1,28 +1,16 @@
-//! Values, maps, spans and errors.
+//! Values, maps of them, and contexts.
 
 use std::alloc::{AllocError, Global};
 use std::hash::{DefaultHasher, Hasher};
 use std::process::Abort;
 use std::test::Fail;
-use tera_base::{
-    Error, ErrorKind, Key, Map, Note, ReportError, Span, Spanned, Value, ValueKind, laws,
-};
+use tera_base::{Context, Error, Key, Map, Value, ValueKind, laws};
 
-fn place() -> Span {
-    Span {
-        start_line: 1,
-        start_col: 2,
-        end_line: 3,
-        end_col: 4,
-        range: 5..6,
-    }
-}
-
-fn key(alloc: Global, name: &str) -> Result<Key, AllocError> {
+pub(crate) fn key(alloc: Global, name: &str) -> Result<Key, AllocError> {
     Ok(Key::String(String::from_str(alloc, name)?))
 }
 
-fn text(alloc: Global, text: &str) -> Result<Value, AllocError> {
+pub(crate) fn text(alloc: Global, text: &str) -> Result<Value, AllocError> {
     Ok(Value::String(String::from_str(alloc, text)?))
 }
 
@@ -67,7 +55,7 @@ fn insert_answers_the_value_before(rt: HostRuntime) -> Result<(), Fail> {
 }
 
 // A value of each kind, in the order of the kinds.
-fn one_of_each(alloc: Global) -> Result<Vec<Value>, Error> {
+pub(crate) fn one_of_each(alloc: Global) -> Result<Vec<Value>, Error> {
     let mut all = Vec::new(alloc);
     all.push(Value::Undefined)?;
     all.push(Value::None)?;
@@ -178,64 +166,13 @@ fn equal_keys_hash_alike(rt: HostRuntime) -> Result<(), Fail> {
 }
 
 #[test]
-fn nodes_equal_with_their_places(rt: HostRuntime) -> Result<(), Fail> {
-    let mut a = Spanned::new(rt.alloc(), 7u8, place())?;
-    let b = a.clone()?;
-    assert!(rt; laws::same_spanned(&a, &b));
-    a.span_mut().expand(&Span::default());
-    assert_ne!(rt; a, b);
-    let (node, span) = a.into_parts();
-    assert_eq!(rt; node, 7);
-    assert_eq!(rt; (span.start_line, span.start_col), (1, 2));
-    assert_eq!(rt; (span.end_line, span.end_col), (0, 0));
-    assert_eq!(rt; span.range, 5..0);
-    Ok(())
-}
-
-// A report with this text and a note.
-fn noted(alloc: Global, text: &str, label: &str) -> Result<ReportError, Error> {
-    let mut report = ReportError {
-        message: String::from_str(alloc, text)?,
-        span: place(),
-        notes: Vec::new(alloc),
-    };
-    report.add_note(label, "page", &place())?;
-    Ok(report)
-}
-
-#[test]
-fn notes_stand_behind_a_report(rt: HostRuntime) -> Result<(), Fail> {
-    let mut report = noted(rt.alloc(), "why", "here")?;
-    report.add_note("there", "base", &Span::default())?;
-    assert_eq!(rt; report.notes.len(), 2);
-    let wanted = Note {
-        label: String::from_str(rt.alloc(), "there")?,
-        filename: String::from_str(rt.alloc(), "base")?,
-        span: Span::default(),
-    };
-    let Some(last) = report.notes.last() else {
-        panic!(rt; "there are two notes");
-    };
-    assert!(rt; laws::same_note(last, &wanted));
-    assert!(rt; !laws::same_report(&report, &noted(rt.alloc(), "why", "here")?));
-    Ok(())
-}
-
-#[test]
-fn errors_show_their_texts(rt: HostRuntime) -> Result<(), Fail> {
-    let memory = Error {
-        kind: ErrorKind::Memory,
-    };
-    let message = Error::message(rt.alloc(), "how");
-    let fault = Error {
-        kind: ErrorKind::SyntaxError(Box::new(rt.alloc(), noted(rt.alloc(), "why", "here")?)?),
-    };
-    assert_eq!(rt;
-        format!(in rt.alloc(); "{memory}; {message}; {fault}")?.as_str(),
-        "out of memory; how; why"
-    );
-    assert!(rt; laws::same_error(&fault, &fault));
-    assert!(rt; !laws::same_error(&fault, &message));
-    assert_ne!(rt; message, memory);
+fn a_context_keeps_what_was_put_last(rt: HostRuntime) -> Result<(), Fail> {
+    let mut context = Context::new(rt.alloc());
+    context.insert_value("b", Value::I64(1))?;
+    context.insert_value("a", Value::Bool(true))?;
+    context.insert_value("b", Value::I64(2))?;
+    assert_eq!(rt; context.get("b"), Some(&Value::I64(2)));
+    assert_eq!(rt; context.get("c"), None);
+    assert_eq!(rt; context.iter().count(), 2);
     Ok(())
 }

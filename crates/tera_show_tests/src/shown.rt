@@ -2,25 +2,7 @@
 
 use crate::streams::{Failing, OneByteReader, OneByteWriter};
 use std::test::Fail;
-use tera_parser::expr::Limits;
-use tera_show::{Outcome, ShowFault, show, show_with, status};
-
-#[test]
-fn shows_what_limits_refuse(rt: HostRuntime) -> Result<(), Fail> {
-    let limits = Limits {
-        depth: 1,
-        ..Limits::default()
-    };
-    assert!(rt; limits.valid());
-    let mut written = Vec::new(rt.alloc());
-    let mut rest = "{{ 1 + 2 }}".as_bytes();
-    let answer = show_with(rt.alloc(), &mut rest, &mut written, limits);
-    assert_eq!(rt; answer, Ok(Outcome::Syntax));
-    let line = "syntax error at 1:5 (5..6): The expression is too complex\n";
-    assert_eq!(rt; written.as_slice(), line.as_bytes());
-    assert_eq!(rt; status(&answer), 1);
-    Ok(())
-}
+use tera_show::{Outcome, ShowFault, show, status};
 
 #[test]
 fn shows_that_input_is_no_text(rt: HostRuntime) -> Result<(), Fail> {

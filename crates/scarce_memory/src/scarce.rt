@@ -1,10 +1,10 @@
-//! Taking memory until none is left, so that a growth under test is refused.
+//! Taking memory until none is left, so that a growth is refused.
 
 use std::alloc::{AllocError, Global};
 
 /// All the memory that the process can get.
 #[derive(Drop)]
-pub(crate) struct Scarce {
+pub struct Scarce {
     alloc: Global,
     rooms: Vec<Vec<u8>>,
     held: Vec<Vec<u8>>,
@@ -15,7 +15,7 @@ impl Scarce {
     const ROOM: usize = 16384;
 
     /// Takes two rooms for each run, and then whatever else there is.
-    pub(crate) fn new(alloc: Global, runs: u16) -> Result<Scarce, AllocError> {
+    pub fn new(alloc: Global, runs: u16) -> Result<Scarce, AllocError> {
         let mut rooms = Vec::new(alloc);
         for _ in 0..runs {
             rooms.push(Vec::with_capacity(alloc, Self::ROOM)?)?;
@@ -27,13 +27,13 @@ impl Scarce {
         Ok(scarce)
     }
 
-    /// Gives one room back, for what stands beside the call under test.
-    pub(crate) fn give_room(&mut self) {
+    /// Gives one room back, for what stands beside the call.
+    pub fn give_room(&mut self) {
         let _ = self.rooms.pop();
     }
 
     /// Leaves one free piece, of about this many bytes.
-    pub(crate) fn leave(&mut self, bytes: usize) {
+    pub fn leave(&mut self, bytes: usize) {
         self.take_all();
         self.give_room();
         self.take(Self::ROOM.saturating_sub(bytes));

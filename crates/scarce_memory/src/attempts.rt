@@ -1,0 +1,70 @@
+//! Calls that are tried again and again, with a little more memory each time.
+
+use crate::scarce::Scarce;
+use std::alloc::{AllocError, Global};
+
+/// How a call answered.
+#[derive(Clone, Copy, Debug, PartialEq, Eq)]
+pub enum Seen {
+    /// That it found no memory, and nothing changed.
+    Memory,
+    /// As with ample memory.
+    Usual,
+    /// In another way.
+    Other,
+}
+
+impl Seen {
+    /// How a call answered that found memory.
+    pub fn answer(is_usual: bool) -> Seen {
+        if is_usual { Seen::Usual } else { Seen::Other }
+    }
+}
+
+/// A call that needs memory.
+pub trait Attempt {
+    /// Calls, and compares the answer with that of ample memory.
+    fn attempt(&self, alloc: Global) -> Seen;
+}
+
+/// How a call answered in all runs.
+#[derive(Clone, Copy, Debug, PartialEq, Eq)]
+pub enum Verdict {
+    /// As usual in the last ones, and that it found no memory in so many before.
+    Refused(u16),
+    /// In another way in the run of this number.
+    Other(u16),
+    /// Not as usual in the last ones, however much memory there was.
+    NeverUsual,
+}
+
+// More runs than a room has pieces of 32 bytes.
+const RUNS: u16 = 520;
+
+// So many runs in turn meet no refusal before the last one.
+const USUAL: u16 = 16;
+
+/// Calls with nothing that is free, and then with a piece of 32 bytes more each time, until the call has met no refusal
+/// for some runs.
+///
+/// Each growth takes 32 bytes at least, so each that takes new memory is refused in some run.
+pub fn refuse<A: Attempt>(alloc: Global, call: &A) -> Result<Verdict, AllocError> {
+    let mut scarce = Scarce::new(alloc, RUNS)?;
+    let mut refused = 0u16;
+    let mut usual = 0u16;
+    for run in 0..RUNS {
+        scarce.leave(32 * usize::from(run));
+        match call.attempt(alloc) {
+            Seen::Memory => {
+                refused = refused.saturating_add(1);
+                usual = 0;
+            }
+            Seen::Usual => usual = usual.saturating_add(1),
+            Seen::Other => return Ok(Verdict::Other(run)),
+        }
+        if usual == USUAL {
+            return Ok(Verdict::Refused(refused));
+        }
+    }
+    Ok(Verdict::NeverUsual)
+}

@@ -1,0 +1,9 @@
+//! Tests of values, their texts, places and errors.
+#![tactic(auto)]
+
+#[cfg(test)]
+mod errors;
+#[cfg(test)]
+mod texts;
+#[cfg(test)]
+mod values;
