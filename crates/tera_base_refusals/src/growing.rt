@@ -6,7 +6,7 @@ use std::process::Abort;
 use std::test::Fail;
 use tera_base::{Context, Error, ErrorKind, Key, Map, ReportError, Span, Value};
 
-const RUNS: u16 = 200;
+const RUNS: u16 = 400;
 
 const NAMES: [&str; 20] = [
     "m", "c", "o", "a", "k", "e", "i", "g", "p", "b", "n", "d", "l", "f", "j", "h", "t", "q", "s",
