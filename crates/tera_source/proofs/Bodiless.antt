@@ -1,8 +1,10 @@
 -- An expression that has a source text holds no call of a component with a body.
-use Rattle.std.proofs.Common.{◌≡◌, Bool, true, false, ◌||◌, not, refl}
+use Rattle.std.proofs.Common.{◌≡◌, Bool, true, false, ◌||◌, not, refl, sym, true≢false}
+use Rattle.tera_base.specs.Values.{KeyVal, TextKey}
 use Rattle.tera_nodes.specs.Tree as tree
 use Rattle.tera_nodes.specs.Tree.{Expr}
 use Rattle.tera_source.specs.Bodies.{has_body, maybe_has_body, args_have_body, items_have_body, entries_have_body}
+use Rattle.tera_source.specs.Writing.{is_bare}
 use Rattle.tera_source.specs.Writable.{IsWritable, MaybeWritable, AreWritableArgs, AreWritableItems, AreWritableEntries, AreWritableAttributes}
 
 both : (a b : Bool) → a ≡ false → b ≡ false → (a || b) ≡ false
@@ -52,3 +54,8 @@ mutual
   attributes_bodiless tree.NoEntries h = refl
   attributes_bodiless (tree.Entry k e es) h = both _ _ (bodiless e h.1) (attributes_bodiless es h.2)
   attributes_bodiless (tree.SpreadEntry e es) h = both _ _ (bodiless e h.0) (attributes_bodiless es h.1)
+
+-- a variable that is written as a name alone
+pub bare_bodiless : (k : KeyVal) (e : Expr) → is_bare k e ≡ true → has_body e ≡ false
+bare_bodiless (TextKey name) (tree.Var variable s) h = refl
+bare_bodiless _ _ h = absurd (true≢false (sym h))

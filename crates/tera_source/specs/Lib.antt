@@ -7,5 +7,6 @@ pub mod Parts
 pub mod Nodes
 pub mod Writable
 pub mod Bodies
+pub mod Refusals
 pub mod Contexts
 pub mod Writing

@@ -9,10 +9,10 @@ ghost use Rattle.tera_source.specs.Bodies.{has_body};
 ghost use Rattle.tera_source.specs.Source.{source_text};
 ghost use Rattle.tera_source.specs.Writable.{IsWritable};
 
-use crate::bodies::has_body;
 use crate::context::Context;
+use crate::refusal::Refusal;
 use crate::writing::push_expression;
-use std::alloc::Global;
+use std::alloc::{AllocError, Global};
 use tera_base::Error;
 use tera_tree::Expression;
 
@@ -30,10 +30,12 @@ pub fn source_of(alloc: Global, expression: &Expression) -> Result<String, Error
     ensures message { IfErr result (Says (codes "A component call with a body has no expression text")) }
     ensures memory { IfErr result (λ error. has_body (expression_view expression.now) ≡ false → IsMemory error) }
 {
-    if has_body(expression) {
-        return Err(Error::message(alloc, "A component call with a body has no expression text"));
-    }
     let mut text = String::new(alloc);
-    push_expression(&mut text, expression, Context::free())?;
-    Ok(text)
+    match push_expression(&mut text, expression, Context::free()) {
+        Ok(()) => Ok(text),
+        Err(Refusal::Memory) => Err(Error::from(AllocError)),
+        Err(Refusal::Body) => {
+            Err(Error::message(alloc, "A component call with a body has no expression text"))
+        }
+    }
 }

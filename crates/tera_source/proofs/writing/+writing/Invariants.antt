@@ -1,23 +1,28 @@
 use Rattle.std.proofs.Common.{◌≡◌, ◌++◌, drop, false, string_bytes, ◌*◌, ◌+◌}
 use Rattle.tera_nodes.specs.View.{args_view, items_view, entries_view}
+use Rattle.tera_source.specs.Bodies.{args_have_body, items_have_body, entries_have_body}
 use Rattle.tera_source.specs.Writing.{args_text, items_text, entries_text, attributes_text}
 use Rattle.tera_source.proofs.writing.+writing.Given as goal
 
 abbrev pub invariant-push_args-loop-name : goal.invariant-push_args-loop-name
 invariant-push_args-loop-name l =
-    string_bytes l.initial.out ++ args_text false (args_view l.args.entries) ≡ string_bytes l.out ++ args_text l.later (args_view l.name-iterator)
+    (string_bytes l.initial.out ++ args_text false (args_view l.args.entries) ≡ string_bytes l.out ++ args_text l.later (args_view l.name-iterator))
+    × (args_have_body (args_view l.args.entries) ≡ args_have_body (args_view l.name-iterator))
 
 abbrev pub invariant-push_items-loop-item : goal.invariant-push_items-loop-item
 invariant-push_items-loop-item l =
-    string_bytes l.initial.out ++ items_text false (items_view l.items.items) ≡ string_bytes l.out ++ items_text l.later (items_view (drop l.item-index l.item-items))
+    (string_bytes l.initial.out ++ items_text false (items_view l.items.items) ≡ string_bytes l.out ++ items_text l.later (items_view (drop l.item-index l.item-items)))
+    × (items_have_body (items_view l.items.items) ≡ items_have_body (items_view (drop l.item-index l.item-items)))
 
 abbrev pub invariant-push_entries-loop-entry : goal.invariant-push_entries-loop-entry
 invariant-push_entries-loop-entry l =
-    string_bytes l.initial.out ++ entries_text false (entries_view l.entries.items) ≡ string_bytes l.out ++ entries_text l.later (entries_view (drop l.entry-index l.entry-items))
+    (string_bytes l.initial.out ++ entries_text false (entries_view l.entries.items) ≡ string_bytes l.out ++ entries_text l.later (entries_view (drop l.entry-index l.entry-items)))
+    × (entries_have_body (entries_view l.entries.items) ≡ entries_have_body (entries_view (drop l.entry-index l.entry-items)))
 
 abbrev pub invariant-push_attributes-loop-attribute : goal.invariant-push_attributes-loop-attribute
 invariant-push_attributes-loop-attribute l =
-    string_bytes l.initial.out ++ attributes_text (entries_view l.attributes.items) ≡ string_bytes l.out ++ attributes_text (entries_view (drop l.attribute-index l.attribute-items))
+    (string_bytes l.initial.out ++ attributes_text (entries_view l.attributes.items) ≡ string_bytes l.out ++ attributes_text (entries_view (drop l.attribute-index l.attribute-items)))
+    × (entries_have_body (entries_view l.attributes.items) ≡ entries_have_body (entries_view (drop l.attribute-index l.attribute-items)))
 
 abbrev pub decreases-push_bare : goal.decreases-push_bare
 decreases-push_bare l = 10 * goal.size-push_bare l + 0
