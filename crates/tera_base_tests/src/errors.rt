@@ -15,15 +15,6 @@ fn place() -> Span {
     }
 }
 
-#[test]
-fn spans_and_nodes(rt: HostRuntime) -> Result<(), Fail> {
-    assert_eq!(rt; Span::default().range, 0..0);
-    let spanned = Spanned::new(rt.alloc(), 7u8, place())?;
-    assert_eq!(rt; *spanned.node(), 7);
-    assert_eq!(rt; spanned.span().copied(), place());
-    Ok(())
-}
-
 // The text and the place that the error tells.
 fn told(rt: &impl Abort, error: Error) -> (String, Span) {
     let ErrorKind::SyntaxError(report) = error.kind else {
@@ -54,8 +45,15 @@ fn errors(rt: HostRuntime) -> Result<(), Fail> {
 #[test]
 fn nodes_equal_with_their_places(rt: HostRuntime) -> Result<(), Fail> {
     let mut a = Spanned::new(rt.alloc(), 7u8, place())?;
+    assert_eq!(rt; *a.node(), 7);
+    assert_eq!(rt; a.span().copied(), place());
     let b = a.clone()?;
     assert!(rt; laws::same_spanned(&a, &b));
+    let shown = format!(in rt.alloc(); "{a:?}")?;
+    for part in ["node: 7", "start_line: 1", "range: 5..6"] {
+        assert!(rt; shown.as_str().contains(part), "{part} in {shown}");
+    }
+    assert_eq!(rt; Span::default().range, 0..0);
     a.span_mut().expand(&Span::default());
     assert_ne!(rt; a, b);
     let (node, span) = a.into_parts();
@@ -108,6 +106,12 @@ fn errors_show_their_texts(rt: HostRuntime) -> Result<(), Fail> {
         format!(in rt.alloc(); "{memory}; {message}; {fault}")?.as_str(),
         "out of memory; how; why"
     );
+    let told = format!(in rt.alloc(); "{memory:?} {message:?} {fault:?}")?;
+    for part in [
+        "Memory", "Message(", "\"how\"", "Syntax", "\"why\"", "Note", "\"here\"", "\"page\"",
+    ] {
+        assert!(rt; told.as_str().contains(part), "{part} in {told}");
+    }
     assert!(rt; laws::same_error(&fault, &fault));
     assert!(rt; !laws::same_error(&fault, &message));
     assert_ne!(rt; message, memory);

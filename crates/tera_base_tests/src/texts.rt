@@ -1,6 +1,6 @@
-//! Texts of keys and values.
+//! Texts of keys, and of values that no source says.
 
-use crate::values::{key, text};
+use crate::values::key;
 use std::alloc::{AllocError, Global};
 use std::fmt::Display;
 use std::process::Abort;
@@ -42,21 +42,10 @@ fn numbers(rt: HostRuntime) -> Result<(), Fail> {
 }
 
 #[test]
-fn other_values(rt: HostRuntime) -> Result<(), Fail> {
+fn values_of_no_source(rt: HostRuntime) -> Result<(), Fail> {
     let alloc = rt.alloc();
     expect(&rt, alloc, "undefined", &Value::Undefined)?;
-    expect(&rt, alloc, "null", &Value::None)?;
-    expect(&rt, alloc, "false", &Value::Bool(false))?;
     let bytes = Value::Bytes(Vec::from_array(alloc, [97u8])?);
     expect(&rt, alloc, "<bytes>", &bytes)?;
-    expect(&rt, alloc, "it's \"a\"", &text(alloc, "it's \"a\"")?)?;
-    expect(&rt, alloc, "[]", &Value::Array(Vec::new(alloc)))?;
-    let inner = Value::Array(vec![in alloc; text(alloc, "it's \"a\"")?]?);
-    expect(&rt, alloc, "[\"it's \"a\"\"]", &inner)?;
-    let mut items = vec![in alloc; inner]?;
-    items.push(Value::Array(Vec::new(alloc)))?;
-    items.push(Value::None)?;
-    let items = Value::Array(items);
-    expect(&rt, alloc, "[[\"it's \"a\"\"], [], null]", &items)?;
     Ok(())
 }

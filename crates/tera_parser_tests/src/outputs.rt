@@ -20,11 +20,13 @@ fn an_output_equals_its_copy(rt: HostRuntime) -> Result<(), Fail> {
     let mut output = ParserOutput::empty(rt.alloc());
     let was_put = output.nodes.push(Node::Continue).is_ok();
     let are_copied = (is_copied(&empty), is_copied(&output));
+    let shown = format!(in rt.alloc(); "{output:?}");
     let are_same = (same_output(&empty, &empty), same_output(&output, &empty));
     drop(output);
     drop(empty);
     assert!(rt; was_put);
     assert_eq!(rt; are_copied, (Ok(true), Ok(true)));
     assert_eq!(rt; are_same, (true, false));
+    assert!(rt; shown?.as_str().contains("nodes: [Continue]"));
     Ok(())
 }

@@ -5,6 +5,7 @@ use std::alloc::{AllocError, Global};
 use std::fmt::Display;
 use std::process::Abort;
 use std::test::Fail;
+use tera_base::Value;
 use tera_text::push_definition;
 use tera_tree::{BinaryOperator, ComponentArgument, ComponentDefinition, Expression, Node};
 
@@ -44,8 +45,12 @@ fn expect(
 }
 
 #[test]
-fn arrays_and_maps_of_nothing(rt: HostRuntime) -> Result<(), Fail> {
+fn constants_arrays_and_maps_of_no_source(rt: HostRuntime) -> Result<(), Fail> {
     let m = Maker { alloc: rt.alloc() };
+    let bytes = Value::Bytes(Vec::from_array(rt.alloc(), [97u8])?);
+    expect(&rt, rt.alloc(), "<bytes>", m.constant(Ok(bytes)))?;
+    let undefined = m.constant(Ok(Value::Undefined));
+    expect(&rt, rt.alloc(), "undefined", undefined)?;
     expect(&rt, rt.alloc(), "[]", m.array(m.none()))?;
     expect(&rt, rt.alloc(), "{}", m.map(m.none()))?;
     Ok(())

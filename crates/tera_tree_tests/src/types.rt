@@ -41,8 +41,6 @@ fn types_by_name(rt: HostRuntime) -> Result<(), Fail> {
         assert_eq!(rt; Type::from_str(rt.alloc(), name)?, typ);
         assert_eq!(rt; laws::type_of_its_name(rt.alloc(), typ)?, typ);
     }
-    assert_eq!(rt; Type::from_str(rt.alloc(), "INTEGER")?, Type::Integer);
-    assert_eq!(rt; Type::from_str(rt.alloc(), "bYtEs")?, Type::Bytes);
     Ok(())
 }
 
@@ -56,6 +54,10 @@ fn expect_type(
 ) -> Result<(), Fail> {
     assert_eq!(rt; Type::from_value(value), typ);
     assert_eq!(rt; matched(alloc, value)?.as_str(), names);
+    let mut argument = ComponentArgument::default();
+    assert!(rt; argument.type_matches(value), "without a type");
+    argument.typ = Some(Type::Bytes);
+    assert_eq!(rt; argument.type_matches(value), names == "bytes ");
     Ok(())
 }
 
