@@ -5,7 +5,13 @@ use case_files::Options;
 use std::alloc::{AllocError, Global};
 use tera_show::{Outcome, ShowFault, show_with};
 
+// More bytes than `show` writes beside those of the answer.
+const MORE: usize = 32;
+
 /// Whether `show` writes the answer: the lines of the tree, or the line of the fault.
+///
+/// What is written has room beforehand, so that memory is asked for by `show` alone, and not by the writer: where none
+/// is found, nothing is written.
 pub(crate) fn is_shown(
     alloc: Global,
     setting: &Setting<'_>,
@@ -16,7 +22,7 @@ pub(crate) fn is_shown(
     if !limits.valid() {
         return Ok(false);
     }
-    let mut written = Vec::new(alloc);
+    let mut written = Vec::with_capacity(alloc, answer.len().saturating_add(MORE))?;
     let mut rest = source.as_bytes();
     match show_with(alloc, &mut rest, &mut written, limits) {
         Ok(outcome) => match str::from_utf8(written.as_slice()) {
@@ -24,8 +30,6 @@ pub(crate) fn is_shown(
             Err(_) => Ok(false),
         },
         Err(ShowFault::Memory) if written.is_empty() => Err(AllocError),
-        // The writer found no memory.
-        Err(ShowFault::Write) => Err(AllocError),
         Err(_) => Ok(false),
     }
 }
