@@ -12,20 +12,20 @@ use tera_lexer::{Cursor, Token};
 
 /// A fault at the token taken last; `Memory` where its text finds none.
 #[tactic(auto, using(crate::proofs::Going::last_refused))]
-pub fn fault(alloc: Global, cursor: &Cursor<'_>, text: &str) -> Error
+pub fn fault(cursor: &Cursor<'_>, text: &str) -> Error
     ensures tells { Tells text.now cursor.now.span result }
     ensures refusal { Refuses cursor.now result }
 {
-    Error::syntax_error(alloc, text, cursor.current_span())
+    Error::syntax_error(cursor.alloc(), text, cursor.current_span())
 }
 
 /// A fault at the token taken last, whose text was made; `Memory` where it was not.
 #[tactic(auto, using(crate::proofs::Going::last_refused, crate::proofs::Going::memory_refused))]
-pub fn reported(alloc: Global, cursor: &Cursor<'_>, message: Result<String, AllocError>) -> Error
+pub fn reported(cursor: &Cursor<'_>, message: Result<String, AllocError>) -> Error
     ensures tells { MatchResult message (λ text. Tells (string_bytes text) cursor.now.span result) (λ _. IsMemory result) }
     ensures refusal { Refuses cursor.now result }
 {
-    Error::reported(alloc, message, cursor.current_span())
+    Error::reported(cursor.alloc(), message, cursor.current_span())
 }
 
 /// The fault of a token, which stands at the span, where another has to stand.

@@ -10,7 +10,6 @@ ghost use Rattle.tera_grammar.specs.statements.Reading.Components.{is_name};
 ghost use Rattle.tera_expect.specs.Taking.{Eats, EatsName, GivesAs, IsCounted, Refuses, Took, fixed_text, mark_of, name_at, place_at};
 
 use crate::faults::unexpected;
-use std::alloc::Global;
 use tera_base::{Error, Span};
 use tera_lexer::{Cursor, Token};
 
@@ -158,7 +157,7 @@ pub fn take<'a>(cursor: &mut Cursor<'a>) -> Result<(Token<'a>, Span), Error>
 
 /// Takes the next token, which has to be this one: another is a fault at that token.
 #[tactic(auto, unfolding(crate::specs::Taking::Took, crate::specs::Taking::Refuses))]
-pub fn expect(alloc: Global, cursor: &mut Cursor<'_>, wanted: Fixed) -> Result<(), Error>
+pub fn expect(cursor: &mut Cursor<'_>, wanted: Fixed) -> Result<(), Error>
     ensures gives { GivesAs (place_at cursor.new.span) result cursor.new.left (takes (mark_of wanted) cursor.old.left) }
     ensures refusal { IfErr result (Refuses cursor.old) }
     ensures later { IfOk result (λ _. Took cursor.old cursor.new) }
@@ -167,12 +166,12 @@ pub fn expect(alloc: Global, cursor: &mut Cursor<'_>, wanted: Fixed) -> Result<(
         return Ok(());
     }
     let (token, span) = cursor.next_or_eoi()?;
-    Err(unexpected(alloc, &token, wanted.text(), &span))
+    Err(unexpected(cursor.alloc(), &token, wanted.text(), &span))
 }
 
 /// Takes the next token, which has to be a name: another is a fault at that token.
 #[tactic(auto, unfolding(crate::specs::Taking::Took, crate::specs::Taking::Refuses))]
-pub fn name<'a>(alloc: Global, cursor: &mut Cursor<'a>) -> Result<&'a str, Error>
+pub fn name<'a>(cursor: &mut Cursor<'a>) -> Result<&'a str, Error>
     ensures gives { GivesAs (name_at cursor.new.span) result cursor.new.left (taken_name cursor.old.left) }
     ensures refusal { IfErr result (Refuses cursor.old) }
     ensures later { IfOk result (λ _. Took cursor.old cursor.new) }
@@ -181,7 +180,7 @@ pub fn name<'a>(alloc: Global, cursor: &mut Cursor<'a>) -> Result<&'a str, Error
         return Ok(name);
     }
     let (token, span) = cursor.next_or_eoi()?;
-    Err(unexpected(alloc, &token, "identifier", &span))
+    Err(unexpected(cursor.alloc(), &token, "identifier", &span))
 }
 
 /// Whether the next token is a name.

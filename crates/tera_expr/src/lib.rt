@@ -1,4 +1,6 @@
 //! The expressions of the template engine Tera: their reading, and their source text.
+//!
+//! Each call takes the allocator first, as all that take memory do. What is read takes it from the cursor's.
 #![tactic(auto)]
 
 mod components;

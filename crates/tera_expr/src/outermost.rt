@@ -44,7 +44,7 @@ use tera_tree::{Expression, MapEntry};
 /// a syntax error, or `Memory`. After an error the cursor is not used again.
 #[tactic(auto, using(tera_expect::proofs::Going::refused, crate::proofs::Passing::later_on))]
 pub fn attributes(
-    alloc: Global,
+    _alloc: Global,
     cursor: &mut Cursor<'_>,
     scope: Scope,
 ) -> Result<Vec<MapEntry>, Error>
@@ -57,7 +57,7 @@ pub fn attributes(
     ensures refusal { IfErr result (RefusesFrom cursor.old) }
     ensures later { IfOk result (λ _. IsLater cursor.old cursor.new) }
 {
-    tera_reader::attributes(alloc, cursor, scope)
+    tera_reader::attributes(cursor, scope)
 }
 
 /// Reads arguments with their parentheses.
@@ -66,7 +66,7 @@ pub fn attributes(
 /// syntax error, or `Memory`. After an error the cursor is not used again.
 #[tactic(auto, using(tera_expect::proofs::Going::refused, tera_expect::proofs::Going::later))]
 pub fn kwargs(
-    alloc: Global,
+    _alloc: Global,
     cursor: &mut Cursor<'_>,
     scope: Scope,
 ) -> Result<BTreeMap<String, Expression>, Error>
@@ -79,7 +79,7 @@ pub fn kwargs(
     ensures refusal { IfErr result (RefusesFrom cursor.old) }
     ensures later { IfOk result (λ _. IsLater cursor.old cursor.new) }
 {
-    tera_reader::kwargs(alloc, cursor, scope)
+    tera_reader::kwargs(cursor, scope)
 }
 
 /// Reads the name of a filter and its arguments. What it filters is no value, at the token taken last before.
@@ -87,7 +87,7 @@ pub fn kwargs(
 /// Each argument is an expression with limits of its own. An error is the lexical fault, the end of the input, a
 /// syntax error, or `Memory`. After an error the cursor is not used again.
 #[tactic(auto, using(tera_expect::proofs::Going::refused, tera_expect::proofs::Going::later))]
-pub fn filter(alloc: Global, cursor: &mut Cursor<'_>, scope: Scope) -> Result<Expression, Error>
+pub fn filter(_alloc: Global, cursor: &mut Cursor<'_>, scope: Scope) -> Result<Expression, Error>
     requires { AreValid (limits_of scope.limits) }
     // What was taken are the tokens of a filter within the limits, and it is returned.
     ensures found { IfOk result (λ e. TookFilter (limits_of scope.limits) scope.in_loop cursor.old e cursor.new) }
@@ -97,7 +97,7 @@ pub fn filter(alloc: Global, cursor: &mut Cursor<'_>, scope: Scope) -> Result<Ex
     ensures refusal { IfErr result (RefusesFrom cursor.old) }
     ensures later { IfOk result (λ _. IsLater cursor.old cursor.new) }
 {
-    tera_reader::filter(alloc, cursor, scope)
+    tera_reader::filter(cursor, scope)
 }
 
 /// Reads an array of constants from its bracket on.
@@ -105,7 +105,11 @@ pub fn filter(alloc: Global, cursor: &mut Cursor<'_>, scope: Scope) -> Result<Ex
 /// Each value is an expression with limits of its own. An error is the lexical fault, the end of the input, a syntax
 /// error, or `Memory`. After an error the cursor is not used again.
 #[tactic(auto, using(tera_expect::proofs::Going::refused, tera_expect::proofs::Going::later))]
-pub fn literal_array(alloc: Global, cursor: &mut Cursor<'_>, limits: Limits) -> Result<Value, Error>
+pub fn literal_array(
+    _alloc: Global,
+    cursor: &mut Cursor<'_>,
+    limits: Limits,
+) -> Result<Value, Error>
     requires { AreValid (limits_of limits) }
     // What was taken are the tokens of an array of constants within the limits, and its value is returned.
     ensures found { IfOk result (λ v. TookArray (limits_of limits) cursor.old v cursor.new) }
@@ -115,7 +119,7 @@ pub fn literal_array(alloc: Global, cursor: &mut Cursor<'_>, limits: Limits) -> 
     ensures refusal { IfErr result (RefusesFrom cursor.old) }
     ensures later { IfOk result (λ _. IsLater cursor.old cursor.new) }
 {
-    tera_reader::literal_array(alloc, cursor, limits)
+    tera_reader::literal_array(cursor, limits)
 }
 
 /// Reads a map of constants from its brace on; a fault tells of what it stands in as the context.
@@ -124,7 +128,7 @@ pub fn literal_array(alloc: Global, cursor: &mut Cursor<'_>, limits: Limits) -> 
 /// error, or `Memory`. After an error the cursor is not used again.
 #[tactic(auto, using(tera_expect::proofs::Going::refused, tera_expect::proofs::Going::later))]
 pub fn literal_map(
-    alloc: Global,
+    _alloc: Global,
     cursor: &mut Cursor<'_>,
     context: &str,
     limits: Limits,
@@ -138,5 +142,5 @@ pub fn literal_map(
     ensures refusal { IfErr result (RefusesFrom cursor.old) }
     ensures later { IfOk result (λ _. IsLater cursor.old cursor.new) }
 {
-    tera_reader::literal_map(alloc, cursor, context, limits)
+    tera_reader::literal_map(cursor, context, limits)
 }

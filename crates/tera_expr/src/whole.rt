@@ -23,7 +23,11 @@ use tera_tree::Expression;
 /// An error is the lexical fault, the end of the input, a syntax error, or `Memory`. After an error the cursor is
 /// not used again.
 #[tactic(auto, using(tera_expect::proofs::Going::refused, tera_expect::proofs::Going::later))]
-pub fn expression(alloc: Global, cursor: &mut Cursor<'_>, scope: Scope) -> Result<Expression, Error>
+pub fn expression(
+    _alloc: Global,
+    cursor: &mut Cursor<'_>,
+    scope: Scope,
+) -> Result<Expression, Error>
     requires { AreValid (limits_of scope.limits) }
     // What was taken are the tokens of an expression within the limits, and it is returned.
     ensures found { IfOk result (λ e. TookExpression (limits_of scope.limits) scope.in_loop cursor.old e cursor.new) }
@@ -33,5 +37,5 @@ pub fn expression(alloc: Global, cursor: &mut Cursor<'_>, scope: Scope) -> Resul
     ensures refusal { IfErr result (RefusesFrom cursor.old) }
     ensures later { IfOk result (λ _. IsLater cursor.old cursor.new) }
 {
-    tera_reader::expression(alloc, cursor, scope)
+    tera_reader::expression(cursor, scope)
 }

@@ -93,7 +93,7 @@ impl<'a> Parser<'a> {
     {
         let tokens = tokenize(self.alloc, self.source, self.delimiters);
         let cursor = Cursor::new(tokens);
-        match read_template(self.alloc, cursor, self.limits) {
+        match read_template(cursor, self.limits) {
             Ok(output) => Ok(output),
             Err(error) => Err(in_file(self.alloc, error, self.filename)),
         }

@@ -17,7 +17,6 @@ use tera_tree::Expression;
 /// The name of an argument, which no argument before it has.
 #[tactic(auto, using(tera_expect::proofs::Going::refused_behind, tera_expect::proofs::Going::memory_refused))]
 pub fn argument_name<'a>(
-    alloc: Global,
     cursor: &mut Cursor<'a>,
     arguments: &BTreeMap<String, Expression>,
     names: &mut Vec<(&'a str, Span)>,
@@ -26,9 +25,9 @@ pub fn argument_name<'a>(
     ensures refusal { IfErr result (Refuses cursor.old) }
     ensures later { IfOk result (λ _. Took cursor.old cursor.new) }
 {
-    let name = name(alloc, cursor)?;
+    let name = name(cursor)?;
     if arguments.contains_key(name) {
-        return Err(repeated(alloc, cursor, name, names));
+        return Err(repeated(cursor, name, names));
     }
     names.push((name, cursor.current_span().copied()))?;
     Ok(name)
@@ -36,11 +35,11 @@ pub fn argument_name<'a>(
 
 // That an argument of this name was defined before, where the names tell.
 #[tactic(auto, using(tera_expect::proofs::Going::same_refused))]
-fn repeated(alloc: Global, cursor: &Cursor<'_>, name: &str, names: &[(&str, Span)]) -> Error
+fn repeated(cursor: &Cursor<'_>, name: &str, names: &[(&str, Span)]) -> Error
     ensures { Refuses cursor.now result }
 {
-    let message = format!(in alloc; "Keyword argument `{name}` is defined more than once");
-    let error = reported(alloc, cursor, message);
+    let message = format!(in cursor.alloc(); "Keyword argument `{name}` is defined more than once");
+    let error = reported(cursor, message);
     for (known, span) in names {
         if *known == name {
             return noted(error, "first defined here", span);

@@ -7,7 +7,6 @@ ghost use Rattle.tera_expect.specs.Taking.{Refuses, Took};
 
 use crate::faults::{no_attribute_value, unclosed_component};
 use crate::leaves;
-use std::alloc::Global;
 use tera_base::Error;
 use tera_expect::{Fixed, eat, expect, fault, take};
 use tera_lexer::{Cursor, Token};
@@ -15,35 +14,35 @@ use tera_tree::Expression;
 
 /// A string that is the value of an attribute.
 #[tactic(auto, using(tera_expect::proofs::Going::refused_behind, tera_expect::proofs::Going::memory_refused))]
-pub fn quote(alloc: Global, cursor: &mut Cursor<'_>) -> Result<Expression, Error>
+pub fn quote(cursor: &mut Cursor<'_>) -> Result<Expression, Error>
     ensures gives { GivesQuote result cursor.new (taken_quote cursor.old.left) }
     ensures refusal { IfErr result (Refuses cursor.old) }
     ensures later { IfOk result (λ _. Took cursor.old cursor.new) }
 {
+    let alloc = cursor.alloc();
     let (token, span) = take(cursor)?;
     match token {
         Token::Str(text) => Ok(leaves::text(alloc, text, span)?),
         Token::String(text) => Ok(leaves::string(alloc, text, span)?),
-        token => Err(no_attribute_value(alloc, cursor, &token)),
+        token => Err(no_attribute_value(cursor, &token)),
     }
 }
 
 /// The end of a call of a component that closes itself.
 #[tactic(auto, using(tera_expect::proofs::Going::took_all, tera_expect::proofs::Going::refused_behind))]
-pub fn close_component(alloc: Global, cursor: &mut Cursor<'_>) -> Result<(), Error>
+pub fn close_component(cursor: &mut Cursor<'_>) -> Result<(), Error>
     ensures gives { ClosesAt result cursor.new (closed_at cursor.old.left) }
     ensures refusal { IfErr result (Refuses cursor.old) }
     ensures later { IfOk result (λ _. Took cursor.old cursor.new) }
 {
     if eat(cursor, Fixed::Slash) {
-        return expect(alloc, cursor, Fixed::GreaterThan);
+        return expect(cursor, Fixed::GreaterThan);
     }
     if eat(cursor, Fixed::GreaterThan) {
         return Err(fault(
-            alloc,
             cursor,
             "Components with body content must use tag syntax: {% <component()> %}...{% </component> %}",
         ));
     }
-    Err(unclosed_component(alloc, cursor))
+    Err(unclosed_component(cursor))
 }

@@ -13,7 +13,6 @@ use tera_lexer::{Cursor, Token};
 
 /// A fault from the token at the span to the token taken last, whose text was made.
 pub fn reported_from(
-    alloc: Global,
     cursor: &Cursor<'_>,
     first: &Span,
     message: Result<String, AllocError>,
@@ -26,27 +25,27 @@ pub fn reported_from(
     if span.range.end <= last.range.end {
         span.expand(last);
     }
-    Error::reported(alloc, message, &span)
+    Error::reported(cursor.alloc(), message, &span)
 }
 
 /// What is told of more expressions or links than may be open.
 pub(crate) const TOO_COMPLEX: &str = "The expression is too complex";
 
 /// That more expressions or links are open than may be.
-pub fn too_complex(alloc: Global, cursor: &Cursor<'_>) -> Error
+pub fn too_complex(cursor: &Cursor<'_>) -> Error
     ensures { Refuses cursor.now result }
 {
-    fault(alloc, cursor, TOO_COMPLEX)
+    fault(cursor, TOO_COMPLEX)
 }
 
 /// That a token begins no expression, which was taken.
-pub(crate) fn no_expression(alloc: Global, cursor: &Cursor<'_>, token: &Token<'_>) -> Error
+pub(crate) fn no_expression(cursor: &Cursor<'_>, token: &Token<'_>) -> Error
     ensures { Refuses cursor.now result }
 {
-    let message = format!(in alloc;
+    let message = format!(in cursor.alloc();
         "Found {token} but expected one of: integer, string, bool, ident, `-`, `not`, `<`, `{{`, `[` or `(`"
     );
-    reported(alloc, cursor, message)
+    reported(cursor, message)
 }
 
 /// That a token, which stands at the span, is no key of a map.
@@ -60,19 +59,20 @@ pub(crate) fn no_key(alloc: Global, token: &Token<'_>, span: &Span) -> Error
 }
 
 /// That a token, which was taken, is no value of an attribute.
-pub(crate) fn no_attribute_value(alloc: Global, cursor: &Cursor<'_>, token: &Token<'_>) -> Error
+pub(crate) fn no_attribute_value(cursor: &Cursor<'_>, token: &Token<'_>) -> Error
     ensures { Refuses cursor.now result }
 {
-    let message = format!(in alloc; "Expected \"string\" or {{expression}} but found {token}");
-    reported(alloc, cursor, message)
+    let message = format!(in cursor.alloc();
+        "Expected \"string\" or {{expression}} but found {token}"
+    );
+    reported(cursor, message)
 }
 
 /// That no name stands behind the `<` of a component, which was taken last.
-pub fn no_component_name(alloc: Global, cursor: &Cursor<'_>) -> Error
+pub fn no_component_name(cursor: &Cursor<'_>) -> Error
     ensures { Refuses cursor.now result }
 {
     fault(
-        alloc,
         cursor,
         "Found `<` but expected identifier after it for component call. Use `<` for comparisons in proper context.",
     )
@@ -80,9 +80,10 @@ pub fn no_component_name(alloc: Global, cursor: &Cursor<'_>) -> Error
 
 /// That the next token does not end a component; it is told at the token before.
 #[tactic(auto, unfolding(tera_expect::specs::Taking::Refuses), using(tera_expect::proofs::Going::last_refused))]
-pub(crate) fn unclosed_component(alloc: Global, cursor: &mut Cursor<'_>) -> Error
+pub(crate) fn unclosed_component(cursor: &mut Cursor<'_>) -> Error
     ensures { Refuses cursor.old result }
 {
+    let alloc = cursor.alloc();
     let last = cursor.current_span().copied();
     match cursor.next_or_eoi() {
         Ok((token, _)) => {
@@ -95,27 +96,23 @@ pub(crate) fn unclosed_component(alloc: Global, cursor: &mut Cursor<'_>) -> Erro
 
 /// That a `not` stands behind an operand without `in`; it is taken.
 #[tactic(auto, using(tera_expect::proofs::Going::refused_behind))]
-pub fn misplaced_not(alloc: Global, cursor: &mut Cursor<'_>) -> Error
+pub fn misplaced_not(cursor: &mut Cursor<'_>) -> Error
     ensures { Refuses cursor.old result }
 {
-    match expect(alloc, cursor, Fixed::Not) {
-        Ok(()) => fault(
-            alloc,
-            cursor,
-            "`not` is only valid here as part of `not in`",
-        ),
+    match expect(cursor, Fixed::Not) {
+        Ok(()) => fault(cursor, "`not` is only valid here as part of `not in`"),
         Err(error) => error,
     }
 }
 
 /// That a prefix stands behind a prefix; it is taken.
 #[tactic(auto, unfolding(tera_expect::specs::Taking::Refuses, tera_expect::specs::Taking::Took), using(tera_expect::proofs::Going::refused_behind))]
-pub fn consecutive(alloc: Global, cursor: &mut Cursor<'_>) -> Error
+pub fn consecutive(cursor: &mut Cursor<'_>) -> Error
     ensures { Refuses cursor.old result }
 {
     match cursor.next_or_eoi() {
         Ok((_, span)) => Error::syntax_error(
-            alloc,
+            cursor.alloc(),
             "`-` and `not` cannot be used consecutively.",
             &span,
         ),

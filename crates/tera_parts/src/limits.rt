@@ -8,7 +8,6 @@ ghost use Rattle.tera_parts.specs.Rooms.{Decides, limits_of, lowered, room_of};
 ghost use Rattle.tera_expect.specs.Taking.{Refuses};
 
 use crate::faults::{TOO_COMPLEX, too_complex};
-use std::alloc::Global;
 use tera_base::Error;
 use tera_expect::reported;
 use tera_lexer::Cursor;
@@ -106,17 +105,17 @@ impl Room {
 
     /// The room inside of a subscript, whose bracket was taken last.
     #[tactic(auto, unfolding(crate::specs::Unfold::inside_subscript))]
-    pub fn in_subscript(self, alloc: Global, cursor: &Cursor<'_>) -> Result<Room, Error>
+    pub fn in_subscript(self, cursor: &Cursor<'_>) -> Result<Room, Error>
         ensures opens { IfOk result (λ r. (inside_subscript (room_of self) ≡ Some (room_of r)) × (r.scope ≡ self.scope)) }
         ensures fails { IfErr result (λ e. IsMemory e ⊎ (inside_subscript (room_of self) ≡ None)) }
         ensures refusal { IfErr result (Refuses cursor.now) }
     {
         if self.subscripts == 0 {
             let most = self.scope.limits.subscripts;
-            let message = format!(in alloc;
+            let message = format!(in cursor.alloc();
                 "Identifiers can only have up to {most} nested brackets."
             );
-            return Err(reported(alloc, cursor, message));
+            return Err(reported(cursor, message));
         }
         Ok(Room {
             subscripts: self.subscripts - 1,
@@ -126,15 +125,17 @@ impl Room {
 
     /// The room of the items of an array, whose bracket was taken last.
     #[tactic(auto, unfolding(crate::specs::Unfold::inside_array))]
-    pub fn in_array(self, alloc: Global, cursor: &Cursor<'_>) -> Result<Room, Error>
+    pub fn in_array(self, cursor: &Cursor<'_>) -> Result<Room, Error>
         ensures opens { IfOk result (λ r. (inside_array (room_of self) ≡ Some (room_of r)) × (r.scope ≡ self.scope)) }
         ensures fails { IfErr result (λ e. IsMemory e ⊎ (inside_array (room_of self) ≡ None)) }
         ensures refusal { IfErr result (Refuses cursor.now) }
     {
         if self.arrays == 0 {
             let most = self.scope.limits.arrays;
-            let message = format!(in alloc; "Arrays can have a maximum of {most} dimensions.");
-            return Err(reported(alloc, cursor, message));
+            let message = format!(in cursor.alloc();
+                "Arrays can have a maximum of {most} dimensions."
+            );
+            return Err(reported(cursor, message));
         }
         Ok(Room {
             arrays: self.arrays - 1,
@@ -144,13 +145,13 @@ impl Room {
 }
 
 /// Counts one link, behind the token taken last, where one may still come.
-pub fn count_link(alloc: Global, cursor: &Cursor<'_>, links: &mut usize) -> Result<(), Error>
+pub fn count_link(cursor: &Cursor<'_>, links: &mut usize) -> Result<(), Error>
     ensures counts { IfOk result (λ _. lowered links.old ≡ Some links.new) }
     ensures fails { IfErr result (λ e. IsMemory e ⊎ (lowered links.old ≡ None)) }
     ensures refusal { IfErr result (Refuses cursor.now) }
 {
     if *links == 0 {
-        return Err(too_complex(alloc, cursor));
+        return Err(too_complex(cursor));
     }
     *links -= 1;
     Ok(())
@@ -159,20 +160,15 @@ pub fn count_link(alloc: Global, cursor: &Cursor<'_>, links: &mut usize) -> Resu
 /// Counts the link of a binary operator, which comes next, where one may still come. In front of a `not in` the `not`
 /// is told of.
 #[tactic(auto, using(tera_expect::proofs::Going::next_refused))]
-pub fn count_operator(
-    alloc: Global,
-    cursor: &Cursor<'_>,
-    links: &mut usize,
-    negated: bool,
-) -> Result<(), Error>
+pub fn count_operator(cursor: &Cursor<'_>, links: &mut usize, negated: bool) -> Result<(), Error>
     ensures counts { IfOk result (λ _. lowered links.old ≡ Some links.new) }
     ensures fails { IfErr result (λ e. IsMemory e ⊎ (lowered links.old ≡ None)) }
     ensures refusal { IfErr result (Refuses cursor.now) }
 {
     match cursor.first_span() {
         Some(word) if negated && *links == 0 => {
-            Err(Error::syntax_error(alloc, TOO_COMPLEX, word))
+            Err(Error::syntax_error(cursor.alloc(), TOO_COMPLEX, word))
         }
-        _ => count_link(alloc, cursor, links),
+        _ => count_link(cursor, links),
     }
 }

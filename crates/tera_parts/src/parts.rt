@@ -34,23 +34,19 @@ pub fn spanning(start: &Span, end: &Span) -> Span
 
 /// The constant that the token is, which stands at the span and was taken last.
 #[tactic(auto, using(tera_expect::proofs::Going::memory_refused, crate::proofs::Negating::count_negatable))]
-pub fn literal(
-    alloc: Global,
-    cursor: &Cursor<'_>,
-    token: Token<'_>,
-    span: &Span,
-) -> Result<Expression, Error>
+pub fn literal(cursor: &Cursor<'_>, token: Token<'_>, span: &Span) -> Result<Expression, Error>
     requires { IsCounted (seen token) }
     ensures gives { GivesLiteral (seen token.entry) span.now result }
     ensures negatable { IfOk result (λ e. MayBeNegated (expression_view e)) }
     ensures refusal { IfErr result (Refuses cursor.now) }
 {
+    let alloc = cursor.alloc();
     match token {
         Token::Integer(n) => Ok(leaves::integer(alloc, n, span.copied())?),
         Token::Str(text) => Ok(leaves::text(alloc, text, span.copied())?),
         Token::String(text) => Ok(leaves::string(alloc, text, span.copied())?),
         Token::Bool(b) => Ok(leaves::truth(alloc, b, span.copied())?),
-        token => Err(no_expression(alloc, cursor, &token)),
+        token => Err(no_expression(cursor, &token)),
     }
 }
 
@@ -117,7 +113,6 @@ pub fn negation(
 
 /// Refuses what `~` does not join on its right.
 pub fn refuse_prefix(
-    alloc: Global,
     cursor: &Cursor<'_>,
     operator: Operator,
     right: &Expression,
@@ -129,8 +124,8 @@ pub fn refuse_prefix(
     match (operator, right) {
         (Operator::StrConcat, Expression::UnaryOperation(operation)) => {
             let prefix = operation.node().op;
-            let message = format!(in alloc; "`{prefix}` is not allowed after `~`");
-            Err(reported(alloc, cursor, message))
+            let message = format!(in cursor.alloc(); "`{prefix}` is not allowed after `~`");
+            Err(reported(cursor, message))
         }
         _ => Ok(()),
     }

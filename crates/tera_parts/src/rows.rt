@@ -6,7 +6,6 @@ ghost use Rattle.tera_parts.specs.Rows.{Continues, reader_of};
 ghost use Rattle.tera_expect.specs.Taking.{Refuses, Took, mark_of};
 
 use crate::limits::{Room, Scope};
-use std::alloc::Global;
 use tera_base::Error;
 use tera_expect::{Fixed, eat, expect};
 use tera_lexer::Cursor;
@@ -43,7 +42,7 @@ impl Values {
 
 /// Behind an element of a row: whether another one stands there, behind a comma, or else the end of the row is taken.
 #[tactic(auto, using(tera_expect::proofs::Going::took_all, tera_expect::proofs::Going::took_goes, tera_expect::proofs::Going::took_further, tera_expect::proofs::Going::refused_behind))]
-pub fn more(alloc: Global, cursor: &mut Cursor<'_>, end: Fixed) -> Result<bool, Error>
+pub fn more(cursor: &mut Cursor<'_>, end: Fixed) -> Result<bool, Error>
     ensures gives { Continues (mark_of end) cursor.old.left cursor.new result }
     ensures refusal { IfErr result (Refuses cursor.old) }
     ensures later { IfOk result (λ _. Took cursor.old cursor.new) }
@@ -51,6 +50,6 @@ pub fn more(alloc: Global, cursor: &mut Cursor<'_>, end: Fixed) -> Result<bool, 
     if eat(cursor, end) {
         return Ok(false);
     }
-    expect(alloc, cursor, Fixed::Comma)?;
+    expect(cursor, Fixed::Comma)?;
     Ok(!eat(cursor, end))
 }

@@ -9,7 +9,6 @@ ghost use Rattle.tera_parts.specs.Rows.{reader_of};
 ghost use Rattle.tera_expect.specs.Taking.{GivesBy, Refuses, Took};
 
 use crate::rows::value;
-use std::alloc::Global;
 use std::collections::BTreeMap;
 use tera_base::Error;
 use tera_expect::{Fixed, eat, expect, name};
@@ -21,7 +20,6 @@ use tera_tree::Expression;
 #[cycle(reader)]
 #[tactic(auto, using(tera_expect::proofs::Going::took_all, tera_expect::proofs::Going::took_goes, tera_expect::proofs::Going::goes_took, tera_expect::proofs::Going::refused_behind, tera_expect::proofs::Going::refused_further, tera_expect::proofs::Going::memory_refused, tera_expect::proofs::Going::stays))]
 pub(crate) fn arguments(
-    alloc: Global,
     cursor: &mut Cursor<'_>,
     links: &mut usize,
     values: Values,
@@ -30,15 +28,16 @@ pub(crate) fn arguments(
     ensures refusal { IfErr result (Refuses cursor.old) }
     ensures later { IfOk result (λ _. Took cursor.old cursor.new) }
 {
+    let alloc = cursor.alloc();
     let mut arguments = BTreeMap::new(alloc);
     let mut names = Vec::new(alloc);
     let mut open = !eat(cursor, Fixed::RightParen);
     'elements: while open {
-        let name = argument_name(alloc, cursor, &arguments, &mut names)?;
-        expect(alloc, cursor, Fixed::Assign)?;
-        let value = value(alloc, cursor, links, values, 0)?;
+        let name = argument_name(cursor, &arguments, &mut names)?;
+        expect(cursor, Fixed::Assign)?;
+        let value = value(cursor, links, values, 0)?;
         put_argument(alloc, &mut arguments, name, value)?;
-        open = more(alloc, cursor, Fixed::RightParen)?;
+        open = more(cursor, Fixed::RightParen)?;
     }
     Ok(arguments)
 }

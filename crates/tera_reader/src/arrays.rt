@@ -17,7 +17,6 @@ ghost use Rattle.tera_parts.specs.Rows.{reader_of};
 ghost use Rattle.tera_expect.specs.Taking.{GivesAs, GivesBy, GoesOn, Refuses, Took, mark_of, name_at, place_at};
 
 use crate::rows::value;
-use std::alloc::Global;
 use tera_base::{Error, Span};
 use tera_expect::{Fixed, eat, expect, fault, name, reported};
 use tera_lexer::Cursor;
@@ -28,7 +27,6 @@ use tera_tree::{ArrayEntry, Expression, build};
 #[cycle(reader)]
 #[tactic(auto, using(tera_expect::proofs::Going::took_all, tera_expect::proofs::Going::refused_behind, tera_expect::proofs::Going::memory_refused, crate::proofs::Arraying::array_negatable))]
 pub(crate) fn array(
-    alloc: Global,
     cursor: &mut Cursor<'_>,
     links: &mut usize,
     values: Values,
@@ -39,30 +37,30 @@ pub(crate) fn array(
     ensures refusal { IfErr result (Refuses cursor.old) }
     ensures later { IfOk result (λ _. Took cursor.old cursor.new) }
 {
-    let room = values.room.in_array(alloc, cursor)?;
+    let alloc = cursor.alloc();
+    let room = values.room.in_array(cursor)?;
     let inside = Values { room, ..values };
     if eat(cursor, Fixed::RightBracket) {
         let span = spanning(first, cursor.current_span());
         return Ok(array_or_constant(alloc, Vec::new(alloc), span)?);
     }
     if eat(cursor, Fixed::Spread) {
-        let spread = value(alloc, cursor, links, inside, 0)?;
+        let spread = value(cursor, links, inside, 0)?;
         let spread = ArrayEntry::Spread(spread);
-        return items(alloc, cursor, links, inside, first, spread);
+        return items(cursor, links, inside, first, spread);
     }
-    let element = value(alloc, cursor, links, inside, 0)?;
+    let element = value(cursor, links, inside, 0)?;
     if eat(cursor, Fixed::For) {
-        return comprehension(alloc, cursor, links, values, first, element);
+        return comprehension(cursor, links, values, first, element);
     }
     let element = ArrayEntry::Item(element);
-    items(alloc, cursor, links, inside, first, element)
+    items(cursor, links, inside, first, element)
 }
 
 // The items behind the first one of an array, whose bracket stands at the span.
 #[cycle(reader)]
 #[tactic(auto, using(tera_expect::proofs::Going::took_all, tera_expect::proofs::Going::refused_behind, tera_expect::proofs::Going::memory_refused, crate::proofs::Arraying::array_negatable))]
 fn items(
-    alloc: Global,
     cursor: &mut Cursor<'_>,
     links: &mut usize,
     values: Values,
@@ -74,13 +72,14 @@ fn items(
     ensures refusal { IfErr result (Refuses cursor.old) }
     ensures later { IfOk result (λ _. Took cursor.old cursor.new) }
 {
+    let alloc = cursor.alloc();
     let mut items = Vec::new(alloc);
     items.push(element)?;
-    let mut open = more(alloc, cursor, Fixed::RightBracket)?;
+    let mut open = more(cursor, Fixed::RightBracket)?;
     'elements: while open {
-        let element = item(alloc, cursor, links, values)?;
+        let element = item(cursor, links, values)?;
         items.push(element)?;
-        open = more(alloc, cursor, Fixed::RightBracket)?;
+        open = more(cursor, Fixed::RightBracket)?;
     }
     let span = spanning(first, cursor.current_span());
     Ok(array_or_constant(alloc, items, span)?)
@@ -89,21 +88,16 @@ fn items(
 // An item of an array, or a spread.
 #[cycle(reader)]
 #[tactic(auto, using(tera_expect::proofs::Going::took_all, tera_expect::proofs::Going::refused_behind))]
-fn item(
-    alloc: Global,
-    cursor: &mut Cursor<'_>,
-    links: &mut usize,
-    values: Values,
-) -> Result<ArrayEntry, Error>
+fn item(cursor: &mut Cursor<'_>, links: &mut usize, values: Values) -> Result<ArrayEntry, Error>
     ensures gives { GivesBy (IsItem values.room.scope.in_loop) result (at links.new cursor.new.left) (element_of (reader_of values) (room_of values.room) of_items (at links.old cursor.old.left)) }
     ensures refusal { IfErr result (Refuses cursor.old) }
     ensures later { IfOk result (λ _. Took cursor.old cursor.new) }
 {
     if eat(cursor, Fixed::Spread) {
-        let spread = value(alloc, cursor, links, values, 0)?;
+        let spread = value(cursor, links, values, 0)?;
         return Ok(ArrayEntry::Spread(spread));
     }
-    let element = value(alloc, cursor, links, values, 0)?;
+    let element = value(cursor, links, values, 0)?;
     Ok(ArrayEntry::Item(element))
 }
 
@@ -111,7 +105,6 @@ fn item(
 #[cycle(reader)]
 #[tactic(auto, using(tera_expect::proofs::Going::took_all, tera_expect::proofs::Going::took_further, tera_expect::proofs::Going::refused_behind, tera_expect::proofs::Going::refused_further, tera_expect::proofs::Going::memory_refused, crate::proofs::Arraying::comprehension_negatable))]
 fn comprehension(
-    alloc: Global,
     cursor: &mut Cursor<'_>,
     links: &mut usize,
     values: Values,
@@ -123,21 +116,28 @@ fn comprehension(
     ensures refusal { IfErr result (Refuses cursor.old) }
     ensures later { IfOk result (λ _. Took cursor.old cursor.new) }
 {
-    let named = variables(alloc, cursor)?;
-    expect(alloc, cursor, Fixed::In)?;
-    let target = value(alloc, cursor, links, values, 1)?;
-    let condition = extra(alloc, cursor, links, values, Fixed::If, 1)?;
-    close_comprehension(alloc, cursor)?;
+    let named = variables(cursor)?;
+    expect(cursor, Fixed::In)?;
+    let target = value(cursor, links, values, 1)?;
+    let condition = extra(cursor, links, values, Fixed::If, 1)?;
+    close_comprehension(cursor)?;
     let span = spanning(first, cursor.current_span());
     let (key, variable) = named;
-    Ok(build::comprehension(alloc, element, key, variable, target, condition, span)?)
+    Ok(build::comprehension(
+        cursor.alloc(),
+        element,
+        key,
+        variable,
+        target,
+        condition,
+        span,
+    )?)
 }
 
 /// An expression behind a token of its own, at a least power, where that token stands.
 #[cycle(reader)]
 #[tactic(auto, using(tera_expect::proofs::Going::took_all, tera_expect::proofs::Going::took_goes, tera_expect::proofs::Going::stays, tera_expect::proofs::Going::refused_behind))]
 pub(crate) fn extra(
-    alloc: Global,
     cursor: &mut Cursor<'_>,
     links: &mut usize,
     values: Values,
@@ -149,7 +149,7 @@ pub(crate) fn extra(
     ensures later { IfOk result (λ _. GoesOn cursor.old cursor.new) }
 {
     if eat(cursor, before) {
-        Ok(Some(value(alloc, cursor, links, values, least)?))
+        Ok(Some(value(cursor, links, values, least)?))
     } else {
         Ok(None)
     }
@@ -157,14 +157,15 @@ pub(crate) fn extra(
 
 // The variables of a comprehension.
 #[tactic(auto, using(tera_expect::proofs::Going::took_all, tera_expect::proofs::Going::refused_behind, tera_expect::proofs::Going::memory_refused))]
-fn variables(alloc: Global, cursor: &mut Cursor<'_>) -> Result<(Option<String>, String), Error>
+fn variables(cursor: &mut Cursor<'_>) -> Result<(Option<String>, String), Error>
     ensures gives { (i : ℕ) → GivesBy AreVariables result (at i cursor.new.left) (variables_of (at i cursor.old.left)) }
     ensures refusal { IfErr result (Refuses cursor.old) }
     ensures later { IfOk result (λ _. Took cursor.old cursor.new) }
 {
-    let first = variable_name(alloc, cursor)?;
+    let alloc = cursor.alloc();
+    let first = variable_name(cursor)?;
     if eat(cursor, Fixed::Comma) {
-        let second = variable_name(alloc, cursor)?;
+        let second = variable_name(cursor)?;
         let key = String::from_str(alloc, first)?;
         return Ok((Some(key), String::from_str(alloc, second)?));
     }
@@ -173,17 +174,17 @@ fn variables(alloc: Global, cursor: &mut Cursor<'_>) -> Result<(Option<String>, 
 
 // The name of what a comprehension goes over.
 #[tactic(auto, using(tera_expect::proofs::Going::refused_behind))]
-fn variable_name<'a>(alloc: Global, cursor: &mut Cursor<'a>) -> Result<&'a str, Error>
+fn variable_name<'a>(cursor: &mut Cursor<'a>) -> Result<&'a str, Error>
     ensures gives { GivesAs (name_at cursor.new.span) result cursor.new.left (variable_at cursor.old.left) }
     ensures refusal { IfErr result (Refuses cursor.old) }
     ensures later { IfOk result (λ _. Took cursor.old cursor.new) }
 {
-    let name = name(alloc, cursor)?;
+    let name = name(cursor)?;
     if is_reserved(name) {
-        let message = format!(in alloc;
+        let message = format!(in cursor.alloc();
             "{name} is a reserved keyword of Tera, it cannot be used as a list comprehension variable."
         );
-        return Err(reported(alloc, cursor, message));
+        return Err(reported(cursor, message));
     }
     Ok(name)
 }
@@ -212,17 +213,16 @@ pub(crate) fn is_reserved(name: &str) -> bool
 
 // The bracket behind a comprehension.
 #[tactic(auto, using(tera_expect::proofs::Going::refused_behind))]
-fn close_comprehension(alloc: Global, cursor: &mut Cursor<'_>) -> Result<(), Error>
+fn close_comprehension(cursor: &mut Cursor<'_>) -> Result<(), Error>
     ensures gives { GivesAs (place_at cursor.new.span) result cursor.new.left (takes RightBracket cursor.old.left) }
     ensures refusal { IfErr result (Refuses cursor.old) }
     ensures later { IfOk result (λ _. Took cursor.old cursor.new) }
 {
     if eat(cursor, Fixed::For) {
         return Err(fault(
-            alloc,
             cursor,
             "List comprehensions support only a single `for` clause.",
         ));
     }
-    expect(alloc, cursor, Fixed::RightBracket)
+    expect(cursor, Fixed::RightBracket)
 }

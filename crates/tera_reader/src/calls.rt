@@ -14,7 +14,6 @@ ghost use Rattle.tera_expect.specs.Taking.{GivesBy, GoesOn, Refuses, Took};
 
 use crate::arguments::arguments;
 use crate::subscripts::{read_subscript, with_subscript};
-use std::alloc::Global;
 use std::collections::BTreeMap;
 use tera_base::{Error, Span};
 use tera_expect::{Fixed, eat, name};
@@ -35,7 +34,6 @@ pub(crate) struct Call {
 #[cycle(reader)]
 #[tactic(auto, unfolding(crate::specs::Unfold::suffix_in), using(tera_expect::proofs::Going::refused_behind, tera_expect::proofs::Going::memory_refused))]
 pub(crate) fn suffix(
-    alloc: Global,
     cursor: &mut Cursor<'_>,
     links: &mut usize,
     room: Room,
@@ -54,12 +52,12 @@ pub(crate) fn suffix(
         own: None,
     };
     match ending {
-        Ending::Test => test(alloc, cursor, links, values, left, start),
-        Ending::Filter => filter_with(alloc, cursor, links, values, left),
+        Ending::Test => test(cursor, links, values, left, start),
+        Ending::Filter => filter_with(cursor, links, values, left),
         Ending::Subscript => {
-            let item = read_subscript(alloc, cursor, links, room, below)?;
+            let item = read_subscript(cursor, links, room, below)?;
             let last = cursor.current_span();
-            Ok(with_subscript(alloc, left, item, false, last)?)
+            Ok(with_subscript(cursor.alloc(), left, item, false, last)?)
         }
     }
 }
@@ -68,7 +66,6 @@ pub(crate) fn suffix(
 #[cycle(reader)]
 #[tactic(auto, using(tera_expect::proofs::Going::took_all, tera_expect::proofs::Going::refused_behind, tera_expect::proofs::Going::memory_refused))]
 fn test(
-    alloc: Global,
     cursor: &mut Cursor<'_>,
     links: &mut usize,
     values: Values,
@@ -79,8 +76,9 @@ fn test(
     ensures refusal { IfErr result (Refuses cursor.old) }
     ensures later { IfOk result (λ _. Took cursor.old cursor.new) }
 {
+    let alloc = cursor.alloc();
     let negated = eat(cursor, Fixed::Not);
-    let call = read_call(alloc, cursor, links, values)?;
+    let call = read_call(cursor, links, values)?;
     let test = build::test(alloc, left, call.name, call.kwargs, call.span)?;
     if !negated {
         return Ok(test);
@@ -92,7 +90,6 @@ fn test(
 #[cycle(reader)]
 #[tactic(auto, using(tera_expect::proofs::Going::refused_behind, tera_expect::proofs::Going::memory_refused))]
 pub(crate) fn filter_with(
-    alloc: Global,
     cursor: &mut Cursor<'_>,
     links: &mut usize,
     values: Values,
@@ -102,27 +99,22 @@ pub(crate) fn filter_with(
     ensures refusal { IfErr result (Refuses cursor.old) }
     ensures later { IfOk result (λ _. Took cursor.old cursor.new) }
 {
-    let call = read_call(alloc, cursor, links, values)?;
-    Ok(build::filter(alloc, left, call.name, call.kwargs, call.span)?)
+    let call = read_call(cursor, links, values)?;
+    Ok(build::filter(cursor.alloc(), left, call.name, call.kwargs, call.span)?)
 }
 
 // A name with its arguments, if it has some.
 #[cycle(reader)]
 #[tactic(auto, using(tera_expect::proofs::Going::took_further, tera_expect::proofs::Going::refused_behind, tera_expect::proofs::Going::memory_refused))]
-fn read_call(
-    alloc: Global,
-    cursor: &mut Cursor<'_>,
-    links: &mut usize,
-    values: Values,
-) -> Result<Call, Error>
+fn read_call(cursor: &mut Cursor<'_>, links: &mut usize, values: Values) -> Result<Call, Error>
     ensures gives { GivesBy (IsCall values.room.scope.in_loop cursor.new.span) result (at links.new cursor.new.left) (call_of (reader_of values) (room_of values.room) (at links.old cursor.old.left)) }
     ensures refusal { IfErr result (Refuses cursor.old) }
     ensures later { IfOk result (λ _. Took cursor.old cursor.new) }
 {
-    let name = name(alloc, cursor)?;
+    let name = name(cursor)?;
     let mut span = cursor.current_span().copied();
-    let name = String::from_str(alloc, name)?;
-    let kwargs = maybe_arguments(alloc, cursor, links, values)?;
+    let name = String::from_str(cursor.alloc(), name)?;
+    let kwargs = maybe_arguments(cursor, links, values)?;
     span.expand(cursor.current_span());
     Ok(Call { name, kwargs, span })
 }
@@ -131,7 +123,6 @@ fn read_call(
 #[cycle(reader)]
 #[tactic(auto, using(tera_expect::proofs::Going::stays, tera_expect::proofs::Going::took_goes, tera_expect::proofs::Going::took_all, tera_expect::proofs::Going::refused_behind))]
 fn maybe_arguments(
-    alloc: Global,
     cursor: &mut Cursor<'_>,
     links: &mut usize,
     values: Values,
@@ -141,7 +132,7 @@ fn maybe_arguments(
     ensures later { IfOk result (λ _. GoesOn cursor.old cursor.new) }
 {
     if !eat(cursor, Fixed::LeftParen) {
-        return Ok(BTreeMap::new(alloc));
+        return Ok(BTreeMap::new(cursor.alloc()));
     }
-    arguments(alloc, cursor, links, values)
+    arguments(cursor, links, values)
 }

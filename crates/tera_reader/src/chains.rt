@@ -18,7 +18,6 @@ ghost use Rattle.tera_reader.specs.declared.chains.Link.TheVariants as variants;
 
 use crate::arguments::arguments;
 use crate::subscripts::{read_subscript, with_subscript};
-use std::alloc::Global;
 use tera_base::{Error, Span};
 use tera_expect::{Fixed, eat, fault, name, reported};
 use tera_lexer::{Cursor, Token};
@@ -66,7 +65,6 @@ pub(crate) enum Linked {
 #[cycle(reader)]
 #[tactic(auto, unfolding(crate::specs::Unfold::chain_of, crate::specs::Unfold::skip), using(crate::proofs::Linking::chain_negatable, crate::proofs::Linking::call_negatable, tera_expect::proofs::Going::took_goes, tera_expect::proofs::Going::took_all, tera_expect::proofs::Going::refused_behind, tera_expect::proofs::Going::memory_refused))]
 pub(crate) fn chain(
-    alloc: Global,
     cursor: &mut Cursor<'_>,
     links: &mut usize,
     room: Room,
@@ -81,9 +79,9 @@ pub(crate) fn chain(
     ensures later { IfOk result (λ _. GoesOn cursor.old cursor.new) }
 {
     if eat(cursor, Fixed::LeftParen) {
-        function_call(alloc, cursor, links, room, below, name, first)
+        function_call(cursor, links, room, below, name, first)
     } else {
-        with_links(alloc, cursor, links, room, below, name, first)
+        with_links(cursor, links, room, below, name, first)
     }
 }
 
@@ -91,7 +89,6 @@ pub(crate) fn chain(
 #[cycle(reader)]
 #[tactic(auto, using(tera_expect::proofs::Going::refused_behind, tera_expect::proofs::Going::memory_refused))]
 fn function_call(
-    alloc: Global,
     cursor: &mut Cursor<'_>,
     links: &mut usize,
     room: Room,
@@ -103,12 +100,13 @@ fn function_call(
     ensures refusal { IfErr result (Refuses cursor.old) }
     ensures later { IfOk result (λ _. Took cursor.old cursor.new) }
 {
+    let alloc = cursor.alloc();
     let values = Values {
         room,
         below,
         own: None,
     };
-    let kwargs = arguments(alloc, cursor, links, values)?;
+    let kwargs = arguments(cursor, links, values)?;
     let mut span = first.copied();
     span.expand(cursor.current_span());
     let name = String::from_str(alloc, name)?;
@@ -119,7 +117,6 @@ fn function_call(
 #[cycle(reader)]
 #[tactic(auto, using(tera_expect::proofs::Going::stays, tera_expect::proofs::Going::goes_took, tera_expect::proofs::Going::took_goes, tera_expect::proofs::Going::refused_further, tera_expect::proofs::Going::memory_refused))]
 fn with_links(
-    alloc: Global,
     cursor: &mut Cursor<'_>,
     links: &mut usize,
     room: Room,
@@ -133,9 +130,9 @@ fn with_links(
     ensures later { IfOk result (λ _. GoesOn cursor.old cursor.new) }
 {
     let fields_of_loop = is_loop(room.scope.in_loop, name);
-    let mut chain = leaves::variable(alloc, name, first.copied())?;
+    let mut chain = leaves::variable(cursor.alloc(), name, first.copied())?;
     'growing: loop {
-        match with_link(alloc, cursor, links, room, below, fields_of_loop, chain)? {
+        match with_link(cursor, links, room, below, fields_of_loop, chain)? {
             Linked::Whole(whole) => return Ok(whole),
             Linked::Longer(longer) => chain = longer,
         }
@@ -153,7 +150,6 @@ fn is_loop(in_loop: bool, name: &str) -> bool
 #[cycle(reader)]
 #[tactic(auto, using(tera_expect::proofs::Going::took_all, tera_expect::proofs::Going::refused_behind, tera_expect::proofs::Going::memory_refused))]
 fn with_link(
-    alloc: Global,
     cursor: &mut Cursor<'_>,
     links: &mut usize,
     room: Room,
@@ -168,22 +164,21 @@ fn with_link(
     match Link::at(cursor) {
         Link::Nothing => Ok(Linked::Whole(chain)),
         Link::Called => Err(fault(
-            alloc,
             cursor,
             "Function calls are only allowed at the first element of a chain",
         )),
         Link::Field(optional) => {
-            count_link(alloc, cursor, links)?;
+            count_link(cursor, links)?;
             take_link(cursor);
-            let longer = field(alloc, cursor, fields_of_loop, chain, optional)?;
+            let longer = field(cursor, fields_of_loop, chain, optional)?;
             Ok(Linked::Longer(longer))
         }
         Link::Item(optional) => {
-            count_link(alloc, cursor, links)?;
+            count_link(cursor, links)?;
             take_link(cursor);
-            let item = read_subscript(alloc, cursor, links, room, below)?;
+            let item = read_subscript(cursor, links, room, below)?;
             let last = cursor.current_span();
-            Ok(Linked::Longer(with_subscript(alloc, chain, item, optional, last)?))
+            Ok(Linked::Longer(with_subscript(cursor.alloc(), chain, item, optional, last)?))
         }
     }
 }
@@ -200,7 +195,6 @@ fn take_link(cursor: &mut Cursor<'_>)
 // A field of a chain, whose dot was taken last.
 #[tactic(auto, using(tera_expect::proofs::Going::took_all, tera_expect::proofs::Going::refused_behind, tera_expect::proofs::Going::memory_refused))]
 fn field(
-    alloc: Global,
     cursor: &mut Cursor<'_>,
     of_loop: bool,
     chain: Expression,
@@ -210,7 +204,8 @@ fn field(
     ensures refusal { IfErr result (Refuses cursor.old) }
     ensures later { IfOk result (λ _. Took cursor.old cursor.new) }
 {
-    let name = name(alloc, cursor)?;
+    let alloc = cursor.alloc();
+    let name = name(cursor)?;
     let span = cursor.current_span().copied();
     if !of_loop {
         let name = String::from_str(alloc, name)?;
@@ -220,7 +215,7 @@ fn field(
         let message = format!(in alloc;
             "Found invalid field of `loop`: {name}. Only `index`, `index0`, `first`, `last` and `length` exist."
         );
-        return Err(reported(alloc, cursor, message));
+        return Err(reported(cursor, message));
     }
     let name = format!(in alloc; "__tera_loop_{name}")?;
     Ok(build::variable(alloc, name, span)?)

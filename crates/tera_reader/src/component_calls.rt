@@ -16,7 +16,6 @@ ghost use Rattle.tera_parts.specs.Rows.{reader_of};
 ghost use Rattle.tera_expect.specs.Taking.{GivesBy, GoesOn, Refuses, Took, name_in};
 
 use crate::rows::value;
-use std::alloc::Global;
 use tera_base::{Error, Key, Span};
 use tera_expect::{Fixed, eat, eat_name, expect};
 use tera_lexer::{Cursor, Token};
@@ -29,7 +28,6 @@ use tera_tree::{Expression, MapEntry, build};
 #[cycle(reader)]
 #[tactic(auto, using(tera_expect::proofs::Going::took_further, tera_expect::proofs::Going::took_all, tera_expect::proofs::Going::refused_behind, tera_expect::proofs::Going::memory_refused))]
 pub(crate) fn component(
-    alloc: Global,
     cursor: &mut Cursor<'_>,
     links: &mut usize,
     room: Room,
@@ -41,17 +39,18 @@ pub(crate) fn component(
     ensures refusal { IfErr result (Refuses cursor.old) }
     ensures later { IfOk result (λ _. Took cursor.old cursor.new) }
 {
+    let alloc = cursor.alloc();
     if !begins_name(cursor) {
-        return Err(no_component_name(alloc, cursor));
+        return Err(no_component_name(cursor));
     }
-    let name = dotted_name(alloc, cursor)?;
+    let name = dotted_name(cursor)?;
     let values = Values {
         room,
         below,
         own: None,
     };
-    let kwargs = attributes(alloc, cursor, links, values)?;
-    close_component(alloc, cursor)?;
+    let kwargs = attributes(cursor, links, values)?;
+    close_component(cursor)?;
     let span = spanning(first, cursor.current_span());
     let body = Vec::new(alloc);
     Ok(build::component_call(alloc, name, kwargs, body, true, span)?)
@@ -68,7 +67,6 @@ fn begins_name(cursor: &Cursor<'_>) -> bool
 #[cycle(reader)]
 #[tactic(auto, using(tera_expect::proofs::Going::stays, tera_expect::proofs::Going::goes_took, tera_expect::proofs::Going::took_goes, tera_expect::proofs::Going::refused_further, tera_expect::proofs::Going::memory_refused))]
 pub(crate) fn attributes(
-    alloc: Global,
     cursor: &mut Cursor<'_>,
     links: &mut usize,
     values: Values,
@@ -77,8 +75,8 @@ pub(crate) fn attributes(
     ensures refusal { IfErr result (Refuses cursor.old) }
     ensures later { IfOk result (λ _. GoesOn cursor.old cursor.new) }
 {
-    let mut attributes = Vec::new(alloc);
-    'reading: while let Some(next) = attribute(alloc, cursor, links, values)? {
+    let mut attributes = Vec::new(cursor.alloc());
+    'reading: while let Some(next) = attribute(cursor, links, values)? {
         attributes.push(next)?;
     }
     Ok(attributes)
@@ -88,7 +86,6 @@ pub(crate) fn attributes(
 #[cycle(reader)]
 #[tactic(auto, using(tera_expect::proofs::Going::took_further, tera_expect::proofs::Going::took_all, tera_expect::proofs::Going::refused_behind, tera_expect::proofs::Going::memory_refused))]
 fn attribute(
-    alloc: Global,
     cursor: &mut Cursor<'_>,
     links: &mut usize,
     values: Values,
@@ -98,14 +95,14 @@ fn attribute(
     ensures later { IfOk result (MaybeTook cursor.old cursor.new) }
 {
     if let Some(name) = eat_name(cursor) {
-        let named = named_attribute(alloc, cursor, links, values, name)?;
+        let named = named_attribute(cursor, links, values, name)?;
         return Ok(Some(named));
     }
     if !eat(cursor, Fixed::LeftBrace) {
         return Ok(None);
     }
-    expect(alloc, cursor, Fixed::Spread)?;
-    let spread = braced(alloc, cursor, links, values)?;
+    expect(cursor, Fixed::Spread)?;
+    let spread = braced(cursor, links, values)?;
     Ok(Some(MapEntry::Spread(spread)))
 }
 
@@ -113,7 +110,6 @@ fn attribute(
 #[cycle(reader)]
 #[tactic(auto, using(tera_expect::proofs::Going::stays, tera_expect::proofs::Going::took_goes, tera_expect::proofs::Going::took_all, tera_expect::proofs::Going::refused_behind, tera_expect::proofs::Going::memory_refused))]
 fn named_attribute(
-    alloc: Global,
     cursor: &mut Cursor<'_>,
     links: &mut usize,
     values: Values,
@@ -123,6 +119,7 @@ fn named_attribute(
     ensures refusal { IfErr result (Refuses cursor.old) }
     ensures later { IfOk result (λ _. GoesOn cursor.old cursor.new) }
 {
+    let alloc = cursor.alloc();
     let key = Key::String(String::from_str(alloc, name)?);
     if !eat(cursor, Fixed::Assign) {
         let variable = leaves::variable(alloc, name, cursor.current_span().copied())?;
@@ -131,7 +128,7 @@ fn named_attribute(
             value: variable,
         });
     }
-    let value = attribute_value(alloc, cursor, links, values)?;
+    let value = attribute_value(cursor, links, values)?;
     Ok(MapEntry::KeyValue { key, value })
 }
 
@@ -139,7 +136,6 @@ fn named_attribute(
 #[cycle(reader)]
 #[tactic(auto, using(tera_expect::proofs::Going::took_all, tera_expect::proofs::Going::refused_behind))]
 fn attribute_value(
-    alloc: Global,
     cursor: &mut Cursor<'_>,
     links: &mut usize,
     values: Values,
@@ -149,25 +145,20 @@ fn attribute_value(
     ensures later { IfOk result (λ _. Took cursor.old cursor.new) }
 {
     if eat(cursor, Fixed::LeftBrace) {
-        return braced(alloc, cursor, links, values);
+        return braced(cursor, links, values);
     }
-    quote(alloc, cursor)
+    quote(cursor)
 }
 
 // A value and the brace behind it.
 #[cycle(reader)]
 #[tactic(auto, using(tera_expect::proofs::Going::took_all, tera_expect::proofs::Going::refused_behind))]
-fn braced(
-    alloc: Global,
-    cursor: &mut Cursor<'_>,
-    links: &mut usize,
-    values: Values,
-) -> Result<Expression, Error>
+fn braced(cursor: &mut Cursor<'_>, links: &mut usize, values: Values) -> Result<Expression, Error>
     ensures gives { GivesBy (IsBraced values.room.scope.in_loop) result (at links.new cursor.new.left) (braced_of (reader_of values) (room_of values.room) (at links.old cursor.old.left)) }
     ensures refusal { IfErr result (Refuses cursor.old) }
     ensures later { IfOk result (λ _. Took cursor.old cursor.new) }
 {
-    let inside = value(alloc, cursor, links, values, 0)?;
-    expect(alloc, cursor, Fixed::RightBrace)?;
+    let inside = value(cursor, links, values, 0)?;
+    expect(cursor, Fixed::RightBrace)?;
     Ok(inside)
 }

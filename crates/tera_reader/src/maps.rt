@@ -14,7 +14,6 @@ ghost use Rattle.tera_parts.specs.Rows.{reader_of};
 ghost use Rattle.tera_expect.specs.Taking.{GivesBy, Refuses, Took};
 
 use crate::rows::value;
-use std::alloc::Global;
 use tera_base::{Error, Span};
 use tera_expect::{Fixed, eat, expect};
 use tera_lexer::Cursor;
@@ -25,7 +24,6 @@ use tera_tree::{Expression, MapEntry};
 #[cycle(reader)]
 #[tactic(auto, using(tera_expect::proofs::Going::took_all, tera_expect::proofs::Going::took_goes, tera_expect::proofs::Going::goes_took, tera_expect::proofs::Going::refused_behind, tera_expect::proofs::Going::refused_further, tera_expect::proofs::Going::memory_refused, tera_expect::proofs::Going::stays))]
 pub(crate) fn map(
-    alloc: Global,
     cursor: &mut Cursor<'_>,
     links: &mut usize,
     values: Values,
@@ -36,12 +34,13 @@ pub(crate) fn map(
     ensures refusal { IfErr result (Refuses cursor.old) }
     ensures later { IfOk result (λ _. Took cursor.old cursor.new) }
 {
+    let alloc = cursor.alloc();
     let mut entries = Vec::new(alloc);
     let mut open = !eat(cursor, Fixed::RightBrace);
     'elements: while open {
-        let entry = entry(alloc, cursor, links, values)?;
+        let entry = entry(cursor, links, values)?;
         entries.push(entry)?;
-        open = more(alloc, cursor, Fixed::RightBrace)?;
+        open = more(cursor, Fixed::RightBrace)?;
     }
     let span = spanning(first, cursor.current_span());
     map_or_constant(alloc, entries, span)
@@ -50,22 +49,17 @@ pub(crate) fn map(
 // A pair of a key and a value, or a spread.
 #[cycle(reader)]
 #[tactic(auto, using(tera_expect::proofs::Going::took_all, tera_expect::proofs::Going::refused_behind))]
-fn entry(
-    alloc: Global,
-    cursor: &mut Cursor<'_>,
-    links: &mut usize,
-    values: Values,
-) -> Result<MapEntry, Error>
+fn entry(cursor: &mut Cursor<'_>, links: &mut usize, values: Values) -> Result<MapEntry, Error>
     ensures gives { GivesBy (IsEntry values.room.scope.in_loop) result (at links.new cursor.new.left) (element_of (reader_of values) (room_of values.room) of_entries (at links.old cursor.old.left)) }
     ensures refusal { IfErr result (Refuses cursor.old) }
     ensures later { IfOk result (λ _. Took cursor.old cursor.new) }
 {
     if eat(cursor, Fixed::Spread) {
-        let spread = value(alloc, cursor, links, values, 0)?;
+        let spread = value(cursor, links, values, 0)?;
         return Ok(MapEntry::Spread(spread));
     }
-    let key = key(alloc, cursor)?;
-    expect(alloc, cursor, Fixed::Colon)?;
-    let value = value(alloc, cursor, links, values, 0)?;
+    let key = key(cursor)?;
+    expect(cursor, Fixed::Colon)?;
+    let value = value(cursor, links, values, 0)?;
     Ok(MapEntry::KeyValue { key, value })
 }

@@ -9,7 +9,6 @@ ghost use Rattle.tera_parts.specs.Rows.{reader_of};
 ghost use Rattle.tera_expect.specs.Taking.{Refuses, Took};
 
 use crate::stack::expression;
-use std::alloc::Global;
 use tera_base::Error;
 use tera_lexer::Cursor;
 use tera_parts::Values;
@@ -18,7 +17,6 @@ use tera_tree::Expression;
 /// One value of a row, at a least power.
 #[cycle(reader)]
 pub(crate) fn value(
-    alloc: Global,
     cursor: &mut Cursor<'_>,
     links: &mut usize,
     values: Values,
@@ -31,8 +29,8 @@ pub(crate) fn value(
     match values.own {
         Some(all) => {
             let mut own = all;
-            expression(alloc, cursor, &mut own, values.room, values.below, least)
+            expression(cursor, &mut own, values.room, values.below, least)
         }
-        None => expression(alloc, cursor, links, values.room, values.below, least),
+        None => expression(cursor, links, values.room, values.below, least),
     }
 }

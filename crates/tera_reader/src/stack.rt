@@ -20,7 +20,6 @@ use crate::chains::chain;
 use crate::component_calls::component;
 use crate::frames::{Frame, Level, Operand, State};
 use crate::maps::map;
-use std::alloc::Global;
 use tera_base::{Error, Span};
 use tera_expect::{Fixed, expect, take};
 use tera_lexer::{Cursor, Token};
@@ -34,7 +33,6 @@ use tera_tree::{Expression, UnaryOperator, build};
 /// Reads an expression, from a least power on, where so many may open.
 #[cycle(reader)]
 pub(crate) fn expression(
-    alloc: Global,
     cursor: &mut Cursor<'_>,
     links: &mut usize,
     room: Room,
@@ -45,16 +43,14 @@ pub(crate) fn expression(
     ensures refusal { IfErr result (Refuses cursor.old) }
     ensures later { IfOk result (λ _. Took cursor.old cursor.new) }
 {
-    let mut frames = Vec::new(alloc);
+    let mut frames = Vec::new(cursor.alloc());
     let mut state = State::Wants(depth, least);
     'steps: loop {
         let next = match state {
             State::Wants(depth, least) => {
-                operand(alloc, cursor, links, &mut frames, room, depth, least)?
+                operand(cursor, links, &mut frames, room, depth, least)?
             }
-            State::Holds(level, left) => {
-                turn(alloc, cursor, links, &mut frames, room, level, left)?
-            }
+            State::Holds(level, left) => { turn(cursor, links, &mut frames, room, level, left)? }
             State::Done(whole) => return Ok(whole.expr),
         };
         state = next;
@@ -65,7 +61,6 @@ pub(crate) fn expression(
 #[inline(always)]
 #[cycle(reader)]
 fn operand(
-    alloc: Global,
     cursor: &mut Cursor<'_>,
     links: &mut usize,
     frames: &mut Vec<Frame>,
@@ -80,13 +75,13 @@ fn operand(
     ensures later { IfOk result (λ _. Took cursor.old cursor.new) }
 {
     if depth == 0 {
-        return Err(too_complex(alloc, cursor));
+        return Err(too_complex(cursor));
     }
     let level = Level {
         below: depth - 1,
         least,
     };
-    head(alloc, cursor, links, frames, room, level)
+    head(cursor, links, frames, room, level)
 }
 
 // Takes the first token of an operand: it is one by itself, or begins one.
@@ -94,7 +89,6 @@ fn operand(
 #[cycle(reader)]
 #[tactic(auto, using(tera_expect::proofs::Going::took_all, tera_expect::proofs::Going::took_further, tera_expect::proofs::Going::refused_behind, tera_expect::proofs::Going::memory_refused))]
 fn head(
-    alloc: Global,
     cursor: &mut Cursor<'_>,
     links: &mut usize,
     frames: &mut Vec<Frame>,
@@ -109,19 +103,19 @@ fn head(
 {
     let (token, span) = take(cursor)?;
     match token {
-        Token::Minus => return prefix(alloc, cursor, frames, level, UnaryOperator::Minus, span),
+        Token::Minus => return prefix(cursor, frames, level, UnaryOperator::Minus, span),
         Token::LeftParen => {
             frames.push(Frame::Paren(level, span))?;
             return Ok(State::Wants(level.below, 0));
         }
-        Token::Ident(name) => return word(alloc, cursor, links, frames, room, level, name, span),
+        Token::Ident(name) => return word(cursor, links, frames, room, level, name, span),
         Token::LeftBracket => {
             let values = Values {
                 room,
                 below: level.below,
                 own: None,
             };
-            let expr = array(alloc, cursor, links, values, &span)?;
+            let expr = array(cursor, links, values, &span)?;
             return Ok(holds(cursor, level, expr, &span));
         }
         Token::LeftBrace => {
@@ -130,15 +124,15 @@ fn head(
                 below: level.below,
                 own: None,
             };
-            let expr = map(alloc, cursor, links, values, &span)?;
+            let expr = map(cursor, links, values, &span)?;
             return Ok(holds(cursor, level, expr, &span));
         }
         Token::LessThan => {
-            let expr = component(alloc, cursor, links, room, level.below, &span)?;
+            let expr = component(cursor, links, room, level.below, &span)?;
             return Ok(holds(cursor, level, expr, &span));
         }
         token => {
-            let expr = literal(alloc, cursor, token, &span)?;
+            let expr = literal(cursor, token, &span)?;
             return Ok(holds(cursor, level, expr, &span));
         }
     }
@@ -158,7 +152,6 @@ fn holds(cursor: &Cursor<'_>, level: Level, expr: Expression, first: &Span) -> S
 #[cycle(reader)]
 #[tactic(auto, using(tera_expect::proofs::Going::memory_refused, tera_expect::proofs::Going::stays, tera_expect::proofs::Going::took_goes))]
 fn word(
-    alloc: Global,
     cursor: &mut Cursor<'_>,
     links: &mut usize,
     frames: &mut Vec<Frame>,
@@ -175,13 +168,13 @@ fn word(
     ensures later { IfOk result (λ _. GoesOn cursor.old cursor.new) }
 {
     if is_none(name) {
-        let expr = leaves::none(alloc, span.copied())?;
+        let expr = leaves::none(cursor.alloc(), span.copied())?;
         return Ok(holds(cursor, level, expr, &span));
     }
     if is_not(name) {
-        return prefix(alloc, cursor, frames, level, UnaryOperator::Not, span);
+        return prefix(cursor, frames, level, UnaryOperator::Not, span);
     }
-    let expr = chain(alloc, cursor, links, room, level.below, name, &span)?;
+    let expr = chain(cursor, links, room, level.below, name, &span)?;
     Ok(holds(cursor, level, expr, &span))
 }
 
@@ -189,7 +182,6 @@ fn word(
 #[inline(always)]
 #[tactic(auto, using(tera_expect::proofs::Going::memory_refused, tera_expect::proofs::Going::stays, tera_expect::proofs::Going::took_goes))]
 fn prefix(
-    alloc: Global,
     cursor: &mut Cursor<'_>,
     frames: &mut Vec<Frame>,
     level: Level,
@@ -203,7 +195,7 @@ fn prefix(
     ensures later { IfOk result (λ _. GoesOn cursor.old cursor.new) }
 {
     if begins_prefix(cursor) {
-        return Err(consecutive(alloc, cursor));
+        return Err(consecutive(cursor));
     }
     frames.push(Frame::Prefix(level, sign, span))?;
     Ok(State::Wants(level.below, prefix_power(sign)))
@@ -214,7 +206,6 @@ fn prefix(
 #[cycle(reader)]
 #[tactic(auto, using(tera_expect::proofs::Going::memory_refused, tera_expect::proofs::Going::stays, tera_expect::proofs::Going::took_goes, tera_expect::proofs::Going::took_all, tera_expect::proofs::Going::refused_behind))]
 fn turn(
-    alloc: Global,
     cursor: &mut Cursor<'_>,
     links: &mut usize,
     frames: &mut Vec<Frame>,
@@ -231,11 +222,11 @@ fn turn(
 {
     let front = Front::at(cursor);
     if front.stops(level.least) {
-        return close(alloc, cursor, frames, left);
+        return close(cursor, frames, left);
     }
     match front {
         Front::Joins(operator, negated) => {
-            count_operator(alloc, cursor, links, negated)?;
+            count_operator(cursor, links, negated)?;
             take_operator(cursor, operator, negated);
             frames.push(Frame::Binary {
                 level,
@@ -251,26 +242,21 @@ fn turn(
             Ok(State::Wants(level.below, 0))
         }
         Front::Closes(ending) => {
-            count_link(alloc, cursor, links)?;
+            count_link(cursor, links)?;
             take_ending(cursor, ending);
             let Operand { expr, span } = left;
-            let expr = suffix(alloc, cursor, links, room, level.below, ending, expr, &span)?;
+            let expr = suffix(cursor, links, room, level.below, ending, expr, &span)?;
             let span = spanning(&span, cursor.current_span());
             Ok(State::Holds(level, Operand { expr, span }))
         }
-        Front::Nothing | Front::Misplaced => Err(misplaced_not(alloc, cursor)),
+        Front::Nothing | Front::Misplaced => Err(misplaced_not(cursor)),
     }
 }
 
 // Hands an expression to the frame that it was read inside of, if there is one.
 #[inline(always)]
 #[tactic(auto, using(tera_expect::proofs::Going::memory_refused, tera_expect::proofs::Going::stays, tera_expect::proofs::Going::took_goes))]
-fn close(
-    alloc: Global,
-    cursor: &mut Cursor<'_>,
-    frames: &mut Vec<Frame>,
-    inside: Operand,
-) -> Result<State, Error>
+fn close(cursor: &mut Cursor<'_>, frames: &mut Vec<Frame>, inside: Operand) -> Result<State, Error>
     requires { MayBeNegated (expression_view inside.expr) }
     ensures keeps { (room : Room) (links : ℕ) → Keeps room result frames.new.items (at links cursor.new.left) (unwind room frames.old.items (Some (operand_view inside, at links cursor.old.left))) }
     ensures falls { (links : ℕ) → Falls result frames.new.items (at links cursor.new.left) (work frames.old.items (at links cursor.old.left) + 1) }
@@ -280,7 +266,7 @@ fn close(
 {
     match frames.pop() {
         None => Ok(State::Done(inside)),
-        Some(frame) => resume(alloc, cursor, frames, frame, inside),
+        Some(frame) => resume(cursor, frames, frame, inside),
     }
 }
 
@@ -288,7 +274,6 @@ fn close(
 #[inline(always)]
 #[tactic(auto, using(tera_expect::proofs::Going::memory_refused, tera_expect::proofs::Going::stays, tera_expect::proofs::Going::took_goes))]
 fn resume(
-    alloc: Global,
     cursor: &mut Cursor<'_>,
     frames: &mut Vec<Frame>,
     frame: Frame,
@@ -301,9 +286,10 @@ fn resume(
     ensures refusal { IfErr result (Refuses cursor.old) }
     ensures later { IfOk result (λ _. GoesOn cursor.old cursor.new) }
 {
+    let alloc = cursor.alloc();
     match frame {
         Frame::Paren(level, start) => {
-            expect(alloc, cursor, Fixed::RightParen)?;
+            expect(cursor, Fixed::RightParen)?;
             let span = spanning(&start, cursor.current_span());
             let expr = inside.expr;
             Ok(State::Holds(level, Operand { expr, span }))
@@ -319,7 +305,7 @@ fn resume(
             negated,
             left,
         } => {
-            refuse_prefix(alloc, cursor, operator, &inside.expr)?;
+            refuse_prefix(cursor, operator, &inside.expr)?;
             let span = spanning(&left.span, &inside.span);
             let expr = joined(
                 alloc,
@@ -332,7 +318,7 @@ fn resume(
             Ok(State::Holds(level, Operand { expr, span }))
         }
         Frame::TernaryCondition { level, left } => {
-            expect(alloc, cursor, Fixed::Else)?;
+            expect(cursor, Fixed::Else)?;
             let condition = inside.expr;
             frames.push(Frame::TernaryLast {
                 level,

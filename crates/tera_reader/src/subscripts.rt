@@ -37,7 +37,6 @@ pub(crate) enum Subscript {
 #[cycle(reader)]
 #[tactic(auto, unfolding(crate::specs::Unfold::sub_of), using(tera_expect::proofs::Going::took_all, tera_expect::proofs::Going::refused_behind, tera_expect::proofs::Going::memory_refused))]
 pub(crate) fn read_subscript(
-    alloc: Global,
     cursor: &mut Cursor<'_>,
     links: &mut usize,
     room: Room,
@@ -47,15 +46,15 @@ pub(crate) fn read_subscript(
     ensures refusal { IfErr result (Refuses cursor.old) }
     ensures later { IfOk result (λ _. Took cursor.old cursor.new) }
 {
-    let inside = room.in_subscript(alloc, cursor)?;
+    let inside = room.in_subscript(cursor)?;
     if eat(cursor, Fixed::Colon) {
-        return slice(alloc, cursor, links, inside, below, None);
+        return slice(cursor, links, inside, below, None);
     }
-    let first = expression(alloc, cursor, links, inside, below, 0)?;
+    let first = expression(cursor, links, inside, below, 0)?;
     if eat(cursor, Fixed::Colon) {
-        return slice(alloc, cursor, links, inside, below, Some(first));
+        return slice(cursor, links, inside, below, Some(first));
     }
-    expect(alloc, cursor, Fixed::RightBracket)?;
+    expect(cursor, Fixed::RightBracket)?;
     Ok(Subscript::Index(first))
 }
 
@@ -63,7 +62,6 @@ pub(crate) fn read_subscript(
 #[cycle(reader)]
 #[tactic(auto, using(tera_expect::proofs::Going::goes_took, tera_expect::proofs::Going::goes_further, tera_expect::proofs::Going::refused_further, tera_expect::proofs::Going::memory_refused))]
 fn slice(
-    alloc: Global,
     cursor: &mut Cursor<'_>,
     links: &mut usize,
     room: Room,
@@ -74,9 +72,9 @@ fn slice(
     ensures refusal { IfErr result (Refuses cursor.old) }
     ensures later { IfOk result (λ _. Took cursor.old cursor.new) }
 {
-    let end = end(alloc, cursor, links, room, below)?;
-    let step = step(alloc, cursor, links, room, below)?;
-    expect(alloc, cursor, Fixed::RightBracket)?;
+    let end = end(cursor, links, room, below)?;
+    let step = step(cursor, links, room, below)?;
+    expect(cursor, Fixed::RightBracket)?;
     Ok(Subscript::Slice { start, end, step })
 }
 
@@ -84,7 +82,6 @@ fn slice(
 #[cycle(reader)]
 #[tactic(auto, unfolding(crate::specs::Unfold::part_of, crate::specs::Unfold::skip), using(tera_expect::proofs::Going::stays, tera_expect::proofs::Going::took_goes, tera_expect::proofs::Going::memory_refused))]
 fn end(
-    alloc: Global,
     cursor: &mut Cursor<'_>,
     links: &mut usize,
     room: Room,
@@ -97,14 +94,13 @@ fn end(
     if begins(cursor, Fixed::Colon) || begins(cursor, Fixed::RightBracket) {
         return Ok(None);
     }
-    Ok(Some(expression(alloc, cursor, links, room, below, 0)?))
+    Ok(Some(expression(cursor, links, room, below, 0)?))
 }
 
 // The step of a slice behind a second colon, if it has one.
 #[cycle(reader)]
 #[tactic(auto, unfolding(crate::specs::Unfold::extra_of, crate::specs::Unfold::skip), using(tera_expect::proofs::Going::stays, tera_expect::proofs::Going::took_goes, tera_expect::proofs::Going::took_all, tera_expect::proofs::Going::refused_behind, tera_expect::proofs::Going::memory_refused))]
 fn step(
-    alloc: Global,
     cursor: &mut Cursor<'_>,
     links: &mut usize,
     room: Room,
@@ -117,7 +113,7 @@ fn step(
     if !eat(cursor, Fixed::Colon) {
         return Ok(None);
     }
-    Ok(Some(expression(alloc, cursor, links, room, below, 0)?))
+    Ok(Some(expression(cursor, links, room, below, 0)?))
 }
 
 /// An operand with a subscript, up to the bracket at the span.

@@ -23,7 +23,6 @@ use crate::names::{Known, keep_name, place_of};
 use crate::parts::{closed, finish};
 use crate::settings::Setting;
 use crate::simple::{check_block, check_outermost};
-use std::alloc::Global;
 use tera_base::{Error, Span, Spanned};
 use tera_expect::{eat_name, name, reported};
 use tera_lexer::Cursor;
@@ -43,60 +42,58 @@ pub(crate) fn block(
     ensures refusal { IfErr result (Refuses cursor.old) }
     ensures later { IfOk result (λ _. Took cursor.old cursor.new) }
 {
+    let alloc = cursor.alloc();
     let opening = Opening {
         context: Context::Block,
         at: cursor.current_span().copied(),
     };
-    check_block(setting, cursor, around)?;
-    let (name, span) = new_block(setting, cursor, &mut names.blocks)?;
-    finish(setting.alloc, cursor)?;
+    check_block(cursor, around)?;
+    let (name, span) = new_block(cursor, &mut names.blocks)?;
+    finish(cursor)?;
     let inside = body(setting, cursor, names, around, &opening, below)?;
-    block_end(setting, cursor, name)?;
-    let name = String::from_str(setting.alloc, name)?;
-    let name = Spanned::new(setting.alloc, name, span)?;
+    block_end(cursor, name)?;
+    let name = String::from_str(alloc, name)?;
+    let name = Spanned::new(alloc, name, span)?;
     Ok(Added::Node(build::block(name, inside)))
 }
 
 // The name of a block that the template does not have yet, and where it stands. It is kept.
 #[tactic(auto, using(tera_expect::proofs::Going::refused_behind, tera_expect::proofs::Going::memory_refused))]
-fn new_block<'a>(
-    setting: &Setting<'_>,
-    cursor: &mut Cursor<'a>,
-    blocks: &mut Known,
-) -> Result<(&'a str, Span), Error>
+fn new_block<'a>(cursor: &mut Cursor<'a>, blocks: &mut Known) -> Result<(&'a str, Span), Error>
     ensures gives { GivesBy IsName result cursor.new.left (new_block_of (met_of blocks.old) cursor.old.left) }
     ensures kept { IfOk result (λ n. met_of blocks.new ≡ meet n.0.now (met_of blocks.old)) }
     ensures refusal { IfErr result (Refuses cursor.old) }
     ensures later { IfOk result (λ _. Took cursor.old cursor.new) }
 {
-    let name = name(setting.alloc, cursor)?;
+    let alloc = cursor.alloc();
+    let name = name(cursor)?;
     if place_of(blocks, name).is_some() {
-        let message = format!(in setting.alloc; "Template already contains a block named `{name}`");
-        return Err(reported(setting.alloc, cursor, message));
+        let message = format!(in alloc; "Template already contains a block named `{name}`");
+        return Err(reported(cursor, message));
     }
-    keep_name(setting.alloc, blocks, name, cursor.current_span())?;
+    keep_name(alloc, blocks, name, cursor.current_span())?;
     Ok((name, cursor.current_span().copied()))
 }
 
 // The closing tag of the block with this name.
 #[tactic(auto, using(tera_expect::proofs::Going::took_all, tera_expect::proofs::Going::took_further, tera_expect::proofs::Going::refused_behind, tera_expect::proofs::Going::refused_further))]
-fn block_end(setting: &Setting<'_>, cursor: &mut Cursor<'_>, name: &str) -> Result<(), Error>
+fn block_end(cursor: &mut Cursor<'_>, name: &str) -> Result<(), Error>
     ensures gives { (n : Name) → n.text ≡ name.now → Passes result cursor.new.left (block_end n cursor.old.left) }
     ensures refusal { IfErr result (Refuses cursor.old) }
     ensures later { IfOk result (λ _. Took cursor.old cursor.new) }
 {
-    closed(setting.alloc, cursor, Closer::EndBlock)?;
+    closed(cursor, Closer::EndBlock)?;
     match eat_name(cursor) {
         Some(end) => {
-            check_name(setting.alloc, cursor, name, end)?;
-            finish(setting.alloc, cursor)
+            check_name(cursor, name, end)?;
+            finish(cursor)
         }
-        None => finish(setting.alloc, cursor),
+        None => finish(cursor),
     }
 }
 
 // Refuses a closing tag of another name, which was taken last.
-fn check_name(alloc: Global, cursor: &Cursor<'_>, name: &str, end: &str) -> Result<(), Error>
+fn check_name(cursor: &Cursor<'_>, name: &str, end: &str) -> Result<(), Error>
     ensures same { IfOk result (λ _. bytes_eq end.now name.now ≡ true) }
     ensures fails { IfErr result (λ e. IsMemory e ⊎ (bytes_eq end.now name.now ≡ false)) }
     ensures refusal { IfErr result (Refuses cursor.now) }
@@ -104,7 +101,7 @@ fn check_name(alloc: Global, cursor: &Cursor<'_>, name: &str, end: &str) -> Resu
     if end == name {
         Ok(())
     } else {
-        Err(renamed(alloc, cursor, "block", name, end))
+        Err(renamed(cursor, "block", name, end))
     }
 }
 
@@ -127,10 +124,10 @@ pub(crate) fn definition(
         at: cursor.current_span().copied(),
     };
     let text = "Component definitions cannot be written in another tag.";
-    check_outermost(setting, cursor, around, text)?;
+    check_outermost(cursor, around, text)?;
     let opened = opening_tag(setting, cursor, &mut names.components)?;
     let inside = body(setting, cursor, names, around, &opening, below)?;
-    closing_tag(setting.alloc, cursor, opened.name.as_str())?;
+    closing_tag(cursor, opened.name.as_str())?;
     Ok(Added::Definition(ComponentDefinition {
         name: opened.name,
         kwargs: opened.parameters.arguments,

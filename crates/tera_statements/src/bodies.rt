@@ -34,10 +34,10 @@ pub(crate) fn body(
     ensures later { IfOk result (λ _. GoesOn cursor.old cursor.new) }
 {
     if below == 0 {
-        return Err(fault(setting.alloc, cursor, "The template nesting is too deep"));
+        return Err(fault(cursor, "The template nesting is too deep"));
     }
     let inside = around.inside(opening);
-    let mut nodes = Vec::new(setting.alloc);
+    let mut nodes = Vec::new(cursor.alloc());
     let mut extension = Extension::behind(setting.parent);
     'items: while let Some(added) = item(setting, cursor, names, &inside, extension, below - 1)? {
         if !added.is_blank() {

@@ -22,7 +22,6 @@ use crate::fronts::Closer;
 use crate::heads::{attributes_to_end, expression_to_end, filters_to_end, section_to_end};
 use crate::parts::{closed, closed_tag, finish, free_name, spanning};
 use crate::settings::Setting;
-use std::alloc::Global;
 use tera_base::{Error, Span};
 use tera_expect::{Fixed, begins, begins_name, eat, expect, fault, reported};
 use tera_lexer::{Cursor, Token};
@@ -55,7 +54,7 @@ pub(crate) fn set(
         context: Context::Set,
         at: cursor.current_span().copied(),
     };
-    let name = free_name(setting.alloc, cursor, "assigned to.")?;
+    let name = free_name(cursor, "assigned to.")?;
     let variable = Variable { name, global };
     if eat(cursor, Fixed::Assign) {
         return set_value(setting, cursor, around, variable);
@@ -76,7 +75,7 @@ fn set_value(
     ensures later { IfOk result (λ _. Took cursor.old cursor.new) }
 {
     let value = expression_to_end(setting, cursor, around.in_loop)?;
-    let name = String::from_str(setting.alloc, variable.name)?;
+    let name = String::from_str(cursor.alloc(), variable.name)?;
     Ok(Added::Node(build::set(name, value, variable.global)))
 }
 
@@ -96,23 +95,23 @@ fn set_body(
     ensures refusal { IfErr result (Refuses cursor.old) }
     ensures later { IfOk result (λ _. Took cursor.old cursor.new) }
 {
-    check_set(setting.alloc, cursor)?;
-    let filters = filters_to_end(setting, cursor, around.in_loop, Vec::new(setting.alloc))?;
+    let alloc = cursor.alloc();
+    check_set(cursor)?;
+    let filters = filters_to_end(setting, cursor, around.in_loop, Vec::new(alloc))?;
     let inside = body(setting, cursor, names, around, opening, below)?;
-    closed_tag(setting.alloc, cursor, Closer::EndSet)?;
-    let name = String::from_str(setting.alloc, variable.name)?;
+    closed_tag(cursor, Closer::EndSet)?;
+    let name = String::from_str(alloc, variable.name)?;
     Ok(Added::Node(build::block_set(name, filters, inside, variable.global)))
 }
 
 // Refuses what begins neither filters nor a body.
-fn check_set(alloc: Global, cursor: &Cursor<'_>) -> Result<(), Error>
+fn check_set(cursor: &Cursor<'_>) -> Result<(), Error>
     ensures fails { IfErr result (IsNoBody cursor.now.left) }
     ensures refusal { IfErr result (Refuses cursor.now) }
 {
     match cursor.first() {
         Some(Token::Pipe | Token::TagEnd(_)) => Ok(()),
         _ => Err(fault(
-            alloc,
             cursor,
             "Invalid syntax for `set`: expecting an `=` followed by an expression or a `%}`",
         )),
@@ -139,7 +138,7 @@ pub(crate) fn section(
     };
     let filters = section_to_end(setting, cursor, around.in_loop)?;
     let inside = body(setting, cursor, names, around, &opening, below)?;
-    closed_tag(setting.alloc, cursor, Closer::EndFilter)?;
+    closed_tag(cursor, Closer::EndFilter)?;
     Ok(Added::Node(build::filter_section(filters, inside)))
 }
 
@@ -161,12 +160,12 @@ pub(crate) fn call(
         context: Context::Call,
         at: cursor.current_span().copied(),
     };
-    let name = called_name(setting.alloc, cursor)?;
+    let name = called_name(cursor)?;
     let attributes = attributes_to_end(setting, cursor, around.in_loop)?;
     let inside = body(setting, cursor, names, around, &opening, below)?;
-    let last = call_end(setting.alloc, cursor, name.as_str())?;
+    let last = call_end(cursor, name.as_str())?;
     let span = spanning(&opening.at, &last);
-    let call = build::component_call(setting.alloc, name, attributes, inside, false, span)?;
+    let call = build::component_call(cursor.alloc(), name, attributes, inside, false, span)?;
     Ok(Added::Node(shown_node(call)))
 }
 
@@ -178,43 +177,42 @@ pub(crate) fn shown_node(expr: Expression) -> Node
 }
 
 // The name of a component behind the `<` of a tag, which was taken last.
-fn called_name(alloc: Global, cursor: &mut Cursor<'_>) -> Result<String, Error>
+fn called_name(cursor: &mut Cursor<'_>) -> Result<String, Error>
     ensures gives { GivesBy IsComponent result cursor.new.left (component_of cursor.old.left) }
     ensures refusal { IfErr result (Refuses cursor.old) }
     ensures later { IfOk result (λ _. Took cursor.old cursor.new) }
 {
     if !begins_name(cursor) {
         return Err(fault(
-            alloc,
             cursor,
             "Found `<` but expected identifier after it for XML component call.",
         ));
     }
-    component_name(alloc, cursor)
+    component_name(cursor)
 }
 
 // The closing tag of a call of the component with this name, and where its `>` stands.
 #[tactic(auto, using(tera_expect::proofs::Going::took_all, tera_expect::proofs::Going::refused_behind))]
-fn call_end(alloc: Global, cursor: &mut Cursor<'_>, name: &str) -> Result<Span, Error>
+fn call_end(cursor: &mut Cursor<'_>, name: &str) -> Result<Span, Error>
     ensures gives { (n : ComponentName) → component_text n ≡ name.now → GivesBy IsCallEnd result cursor.new.left (call_end n cursor.old.left) }
     ensures refusal { IfErr result (Refuses cursor.old) }
     ensures later { IfOk result (λ _. Took cursor.old cursor.new) }
 {
     if cursor.at_end() {
-        let message = format!(in alloc; "Unclosed component '{name}'");
-        return Err(reported(alloc, cursor, message));
+        let message = format!(in cursor.alloc(); "Unclosed component '{name}'");
+        return Err(reported(cursor, message));
     }
-    closed(alloc, cursor, Closer::EndCall)?;
-    let end = component_name(alloc, cursor)?;
-    check_call_name(alloc, cursor, name, end.as_str())?;
-    expect(alloc, cursor, Fixed::GreaterThan)?;
+    closed(cursor, Closer::EndCall)?;
+    let end = component_name(cursor)?;
+    check_call_name(cursor, name, end.as_str())?;
+    expect(cursor, Fixed::GreaterThan)?;
     let last = cursor.current_span().copied();
-    finish(alloc, cursor)?;
+    finish(cursor)?;
     Ok(last)
 }
 
 // Refuses a closing tag of another name, which was taken last.
-fn check_call_name(alloc: Global, cursor: &Cursor<'_>, name: &str, end: &str) -> Result<(), Error>
+fn check_call_name(cursor: &Cursor<'_>, name: &str, end: &str) -> Result<(), Error>
     ensures same { IfOk result (λ _. bytes_eq end.now name.now ≡ true) }
     ensures fails { IfErr result (λ e. IsMemory e ⊎ (bytes_eq end.now name.now ≡ false)) }
     ensures refusal { IfErr result (Refuses cursor.now) }
@@ -222,6 +220,8 @@ fn check_call_name(alloc: Global, cursor: &Cursor<'_>, name: &str, end: &str) ->
     if end == name {
         return Ok(());
     }
-    let message = format!(in alloc; "Closing tag '{end}' doesn't match opening tag '{name}'");
-    Err(reported(alloc, cursor, message))
+    let message = format!(in cursor.alloc();
+        "Closing tag '{end}' doesn't match opening tag '{name}'"
+    );
+    Err(reported(cursor, message))
 }

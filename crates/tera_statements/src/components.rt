@@ -53,11 +53,11 @@ pub(crate) fn opening_tag(
     ensures refusal { IfErr result (Refuses cursor.old) }
     ensures later { IfOk result (λ _. Took cursor.old cursor.new) }
 {
-    let name = new_component(setting, cursor, seen)?;
-    expect(setting.alloc, cursor, Fixed::LeftParen)?;
+    let name = new_component(cursor, seen)?;
+    expect(cursor, Fixed::LeftParen)?;
     let parameters = read_parameters(setting, cursor)?;
     let metadata = metadata(setting, cursor)?;
-    finish(setting.alloc, cursor)?;
+    finish(cursor)?;
     Ok(Opened {
         name,
         parameters,
@@ -67,31 +67,29 @@ pub(crate) fn opening_tag(
 
 // The name of a component that the template did not define before. It is kept.
 #[tactic(auto, using(tera_expect::proofs::Going::refused_behind, tera_expect::proofs::Going::memory_refused))]
-fn new_component(
-    setting: &Setting<'_>,
-    cursor: &mut Cursor<'_>,
-    seen: &mut Known,
-) -> Result<String, Error>
+fn new_component(cursor: &mut Cursor<'_>, seen: &mut Known) -> Result<String, Error>
     ensures gives { GivesBy IsComponent result cursor.new.left (new_component_of (met_of seen.old) cursor.old.left) }
     ensures kept { IfOk result (λ s. met_of seen.new ≡ meet (string_bytes s) (met_of seen.old)) }
     ensures refusal { IfErr result (Refuses cursor.old) }
     ensures later { IfOk result (λ _. Took cursor.old cursor.new) }
 {
-    let name = component_name(setting.alloc, cursor)?;
+    let name = component_name(cursor)?;
     if let Some(first) = place_of(seen, name.as_str()) {
-        return Err(known(setting, cursor, name.as_str(), first));
+        return Err(known(cursor, name.as_str(), first));
     }
-    keep_name(setting.alloc, seen, name.as_str(), cursor.current_span())?;
+    keep_name(cursor.alloc(), seen, name.as_str(), cursor.current_span())?;
     Ok(name)
 }
 
 // That a component of the name, which was taken last, was defined before at the span.
 #[tactic(auto, using(tera_expect::proofs::Going::same_refused))]
-fn known(setting: &Setting<'_>, cursor: &Cursor<'_>, name: &str, first: &Span) -> Error
+fn known(cursor: &Cursor<'_>, name: &str, first: &Span) -> Error
     ensures { Refuses cursor.now result }
 {
-    let message = format!(in setting.alloc; "Template already contains a component named `{name}`");
-    let error = reported(setting.alloc, cursor, message);
+    let message = format!(in cursor.alloc();
+        "Template already contains a component named `{name}`"
+    );
+    let error = reported(cursor, message);
     noted(error, "first defined here", first)
 }
 
@@ -105,13 +103,14 @@ fn metadata(
     ensures refusal { IfErr result (Refuses cursor.old) }
     ensures later { IfOk result (λ _. GoesOn cursor.old cursor.new) }
 {
+    let alloc = cursor.alloc();
     if !begins(cursor, Fixed::LeftBrace) {
-        return Ok(BTreeMap::new(setting.alloc));
+        return Ok(BTreeMap::new(alloc));
     }
-    let value = literal_map(setting.alloc, cursor, "component metadata", setting.limits)?;
+    let value = literal_map(cursor, "component metadata", setting.limits)?;
     match value.as_map() {
-        Some(pairs) => Ok(by_text(setting.alloc, pairs)?),
-        None => Ok(BTreeMap::new(setting.alloc)),
+        Some(pairs) => Ok(by_text(alloc, pairs)?),
+        None => Ok(BTreeMap::new(alloc)),
     }
 }
 
@@ -141,19 +140,19 @@ fn put_value(
 
 /// Reads the closing tag of the definition of the component with this name.
 #[tactic(auto, using(tera_expect::proofs::Going::took_all, tera_expect::proofs::Going::took_further, tera_expect::proofs::Going::refused_behind, tera_expect::proofs::Going::refused_further))]
-pub(crate) fn closing_tag(alloc: Global, cursor: &mut Cursor<'_>, name: &str) -> Result<(), Error>
+pub(crate) fn closing_tag(cursor: &mut Cursor<'_>, name: &str) -> Result<(), Error>
     ensures gives { (start : Edge) (first : Span) (o : reading.Opened) → component_text o.name ≡ name.now → Passes result cursor.new.left (ending_of start first o cursor.old.left) }
     ensures refusal { IfErr result (Refuses cursor.old) }
     ensures later { IfOk result (λ _. Took cursor.old cursor.new) }
 {
-    closed(alloc, cursor, Closer::EndComponent)?;
-    end_name(alloc, cursor, name)?;
-    finish(alloc, cursor)
+    closed(cursor, Closer::EndComponent)?;
+    end_name(cursor, name)?;
+    finish(cursor)
 }
 
 // The name at the end of a definition, where one stands there; it has to be that of the component.
 #[tactic(auto, using(tera_expect::proofs::Going::took_goes, tera_expect::proofs::Going::stays, tera_expect::proofs::Going::refused_behind))]
-fn end_name(alloc: Global, cursor: &mut Cursor<'_>, name: &str) -> Result<(), Error>
+fn end_name(cursor: &mut Cursor<'_>, name: &str) -> Result<(), Error>
     ensures gives { Passes result cursor.new.left (agreeing_name name.now cursor.old.left) }
     ensures refusal { IfErr result (Refuses cursor.old) }
     ensures later { IfOk result (λ _. GoesOn cursor.old cursor.new) }
@@ -161,10 +160,10 @@ fn end_name(alloc: Global, cursor: &mut Cursor<'_>, name: &str) -> Result<(), Er
     if !begins_name(cursor) {
         return Ok(());
     }
-    let end = component_name(alloc, cursor)?;
+    let end = component_name(cursor)?;
     if end.as_str() == name {
         Ok(())
     } else {
-        Err(renamed(alloc, cursor, "component", name, end.as_str()))
+        Err(renamed(cursor, "component", name, end.as_str()))
     }
 }

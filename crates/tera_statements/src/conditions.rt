@@ -50,7 +50,7 @@ pub(crate) fn condition(
     let word = cursor.current_span().copied();
     let first = read_branch(setting, cursor, names, around, &word, below)?;
     let others = other_branches(setting, cursor, names, around, word, below)?;
-    closed_tag(setting.alloc, cursor, Closer::EndIf)?;
+    closed_tag(cursor, Closer::EndIf)?;
     Ok(Added::Node(build::when(first.condition, first.body, others)))
 }
 
@@ -93,10 +93,11 @@ fn other_branches(
     ensures refusal { IfErr result (Refuses cursor.old) }
     ensures later { IfOk result (λ _. GoesOn cursor.old cursor.new) }
 {
+    let alloc = cursor.alloc();
     let mut word = word;
-    let mut branches = Vec::new(setting.alloc);
+    let mut branches = Vec::new(alloc);
     'branches: while closes(cursor, Closer::Elif) {
-        closed(setting.alloc, cursor, Closer::Elif)?;
+        closed(cursor, Closer::Elif)?;
         word = cursor.current_span().copied();
         let branch = read_branch(setting, cursor, names, around, &word, below)?;
         branches.push(branch)?;
@@ -106,7 +107,7 @@ fn other_branches(
         at: word,
     };
     let otherwise = else_body(setting, cursor, names, around, &opening, below)?;
-    nested(setting.alloc, branches, otherwise)
+    nested(alloc, branches, otherwise)
 }
 
 // The branches, each with those behind it as what is under no condition.

@@ -12,7 +12,6 @@ ghost use Rattle.tera_expect.specs.Taking.{GivesBy, GoesOn, Refuses, Took};
 
 use crate::parts::{finish, free_name};
 use crate::settings::Setting;
-use std::alloc::Global;
 use tera_base::Error;
 use tera_expect::{Fixed, eat, expect};
 use tera_lexer::Cursor;
@@ -30,8 +29,8 @@ pub(crate) fn expression_to_end(
     ensures refusal { IfErr result (Refuses cursor.old) }
     ensures later { IfOk result (λ _. Took cursor.old cursor.new) }
 {
-    let expr = expression(setting.alloc, cursor, setting.scope(in_loop))?;
-    finish(setting.alloc, cursor)?;
+    let expr = expression(cursor, setting.scope(in_loop))?;
+    finish(cursor)?;
     Ok(expr)
 }
 
@@ -50,22 +49,23 @@ pub(crate) fn loop_to_end(setting: &Setting<'_>, cursor: &mut Cursor<'_>) -> Res
     ensures refusal { IfErr result (Refuses cursor.old) }
     ensures later { IfOk result (λ _. Took cursor.old cursor.new) }
 {
-    let (key, value) = variables(setting.alloc, cursor)?;
-    expect(setting.alloc, cursor, Fixed::In)?;
+    let (key, value) = variables(cursor)?;
+    expect(cursor, Fixed::In)?;
     let target = expression_to_end(setting, cursor, true)?;
     Ok(LoopHead { key, value, target })
 }
 
 // The variables of a loop: the name of the key, if any, and that of the value.
 #[tactic(auto, using(tera_expect::proofs::Going::took_all, tera_expect::proofs::Going::refused_behind, tera_expect::proofs::Going::memory_refused))]
-fn variables(alloc: Global, cursor: &mut Cursor<'_>) -> Result<(Option<String>, String), Error>
+fn variables(cursor: &mut Cursor<'_>) -> Result<(Option<String>, String), Error>
     ensures gives { GivesBy AreVariables result cursor.new.left (left_over (variables_of (at 0 cursor.old.left))) }
     ensures refusal { IfErr result (Refuses cursor.old) }
     ensures later { IfOk result (λ _. Took cursor.old cursor.new) }
 {
-    let first = free_name(alloc, cursor, "used as a loop variable.")?;
+    let alloc = cursor.alloc();
+    let first = free_name(cursor, "used as a loop variable.")?;
     if eat(cursor, Fixed::Comma) {
-        let second = free_name(alloc, cursor, "used as a loop variable.")?;
+        let second = free_name(cursor, "used as a loop variable.")?;
         let key = String::from_str(alloc, first)?;
         return Ok((Some(key), String::from_str(alloc, second)?));
     }
@@ -86,7 +86,7 @@ fn more_filters(
 {
     let mut filters = before;
     'filters: while eat(cursor, Fixed::Bar) {
-        let filter = filter(setting.alloc, cursor, setting.scope(in_loop))?;
+        let filter = filter(cursor, setting.scope(in_loop))?;
         filters.push(filter)?;
     }
     Ok(filters)
@@ -105,7 +105,7 @@ pub(crate) fn filters_to_end(
     ensures later { IfOk result (λ _. Took cursor.old cursor.new) }
 {
     let filters = more_filters(setting, cursor, in_loop, before)?;
-    finish(setting.alloc, cursor)?;
+    finish(cursor)?;
     Ok(filters)
 }
 
@@ -120,8 +120,8 @@ pub(crate) fn section_to_end(
     ensures refusal { IfErr result (Refuses cursor.old) }
     ensures later { IfOk result (λ _. Took cursor.old cursor.new) }
 {
-    let mut first = Vec::new(setting.alloc);
-    let one = filter(setting.alloc, cursor, setting.scope(in_loop))?;
+    let mut first = Vec::new(cursor.alloc());
+    let one = filter(cursor, setting.scope(in_loop))?;
     first.push(one)?;
     filters_to_end(setting, cursor, in_loop, first)
 }
@@ -137,8 +137,8 @@ pub(crate) fn attributes_to_end(
     ensures refusal { IfErr result (Refuses cursor.old) }
     ensures later { IfOk result (λ _. Took cursor.old cursor.new) }
 {
-    let entries = attributes(setting.alloc, cursor, setting.scope(in_loop))?;
-    expect(setting.alloc, cursor, Fixed::GreaterThan)?;
-    finish(setting.alloc, cursor)?;
+    let entries = attributes(cursor, setting.scope(in_loop))?;
+    expect(cursor, Fixed::GreaterThan)?;
+    finish(cursor)?;
     Ok(entries)
 }

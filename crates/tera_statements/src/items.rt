@@ -52,20 +52,20 @@ pub(crate) fn item(
     match Front::at(cursor) {
         Front::Ends => Ok(None),
         Front::Closes(_) => Ok(None),
-        Front::Holds => Ok(Some(text(setting.alloc, cursor)?)),
+        Front::Holds => Ok(Some(text(cursor)?)),
         Front::Shows => Ok(Some(shown(setting, cursor, around)?)),
         Front::Opens(opener) => {
             enter(cursor, opener)?;
             let added = tag(setting, cursor, names, around, extension, opener, below)?;
             Ok(Some(added))
         }
-        Front::Wrong => Err(unknown_tag(setting.alloc, cursor)),
+        Front::Wrong => Err(unknown_tag(cursor)),
     }
 }
 
 // A text, which comes next.
 #[tactic(auto, using(crate::proofs::Refusing::memory_inside))]
-fn text(alloc: Global, cursor: &mut Cursor<'_>) -> Result<Added, Error>
+fn text(cursor: &mut Cursor<'_>) -> Result<Added, Error>
     requires { fronts.Holds ≡ kind_of (front cursor.old.left) }
     ensures gives { GivesText result cursor.new.left (front cursor.old.left) }
     ensures refusal { IfErr result (RefusesIn cursor.old) }
@@ -73,7 +73,7 @@ fn text(alloc: Global, cursor: &mut Cursor<'_>) -> Result<Added, Error>
     ensures later { IfOk result (λ _. Took cursor.old cursor.new) }
 {
     let (token, _) = take(cursor)?;
-    Ok(text_added(alloc, &token)?)
+    Ok(text_added(cursor.alloc(), &token)?)
 }
 
 // What a token adds that is a text.
@@ -111,8 +111,8 @@ pub(crate) fn shown(
     ensures later { IfOk result (λ _. Took cursor.old cursor.new) }
 {
     let _ = take(cursor)?;
-    let expr = expression(setting.alloc, cursor, setting.scope(around.in_loop))?;
-    variable_end(setting.alloc, cursor)?;
+    let expr = expression(cursor, setting.scope(around.in_loop))?;
+    variable_end(cursor)?;
     Ok(Added::Node(shown_node(expr)))
 }
 
@@ -148,15 +148,15 @@ fn tag(
 {
     match opener {
         Opener::Set { global } => set(setting, cursor, names, around, global, below),
-        Opener::Include => include(setting, cursor, around),
-        Opener::Extends => extends(setting, cursor, around, extension),
+        Opener::Include => include(cursor, around),
+        Opener::Extends => extends(cursor, around, extension),
         Opener::Block => block(setting, cursor, names, around, below),
         Opener::For => for_loop(setting, cursor, names, around, below),
         Opener::If => condition(setting, cursor, names, around, below),
         Opener::Filter => section(setting, cursor, names, around, below),
         Opener::Component => definition(setting, cursor, names, around, below),
-        Opener::Break => read_jump(setting, cursor, around, Jump::Break),
-        Opener::Continue => read_jump(setting, cursor, around, Jump::Continue),
+        Opener::Break => read_jump(cursor, around, Jump::Break),
+        Opener::Continue => read_jump(cursor, around, Jump::Continue),
         Opener::Call => call(setting, cursor, names, around, below),
     }
 }

@@ -45,7 +45,7 @@ pub(crate) fn for_loop(
         at: opening.at.copied(),
     };
     let otherwise = else_body(setting, cursor, names, around, &otherwise, below)?;
-    closed_tag(setting.alloc, cursor, Closer::EndFor)?;
+    closed_tag(cursor, Closer::EndFor)?;
     Ok(Added::Node(build::for_loop(head.key, head.value, head.target, inside, otherwise)))
 }
 
@@ -65,9 +65,9 @@ pub(crate) fn else_body(
     ensures later { IfOk result (λ _. GoesOn cursor.old cursor.new) }
 {
     if !closes(cursor, Closer::Else) {
-        return Ok(Vec::new(setting.alloc));
+        return Ok(Vec::new(cursor.alloc()));
     }
-    closed(setting.alloc, cursor, Closer::Else)?;
-    finish(setting.alloc, cursor)?;
+    closed(cursor, Closer::Else)?;
+    finish(cursor)?;
     body(setting, cursor, names, around, opening, below)
 }

@@ -20,7 +20,6 @@ ghost use Rattle.tera_tree.specs.View.{argument_view, default_view};
 use crate::names::{Known, keep_name, place_of};
 use crate::parts::is_none;
 use crate::settings::Setting;
-use std::alloc::Global;
 use std::collections::BTreeMap;
 use tera_base::{Error, ErrorKind, Span, Value};
 use tera_expect::{Fixed, begins, eat, expect, fault, name, noted, reported, take};
@@ -45,8 +44,9 @@ pub(crate) fn read_parameters(
     ensures refusal { IfErr result (Refuses cursor.old) }
     ensures later { IfOk result (λ _. Took cursor.old cursor.new) }
 {
-    let mut arguments = BTreeMap::new(setting.alloc);
-    let mut seen = Known::new(setting.alloc);
+    let alloc = cursor.alloc();
+    let mut arguments = BTreeMap::new(alloc);
+    let mut seen = Known::new(alloc);
     'parameters: loop {
         if eat(cursor, Fixed::RightParen) {
             return Ok(Parameters {
@@ -55,7 +55,7 @@ pub(crate) fn read_parameters(
             });
         }
         if eat(cursor, Fixed::Spread) {
-            let rest = Some(rest_parameter(setting, cursor, &seen)?);
+            let rest = Some(rest_parameter(cursor, &seen)?);
             return Ok(Parameters { arguments, rest });
         }
         let (name, argument) = parameter(setting, cursor, &mut seen)?;
@@ -66,7 +66,7 @@ pub(crate) fn read_parameters(
                 rest: None,
             });
         }
-        expect(setting.alloc, cursor, Fixed::Comma)?;
+        expect(cursor, Fixed::Comma)?;
     }
 }
 
@@ -78,26 +78,26 @@ fn default_value(setting: &Setting<'_>, cursor: &mut Cursor<'_>) -> Result<Value
     ensures later { IfOk result (λ _. Took cursor.old cursor.new) }
 {
     if begins(cursor, Fixed::LeftBracket) {
-        return literal_array(setting.alloc, cursor, setting.limits);
+        return literal_array(cursor, setting.limits);
     }
     if begins(cursor, Fixed::LeftBrace) {
-        return literal_map(setting.alloc, cursor, "default argument", setting.limits);
+        return literal_map(cursor, "default argument", setting.limits);
     }
     let (token, _) = take(cursor)?;
     match token {
         Token::Integer(n) => Ok(Value::I64(n)),
         Token::Bool(b) => Ok(Value::Bool(b)),
-        Token::Str(text) => Ok(Value::String(String::from_str(setting.alloc, text)?)),
+        Token::Str(text) => Ok(Value::String(String::from_str(cursor.alloc(), text)?)),
         Token::String(text) => Ok(Value::String(text)),
-        Token::Ident(name) => no_value(setting.alloc, cursor, name),
-        Token::Minus => negative(setting.alloc, cursor),
-        token => Err(no_default(setting.alloc, cursor, &token)),
+        Token::Ident(name) => no_value(cursor, name),
+        Token::Minus => negative(cursor),
+        token => Err(no_default(cursor, &token)),
     }
 }
 
 // The number behind a minus, which was taken last.
 #[tactic(auto, using(tera_expect::proofs::Going::took_all, tera_expect::proofs::Going::refused_behind))]
-fn negative(alloc: Global, cursor: &mut Cursor<'_>) -> Result<Value, Error>
+fn negative(cursor: &mut Cursor<'_>) -> Result<Value, Error>
     ensures gives { GivesBy IsDefault result cursor.new.left (minus_of cursor.old.span cursor.old.left) }
     ensures refusal { IfErr result (Refuses cursor.old) }
     ensures later { IfOk result (λ _. Took cursor.old cursor.new) }
@@ -106,16 +106,16 @@ fn negative(alloc: Global, cursor: &mut Cursor<'_>) -> Result<Value, Error>
     match token {
         Token::Integer(n) => Ok(Value::I64(-n)),
         token => {
-            let message = format!(in alloc;
+            let message = format!(in cursor.alloc();
                 "Found {token} but `-` can only be followed by an integer"
             );
-            Err(reported(alloc, cursor, message))
+            Err(reported(cursor, message))
         }
     }
 }
 
 // No value, where the name, which was taken last, is a word for it.
-fn no_value(alloc: Global, cursor: &Cursor<'_>, name: &str) -> Result<Value, Error>
+fn no_value(cursor: &Cursor<'_>, name: &str) -> Result<Value, Error>
     ensures given { IfOk result (λ v. (is_none name.now ≡ true) × (value_view v ≡ Nothing)) }
     ensures fails { IfErr result (λ e. IsMemory e ⊎ (is_none name.now ≡ false)) }
     ensures refusal { IfErr result (Refuses cursor.now) }
@@ -123,23 +123,23 @@ fn no_value(alloc: Global, cursor: &Cursor<'_>, name: &str) -> Result<Value, Err
     if is_none(name) {
         Ok(Value::None)
     } else {
-        Err(no_default(alloc, cursor, &Token::Ident(name)))
+        Err(no_default(cursor, &Token::Ident(name)))
     }
 }
 
 // That a token, which was taken last, is no default.
-fn no_default(alloc: Global, cursor: &Cursor<'_>, token: &Token<'_>) -> Error
+fn no_default(cursor: &Cursor<'_>, token: &Token<'_>) -> Error
     ensures { Refuses cursor.now result }
 {
-    let message = format!(in alloc;
+    let message = format!(in cursor.alloc();
         "Found {token} but component default arguments can only be one of: string, bool, integer, array or map"
     );
-    reported(alloc, cursor, message)
+    reported(cursor, message)
 }
 
 // The type behind a colon, where one stands.
 #[tactic(auto, using(tera_expect::proofs::Going::took_all, tera_expect::proofs::Going::took_goes, tera_expect::proofs::Going::stays, tera_expect::proofs::Going::refused_behind))]
-fn argument_type(alloc: Global, cursor: &mut Cursor<'_>) -> Result<Option<ArgType>, Error>
+fn argument_type(cursor: &mut Cursor<'_>) -> Result<Option<ArgType>, Error>
     ensures gives { GivesBy IsType result cursor.new.left (annotation_in cursor.old.left (takes Colon cursor.old.left)) }
     ensures refusal { IfErr result (Refuses cursor.old) }
     ensures later { IfOk result (λ _. GoesOn cursor.old cursor.new) }
@@ -149,35 +149,35 @@ fn argument_type(alloc: Global, cursor: &mut Cursor<'_>) -> Result<Option<ArgTyp
     }
     let (token, _) = take(cursor)?;
     match token {
-        Token::Ident(name) => Ok(Some(named_type(alloc, cursor, name)?)),
+        Token::Ident(name) => Ok(Some(named_type(cursor, name)?)),
         token => {
-            let message = format!(in alloc;
+            let message = format!(in cursor.alloc();
                 "Found {token} but the only types allowed are: string, bool, integer, number, bytes, array and map"
             );
-            Err(reported(alloc, cursor, message))
+            Err(reported(cursor, message))
         }
     }
 }
 
 // The type of this name, which was taken last.
-fn named_type(alloc: Global, cursor: &Cursor<'_>, name: &str) -> Result<ArgType, Error>
+fn named_type(cursor: &Cursor<'_>, name: &str) -> Result<ArgType, Error>
     ensures named { IfOk result (λ t. type_named name.now ≡ Some t) }
     ensures unnamed { IfErr result (Fails (type_named name.now)) }
     ensures refusal { IfErr result (Refuses cursor.now) }
 {
-    match ArgType::from_str(alloc, name) {
+    match ArgType::from_str(cursor.alloc(), name) {
         Ok(typ) => Ok(typ),
-        Err(error) => Err(at_name(alloc, cursor, error)),
+        Err(error) => Err(at_name(cursor, error)),
     }
 }
 
 // What a message says, as a fault at the token taken last.
 #[tactic(auto, using(tera_expect::proofs::Going::memory_refused))]
-fn at_name(alloc: Global, cursor: &Cursor<'_>, error: Error) -> Error
+fn at_name(cursor: &Cursor<'_>, error: Error) -> Error
     ensures { Refuses cursor.now result }
 {
     match error.kind {
-        ErrorKind::Message(message) => reported(alloc, cursor, Ok(message)),
+        ErrorKind::Message(message) => reported(cursor, Ok(message)),
         _ => Error {
             kind: ErrorKind::Memory,
         },
@@ -199,74 +199,56 @@ fn assigned(setting: &Setting<'_>, cursor: &mut Cursor<'_>) -> Result<Option<Val
 
 // A name that is neither `body` nor that of an earlier parameter.
 #[tactic(auto, using(tera_expect::proofs::Going::refused_behind))]
-fn fresh_name<'a>(
-    setting: &Setting<'_>,
-    cursor: &mut Cursor<'a>,
-    seen: &Known,
-    rest: bool,
-) -> Result<&'a str, Error>
+fn fresh_name<'a>(cursor: &mut Cursor<'a>, seen: &Known, rest: bool) -> Result<&'a str, Error>
     ensures gives { GivesAs (name_at cursor.new.span) result cursor.new.left (fresh_name (met_of seen.now) cursor.old.left) }
     ensures refusal { IfErr result (Refuses cursor.old) }
     ensures later { IfOk result (λ _. Took cursor.old cursor.new) }
 {
-    let name = name(setting.alloc, cursor)?;
+    let name = name(cursor)?;
     if name == "body" {
         return Err(fault(
-            setting.alloc,
             cursor,
             "The name `body` is reserved for component body content.",
         ));
     }
     match place_of(seen, name) {
-        Some(first) => Err(repeated(setting, cursor, name, first, rest)),
+        Some(first) => Err(repeated(cursor, name, first, rest)),
         None => Ok(name),
     }
 }
 
 // That the name, which was taken last, is that of the parameter whose name stands at the span.
 #[tactic(auto, using(tera_expect::proofs::Going::same_refused))]
-fn repeated(
-    setting: &Setting<'_>,
-    cursor: &Cursor<'_>,
-    name: &str,
-    first: &Span,
-    rest: bool,
-) -> Error
+fn repeated(cursor: &Cursor<'_>, name: &str, first: &Span, rest: bool) -> Error
     ensures { Refuses cursor.now result }
 {
+    let alloc = cursor.alloc();
     if rest {
-        let message = format!(in setting.alloc;
+        let message = format!(in alloc;
             "Rest parameter `{name}` conflicts with an existing parameter."
         );
-        return reported(setting.alloc, cursor, message);
+        return reported(cursor, message);
     }
-    let message = format!(in setting.alloc;
-        "Component argument `{name}` is defined more than once"
-    );
-    let error = reported(setting.alloc, cursor, message);
+    let message = format!(in alloc; "Component argument `{name}` is defined more than once");
+    let error = reported(cursor, message);
     noted(error, "first defined here", first)
 }
 
 // The name of the rest parameter, behind its dots, and the closing parenthesis.
 #[tactic(auto, using(tera_expect::proofs::Going::took_all, tera_expect::proofs::Going::refused_behind, tera_expect::proofs::Going::memory_refused))]
-fn rest_parameter(
-    setting: &Setting<'_>,
-    cursor: &mut Cursor<'_>,
-    seen: &Known,
-) -> Result<String, Error>
+fn rest_parameter(cursor: &mut Cursor<'_>, seen: &Known) -> Result<String, Error>
     ensures gives { GivesBy (λ s n. string_bytes s ≡ n.text) result cursor.new.left (taken_rest (met_of seen.now) cursor.old.left) }
     ensures refusal { IfErr result (Refuses cursor.old) }
     ensures later { IfOk result (λ _. Took cursor.old cursor.new) }
 {
-    let name = fresh_name(setting, cursor, seen, true)?;
+    let name = fresh_name(cursor, seen, true)?;
     if !eat(cursor, Fixed::RightParen) {
         return Err(fault(
-            setting.alloc,
             cursor,
             "Rest parameter must be the last parameter in component definition.",
         ));
     }
-    Ok(String::from_str(setting.alloc, name)?)
+    Ok(String::from_str(cursor.alloc(), name)?)
 }
 
 // A parameter, whose name is kept.
@@ -281,14 +263,15 @@ fn parameter(
     ensures refusal { IfErr result (Refuses cursor.old) }
     ensures later { IfOk result (λ _. Took cursor.old cursor.new) }
 {
+    let alloc = cursor.alloc();
     let implicit = eat(cursor, Fixed::At);
-    let name = fresh_name(setting, cursor, seen, false)?;
-    keep_name(setting.alloc, seen, name, cursor.current_span())?;
-    let typ = argument_type(setting.alloc, cursor)?;
+    let name = fresh_name(cursor, seen, false)?;
+    keep_name(alloc, seen, name, cursor.current_span())?;
+    let typ = argument_type(cursor)?;
     let default = assigned(setting, cursor)?;
     let argument = argument(typ, default, implicit);
-    check_default(setting.alloc, cursor, name, &argument)?;
-    Ok((String::from_str(setting.alloc, name)?, argument))
+    check_default(cursor, name, &argument)?;
+    Ok((String::from_str(alloc, name)?, argument))
 }
 
 // An argument of this type, or that of its default.
@@ -308,20 +291,13 @@ fn argument(typ: Option<ArgType>, default: Option<Value>, implicit: bool) -> Com
 }
 
 // Refuses a default that is a value and not of the type of its argument.
-fn check_default(
-    alloc: Global,
-    cursor: &Cursor<'_>,
-    name: &str,
-    argument: &ComponentArgument,
-) -> Result<(), Error>
+fn check_default(cursor: &Cursor<'_>, name: &str, argument: &ComponentArgument) -> Result<(), Error>
     ensures fits { IfOk result (λ _. has_default (argument_view argument.now) ≡ true) }
     ensures fails { IfErr result (λ e. IsMemory e ⊎ (has_default (argument_view argument.now) ≡ false)) }
     ensures refusal { IfErr result (Refuses cursor.now) }
 {
     match (&argument.typ, &argument.default) {
-        (Some(typ), Some(value)) if !fits(typ, value) => {
-            Err(mistyped(alloc, cursor, name, typ, value))
-        }
+        (Some(typ), Some(value)) if !fits(typ, value) => { Err(mistyped(cursor, name, typ, value)) }
         _ => Ok(()),
     }
 }
@@ -334,7 +310,7 @@ fn fits(typ: &ArgType, value: &Value) -> bool
 }
 
 // That a default has another type than its argument.
-fn mistyped(alloc: Global, cursor: &Cursor<'_>, name: &str, typ: &ArgType, value: &Value) -> Error
+fn mistyped(cursor: &Cursor<'_>, name: &str, typ: &ArgType, value: &Value) -> Error
     ensures { Refuses cursor.now result }
 {
     let wanted = typ.as_str();
@@ -342,10 +318,10 @@ fn mistyped(alloc: Global, cursor: &Cursor<'_>, name: &str, typ: &ArgType, value
         Some(found) => found.as_str(),
         None => value.name(),
     };
-    let message = format!(in alloc;
+    let message = format!(in cursor.alloc();
         "Default value for `{name}` has type `{found}` but the argument has type `{wanted}`"
     );
-    reported(alloc, cursor, message)
+    reported(cursor, message)
 }
 
 // Puts an argument to those that are there.

@@ -12,14 +12,13 @@ ghost use Rattle.tera_statements.specs.Reading.{IsQuote};
 ghost use Rattle.tera_expect.specs.Taking.{GivesAs, GivesBy, Passes, Refuses, RefusesIn, Took, name_at};
 
 use crate::fronts::{Closer, Front};
-use std::alloc::Global;
 use tera_base::{Error, Span};
 use tera_expect::{fault, name, reported, take, unexpected};
 use tera_lexer::{Cursor, Token};
 
 /// The end of a tag.
 #[tactic(auto, unfolding(tera_expect::specs::Taking::Took, tera_expect::specs::Taking::Refuses))]
-pub(crate) fn finish(alloc: Global, cursor: &mut Cursor<'_>) -> Result<(), Error>
+pub(crate) fn finish(cursor: &mut Cursor<'_>) -> Result<(), Error>
     ensures gives { Passes result cursor.new.left (finish_of cursor.old.left) }
     ensures refusal { IfErr result (Refuses cursor.old) }
     ensures later { IfOk result (λ _. Took cursor.old cursor.new) }
@@ -27,13 +26,13 @@ pub(crate) fn finish(alloc: Global, cursor: &mut Cursor<'_>) -> Result<(), Error
     let (token, span) = cursor.next_or_eoi()?;
     match token {
         Token::TagEnd(_) => Ok(()),
-        _ => Err(unexpected(alloc, &token, "%}", &span)),
+        _ => Err(unexpected(cursor.alloc(), &token, "%}", &span)),
     }
 }
 
 /// The end of a variable tag.
 #[tactic(auto, unfolding(tera_expect::specs::Taking::Took, tera_expect::specs::Taking::Refuses))]
-pub(crate) fn variable_end(alloc: Global, cursor: &mut Cursor<'_>) -> Result<(), Error>
+pub(crate) fn variable_end(cursor: &mut Cursor<'_>) -> Result<(), Error>
     ensures gives { Passes result cursor.new.left (variable_end_of cursor.old.left) }
     ensures refusal { IfErr result (Refuses cursor.old) }
     ensures later { IfOk result (λ _. Took cursor.old cursor.new) }
@@ -41,17 +40,18 @@ pub(crate) fn variable_end(alloc: Global, cursor: &mut Cursor<'_>) -> Result<(),
     let (token, span) = cursor.next_or_eoi()?;
     match token {
         Token::VariableEnd(_) => Ok(()),
-        _ => Err(unexpected(alloc, &token, "}}", &span)),
+        _ => Err(unexpected(cursor.alloc(), &token, "}}", &span)),
     }
 }
 
 /// A string, and where it stands.
 #[tactic(auto, unfolding(tera_expect::specs::Taking::Took, tera_expect::specs::Taking::Refuses), using(tera_expect::proofs::Going::memory_refused))]
-pub(crate) fn quote(alloc: Global, cursor: &mut Cursor<'_>) -> Result<(String, Span), Error>
+pub(crate) fn quote(cursor: &mut Cursor<'_>) -> Result<(String, Span), Error>
     ensures gives { GivesBy IsQuote result cursor.new.left (taken_quote cursor.old.left) }
     ensures refusal { IfErr result (Refuses cursor.old) }
     ensures later { IfOk result (λ _. Took cursor.old cursor.new) }
 {
+    let alloc = cursor.alloc();
     let (token, span) = cursor.next_or_eoi()?;
     match token {
         Token::Str(text) => Ok((String::from_str(alloc, text)?, span)),
@@ -62,21 +62,17 @@ pub(crate) fn quote(alloc: Global, cursor: &mut Cursor<'_>) -> Result<(String, S
 
 /// A name that is not reserved; `purpose` ends the sentence that tells of one that is.
 #[tactic(auto, using(tera_expect::proofs::Going::refused_behind))]
-pub(crate) fn free_name<'a>(
-    alloc: Global,
-    cursor: &mut Cursor<'a>,
-    purpose: &str,
-) -> Result<&'a str, Error>
+pub(crate) fn free_name<'a>(cursor: &mut Cursor<'a>, purpose: &str) -> Result<&'a str, Error>
     ensures gives { GivesAs (name_at cursor.new.span) result cursor.new.left (free_name cursor.old.left) }
     ensures refusal { IfErr result (Refuses cursor.old) }
     ensures later { IfOk result (λ _. Took cursor.old cursor.new) }
 {
-    let name = name(alloc, cursor)?;
+    let name = name(cursor)?;
     if is_reserved(name) {
-        let message = format!(in alloc;
+        let message = format!(in cursor.alloc();
             "{name} is a reserved keyword of Tera, it cannot be {purpose}"
         );
-        return Err(reported(alloc, cursor, message));
+        return Err(reported(cursor, message));
     }
     Ok(name)
 }
@@ -114,12 +110,12 @@ pub(crate) fn is_none(name: &str) -> bool
 /// Why nothing that is known stands here: the lexical fault, the end of the input, or an unknown tag, which is told
 /// at its first token. What is there is taken.
 #[tactic(auto, using(tera_expect::proofs::Going::refused_behind, crate::proofs::Refusing::took_inside))]
-pub(crate) fn unknown_tag(alloc: Global, cursor: &mut Cursor<'_>) -> Error
+pub(crate) fn unknown_tag(cursor: &mut Cursor<'_>) -> Error
     ensures refusal { Refuses cursor.old result }
     ensures inside { is_end cursor.old.left ≡ false → RefusesIn cursor.old result }
 {
     match begin_tag(cursor) {
-        Ok(()) => fault(alloc, cursor, "Unknown tag"),
+        Ok(()) => fault(cursor, "Unknown tag"),
         Err(error) => error,
     }
 }
@@ -150,13 +146,13 @@ pub(crate) fn closes(cursor: &Cursor<'_>, closer: Closer) -> bool
 
 /// The start of a tag, with this closing token.
 #[tactic(auto, using(tera_expect::proofs::Going::took_all, tera_expect::proofs::Going::refused_behind))]
-pub(crate) fn closed(alloc: Global, cursor: &mut Cursor<'_>, closer: Closer) -> Result<(), Error>
+pub(crate) fn closed(cursor: &mut Cursor<'_>, closer: Closer) -> Result<(), Error>
     ensures gives { Passes result cursor.new.left (closed (closer_of closer) cursor.old.left) }
     ensures refusal { IfErr result (Refuses cursor.old) }
     ensures later { IfOk result (λ _. Took cursor.old cursor.new) }
 {
     if !closes(cursor, closer) {
-        return Err(unknown_tag(alloc, cursor));
+        return Err(unknown_tag(cursor));
     }
     let _ = take(cursor)?;
     let _ = take(cursor)?;
@@ -165,17 +161,13 @@ pub(crate) fn closed(alloc: Global, cursor: &mut Cursor<'_>, closer: Closer) -> 
 
 /// A tag that holds this closing token alone.
 #[tactic(auto, using(tera_expect::proofs::Going::took_all, tera_expect::proofs::Going::refused_behind))]
-pub(crate) fn closed_tag(
-    alloc: Global,
-    cursor: &mut Cursor<'_>,
-    closer: Closer,
-) -> Result<(), Error>
+pub(crate) fn closed_tag(cursor: &mut Cursor<'_>, closer: Closer) -> Result<(), Error>
     ensures gives { Passes result cursor.new.left (closed_tag (closer_of closer) cursor.old.left) }
     ensures refusal { IfErr result (Refuses cursor.old) }
     ensures later { IfOk result (λ _. Took cursor.old cursor.new) }
 {
-    closed(alloc, cursor, closer)?;
-    finish(alloc, cursor)
+    closed(cursor, closer)?;
+    finish(cursor)
 }
 
 /// From the start of one span to the end of another.

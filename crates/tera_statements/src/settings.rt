@@ -2,14 +2,11 @@
 
 ghost use Rattle.tera_parts.specs.Rooms.{AreValid, limits_of};
 
-use std::alloc::Global;
 use tera_parts::{Limits, Scope};
 
 /// What stays the same while an item of the top level is read.
 #[derive(Drop)]
 pub(crate) struct Setting<'a> {
-    /// What takes memory takes it from here.
-    pub alloc: Global,
     /// What the template is read within.
     pub limits: Limits,
     /// The template that is extended, as far as it is known.

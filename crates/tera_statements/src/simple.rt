@@ -12,7 +12,6 @@ ghost use Rattle.tera_nodes.specs.View.{node_view};
 use crate::added::Added;
 use crate::around::{Around, Breaks, Opening};
 use crate::parts::{finish, quote};
-use crate::settings::Setting;
 use tera_base::{Error, Spanned};
 use tera_expect::{fault, noted, reported};
 use tera_lexer::Cursor;
@@ -20,18 +19,14 @@ use tera_tree::{Node, build};
 
 /// Reads the rest of an `include`.
 #[tactic(auto, using(tera_expect::proofs::Going::took_all, tera_expect::proofs::Going::refused_behind, tera_expect::proofs::Going::memory_refused))]
-pub(crate) fn include(
-    setting: &Setting<'_>,
-    cursor: &mut Cursor<'_>,
-    around: &Around,
-) -> Result<Added, Error>
+pub(crate) fn include(cursor: &mut Cursor<'_>, around: &Around) -> Result<Added, Error>
     ensures gives { AddsAlone around.now result cursor.new (λ path start seen. include_of start cursor.old.span seen cursor.old.left) }
     ensures refusal { IfErr result (Refuses cursor.old) }
     ensures later { IfOk result (λ _. Took cursor.old cursor.new) }
 {
-    let (name, span) = quote(setting.alloc, cursor)?;
-    finish(setting.alloc, cursor)?;
-    let name = Spanned::new(setting.alloc, name, span)?;
+    let (name, span) = quote(cursor)?;
+    finish(cursor)?;
+    let name = Spanned::new(cursor.alloc(), name, span)?;
     Ok(Added::Node(build::include(name)))
 }
 
@@ -65,7 +60,6 @@ impl Jump {
 /// Reads the rest of a `break` or a `continue`.
 #[tactic(auto, using(tera_expect::proofs::Going::refused_behind, tera_expect::proofs::Going::memory_refused))]
 pub(crate) fn read_jump(
-    setting: &Setting<'_>,
     cursor: &mut Cursor<'_>,
     around: &Around,
     jump: Jump,
@@ -74,35 +68,31 @@ pub(crate) fn read_jump(
     ensures refusal { IfErr result (Refuses cursor.old) }
     ensures later { IfOk result (λ _. Took cursor.old cursor.new) }
 {
-    check_jump(setting, cursor, around, jump)?;
-    finish(setting.alloc, cursor)?;
+    check_jump(cursor, around, jump)?;
+    finish(cursor)?;
     Ok(Added::Node(jump.node()))
 }
 
 // Refuses a `break` or a `continue`, whose word was taken last, where neither may stand.
 #[tactic(auto, using(tera_expect::proofs::Going::same_refused))]
-fn check_jump(
-    setting: &Setting<'_>,
-    cursor: &Cursor<'_>,
-    around: &Around,
-    jump: Jump,
-) -> Result<(), Error>
+fn check_jump(cursor: &Cursor<'_>, around: &Around, jump: Jump) -> Result<(), Error>
     ensures stands { IfOk result (λ _. holds_breaks around.now.breaks ≡ true) }
     ensures fails { IfErr result (λ e. IsMemory e ⊎ (holds_breaks around.now.breaks ≡ false)) }
     ensures refusal { IfErr result (Refuses cursor.now) }
 {
+    let alloc = cursor.alloc();
     let word = jump.word();
     match &around.breaks {
         Breaks::Loop => Ok(()),
         Breaks::Capture(opening) => {
             let name = opening.context.name();
-            let message = format!(in setting.alloc; "`{word}` cannot be used inside a {name}");
-            let error = reported(setting.alloc, cursor, message);
-            Err(inside_of(setting, error, opening))
+            let message = format!(in alloc; "`{word}` cannot be used inside a {name}");
+            let error = reported(cursor, message);
+            Err(inside_of(cursor, error, opening))
         }
         Breaks::Nothing => {
-            let message = format!(in setting.alloc; "{word} can only be used in a for loop");
-            Err(reported(setting.alloc, cursor, message))
+            let message = format!(in alloc; "{word} can only be used in a for loop");
+            Err(reported(cursor, message))
         }
     }
 }
@@ -139,7 +129,6 @@ impl<'p> Extension<'p> {
 /// Reads the rest of an `extends`.
 #[tactic(auto, using(tera_expect::proofs::Going::took_all, tera_expect::proofs::Going::refused_behind))]
 pub(crate) fn extends(
-    setting: &Setting<'_>,
     cursor: &mut Cursor<'_>,
     around: &Around,
     extension: Extension<'_>,
@@ -149,15 +138,14 @@ pub(crate) fn extends(
     ensures refusal { IfErr result (Refuses cursor.old) }
     ensures later { IfOk result (λ _. Took cursor.old cursor.new) }
 {
-    let (parent, _) = quote(setting.alloc, cursor)?;
-    check_extension(setting, cursor, around, extension)?;
-    finish(setting.alloc, cursor)?;
+    let (parent, _) = quote(cursor)?;
+    check_extension(cursor, around, extension)?;
+    finish(cursor)?;
     Ok(Added::Parent(parent))
 }
 
 // Refuses to extend a template, whose name was taken last, where that may not be.
 fn check_extension(
-    setting: &Setting<'_>,
     cursor: &Cursor<'_>,
     around: &Around,
     extension: Extension<'_>,
@@ -168,10 +156,9 @@ fn check_extension(
     ensures refusal { IfErr result (Refuses cursor.now) }
 {
     match extension {
-        Extension::Again(parent) => Err(again_extended(setting, cursor, parent)),
-        Extension::Late => Err(late_extended(setting, cursor)),
+        Extension::Again(parent) => Err(again_extended(cursor, parent)),
+        Extension::Late => Err(late_extended(cursor)),
         Extension::Free => check_outermost(
-            setting,
             cursor,
             around,
             "`extends` cannot be nested in other tags.",
@@ -180,19 +167,18 @@ fn check_extension(
 }
 
 /// That a template extends another, at the string taken last, and extends one already.
-pub(crate) fn again_extended(setting: &Setting<'_>, cursor: &Cursor<'_>, parent: &str) -> Error
+pub(crate) fn again_extended(cursor: &Cursor<'_>, parent: &str) -> Error
     ensures { Refuses cursor.now result }
 {
-    let message = format!(in setting.alloc; "Template is already extending `{parent}`");
-    reported(setting.alloc, cursor, message)
+    let message = format!(in cursor.alloc(); "Template is already extending `{parent}`");
+    reported(cursor, message)
 }
 
 /// That a template extends another, at the string taken last, behind something else.
-pub(crate) fn late_extended(setting: &Setting<'_>, cursor: &Cursor<'_>) -> Error
+pub(crate) fn late_extended(cursor: &Cursor<'_>) -> Error
     ensures { Refuses cursor.now result }
 {
     fault(
-        setting.alloc,
         cursor,
         "`extends` needs to be the first tag of the template",
     )
@@ -200,12 +186,7 @@ pub(crate) fn late_extended(setting: &Setting<'_>, cursor: &Cursor<'_>) -> Error
 
 /// Refuses what may stand in nothing else, with this text.
 #[tactic(auto, using(tera_expect::proofs::Going::same_refused))]
-pub(crate) fn check_outermost(
-    setting: &Setting<'_>,
-    cursor: &Cursor<'_>,
-    around: &Around,
-    text: &str,
-) -> Result<(), Error>
+pub(crate) fn check_outermost(cursor: &Cursor<'_>, around: &Around, text: &str) -> Result<(), Error>
     ensures stands { IfOk result (λ _. is_none around.now.innermost ≡ true) }
     ensures fails { IfErr result (λ e. IsMemory e ⊎ (is_none around.now.innermost ≡ false)) }
     ensures refusal { IfErr result (Refuses cursor.now) }
@@ -213,19 +194,15 @@ pub(crate) fn check_outermost(
     match &around.innermost {
         None => Ok(()),
         Some(opening) => {
-            let error = fault(setting.alloc, cursor, text);
-            Err(inside_of(setting, error, opening))
+            let error = fault(cursor, text);
+            Err(inside_of(cursor, error, opening))
         }
     }
 }
 
 /// Refuses a block, whose word was taken last, where none may stand.
 #[tactic(auto, using(tera_expect::proofs::Going::same_refused))]
-pub(crate) fn check_block(
-    setting: &Setting<'_>,
-    cursor: &Cursor<'_>,
-    around: &Around,
-) -> Result<(), Error>
+pub(crate) fn check_block(cursor: &Cursor<'_>, around: &Around) -> Result<(), Error>
     ensures stands { IfOk result (λ _. is_none around.now.barrier ≡ true) }
     ensures fails { IfErr result (λ e. IsMemory e ⊎ (is_none around.now.barrier ≡ false)) }
     ensures refusal { IfErr result (Refuses cursor.now) }
@@ -234,19 +211,19 @@ pub(crate) fn check_block(
         None => Ok(()),
         Some(opening) => {
             let name = opening.context.name();
-            let message = format!(in setting.alloc; "Blocks cannot be written inside a {name}.");
-            let error = reported(setting.alloc, cursor, message);
-            Err(inside_of(setting, error, opening))
+            let message = format!(in cursor.alloc(); "Blocks cannot be written inside a {name}.");
+            let error = reported(cursor, message);
+            Err(inside_of(cursor, error, opening))
         }
     }
 }
 
 // The error with a note on where what stands around begins.
-fn inside_of(setting: &Setting<'_>, error: Error, opening: &Opening) -> Error
+fn inside_of(cursor: &Cursor<'_>, error: Error, opening: &Opening) -> Error
     ensures { TellsAs error result }
 {
     let name = opening.context.name();
-    match format!(in setting.alloc; "the {name} starts here") {
+    match format!(in cursor.alloc(); "the {name} starts here") {
         Ok(label) => noted(error, label.as_str(), &opening.at),
         Err(refused) => Error::from(refused),
     }

@@ -30,7 +30,6 @@ use crate::outputs::ParserOutput;
 use crate::parts::{quote, unknown_tag};
 use crate::settings::Setting;
 use crate::simple::{Extension, again_extended, late_extended};
-use std::alloc::Global;
 use tera_base::{Error, Span};
 use tera_expect::fault;
 use tera_lexer::Cursor;
@@ -139,18 +138,13 @@ fn is_blank(text: &str) -> bool
 ///
 /// An error is the first fault that is met from left to right: the lexical fault, the end of the input, or a syntax
 /// error, whose notes name no file; or it is `Memory`. Empty texts, as comments are, take no memory.
-pub fn read_template(
-    alloc: Global,
-    mut cursor: Cursor<'_>,
-    limits: Limits,
-) -> Result<ParserOutput, Error>
+pub fn read_template(mut cursor: Cursor<'_>, limits: Limits) -> Result<ParserOutput, Error>
     requires { AreValid (limits_of limits) }
     ensures gives { GivesTemplate (limits_of limits) result cursor.entry.left }
     ensures refusal { IfErr result (RefusesIn cursor.entry) }
     ensures empty { IfErr result (λ _. AreEmptyTexts cursor.entry.left → ⊥) }
 {
     let setting = Setting {
-        alloc,
         limits,
         parent: None,
     };
@@ -164,8 +158,9 @@ fn whole(setting: &Setting<'_>, cursor: &mut Cursor<'_>) -> Result<ParserOutput,
     ensures refusal { IfErr result (RefusesIn cursor.old) }
     ensures empty { IfErr result (λ _. AreEmptyTexts cursor.old.left → ⊥) }
 {
-    let mut names = Names::new(setting.alloc);
-    let mut output = ParserOutput::empty(setting.alloc);
+    let alloc = cursor.alloc();
+    let mut names = Names::new(alloc);
+    let mut output = ParserOutput::empty(alloc);
     let mut phase = Phase::Starting;
     'items: while let Some((added, next)) = next_item(
         setting,
@@ -178,7 +173,7 @@ fn whole(setting: &Setting<'_>, cursor: &mut Cursor<'_>) -> Result<ParserOutput,
         phase = next;
     }
     if !cursor.at_end() {
-        return Err(unknown_tag(setting.alloc, cursor));
+        return Err(unknown_tag(cursor));
     }
     Ok(output)
 }
@@ -203,7 +198,7 @@ fn next_item(
         return Ok(None);
     };
     let Some(next) = phase.behind(weigh(&added)) else {
-        return Err(ignored(setting.alloc, cursor, first));
+        return Err(ignored(cursor, first));
     };
     Ok(Some((added, next)))
 }
@@ -224,21 +219,21 @@ fn refuse_extends(
         return Ok(());
     }
     match Front::at(cursor) {
-        Front::Opens(Opener::Extends) => Err(late_extends(setting, cursor, parent)),
+        Front::Opens(Opener::Extends) => Err(late_extends(cursor, parent)),
         _ => Ok(()),
     }
 }
 
 // That an `extends`, which comes next, stands where none may. It is taken up to its string, at which that is told.
 #[tactic(auto, using(crate::proofs::Refusing::took_inside))]
-fn late_extends(setting: &Setting<'_>, cursor: &mut Cursor<'_>, parent: Option<&str>) -> Error
+fn late_extends(cursor: &mut Cursor<'_>, parent: Option<&str>) -> Error
     requires { fronts.Opens openers.Extends ≡ kind_of (front cursor.old.left) }
     ensures { RefusesIn cursor.old result }
 {
-    match take_extends(setting.alloc, cursor) {
+    match take_extends(cursor) {
         Ok(()) => match parent {
-            Some(parent) => again_extended(setting, cursor, parent),
-            None => late_extended(setting, cursor),
+            Some(parent) => again_extended(cursor, parent),
+            None => late_extended(cursor),
         },
         Err(error) => error,
     }
@@ -246,13 +241,13 @@ fn late_extends(setting: &Setting<'_>, cursor: &mut Cursor<'_>, parent: Option<&
 
 // Takes an `extends`, which comes next, up to its string.
 #[tactic(auto, using(tera_expect::proofs::Going::took_all, crate::proofs::Refusing::took_inside, crate::proofs::Refusing::memory_inside))]
-fn take_extends(alloc: Global, cursor: &mut Cursor<'_>) -> Result<(), Error>
+fn take_extends(cursor: &mut Cursor<'_>) -> Result<(), Error>
     requires { fronts.Opens openers.Extends ≡ kind_of (front cursor.old.left) }
     ensures refusal { IfErr result (RefusesIn cursor.old) }
     ensures later { IfOk result (λ _. Took cursor.old cursor.new) }
 {
     enter(cursor, Opener::Extends)?;
-    let _ = quote(alloc, cursor)?;
+    let _ = quote(cursor)?;
     Ok(())
 }
 
@@ -279,7 +274,6 @@ fn top_item(
     ensures later { GoesByItem result cursor.old cursor.new }
 {
     let inside = Setting {
-        alloc: setting.alloc,
         limits: setting.limits,
         parent,
     };
@@ -290,14 +284,14 @@ fn top_item(
 
 // That an item is of no use in a template that extends another: from its first token, whose place is known if it was
 // shown, to the one taken last.
-fn ignored(alloc: Global, cursor: &Cursor<'_>, first: Option<Span>) -> Error
+fn ignored(cursor: &Cursor<'_>, first: Option<Span>) -> Error
     ensures { (old : Position) → Took old cursor.now → StandsNext first old → RefusesIn old result }
 {
     let text =
         "This content would be ignored: only `extends`, `block` and `component` are allowed at the top level of a child template.";
     match first {
-        Some(first) => Error::syntax_error(alloc, text, &up_to_last(cursor, &first)),
-        None => fault(alloc, cursor, text),
+        Some(first) => Error::syntax_error(cursor.alloc(), text, &up_to_last(cursor, &first)),
+        None => fault(cursor, text),
     }
 }
 

@@ -160,6 +160,11 @@ impl<'a> Cursor<'a> {
         &self.current_span
     }
 
+    /// The allocator of the tokens: what is made of them takes memory from it.
+    pub fn alloc(&self) -> Global {
+        self.alloc
+    }
+
     /// The end of the input, behind the token taken last: a syntax error, or `Memory` where its text finds none.
     pub fn eoi(&self) -> Error
         ensures tells { Tells (codes "Unexpected end of input") (end_of self.now.span) result }
