@@ -51,6 +51,12 @@ pub memory_refused : (old : Position) (e : Error) → IsMemory e → Refuses old
 unfolding Refuses
 memory_refused old e memory = tells_memory (λ text span. IsWithin old.source span × FaultsFrom old.span old.left text span) e memory
 
+-- behind tokens that were taken
+pub ruleset behind_tokens = (took_all, refused_behind, memory_refused)
+
+-- behind tokens that were taken, or none
+pub ruleset on_the_way = (took_all, took_further, goes_took, goes_further, took_goes, stays, refused_behind, refused_further, memory_refused)
+
 pub last_refused : (old : Position) (e : Error) → IsWithin old.source old.span → TellsAt old.span e → Refuses old e
 unfolding Refuses
 last_refused old e within told =
@@ -106,10 +112,6 @@ counted t s us ts all is = by t (subst (EachNumber IsCount) is all)
     by : (t : Tok) → EachNumber IsCount (Token t s us) → IsCounted t
     by (toks.Integer n) h = h.0
     by _ h = tt
-
-pub fewer : (old new : Position) → Took old new → size new.left < size old.left
-unfolding Took
-fewer old new h = h.1
 
 -- a call that may take no token, behind some that were taken
 pub goes_all_ok : {A : Type 0} (r : Result A Error) (old mid new : Position) → Took old mid → IfOk r (λ x. GoesOn mid new) → IfOk r (λ x. GoesOn old new)

@@ -15,7 +15,7 @@ use tera_lexer::Cursor;
 use tera_tree::Expression;
 
 /// The name of an argument, which no argument before it has.
-#[tactic(auto, using(tera_expect::proofs::Going::refused_behind, tera_expect::proofs::Going::memory_refused))]
+#[tactic(auto, using(tera_expect::proofs::Going::behind_tokens))]
 pub fn argument_name<'a>(
     cursor: &mut Cursor<'a>,
     arguments: &BTreeMap<String, Expression>,

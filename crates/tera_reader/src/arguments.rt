@@ -18,7 +18,7 @@ use tera_tree::Expression;
 
 /// Arguments, whose opening parenthesis was taken.
 #[cycle(reader)]
-#[tactic(auto, using(tera_expect::proofs::Going::took_all, tera_expect::proofs::Going::took_goes, tera_expect::proofs::Going::goes_took, tera_expect::proofs::Going::refused_behind, tera_expect::proofs::Going::refused_further, tera_expect::proofs::Going::memory_refused, tera_expect::proofs::Going::stays))]
+#[tactic(auto, using(tera_expect::proofs::Going::on_the_way))]
 pub(crate) fn arguments(
     cursor: &mut Cursor<'_>,
     links: &mut usize,

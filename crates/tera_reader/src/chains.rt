@@ -63,7 +63,7 @@ pub(crate) enum Linked {
 
 /// Reads a chain or a call of a function, whose name stands at the span and was taken last.
 #[cycle(reader)]
-#[tactic(auto, unfolding(crate::specs::Unfold::chain_of, crate::specs::Unfold::skip), using(crate::proofs::Linking::chain_negatable, crate::proofs::Linking::call_negatable, tera_expect::proofs::Going::took_goes, tera_expect::proofs::Going::took_all, tera_expect::proofs::Going::refused_behind, tera_expect::proofs::Going::memory_refused))]
+#[tactic(auto, unfolding(crate::specs::Unfold::chain_of, crate::specs::Unfold::skip), using(tera_expect::proofs::Going::on_the_way, crate::proofs::Linking::chain_negatable, crate::proofs::Linking::call_negatable))]
 pub(crate) fn chain(
     cursor: &mut Cursor<'_>,
     links: &mut usize,
@@ -87,7 +87,7 @@ pub(crate) fn chain(
 
 // A call of a function, whose name stands at the span and whose opening parenthesis was taken last.
 #[cycle(reader)]
-#[tactic(auto, using(tera_expect::proofs::Going::refused_behind, tera_expect::proofs::Going::memory_refused))]
+#[tactic(auto, using(tera_expect::proofs::Going::behind_tokens))]
 fn function_call(
     cursor: &mut Cursor<'_>,
     links: &mut usize,
@@ -115,7 +115,7 @@ fn function_call(
 
 // The links of a chain, whose name stands at the span.
 #[cycle(reader)]
-#[tactic(auto, using(tera_expect::proofs::Going::stays, tera_expect::proofs::Going::goes_took, tera_expect::proofs::Going::took_goes, tera_expect::proofs::Going::refused_further, tera_expect::proofs::Going::memory_refused))]
+#[tactic(auto, using(tera_expect::proofs::Going::on_the_way))]
 fn with_links(
     cursor: &mut Cursor<'_>,
     links: &mut usize,
@@ -148,7 +148,7 @@ fn is_loop(in_loop: bool, name: &str) -> bool
 
 // A chain with its next link, which counts, if one stands there.
 #[cycle(reader)]
-#[tactic(auto, using(tera_expect::proofs::Going::took_all, tera_expect::proofs::Going::refused_behind, tera_expect::proofs::Going::memory_refused))]
+#[tactic(auto, using(tera_expect::proofs::Going::behind_tokens))]
 fn with_link(
     cursor: &mut Cursor<'_>,
     links: &mut usize,
@@ -193,7 +193,7 @@ fn take_link(cursor: &mut Cursor<'_>)
 }
 
 // A field of a chain, whose dot was taken last.
-#[tactic(auto, using(tera_expect::proofs::Going::took_all, tera_expect::proofs::Going::refused_behind, tera_expect::proofs::Going::memory_refused))]
+#[tactic(auto, using(tera_expect::proofs::Going::behind_tokens))]
 fn field(
     cursor: &mut Cursor<'_>,
     of_loop: bool,

@@ -35,7 +35,7 @@ pub(crate) enum Subscript {
 
 /// Reads what stands in a subscript, whose opening bracket was taken last, up to the closing one.
 #[cycle(reader)]
-#[tactic(auto, unfolding(crate::specs::Unfold::sub_of), using(tera_expect::proofs::Going::took_all, tera_expect::proofs::Going::refused_behind, tera_expect::proofs::Going::memory_refused))]
+#[tactic(auto, unfolding(crate::specs::Unfold::sub_of), using(tera_expect::proofs::Going::behind_tokens))]
 pub(crate) fn read_subscript(
     cursor: &mut Cursor<'_>,
     links: &mut usize,
@@ -60,7 +60,7 @@ pub(crate) fn read_subscript(
 
 // The end and the step of a slice, whose first colon was taken.
 #[cycle(reader)]
-#[tactic(auto, using(tera_expect::proofs::Going::goes_took, tera_expect::proofs::Going::goes_further, tera_expect::proofs::Going::refused_further, tera_expect::proofs::Going::memory_refused))]
+#[tactic(auto, using(tera_expect::proofs::Going::on_the_way))]
 fn slice(
     cursor: &mut Cursor<'_>,
     links: &mut usize,
@@ -80,7 +80,7 @@ fn slice(
 
 // The end of a slice, which may be left out.
 #[cycle(reader)]
-#[tactic(auto, unfolding(crate::specs::Unfold::part_of, crate::specs::Unfold::skip), using(tera_expect::proofs::Going::stays, tera_expect::proofs::Going::took_goes, tera_expect::proofs::Going::memory_refused))]
+#[tactic(auto, unfolding(crate::specs::Unfold::part_of, crate::specs::Unfold::skip), using(tera_expect::proofs::Going::on_the_way))]
 fn end(
     cursor: &mut Cursor<'_>,
     links: &mut usize,
@@ -99,7 +99,7 @@ fn end(
 
 // The step of a slice behind a second colon, if it has one.
 #[cycle(reader)]
-#[tactic(auto, unfolding(crate::specs::Unfold::extra_of, crate::specs::Unfold::skip), using(tera_expect::proofs::Going::stays, tera_expect::proofs::Going::took_goes, tera_expect::proofs::Going::took_all, tera_expect::proofs::Going::refused_behind, tera_expect::proofs::Going::memory_refused))]
+#[tactic(auto, unfolding(crate::specs::Unfold::extra_of, crate::specs::Unfold::skip), using(tera_expect::proofs::Going::on_the_way))]
 fn step(
     cursor: &mut Cursor<'_>,
     links: &mut usize,

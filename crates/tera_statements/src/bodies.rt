@@ -20,7 +20,7 @@ use tera_tree::Node;
 
 /// Reads a body inside of what was opened, where so many may still open.
 #[cycle(bodies)]
-#[tactic(auto, using(tera_expect::proofs::Going::goes_further, tera_expect::proofs::Going::took_goes, tera_expect::proofs::Going::stays, crate::proofs::Refusing::inside_further, tera_expect::proofs::Going::memory_refused))]
+#[tactic(auto, using(tera_expect::proofs::Going::on_the_way, crate::proofs::Refusing::inside_further))]
 pub(crate) fn body(
     setting: &Setting<'_>,
     cursor: &mut Cursor<'_>,

@@ -37,7 +37,7 @@ pub(crate) struct Variable<'a> {
 
 /// Reads the rest of a `set` or a `set_global`, whose word was taken last.
 #[cycle(bodies)]
-#[tactic(auto, using(tera_expect::proofs::Going::took_all, tera_expect::proofs::Going::refused_behind))]
+#[tactic(auto, using(tera_expect::proofs::Going::behind_tokens))]
 pub(crate) fn set(
     setting: &Setting<'_>,
     cursor: &mut Cursor<'_>,
@@ -63,7 +63,7 @@ pub(crate) fn set(
 }
 
 // The value of a variable, behind the equals sign, which was taken last.
-#[tactic(auto, using(tera_expect::proofs::Going::refused_behind, tera_expect::proofs::Going::memory_refused))]
+#[tactic(auto, using(tera_expect::proofs::Going::behind_tokens))]
 fn set_value(
     setting: &Setting<'_>,
     cursor: &mut Cursor<'_>,
@@ -81,7 +81,7 @@ fn set_value(
 
 // The filters and the body that a variable takes, behind its name.
 #[cycle(bodies)]
-#[tactic(auto, using(tera_expect::proofs::Going::took_all, tera_expect::proofs::Going::took_further, tera_expect::proofs::Going::goes_took, tera_expect::proofs::Going::refused_behind, tera_expect::proofs::Going::refused_further, tera_expect::proofs::Going::memory_refused))]
+#[tactic(auto, using(tera_expect::proofs::Going::on_the_way))]
 fn set_body(
     setting: &Setting<'_>,
     cursor: &mut Cursor<'_>,
@@ -120,7 +120,7 @@ fn check_set(cursor: &Cursor<'_>) -> Result<(), Error>
 
 /// Reads the rest of a filter section, whose word was taken last.
 #[cycle(bodies)]
-#[tactic(auto, using(tera_expect::proofs::Going::took_all, tera_expect::proofs::Going::took_further, tera_expect::proofs::Going::goes_took, tera_expect::proofs::Going::refused_behind, tera_expect::proofs::Going::refused_further, tera_expect::proofs::Going::memory_refused))]
+#[tactic(auto, using(tera_expect::proofs::Going::on_the_way))]
 pub(crate) fn section(
     setting: &Setting<'_>,
     cursor: &mut Cursor<'_>,
@@ -144,7 +144,7 @@ pub(crate) fn section(
 
 /// Reads the rest of a call of a component, whose `<` was taken last.
 #[cycle(bodies)]
-#[tactic(auto, using(tera_expect::proofs::Going::took_all, tera_expect::proofs::Going::took_further, tera_expect::proofs::Going::goes_took, tera_expect::proofs::Going::refused_behind, tera_expect::proofs::Going::refused_further, tera_expect::proofs::Going::memory_refused))]
+#[tactic(auto, using(tera_expect::proofs::Going::on_the_way))]
 pub(crate) fn call(
     setting: &Setting<'_>,
     cursor: &mut Cursor<'_>,
@@ -192,7 +192,7 @@ fn called_name(cursor: &mut Cursor<'_>) -> Result<String, Error>
 }
 
 // The closing tag of a call of the component with this name, and where its `>` stands.
-#[tactic(auto, using(tera_expect::proofs::Going::took_all, tera_expect::proofs::Going::refused_behind))]
+#[tactic(auto, using(tera_expect::proofs::Going::behind_tokens))]
 fn call_end(cursor: &mut Cursor<'_>, name: &str) -> Result<Span, Error>
     ensures gives { (n : ComponentName) → component_text n ≡ name.now → GivesBy IsCallEnd result cursor.new.left (call_end n cursor.old.left) }
     ensures refusal { IfErr result (Refuses cursor.old) }

@@ -19,7 +19,7 @@ use tera_reader::{attributes, expression, filter};
 use tera_tree::{Expression, MapEntry};
 
 /// Reads an expression, and the end of its tag.
-#[tactic(auto, using(tera_expect::proofs::Going::took_all, tera_expect::proofs::Going::refused_behind))]
+#[tactic(auto, using(tera_expect::proofs::Going::behind_tokens))]
 pub(crate) fn expression_to_end(
     setting: &Setting<'_>,
     cursor: &mut Cursor<'_>,
@@ -43,7 +43,7 @@ pub(crate) struct LoopHead {
 }
 
 /// Reads the head of a loop, and the end of its tag.
-#[tactic(auto, using(tera_expect::proofs::Going::took_all, tera_expect::proofs::Going::refused_behind))]
+#[tactic(auto, using(tera_expect::proofs::Going::behind_tokens))]
 pub(crate) fn loop_to_end(setting: &Setting<'_>, cursor: &mut Cursor<'_>) -> Result<LoopHead, Error>
     ensures gives { GivesBy (λ h x. IsLoop h x.0) result cursor.new.left (loop_to_end (limits_of setting.now.limits) cursor.old.left) }
     ensures refusal { IfErr result (Refuses cursor.old) }
@@ -56,7 +56,7 @@ pub(crate) fn loop_to_end(setting: &Setting<'_>, cursor: &mut Cursor<'_>) -> Res
 }
 
 // The variables of a loop: the name of the key, if any, and that of the value.
-#[tactic(auto, using(tera_expect::proofs::Going::took_all, tera_expect::proofs::Going::refused_behind, tera_expect::proofs::Going::memory_refused))]
+#[tactic(auto, using(tera_expect::proofs::Going::behind_tokens))]
 fn variables(cursor: &mut Cursor<'_>) -> Result<(Option<String>, String), Error>
     ensures gives { GivesBy AreVariables result cursor.new.left (left_over (variables_of (at 0 cursor.old.left))) }
     ensures refusal { IfErr result (Refuses cursor.old) }
@@ -73,7 +73,7 @@ fn variables(cursor: &mut Cursor<'_>) -> Result<(Option<String>, String), Error>
 }
 
 // Filters, each behind its bar, which are put behind those that are given.
-#[tactic(auto, using(tera_expect::proofs::Going::goes_further, tera_expect::proofs::Going::took_goes, tera_expect::proofs::Going::took_further, tera_expect::proofs::Going::took_all, tera_expect::proofs::Going::stays, tera_expect::proofs::Going::refused_behind, tera_expect::proofs::Going::refused_further, tera_expect::proofs::Going::memory_refused))]
+#[tactic(auto, using(tera_expect::proofs::Going::on_the_way))]
 fn more_filters(
     setting: &Setting<'_>,
     cursor: &mut Cursor<'_>,
@@ -93,7 +93,7 @@ fn more_filters(
 }
 
 /// Reads filters, each behind its bar, and the end of their tag, and puts them behind those that are given.
-#[tactic(auto, using(tera_expect::proofs::Going::goes_took, tera_expect::proofs::Going::refused_further))]
+#[tactic(auto, using(tera_expect::proofs::Going::on_the_way))]
 pub(crate) fn filters_to_end(
     setting: &Setting<'_>,
     cursor: &mut Cursor<'_>,
@@ -110,7 +110,7 @@ pub(crate) fn filters_to_end(
 }
 
 /// Reads a filter and others, each of those behind its bar, and the end of their tag.
-#[tactic(auto, using(tera_expect::proofs::Going::refused_behind, tera_expect::proofs::Going::memory_refused))]
+#[tactic(auto, using(tera_expect::proofs::Going::behind_tokens))]
 pub(crate) fn section_to_end(
     setting: &Setting<'_>,
     cursor: &mut Cursor<'_>,
@@ -127,7 +127,7 @@ pub(crate) fn section_to_end(
 }
 
 /// Reads the attributes of a call of a component, the `>` behind them, and the end of their tag.
-#[tactic(auto, using(tera_expect::proofs::Going::goes_took, tera_expect::proofs::Going::took_all, tera_expect::proofs::Going::refused_further, tera_expect::proofs::Going::refused_behind))]
+#[tactic(auto, using(tera_expect::proofs::Going::on_the_way))]
 pub(crate) fn attributes_to_end(
     setting: &Setting<'_>,
     cursor: &mut Cursor<'_>,

@@ -117,7 +117,7 @@ pub(crate) fn shown(
 }
 
 /// Takes the start of a tag and its first token, which come next.
-#[tactic(auto, using(tera_expect::proofs::Going::took_all, tera_expect::proofs::Going::refused_behind))]
+#[tactic(auto, using(tera_expect::proofs::Going::behind_tokens))]
 pub(crate) fn enter(cursor: &mut Cursor<'_>, opener: Opener) -> Result<(), Error>
     requires { fronts.Opens opener ≡ kind_of (front cursor.old.left) }
     ensures enters { IfOk result (λ _. Enters (opener_of opener) cursor.old.left cursor.new) }

@@ -35,7 +35,7 @@ pub(crate) struct Parameters {
 }
 
 /// Reads the parameters of a component, behind their opening parenthesis.
-#[tactic(auto, using(tera_expect::proofs::Going::goes_further, tera_expect::proofs::Going::took_goes, tera_expect::proofs::Going::took_all, tera_expect::proofs::Going::took_further, tera_expect::proofs::Going::goes_took, tera_expect::proofs::Going::refused_behind, tera_expect::proofs::Going::refused_further, tera_expect::proofs::Going::memory_refused))]
+#[tactic(auto, using(tera_expect::proofs::Going::on_the_way))]
 pub(crate) fn read_parameters(
     setting: &Setting<'_>,
     cursor: &mut Cursor<'_>,
@@ -71,7 +71,7 @@ pub(crate) fn read_parameters(
 }
 
 // A default: a literal, a negative number, a word for no value, a constant array or a constant map.
-#[tactic(auto, using(tera_expect::proofs::Going::took_all, tera_expect::proofs::Going::refused_behind, tera_expect::proofs::Going::memory_refused))]
+#[tactic(auto, using(tera_expect::proofs::Going::behind_tokens))]
 fn default_value(setting: &Setting<'_>, cursor: &mut Cursor<'_>) -> Result<Value, Error>
     ensures gives { GivesBy IsDefault result cursor.new.left (default_of (limits_of setting.now.limits) cursor.old.left) }
     ensures refusal { IfErr result (Refuses cursor.old) }
@@ -96,7 +96,7 @@ fn default_value(setting: &Setting<'_>, cursor: &mut Cursor<'_>) -> Result<Value
 }
 
 // The number behind a minus, which was taken last.
-#[tactic(auto, using(tera_expect::proofs::Going::took_all, tera_expect::proofs::Going::refused_behind))]
+#[tactic(auto, using(tera_expect::proofs::Going::behind_tokens))]
 fn negative(cursor: &mut Cursor<'_>) -> Result<Value, Error>
     ensures gives { GivesBy IsDefault result cursor.new.left (minus_of cursor.old.span cursor.old.left) }
     ensures refusal { IfErr result (Refuses cursor.old) }
@@ -138,7 +138,7 @@ fn no_default(cursor: &Cursor<'_>, token: &Token<'_>) -> Error
 }
 
 // The type behind a colon, where one stands.
-#[tactic(auto, using(tera_expect::proofs::Going::took_all, tera_expect::proofs::Going::took_goes, tera_expect::proofs::Going::stays, tera_expect::proofs::Going::refused_behind))]
+#[tactic(auto, using(tera_expect::proofs::Going::on_the_way))]
 fn argument_type(cursor: &mut Cursor<'_>) -> Result<Option<ArgType>, Error>
     ensures gives { GivesBy IsType result cursor.new.left (annotation_in cursor.old.left (takes Colon cursor.old.left)) }
     ensures refusal { IfErr result (Refuses cursor.old) }
@@ -185,7 +185,7 @@ fn at_name(cursor: &Cursor<'_>, error: Error) -> Error
 }
 
 // The default behind an equals sign, where one stands.
-#[tactic(auto, using(tera_expect::proofs::Going::took_all, tera_expect::proofs::Going::took_goes, tera_expect::proofs::Going::stays, tera_expect::proofs::Going::refused_behind))]
+#[tactic(auto, using(tera_expect::proofs::Going::on_the_way))]
 fn assigned(setting: &Setting<'_>, cursor: &mut Cursor<'_>) -> Result<Option<Value>, Error>
     ensures gives { GivesBy IsAssigned result cursor.new.left (assigned_in (limits_of setting.now.limits) cursor.old.left (takes Assign cursor.old.left)) }
     ensures refusal { IfErr result (Refuses cursor.old) }
@@ -235,7 +235,7 @@ fn repeated(cursor: &Cursor<'_>, name: &str, first: &Span, rest: bool) -> Error
 }
 
 // The name of the rest parameter, behind its dots, and the closing parenthesis.
-#[tactic(auto, using(tera_expect::proofs::Going::took_all, tera_expect::proofs::Going::refused_behind, tera_expect::proofs::Going::memory_refused))]
+#[tactic(auto, using(tera_expect::proofs::Going::behind_tokens))]
 fn rest_parameter(cursor: &mut Cursor<'_>, seen: &Known) -> Result<String, Error>
     ensures gives { GivesBy (λ s n. string_bytes s ≡ n.text) result cursor.new.left (taken_rest (met_of seen.now) cursor.old.left) }
     ensures refusal { IfErr result (Refuses cursor.old) }
@@ -252,7 +252,7 @@ fn rest_parameter(cursor: &mut Cursor<'_>, seen: &Known) -> Result<String, Error
 }
 
 // A parameter, whose name is kept.
-#[tactic(auto, using(tera_expect::proofs::Going::took_all, tera_expect::proofs::Going::took_further, tera_expect::proofs::Going::goes_further, tera_expect::proofs::Going::refused_behind, tera_expect::proofs::Going::refused_further, tera_expect::proofs::Going::memory_refused))]
+#[tactic(auto, using(tera_expect::proofs::Going::on_the_way))]
 fn parameter(
     setting: &Setting<'_>,
     cursor: &mut Cursor<'_>,

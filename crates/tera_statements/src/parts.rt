@@ -121,7 +121,7 @@ pub(crate) fn unknown_tag(cursor: &mut Cursor<'_>) -> Error
 }
 
 // Takes the start of a tag and its first token, or a token that starts no tag.
-#[tactic(auto, using(tera_expect::proofs::Going::took_all, tera_expect::proofs::Going::refused_behind, crate::proofs::Refusing::took_inside, crate::proofs::Refusing::untaken_inside))]
+#[tactic(auto, using(tera_expect::proofs::Going::behind_tokens, crate::proofs::Refusing::took_inside, crate::proofs::Refusing::untaken_inside))]
 fn begin_tag(cursor: &mut Cursor<'_>) -> Result<(), Error>
     ensures refusal { IfErr result (Refuses cursor.old) }
     ensures inside { IfErr result (λ e. is_end cursor.old.left ≡ false → RefusesIn cursor.old e) }
@@ -145,7 +145,7 @@ pub(crate) fn closes(cursor: &Cursor<'_>, closer: Closer) -> bool
 }
 
 /// The start of a tag, with this closing token.
-#[tactic(auto, using(tera_expect::proofs::Going::took_all, tera_expect::proofs::Going::refused_behind))]
+#[tactic(auto, using(tera_expect::proofs::Going::behind_tokens))]
 pub(crate) fn closed(cursor: &mut Cursor<'_>, closer: Closer) -> Result<(), Error>
     ensures gives { Passes result cursor.new.left (closed (closer_of closer) cursor.old.left) }
     ensures refusal { IfErr result (Refuses cursor.old) }
@@ -160,7 +160,7 @@ pub(crate) fn closed(cursor: &mut Cursor<'_>, closer: Closer) -> Result<(), Erro
 }
 
 /// A tag that holds this closing token alone.
-#[tactic(auto, using(tera_expect::proofs::Going::took_all, tera_expect::proofs::Going::refused_behind))]
+#[tactic(auto, using(tera_expect::proofs::Going::behind_tokens))]
 pub(crate) fn closed_tag(cursor: &mut Cursor<'_>, closer: Closer) -> Result<(), Error>
     ensures gives { Passes result cursor.new.left (closed_tag (closer_of closer) cursor.old.left) }
     ensures refusal { IfErr result (Refuses cursor.old) }

@@ -18,7 +18,7 @@ use tera_lexer::Cursor;
 use tera_tree::{Node, build};
 
 /// Reads the rest of an `include`.
-#[tactic(auto, using(tera_expect::proofs::Going::took_all, tera_expect::proofs::Going::refused_behind, tera_expect::proofs::Going::memory_refused))]
+#[tactic(auto, using(tera_expect::proofs::Going::behind_tokens))]
 pub(crate) fn include(cursor: &mut Cursor<'_>, around: &Around) -> Result<Added, Error>
     ensures gives { AddsAlone around.now result cursor.new (λ path start seen. include_of start cursor.old.span seen cursor.old.left) }
     ensures refusal { IfErr result (Refuses cursor.old) }
@@ -58,7 +58,7 @@ impl Jump {
 }
 
 /// Reads the rest of a `break` or a `continue`.
-#[tactic(auto, using(tera_expect::proofs::Going::refused_behind, tera_expect::proofs::Going::memory_refused))]
+#[tactic(auto, using(tera_expect::proofs::Going::behind_tokens))]
 pub(crate) fn read_jump(
     cursor: &mut Cursor<'_>,
     around: &Around,
@@ -127,7 +127,7 @@ impl<'p> Extension<'p> {
 }
 
 /// Reads the rest of an `extends`.
-#[tactic(auto, using(tera_expect::proofs::Going::took_all, tera_expect::proofs::Going::refused_behind))]
+#[tactic(auto, using(tera_expect::proofs::Going::behind_tokens))]
 pub(crate) fn extends(
     cursor: &mut Cursor<'_>,
     around: &Around,

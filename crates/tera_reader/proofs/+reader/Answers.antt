@@ -2,7 +2,7 @@ use Rattle.std.proofs.Common.{ap, ◌∙◌, inr, arith}
 use Rattle.tera_grammar.proofs.expressions.Stack.{unwind_none, none_opens}
 use Rattle.tera_grammar.specs.expressions.Stack.{unwind}
 use Rattle.tera_reader.specs.Frames.{frame_view}
-use Rattle.tera_expect.proofs.Going.{took_size, fewer, took_all, goes_size, eats_size}
+use Rattle.tera_expect.proofs.Going.{took_size, took_all, goes_size, eats_size}
 use Rattle.tera_reader.proofs.Closing.{names_size}
 use Rattle.tera_reader.proofs.Stacking.{went_goes, one_more}
 use Rattle.tera_reader.proofs.+reader.Answers.Turning as turns
@@ -370,7 +370,7 @@ pub arrays::items-elements-init : goal.arrays::items-elements-init
 arrays::items-elements-init t c = arrays.arrays::items-elements-init t c
 
 pub arrays::items-elements-smaller : goal.arrays::items-elements-smaller
-arrays::items-elements-smaller t c = fewer c.elements.cursor c.more-in-elements.new.cursor (took_all _ _ _ c.in_ok-element.ensures.later c.in_ok-open-2.ensures.later)
+arrays::items-elements-smaller t c = took_size c.elements.cursor c.more-in-elements.new.cursor (took_all _ _ _ c.in_ok-element.ensures.later c.in_ok-open-2.ensures.later)
 
 pub arrays::items-returns-in_err-element-clause-gives : goal.arrays::items-returns-in_err-element-clause-gives
 arrays::items-returns-in_err-element-clause-gives t c = arrays.arrays::items-returns-in_err-element-clause-gives t c

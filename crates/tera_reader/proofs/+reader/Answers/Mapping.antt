@@ -12,7 +12,7 @@ use Rattle.tera_parts.specs.Keys.{taken_literal}
 use Rattle.tera_parts.specs.Rooms.{room_of}
 use Rattle.tera_parts.specs.Rows.{reader_of}
 use Rattle.tera_parts.proofs.ConstantMaps.{negatable_if_ok}
-use Rattle.tera_expect.proofs.Going.{fewer, took_all}
+use Rattle.tera_expect.proofs.Going.{took_size, took_all}
 use Rattle.tera_reader.proofs.Pairing.{Pairing, Paired, no_entries, none_at_all, lacks_entry, lacks_end, one_entry, map_missed, map_given, spread_read, no_key, no_colon, pair_read}
 use Rattle.tera_reader.proofs.RowSteps.{begun, gone_begun, gone_on, fails_by}
 use Rattle.tera_reader.proofs.+reader.Goals as goal
@@ -69,7 +69,7 @@ maps::map-elements-preserved t c =
     }
 
 pub maps::map-elements-smaller : goal.maps::map-elements-smaller
-maps::map-elements-smaller t c = fewer c.elements.cursor c.more.new.cursor (took_all _ _ _ c.in_ok-entry.ensures.later c.in_ok-open.ensures.later)
+maps::map-elements-smaller t c = took_size c.elements.cursor c.more.new.cursor (took_all _ _ _ c.in_ok-entry.ensures.later c.in_ok-open.ensures.later)
 
 pub maps::map-returns-clause-gives : goal.maps::map-returns-clause-gives
 maps::map-returns-clause-gives t c =

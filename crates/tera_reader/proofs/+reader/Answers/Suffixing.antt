@@ -19,7 +19,7 @@ use Rattle.tera_expect.specs.Taking.{name_at}
 use Rattle.tera_reader.proofs.Arguing.{Arguing, Argued, none_yet, none_at_all}
 use Rattle.tera_reader.proofs.ArgumentRows.{no_new_name, lacks_assign, lacks_value, lacks_end, one_argument, arguments_given}
 use Rattle.tera_reader.proofs.Calling.{subscript_is, test_is, negated_is, test_fails, test_made, call_given, call_unnamed, call_fails, no_arguments, arguments_behind}
-use Rattle.tera_expect.proofs.Going.{took_size, fewer, took_all, goes_size}
+use Rattle.tera_expect.proofs.Going.{took_size, took_all, goes_size}
 use Rattle.tera_reader.proofs.RowSteps.{begun, gone_begun, gone_on, fresh_given}
 use Rattle.tera_reader.proofs.+reader.Goals as goal
 
@@ -163,7 +163,7 @@ arguments::arguments-elements-preserved t c =
 
 pub arguments::arguments-elements-smaller : goal.arguments::arguments-elements-smaller
 arguments::arguments-elements-smaller t c =
-    fewer c.elements.cursor c.more.new.cursor
+    took_size c.elements.cursor c.more.new.cursor
     (took_all _ _ _ c.in_ok-name.ensures.later (took_all _ _ _ c.in_ok-expect.ensures.later (took_all _ _ _ c.in_ok-value.ensures.later c.in_ok-open.ensures.later)))
 
 pub arguments::arguments-returns-clause-gives : goal.arguments::arguments-returns-clause-gives

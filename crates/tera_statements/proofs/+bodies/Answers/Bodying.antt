@@ -12,7 +12,7 @@ use Rattle.tera_statements.specs.Around.{context_of}
 use Rattle.tera_parts.specs.Rooms.{limits_of}
 use Rattle.tera_expect.specs.Taking.{GoesOn}
 use Rattle.tera_statements.proofs.Bodying.{no_depth}
-use Rattle.tera_expect.proofs.Going.{fewer, goes_further, stays, took_goes}
+use Rattle.tera_expect.proofs.Going.{took_size, goes_further, stays, took_goes}
 use Rattle.tera_expect.proofs.Steps.{failed_as}
 use Rattle.tera_statements.proofs.+bodies.Goals as goal
 
@@ -55,7 +55,7 @@ bodies::body-items-preserved t c = record {
 }
 
 pub bodies::body-items-smaller : goal.bodies::body-items-smaller
-bodies::body-items-smaller t c = fewer c.items.cursor c.item.new.cursor (rw c.in-Some.is at c.in_ok-added.ensures.later)
+bodies::body-items-smaller t c = took_size c.items.cursor c.item.new.cursor (rw c.in-Some.is at c.in_ok-added.ensures.later)
 
 pub bodies::body-returns-clause-gives : goal.bodies::body-returns-clause-gives
 bodies::body-returns-clause-gives t c = λ path stands.

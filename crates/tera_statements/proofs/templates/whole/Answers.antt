@@ -9,7 +9,7 @@ use Rattle.tera_parts.specs.Rooms.{limits_of}
 use Rattle.tera_expect.specs.Taking.{GoesOn}
 use Rattle.tera_statements.specs.Templates.{below_top, phase_of}
 use Rattle.tera_statements.specs.Outputs.{output_view}
-use Rattle.tera_expect.proofs.Going.{fewer, goes_further, stays, took_goes}
+use Rattle.tera_expect.proofs.Going.{took_size, goes_further, stays, took_goes}
 use Rattle.tera_statements.proofs.Refusing.{empty_adds, empty_ends, goes_empty, goes_inside, not_both}
 use Rattle.tera_statements.proofs.Topping.{excluded_fails, opens}
 use Rattle.tera_statements.proofs.templates.whole.Goals as goal
@@ -43,7 +43,7 @@ items-preserved c =
     }
 
 pub items-smaller : goal.items-smaller
-items-smaller c = fewer c.items.cursor c.next_item.new.cursor (rw c.in-Some.is at c.in_ok-added.ensures.later)
+items-smaller c = took_size c.items.cursor c.next_item.new.cursor (rw c.in-Some.is at c.in_ok-added.ensures.later)
 
 pub returns-clause-gives : goal.returns-clause-gives
 returns-clause-gives c =
