@@ -7,10 +7,11 @@ ghost use Rattle.tera_grammar.specs.expressions.Output.{put_arg};
 ghost use Rattle.tera_parts.specs.Rows.{new_name_at};
 ghost use Rattle.tera_expect.specs.Taking.{GivesAs, Refuses, Took, name_at};
 
+use crate::faults::repeated_argument;
 use std::alloc::Global;
 use std::collections::BTreeMap;
 use tera_base::{Error, Span};
-use tera_expect::{name, noted, reported};
+use tera_expect::name;
 use tera_lexer::Cursor;
 use tera_tree::Expression;
 
@@ -27,25 +28,10 @@ pub fn argument_name<'a>(
 {
     let name = name(cursor)?;
     if arguments.contains_key(name) {
-        return Err(repeated(cursor, name, names));
+        return Err(repeated_argument(cursor, name, names));
     }
     names.push((name, cursor.current_span().copied()))?;
     Ok(name)
-}
-
-// That an argument of this name was defined before, where the names tell.
-#[tactic(auto, using(tera_expect::proofs::Going::same_refused))]
-fn repeated(cursor: &Cursor<'_>, name: &str, names: &[(&str, Span)]) -> Error
-    ensures { Refuses cursor.now result }
-{
-    let message = format!(in cursor.alloc(); "Keyword argument `{name}` is defined more than once");
-    let error = reported(cursor, message);
-    for (known, span) in names {
-        if *known == name {
-            return noted(error, "first defined here", span);
-        }
-    }
-    error
 }
 
 /// Puts an argument to those that are there.

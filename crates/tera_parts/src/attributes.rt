@@ -5,10 +5,10 @@ ghost use Rattle.tera_grammar.specs.expressions.Reading.Front.{taken_quote};
 ghost use Rattle.tera_parts.specs.Attributes.{ClosesAt, GivesQuote, closed_at};
 ghost use Rattle.tera_expect.specs.Taking.{Refuses, Took};
 
-use crate::faults::{no_attribute_value, unclosed_component};
+use crate::faults::{component_with_body, no_attribute_value, unclosed_component};
 use crate::leaves;
 use tera_base::Error;
-use tera_expect::{Fixed, eat, expect, fault, take};
+use tera_expect::{Fixed, eat, expect, take};
 use tera_lexer::{Cursor, Token};
 use tera_tree::Expression;
 
@@ -39,10 +39,7 @@ pub fn close_component(cursor: &mut Cursor<'_>) -> Result<(), Error>
         return expect(cursor, Fixed::GreaterThan);
     }
     if eat(cursor, Fixed::GreaterThan) {
-        return Err(fault(
-            cursor,
-            "Components with body content must use tag syntax: {% <component()> %}...{% </component> %}",
-        ));
+        return Err(component_with_body(cursor));
     }
     Err(unclosed_component(cursor))
 }

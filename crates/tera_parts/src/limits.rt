@@ -7,9 +7,8 @@ ghost use Rattle.tera_grammar.specs.expressions.Reading.Whole.{widest};
 ghost use Rattle.tera_parts.specs.Rooms.{Decides, limits_of, lowered, room_of};
 ghost use Rattle.tera_expect.specs.Taking.{Refuses};
 
-use crate::faults::{TOO_COMPLEX, too_complex};
+use crate::faults::{too_complex, too_complex_at, too_many_arrays, too_many_subscripts};
 use tera_base::Error;
-use tera_expect::reported;
 use tera_lexer::Cursor;
 
 /// The greatest numbers that a template may have.
@@ -111,11 +110,7 @@ impl Room {
         ensures refusal { IfErr result (Refuses cursor.now) }
     {
         if self.subscripts == 0 {
-            let most = self.scope.limits.subscripts;
-            let message = format!(in cursor.alloc();
-                "Identifiers can only have up to {most} nested brackets."
-            );
-            return Err(reported(cursor, message));
+            return Err(too_many_subscripts(cursor, self.scope.limits.subscripts));
         }
         Ok(Room {
             subscripts: self.subscripts - 1,
@@ -131,11 +126,7 @@ impl Room {
         ensures refusal { IfErr result (Refuses cursor.now) }
     {
         if self.arrays == 0 {
-            let most = self.scope.limits.arrays;
-            let message = format!(in cursor.alloc();
-                "Arrays can have a maximum of {most} dimensions."
-            );
-            return Err(reported(cursor, message));
+            return Err(too_many_arrays(cursor, self.scope.limits.arrays));
         }
         Ok(Room {
             arrays: self.arrays - 1,
@@ -166,9 +157,7 @@ pub fn count_operator(cursor: &Cursor<'_>, links: &mut usize, negated: bool) -> 
     ensures refusal { IfErr result (Refuses cursor.now) }
 {
     match cursor.first_span() {
-        Some(word) if negated && *links == 0 => {
-            Err(Error::syntax_error(cursor.alloc(), TOO_COMPLEX, word))
-        }
+        Some(word) if negated && *links == 0 => Err(too_complex_at(cursor, word)),
         _ => count_link(cursor, links),
     }
 }

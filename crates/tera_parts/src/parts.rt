@@ -14,12 +14,11 @@ ghost use Rattle.tera_parts.specs.Literals.{GivesLiteral, MayBeNegated, number_o
 ghost use Rattle.tera_parts.specs.Fronts.{operator_of, sign_of};
 ghost use Rattle.tera_expect.specs.Taking.{IsCounted, Refuses};
 
-use crate::faults::no_expression;
+use crate::faults::{no_expression, prefix_behind_tilde};
 use crate::leaves;
 use crate::operators::Operator;
 use std::alloc::{AllocError, Global};
 use tera_base::{Error, Span, Value};
-use tera_expect::reported;
 use tera_lexer::{Cursor, Token};
 use tera_tree::{Expression, UnaryOperator, build};
 
@@ -123,9 +122,7 @@ pub fn refuse_prefix(
 {
     match (operator, right) {
         (Operator::StrConcat, Expression::UnaryOperation(operation)) => {
-            let prefix = operation.node().op;
-            let message = format!(in cursor.alloc(); "`{prefix}` is not allowed after `~`");
-            Err(reported(cursor, message))
+            Err(prefix_behind_tilde(cursor, operation.node().op))
         }
         _ => Ok(()),
     }

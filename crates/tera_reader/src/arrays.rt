@@ -16,9 +16,10 @@ ghost use Rattle.tera_parts.specs.Rooms.{room_of};
 ghost use Rattle.tera_parts.specs.Rows.{reader_of};
 ghost use Rattle.tera_expect.specs.Taking.{GivesAs, GivesBy, GoesOn, Refuses, Took, mark_of, name_at, place_at};
 
+use crate::faults::{reserved_variable, second_for};
 use crate::rows::value;
 use tera_base::{Error, Span};
-use tera_expect::{Fixed, eat, expect, fault, name, reported};
+use tera_expect::{Fixed, eat, expect, name};
 use tera_lexer::Cursor;
 use tera_parts::{Values, array_or_constant, more, spanning};
 use tera_tree::{ArrayEntry, Expression, build};
@@ -181,10 +182,7 @@ fn variable_name<'a>(cursor: &mut Cursor<'a>) -> Result<&'a str, Error>
 {
     let name = name(cursor)?;
     if is_reserved(name) {
-        let message = format!(in cursor.alloc();
-            "{name} is a reserved keyword of Tera, it cannot be used as a list comprehension variable."
-        );
-        return Err(reported(cursor, message));
+        return Err(reserved_variable(cursor, name));
     }
     Ok(name)
 }
@@ -219,10 +217,7 @@ fn close_comprehension(cursor: &mut Cursor<'_>) -> Result<(), Error>
     ensures later { IfOk result (λ _. Took cursor.old cursor.new) }
 {
     if eat(cursor, Fixed::For) {
-        return Err(fault(
-            cursor,
-            "List comprehensions support only a single `for` clause.",
-        ));
+        return Err(second_for(cursor));
     }
     expect(cursor, Fixed::RightBracket)
 }

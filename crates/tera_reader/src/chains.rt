@@ -17,9 +17,10 @@ ghost use Rattle.tera_expect.specs.Taking.{GivesBy, GoesOn, Refuses, Took, name_
 ghost use Rattle.tera_reader.specs.declared.chains.Link.TheVariants as variants;
 
 use crate::arguments::arguments;
+use crate::faults::{call_behind_link, no_loop_field};
 use crate::subscripts::{read_subscript, with_subscript};
 use tera_base::{Error, Span};
-use tera_expect::{Fixed, eat, fault, name, reported};
+use tera_expect::{Fixed, eat, name};
 use tera_lexer::{Cursor, Token};
 use tera_parts::{Room, Values, count_link, leaves};
 use tera_tree::{Expression, build};
@@ -163,10 +164,7 @@ fn with_link(
 {
     match Link::at(cursor) {
         Link::Nothing => Ok(Linked::Whole(chain)),
-        Link::Called => Err(fault(
-            cursor,
-            "Function calls are only allowed at the first element of a chain",
-        )),
+        Link::Called => Err(call_behind_link(cursor)),
         Link::Field(optional) => {
             count_link(cursor, links)?;
             take_link(cursor);
@@ -212,10 +210,7 @@ fn field(
         return Ok(build::get_attr(alloc, chain, name, optional, span)?);
     }
     if !is_loop_field(name) {
-        let message = format!(in alloc;
-            "Found invalid field of `loop`: {name}. Only `index`, `index0`, `first`, `last` and `length` exist."
-        );
-        return Err(reported(cursor, message));
+        return Err(no_loop_field(cursor, name));
     }
     let name = format!(in alloc; "__tera_loop_{name}")?;
     Ok(build::variable(alloc, name, span)?)

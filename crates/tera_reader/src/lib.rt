@@ -6,6 +6,7 @@ mod arrays;
 mod calls;
 mod chains;
 mod component_calls;
+mod faults;
 mod frames;
 mod maps;
 mod outermost;

@@ -10,12 +10,13 @@ ghost use Rattle.tera_expect.specs.Taking.{GivesBy, GoesOn, Refuses, Took};
 use crate::arguments::arguments;
 use crate::arrays::array;
 use crate::calls::filter_with;
+use crate::faults::{array_not_constant, map_not_constant};
 use crate::maps::map;
 use std::collections::BTreeMap;
 use tera_base::{Error, Value};
 use tera_expect::{Fixed, expect};
 use tera_lexer::Cursor;
-use tera_parts::{Limits, Room, Scope, Values, constant, dotted_name, leaves, reported_from};
+use tera_parts::{Limits, Room, Scope, Values, constant, dotted_name, leaves};
 use tera_tree::{Expression, MapEntry};
 
 /// Reads an expression.
@@ -89,13 +90,7 @@ pub fn literal_array(cursor: &mut Cursor<'_>, limits: Limits) -> Result<Value, E
     let array = array(cursor, &mut links, values, &first)?;
     match constant(array) {
         Some(value) => Ok(value),
-        None => {
-            let message = String::from_str(
-                cursor.alloc(),
-                "Invalid default argument: this array should only contain literal values.",
-            );
-            Err(reported_from(cursor, &first, message))
-        }
+        None => Err(array_not_constant(cursor, &first)),
     }
 }
 
@@ -116,11 +111,6 @@ pub fn literal_map(cursor: &mut Cursor<'_>, context: &str, limits: Limits) -> Re
     let map = map(cursor, &mut links, values, &first)?;
     match constant(map) {
         Some(value) => Ok(value),
-        None => {
-            let message = format!(in cursor.alloc();
-                "Invalid {context}: this map should only contain literal values."
-            );
-            Err(reported_from(cursor, &first, message))
-        }
+        None => Err(map_not_constant(cursor, &first, context)),
     }
 }

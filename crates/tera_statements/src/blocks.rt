@@ -1,6 +1,6 @@
 //! Blocks, and the definitions of components.
 
-ghost use Rattle.std.specs.Prelude.{IfErr, IfOk, ◌≡◌, ◌⊎◌, false, true};
+ghost use Rattle.std.specs.Prelude.{IfErr, IfOk, ◌≡◌, ◌⊎◌, false, is_none, true};
 ghost use Rattle.std.specs.Str.{bytes_eq};
 ghost use Rattle.tera_base.specs.Errors.{IsMemory};
 ghost use Rattle.tera_parts.specs.Rooms.{limits_of};
@@ -17,14 +17,14 @@ use crate::added::{Added, Names};
 use crate::around::{Around, Context, Opening};
 use crate::bodies::body;
 use crate::components::{closing_tag, opening_tag};
-use crate::faults::renamed;
+use crate::faults::{nested_definition, renamed, repeated_block};
 use crate::fronts::Closer;
 use crate::names::{Known, keep_name, place_of};
 use crate::parts::{closed, finish};
 use crate::settings::Setting;
-use crate::simple::{check_block, check_outermost};
+use crate::simple::check_block;
 use tera_base::{Error, Span, Spanned};
-use tera_expect::{eat_name, name, reported};
+use tera_expect::{eat_name, name};
 use tera_lexer::Cursor;
 use tera_tree::{ComponentDefinition, build};
 
@@ -65,13 +65,11 @@ fn new_block<'a>(cursor: &mut Cursor<'a>, blocks: &mut Known) -> Result<(&'a str
     ensures refusal { IfErr result (Refuses cursor.old) }
     ensures later { IfOk result (λ _. Took cursor.old cursor.new) }
 {
-    let alloc = cursor.alloc();
     let name = name(cursor)?;
     if place_of(blocks, name).is_some() {
-        let message = format!(in alloc; "Template already contains a block named `{name}`");
-        return Err(reported(cursor, message));
+        return Err(repeated_block(cursor, name));
     }
-    keep_name(alloc, blocks, name, cursor.current_span())?;
+    keep_name(cursor.alloc(), blocks, name, cursor.current_span())?;
     Ok((name, cursor.current_span().copied()))
 }
 
@@ -123,8 +121,7 @@ pub(crate) fn definition(
         context: Context::Definition,
         at: cursor.current_span().copied(),
     };
-    let text = "Component definitions cannot be written in another tag.";
-    check_outermost(cursor, around, text)?;
+    check_definition(cursor, around)?;
     let opened = opening_tag(setting, cursor, &mut names.components)?;
     let inside = body(setting, cursor, names, around, &opening, below)?;
     closing_tag(cursor, opened.name.as_str())?;
@@ -135,4 +132,16 @@ pub(crate) fn definition(
         metadata: opened.metadata,
         body: inside,
     }))
+}
+
+// Refuses the definition of a component, whose word was taken last, in another tag.
+fn check_definition(cursor: &Cursor<'_>, around: &Around) -> Result<(), Error>
+    ensures stands { IfOk result (λ _. is_none around.now.innermost ≡ true) }
+    ensures fails { IfErr result (λ e. IsMemory e ⊎ (is_none around.now.innermost ≡ false)) }
+    ensures refusal { IfErr result (Refuses cursor.now) }
+{
+    match &around.innermost {
+        None => Ok(()),
+        Some(opening) => Err(nested_definition(cursor, opening)),
+    }
 }

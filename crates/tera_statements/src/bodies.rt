@@ -10,11 +10,11 @@ ghost use Rattle.tera_expect.specs.Taking.{GivesBy, GoesOn, Refuses};
 
 use crate::added::{Names, push_node};
 use crate::around::{Around, Opening};
+use crate::faults::too_deep;
 use crate::items::item;
 use crate::settings::Setting;
 use crate::simple::Extension;
 use tera_base::Error;
-use tera_expect::fault;
 use tera_lexer::Cursor;
 use tera_tree::Node;
 
@@ -34,7 +34,7 @@ pub(crate) fn body(
     ensures later { IfOk result (λ _. GoesOn cursor.old cursor.new) }
 {
     if below == 0 {
-        return Err(fault(cursor, "The template nesting is too deep"));
+        return Err(too_deep(cursor));
     }
     let inside = around.inside(opening);
     let mut nodes = Vec::new(cursor.alloc());

@@ -18,12 +18,13 @@ ghost use Rattle.tera_nodes.specs.View.{expression_view, node_view};
 use crate::added::{Added, Names};
 use crate::around::{Around, Context, Opening};
 use crate::bodies::body;
+use crate::faults::{no_called_name, nothing_to_set, other_call, unclosed_call};
 use crate::fronts::Closer;
 use crate::heads::{attributes_to_end, expression_to_end, filters_to_end, section_to_end};
 use crate::parts::{closed, closed_tag, finish, free_name, spanning};
 use crate::settings::Setting;
 use tera_base::{Error, Span};
-use tera_expect::{Fixed, begins, begins_name, eat, expect, fault, reported};
+use tera_expect::{Fixed, begins_name, eat, expect};
 use tera_lexer::{Cursor, Token};
 use tera_reader::component_name;
 use tera_tree::{Expression, Node, build};
@@ -111,10 +112,7 @@ fn check_set(cursor: &Cursor<'_>) -> Result<(), Error>
 {
     match cursor.first() {
         Some(Token::Pipe | Token::TagEnd(_)) => Ok(()),
-        _ => Err(fault(
-            cursor,
-            "Invalid syntax for `set`: expecting an `=` followed by an expression or a `%}`",
-        )),
+        _ => Err(nothing_to_set(cursor)),
     }
 }
 
@@ -183,10 +181,7 @@ fn called_name(cursor: &mut Cursor<'_>) -> Result<String, Error>
     ensures later { IfOk result (λ _. Took cursor.old cursor.new) }
 {
     if !begins_name(cursor) {
-        return Err(fault(
-            cursor,
-            "Found `<` but expected identifier after it for XML component call.",
-        ));
+        return Err(no_called_name(cursor));
     }
     component_name(cursor)
 }
@@ -199,8 +194,7 @@ fn call_end(cursor: &mut Cursor<'_>, name: &str) -> Result<Span, Error>
     ensures later { IfOk result (λ _. Took cursor.old cursor.new) }
 {
     if cursor.at_end() {
-        let message = format!(in cursor.alloc(); "Unclosed component '{name}'");
-        return Err(reported(cursor, message));
+        return Err(unclosed_call(cursor, name));
     }
     closed(cursor, Closer::EndCall)?;
     let end = component_name(cursor)?;
@@ -220,8 +214,5 @@ fn check_call_name(cursor: &Cursor<'_>, name: &str, end: &str) -> Result<(), Err
     if end == name {
         return Ok(());
     }
-    let message = format!(in cursor.alloc();
-        "Closing tag '{end}' doesn't match opening tag '{name}'"
-    );
-    Err(reported(cursor, message))
+    Err(other_call(cursor, name, end))
 }

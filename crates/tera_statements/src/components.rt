@@ -20,7 +20,7 @@ ghost use Rattle.tera_statements.specs.Reading.{IsComponent};
 ghost use Rattle.tera_expect.specs.Taking.{GivesBy, GoesOn, Passes, Refuses, Took};
 ghost use Rattle.tera_tree.specs.Definitions.{named_value};
 
-use crate::faults::renamed;
+use crate::faults::{renamed, repeated_component};
 use crate::fronts::Closer;
 use crate::names::{Known, keep_name, place_of};
 use crate::parameters::{Parameters, read_parameters};
@@ -29,7 +29,7 @@ use crate::settings::Setting;
 use std::alloc::{AllocError, Global};
 use std::collections::BTreeMap;
 use tera_base::{Error, Map, Span, Value};
-use tera_expect::{Fixed, begins, begins_name, expect, noted, reported};
+use tera_expect::{Fixed, begins, begins_name, expect};
 use tera_lexer::Cursor;
 use tera_reader::{component_name, literal_map};
 
@@ -75,22 +75,10 @@ fn new_component(cursor: &mut Cursor<'_>, seen: &mut Known) -> Result<String, Er
 {
     let name = component_name(cursor)?;
     if let Some(first) = place_of(seen, name.as_str()) {
-        return Err(known(cursor, name.as_str(), first));
+        return Err(repeated_component(cursor, name.as_str(), first));
     }
     keep_name(cursor.alloc(), seen, name.as_str(), cursor.current_span())?;
     Ok(name)
-}
-
-// That a component of the name, which was taken last, was defined before at the span.
-#[tactic(auto, using(tera_expect::proofs::Going::same_refused))]
-fn known(cursor: &Cursor<'_>, name: &str, first: &Span) -> Error
-    ensures { Refuses cursor.now result }
-{
-    let message = format!(in cursor.alloc();
-        "Template already contains a component named `{name}`"
-    );
-    let error = reported(cursor, message);
-    noted(error, "first defined here", first)
 }
 
 // The metadata of a component, where a map stands there.

@@ -1,10 +1,45 @@
-//! The faults of statements.
+//! The faults of statements, in the order in which the language's document lists them.
 
-ghost use Rattle.tera_expect.specs.Taking.{Refuses};
+ghost use Rattle.std.specs.Prelude.{◌≡◌, ◌⊎◌};
+ghost use Rattle.tera_lexer.specs.code.Cursors.{Position};
+ghost use Rattle.tera_lexer.specs.grammar.Faults.{BeginsWith, EndsWith};
+ghost use Rattle.tera_lexer.specs.grammar.Place.{IsWithin};
+ghost use Rattle.tera_statements.specs.Templates.{StandsNext};
+ghost use Rattle.tera_expect.specs.Taking.{Refuses, RefusesIn, TellsAs, Took};
 
-use tera_base::Error;
-use tera_expect::reported;
-use tera_lexer::Cursor;
+use crate::around::Opening;
+use tera_base::{Error, ErrorKind, Span, Value};
+use tera_expect::{fault, noted, reported};
+use tera_lexer::{Cursor, Token};
+use tera_tree::ArgType;
+
+/// That no name stands behind the `<` of a tag, which was taken last.
+pub(crate) fn no_called_name(cursor: &Cursor<'_>) -> Error
+    ensures { Refuses cursor.now result }
+{
+    fault(
+        cursor,
+        "Found `<` but expected identifier after it for XML component call.",
+    )
+}
+
+/// That the input ends before the component of this name is closed.
+pub(crate) fn unclosed_call(cursor: &Cursor<'_>, name: &str) -> Error
+    ensures { Refuses cursor.now result }
+{
+    let message = format!(in cursor.alloc(); "Unclosed component '{name}'");
+    reported(cursor, message)
+}
+
+/// That the name at the end of a component that is called, which was taken last, is another one.
+pub(crate) fn other_call(cursor: &Cursor<'_>, name: &str, end: &str) -> Error
+    ensures { Refuses cursor.now result }
+{
+    let message = format!(in cursor.alloc();
+        "Closing tag '{end}' doesn't match opening tag '{name}'"
+    );
+    reported(cursor, message)
+}
 
 /// That the name at the end of what has a name, which was taken last, is another one.
 pub(crate) fn renamed(cursor: &Cursor<'_>, kind: &str, name: &str, end: &str) -> Error
@@ -14,4 +49,260 @@ pub(crate) fn renamed(cursor: &Cursor<'_>, kind: &str, name: &str, end: &str) ->
         "{kind} was named `{name}` in the opening tag, found `{end}` as name in the end tag"
     );
     reported(cursor, message)
+}
+
+/// That neither a value nor a body stands behind the name that is set, which was taken last.
+pub(crate) fn nothing_to_set(cursor: &Cursor<'_>) -> Error
+    ensures { Refuses cursor.now result }
+{
+    fault(
+        cursor,
+        "Invalid syntax for `set`: expecting an `=` followed by an expression or a `%}`",
+    )
+}
+
+/// That nothing begins with the token taken last.
+pub(crate) fn unknown(cursor: &Cursor<'_>) -> Error
+    ensures { Refuses cursor.now result }
+{
+    fault(cursor, "Unknown tag")
+}
+
+/// That more bodies are open than may be.
+pub(crate) fn too_deep(cursor: &Cursor<'_>) -> Error
+    ensures { Refuses cursor.now result }
+{
+    fault(cursor, "The template nesting is too deep")
+}
+
+/// That a template extends another, at the string taken last, and extends one already.
+pub(crate) fn again_extended(cursor: &Cursor<'_>, parent: &str) -> Error
+    ensures { Refuses cursor.now result }
+{
+    let message = format!(in cursor.alloc(); "Template is already extending `{parent}`");
+    reported(cursor, message)
+}
+
+/// That a template extends another, at the string taken last, behind something else.
+pub(crate) fn late_extended(cursor: &Cursor<'_>) -> Error
+    ensures { Refuses cursor.now result }
+{
+    fault(
+        cursor,
+        "`extends` needs to be the first tag of the template",
+    )
+}
+
+/// That a template extends another, at the string taken last, in another tag.
+pub(crate) fn nested_extends(cursor: &Cursor<'_>, opening: &Opening) -> Error
+    ensures { Refuses cursor.now result }
+{
+    let error = fault(cursor, "`extends` cannot be nested in other tags.");
+    inside_of(cursor, error, opening)
+}
+
+/// That an item is of no use in a template that extends another: from its first token, whose place is known if it was
+/// shown, to the one taken last.
+pub(crate) fn ignored(cursor: &Cursor<'_>, first: Option<Span>) -> Error
+    ensures { (old : Position) → Took old cursor.now → StandsNext first old → RefusesIn old result }
+{
+    let text =
+        "This content would be ignored: only `extends`, `block` and `component` are allowed at the top level of a child template.";
+    match first {
+        Some(first) => Error::syntax_error(cursor.alloc(), text, &up_to_last(cursor, &first)),
+        None => fault(cursor, text),
+    }
+}
+
+/// That a block, whose word was taken last, stands where none may.
+pub(crate) fn barred_block(cursor: &Cursor<'_>, opening: &Opening) -> Error
+    ensures { Refuses cursor.now result }
+{
+    let name = opening.context.name();
+    let message = format!(in cursor.alloc(); "Blocks cannot be written inside a {name}.");
+    let error = reported(cursor, message);
+    inside_of(cursor, error, opening)
+}
+
+/// That a block of this name, which was taken last, was there before.
+pub(crate) fn repeated_block(cursor: &Cursor<'_>, name: &str) -> Error
+    ensures { Refuses cursor.now result }
+{
+    let message = format!(in cursor.alloc(); "Template already contains a block named `{name}`");
+    reported(cursor, message)
+}
+
+/// That this word, which was taken last, stands in a body that is taken as a value.
+pub(crate) fn captured_jump(cursor: &Cursor<'_>, word: &str, opening: &Opening) -> Error
+    ensures { Refuses cursor.now result }
+{
+    let name = opening.context.name();
+    let message = format!(in cursor.alloc(); "`{word}` cannot be used inside a {name}");
+    let error = reported(cursor, message);
+    inside_of(cursor, error, opening)
+}
+
+/// That this word, which was taken last, stands in no loop.
+pub(crate) fn jump_in_no_loop(cursor: &Cursor<'_>, word: &str) -> Error
+    ensures { Refuses cursor.now result }
+{
+    let message = format!(in cursor.alloc(); "{word} can only be used in a for loop");
+    reported(cursor, message)
+}
+
+/// That the definition of a component, whose word was taken last, stands in another tag.
+pub(crate) fn nested_definition(cursor: &Cursor<'_>, opening: &Opening) -> Error
+    ensures { Refuses cursor.now result }
+{
+    let error = fault(
+        cursor,
+        "Component definitions cannot be written in another tag.",
+    );
+    inside_of(cursor, error, opening)
+}
+
+/// That a component of the name, which was taken last, was defined before at the span.
+pub(crate) fn repeated_component(cursor: &Cursor<'_>, name: &str, first: &Span) -> Error
+    ensures { Refuses cursor.now result }
+{
+    let message = format!(in cursor.alloc();
+        "Template already contains a component named `{name}`"
+    );
+    let error = reported(cursor, message);
+    first_defined(cursor, error, first)
+}
+
+/// That a parameter, whose name was taken last, is called `body`.
+pub(crate) fn parameter_named_body(cursor: &Cursor<'_>) -> Error
+    ensures { Refuses cursor.now result }
+{
+    fault(
+        cursor,
+        "The name `body` is reserved for component body content.",
+    )
+}
+
+/// That the name, which was taken last, is that of the parameter whose name stands at the span.
+pub(crate) fn repeated_parameter(cursor: &Cursor<'_>, name: &str, first: &Span) -> Error
+    ensures { Refuses cursor.now result }
+{
+    let message = format!(in cursor.alloc();
+        "Component argument `{name}` is defined more than once"
+    );
+    let error = reported(cursor, message);
+    first_defined(cursor, error, first)
+}
+
+/// That the name of the rest parameter, which was taken last, is that of another one.
+pub(crate) fn rest_is_parameter(cursor: &Cursor<'_>, name: &str) -> Error
+    ensures { Refuses cursor.now result }
+{
+    let message = format!(in cursor.alloc();
+        "Rest parameter `{name}` conflicts with an existing parameter."
+    );
+    reported(cursor, message)
+}
+
+/// That the rest parameter, whose name was taken last, is not the last one.
+pub(crate) fn rest_is_not_last(cursor: &Cursor<'_>) -> Error
+    ensures { Refuses cursor.now result }
+{
+    fault(
+        cursor,
+        "Rest parameter must be the last parameter in component definition.",
+    )
+}
+
+/// What the message says of the name taken last, which is that of no type.
+#[tactic(auto, using(tera_expect::proofs::Going::memory_refused))]
+pub(crate) fn no_named_type(cursor: &Cursor<'_>, error: Error) -> Error
+    ensures { Refuses cursor.now result }
+{
+    match error.kind {
+        ErrorKind::Message(message) => reported(cursor, Ok(message)),
+        _ => Error {
+            kind: ErrorKind::Memory,
+        },
+    }
+}
+
+/// That a token, which was taken last, is no type.
+pub(crate) fn no_type(cursor: &Cursor<'_>, token: &Token<'_>) -> Error
+    ensures { Refuses cursor.now result }
+{
+    let message = format!(in cursor.alloc();
+        "Found {token} but the only types allowed are: string, bool, integer, number, bytes, array and map"
+    );
+    reported(cursor, message)
+}
+
+/// That a token, which was taken last, is no number behind a minus.
+pub(crate) fn no_number(cursor: &Cursor<'_>, token: &Token<'_>) -> Error
+    ensures { Refuses cursor.now result }
+{
+    let message = format!(in cursor.alloc();
+        "Found {token} but `-` can only be followed by an integer"
+    );
+    reported(cursor, message)
+}
+
+/// That a token, which was taken last, is no default.
+pub(crate) fn no_default(cursor: &Cursor<'_>, token: &Token<'_>) -> Error
+    ensures { Refuses cursor.now result }
+{
+    let message = format!(in cursor.alloc();
+        "Found {token} but component default arguments can only be one of: string, bool, integer, array or map"
+    );
+    reported(cursor, message)
+}
+
+/// That a default has another type than its argument.
+pub(crate) fn mistyped(cursor: &Cursor<'_>, name: &str, typ: &ArgType, value: &Value) -> Error
+    ensures { Refuses cursor.now result }
+{
+    let wanted = typ.as_str();
+    let found = match ArgType::from_value(value) {
+        Some(found) => found.as_str(),
+        None => value.name(),
+    };
+    let message = format!(in cursor.alloc();
+        "Default value for `{name}` has type `{found}` but the argument has type `{wanted}`"
+    );
+    reported(cursor, message)
+}
+
+// The error with a note on where what stands around begins.
+fn inside_of(cursor: &Cursor<'_>, error: Error, opening: &Opening) -> Error
+    requires { Refuses cursor.now error }
+    ensures tells { TellsAs error result }
+    ensures refusal { Refuses cursor.now result }
+{
+    let name = opening.context.name();
+    match format!(in cursor.alloc(); "the {name} starts here") {
+        Ok(label) => noted(error, label.as_str(), &opening.at),
+        Err(refused) => Error::from(refused),
+    }
+}
+
+// The error with a note on where the first of two of a name is defined.
+fn first_defined(cursor: &Cursor<'_>, error: Error, first: &Span) -> Error
+    requires { Refuses cursor.now error }
+    ensures tells { TellsAs error result }
+    ensures refusal { Refuses cursor.now result }
+{
+    noted(error, "first defined here", first)
+}
+
+// From the start of a span to the end of the token taken last.
+fn up_to_last(cursor: &Cursor<'_>, first: &Span) -> Span
+    ensures within { IsWithin cursor.now.source first.now → IsWithin cursor.now.source result }
+    ensures starts { BeginsWith first.now result }
+    ensures ends { EndsWith first.now result ⊎ EndsWith cursor.now.span result }
+{
+    let last = cursor.current_span();
+    let mut span = first.copied();
+    if span.range.end <= last.range.end {
+        span.expand(last);
+    }
+    span
 }

@@ -17,12 +17,16 @@ ghost use Rattle.tera_statements.specs.Parameters.{AreParameters, IsAssigned, Is
 ghost use Rattle.tera_expect.specs.Taking.{Fails, GivesAs, GivesBy, GoesOn, Refuses, Took, name_at};
 ghost use Rattle.tera_tree.specs.View.{argument_view, default_view};
 
+use crate::faults::{
+    mistyped, no_default, no_named_type, no_number, no_type, parameter_named_body,
+    repeated_parameter, rest_is_not_last, rest_is_parameter,
+};
 use crate::names::{Known, keep_name, place_of};
 use crate::parts::is_none;
 use crate::settings::Setting;
 use std::collections::BTreeMap;
-use tera_base::{Error, ErrorKind, Span, Value};
-use tera_expect::{Fixed, begins, eat, expect, fault, name, noted, reported, take};
+use tera_base::{Error, Span, Value};
+use tera_expect::{Fixed, begins, eat, expect, name, take};
 use tera_lexer::{Cursor, Token};
 use tera_reader::{literal_array, literal_map};
 use tera_tree::{ArgType, ComponentArgument};
@@ -105,12 +109,7 @@ fn negative(cursor: &mut Cursor<'_>) -> Result<Value, Error>
     let (token, _) = take(cursor)?;
     match token {
         Token::Integer(n) => Ok(Value::I64(-n)),
-        token => {
-            let message = format!(in cursor.alloc();
-                "Found {token} but `-` can only be followed by an integer"
-            );
-            Err(reported(cursor, message))
-        }
+        token => Err(no_number(cursor, &token)),
     }
 }
 
@@ -127,16 +126,6 @@ fn no_value(cursor: &Cursor<'_>, name: &str) -> Result<Value, Error>
     }
 }
 
-// That a token, which was taken last, is no default.
-fn no_default(cursor: &Cursor<'_>, token: &Token<'_>) -> Error
-    ensures { Refuses cursor.now result }
-{
-    let message = format!(in cursor.alloc();
-        "Found {token} but component default arguments can only be one of: string, bool, integer, array or map"
-    );
-    reported(cursor, message)
-}
-
 // The type behind a colon, where one stands.
 #[tactic(auto, using(tera_expect::proofs::Going::on_the_way))]
 fn argument_type(cursor: &mut Cursor<'_>) -> Result<Option<ArgType>, Error>
@@ -150,12 +139,7 @@ fn argument_type(cursor: &mut Cursor<'_>) -> Result<Option<ArgType>, Error>
     let (token, _) = take(cursor)?;
     match token {
         Token::Ident(name) => Ok(Some(named_type(cursor, name)?)),
-        token => {
-            let message = format!(in cursor.alloc();
-                "Found {token} but the only types allowed are: string, bool, integer, number, bytes, array and map"
-            );
-            Err(reported(cursor, message))
-        }
+        token => Err(no_type(cursor, &token)),
     }
 }
 
@@ -167,20 +151,7 @@ fn named_type(cursor: &Cursor<'_>, name: &str) -> Result<ArgType, Error>
 {
     match ArgType::from_str(cursor.alloc(), name) {
         Ok(typ) => Ok(typ),
-        Err(error) => Err(at_name(cursor, error)),
-    }
-}
-
-// What a message says, as a fault at the token taken last.
-#[tactic(auto, using(tera_expect::proofs::Going::memory_refused))]
-fn at_name(cursor: &Cursor<'_>, error: Error) -> Error
-    ensures { Refuses cursor.now result }
-{
-    match error.kind {
-        ErrorKind::Message(message) => reported(cursor, Ok(message)),
-        _ => Error {
-            kind: ErrorKind::Memory,
-        },
+        Err(error) => Err(no_named_type(cursor, error)),
     }
 }
 
@@ -206,10 +177,7 @@ fn fresh_name<'a>(cursor: &mut Cursor<'a>, seen: &Known, rest: bool) -> Result<&
 {
     let name = name(cursor)?;
     if name == "body" {
-        return Err(fault(
-            cursor,
-            "The name `body` is reserved for component body content.",
-        ));
+        return Err(parameter_named_body(cursor));
     }
     match place_of(seen, name) {
         Some(first) => Err(repeated(cursor, name, first, rest)),
@@ -218,20 +186,14 @@ fn fresh_name<'a>(cursor: &mut Cursor<'a>, seen: &Known, rest: bool) -> Result<&
 }
 
 // That the name, which was taken last, is that of the parameter whose name stands at the span.
-#[tactic(auto, using(tera_expect::proofs::Going::same_refused))]
 fn repeated(cursor: &Cursor<'_>, name: &str, first: &Span, rest: bool) -> Error
     ensures { Refuses cursor.now result }
 {
-    let alloc = cursor.alloc();
     if rest {
-        let message = format!(in alloc;
-            "Rest parameter `{name}` conflicts with an existing parameter."
-        );
-        return reported(cursor, message);
+        rest_is_parameter(cursor, name)
+    } else {
+        repeated_parameter(cursor, name, first)
     }
-    let message = format!(in alloc; "Component argument `{name}` is defined more than once");
-    let error = reported(cursor, message);
-    noted(error, "first defined here", first)
 }
 
 // The name of the rest parameter, behind its dots, and the closing parenthesis.
@@ -243,10 +205,7 @@ fn rest_parameter(cursor: &mut Cursor<'_>, seen: &Known) -> Result<String, Error
 {
     let name = fresh_name(cursor, seen, true)?;
     if !eat(cursor, Fixed::RightParen) {
-        return Err(fault(
-            cursor,
-            "Rest parameter must be the last parameter in component definition.",
-        ));
+        return Err(rest_is_not_last(cursor));
     }
     Ok(String::from_str(cursor.alloc(), name)?)
 }
@@ -307,21 +266,6 @@ fn fits(typ: &ArgType, value: &Value) -> bool
     ensures { result ≡ (is_nothing (value_view value.now) || has_type typ.now (value_view value.now)) }
 {
     matches!(value, Value::None) || typ.matches_value(value)
-}
-
-// That a default has another type than its argument.
-fn mistyped(cursor: &Cursor<'_>, name: &str, typ: &ArgType, value: &Value) -> Error
-    ensures { Refuses cursor.now result }
-{
-    let wanted = typ.as_str();
-    let found = match ArgType::from_value(value) {
-        Some(found) => found.as_str(),
-        None => value.name(),
-    };
-    let message = format!(in cursor.alloc();
-        "Default value for `{name}` has type `{found}` but the argument has type `{wanted}`"
-    );
-    reported(cursor, message)
 }
 
 // Puts an argument to those that are there.

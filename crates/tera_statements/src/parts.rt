@@ -11,9 +11,10 @@ ghost use Rattle.tera_statements.specs.Kinds.{closer_of, closes};
 ghost use Rattle.tera_statements.specs.Reading.{IsQuote};
 ghost use Rattle.tera_expect.specs.Taking.{GivesAs, GivesBy, Passes, Refuses, RefusesIn, Took, name_at};
 
+use crate::faults::unknown;
 use crate::fronts::{Closer, Front};
 use tera_base::{Error, Span};
-use tera_expect::{fault, name, reported, take, unexpected};
+use tera_expect::{name, reported, take, unexpected};
 use tera_lexer::{Cursor, Token};
 
 /// The end of a tag.
@@ -115,7 +116,7 @@ pub(crate) fn unknown_tag(cursor: &mut Cursor<'_>) -> Error
     ensures inside { is_end cursor.old.left ≡ false → RefusesIn cursor.old result }
 {
     match begin_tag(cursor) {
-        Ok(()) => fault(cursor, "Unknown tag"),
+        Ok(()) => unknown(cursor),
         Err(error) => error,
     }
 }

@@ -6,14 +6,16 @@ ghost use Rattle.tera_grammar.specs.statements.Reading.{break_of, extends_of, in
 ghost use Rattle.tera_statements.specs.Adding.{AddsAlone};
 ghost use Rattle.tera_statements.specs.Around.{holds_breaks};
 ghost use Rattle.tera_statements.specs.Simple.{is_free, jump_item, jump_output};
-ghost use Rattle.tera_expect.specs.Taking.{Refuses, TellsAs, Took};
+ghost use Rattle.tera_expect.specs.Taking.{Refuses, Took};
 ghost use Rattle.tera_nodes.specs.View.{node_view};
 
 use crate::added::Added;
-use crate::around::{Around, Breaks, Opening};
+use crate::around::{Around, Breaks};
+use crate::faults::{
+    again_extended, barred_block, captured_jump, jump_in_no_loop, late_extended, nested_extends,
+};
 use crate::parts::{finish, quote};
 use tera_base::{Error, Spanned};
-use tera_expect::{fault, noted, reported};
 use tera_lexer::Cursor;
 use tera_tree::{Node, build};
 
@@ -74,26 +76,16 @@ pub(crate) fn read_jump(
 }
 
 // Refuses a `break` or a `continue`, whose word was taken last, where neither may stand.
-#[tactic(auto, using(tera_expect::proofs::Going::same_refused))]
 fn check_jump(cursor: &Cursor<'_>, around: &Around, jump: Jump) -> Result<(), Error>
     ensures stands { IfOk result (λ _. holds_breaks around.now.breaks ≡ true) }
     ensures fails { IfErr result (λ e. IsMemory e ⊎ (holds_breaks around.now.breaks ≡ false)) }
     ensures refusal { IfErr result (Refuses cursor.now) }
 {
-    let alloc = cursor.alloc();
     let word = jump.word();
     match &around.breaks {
         Breaks::Loop => Ok(()),
-        Breaks::Capture(opening) => {
-            let name = opening.context.name();
-            let message = format!(in alloc; "`{word}` cannot be used inside a {name}");
-            let error = reported(cursor, message);
-            Err(inside_of(cursor, error, opening))
-        }
-        Breaks::Nothing => {
-            let message = format!(in alloc; "{word} can only be used in a for loop");
-            Err(reported(cursor, message))
-        }
+        Breaks::Capture(opening) => Err(captured_jump(cursor, word, opening)),
+        Breaks::Nothing => Err(jump_in_no_loop(cursor, word)),
     }
 }
 
@@ -158,50 +150,14 @@ fn check_extension(
     match extension {
         Extension::Again(parent) => Err(again_extended(cursor, parent)),
         Extension::Late => Err(late_extended(cursor)),
-        Extension::Free => check_outermost(
-            cursor,
-            around,
-            "`extends` cannot be nested in other tags.",
-        ),
-    }
-}
-
-/// That a template extends another, at the string taken last, and extends one already.
-pub(crate) fn again_extended(cursor: &Cursor<'_>, parent: &str) -> Error
-    ensures { Refuses cursor.now result }
-{
-    let message = format!(in cursor.alloc(); "Template is already extending `{parent}`");
-    reported(cursor, message)
-}
-
-/// That a template extends another, at the string taken last, behind something else.
-pub(crate) fn late_extended(cursor: &Cursor<'_>) -> Error
-    ensures { Refuses cursor.now result }
-{
-    fault(
-        cursor,
-        "`extends` needs to be the first tag of the template",
-    )
-}
-
-/// Refuses what may stand in nothing else, with this text.
-#[tactic(auto, using(tera_expect::proofs::Going::same_refused))]
-pub(crate) fn check_outermost(cursor: &Cursor<'_>, around: &Around, text: &str) -> Result<(), Error>
-    ensures stands { IfOk result (λ _. is_none around.now.innermost ≡ true) }
-    ensures fails { IfErr result (λ e. IsMemory e ⊎ (is_none around.now.innermost ≡ false)) }
-    ensures refusal { IfErr result (Refuses cursor.now) }
-{
-    match &around.innermost {
-        None => Ok(()),
-        Some(opening) => {
-            let error = fault(cursor, text);
-            Err(inside_of(cursor, error, opening))
-        }
+        Extension::Free => match &around.innermost {
+            None => Ok(()),
+            Some(opening) => Err(nested_extends(cursor, opening)),
+        },
     }
 }
 
 /// Refuses a block, whose word was taken last, where none may stand.
-#[tactic(auto, using(tera_expect::proofs::Going::same_refused))]
 pub(crate) fn check_block(cursor: &Cursor<'_>, around: &Around) -> Result<(), Error>
     ensures stands { IfOk result (λ _. is_none around.now.barrier ≡ true) }
     ensures fails { IfErr result (λ e. IsMemory e ⊎ (is_none around.now.barrier ≡ false)) }
@@ -209,22 +165,6 @@ pub(crate) fn check_block(cursor: &Cursor<'_>, around: &Around) -> Result<(), Er
 {
     match &around.barrier {
         None => Ok(()),
-        Some(opening) => {
-            let name = opening.context.name();
-            let message = format!(in cursor.alloc(); "Blocks cannot be written inside a {name}.");
-            let error = reported(cursor, message);
-            Err(inside_of(cursor, error, opening))
-        }
-    }
-}
-
-// The error with a note on where what stands around begins.
-fn inside_of(cursor: &Cursor<'_>, error: Error, opening: &Opening) -> Error
-    ensures { TellsAs error result }
-{
-    let name = opening.context.name();
-    match format!(in cursor.alloc(); "the {name} starts here") {
-        Ok(label) => noted(error, label.as_str(), &opening.at),
-        Err(refused) => Error::from(refused),
+        Some(opening) => Err(barred_block(cursor, opening)),
     }
 }

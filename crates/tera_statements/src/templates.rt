@@ -1,6 +1,6 @@
 //! Whole templates.
 
-ghost use Rattle.std.specs.Prelude.{◌≡◌, ◌⊎◌, IfErr, IfOk, None, OnOk, []};
+ghost use Rattle.std.specs.Prelude.{◌≡◌, IfErr, IfOk, None, OnOk, []};
 ghost use Rattle.tera_base.specs.Errors.{IsMemory};
 ghost use Rattle.tera_grammar.specs.statements.Output.{AddsNothing};
 ghost use Rattle.tera_grammar.specs.statements.Reading.{at, body, step};
@@ -8,9 +8,6 @@ ghost use Rattle.tera_grammar.specs.statements.Reading.Meeting.{Seen};
 ghost use Rattle.tera_grammar.specs.statements.Reading.Loops.{node_weight, turn, weight, with_added};
 ghost use Rattle.tera_grammar.specs.statements.Reading.Parts.{front};
 ghost use Rattle.tera_grammar.specs.statements.Top.{is_blank};
-ghost use Rattle.tera_lexer.specs.code.Cursors.{Position};
-ghost use Rattle.tera_lexer.specs.grammar.Faults.{BeginsWith, EndsWith};
-ghost use Rattle.tera_lexer.specs.grammar.Place.{IsWithin};
 ghost use Rattle.tera_statements.specs.Adding.{added_view, here};
 ghost use Rattle.tera_statements.specs.Outputs.{output_view};
 ghost use Rattle.tera_statements.specs.Items.{AreEmptyTexts, GivesStep, GoesByItem};
@@ -24,14 +21,14 @@ ghost use Rattle.tera_nodes.specs.View.{node_view};
 
 use crate::added::{Added, Names};
 use crate::around::Around;
+use crate::faults::{again_extended, ignored, late_extended};
 use crate::fronts::{Front, Opener};
 use crate::items::{enter, item};
 use crate::outputs::ParserOutput;
 use crate::parts::{quote, unknown_tag};
 use crate::settings::Setting;
-use crate::simple::{Extension, again_extended, late_extended};
+use crate::simple::Extension;
 use tera_base::{Error, Span};
-use tera_expect::fault;
 use tera_lexer::Cursor;
 use tera_parts::Limits;
 use tera_tree::Node;
@@ -280,31 +277,4 @@ fn top_item(
     let around = Around::nothing();
     let below = setting.limits.bodies - 1;
     item(&inside, cursor, names, &around, Extension::Free, below)
-}
-
-// That an item is of no use in a template that extends another: from its first token, whose place is known if it was
-// shown, to the one taken last.
-fn ignored(cursor: &Cursor<'_>, first: Option<Span>) -> Error
-    ensures { (old : Position) → Took old cursor.now → StandsNext first old → RefusesIn old result }
-{
-    let text =
-        "This content would be ignored: only `extends`, `block` and `component` are allowed at the top level of a child template.";
-    match first {
-        Some(first) => Error::syntax_error(cursor.alloc(), text, &up_to_last(cursor, &first)),
-        None => fault(cursor, text),
-    }
-}
-
-// From the start of a span to the end of the token taken last.
-fn up_to_last(cursor: &Cursor<'_>, first: &Span) -> Span
-    ensures within { IsWithin cursor.now.source first.now → IsWithin cursor.now.source result }
-    ensures starts { BeginsWith first.now result }
-    ensures ends { EndsWith first.now result ⊎ EndsWith cursor.now.span result }
-{
-    let last = cursor.current_span();
-    let mut span = first.copied();
-    if span.range.end <= last.range.end {
-        span.expand(last);
-    }
-    span
 }

@@ -125,8 +125,8 @@ blocks::block-returns-in_err-block_end-clause-gives t c = blocks.blocks::block-r
 pub blocks::block-returns-clause-gives : goal.blocks::block-returns-clause-gives
 blocks::block-returns-clause-gives t c = blocks.blocks::block-returns-clause-gives t c
 
-pub blocks::definition-returns-in_err-check_outermost-clause-gives : goal.blocks::definition-returns-in_err-check_outermost-clause-gives
-blocks::definition-returns-in_err-check_outermost-clause-gives t c = blocks.blocks::definition-returns-in_err-check_outermost-clause-gives t c
+pub blocks::definition-returns-in_err-check_definition-clause-gives : goal.blocks::definition-returns-in_err-check_definition-clause-gives
+blocks::definition-returns-in_err-check_definition-clause-gives t c = blocks.blocks::definition-returns-in_err-check_definition-clause-gives t c
 
 pub blocks::definition-returns-in_err-opened-clause-gives : goal.blocks::definition-returns-in_err-opened-clause-gives
 blocks::definition-returns-in_err-opened-clause-gives t c = blocks.blocks::definition-returns-in_err-opened-clause-gives t c

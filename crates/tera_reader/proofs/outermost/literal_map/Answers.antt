@@ -46,13 +46,13 @@ returns-in-None-clause-gives c =
     inr (no_map_comes (limits_of c.args.limits) c.args.cursor.now.left mid.left mid.span c.in_ok-expect.ensures.gives c.copied-first.result
     t (at c.map.new.links c.map.new.cursor.left) read is)
 
-pub reported_from-requires : goal.reported_from-requires
-reported_from-requires c =
+pub map_not_constant-requires : goal.map_not_constant-requires
+map_not_constant-requires c =
     still_within c.expect.new.cursor c.map.new.cursor c.copied-first.result c.in_ok-map.ensures.later
     (subst (IsWithin c.expect.new.cursor.source) (sym c.copied-first.ensures) c.current_span.ensures.within)
 
 pub returns-in-None-clause-refusal : goal.returns-in-None-clause-refusal
 returns-in-None-clause-refusal c =
     let same : c.copied-first.result ≡ c.expect.new.cursor.span = c.copied-first.ensures ∙ c.current_span.ensures.span in
-    refused_from LeftBrace c.args.cursor.now c.expect.new.cursor c.map.new.cursor c.reported_from.result c.in_ok-expect.ensures.gives c.in_ok-expect.ensures.later c.in_ok-map.ensures.later
-    (subst (λ s. TellsBy (λ text span. RunsFrom s c.map.new.cursor span) c.reported_from.result) same c.reported_from.ensures)
+    refused_from LeftBrace c.args.cursor.now c.expect.new.cursor c.map.new.cursor c.map_not_constant.result c.in_ok-expect.ensures.gives c.in_ok-expect.ensures.later c.in_ok-map.ensures.later
+    (subst (λ s. TellsBy (λ text span. RunsFrom s c.map.new.cursor span) c.map_not_constant.result) same c.map_not_constant.ensures)

@@ -70,21 +70,21 @@ blocks::block-returns-clause-gives t c = λ path stands start.
       ap AddsNode (c.block.ensures ∙ (λ i. tree.Block (text i) (span i) (nodes_of (shows i)))),
     )
 
-pub blocks::definition-returns-in_err-check_outermost-clause-gives : goal.blocks::definition-returns-in_err-check_outermost-clause-gives
-blocks::definition-returns-in_err-check_outermost-clause-gives t c = λ path stands start.
+pub blocks::definition-returns-in_err-check_definition-clause-gives : goal.blocks::definition-returns-in_err-check_definition-clause-gives
+blocks::definition-returns-in_err-check_definition-clause-gives t c = λ path stands start.
     let p = err_from_is_err_and c.from_residual.result c.from_residual.ensures.1 in
-    rw (p.1, p.2) (fails_by _ _ (λ h. nested _ _ path start _ _ _ (sym stands.outermost ∙ h)) c.in_err-check_outermost.ensures.fails)
+    rw (p.1, p.2) (fails_by _ _ (λ h. nested _ _ path start _ _ _ (sym stands.outermost ∙ h)) c.in_err-check_definition.ensures.fails)
 
 pub blocks::definition-returns-in_err-opened-clause-gives : goal.blocks::definition-returns-in_err-opened-clause-gives
 blocks::definition-returns-in_err-opened-clause-gives t c = λ path stands start.
     let p = err_from_is_err_and c.from_residual-in_err-opened.result c.from_residual-in_err-opened.ensures.1 in
-    let may = sym stands.outermost ∙ c.in_ok-check_outermost.ensures.stands in
+    let may = sym stands.outermost ∙ c.in_ok-check_definition.ensures.stands in
     rw (p.1, p.2) (failed_as _ _ _ (λ h. unopened _ _ path start _ (seen_of c.args.names.now) _ may h) c.in_err-opened.ensures.gives)
 
 pub blocks::definition-returns-in_err-inside-clause-gives : goal.blocks::definition-returns-in_err-inside-clause-gives
 blocks::definition-returns-in_err-inside-clause-gives t c = λ path stands start.
     let p = err_from_is_err_and c.from_residual-in_err-inside.result c.from_residual-in_err-inside.ensures.1 in
-    let may = sym stands.outermost ∙ c.in_ok-check_outermost.ensures.stands in
+    let may = sym stands.outermost ∙ c.in_ok-check_definition.ensures.stands in
     let (o, named, is) = c.in_ok-opened.ensures.gives in
     let seen = seen_of c.args.names.now in
     let kept = component_kept seen.blocks seen.components (met_of c.opening_tag.new.seen) (component_text o.name) (c.in_ok-opened.ensures.kept ∙ ap (λ t. meet t seen.components) is.0) in
@@ -93,7 +93,7 @@ blocks::definition-returns-in_err-inside-clause-gives t c = λ path stands start
 pub blocks::definition-returns-in_err-closing_tag-clause-gives : goal.blocks::definition-returns-in_err-closing_tag-clause-gives
 blocks::definition-returns-in_err-closing_tag-clause-gives t c = λ path stands start.
     let p = err_from_is_err_and c.from_residual-in_err-closing_tag.result c.from_residual-in_err-closing_tag.ensures.1 in
-    let may = sym stands.outermost ∙ c.in_ok-check_outermost.ensures.stands in
+    let may = sym stands.outermost ∙ c.in_ok-check_definition.ensures.stands in
     let (o, named, is) = c.in_ok-opened.ensures.gives in
     let seen = seen_of c.args.names.now in
     let kept = component_kept seen.blocks seen.components (met_of c.opening_tag.new.seen) (component_text o.name) (c.in_ok-opened.ensures.kept ∙ ap (λ t. meet t seen.components) is.0) in
@@ -103,7 +103,7 @@ blocks::definition-returns-in_err-closing_tag-clause-gives t c = λ path stands 
 
 pub blocks::definition-returns-clause-gives : goal.blocks::definition-returns-clause-gives
 blocks::definition-returns-clause-gives t c = λ path stands start.
-    let may = sym stands.outermost ∙ c.in_ok-check_outermost.ensures.stands in
+    let may = sym stands.outermost ∙ c.in_ok-check_definition.ensures.stands in
     let (o, named, is) = c.in_ok-opened.ensures.gives in
     let seen = seen_of c.args.names.now in
     let kept = component_kept seen.blocks seen.components (met_of c.opening_tag.new.seen) (component_text o.name) (c.in_ok-opened.ensures.kept ∙ ap (λ t. meet t seen.components) is.0) in

@@ -1,6 +1,6 @@
 use Rattle.tera_statements.proofs.Refusing.{took_inside}
 use Rattle.tera_statements.proofs.Topping.{covered}
-use Rattle.tera_statements.proofs.templates.ignored.Goals as goal
+use Rattle.tera_statements.proofs.faults.ignored.Goals as goal
 
 pub returns-in-Some : goal.returns-in-Some
 returns-in-Some c = λ old took stands.
