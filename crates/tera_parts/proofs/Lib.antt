@@ -6,3 +6,4 @@ pub mod Continuing
 pub mod Constants
 pub mod ConstantMaps
 pub mod Closing
+pub mod Variables

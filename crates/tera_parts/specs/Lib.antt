@@ -8,3 +8,4 @@ pub mod Keys
 pub mod Folding
 pub mod Ranges
 pub mod Attributes
+pub mod Names

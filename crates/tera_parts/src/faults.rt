@@ -115,6 +115,16 @@ pub(crate) fn no_key(alloc: Global, token: &Token<'_>, span: &Span) -> Error
     Error::reported(alloc, message, span)
 }
 
+/// That a name, which was taken last, is reserved; `purpose` ends the sentence.
+pub(crate) fn reserved(cursor: &Cursor<'_>, name: &str, purpose: &str) -> Error
+    ensures { Refuses cursor.now result }
+{
+    let message = format!(in cursor.alloc();
+        "{name} is a reserved keyword of Tera, it cannot be {purpose}"
+    );
+    reported(cursor, message)
+}
+
 /// That no name stands behind the `<` of a component, which was taken last.
 pub fn no_component_name(cursor: &Cursor<'_>) -> Error
     ensures { Refuses cursor.now result }

@@ -4,7 +4,6 @@ ghost use Rattle.std.specs.Prelude.{◌≡◌, ◌⊎◌, ◌<◌};
 ghost use Rattle.tera_base.specs.declared.utils.Span.{Span};
 ghost use Rattle.tera_lexer.specs.code.Seen.{seen};
 ghost use Rattle.tera_lexer.specs.grammar.Tokens.{Items};
-ghost use Rattle.tera_grammar.specs.Words.{is_none, is_not};
 ghost use Rattle.tera_grammar.specs.expressions.Reading.Front as reading;
 ghost use Rattle.tera_grammar.specs.expressions.Reading.Front.{begins_sign};
 ghost use Rattle.tera_parts.specs.Fronts.{IsName, IsOperatorBefore, chosen, ending_kind, ending_of, front_kind, joined_by, keeps_off, kind_of, operator_of, second_is_in, word_kind};
@@ -158,19 +157,4 @@ pub fn begins_prefix(cursor: &Cursor<'_>) -> bool
     ensures { result ≡ begins_sign cursor.now.left }
 {
     begins(cursor, Fixed::Minus) || begins(cursor, Fixed::Not)
-}
-
-/// Whether the name is a word for no value.
-#[tactic(auto, unfolding(crate::specs::Unfold::is_none))]
-pub fn is_none(name: &str) -> bool
-    ensures { result ≡ is_none name.now }
-{
-    matches!(name, "none" | "None" | "null")
-}
-
-/// Whether the name is the negation.
-pub fn is_not(name: &str) -> bool
-    ensures { result ≡ is_not name.now }
-{
-    name == "not"
 }

@@ -11,20 +11,22 @@ mod keys;
 pub mod leaves;
 mod limits;
 mod literals;
+mod names;
 mod operators;
 mod parts;
 mod rows;
+mod words;
 
 pub use arguments::{argument_name, put_argument};
 pub use attributes::{close_component, quote};
 pub use components::dotted_name;
 pub use faults::{consecutive, misplaced_not, no_component_name, reported_from, too_complex};
-pub use front::{
-    Ending, Front, begins_prefix, is_none, is_not, take_condition, take_ending, take_operator,
-};
+pub use front::{Ending, Front, begins_prefix, take_condition, take_ending, take_operator};
 pub use keys::key;
 pub use limits::{Limits, Room, Scope, count_link, count_operator};
 pub use literals::{array_or_constant, constant, map_or_constant};
+pub use names::{free_name, variables};
 pub use operators::{Operator, prefix_power};
 pub use parts::{joined, literal, negation, refuse_prefix, signed, spanning};
 pub use rows::{Values, more};
+pub use words::{is_none, is_not};

@@ -1,9 +1,8 @@
 -- Reading the names and the ends of calls of components.
 use Rattle.std.proofs.Common.{◌≡◌, inl, inr, ℕ, zero, suc, Bool, true, false, List, Option, Some, None, refl, ap, ◌∙◌, ◌≤◌, sym, subst, arith}
-use Rattle.std.specs.Option.{is_some}
 use Rattle.tera_base.specs.declared.errors.Error.{Error}
 use Rattle.tera_base.specs.declared.utils.Span.{Span}
-use Rattle.tera_lexer.specs.grammar.Tokens.{Items}
+use Rattle.tera_lexer.specs.grammar.Tokens.{Tok, Ident, Items, Token}
 use Rattle.tera_lexer.specs.code.Cursors.{Position, size}
 use Rattle.tera_nodes.specs.Tree as tree
 use Rattle.tera_grammar.specs.Options.{◌>>=◌}
@@ -17,6 +16,7 @@ use Rattle.tera_grammar.specs.expressions.Reading.Front.{Place, at, Reads, moved
 use Rattle.tera_grammar.specs.expressions.Reading.Parts.{Room, Reader, dotted_at, dotted_by, dotted_of, attributes_of}
 use Rattle.tera_grammar.specs.expressions.Reading.Whole.{left_over, path_of}
 use Rattle.tera_grammar.specs.expressions.Reading.Atoms.{component_of}
+use Rattle.tera_grammar.specs.statements.Reading.Components.{is_name}
 use Rattle.tera_parts.specs.Attributes.{closed_at}
 use Rattle.tera_expect.specs.Taking.{Fails, EatsName, Took}
 use Rattle.tera_expect.proofs.Steps.{failed, failed_past, skipped, unskipped, named, unnamed}
@@ -97,9 +97,13 @@ module _ {B : Type 0} (k : ℕ) (g : Span → Span → Place → Option B) where
   close_by ts (Some t) is = rw (skipped (Operation Div) k ts t.1 t.0 is, is) (slash_on t.0 t.1 (takes (Operation GreaterThan) t.1) refl)
 
 -- a call of a component
-nothing : {A : Type 0} (o : Option A) → is_some o ≡ false → o ≡ None
-nothing None h = refl
-nothing (Some x) h = cc
+no_name : (ts : Items) → is_name ts ≡ false → taken_name ts ≡ None
+no_name (Token t s us) h = by t h
+  where
+    by : (t : Tok) → is_name (Token t s us) ≡ false → taken_name (Token t s us) ≡ None
+    by (Ident text) h = cc
+    by _ h = refl
+no_name _ h = refl
 
 module _ (f : Reader) (w : Room) (s : Span) (k : ℕ) where
   abbrev closing_call : Name → Dotted → Reads Attributes → Reads Tree
@@ -113,9 +117,9 @@ module _ (f : Reader) (w : Room) (s : Span) (k : ℕ) where
   unfolding component_of
   component_is ts = path_by k behind_call_name ts (taken_name ts) refl
 
-  pub unnamed_component : (ts : Items) → is_some (taken_name ts) ≡ false → component_of f w s (at k ts) ≡ None
+  pub unnamed_component : (ts : Items) → is_name ts ≡ false → component_of f w s (at k ts) ≡ None
   unfolding component_of
-  unnamed_component ts h = rw (unnamed k ts (nothing (taken_name ts) h)) refl
+  unnamed_component ts h = rw (unnamed k ts (no_name ts h)) refl
 
   pub component_no_path : (ts : Items) (e : Error) → Fails (path_of ts) e → Fails (component_of f w s (at k ts)) e
   component_no_path ts e h = rw (component_is ts) (failed (path_of ts) _ e h)

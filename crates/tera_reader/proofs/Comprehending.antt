@@ -1,67 +1,17 @@
 -- The parts of a comprehension, one behind another.
-use Rattle.std.proofs.Common.{◌≡◌, ℕ, Bool, true, false, cond, List, Option, Some, None, refl, sym, ap, ◌∙◌}
-use Rattle.std.proofs.lemmas.Option.{same_Some}
+use Rattle.std.proofs.Common.{◌≡◌, ℕ, List, Option, Some, None, refl, ap, ◌∙◌}
 use Rattle.tera_base.specs.declared.utils.Span.{Span}
 use Rattle.tera_lexer.specs.grammar.Tokens.{Items}
 use Rattle.tera_nodes.specs.Tree.{Expr, MaybeExpr, ListComprehension}
-use Rattle.tera_grammar.specs.Words.{is_reserved}
 use Rattle.tera_grammar.specs.expressions.Operators.{In}
-use Rattle.tera_grammar.specs.expressions.Marks.{Mark, RightBracket, Comma, If, Operation}
-use Rattle.tera_grammar.specs.expressions.Concrete.{Name, Second, no_second, second, Tree, Atomic, Comprehension, Extra, no_extra, extra}
+use Rattle.tera_grammar.specs.expressions.Marks.{Mark, RightBracket, If, Operation}
+use Rattle.tera_grammar.specs.expressions.Concrete.{Name, Second, Tree, Atomic, Comprehension, Extra, no_extra, extra}
 use Rattle.tera_grammar.specs.Options.{◌>>=◌}
-use Rattle.tera_grammar.specs.expressions.Reading.Front.{Place, at, Reads, takes, moved, skip, taken_name, name_of}
+use Rattle.tera_grammar.specs.expressions.Reading.Front.{Place, at, Reads, takes, skip}
 use Rattle.tera_grammar.specs.expressions.Reading.Parts.{Room, Reader, extra_at, extra_of}
-use Rattle.tera_grammar.specs.expressions.Reading.Atoms.{second_at, variables_of, comprehension_of}
-use Rattle.tera_grammar.proofs.expressions.Fronts.{bind_ok, fails_ok, none_skip}
-use Rattle.tera_reader.specs.Elements.{variable_at}
+use Rattle.tera_grammar.specs.expressions.Reading.Atoms.{variables_of, comprehension_of}
+use Rattle.tera_grammar.proofs.expressions.Fronts.{none_skip}
 use Rattle.tera_reader.proofs.RowSteps.{skip_taken}
-
-variable_ok : (r us : Items) (n : Name) → variable_at r ≡ Some (n, us) → (taken_name r ≡ Some (n, us)) × (is_reserved n.text ≡ false)
-variable_ok r us n h =
-    let (x, taken, kept) = bind_ok (taken_name r) (λ n. cond (is_reserved n.0.text) None (Some n)) (n, us) h in
-    let (free, made) = fails_ok (is_reserved x.0.text) (Some x) (n, us) kept in
-    (taken ∙ made, ap (λ (y : Name × Items). is_reserved y.0.text) (sym (same_Some x (n, us) made)) ∙ free)
-
-has_true : (b : Bool) (x : Name × Items) → cond b None (Some x) ≡ None → b ≡ true
-has_true true x h = refl
-has_true false x h = cc
-
--- a name that no variable may have refuses whatever follows
-unnamed : {A : Type 0} (i : ℕ) (t : Option (Name × Items)) (more : Name × Place → Reads A) → (t >>= λ n. cond (is_reserved n.0.text) None (Some n)) ≡ None
-    → (moved i t >>= λ n. cond (is_reserved n.0.text) None (more n)) ≡ None
-unnamed i None more h = refl
-unnamed i (Some x) more h = ap (λ b. cond b None (more (x.0, at i x.1))) (has_true (is_reserved x.0.text) x h)
-
-pub no_variable : (i : ℕ) (r : Items) → variable_at r ≡ None → variables_of (at i r) ≡ None
-unfolding variables_of name_of
-no_variable i r h = unnamed i (taken_name r) (λ n. second_at n.0 n.1 (skip Comma n.1)) h
-
-from_first : (i : ℕ) (r us : Items) (n : Name) → variable_at r ≡ Some (n, us) → variables_of (at i r) ≡ second_at n (at i us) (skip Comma (at i us))
-unfolding variables_of name_of
-from_first i r us n h =
-    let (taken, free) = variable_ok r us n h in
-    rw taken (ap (λ b. cond b None (second_at n (at i us) (skip Comma (at i us)))) free)
-
-pub one_variable : (i : ℕ) (r us : Items) (n : Name) → variable_at r ≡ Some (n, us) → takes Comma us ≡ None → variables_of (at i r) ≡ Some ((n, no_second), at i us)
-one_variable i r us n h none = from_first i r us n h ∙ ap (second_at n (at i us)) (none_skip Comma i us none)
-
-second_is : (i : ℕ) (us vs ws : Items) (s : Span) (n m : Name) → variable_at vs ≡ Some (m, ws) → second_at n (at i us) (Some (s, at i vs)) ≡ Some ((n, second s m), at i ws)
-unfolding name_of
-second_is i us vs ws s n m h =
-    let (taken, free) = variable_ok vs ws m h in
-    rw taken (ap (λ b. cond b None (Some ((n, second s m), at i ws))) free)
-
-pub two_variables : (i : ℕ) (r us vs ws : Items) (s : Span) (n m : Name) → variable_at r ≡ Some (n, us) → takes Comma us ≡ Some (s, vs) → variable_at vs ≡ Some (m, ws)
-    → variables_of (at i r) ≡ Some ((n, second s m), at i ws)
-two_variables i r us vs ws s n m h comma more = from_first i r us n h ∙ ap (second_at n (at i us)) (skip_taken Comma i us vs s comma) ∙ second_is i us vs ws s n m more
-
-second_fails : (i : ℕ) (us vs : Items) (s : Span) (n : Name) → variable_at vs ≡ None → second_at n (at i us) (Some (s, at i vs)) ≡ None
-unfolding name_of
-second_fails i us vs s n h = unnamed i (taken_name vs) (λ m. Some ((n, second s m.0), m.1)) h
-
-pub no_second_variable : (i : ℕ) (r us vs : Items) (s : Span) (n : Name) → variable_at r ≡ Some (n, us) → takes Comma us ≡ Some (s, vs) → variable_at vs ≡ None
-    → variables_of (at i r) ≡ None
-no_second_variable i r us vs s n h comma none = from_first i r us n h ∙ ap (second_at n (at i us)) (skip_taken Comma i us vs s comma) ∙ second_fails i us vs s n none
 
 -- an expression behind a mark of its own
 module _ (f : Reader) (w : Room) (m : Mark) (k i : ℕ) (r : Items) where

@@ -1,27 +1,26 @@
 //! Arrays and comprehensions.
 
-ghost use Rattle.std.specs.Prelude.{◌≡◌, ℕ, IfErr, IfOk};
+ghost use Rattle.std.specs.Prelude.{◌≡◌, IfErr, IfOk};
 ghost use Rattle.tera_nodes.specs.View.{expression_view};
-ghost use Rattle.tera_grammar.specs.Words.{is_reserved};
 ghost use Rattle.tera_grammar.specs.expressions.Concrete.{Element, Tree, of_items};
 ghost use Rattle.tera_grammar.specs.expressions.Marks.{RightBracket};
 ghost use Rattle.tera_grammar.specs.expressions.Output.{output};
-ghost use Rattle.tera_grammar.specs.expressions.Reading.Atoms.{array_of, comprehension_of, items_from, variables_of};
+ghost use Rattle.tera_grammar.specs.expressions.Reading.Atoms.{array_of, comprehension_of, items_from};
 ghost use Rattle.tera_grammar.specs.expressions.Reading.Front.{at, takes};
 ghost use Rattle.tera_grammar.specs.expressions.Reading.Parts.{element_of, extra_of};
 ghost use Rattle.tera_grammar.specs.expressions.Stack.{HeadGives};
-ghost use Rattle.tera_reader.specs.Elements.{AreVariables, IsExtra, IsItem, variable_at};
+ghost use Rattle.tera_reader.specs.Elements.{IsExtra, IsItem};
 ghost use Rattle.tera_parts.specs.Literals.{MayBeNegated};
 ghost use Rattle.tera_parts.specs.Rooms.{room_of};
 ghost use Rattle.tera_parts.specs.Rows.{reader_of};
-ghost use Rattle.tera_expect.specs.Taking.{GivesAs, GivesBy, GoesOn, Refuses, Took, mark_of, name_at, place_at};
+ghost use Rattle.tera_expect.specs.Taking.{GivesAs, GivesBy, GoesOn, Refuses, Took, mark_of, place_at};
 
-use crate::faults::{reserved_variable, second_for};
+use crate::faults::second_for;
 use crate::rows::value;
 use tera_base::{Error, Span};
-use tera_expect::{Fixed, eat, expect, name};
+use tera_expect::{Fixed, eat, expect};
 use tera_lexer::Cursor;
-use tera_parts::{Values, array_or_constant, more, spanning};
+use tera_parts::{Values, array_or_constant, more, spanning, variables};
 use tera_tree::{ArrayEntry, Expression, build};
 
 /// An array or a comprehension, behind its bracket, which stands at the span and was taken last.
@@ -117,7 +116,7 @@ fn comprehension(
     ensures refusal { IfErr result (Refuses cursor.old) }
     ensures later { IfOk result (λ _. Took cursor.old cursor.new) }
 {
-    let named = variables(cursor)?;
+    let named = variables(cursor, "used as a list comprehension variable.")?;
     expect(cursor, Fixed::In)?;
     let target = value(cursor, links, values, 1)?;
     let condition = extra(cursor, links, values, Fixed::If, 1)?;
@@ -154,59 +153,6 @@ pub(crate) fn extra(
     } else {
         Ok(None)
     }
-}
-
-// The variables of a comprehension.
-#[tactic(auto, using(tera_expect::proofs::Going::behind_tokens))]
-fn variables(cursor: &mut Cursor<'_>) -> Result<(Option<String>, String), Error>
-    ensures gives { (i : ℕ) → GivesBy AreVariables result (at i cursor.new.left) (variables_of (at i cursor.old.left)) }
-    ensures refusal { IfErr result (Refuses cursor.old) }
-    ensures later { IfOk result (λ _. Took cursor.old cursor.new) }
-{
-    let alloc = cursor.alloc();
-    let first = variable_name(cursor)?;
-    if eat(cursor, Fixed::Comma) {
-        let second = variable_name(cursor)?;
-        let key = String::from_str(alloc, first)?;
-        return Ok((Some(key), String::from_str(alloc, second)?));
-    }
-    Ok((None, String::from_str(alloc, first)?))
-}
-
-// The name of what a comprehension goes over.
-#[tactic(auto, using(tera_expect::proofs::Going::refused_behind))]
-fn variable_name<'a>(cursor: &mut Cursor<'a>) -> Result<&'a str, Error>
-    ensures gives { GivesAs (name_at cursor.new.span) result cursor.new.left (variable_at cursor.old.left) }
-    ensures refusal { IfErr result (Refuses cursor.old) }
-    ensures later { IfOk result (λ _. Took cursor.old cursor.new) }
-{
-    let name = name(cursor)?;
-    if is_reserved(name) {
-        return Err(reserved_variable(cursor, name));
-    }
-    Ok(name)
-}
-
-/// Whether no variable of a loop or of a comprehension has the name.
-#[tactic(auto, unfolding(crate::specs::Unfold::is_reserved))]
-pub(crate) fn is_reserved(name: &str) -> bool
-    ensures { result ≡ is_reserved name.now }
-{
-    matches!(
-        name,
-        "loop"
-            | "self"
-            | "and"
-            | "or"
-            | "not"
-            | "is"
-            | "in"
-            | "continue"
-            | "break"
-            | "none"
-            | "None"
-            | "null"
-    )
 }
 
 // The bracket behind a comprehension.

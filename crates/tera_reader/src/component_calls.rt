@@ -1,11 +1,10 @@
 //! Calls of components that close themselves, and their attributes.
 
-ghost use Rattle.std.specs.Prelude.{◌≡◌, IfErr, IfOk};
-ghost use Rattle.std.specs.Option.{is_some};
+ghost use Rattle.std.specs.Prelude.{IfErr, IfOk};
 ghost use Rattle.tera_nodes.specs.View.{expression_view};
 ghost use Rattle.tera_grammar.specs.expressions.Marks.{Assign, LeftBrace};
 ghost use Rattle.tera_grammar.specs.expressions.Reading.Atoms.{component_of};
-ghost use Rattle.tera_grammar.specs.expressions.Reading.Front.{at, name_of, skip, taken_name};
+ghost use Rattle.tera_grammar.specs.expressions.Reading.Front.{at, name_of, skip};
 ghost use Rattle.tera_grammar.specs.expressions.Reading.Loop.{expr};
 ghost use Rattle.tera_grammar.specs.expressions.Reading.Parts.{attribute_at, attributes_of, named_at};
 ghost use Rattle.tera_grammar.specs.expressions.Stack.{HeadGives};
@@ -17,8 +16,8 @@ ghost use Rattle.tera_expect.specs.Taking.{GivesBy, GoesOn, Refuses, Took, name_
 
 use crate::rows::value;
 use tera_base::{Error, Key, Span};
-use tera_expect::{Fixed, eat, eat_name, expect};
-use tera_lexer::{Cursor, Token};
+use tera_expect::{Fixed, begins_name, eat, eat_name, expect};
+use tera_lexer::Cursor;
 use tera_parts::{
     Room, Values, close_component, dotted_name, leaves, no_component_name, quote, spanning,
 };
@@ -54,13 +53,6 @@ pub(crate) fn component(
     let span = spanning(first, cursor.current_span());
     let body = Vec::new(alloc);
     Ok(build::component_call(alloc, name, kwargs, body, true, span)?)
-}
-
-// Whether the next token is a name.
-fn begins_name(cursor: &Cursor<'_>) -> bool
-    ensures { result ≡ is_some (taken_name cursor.now.left) }
-{
-    matches!(cursor.first(), Some(Token::Ident(_)))
 }
 
 /// The attributes of a call of a component.

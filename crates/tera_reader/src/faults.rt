@@ -31,16 +31,6 @@ pub(crate) fn no_loop_field(cursor: &Cursor<'_>, name: &str) -> Error
     reported(cursor, message)
 }
 
-/// That a name, which was taken last, is reserved, and no variable of a comprehension may have it.
-pub(crate) fn reserved_variable(cursor: &Cursor<'_>, name: &str) -> Error
-    ensures { Refuses cursor.now result }
-{
-    let message = format!(in cursor.alloc();
-        "{name} is a reserved keyword of Tera, it cannot be used as a list comprehension variable."
-    );
-    reported(cursor, message)
-}
-
 /// That a comprehension has a second `for`, which was taken last.
 pub(crate) fn second_for(cursor: &Cursor<'_>) -> Error
     ensures { Refuses cursor.now result }

@@ -5,7 +5,6 @@ ghost use Rattle.tera_base.specs.declared.utils.Span.{Span};
 ghost use Rattle.tera_nodes.specs.View.{expression_view};
 ghost use Rattle.tera_grammar.specs.expressions.Concrete.{Part};
 ghost use Rattle.tera_grammar.specs.expressions.Marks.{Colon};
-ghost use Rattle.tera_grammar.specs.expressions.Output.{place_of};
 ghost use Rattle.tera_grammar.specs.expressions.Reading.Front.{at};
 ghost use Rattle.tera_grammar.specs.expressions.Reading.Parts.{extra_of, part_of, slice_of, sub_of};
 ghost use Rattle.tera_grammar.specs.expressions.Reading.Loop.{expr};
@@ -126,35 +125,12 @@ pub(crate) fn with_subscript(
 ) -> Result<Expression, AllocError>
     ensures { IfOk result (λ e. expression_view e ≡ subscripted subscript optional (expression_view operand) last.now) }
 {
-    let mut span = place(&operand).copied();
+    let mut span = operand.span().copied();
     span.expand(last);
     match subscript {
         Subscript::Index(index) => build::get_item(alloc, operand, index, optional, span),
         Subscript::Slice { start, end, step } => {
             build::slice(alloc, operand, start, end, step, optional, span)
         }
-    }
-}
-
-// Where an expression stands.
-fn place(expression: &Expression) -> &Span
-    ensures { result.now ≡ place_of (expression_view expression.now) }
-{
-    match expression {
-        Expression::Const(s) => s.span(),
-        Expression::Array(s) => s.span(),
-        Expression::Map(s) => s.span(),
-        Expression::Var(s) => s.span(),
-        Expression::GetAttr(s) => s.span(),
-        Expression::GetItem(s) => s.span(),
-        Expression::Slice(s) => s.span(),
-        Expression::Filter(s) => s.span(),
-        Expression::Test(s) => s.span(),
-        Expression::Ternary(s) => s.span(),
-        Expression::ListComprehension(s) => s.span(),
-        Expression::ComponentCall(s) => s.span(),
-        Expression::FunctionCall(s) => s.span(),
-        Expression::UnaryOperation(s) => s.span(),
-        Expression::BinaryOperation(s) => s.span(),
     }
 }

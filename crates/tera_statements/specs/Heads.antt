@@ -1,15 +1,12 @@
 -- The heads of statements, as they are read.
-use Rattle.std.specs.Prelude.{◌≡◌, Bool, true, List, ◌∷◌, ◌++◌, map, Option, Some, String, string_bytes}
-use Rattle.std.specs.declared.alloc.Global.{Global}
+use Rattle.std.specs.Prelude.{◌≡◌, Bool, true, List, ◌∷◌, ◌++◌, map, Some}
 use Rattle.tera_base.specs.declared.utils.Span.{Span}
 use Rattle.tera_lexer.specs.grammar.Tokens.{Items}
-use Rattle.tera_nodes.specs.View.{expression_view, name_view}
+use Rattle.tera_nodes.specs.View.{expression_view}
 use Rattle.tera_nodes.specs.declared.ast.Expression.{Expression}
 use Rattle.tera_grammar.specs.Options.{◌>>=◌}
-use Rattle.tera_grammar.specs.expressions.Concrete.{Name, Second}
 use Rattle.tera_grammar.specs.expressions.Marks.{Operation}
 use Rattle.tera_grammar.specs.expressions.Operators.{GreaterThan}
-use Rattle.tera_grammar.specs.expressions.Output.{key_variable, value_variable}
 use Rattle.tera_grammar.specs.expressions.Reading.Front.{Takes, takes}
 use Rattle.tera_grammar.specs.statements.Expressions as expressions
 use Rattle.tera_grammar.specs.statements.Expressions.{Attributes, Filtering, Limits, filter_output}
@@ -18,13 +15,11 @@ use Rattle.tera_grammar.specs.statements.Heads.{Loop, Filters, filters_output}
 use Rattle.tera_grammar.specs.statements.Parts.{Edge}
 use Rattle.tera_grammar.specs.statements.Reading.Heads.{filters_of, loop_of}
 use Rattle.tera_grammar.specs.statements.Reading.Parts.{finish_of}
+use Rattle.tera_parts.specs.Names.{AreVariables}
 use Rattle.tera_statements.specs.Reading.{IsExpression}
 use Rattle.tera_statements.specs.declared.heads.LoopHead.{LoopHead}
 
--- the names of the variables of a loop
-abbrev pub AreVariables : Option (String Global) × String Global → Name × Second → Type 0
-AreVariables v x = (name_view v.0 ≡ key_variable x.0 x.1) × (string_bytes v.1 ≡ value_variable x.0 x.1)
-
+-- the head of a loop
 abbrev pub IsLoop : LoopHead → Loop → Type 0
 IsLoop h lp = AreVariables (h.key, h.value) (lp.first, lp.second) × IsExpression true h.target lp.target
 

@@ -1,7 +1,6 @@
 pub mod Known
 pub mod Kinds
 pub mod Reading
-pub mod Unfold
 pub mod Heads
 pub mod Around
 pub mod Adding

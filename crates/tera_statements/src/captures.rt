@@ -21,11 +21,12 @@ use crate::bodies::body;
 use crate::faults::{no_called_name, nothing_to_set, other_call, unclosed_call};
 use crate::fronts::Closer;
 use crate::heads::{attributes_to_end, expression_to_end, filters_to_end, section_to_end};
-use crate::parts::{closed, closed_tag, finish, free_name, spanning};
+use crate::parts::{closed, closed_tag, finish};
 use crate::settings::Setting;
 use tera_base::{Error, Span};
 use tera_expect::{Fixed, begins_name, eat, expect};
 use tera_lexer::{Cursor, Token};
+use tera_parts::{free_name, spanning};
 use tera_reader::component_name;
 use tera_tree::{Expression, Node, build};
 

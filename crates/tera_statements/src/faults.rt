@@ -1,6 +1,6 @@
 //! The faults of statements, in the order in which the language's document lists them.
 
-ghost use Rattle.std.specs.Prelude.{◌≡◌, ◌⊎◌};
+ghost use Rattle.std.specs.Prelude.{◌⊎◌};
 ghost use Rattle.tera_lexer.specs.code.Cursors.{Position};
 ghost use Rattle.tera_lexer.specs.grammar.Faults.{BeginsWith, EndsWith};
 ghost use Rattle.tera_lexer.specs.grammar.Place.{IsWithin};

@@ -2,19 +2,17 @@
 
 ghost use Rattle.std.specs.Prelude.{IfErr, IfOk};
 ghost use Rattle.tera_parts.specs.Rooms.{limits_of};
-ghost use Rattle.tera_grammar.specs.expressions.Reading.Atoms.{variables_of};
-ghost use Rattle.tera_grammar.specs.expressions.Reading.Front.{at};
-ghost use Rattle.tera_grammar.specs.expressions.Reading.Whole.{left_over};
 ghost use Rattle.tera_grammar.specs.statements.Reading.Heads.{filters_of};
-ghost use Rattle.tera_statements.specs.Heads.{AreAllFilters, AreFilters, AreVariables, IsLoop, attributes_to_end, expression_to_end, filters_to_end, loop_to_end, section_to_end};
+ghost use Rattle.tera_statements.specs.Heads.{AreAllFilters, AreFilters, IsLoop, attributes_to_end, expression_to_end, filters_to_end, loop_to_end, section_to_end};
 ghost use Rattle.tera_statements.specs.Reading.{AreAttributes, IsExpression};
 ghost use Rattle.tera_expect.specs.Taking.{GivesBy, GoesOn, Refuses, Took};
 
-use crate::parts::{finish, free_name};
+use crate::parts::finish;
 use crate::settings::Setting;
 use tera_base::Error;
 use tera_expect::{Fixed, eat, expect};
 use tera_lexer::Cursor;
+use tera_parts::variables;
 use tera_reader::{attributes, expression, filter};
 use tera_tree::{Expression, MapEntry};
 
@@ -49,27 +47,10 @@ pub(crate) fn loop_to_end(setting: &Setting<'_>, cursor: &mut Cursor<'_>) -> Res
     ensures refusal { IfErr result (Refuses cursor.old) }
     ensures later { IfOk result (λ _. Took cursor.old cursor.new) }
 {
-    let (key, value) = variables(cursor)?;
+    let (key, value) = variables(cursor, "used as a loop variable.")?;
     expect(cursor, Fixed::In)?;
     let target = expression_to_end(setting, cursor, true)?;
     Ok(LoopHead { key, value, target })
-}
-
-// The variables of a loop: the name of the key, if any, and that of the value.
-#[tactic(auto, using(tera_expect::proofs::Going::behind_tokens))]
-fn variables(cursor: &mut Cursor<'_>) -> Result<(Option<String>, String), Error>
-    ensures gives { GivesBy AreVariables result cursor.new.left (left_over (variables_of (at 0 cursor.old.left))) }
-    ensures refusal { IfErr result (Refuses cursor.old) }
-    ensures later { IfOk result (λ _. Took cursor.old cursor.new) }
-{
-    let alloc = cursor.alloc();
-    let first = free_name(cursor, "used as a loop variable.")?;
-    if eat(cursor, Fixed::Comma) {
-        let second = free_name(cursor, "used as a loop variable.")?;
-        let key = String::from_str(alloc, first)?;
-        return Ok((Some(key), String::from_str(alloc, second)?));
-    }
-    Ok((None, String::from_str(alloc, first)?))
 }
 
 // Filters, each behind its bar, which are put behind those that are given.

@@ -22,12 +22,12 @@ use crate::faults::{
     repeated_parameter, rest_is_not_last, rest_is_parameter,
 };
 use crate::names::{Known, keep_name, place_of};
-use crate::parts::is_none;
 use crate::settings::Setting;
 use std::collections::BTreeMap;
 use tera_base::{Error, Span, Value};
 use tera_expect::{Fixed, begins, eat, expect, name, take};
 use tera_lexer::{Cursor, Token};
+use tera_parts::is_none;
 use tera_reader::{literal_array, literal_map};
 use tera_tree::{ArgType, ComponentArgument};
 

@@ -2,19 +2,16 @@
 
 ghost use Rattle.std.specs.Prelude.{◌≡◌, IfErr, IfOk, false};
 ghost use Rattle.tera_lexer.specs.code.Cursors.{is_end};
-ghost use Rattle.tera_grammar.specs.Words.{is_none, is_reserved};
 ghost use Rattle.tera_grammar.specs.expressions.Reading.Front.{taken_quote};
-ghost use Rattle.tera_grammar.specs.expressions.Spans.{spanning};
-ghost use Rattle.tera_grammar.specs.statements.Reading.Heads.{free_name};
 ghost use Rattle.tera_grammar.specs.statements.Reading.Parts.{closed, closed_tag, finish_of, front, variable_end_of};
 ghost use Rattle.tera_statements.specs.Kinds.{closer_of, closes};
 ghost use Rattle.tera_statements.specs.Reading.{IsQuote};
-ghost use Rattle.tera_expect.specs.Taking.{GivesAs, GivesBy, Passes, Refuses, RefusesIn, Took, name_at};
+ghost use Rattle.tera_expect.specs.Taking.{GivesBy, Passes, Refuses, RefusesIn, Took};
 
 use crate::faults::unknown;
 use crate::fronts::{Closer, Front};
 use tera_base::{Error, Span};
-use tera_expect::{name, reported, take, unexpected};
+use tera_expect::{take, unexpected};
 use tera_lexer::{Cursor, Token};
 
 /// The end of a tag.
@@ -59,53 +56,6 @@ pub(crate) fn quote(cursor: &mut Cursor<'_>) -> Result<(String, Span), Error>
         Token::String(text) => Ok((text, span)),
         _ => Err(unexpected(alloc, &token, "string", &span)),
     }
-}
-
-/// A name that is not reserved; `purpose` ends the sentence that tells of one that is.
-#[tactic(auto, using(tera_expect::proofs::Going::refused_behind))]
-pub(crate) fn free_name<'a>(cursor: &mut Cursor<'a>, purpose: &str) -> Result<&'a str, Error>
-    ensures gives { GivesAs (name_at cursor.new.span) result cursor.new.left (free_name cursor.old.left) }
-    ensures refusal { IfErr result (Refuses cursor.old) }
-    ensures later { IfOk result (λ _. Took cursor.old cursor.new) }
-{
-    let name = name(cursor)?;
-    if is_reserved(name) {
-        let message = format!(in cursor.alloc();
-            "{name} is a reserved keyword of Tera, it cannot be {purpose}"
-        );
-        return Err(reported(cursor, message));
-    }
-    Ok(name)
-}
-
-// Whether no variable has the name.
-#[tactic(auto, unfolding(crate::specs::Unfold::is_reserved))]
-fn is_reserved(name: &str) -> bool
-    ensures { result ≡ is_reserved name.now }
-{
-    matches!(
-        name,
-        "loop"
-            | "self"
-            | "and"
-            | "or"
-            | "not"
-            | "is"
-            | "in"
-            | "continue"
-            | "break"
-            | "none"
-            | "None"
-            | "null"
-    )
-}
-
-/// Whether the name is a word for no value.
-#[tactic(auto, unfolding(crate::specs::Unfold::is_none))]
-pub(crate) fn is_none(name: &str) -> bool
-    ensures { result ≡ is_none name.now }
-{
-    matches!(name, "none" | "None" | "null")
 }
 
 /// Why nothing that is known stands here: the lexical fault, the end of the input, or an unknown tag, which is told
@@ -169,13 +119,4 @@ pub(crate) fn closed_tag(cursor: &mut Cursor<'_>, closer: Closer) -> Result<(), 
 {
     closed(cursor, closer)?;
     finish(cursor)
-}
-
-/// From the start of one span to the end of another.
-pub(crate) fn spanning(start: &Span, end: &Span) -> Span
-    ensures { result ≡ spanning start.now end.now }
-{
-    let mut span = start.copied();
-    span.expand(end);
-    span
 }

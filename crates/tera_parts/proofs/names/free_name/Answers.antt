@@ -1,5 +1,5 @@
 use Rattle.std.proofs.Common.{inr, sym, ◌∙◌}
-use Rattle.tera_statements.proofs.parts.free_name.Goals as goal
+use Rattle.tera_parts.proofs.names.free_name.Goals as goal
 
 pub returns-then-is_reserved-clause-gives : goal.returns-then-is_reserved-clause-gives
 returns-then-is_reserved-clause-gives c =
