@@ -1,2 +1,2 @@
-pub mod Going
+pub mod TakingLemmas
 pub mod Steps

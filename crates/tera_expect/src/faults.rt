@@ -11,7 +11,7 @@ use tera_base::{Error, ErrorKind, Span};
 use tera_lexer::{Cursor, Token};
 
 /// A fault at the token taken last; `Memory` where its text finds none.
-#[tactic(auto, using(crate::proofs::Going::last_refused))]
+#[tactic(auto, using(crate::proofs::TakingLemmas::last_refused))]
 pub fn fault(cursor: &Cursor<'_>, text: &str) -> Error
     ensures tells { Tells text.now cursor.now.span result }
     ensures refusal { Refuses cursor.now result }
@@ -20,7 +20,7 @@ pub fn fault(cursor: &Cursor<'_>, text: &str) -> Error
 }
 
 /// A fault at the token taken last, whose text was made; `Memory` where it was not.
-#[tactic(auto, using(crate::proofs::Going::last_refused, crate::proofs::Going::memory_refused))]
+#[tactic(auto, using(crate::proofs::TakingLemmas::last_refused, crate::proofs::TakingLemmas::memory_refused))]
 pub fn reported(cursor: &Cursor<'_>, message: Result<String, AllocError>) -> Error
     ensures tells { MatchResult message (λ text. Tells (string_bytes text) cursor.now.span result) (λ _. IsMemory result) }
     ensures refusal { Refuses cursor.now result }

@@ -145,7 +145,7 @@ pub fn eat_name<'a>(cursor: &mut Cursor<'a>) -> Option<&'a str>
 
 /// Takes the next token, where one has to come: at the end of the input, or at a lexical fault, that is
 /// the answer.
-#[tactic(auto, unfolding(crate::specs::Taking::Took, crate::specs::Taking::Refuses), using(crate::proofs::Going::counted))]
+#[tactic(auto, unfolding(crate::specs::Taking::Took, crate::specs::Taking::Refuses), using(crate::proofs::TakingLemmas::counted))]
 pub fn take<'a>(cursor: &mut Cursor<'a>) -> Result<(Token<'a>, Span), Error>
     ensures takes { TakesOne cursor.old result cursor.new }
     ensures number { IfOk result (λ p. IsCounted (seen p.0)) }

@@ -1,3 +1,3 @@
-pub mod Passing
-pub mod Promised
-pub mod Ending
+pub mod YieldLemmas
+pub mod PromisesLemmas
+pub mod EndsLemmas

@@ -15,7 +15,7 @@ use tera_lexer::Cursor;
 ///
 /// An error is the lexical fault, the end of the input, a syntax error at the first token that is no name where
 /// one has to stand, or `Memory`. After an error the cursor is not used again.
-#[tactic(auto, using(tera_expect::proofs::Going::refused, tera_expect::proofs::Going::later))]
+#[tactic(auto, using(tera_expect::proofs::TakingLemmas::refused, tera_expect::proofs::TakingLemmas::later))]
 pub fn component_name(_alloc: Global, cursor: &mut Cursor<'_>) -> Result<String, Error>
     // What was taken are the tokens of a name, and it is returned.
     ensures found { IfOk result (λ s. TookPath cursor.old s cursor.new) }

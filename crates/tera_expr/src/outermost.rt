@@ -42,7 +42,7 @@ use tera_tree::{Expression, MapEntry};
 ///
 /// Each value in braces is an expression with limits of its own. An error is the lexical fault, the end of the input,
 /// a syntax error, or `Memory`. After an error the cursor is not used again.
-#[tactic(auto, using(tera_expect::proofs::Going::refused, crate::proofs::Passing::later_on))]
+#[tactic(auto, using(tera_expect::proofs::TakingLemmas::refused, crate::proofs::YieldLemmas::later_on))]
 pub fn attributes(
     _alloc: Global,
     cursor: &mut Cursor<'_>,
@@ -64,7 +64,7 @@ pub fn attributes(
 ///
 /// Each argument is an expression with limits of its own. An error is the lexical fault, the end of the input, a
 /// syntax error, or `Memory`. After an error the cursor is not used again.
-#[tactic(auto, using(tera_expect::proofs::Going::refused, tera_expect::proofs::Going::later))]
+#[tactic(auto, using(tera_expect::proofs::TakingLemmas::refused, tera_expect::proofs::TakingLemmas::later))]
 pub fn kwargs(
     _alloc: Global,
     cursor: &mut Cursor<'_>,
@@ -86,7 +86,7 @@ pub fn kwargs(
 ///
 /// Each argument is an expression with limits of its own. An error is the lexical fault, the end of the input, a
 /// syntax error, or `Memory`. After an error the cursor is not used again.
-#[tactic(auto, using(tera_expect::proofs::Going::refused, tera_expect::proofs::Going::later))]
+#[tactic(auto, using(tera_expect::proofs::TakingLemmas::refused, tera_expect::proofs::TakingLemmas::later))]
 pub fn filter(_alloc: Global, cursor: &mut Cursor<'_>, scope: Scope) -> Result<Expression, Error>
     requires { AreValid (limits_of scope.limits) }
     // What was taken are the tokens of a filter within the limits, and it is returned.
@@ -104,7 +104,7 @@ pub fn filter(_alloc: Global, cursor: &mut Cursor<'_>, scope: Scope) -> Result<E
 ///
 /// Each value is an expression with limits of its own. An error is the lexical fault, the end of the input, a syntax
 /// error, or `Memory`. After an error the cursor is not used again.
-#[tactic(auto, using(tera_expect::proofs::Going::refused, tera_expect::proofs::Going::later))]
+#[tactic(auto, using(tera_expect::proofs::TakingLemmas::refused, tera_expect::proofs::TakingLemmas::later))]
 pub fn literal_array(
     _alloc: Global,
     cursor: &mut Cursor<'_>,
@@ -126,7 +126,7 @@ pub fn literal_array(
 ///
 /// Each value is an expression with limits of its own. An error is the lexical fault, the end of the input, a syntax
 /// error, or `Memory`. After an error the cursor is not used again.
-#[tactic(auto, using(tera_expect::proofs::Going::refused, tera_expect::proofs::Going::later))]
+#[tactic(auto, using(tera_expect::proofs::TakingLemmas::refused, tera_expect::proofs::TakingLemmas::later))]
 pub fn literal_map(
     _alloc: Global,
     cursor: &mut Cursor<'_>,

@@ -22,7 +22,7 @@ use tera_tree::Expression;
 ///
 /// An error is the lexical fault, the end of the input, a syntax error, or `Memory`. After an error the cursor is
 /// not used again.
-#[tactic(auto, using(tera_expect::proofs::Going::refused, tera_expect::proofs::Going::later))]
+#[tactic(auto, using(tera_expect::proofs::TakingLemmas::refused, tera_expect::proofs::TakingLemmas::later))]
 pub fn expression(
     _alloc: Global,
     cursor: &mut Cursor<'_>,

@@ -1,9 +1,9 @@
-pub mod Negating
-pub mod Fronts
-pub mod Joining
-pub mod Arguing
-pub mod Continuing
+pub mod LiteralsLemmas
+pub mod FrontsLemmas
+pub mod PathsLemmas
+pub mod ArgumentsLemmas
+pub mod RowsLemmas
 pub mod Constants
 pub mod ConstantMaps
-pub mod Closing
-pub mod Variables
+pub mod AttributesLemmas
+pub mod NamesLemmas

@@ -23,7 +23,7 @@ pub(crate) fn no_expression(cursor: &Cursor<'_>, token: &Token<'_>) -> Error
 }
 
 /// That a prefix stands behind a prefix; it is taken.
-#[tactic(auto, unfolding(tera_expect::specs::Taking::Refuses, tera_expect::specs::Taking::Took), using(tera_expect::proofs::Going::refused_behind))]
+#[tactic(auto, unfolding(tera_expect::specs::Taking::Refuses, tera_expect::specs::Taking::Took), using(tera_expect::proofs::TakingLemmas::refused_behind))]
 pub fn consecutive(cursor: &mut Cursor<'_>) -> Error
     ensures { Refuses cursor.old result }
 {
@@ -38,7 +38,7 @@ pub fn consecutive(cursor: &mut Cursor<'_>) -> Error
 }
 
 /// That a `not` stands behind an operand without `in`; it is taken.
-#[tactic(auto, using(tera_expect::proofs::Going::refused_behind))]
+#[tactic(auto, using(tera_expect::proofs::TakingLemmas::refused_behind))]
 pub fn misplaced_not(cursor: &mut Cursor<'_>) -> Error
     ensures { Refuses cursor.old result }
 {
@@ -91,7 +91,7 @@ pub(crate) fn too_many_arrays(cursor: &Cursor<'_>, most: usize) -> Error
 }
 
 /// That an argument of this name was defined before, where the names tell.
-#[tactic(auto, using(tera_expect::proofs::Going::same_refused))]
+#[tactic(auto, using(tera_expect::proofs::TakingLemmas::same_refused))]
 pub(crate) fn repeated_argument(cursor: &Cursor<'_>, name: &str, names: &[(&str, Span)]) -> Error
     ensures { Refuses cursor.now result }
 {
@@ -146,7 +146,7 @@ pub(crate) fn no_attribute_value(cursor: &Cursor<'_>, token: &Token<'_>) -> Erro
 }
 
 /// That the next token does not end a component; it is told at the token before.
-#[tactic(auto, unfolding(tera_expect::specs::Taking::Refuses), using(tera_expect::proofs::Going::last_refused))]
+#[tactic(auto, unfolding(tera_expect::specs::Taking::Refuses), using(tera_expect::proofs::TakingLemmas::last_refused))]
 pub(crate) fn unclosed_component(cursor: &mut Cursor<'_>) -> Error
     ensures { Refuses cursor.old result }
 {

@@ -150,7 +150,7 @@ pub fn count_link(cursor: &Cursor<'_>, links: &mut usize) -> Result<(), Error>
 
 /// Counts the link of a binary operator, which comes next, where one may still come. In front of a `not in` the `not`
 /// is told of.
-#[tactic(auto, using(tera_expect::proofs::Going::next_refused))]
+#[tactic(auto, using(tera_expect::proofs::TakingLemmas::next_refused))]
 pub fn count_operator(cursor: &Cursor<'_>, links: &mut usize, negated: bool) -> Result<(), Error>
     ensures counts { IfOk result (λ _. lowered links.old ≡ Some links.new) }
     ensures fails { IfErr result (λ e. IsMemory e ⊎ (lowered links.old ≡ None)) }

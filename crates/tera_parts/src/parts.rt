@@ -32,7 +32,7 @@ pub fn spanning(start: &Span, end: &Span) -> Span
 }
 
 /// The constant that the token is, which stands at the span and was taken last.
-#[tactic(auto, using(tera_expect::proofs::Going::memory_refused, crate::proofs::Negating::count_negatable))]
+#[tactic(auto, using(tera_expect::proofs::TakingLemmas::memory_refused, crate::proofs::LiteralsLemmas::count_negatable))]
 pub fn literal(cursor: &Cursor<'_>, token: Token<'_>, span: &Span) -> Result<Expression, Error>
     requires { IsCounted (seen token) }
     ensures gives { GivesLiteral (seen token.entry) span.now result }

@@ -41,7 +41,7 @@ impl Values {
 }
 
 /// Behind an element of a row: whether another one stands there, behind a comma, or else the end of the row is taken.
-#[tactic(auto, using(tera_expect::proofs::Going::on_the_way))]
+#[tactic(auto, using(tera_expect::proofs::TakingLemmas::on_the_way))]
 pub fn more(cursor: &mut Cursor<'_>, end: Fixed) -> Result<bool, Error>
     ensures gives { Continues (mark_of end) cursor.old.left cursor.new result }
     ensures refusal { IfErr result (Refuses cursor.old) }

@@ -19,8 +19,8 @@ use Rattle.tera_grammar.proofs.expressions.Repeated.{twice}
 use Rattle.tera_expect.specs.Taking.{Fails}
 use Rattle.tera_parts.specs.declared.rows.Values.{Values}
 use Rattle.tera_parts.specs.Rows.{Continues, has_argument, new_name_at, reader_of}
-use Rattle.tera_reader.proofs.RowSteps.{Opening, Rowing, skip_taken, element_read, element_fails, behind, behind_fails, fails_by}
-use Rattle.tera_reader.proofs.Arguing.{Arguing, Argued, one_more, last_one, all_of}
+use Rattle.tera_reader.proofs.RowsLemmas.{Opening, Rowing, skip_taken, element_read, element_fails, behind, behind_fails, fails_by}
+use Rattle.tera_reader.proofs.ArgumentsLemmas.{Arguing, Argued, one_more, last_one, all_of}
 
 pub new_name_ok : (args : Args) (r us : Items) (n : Name) → new_name_at args r ≡ Some (n, us)
     → (taken_name r ≡ Some (n, us)) × (has_argument n.text args ≡ false)

@@ -21,9 +21,9 @@ use Rattle.tera_grammar.specs.expressions.Reading.Whole.{widest, outermost, left
 use Rattle.tera_grammar.proofs.expressions.Fronts.{skip_ok, none_skip}
 use Rattle.tera_parts.specs.Folding.{constant_of}
 use Rattle.tera_expect.specs.Taking.{Fails}
-use Rattle.tera_reader.proofs.Comprehending.{behind_end, behind_condition, behind_target, behind_in, behind_variables, by_variables}
+use Rattle.tera_reader.proofs.ComprehensionsLemmas.{behind_end, behind_condition, behind_target, behind_in, behind_variables, by_variables}
 use Rattle.tera_reader.proofs.LiteralMaps.{opened}
-use Rattle.tera_reader.proofs.RowSteps.{skip_taken, fails_by, bind_assoc, steps_by}
+use Rattle.tera_reader.proofs.RowsLemmas.{skip_taken, fails_by, bind_assoc, steps_by}
 
 -- an array is read where its row is; a comprehension has none, and is no constant
 abbrev Agrees : Span → Reads Tree → Reads Row → Type 0

@@ -20,7 +20,7 @@ use Rattle.tera_grammar.specs.expressions.Reading.Whole.{widest, outermost, left
 use Rattle.tera_grammar.proofs.expressions.Fronts.{none_skip}
 use Rattle.tera_parts.specs.Folding.{constant_of}
 use Rattle.tera_expect.specs.Taking.{Fails}
-use Rattle.tera_reader.proofs.RowSteps.{skip_taken, fails_by}
+use Rattle.tera_reader.proofs.RowsLemmas.{skip_taken, fails_by}
 
 -- an opening mark and a row
 abbrev pub opened : Span → Row → Opened

@@ -18,7 +18,7 @@ use tera_tree::Expression;
 
 /// Arguments, whose opening parenthesis was taken.
 #[cycle(reader)]
-#[tactic(auto, using(tera_expect::proofs::Going::on_the_way))]
+#[tactic(auto, using(tera_expect::proofs::TakingLemmas::on_the_way))]
 pub(crate) fn arguments(
     cursor: &mut Cursor<'_>,
     links: &mut usize,

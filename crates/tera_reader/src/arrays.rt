@@ -25,7 +25,7 @@ use tera_tree::{ArrayEntry, Expression, build};
 
 /// An array or a comprehension, behind its bracket, which stands at the span and was taken last.
 #[cycle(reader)]
-#[tactic(auto, using(tera_expect::proofs::Going::behind_tokens, crate::proofs::Arraying::array_negatable))]
+#[tactic(auto, using(tera_expect::proofs::TakingLemmas::behind_tokens, crate::proofs::ArraysLemmas::array_negatable))]
 pub(crate) fn array(
     cursor: &mut Cursor<'_>,
     links: &mut usize,
@@ -59,7 +59,7 @@ pub(crate) fn array(
 
 // The items behind the first one of an array, whose bracket stands at the span.
 #[cycle(reader)]
-#[tactic(auto, using(tera_expect::proofs::Going::behind_tokens, crate::proofs::Arraying::array_negatable))]
+#[tactic(auto, using(tera_expect::proofs::TakingLemmas::behind_tokens, crate::proofs::ArraysLemmas::array_negatable))]
 fn items(
     cursor: &mut Cursor<'_>,
     links: &mut usize,
@@ -87,7 +87,7 @@ fn items(
 
 // An item of an array, or a spread.
 #[cycle(reader)]
-#[tactic(auto, using(tera_expect::proofs::Going::behind_tokens))]
+#[tactic(auto, using(tera_expect::proofs::TakingLemmas::behind_tokens))]
 fn item(cursor: &mut Cursor<'_>, links: &mut usize, values: Values) -> Result<ArrayEntry, Error>
     ensures gives { GivesBy (IsItem values.room.scope.in_loop) result (at links.new cursor.new.left) (element_of (reader_of values) (room_of values.room) of_items (at links.old cursor.old.left)) }
     ensures refusal { IfErr result (Refuses cursor.old) }
@@ -103,7 +103,7 @@ fn item(cursor: &mut Cursor<'_>, links: &mut usize, values: Values) -> Result<Ar
 
 // A comprehension behind its `for`, which was taken last; its bracket stands at the span.
 #[cycle(reader)]
-#[tactic(auto, using(tera_expect::proofs::Going::on_the_way, crate::proofs::Arraying::comprehension_negatable))]
+#[tactic(auto, using(tera_expect::proofs::TakingLemmas::on_the_way, crate::proofs::ArraysLemmas::comprehension_negatable))]
 fn comprehension(
     cursor: &mut Cursor<'_>,
     links: &mut usize,
@@ -136,7 +136,7 @@ fn comprehension(
 
 /// An expression behind a token of its own, at a least power, where that token stands.
 #[cycle(reader)]
-#[tactic(auto, using(tera_expect::proofs::Going::on_the_way))]
+#[tactic(auto, using(tera_expect::proofs::TakingLemmas::on_the_way))]
 pub(crate) fn extra(
     cursor: &mut Cursor<'_>,
     links: &mut usize,
@@ -156,7 +156,7 @@ pub(crate) fn extra(
 }
 
 // The bracket behind a comprehension.
-#[tactic(auto, using(tera_expect::proofs::Going::refused_behind))]
+#[tactic(auto, using(tera_expect::proofs::TakingLemmas::refused_behind))]
 fn close_comprehension(cursor: &mut Cursor<'_>) -> Result<(), Error>
     ensures gives { GivesAs (place_at cursor.new.span) result cursor.new.left (takes RightBracket cursor.old.left) }
     ensures refusal { IfErr result (Refuses cursor.old) }

@@ -32,7 +32,7 @@ pub(crate) struct Call {
 /// Reads a test, a filter or a subscript of an operand that begins at `start`, behind its first token, which was
 /// taken last; its link is counted.
 #[cycle(reader)]
-#[tactic(auto, unfolding(crate::specs::Unfold::suffix_in), using(tera_expect::proofs::Going::behind_tokens))]
+#[tactic(auto, unfolding(crate::specs::Unfold::suffix_in), using(tera_expect::proofs::TakingLemmas::behind_tokens))]
 pub(crate) fn suffix(
     cursor: &mut Cursor<'_>,
     links: &mut usize,
@@ -64,7 +64,7 @@ pub(crate) fn suffix(
 
 // A test of an operand that begins at `start`, whose `is` was taken last.
 #[cycle(reader)]
-#[tactic(auto, using(tera_expect::proofs::Going::behind_tokens))]
+#[tactic(auto, using(tera_expect::proofs::TakingLemmas::behind_tokens))]
 fn test(
     cursor: &mut Cursor<'_>,
     links: &mut usize,
@@ -88,7 +88,7 @@ fn test(
 
 /// A filter of an expression, whose name comes next.
 #[cycle(reader)]
-#[tactic(auto, using(tera_expect::proofs::Going::behind_tokens))]
+#[tactic(auto, using(tera_expect::proofs::TakingLemmas::behind_tokens))]
 pub(crate) fn filter_with(
     cursor: &mut Cursor<'_>,
     links: &mut usize,
@@ -105,7 +105,7 @@ pub(crate) fn filter_with(
 
 // A name with its arguments, if it has some.
 #[cycle(reader)]
-#[tactic(auto, using(tera_expect::proofs::Going::on_the_way))]
+#[tactic(auto, using(tera_expect::proofs::TakingLemmas::on_the_way))]
 fn read_call(cursor: &mut Cursor<'_>, links: &mut usize, values: Values) -> Result<Call, Error>
     ensures gives { GivesBy (IsCall values.room.scope.in_loop cursor.new.span) result (at links.new cursor.new.left) (call_of (reader_of values) (room_of values.room) (at links.old cursor.old.left)) }
     ensures refusal { IfErr result (Refuses cursor.old) }
@@ -121,7 +121,7 @@ fn read_call(cursor: &mut Cursor<'_>, links: &mut usize, values: Values) -> Resu
 
 // The arguments behind a name, which was taken last, if it has some.
 #[cycle(reader)]
-#[tactic(auto, using(tera_expect::proofs::Going::on_the_way))]
+#[tactic(auto, using(tera_expect::proofs::TakingLemmas::on_the_way))]
 fn maybe_arguments(
     cursor: &mut Cursor<'_>,
     links: &mut usize,

@@ -64,7 +64,7 @@ pub(crate) enum Linked {
 
 /// Reads a chain or a call of a function, whose name stands at the span and was taken last.
 #[cycle(reader)]
-#[tactic(auto, unfolding(crate::specs::Unfold::chain_of, crate::specs::Unfold::skip), using(tera_expect::proofs::Going::on_the_way, crate::proofs::Linking::chain_negatable, crate::proofs::Linking::call_negatable))]
+#[tactic(auto, unfolding(crate::specs::Unfold::chain_of, crate::specs::Unfold::skip), using(tera_expect::proofs::TakingLemmas::on_the_way, crate::proofs::ChainsLemmas::chain_negatable, crate::proofs::ChainsLemmas::call_negatable))]
 pub(crate) fn chain(
     cursor: &mut Cursor<'_>,
     links: &mut usize,
@@ -88,7 +88,7 @@ pub(crate) fn chain(
 
 // A call of a function, whose name stands at the span and whose opening parenthesis was taken last.
 #[cycle(reader)]
-#[tactic(auto, using(tera_expect::proofs::Going::behind_tokens))]
+#[tactic(auto, using(tera_expect::proofs::TakingLemmas::behind_tokens))]
 fn function_call(
     cursor: &mut Cursor<'_>,
     links: &mut usize,
@@ -116,7 +116,7 @@ fn function_call(
 
 // The links of a chain, whose name stands at the span.
 #[cycle(reader)]
-#[tactic(auto, using(tera_expect::proofs::Going::on_the_way))]
+#[tactic(auto, using(tera_expect::proofs::TakingLemmas::on_the_way))]
 fn with_links(
     cursor: &mut Cursor<'_>,
     links: &mut usize,
@@ -149,7 +149,7 @@ fn is_loop(in_loop: bool, name: &str) -> bool
 
 // A chain with its next link, which counts, if one stands there.
 #[cycle(reader)]
-#[tactic(auto, using(tera_expect::proofs::Going::behind_tokens))]
+#[tactic(auto, using(tera_expect::proofs::TakingLemmas::behind_tokens))]
 fn with_link(
     cursor: &mut Cursor<'_>,
     links: &mut usize,
@@ -191,7 +191,7 @@ fn take_link(cursor: &mut Cursor<'_>)
 }
 
 // A field of a chain, whose dot was taken last.
-#[tactic(auto, using(tera_expect::proofs::Going::behind_tokens))]
+#[tactic(auto, using(tera_expect::proofs::TakingLemmas::behind_tokens))]
 fn field(
     cursor: &mut Cursor<'_>,
     of_loop: bool,

@@ -25,7 +25,7 @@ use tera_tree::{Expression, MapEntry, build};
 
 /// A call of a component that closes itself, behind its `<`, which stands at the span and was taken last.
 #[cycle(reader)]
-#[tactic(auto, using(tera_expect::proofs::Going::on_the_way))]
+#[tactic(auto, using(tera_expect::proofs::TakingLemmas::on_the_way))]
 pub(crate) fn component(
     cursor: &mut Cursor<'_>,
     links: &mut usize,
@@ -57,7 +57,7 @@ pub(crate) fn component(
 
 /// The attributes of a call of a component.
 #[cycle(reader)]
-#[tactic(auto, using(tera_expect::proofs::Going::on_the_way))]
+#[tactic(auto, using(tera_expect::proofs::TakingLemmas::on_the_way))]
 pub(crate) fn attributes(
     cursor: &mut Cursor<'_>,
     links: &mut usize,
@@ -76,7 +76,7 @@ pub(crate) fn attributes(
 
 // An attribute, where one stands.
 #[cycle(reader)]
-#[tactic(auto, using(tera_expect::proofs::Going::on_the_way))]
+#[tactic(auto, using(tera_expect::proofs::TakingLemmas::on_the_way))]
 fn attribute(
     cursor: &mut Cursor<'_>,
     links: &mut usize,
@@ -100,7 +100,7 @@ fn attribute(
 
 // An attribute behind its name, which was taken last.
 #[cycle(reader)]
-#[tactic(auto, using(tera_expect::proofs::Going::on_the_way))]
+#[tactic(auto, using(tera_expect::proofs::TakingLemmas::on_the_way))]
 fn named_attribute(
     cursor: &mut Cursor<'_>,
     links: &mut usize,
@@ -126,7 +126,7 @@ fn named_attribute(
 
 // The value of an attribute: a string, or an expression between braces.
 #[cycle(reader)]
-#[tactic(auto, using(tera_expect::proofs::Going::behind_tokens))]
+#[tactic(auto, using(tera_expect::proofs::TakingLemmas::behind_tokens))]
 fn attribute_value(
     cursor: &mut Cursor<'_>,
     links: &mut usize,
@@ -144,7 +144,7 @@ fn attribute_value(
 
 // A value and the brace behind it.
 #[cycle(reader)]
-#[tactic(auto, using(tera_expect::proofs::Going::behind_tokens))]
+#[tactic(auto, using(tera_expect::proofs::TakingLemmas::behind_tokens))]
 fn braced(cursor: &mut Cursor<'_>, links: &mut usize, values: Values) -> Result<Expression, Error>
     ensures gives { GivesBy (IsBraced values.room.scope.in_loop) result (at links.new cursor.new.left) (braced_of (reader_of values) (room_of values.room) (at links.old cursor.old.left)) }
     ensures refusal { IfErr result (Refuses cursor.old) }

@@ -22,7 +22,7 @@ use tera_tree::{Expression, MapEntry};
 
 /// A map, behind its brace, which stands at the span and was taken last.
 #[cycle(reader)]
-#[tactic(auto, using(tera_expect::proofs::Going::on_the_way))]
+#[tactic(auto, using(tera_expect::proofs::TakingLemmas::on_the_way))]
 pub(crate) fn map(
     cursor: &mut Cursor<'_>,
     links: &mut usize,
@@ -48,7 +48,7 @@ pub(crate) fn map(
 
 // A pair of a key and a value, or a spread.
 #[cycle(reader)]
-#[tactic(auto, using(tera_expect::proofs::Going::behind_tokens))]
+#[tactic(auto, using(tera_expect::proofs::TakingLemmas::behind_tokens))]
 fn entry(cursor: &mut Cursor<'_>, links: &mut usize, values: Values) -> Result<MapEntry, Error>
     ensures gives { GivesBy (IsEntry values.room.scope.in_loop) result (at links.new cursor.new.left) (element_of (reader_of values) (room_of values.room) of_entries (at links.old cursor.old.left)) }
     ensures refusal { IfErr result (Refuses cursor.old) }

@@ -87,7 +87,7 @@ fn operand(
 // Takes the first token of an operand: it is one by itself, or begins one.
 #[inline(always)]
 #[cycle(reader)]
-#[tactic(auto, using(tera_expect::proofs::Going::on_the_way))]
+#[tactic(auto, using(tera_expect::proofs::TakingLemmas::on_the_way))]
 fn head(
     cursor: &mut Cursor<'_>,
     links: &mut usize,
@@ -150,7 +150,7 @@ fn holds(cursor: &Cursor<'_>, level: Level, expr: Expression, first: &Span) -> S
 // A word at the start of an operand, which stands at the span and was taken last.
 #[inline(always)]
 #[cycle(reader)]
-#[tactic(auto, using(tera_expect::proofs::Going::on_the_way))]
+#[tactic(auto, using(tera_expect::proofs::TakingLemmas::on_the_way))]
 fn word(
     cursor: &mut Cursor<'_>,
     links: &mut usize,
@@ -180,7 +180,7 @@ fn word(
 
 // Opens the operand of a prefix, which stands at the span and was taken.
 #[inline(always)]
-#[tactic(auto, using(tera_expect::proofs::Going::on_the_way))]
+#[tactic(auto, using(tera_expect::proofs::TakingLemmas::on_the_way))]
 fn prefix(
     cursor: &mut Cursor<'_>,
     frames: &mut Vec<Frame>,
@@ -204,7 +204,7 @@ fn prefix(
 // One turn: what the operand is followed by, if the power lets it in.
 #[inline(always)]
 #[cycle(reader)]
-#[tactic(auto, using(tera_expect::proofs::Going::on_the_way))]
+#[tactic(auto, using(tera_expect::proofs::TakingLemmas::on_the_way))]
 fn turn(
     cursor: &mut Cursor<'_>,
     links: &mut usize,
@@ -255,7 +255,7 @@ fn turn(
 
 // Hands an expression to the frame that it was read inside of, if there is one.
 #[inline(always)]
-#[tactic(auto, using(tera_expect::proofs::Going::on_the_way))]
+#[tactic(auto, using(tera_expect::proofs::TakingLemmas::on_the_way))]
 fn close(cursor: &mut Cursor<'_>, frames: &mut Vec<Frame>, inside: Operand) -> Result<State, Error>
     requires { MayBeNegated (expression_view inside.expr) }
     ensures keeps { (room : Room) (links : ℕ) → Keeps room result frames.new.items (at links cursor.new.left) (unwind room frames.old.items (Some (operand_view inside, at links cursor.old.left))) }
@@ -272,7 +272,7 @@ fn close(cursor: &mut Cursor<'_>, frames: &mut Vec<Frame>, inside: Operand) -> R
 
 // Goes on with a frame, from the expression that was read inside of it.
 #[inline(always)]
-#[tactic(auto, using(tera_expect::proofs::Going::on_the_way))]
+#[tactic(auto, using(tera_expect::proofs::TakingLemmas::on_the_way))]
 fn resume(
     cursor: &mut Cursor<'_>,
     frames: &mut Vec<Frame>,

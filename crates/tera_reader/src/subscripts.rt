@@ -34,7 +34,7 @@ pub(crate) enum Subscript {
 
 /// Reads what stands in a subscript, whose opening bracket was taken last, up to the closing one.
 #[cycle(reader)]
-#[tactic(auto, unfolding(crate::specs::Unfold::sub_of), using(tera_expect::proofs::Going::behind_tokens))]
+#[tactic(auto, unfolding(crate::specs::Unfold::sub_of), using(tera_expect::proofs::TakingLemmas::behind_tokens))]
 pub(crate) fn read_subscript(
     cursor: &mut Cursor<'_>,
     links: &mut usize,
@@ -59,7 +59,7 @@ pub(crate) fn read_subscript(
 
 // The end and the step of a slice, whose first colon was taken.
 #[cycle(reader)]
-#[tactic(auto, using(tera_expect::proofs::Going::on_the_way))]
+#[tactic(auto, using(tera_expect::proofs::TakingLemmas::on_the_way))]
 fn slice(
     cursor: &mut Cursor<'_>,
     links: &mut usize,
@@ -79,7 +79,7 @@ fn slice(
 
 // The end of a slice, which may be left out.
 #[cycle(reader)]
-#[tactic(auto, unfolding(crate::specs::Unfold::part_of, crate::specs::Unfold::skip), using(tera_expect::proofs::Going::on_the_way))]
+#[tactic(auto, unfolding(crate::specs::Unfold::part_of, crate::specs::Unfold::skip), using(tera_expect::proofs::TakingLemmas::on_the_way))]
 fn end(
     cursor: &mut Cursor<'_>,
     links: &mut usize,
@@ -98,7 +98,7 @@ fn end(
 
 // The step of a slice behind a second colon, if it has one.
 #[cycle(reader)]
-#[tactic(auto, unfolding(crate::specs::Unfold::extra_of, crate::specs::Unfold::skip), using(tera_expect::proofs::Going::on_the_way))]
+#[tactic(auto, unfolding(crate::specs::Unfold::extra_of, crate::specs::Unfold::skip), using(tera_expect::proofs::TakingLemmas::on_the_way))]
 fn step(
     cursor: &mut Cursor<'_>,
     links: &mut usize,

@@ -20,7 +20,7 @@ use tera_tree::Node;
 
 /// Reads a body inside of what was opened, where so many may still open.
 #[cycle(bodies)]
-#[tactic(auto, using(tera_expect::proofs::Going::on_the_way, crate::proofs::Refusing::inside_further))]
+#[tactic(auto, using(tera_expect::proofs::TakingLemmas::on_the_way, crate::proofs::RefusalLemmas::inside_further))]
 pub(crate) fn body(
     setting: &Setting<'_>,
     cursor: &mut Cursor<'_>,

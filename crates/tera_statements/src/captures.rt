@@ -39,7 +39,7 @@ pub(crate) struct Variable<'a> {
 
 /// Reads the rest of a `set` or a `set_global`, whose word was taken last.
 #[cycle(bodies)]
-#[tactic(auto, using(tera_expect::proofs::Going::behind_tokens))]
+#[tactic(auto, using(tera_expect::proofs::TakingLemmas::behind_tokens))]
 pub(crate) fn set(
     setting: &Setting<'_>,
     cursor: &mut Cursor<'_>,
@@ -65,7 +65,7 @@ pub(crate) fn set(
 }
 
 // The value of a variable, behind the equals sign, which was taken last.
-#[tactic(auto, using(tera_expect::proofs::Going::behind_tokens))]
+#[tactic(auto, using(tera_expect::proofs::TakingLemmas::behind_tokens))]
 fn set_value(
     setting: &Setting<'_>,
     cursor: &mut Cursor<'_>,
@@ -83,7 +83,7 @@ fn set_value(
 
 // The filters and the body that a variable takes, behind its name.
 #[cycle(bodies)]
-#[tactic(auto, using(tera_expect::proofs::Going::on_the_way))]
+#[tactic(auto, using(tera_expect::proofs::TakingLemmas::on_the_way))]
 fn set_body(
     setting: &Setting<'_>,
     cursor: &mut Cursor<'_>,
@@ -119,7 +119,7 @@ fn check_set(cursor: &Cursor<'_>) -> Result<(), Error>
 
 /// Reads the rest of a filter section, whose word was taken last.
 #[cycle(bodies)]
-#[tactic(auto, using(tera_expect::proofs::Going::on_the_way))]
+#[tactic(auto, using(tera_expect::proofs::TakingLemmas::on_the_way))]
 pub(crate) fn section(
     setting: &Setting<'_>,
     cursor: &mut Cursor<'_>,
@@ -143,7 +143,7 @@ pub(crate) fn section(
 
 /// Reads the rest of a call of a component, whose `<` was taken last.
 #[cycle(bodies)]
-#[tactic(auto, using(tera_expect::proofs::Going::on_the_way))]
+#[tactic(auto, using(tera_expect::proofs::TakingLemmas::on_the_way))]
 pub(crate) fn call(
     setting: &Setting<'_>,
     cursor: &mut Cursor<'_>,
@@ -188,7 +188,7 @@ fn called_name(cursor: &mut Cursor<'_>) -> Result<String, Error>
 }
 
 // The closing tag of a call of the component with this name, and where its `>` stands.
-#[tactic(auto, using(tera_expect::proofs::Going::behind_tokens))]
+#[tactic(auto, using(tera_expect::proofs::TakingLemmas::behind_tokens))]
 fn call_end(cursor: &mut Cursor<'_>, name: &str) -> Result<Span, Error>
     ensures gives { (n : ComponentName) → component_text n ≡ name.now → GivesBy IsCallEnd result cursor.new.left (call_end n cursor.old.left) }
     ensures refusal { IfErr result (Refuses cursor.old) }

@@ -42,7 +42,7 @@ pub(crate) struct Opened {
 }
 
 /// Reads the opening tag of a component's definition, behind its first word. The name is kept.
-#[tactic(auto, using(tera_expect::proofs::Going::on_the_way))]
+#[tactic(auto, using(tera_expect::proofs::TakingLemmas::on_the_way))]
 pub(crate) fn opening_tag(
     setting: &Setting<'_>,
     cursor: &mut Cursor<'_>,
@@ -66,7 +66,7 @@ pub(crate) fn opening_tag(
 }
 
 // The name of a component that the template did not define before. It is kept.
-#[tactic(auto, using(tera_expect::proofs::Going::behind_tokens))]
+#[tactic(auto, using(tera_expect::proofs::TakingLemmas::behind_tokens))]
 fn new_component(cursor: &mut Cursor<'_>, seen: &mut Known) -> Result<String, Error>
     ensures gives { GivesBy IsComponent result cursor.new.left (new_component_of (met_of seen.old) cursor.old.left) }
     ensures kept { IfOk result (λ s. met_of seen.new ≡ meet (string_bytes s) (met_of seen.old)) }
@@ -82,7 +82,7 @@ fn new_component(cursor: &mut Cursor<'_>, seen: &mut Known) -> Result<String, Er
 }
 
 // The metadata of a component, where a map stands there.
-#[tactic(auto, using(tera_expect::proofs::Going::on_the_way))]
+#[tactic(auto, using(tera_expect::proofs::TakingLemmas::on_the_way))]
 fn metadata(
     setting: &Setting<'_>,
     cursor: &mut Cursor<'_>,
@@ -127,7 +127,7 @@ fn put_value(
 }
 
 /// Reads the closing tag of the definition of the component with this name.
-#[tactic(auto, using(tera_expect::proofs::Going::on_the_way))]
+#[tactic(auto, using(tera_expect::proofs::TakingLemmas::on_the_way))]
 pub(crate) fn closing_tag(cursor: &mut Cursor<'_>, name: &str) -> Result<(), Error>
     ensures gives { (start : Edge) (first : Span) (o : reading.Opened) → component_text o.name ≡ name.now → Passes result cursor.new.left (ending_of start first o cursor.old.left) }
     ensures refusal { IfErr result (Refuses cursor.old) }
@@ -139,7 +139,7 @@ pub(crate) fn closing_tag(cursor: &mut Cursor<'_>, name: &str) -> Result<(), Err
 }
 
 // The name at the end of a definition, where one stands there; it has to be that of the component.
-#[tactic(auto, using(tera_expect::proofs::Going::on_the_way))]
+#[tactic(auto, using(tera_expect::proofs::TakingLemmas::on_the_way))]
 fn end_name(cursor: &mut Cursor<'_>, name: &str) -> Result<(), Error>
     ensures gives { Passes result cursor.new.left (agreeing_name name.now cursor.old.left) }
     ensures refusal { IfErr result (Refuses cursor.old) }

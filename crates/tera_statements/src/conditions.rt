@@ -35,7 +35,7 @@ pub(crate) struct Branch {
 
 /// Reads the rest of an `if`, whose word was taken last.
 #[cycle(bodies)]
-#[tactic(auto, using(tera_expect::proofs::Going::on_the_way))]
+#[tactic(auto, using(tera_expect::proofs::TakingLemmas::on_the_way))]
 pub(crate) fn condition(
     setting: &Setting<'_>,
     cursor: &mut Cursor<'_>,
@@ -56,7 +56,7 @@ pub(crate) fn condition(
 
 // A condition, the end of its tag, and the body under it; the word before it stands at the span.
 #[cycle(bodies)]
-#[tactic(auto, using(tera_expect::proofs::Going::on_the_way))]
+#[tactic(auto, using(tera_expect::proofs::TakingLemmas::on_the_way))]
 fn read_branch(
     setting: &Setting<'_>,
     cursor: &mut Cursor<'_>,
@@ -80,7 +80,7 @@ fn read_branch(
 
 // The branches behind the first one, whose word stands at the span: any number of `elif`, and an `else` or none.
 #[cycle(bodies)]
-#[tactic(auto, using(tera_expect::proofs::Going::on_the_way))]
+#[tactic(auto, using(tera_expect::proofs::TakingLemmas::on_the_way))]
 fn other_branches(
     setting: &Setting<'_>,
     cursor: &mut Cursor<'_>,

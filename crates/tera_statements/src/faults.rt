@@ -214,7 +214,7 @@ pub(crate) fn rest_is_not_last(cursor: &Cursor<'_>) -> Error
 }
 
 /// What the message says of the name taken last, which is that of no type.
-#[tactic(auto, using(tera_expect::proofs::Going::memory_refused))]
+#[tactic(auto, using(tera_expect::proofs::TakingLemmas::memory_refused))]
 pub(crate) fn no_named_type(cursor: &Cursor<'_>, error: Error) -> Error
     ensures { Refuses cursor.now result }
 {

@@ -17,7 +17,7 @@ use tera_reader::{attributes, expression, filter};
 use tera_tree::{Expression, MapEntry};
 
 /// Reads an expression, and the end of its tag.
-#[tactic(auto, using(tera_expect::proofs::Going::behind_tokens))]
+#[tactic(auto, using(tera_expect::proofs::TakingLemmas::behind_tokens))]
 pub(crate) fn expression_to_end(
     setting: &Setting<'_>,
     cursor: &mut Cursor<'_>,
@@ -41,7 +41,7 @@ pub(crate) struct LoopHead {
 }
 
 /// Reads the head of a loop, and the end of its tag.
-#[tactic(auto, using(tera_expect::proofs::Going::behind_tokens))]
+#[tactic(auto, using(tera_expect::proofs::TakingLemmas::behind_tokens))]
 pub(crate) fn loop_to_end(setting: &Setting<'_>, cursor: &mut Cursor<'_>) -> Result<LoopHead, Error>
     ensures gives { GivesBy (λ h x. IsLoop h x.0) result cursor.new.left (loop_to_end (limits_of setting.now.limits) cursor.old.left) }
     ensures refusal { IfErr result (Refuses cursor.old) }
@@ -54,7 +54,7 @@ pub(crate) fn loop_to_end(setting: &Setting<'_>, cursor: &mut Cursor<'_>) -> Res
 }
 
 // Filters, each behind its bar, which are put behind those that are given.
-#[tactic(auto, using(tera_expect::proofs::Going::on_the_way))]
+#[tactic(auto, using(tera_expect::proofs::TakingLemmas::on_the_way))]
 fn more_filters(
     setting: &Setting<'_>,
     cursor: &mut Cursor<'_>,
@@ -74,7 +74,7 @@ fn more_filters(
 }
 
 /// Reads filters, each behind its bar, and the end of their tag, and puts them behind those that are given.
-#[tactic(auto, using(tera_expect::proofs::Going::on_the_way))]
+#[tactic(auto, using(tera_expect::proofs::TakingLemmas::on_the_way))]
 pub(crate) fn filters_to_end(
     setting: &Setting<'_>,
     cursor: &mut Cursor<'_>,
@@ -91,7 +91,7 @@ pub(crate) fn filters_to_end(
 }
 
 /// Reads a filter and others, each of those behind its bar, and the end of their tag.
-#[tactic(auto, using(tera_expect::proofs::Going::behind_tokens))]
+#[tactic(auto, using(tera_expect::proofs::TakingLemmas::behind_tokens))]
 pub(crate) fn section_to_end(
     setting: &Setting<'_>,
     cursor: &mut Cursor<'_>,
@@ -108,7 +108,7 @@ pub(crate) fn section_to_end(
 }
 
 /// Reads the attributes of a call of a component, the `>` behind them, and the end of their tag.
-#[tactic(auto, using(tera_expect::proofs::Going::on_the_way))]
+#[tactic(auto, using(tera_expect::proofs::TakingLemmas::on_the_way))]
 pub(crate) fn attributes_to_end(
     setting: &Setting<'_>,
     cursor: &mut Cursor<'_>,

@@ -34,7 +34,7 @@ use tera_tree::Node;
 
 /// Reads the next item of a body, where one stands there.
 #[cycle(bodies)]
-#[tactic(auto, using(tera_expect::proofs::Going::took_all, crate::proofs::Refusing::took_inside, crate::proofs::Refusing::memory_inside))]
+#[tactic(auto, using(tera_expect::proofs::TakingLemmas::took_all, crate::proofs::RefusalLemmas::took_inside, crate::proofs::RefusalLemmas::memory_inside))]
 pub(crate) fn item(
     setting: &Setting<'_>,
     cursor: &mut Cursor<'_>,
@@ -64,7 +64,7 @@ pub(crate) fn item(
 }
 
 // A text, which comes next.
-#[tactic(auto, using(crate::proofs::Refusing::memory_inside))]
+#[tactic(auto, using(crate::proofs::RefusalLemmas::memory_inside))]
 fn text(cursor: &mut Cursor<'_>) -> Result<Added, Error>
     requires { fronts.Holds ≡ kind_of (front cursor.old.left) }
     ensures gives { GivesText result cursor.new.left (front cursor.old.left) }
@@ -99,7 +99,7 @@ fn content(alloc: Global, text: &str) -> Result<Added, AllocError>
 }
 
 /// A variable tag, which comes next.
-#[tactic(auto, using(tera_expect::proofs::Going::took_all, crate::proofs::Refusing::took_inside, crate::proofs::Refusing::memory_inside))]
+#[tactic(auto, using(tera_expect::proofs::TakingLemmas::took_all, crate::proofs::RefusalLemmas::took_inside, crate::proofs::RefusalLemmas::memory_inside))]
 pub(crate) fn shown(
     setting: &Setting<'_>,
     cursor: &mut Cursor<'_>,
@@ -117,7 +117,7 @@ pub(crate) fn shown(
 }
 
 /// Takes the start of a tag and its first token, which come next.
-#[tactic(auto, using(tera_expect::proofs::Going::behind_tokens))]
+#[tactic(auto, using(tera_expect::proofs::TakingLemmas::behind_tokens))]
 pub(crate) fn enter(cursor: &mut Cursor<'_>, opener: Opener) -> Result<(), Error>
     requires { fronts.Opens opener ≡ kind_of (front cursor.old.left) }
     ensures enters { IfOk result (λ _. Enters (opener_of opener) cursor.old.left cursor.new) }

@@ -22,7 +22,7 @@ use tera_tree::{Node, build};
 
 /// Reads the rest of a `for`, whose word was taken last.
 #[cycle(bodies)]
-#[tactic(auto, using(tera_expect::proofs::Going::on_the_way))]
+#[tactic(auto, using(tera_expect::proofs::TakingLemmas::on_the_way))]
 pub(crate) fn for_loop(
     setting: &Setting<'_>,
     cursor: &mut Cursor<'_>,
@@ -51,7 +51,7 @@ pub(crate) fn for_loop(
 
 /// Reads an `else` with its body, where one stands there.
 #[cycle(bodies)]
-#[tactic(auto, using(tera_expect::proofs::Going::on_the_way))]
+#[tactic(auto, using(tera_expect::proofs::TakingLemmas::on_the_way))]
 pub(crate) fn else_body(
     setting: &Setting<'_>,
     cursor: &mut Cursor<'_>,

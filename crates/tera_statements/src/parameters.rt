@@ -39,7 +39,7 @@ pub(crate) struct Parameters {
 }
 
 /// Reads the parameters of a component, behind their opening parenthesis.
-#[tactic(auto, using(tera_expect::proofs::Going::on_the_way))]
+#[tactic(auto, using(tera_expect::proofs::TakingLemmas::on_the_way))]
 pub(crate) fn read_parameters(
     setting: &Setting<'_>,
     cursor: &mut Cursor<'_>,
@@ -75,7 +75,7 @@ pub(crate) fn read_parameters(
 }
 
 // A default: a literal, a negative number, a word for no value, a constant array or a constant map.
-#[tactic(auto, using(tera_expect::proofs::Going::behind_tokens))]
+#[tactic(auto, using(tera_expect::proofs::TakingLemmas::behind_tokens))]
 fn default_value(setting: &Setting<'_>, cursor: &mut Cursor<'_>) -> Result<Value, Error>
     ensures gives { GivesBy IsDefault result cursor.new.left (default_of (limits_of setting.now.limits) cursor.old.left) }
     ensures refusal { IfErr result (Refuses cursor.old) }
@@ -100,7 +100,7 @@ fn default_value(setting: &Setting<'_>, cursor: &mut Cursor<'_>) -> Result<Value
 }
 
 // The number behind a minus, which was taken last.
-#[tactic(auto, using(tera_expect::proofs::Going::behind_tokens))]
+#[tactic(auto, using(tera_expect::proofs::TakingLemmas::behind_tokens))]
 fn negative(cursor: &mut Cursor<'_>) -> Result<Value, Error>
     ensures gives { GivesBy IsDefault result cursor.new.left (minus_of cursor.old.span cursor.old.left) }
     ensures refusal { IfErr result (Refuses cursor.old) }
@@ -127,7 +127,7 @@ fn no_value(cursor: &Cursor<'_>, name: &str) -> Result<Value, Error>
 }
 
 // The type behind a colon, where one stands.
-#[tactic(auto, using(tera_expect::proofs::Going::on_the_way))]
+#[tactic(auto, using(tera_expect::proofs::TakingLemmas::on_the_way))]
 fn argument_type(cursor: &mut Cursor<'_>) -> Result<Option<ArgType>, Error>
     ensures gives { GivesBy IsType result cursor.new.left (annotation_in cursor.old.left (takes Colon cursor.old.left)) }
     ensures refusal { IfErr result (Refuses cursor.old) }
@@ -156,7 +156,7 @@ fn named_type(cursor: &Cursor<'_>, name: &str) -> Result<ArgType, Error>
 }
 
 // The default behind an equals sign, where one stands.
-#[tactic(auto, using(tera_expect::proofs::Going::on_the_way))]
+#[tactic(auto, using(tera_expect::proofs::TakingLemmas::on_the_way))]
 fn assigned(setting: &Setting<'_>, cursor: &mut Cursor<'_>) -> Result<Option<Value>, Error>
     ensures gives { GivesBy IsAssigned result cursor.new.left (assigned_in (limits_of setting.now.limits) cursor.old.left (takes Assign cursor.old.left)) }
     ensures refusal { IfErr result (Refuses cursor.old) }
@@ -169,7 +169,7 @@ fn assigned(setting: &Setting<'_>, cursor: &mut Cursor<'_>) -> Result<Option<Val
 }
 
 // A name that is neither `body` nor that of an earlier parameter.
-#[tactic(auto, using(tera_expect::proofs::Going::refused_behind))]
+#[tactic(auto, using(tera_expect::proofs::TakingLemmas::refused_behind))]
 fn fresh_name<'a>(cursor: &mut Cursor<'a>, seen: &Known, rest: bool) -> Result<&'a str, Error>
     ensures gives { GivesAs (name_at cursor.new.span) result cursor.new.left (fresh_name (met_of seen.now) cursor.old.left) }
     ensures refusal { IfErr result (Refuses cursor.old) }
@@ -197,7 +197,7 @@ fn repeated(cursor: &Cursor<'_>, name: &str, first: &Span, rest: bool) -> Error
 }
 
 // The name of the rest parameter, behind its dots, and the closing parenthesis.
-#[tactic(auto, using(tera_expect::proofs::Going::behind_tokens))]
+#[tactic(auto, using(tera_expect::proofs::TakingLemmas::behind_tokens))]
 fn rest_parameter(cursor: &mut Cursor<'_>, seen: &Known) -> Result<String, Error>
     ensures gives { GivesBy (λ s n. string_bytes s ≡ n.text) result cursor.new.left (taken_rest (met_of seen.now) cursor.old.left) }
     ensures refusal { IfErr result (Refuses cursor.old) }
@@ -211,7 +211,7 @@ fn rest_parameter(cursor: &mut Cursor<'_>, seen: &Known) -> Result<String, Error
 }
 
 // A parameter, whose name is kept.
-#[tactic(auto, using(tera_expect::proofs::Going::on_the_way))]
+#[tactic(auto, using(tera_expect::proofs::TakingLemmas::on_the_way))]
 fn parameter(
     setting: &Setting<'_>,
     cursor: &mut Cursor<'_>,

@@ -43,7 +43,7 @@ pub(crate) fn variable_end(cursor: &mut Cursor<'_>) -> Result<(), Error>
 }
 
 /// A string, and where it stands.
-#[tactic(auto, unfolding(tera_expect::specs::Taking::Took, tera_expect::specs::Taking::Refuses), using(tera_expect::proofs::Going::memory_refused))]
+#[tactic(auto, unfolding(tera_expect::specs::Taking::Took, tera_expect::specs::Taking::Refuses), using(tera_expect::proofs::TakingLemmas::memory_refused))]
 pub(crate) fn quote(cursor: &mut Cursor<'_>) -> Result<(String, Span), Error>
     ensures gives { GivesBy IsQuote result cursor.new.left (taken_quote cursor.old.left) }
     ensures refusal { IfErr result (Refuses cursor.old) }
@@ -60,7 +60,7 @@ pub(crate) fn quote(cursor: &mut Cursor<'_>) -> Result<(String, Span), Error>
 
 /// Why nothing that is known stands here: the lexical fault, the end of the input, or an unknown tag, which is told
 /// at its first token. What is there is taken.
-#[tactic(auto, using(tera_expect::proofs::Going::refused_behind, crate::proofs::Refusing::took_inside))]
+#[tactic(auto, using(tera_expect::proofs::TakingLemmas::refused_behind, crate::proofs::RefusalLemmas::took_inside))]
 pub(crate) fn unknown_tag(cursor: &mut Cursor<'_>) -> Error
     ensures refusal { Refuses cursor.old result }
     ensures inside { is_end cursor.old.left ≡ false → RefusesIn cursor.old result }
@@ -72,7 +72,7 @@ pub(crate) fn unknown_tag(cursor: &mut Cursor<'_>) -> Error
 }
 
 // Takes the start of a tag and its first token, or a token that starts no tag.
-#[tactic(auto, using(tera_expect::proofs::Going::behind_tokens, crate::proofs::Refusing::took_inside, crate::proofs::Refusing::untaken_inside))]
+#[tactic(auto, using(tera_expect::proofs::TakingLemmas::behind_tokens, crate::proofs::RefusalLemmas::took_inside, crate::proofs::RefusalLemmas::untaken_inside))]
 fn begin_tag(cursor: &mut Cursor<'_>) -> Result<(), Error>
     ensures refusal { IfErr result (Refuses cursor.old) }
     ensures inside { IfErr result (λ e. is_end cursor.old.left ≡ false → RefusesIn cursor.old e) }
@@ -96,7 +96,7 @@ pub(crate) fn closes(cursor: &Cursor<'_>, closer: Closer) -> bool
 }
 
 /// The start of a tag, with this closing token.
-#[tactic(auto, using(tera_expect::proofs::Going::behind_tokens))]
+#[tactic(auto, using(tera_expect::proofs::TakingLemmas::behind_tokens))]
 pub(crate) fn closed(cursor: &mut Cursor<'_>, closer: Closer) -> Result<(), Error>
     ensures gives { Passes result cursor.new.left (closed (closer_of closer) cursor.old.left) }
     ensures refusal { IfErr result (Refuses cursor.old) }
@@ -111,7 +111,7 @@ pub(crate) fn closed(cursor: &mut Cursor<'_>, closer: Closer) -> Result<(), Erro
 }
 
 /// A tag that holds this closing token alone.
-#[tactic(auto, using(tera_expect::proofs::Going::behind_tokens))]
+#[tactic(auto, using(tera_expect::proofs::TakingLemmas::behind_tokens))]
 pub(crate) fn closed_tag(cursor: &mut Cursor<'_>, closer: Closer) -> Result<(), Error>
     ensures gives { Passes result cursor.new.left (closed_tag (closer_of closer) cursor.old.left) }
     ensures refusal { IfErr result (Refuses cursor.old) }

@@ -20,7 +20,7 @@ use tera_lexer::Cursor;
 use tera_tree::{Node, build};
 
 /// Reads the rest of an `include`.
-#[tactic(auto, using(tera_expect::proofs::Going::behind_tokens))]
+#[tactic(auto, using(tera_expect::proofs::TakingLemmas::behind_tokens))]
 pub(crate) fn include(cursor: &mut Cursor<'_>, around: &Around) -> Result<Added, Error>
     ensures gives { AddsAlone around.now result cursor.new (λ path start seen. include_of start cursor.old.span seen cursor.old.left) }
     ensures refusal { IfErr result (Refuses cursor.old) }
@@ -60,7 +60,7 @@ impl Jump {
 }
 
 /// Reads the rest of a `break` or a `continue`.
-#[tactic(auto, using(tera_expect::proofs::Going::behind_tokens))]
+#[tactic(auto, using(tera_expect::proofs::TakingLemmas::behind_tokens))]
 pub(crate) fn read_jump(
     cursor: &mut Cursor<'_>,
     around: &Around,
@@ -119,7 +119,7 @@ impl<'p> Extension<'p> {
 }
 
 /// Reads the rest of an `extends`.
-#[tactic(auto, using(tera_expect::proofs::Going::behind_tokens))]
+#[tactic(auto, using(tera_expect::proofs::TakingLemmas::behind_tokens))]
 pub(crate) fn extends(
     cursor: &mut Cursor<'_>,
     around: &Around,

@@ -149,7 +149,7 @@ pub fn read_template(mut cursor: Cursor<'_>, limits: Limits) -> Result<ParserOut
 }
 
 // Reads a whole template.
-#[tactic(auto, using(crate::proofs::Refusing::goes_inside, crate::proofs::Refusing::memory_inside))]
+#[tactic(auto, using(crate::proofs::RefusalLemmas::goes_inside, crate::proofs::RefusalLemmas::memory_inside))]
 fn whole(setting: &Setting<'_>, cursor: &mut Cursor<'_>) -> Result<ParserOutput, Error>
     ensures gives { ReadsTemplate (limits_of setting.now.limits) result cursor.old.left }
     ensures refusal { IfErr result (RefusesIn cursor.old) }
@@ -176,7 +176,7 @@ fn whole(setting: &Setting<'_>, cursor: &mut Cursor<'_>) -> Result<ParserOutput,
 }
 
 // Reads the next item of the top level, where one stands there, and tells the phase behind it.
-#[tactic(auto, using(crate::proofs::Refusing::memory_inside))]
+#[tactic(auto, using(crate::proofs::RefusalLemmas::memory_inside))]
 fn next_item(
     setting: &Setting<'_>,
     cursor: &mut Cursor<'_>,
@@ -222,7 +222,7 @@ fn refuse_extends(
 }
 
 // That an `extends`, which comes next, stands where none may. It is taken up to its string, at which that is told.
-#[tactic(auto, using(crate::proofs::Refusing::took_inside))]
+#[tactic(auto, using(crate::proofs::RefusalLemmas::took_inside))]
 fn late_extends(cursor: &mut Cursor<'_>, parent: Option<&str>) -> Error
     requires { fronts.Opens openers.Extends ≡ kind_of (front cursor.old.left) }
     ensures { RefusesIn cursor.old result }
@@ -237,7 +237,7 @@ fn late_extends(cursor: &mut Cursor<'_>, parent: Option<&str>) -> Error
 }
 
 // Takes an `extends`, which comes next, up to its string.
-#[tactic(auto, using(tera_expect::proofs::Going::took_all, crate::proofs::Refusing::took_inside, crate::proofs::Refusing::memory_inside))]
+#[tactic(auto, using(tera_expect::proofs::TakingLemmas::took_all, crate::proofs::RefusalLemmas::took_inside, crate::proofs::RefusalLemmas::memory_inside))]
 fn take_extends(cursor: &mut Cursor<'_>) -> Result<(), Error>
     requires { fronts.Opens openers.Extends ≡ kind_of (front cursor.old.left) }
     ensures refusal { IfErr result (RefusesIn cursor.old) }

@@ -2,9 +2,9 @@ use Rattle.std.proofs.Common.{ap, ◌∙◌, inr, arith}
 use Rattle.tera_grammar.proofs.expressions.Stack.{unwind_none, none_opens}
 use Rattle.tera_grammar.specs.expressions.Stack.{unwind}
 use Rattle.tera_reader.specs.Frames.{frame_view}
-use Rattle.tera_expect.proofs.Going.{took_size, took_all, goes_size, eats_size}
-use Rattle.tera_reader.proofs.Closing.{names_size}
-use Rattle.tera_reader.proofs.Stacking.{went_goes, one_more}
+use Rattle.tera_expect.proofs.TakingLemmas.{took_size, took_all, goes_size, eats_size}
+use Rattle.tera_reader.proofs.ComponentCallsLemmas.{names_size}
+use Rattle.tera_reader.proofs.StackLemmas.{went_goes, one_more}
 use Rattle.tera_reader.proofs.+reader.Answers.Turning as turns
 use Rattle.tera_reader.proofs.+reader.Answers.Heading as heads
 use Rattle.tera_reader.proofs.+reader.Answers.Suffixing as suffixes

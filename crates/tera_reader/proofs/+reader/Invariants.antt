@@ -12,12 +12,12 @@ use Rattle.tera_reader.specs.Frames.{frame_view, state_view, HoldsNegatable, Wen
 use Rattle.tera_parts.specs.Rooms.{room_of}
 use Rattle.tera_parts.specs.Rows.{reader_of}
 use Rattle.tera_expect.specs.Taking.{GoesOn, name_in, Took}
-use Rattle.tera_reader.proofs.Arguing.{Arguing, Argued}
-use Rattle.tera_reader.proofs.Linking.{Chaining}
-use Rattle.tera_reader.proofs.Listing.{Listing, Listed}
-use Rattle.tera_reader.proofs.RowSteps.{Rowing, Gone}
-use Rattle.tera_reader.proofs.Pairing.{Pairing, Paired}
-use Rattle.tera_reader.proofs.Attributing.{Attributing}
+use Rattle.tera_reader.proofs.ArgumentsLemmas.{Arguing, Argued}
+use Rattle.tera_reader.proofs.ChainsLemmas.{Chaining}
+use Rattle.tera_reader.proofs.ItemsLemmas.{Listing, Listed}
+use Rattle.tera_reader.proofs.RowsLemmas.{Rowing, Gone}
+use Rattle.tera_reader.proofs.MapsLemmas.{Pairing, Paired}
+use Rattle.tera_reader.proofs.AttributesLemmas.{Attributing}
 use Rattle.tera_reader.proofs.+reader.Given as goal
 
 abbrev pub invariant-stack::expression-steps : goal.invariant-stack::expression-steps

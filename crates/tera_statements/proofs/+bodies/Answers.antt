@@ -1,5 +1,5 @@
 use Rattle.std.proofs.Common.{arith}
-use Rattle.tera_statements.proofs.Bodying.{not_both}
+use Rattle.tera_statements.proofs.BodiesLemmas.{not_both}
 use Rattle.tera_statements.proofs.+bodies.Answers.Bodying as bodies
 use Rattle.tera_statements.proofs.+bodies.Answers.Itemizing as items
 use Rattle.tera_statements.proofs.+bodies.Answers.Capturing as captures

@@ -1,5 +1,5 @@
-use Rattle.tera_expr.proofs.Ending.{path_ended}
-use Rattle.tera_expr.proofs.Promised.{path_was_found, path_complete}
+use Rattle.tera_expr.proofs.EndsLemmas.{path_ended}
+use Rattle.tera_expr.proofs.PromisesLemmas.{path_was_found, path_complete}
 use Rattle.tera_expr.proofs.components.component_name.Goals as goal
 
 pub returns-clause-found : goal.returns-clause-found

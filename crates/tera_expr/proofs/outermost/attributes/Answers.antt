@@ -1,5 +1,5 @@
 use Rattle.tera_parts.specs.Rooms.{limits_of}
-use Rattle.tera_expr.proofs.Promised.{attributes_found, attributes_complete}
+use Rattle.tera_expr.proofs.PromisesLemmas.{attributes_found, attributes_complete}
 use Rattle.tera_expr.proofs.outermost.attributes.Goals as goal
 
 pub returns-clause-found : goal.returns-clause-found

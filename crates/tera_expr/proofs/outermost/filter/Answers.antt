@@ -1,5 +1,5 @@
 use Rattle.tera_parts.specs.Rooms.{limits_of}
-use Rattle.tera_expr.proofs.Promised.{filter_was_found, filter_complete}
+use Rattle.tera_expr.proofs.PromisesLemmas.{filter_was_found, filter_complete}
 use Rattle.tera_expr.proofs.outermost.filter.Goals as goal
 
 pub returns-clause-found : goal.returns-clause-found

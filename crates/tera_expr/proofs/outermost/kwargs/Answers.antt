@@ -1,5 +1,5 @@
 use Rattle.tera_parts.specs.Rooms.{limits_of}
-use Rattle.tera_expr.proofs.Promised.{kwargs_were_found, kwargs_complete}
+use Rattle.tera_expr.proofs.PromisesLemmas.{kwargs_were_found, kwargs_complete}
 use Rattle.tera_expr.proofs.outermost.kwargs.Goals as goal
 
 pub returns-clause-found : goal.returns-clause-found

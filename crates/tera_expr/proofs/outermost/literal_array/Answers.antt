@@ -1,5 +1,5 @@
 use Rattle.tera_parts.specs.Rooms.{limits_of}
-use Rattle.tera_expr.proofs.Promised.{array_was_found, array_complete}
+use Rattle.tera_expr.proofs.PromisesLemmas.{array_was_found, array_complete}
 use Rattle.tera_expr.proofs.outermost.literal_array.Goals as goal
 
 pub returns-clause-found : goal.returns-clause-found

@@ -1,5 +1,5 @@
 use Rattle.tera_parts.specs.Rooms.{limits_of}
-use Rattle.tera_expr.proofs.Promised.{map_was_found, map_complete}
+use Rattle.tera_expr.proofs.PromisesLemmas.{map_was_found, map_complete}
 use Rattle.tera_expr.proofs.outermost.literal_map.Goals as goal
 
 pub returns-clause-found : goal.returns-clause-found

@@ -1,5 +1,5 @@
 use Rattle.tera_parts.specs.Rooms.{limits_of}
-use Rattle.tera_expr.proofs.Promised.{found, complete}
+use Rattle.tera_expr.proofs.PromisesLemmas.{found, complete}
 use Rattle.tera_expr.proofs.whole.expression.Goals as goal
 
 pub returns-clause-found : goal.returns-clause-found

@@ -3,7 +3,7 @@ use Rattle.tera_nodes.specs.View.{args_view}
 use Rattle.tera_grammar.specs.Options.{◌>>=◌}
 use Rattle.tera_expect.specs.Taking.{name_at}
 use Rattle.tera_parts.specs.Rows.{has_argument}
-use Rattle.tera_parts.proofs.Arguing.{has_found}
+use Rattle.tera_parts.proofs.ArgumentsLemmas.{has_found}
 use Rattle.tera_parts.proofs.arguments.argument_name.Goals as goal
 
 pub returns-then-contains_key-clause-gives : goal.returns-then-contains_key-clause-gives

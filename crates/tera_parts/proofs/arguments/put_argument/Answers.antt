@@ -1,7 +1,7 @@
 use Rattle.std.proofs.Common.{ap, ◌∙◌}
 use Rattle.tera_nodes.specs.View.{args_view, expression_view}
 use Rattle.tera_grammar.specs.expressions.Output.{put_arg}
-use Rattle.tera_parts.proofs.Arguing.{put_view}
+use Rattle.tera_parts.proofs.ArgumentsLemmas.{put_view}
 use Rattle.tera_parts.proofs.arguments.put_argument.Goals as goal
 
 pub returns-clause-puts : goal.returns-clause-puts

@@ -1,5 +1,5 @@
 use Rattle.std.proofs.Common.{inr}
-use Rattle.tera_parts.proofs.Closing.{closed_gives, not_closed}
+use Rattle.tera_parts.proofs.AttributesLemmas.{closed_gives, not_closed}
 use Rattle.tera_parts.proofs.attributes.close_component.Goals as goal
 
 pub returns-then-eat-clause-gives : goal.returns-then-eat-clause-gives

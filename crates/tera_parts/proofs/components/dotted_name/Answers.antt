@@ -1,8 +1,8 @@
 use Rattle.std.proofs.Common.{rules, ◌≡◌, sym, subst, ◌++◌, codes, string_bytes}
 use Rattle.std.proofs.lemmas.Result.{err_from_is_err_and}
 use Rattle.tera_expect.specs.Taking.{name_at}
-use Rattle.tera_parts.proofs.Joining.{Joining, begun, start_failed, more, failed, ended}
-use Rattle.tera_expect.proofs.Going.{took_all}
+use Rattle.tera_parts.proofs.PathsLemmas.{Joining, begun, start_failed, more, failed, ended}
+use Rattle.tera_expect.proofs.TakingLemmas.{took_all}
 use Rattle.tera_parts.proofs.components.dotted_name.Goals as goal
 
 pub returns-in_err-first-clause-gives : goal.returns-in_err-first-clause-gives

@@ -1,7 +1,7 @@
 use Rattle.std.proofs.Common.{string_bytes}
 use Rattle.tera_lexer.specs.code.Cursors.{size}
 use Rattle.tera_expect.specs.Taking.{Took}
-use Rattle.tera_parts.proofs.Joining.{Joining}
+use Rattle.tera_parts.proofs.PathsLemmas.{Joining}
 use Rattle.tera_parts.proofs.components.dotted_name.Given as goal
 
 abbrev pub invariant-names : goal.invariant-names

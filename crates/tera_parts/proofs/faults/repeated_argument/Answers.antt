@@ -1,4 +1,4 @@
-use Rattle.tera_expect.proofs.Going.{same_refused}
+use Rattle.tera_expect.proofs.TakingLemmas.{same_refused}
 use Rattle.tera_parts.proofs.faults.repeated_argument.Goals as goal
 
 pub returns-then-eq : goal.returns-then-eq

@@ -1,5 +1,5 @@
 use Rattle.std.proofs.Common.{sym, ◌∙◌}
-use Rattle.tera_parts.proofs.Fronts.{minus_begins, not_begins}
+use Rattle.tera_parts.proofs.FrontsLemmas.{minus_begins, not_begins}
 use Rattle.tera_parts.proofs.front.begins_prefix.Goals as goal
 
 pub returns-then-begins : goal.returns-then-begins

@@ -1,4 +1,4 @@
-use Rattle.tera_parts.proofs.Fronts.{condition_taken, front_took, chosen_kind}
+use Rattle.tera_parts.proofs.FrontsLemmas.{condition_taken, front_took, chosen_kind}
 use Rattle.tera_parts.proofs.front.take_condition.Goals as goal
 
 pub returns-clause-past : goal.returns-clause-past

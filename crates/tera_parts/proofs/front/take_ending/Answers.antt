@@ -1,4 +1,4 @@
-use Rattle.tera_parts.proofs.Fronts.{ending_taken, front_took, some_kind}
+use Rattle.tera_parts.proofs.FrontsLemmas.{ending_taken, front_took, some_kind}
 use Rattle.tera_parts.proofs.front.take_ending.Goals as goal
 
 pub returns-clause-past : goal.returns-clause-past

@@ -1,8 +1,8 @@
 use Rattle.std.proofs.Common.{subst}
 use Rattle.tera_grammar.specs.expressions.Reading.Front as reading
 use Rattle.tera_parts.specs.Fronts.{operator_of}
-use Rattle.tera_parts.proofs.Fronts.{OneOrTwo, operator_taken, not_in_taken, front_took, not_in_took, joined_kind}
-use Rattle.tera_expect.proofs.Going.{took_all}
+use Rattle.tera_parts.proofs.FrontsLemmas.{OneOrTwo, operator_taken, not_in_taken, front_took, not_in_took, joined_kind}
+use Rattle.tera_expect.proofs.TakingLemmas.{took_all}
 use Rattle.tera_parts.proofs.front.take_operator.Goals as goal
 
 pub returns-then-negated-clause-past : goal.returns-then-negated-clause-past

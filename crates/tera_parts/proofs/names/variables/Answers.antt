@@ -5,7 +5,7 @@ use Rattle.tera_grammar.specs.expressions.Reading.Front.{at}
 use Rattle.tera_grammar.specs.expressions.Reading.Atoms.{variables_of}
 use Rattle.tera_grammar.specs.statements.Reading.Heads.{free_name}
 use Rattle.tera_expect.specs.Taking.{name_at}
-use Rattle.tera_parts.proofs.Variables.{no_variable, one_variable, two_variables, no_second_variable}
+use Rattle.tera_parts.proofs.NamesLemmas.{no_variable, one_variable, two_variables, no_second_variable}
 use Rattle.tera_expect.proofs.Steps.{failed_as}
 use Rattle.tera_parts.proofs.names.variables.Goals as goal
 

@@ -2,7 +2,7 @@ use Rattle.std.proofs.Common.{not, Ok, subst}
 use Rattle.tera_lexer.specs.code.Cursors.{Position}
 use Rattle.tera_parts.specs.Rows.{Continues}
 use Rattle.tera_expect.specs.Taking.{mark_of}
-use Rattle.tera_parts.proofs.Continuing.{comma_then}
+use Rattle.tera_parts.proofs.RowsLemmas.{comma_then}
 use Rattle.tera_parts.proofs.rows.more.Goals as goal
 
 pub returns-clause-gives : goal.returns-clause-gives

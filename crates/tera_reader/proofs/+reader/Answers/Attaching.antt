@@ -15,9 +15,9 @@ use Rattle.tera_parts.specs.Attributes.{GivesQuote}
 use Rattle.tera_parts.specs.Rooms.{room_of}
 use Rattle.tera_parts.specs.Rows.{reader_of}
 use Rattle.tera_expect.specs.Taking.{GoesOn, name_at, name_in}
-use Rattle.tera_reader.proofs.Attributing.{attributing_begins, attributing_more, attributing_ends, attributing_fails, named_gives, named_lacks, nothing_gives, spread_gives, spread_lacks, spread_missing, brace_at, bare_gives, assigned_lacks, assigned_gives, value_braced, value_quoted, braced_given, braced_fails, braced_unclosed}
-use Rattle.tera_reader.proofs.Closing.{unnamed_component, component_no_path, component_no_attributes, component_unclosed, component_given, component_shown}
-use Rattle.tera_expect.proofs.Going.{took_all, took_further, stays, goes_further, took_goes, took_size}
+use Rattle.tera_reader.proofs.AttributesLemmas.{attributing_begins, attributing_more, attributing_ends, attributing_fails, named_gives, named_lacks, nothing_gives, spread_gives, spread_lacks, spread_missing, brace_at, bare_gives, assigned_lacks, assigned_gives, value_braced, value_quoted, braced_given, braced_fails, braced_unclosed}
+use Rattle.tera_reader.proofs.ComponentCallsLemmas.{unnamed_component, component_no_path, component_no_attributes, component_unclosed, component_given, component_shown}
+use Rattle.tera_expect.proofs.TakingLemmas.{took_all, took_further, stays, goes_further, took_goes, took_size}
 use Rattle.tera_reader.proofs.+reader.Goals as goal
 
 pub component_calls::component-returns-then-not-begins_name-clause-gives : goal.component_calls::component-returns-then-not-begins_name-clause-gives

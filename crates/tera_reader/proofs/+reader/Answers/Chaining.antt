@@ -12,8 +12,8 @@ use Rattle.tera_grammar.specs.expressions.Reading.Parts.{links_of}
 use Rattle.tera_reader.specs.Chains.{subscripted}
 use Rattle.tera_parts.specs.Rooms.{room_of}
 use Rattle.tera_expect.specs.Taking.{name_in}
-use Rattle.tera_expect.proofs.Going.{stays, eats_size, goes_further, took_goes}
-use Rattle.tera_reader.proofs.Linking.{Chaining, chaining_begins, chain_whole, chain_longer, chaining_fails, shrinks, joint_of, bracket_of, joint_there, bracket_there, joint_optional, bracket_optional, field_adds, field_lacks, field_uncounted, item_adds, item_lacks, item_uncounted, ends_alike}
+use Rattle.tera_expect.proofs.TakingLemmas.{stays, eats_size, goes_further, took_goes}
+use Rattle.tera_reader.proofs.ChainsLemmas.{Chaining, chaining_begins, chain_whole, chain_longer, chaining_fails, shrinks, joint_of, bracket_of, joint_there, bracket_there, joint_optional, bracket_optional, field_adds, field_lacks, field_uncounted, item_adds, item_lacks, item_uncounted, ends_alike}
 use Rattle.tera_reader.proofs.+reader.Goals as goal
 
 pub chains::with_links-growing-init : goal.chains::with_links-growing-init

@@ -16,11 +16,11 @@ use Rattle.tera_parts.specs.Rooms.{room_of}
 use Rattle.tera_parts.specs.Rows.{reader_of}
 use Rattle.tera_expect.specs.Taking.{mark_of}
 use Rattle.tera_parts.specs.declared.limits.Scope.{Scope}
-use Rattle.tera_reader.proofs.Arraying.{no_room, empty_read, by_spread, by_plain, by_for, by_items, head_by}
-use Rattle.tera_reader.proofs.Comprehending.{same_parts, by_variables, no_in, by_target, by_condition, by_end, no_end, extra_absent, extra_present}
-use Rattle.tera_expect.proofs.Going.{goes_took, took_all}
-use Rattle.tera_reader.proofs.Listing.{Listed, all_of, no_items, array_shown, lacks_item, lacks_bracket, one_item, first_item, first_lacks_end, array_read, array_missed, spread_read, plain_read}
-use Rattle.tera_reader.proofs.RowSteps.{fails_by}
+use Rattle.tera_reader.proofs.ArraysLemmas.{no_room, empty_read, by_spread, by_plain, by_for, by_items, head_by}
+use Rattle.tera_reader.proofs.ComprehensionsLemmas.{same_parts, by_variables, no_in, by_target, by_condition, by_end, no_end, extra_absent, extra_present}
+use Rattle.tera_expect.proofs.TakingLemmas.{goes_took, took_all}
+use Rattle.tera_reader.proofs.ItemsLemmas.{Listed, all_of, no_items, array_shown, lacks_item, lacks_bracket, one_item, first_item, first_lacks_end, array_read, array_missed, spread_read, plain_read}
+use Rattle.tera_reader.proofs.RowsLemmas.{fails_by}
 use Rattle.tera_reader.proofs.+reader.Goals as goal
 
 pub arrays::array-returns-in_err-room-clause-gives : goal.arrays::array-returns-in_err-room-clause-gives

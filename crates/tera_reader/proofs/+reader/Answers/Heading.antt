@@ -11,8 +11,8 @@ use Rattle.tera_grammar.specs.expressions.Reading.Front.{at}
 use Rattle.tera_grammar.specs.expressions.Stack.{unwind}
 use Rattle.tera_reader.specs.Frames.{frame_view, state_view, level_view}
 use Rattle.tera_parts.specs.Rooms.{room_of}
-use Rattle.tera_expect.proofs.Going.{refused_behind}
-use Rattle.tera_reader.proofs.Stacking.{minus_opens, given_as, missed_as, literal_missed, begins_none, word_none, word_negates, word_given, word_missed}
+use Rattle.tera_expect.proofs.TakingLemmas.{refused_behind}
+use Rattle.tera_reader.proofs.StackLemmas.{minus_opens, given_as, missed_as, literal_missed, begins_none, word_none, word_negates, word_given, word_missed}
 use Rattle.tera_reader.proofs.+reader.Goals as goal
 
 pub stack::operand-returns-clause-keeps : goal.stack::operand-returns-clause-keeps

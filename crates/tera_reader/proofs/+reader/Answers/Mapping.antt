@@ -12,9 +12,9 @@ use Rattle.tera_parts.specs.Keys.{taken_literal}
 use Rattle.tera_parts.specs.Rooms.{room_of}
 use Rattle.tera_parts.specs.Rows.{reader_of}
 use Rattle.tera_parts.proofs.ConstantMaps.{negatable_if_ok}
-use Rattle.tera_expect.proofs.Going.{took_size, took_all}
-use Rattle.tera_reader.proofs.Pairing.{Pairing, Paired, no_entries, none_at_all, lacks_entry, lacks_end, one_entry, map_missed, map_given, spread_read, no_key, no_colon, pair_read}
-use Rattle.tera_reader.proofs.RowSteps.{begun, gone_begun, gone_on, fails_by}
+use Rattle.tera_expect.proofs.TakingLemmas.{took_size, took_all}
+use Rattle.tera_reader.proofs.MapsLemmas.{Pairing, Paired, no_entries, none_at_all, lacks_entry, lacks_end, one_entry, map_missed, map_given, spread_read, no_key, no_colon, pair_read}
+use Rattle.tera_reader.proofs.RowsLemmas.{begun, gone_begun, gone_on, fails_by}
 use Rattle.tera_reader.proofs.+reader.Goals as goal
 
 pub maps::map-elements-init : goal.maps::map-elements-init

@@ -7,7 +7,7 @@ use Rattle.tera_grammar.specs.expressions.Marks.{RightBracket}
 use Rattle.tera_grammar.specs.expressions.Reading.Front.{at, takes}
 use Rattle.tera_grammar.specs.expressions.Reading.Loop.{expr}
 use Rattle.tera_parts.specs.Rooms.{room_of}
-use Rattle.tera_reader.proofs.Slicing.{sub_from_colon, sub_fails, sub_sliced, index_unclosed, index_given, indexed_alike, read_alike, untaken, slice_given, slice_without_end, slice_without_step, slice_unclosed, sliced_alike, end_before_colon, end_before_bracket, end_given, no_step, step_given}
+use Rattle.tera_reader.proofs.SubscriptsLemmas.{sub_from_colon, sub_fails, sub_sliced, index_unclosed, index_given, indexed_alike, read_alike, untaken, slice_given, slice_without_end, slice_without_step, slice_unclosed, sliced_alike, end_before_colon, end_before_bracket, end_given, no_step, step_given}
 use Rattle.tera_reader.proofs.+reader.Goals.{subscripts::end-then-begins-via-then-begins, subscripts::end-then-begins-via-else-begins+then-begins-2}
 use Rattle.tera_reader.proofs.+reader.Goals as goal
 

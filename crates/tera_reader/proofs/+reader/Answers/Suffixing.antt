@@ -16,11 +16,11 @@ use Rattle.tera_parts.specs.Fronts.{ending_of}
 use Rattle.tera_parts.specs.Rooms.{room_of}
 use Rattle.tera_parts.specs.Rows.{reader_of, reader_by}
 use Rattle.tera_expect.specs.Taking.{name_at}
-use Rattle.tera_reader.proofs.Arguing.{Arguing, Argued, none_yet, none_at_all}
+use Rattle.tera_reader.proofs.ArgumentsLemmas.{Arguing, Argued, none_yet, none_at_all}
 use Rattle.tera_reader.proofs.ArgumentRows.{no_new_name, lacks_assign, lacks_value, lacks_end, one_argument, arguments_given}
-use Rattle.tera_reader.proofs.Calling.{subscript_is, test_is, negated_is, test_fails, test_made, call_given, call_unnamed, call_fails, no_arguments, arguments_behind}
-use Rattle.tera_expect.proofs.Going.{took_size, took_all, goes_size}
-use Rattle.tera_reader.proofs.RowSteps.{begun, gone_begun, gone_on, fresh_given}
+use Rattle.tera_reader.proofs.CallsLemmas.{subscript_is, test_is, negated_is, test_fails, test_made, call_given, call_unnamed, call_fails, no_arguments, arguments_behind}
+use Rattle.tera_expect.proofs.TakingLemmas.{took_size, took_all, goes_size}
+use Rattle.tera_reader.proofs.RowsLemmas.{begun, gone_begun, gone_on, fresh_given}
 use Rattle.tera_reader.proofs.+reader.Goals as goal
 
 pub calls::suffix-returns-in_ok-with_subscript-in-Subscript-clause-gives : goal.calls::suffix-returns-in_ok-with_subscript-in-Subscript-clause-gives

@@ -8,8 +8,8 @@ use Rattle.tera_grammar.specs.expressions.Stack.{comes_to, coming, unwind}
 use Rattle.tera_reader.specs.Frames.{frame_view, state_view, Went, level_view, operand_view, HoldsNegatable}
 use Rattle.tera_parts.specs.Fronts.{front_kind, keeps_off, operator_of}
 use Rattle.tera_parts.specs.Rooms.{room_of}
-use Rattle.tera_expect.proofs.Going.{stays, goes_took, took_further, refused_further, goes_size}
-use Rattle.tera_reader.proofs.Stacking.{went_goes, took_went, closes_up, joins_more, no_link_joins, no_link_closes, chooses_more, grows_by, grows_not, goes_no_further}
+use Rattle.tera_expect.proofs.TakingLemmas.{stays, goes_took, took_further, refused_further, goes_size}
+use Rattle.tera_reader.proofs.StackLemmas.{went_goes, took_went, closes_up, joins_more, no_link_joins, no_link_closes, chooses_more, grows_by, grows_not, goes_no_further}
 use Rattle.tera_reader.proofs.+reader.Goals as goal
 
 pub stack::expression-turn-requires : goal.stack::expression-turn-requires

@@ -3,7 +3,7 @@ use Rattle.tera_nodes.specs.Tree as tree
 use Rattle.tera_nodes.specs.View.{expression_view}
 use Rattle.tera_grammar.specs.expressions.Conditions.{is_field_of}
 use Rattle.tera_expect.specs.Taking.{name_at}
-use Rattle.tera_reader.proofs.Linking.{field_read, plain_field, loop_field}
+use Rattle.tera_reader.proofs.ChainsLemmas.{field_read, plain_field, loop_field}
 use Rattle.tera_reader.proofs.chains.field.Goals as goal
 
 pub returns-then-not-of_loop-clause-gives : goal.returns-then-not-of_loop-clause-gives

@@ -1,4 +1,4 @@
-use Rattle.tera_reader.proofs.Linking.{link_taken, link_took}
+use Rattle.tera_reader.proofs.ChainsLemmas.{link_taken, link_took}
 use Rattle.tera_reader.proofs.chains.take_link.Goals as goal
 
 pub returns-clause-past : goal.returns-clause-past

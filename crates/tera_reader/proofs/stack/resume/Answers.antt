@@ -6,7 +6,7 @@ use Rattle.tera_grammar.proofs.expressions.Stack.{pushed, refuses_all}
 use Rattle.tera_reader.specs.Frames.{frame_view, level_view, operand_view}
 use Rattle.tera_parts.specs.Fronts.{operator_of}
 use Rattle.tera_parts.specs.Rooms.{room_of}
-use Rattle.tera_reader.proofs.Stacking.{stays_open, misses_else, tilde_refused, encloses_all, chooses_last}
+use Rattle.tera_reader.proofs.StackLemmas.{stays_open, misses_else, tilde_refused, encloses_all, chooses_last}
 use Rattle.tera_reader.proofs.stack.resume.Goals as goal
 
 pub returns-in_err-expect-in-Paren-clause-keeps : goal.returns-in_err-expect-in-Paren-clause-keeps

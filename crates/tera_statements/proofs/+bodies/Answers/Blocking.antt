@@ -9,10 +9,10 @@ use Rattle.tera_grammar.specs.statements.Reading.Meeting.{meet}
 use Rattle.tera_grammar.specs.statements.Reading.Parts.{tag}
 use Rattle.tera_statements.specs.Adding.{here, seen_of}
 use Rattle.tera_statements.specs.Known.{met_of}
-use Rattle.tera_statements.proofs.Blocking.{barred, block_unnamed, block_unfinished, block_empty, block_unclosed, block_given, block_kept, component_kept, definition_empty, definition_given, definition_unclosed, nested, unopened}
+use Rattle.tera_statements.proofs.BlocksLemmas.{barred, block_unnamed, block_unfinished, block_empty, block_unclosed, block_given, block_kept, component_kept, definition_empty, definition_given, definition_unclosed, nested, unopened}
 use Rattle.tera_expect.proofs.Steps.{failed_as, fails_by}
 use Rattle.tera_grammar.specs.statements.Expressions.{component_text}
-use Rattle.tera_statements.proofs.Defining.{ending_keeps, same_definition}
+use Rattle.tera_statements.proofs.ComponentsLemmas.{ending_keeps, same_definition}
 use Rattle.tera_statements.proofs.+bodies.Goals as goal
 
 pub blocks::block-returns-in_err-check_block-clause-gives : goal.blocks::block-returns-in_err-check_block-clause-gives

@@ -11,8 +11,8 @@ use Rattle.tera_statements.specs.Adding.{here}
 use Rattle.tera_statements.specs.Around.{context_of}
 use Rattle.tera_parts.specs.Rooms.{limits_of}
 use Rattle.tera_expect.specs.Taking.{GoesOn}
-use Rattle.tera_statements.proofs.Bodying.{no_depth}
-use Rattle.tera_expect.proofs.Going.{took_size, goes_further, stays, took_goes}
+use Rattle.tera_statements.proofs.BodiesLemmas.{no_depth}
+use Rattle.tera_expect.proofs.TakingLemmas.{took_size, goes_further, stays, took_goes}
 use Rattle.tera_expect.proofs.Steps.{failed_as}
 use Rattle.tera_statements.proofs.+bodies.Goals as goal
 

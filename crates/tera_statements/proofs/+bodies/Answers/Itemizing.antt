@@ -6,8 +6,8 @@ use Rattle.tera_grammar.specs.statements.Reading.Parts.{front}
 use Rattle.tera_statements.specs.Adding.{seen_of}
 use Rattle.tera_statements.specs.Kinds.{opener_of}
 use Rattle.tera_parts.specs.Rooms.{limits_of}
-use Rattle.tera_statements.proofs.Itemizing.{opens_item, opens_nothing, step_closed, step_ended, step_wrong}
-use Rattle.tera_statements.proofs.Refusing.{quiet, wrong_left}
+use Rattle.tera_statements.proofs.ItemsLemmas.{opens_item, opens_nothing, step_closed, step_ended, step_wrong}
+use Rattle.tera_statements.proofs.RefusalLemmas.{quiet, wrong_left}
 use Rattle.tera_expect.proofs.Steps.{failed_as}
 use Rattle.tera_statements.proofs.+bodies.Goals as goal
 

@@ -4,7 +4,7 @@ use Rattle.std.proofs.lemmas.Result.{err_from_is_err_and}
 use Rattle.tera_grammar.specs.statements.Reading.Parts.{finish_of, name_if_any, name_if_found, tag}
 use Rattle.tera_grammar.specs.statements.Parts.{Name, Tag}
 use Rattle.tera_expect.specs.Taking.{name_at}
-use Rattle.tera_statements.proofs.Blocking.{unclosed_block, renamed, ends_as}
+use Rattle.tera_statements.proofs.BlocksLemmas.{unclosed_block, renamed, ends_as}
 use Rattle.tera_expect.proofs.Steps.{failed_as, fails_by, passed}
 use Rattle.tera_statements.proofs.blocks.block_end.Goals as goal
 

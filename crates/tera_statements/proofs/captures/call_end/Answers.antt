@@ -4,7 +4,7 @@ use Rattle.std.proofs.lemmas.Result.{err_from_is_err_and}
 use Rattle.tera_grammar.specs.statements.Expressions.{component_text}
 use Rattle.tera_grammar.specs.statements.Parts.{AtEndCall}
 use Rattle.tera_grammar.specs.statements.Reading.Parts.{tag}
-use Rattle.tera_statements.proofs.Capturing.{call_not_closed, end_unnamed, end_renamed, end_without, end_unfinished, end_given}
+use Rattle.tera_statements.proofs.CapturesLemmas.{call_not_closed, end_unnamed, end_renamed, end_without, end_unfinished, end_given}
 use Rattle.tera_expect.proofs.Steps.{failed_as, fails_by}
 use Rattle.tera_statements.proofs.Tags.{unclosed_at_end}
 use Rattle.tera_statements.proofs.captures.call_end.Goals as goal

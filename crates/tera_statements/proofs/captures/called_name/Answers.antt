@@ -1,5 +1,5 @@
 use Rattle.std.proofs.Common.{◌∙◌, inr, sym}
-use Rattle.tera_statements.proofs.Capturing.{no_component_name}
+use Rattle.tera_statements.proofs.CapturesLemmas.{no_component_name}
 use Rattle.tera_statements.proofs.captures.called_name.Goals as goal
 
 pub returns-then-not-begins_name-clause-gives : goal.returns-then-not-begins_name-clause-gives

@@ -2,7 +2,7 @@ use Rattle.std.proofs.Common.{◌≡◌, ◌⊎◌, inl, inr, length, map, sym, 
 use Rattle.std.specs.Iterator.Adapters.{zip_first, zip_second}
 use Rattle.std.specs.Slice.Iter.{iter_rest}
 use Rattle.tera_tree.specs.Definitions.{named_value}
-use Rattle.tera_statements.proofs.Putting.{all_put}
+use Rattle.tera_statements.proofs.PairsLemmas.{all_put}
 use Rattle.tera_statements.proofs.components.by_text.Goals as goal
 
 pub returns : goal.returns

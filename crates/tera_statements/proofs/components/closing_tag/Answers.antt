@@ -1,7 +1,7 @@
 use Rattle.std.proofs.Common.{sym}
 use Rattle.std.proofs.lemmas.Result.{err_from_is_err_and}
 use Rattle.tera_grammar.specs.statements.Reading.Components.{head}
-use Rattle.tera_statements.proofs.Defining.{no_ending, other_name, ending_named}
+use Rattle.tera_statements.proofs.ComponentsLemmas.{no_ending, other_name, ending_named}
 use Rattle.tera_expect.proofs.Steps.{failed_as, passed}
 use Rattle.tera_statements.proofs.components.closing_tag.Goals as goal
 

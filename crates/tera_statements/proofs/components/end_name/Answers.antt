@@ -2,7 +2,7 @@ use Rattle.std.proofs.Common.{Some, None, inr, refl, sym, ap, ◌∙◌}
 use Rattle.std.specs.Str.{bytes_eq}
 use Rattle.tera_grammar.specs.statements.Reading.Components.{end_name_in}
 use Rattle.std.proofs.lemmas.Result.{err_from_is_err_and}
-use Rattle.tera_statements.proofs.Defining.{end_agrees, end_differs}
+use Rattle.tera_statements.proofs.ComponentsLemmas.{end_agrees, end_differs}
 use Rattle.tera_expect.proofs.Steps.{failed}
 use Rattle.tera_statements.proofs.components.end_name.Goals as goal
 

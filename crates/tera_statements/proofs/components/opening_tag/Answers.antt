@@ -1,5 +1,5 @@
 use Rattle.std.proofs.lemmas.Result.{err_from_is_err_and}
-use Rattle.tera_statements.proofs.Defining.{no_new_name, no_paren, no_parameters, no_metadata, head_unfinished, opened_given}
+use Rattle.tera_statements.proofs.ComponentsLemmas.{no_new_name, no_paren, no_parameters, no_metadata, head_unfinished, opened_given}
 use Rattle.tera_expect.proofs.Steps.{failed_as}
 use Rattle.tera_statements.proofs.components.opening_tag.Goals as goal
 

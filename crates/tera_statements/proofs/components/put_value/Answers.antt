@@ -1,7 +1,7 @@
 use Rattle.std.proofs.Common.{map, ap, ◌∙◌}
 use Rattle.tera_base.specs.ValueView.{value_view}
 use Rattle.tera_tree.specs.Definitions.{named_value}
-use Rattle.tera_statements.proofs.Putting.{put_named}
+use Rattle.tera_statements.proofs.PairsLemmas.{put_named}
 use Rattle.tera_statements.proofs.components.put_value.Goals as goal
 
 pub returns : goal.returns

@@ -1,4 +1,4 @@
-use Rattle.tera_expect.proofs.Going.{same_refused}
+use Rattle.tera_expect.proofs.TakingLemmas.{same_refused}
 use Rattle.tera_statements.proofs.faults.first_defined.Goals as goal
 
 pub returns-clause-refusal : goal.returns-clause-refusal

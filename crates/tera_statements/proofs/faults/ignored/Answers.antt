@@ -1,5 +1,5 @@
-use Rattle.tera_statements.proofs.Refusing.{took_inside}
-use Rattle.tera_statements.proofs.Topping.{covered}
+use Rattle.tera_statements.proofs.RefusalLemmas.{took_inside}
+use Rattle.tera_statements.proofs.TemplatesLemmas.{covered}
 use Rattle.tera_statements.proofs.faults.ignored.Goals as goal
 
 pub returns-in-Some : goal.returns-in-Some

@@ -1,4 +1,4 @@
-use Rattle.tera_expect.proofs.Going.{same_refused}
+use Rattle.tera_expect.proofs.TakingLemmas.{same_refused}
 use Rattle.tera_statements.proofs.faults.inside_of.Goals as goal
 
 pub returns-in-Ok-clause-refusal : goal.returns-in-Ok-clause-refusal

@@ -1,4 +1,4 @@
-use Rattle.tera_statements.proofs.Itemizing.{entered, opens_tag}
+use Rattle.tera_statements.proofs.ItemsLemmas.{entered, opens_tag}
 use Rattle.tera_statements.proofs.items.enter.Goals as goal
 
 pub returns-clause-enters : goal.returns-clause-enters

@@ -1,7 +1,7 @@
 use Rattle.std.proofs.Common.{◌∙◌, ap}
 use Rattle.tera_grammar.specs.statements.Reading.Meeting.{meet}
 use Rattle.tera_statements.specs.Known.{met_of}
-use Rattle.tera_statements.proofs.Knowing.{kept_met}
+use Rattle.tera_statements.proofs.KnownLemmas.{kept_met}
 use Rattle.tera_statements.proofs.names.keep_name.Goals as goal
 
 pub returns-clause-kept : goal.returns-clause-kept

@@ -1,4 +1,4 @@
-use Rattle.tera_statements.proofs.Knowing.{known_as}
+use Rattle.tera_statements.proofs.KnownLemmas.{known_as}
 use Rattle.tera_statements.proofs.names.place_of.Goals as goal
 
 pub returns : goal.returns

@@ -13,7 +13,7 @@ use Rattle.tera_grammar.specs.statements.Reading.Components.{default_of, minus_o
 use Rattle.tera_statements.specs.Parameters.{IsDefault}
 use Rattle.tera_parts.specs.Rooms.{limits_of}
 use Rattle.tera_expect.specs.Taking.{GivesBy, IsCounted}
-use Rattle.tera_statements.proofs.Parametering.{array_default, counted_fits, literal_default, map_default, minus_default, none_word, other_default, untaken, view_number, view_text, view_truth, word_default}
+use Rattle.tera_statements.proofs.ParametersLemmas.{array_default, counted_fits, literal_default, map_default, minus_default, none_word, other_default, untaken, view_number, view_text, view_truth, word_default}
 use Rattle.tera_statements.proofs.parameters.default_value.Goals as goal
 
 pub returns-then-begins-clause-gives : goal.returns-then-begins-clause-gives

@@ -2,7 +2,7 @@ use Rattle.std.proofs.Common.{inr, sym, ap, ◌∙◌}
 use Rattle.std.specs.Option.{is_some}
 use Rattle.tera_statements.specs.Known.{met_of}
 use Rattle.tera_expect.specs.Taking.{name_at}
-use Rattle.tera_statements.proofs.Parametering.{fresh_given, named_again}
+use Rattle.tera_statements.proofs.ParametersLemmas.{fresh_given, named_again}
 use Rattle.tera_statements.proofs.parameters.fresh_name.Goals as goal
 
 pub returns-in-Some-clause-gives : goal.returns-in-Some-clause-gives

@@ -1,5 +1,5 @@
 use Rattle.std.proofs.Common.{inr}
-use Rattle.tera_statements.proofs.Typing.{type_missing}
+use Rattle.tera_statements.proofs.TypesLemmas.{type_missing}
 use Rattle.tera_statements.proofs.parameters.named_type.Goals as goal
 
 pub returns-in-Err-clause-unnamed : goal.returns-in-Err-clause-unnamed

@@ -4,7 +4,7 @@ use Rattle.tera_lexer.specs.code.Seen.{seen}
 use Rattle.tera_lexer.specs.grammar.Tokens.{Token}
 use Rattle.tera_grammar.specs.statements.Components.{MinusDefault}
 use Rattle.tera_expect.specs.Taking.{IsCounted}
-use Rattle.tera_statements.proofs.Parametering.{negated_fits, negative_default, view_number}
+use Rattle.tera_statements.proofs.ParametersLemmas.{negated_fits, negative_default, view_number}
 use Rattle.tera_statements.proofs.parameters.negative.Goals as goal
 
 pub returns-in-Integer-clause-gives : goal.returns-in-Integer-clause-gives

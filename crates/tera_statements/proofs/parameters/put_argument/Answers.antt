@@ -1,7 +1,7 @@
 use Rattle.std.proofs.Common.{ap, ◌∙◌}
 use Rattle.tera_tree.specs.View.{argument_view}
 use Rattle.tera_statements.specs.Parameters.{arguments_view}
-use Rattle.tera_statements.proofs.Putting.{put_named}
+use Rattle.tera_statements.proofs.PairsLemmas.{put_named}
 use Rattle.tera_statements.proofs.parameters.put_argument.Goals as goal
 
 pub returns-clause-puts : goal.returns-clause-puts

@@ -1,5 +1,5 @@
 use Rattle.std.proofs.lemmas.Result.{err_from_is_err_and}
-use Rattle.tera_statements.proofs.Refusing.{untaken_inside}
+use Rattle.tera_statements.proofs.RefusalLemmas.{untaken_inside}
 use Rattle.tera_statements.proofs.parts.begin_tag.Goals as goal
 
 pub returns-in_err-token-clause-inside : goal.returns-in_err-token-clause-inside

@@ -5,7 +5,7 @@ use Rattle.tera_grammar.specs.statements.Output.{AddsNode}
 use Rattle.tera_grammar.specs.statements.Reading.{break_of}
 use Rattle.tera_grammar.specs.statements.Reading.Parts.{tag}
 use Rattle.tera_statements.specs.Simple.{jump_item}
-use Rattle.tera_statements.proofs.Jumping.{jump_adds}
+use Rattle.tera_statements.proofs.SimpleLemmas.{jump_adds}
 use Rattle.tera_expect.proofs.Steps.{failed, fails_by}
 use Rattle.tera_statements.proofs.simple.read_jump.Goals as goal
 

@@ -1,5 +1,5 @@
 use Rattle.std.proofs.Common.{◌∙◌}
-use Rattle.tera_statements.proofs.Topping.{blank_by}
+use Rattle.tera_statements.proofs.TemplatesLemmas.{blank_by}
 use Rattle.tera_statements.proofs.templates.is_blank.Goals as goal
 
 pub returns : goal.returns

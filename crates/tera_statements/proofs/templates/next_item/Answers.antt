@@ -5,8 +5,8 @@ use Rattle.tera_grammar.specs.statements.Reading.Loops.{turn, weight}
 use Rattle.tera_statements.specs.Adding.{here, seen_of}
 use Rattle.tera_parts.specs.Rooms.{limits_of}
 use Rattle.tera_statements.specs.Templates.{below_top, phase_if_any, phase_of}
-use Rattle.tera_statements.proofs.Refusing.{empty_adds, silent_turns}
-use Rattle.tera_statements.proofs.Topping.{fails_excluded, turn_excluded}
+use Rattle.tera_statements.proofs.RefusalLemmas.{empty_adds, silent_turns}
+use Rattle.tera_statements.proofs.TemplatesLemmas.{fails_excluded, turn_excluded}
 use Rattle.tera_statements.proofs.templates.next_item.Goals as goal
 
 pub returns-in_err-refuse_extends-clause-gives : goal.returns-in_err-refuse_extends-clause-gives

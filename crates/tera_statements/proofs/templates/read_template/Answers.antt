@@ -1,5 +1,5 @@
 use Rattle.tera_parts.specs.Rooms.{limits_of}
-use Rattle.tera_statements.proofs.Topping.{template_given}
+use Rattle.tera_statements.proofs.TemplatesLemmas.{template_given}
 use Rattle.tera_statements.proofs.templates.read_template.Goals as goal
 
 pub returns-clause-gives : goal.returns-clause-gives

@@ -2,8 +2,8 @@ use Rattle.std.proofs.Common.{◌∙◌, sym}
 use Rattle.tera_grammar.specs.statements.Reading.{at}
 use Rattle.tera_parts.specs.Rooms.{limits_of}
 use Rattle.tera_statements.specs.Templates.{phase_of}
-use Rattle.tera_statements.proofs.Refusing.{quiet}
-use Rattle.tera_statements.proofs.Topping.{late_excluded, no_phase}
+use Rattle.tera_statements.proofs.RefusalLemmas.{quiet}
+use Rattle.tera_statements.proofs.TemplatesLemmas.{late_excluded, no_phase}
 use Rattle.tera_statements.proofs.templates.refuse_extends.Goals as goal
 
 pub returns-in-Opens-Extends-clause-excludes : goal.returns-in-Opens-Extends-clause-excludes

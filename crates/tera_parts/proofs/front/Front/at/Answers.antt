@@ -2,7 +2,7 @@ use Rattle.std.proofs.Common.{ap, ◌∙◌, subst}
 use Rattle.tera_lexer.specs.code.Cursors.{Sight}
 use Rattle.tera_lexer.specs.code.Seen.{seen}
 use Rattle.tera_lexer.specs.grammar.Tokens.{Token}
-use Rattle.tera_parts.proofs.Fronts.{unseen_front, name_front}
+use Rattle.tera_parts.proofs.FrontsLemmas.{unseen_front, name_front}
 use Rattle.tera_parts.proofs.front.Front.at.Goals as goal
 
 pub returns-in-None : goal.returns-in-None

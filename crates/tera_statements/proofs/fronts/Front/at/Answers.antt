@@ -1,7 +1,7 @@
 use Rattle.std.proofs.Common.{◌∙◌, subst}
 use Rattle.tera_lexer.specs.code.Cursors.{FirstIs}
 use Rattle.tera_lexer.specs.code.Seen.{seen}
-use Rattle.tera_statements.proofs.NextTwo.{tag_front}
+use Rattle.tera_statements.proofs.FrontsLemmas.{tag_front}
 use Rattle.tera_statements.proofs.fronts.Front.at.Goals as goal
 
 pub returns-in-Some-second : goal.returns-in-Some-second

@@ -29,7 +29,7 @@ use Rattle.tera_nodes.specs.View.{expression_view}
 use Rattle.tera_nodes.specs.declared.ast.Expression.{Expression}
 use Rattle.tera_expect.specs.Taking.{Fails, GivesBy, Took}
 use Rattle.tera_reader.specs.declared.chains.Link.TheVariants.{Nothing, Called, Field, Item}
-use Rattle.tera_parts.proofs.Fronts.{took_token, unseen}
+use Rattle.tera_parts.proofs.FrontsLemmas.{took_token, unseen}
 use Rattle.tera_expect.proofs.Steps.{named, unnamed, counted, uncounted}
 
 pub shrinks : (old new : Position) → Took old new → size new.left < size old.left

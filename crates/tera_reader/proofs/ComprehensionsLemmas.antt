@@ -11,7 +11,7 @@ use Rattle.tera_grammar.specs.expressions.Reading.Front.{Place, at, Reads, takes
 use Rattle.tera_grammar.specs.expressions.Reading.Parts.{Room, Reader, extra_at, extra_of}
 use Rattle.tera_grammar.specs.expressions.Reading.Atoms.{variables_of, comprehension_of}
 use Rattle.tera_grammar.proofs.expressions.Fronts.{none_skip}
-use Rattle.tera_reader.proofs.RowSteps.{skip_taken}
+use Rattle.tera_reader.proofs.RowsLemmas.{skip_taken}
 
 -- an expression behind a mark of its own
 module _ (f : Reader) (w : Room) (m : Mark) (k i : ℕ) (r : Items) where

@@ -25,7 +25,7 @@ use Rattle.tera_expect.specs.Taking.{GoesOn, Refuses, RefusesIn, Took}
 use Rattle.tera_statements.specs.declared.fronts.Front.{Front}
 use Rattle.tera_statements.specs.declared.fronts.Front.TheVariants as fronts
 use Rattle.tera_statements.specs.declared.fronts.Front.TheVariants.{Ends, Closes, Holds, Shows, Opens, Wrong}
-use Rattle.tera_expect.proofs.Going.{refused_further}
+use Rattle.tera_expect.proofs.TakingLemmas.{refused_further}
 
 -- what is refused in the tokens is refused
 pub inside_refused : (old : Position) (e : Error) → RefusesIn old e → Refuses old e

@@ -19,8 +19,8 @@ use Rattle.tera_grammar.specs.expressions.Reading.Parts.{Room, Reader, inside_ar
 use Rattle.tera_grammar.specs.expressions.Reading.Atoms.{array_of, array_at, array_from, for_at, items_from, comprehension_of}
 use Rattle.tera_grammar.proofs.expressions.Fronts.{none_skip}
 use Rattle.tera_parts.specs.Literals.{MayBeNegated}
-use Rattle.tera_reader.proofs.RowSteps.{skip_taken}
-use Rattle.tera_reader.proofs.Listing.{spread_read, plain_read}
+use Rattle.tera_reader.proofs.RowsLemmas.{skip_taken}
+use Rattle.tera_reader.proofs.ItemsLemmas.{spread_read, plain_read}
 
 pub no_room : (f : Reader) (w : Room) (s : Span) (p : Place) → inside_array w ≡ None → array_of f w s p ≡ None
 unfolding array_of

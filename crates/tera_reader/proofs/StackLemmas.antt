@@ -37,8 +37,8 @@ use Rattle.tera_expect.specs.Taking.{Fails, GoesOn, Took}
 use Rattle.tera_parts.specs.declared.front.Ending as own
 use Rattle.tera_parts.specs.declared.front.Ending.TheVariants as endings
 use Rattle.tera_parts.specs.Fronts.{Kind, joined_by, tested, filtered, subscripted, misplaced as stray, kind_of, ending_kind, front_kind, keeps_off, IsOperatorBefore}
-use Rattle.tera_parts.proofs.Fronts.{stops_alike}
-use Rattle.tera_expect.proofs.Going.{took_goes}
+use Rattle.tera_parts.proofs.FrontsLemmas.{stops_alike}
+use Rattle.tera_expect.proofs.TakingLemmas.{took_goes}
 
 -- a token that is no constant, no name and no mark at which an operand begins
 abbrev pub BeginsNone : Tok → Type 0

@@ -31,8 +31,8 @@ use Rattle.tera_grammar.proofs.expressions.Wholes.{attributes_found_whole, attri
 use Rattle.tera_reader.specs.Outermost as outermost
 use Rattle.tera_expr.specs.Promises.{TakesOnly, TookArray, TookAttributes, TookExpression, TookFilter, TookKwargs, TookMap, TookPath}
 use Rattle.tera_expect.specs.Taking.{GivesBy, GoesOn, Took}
-use Rattle.tera_expect.proofs.Going.{later}
-use Rattle.tera_expr.proofs.Passing.{later_on, took_tokens}
+use Rattle.tera_expect.proofs.TakingLemmas.{later}
+use Rattle.tera_expr.proofs.YieldLemmas.{later_on, took_tokens}
 
 -- What is read of tokens is all that can be read of them.
 only_by : {E T : Type 0} (Is : E → T → Type 0) (r : Result E Error) (new : Position) (t : T) (rest : Items) (read : Takes T)

@@ -16,7 +16,7 @@ use Rattle.tera_grammar.specs.statements.Parts.{Edge}
 use Rattle.tera_grammar.specs.statements.Reading.Heads.{loop_of}
 use Rattle.tera_grammar.specs.statements.Reading.Parts.{finish_of}
 use Rattle.tera_statements.specs.Heads.{expression_to_end, loop_to_end}
-use Rattle.tera_statements.proofs.Ending.{ended_one}
+use Rattle.tera_statements.proofs.HeadsLemmas.{ended_one}
 
 -- a head
 module _ (l : Limits) (ts : Items) where

@@ -30,7 +30,7 @@ use Rattle.tera_statements.specs.declared.fronts.Front.TheVariants as fronts
 use Rattle.tera_statements.specs.declared.fronts.Opener.TheVariants as openers
 use Rattle.tera_statements.specs.declared.templates.Phase.{Phase}
 use Rattle.tera_statements.specs.declared.outputs.ParserOutput.{ParserOutput}
-use Rattle.tera_statements.proofs.Itemizing.{opens_tag}
+use Rattle.tera_statements.proofs.ItemsLemmas.{opens_tag}
 
 -- a body may open
 pub opens : (l : Limits) → AreValid l → l.bodies ≡ suc (below_top l)

@@ -40,7 +40,7 @@ use Rattle.tera_grammar.proofs.statements.Loops.{listing_on}
 use Rattle.tera_statements.specs.Parameters.{IsDefault, argument_as, has_default, taken_rest, typed, type_written}
 use Rattle.tera_statements.specs.Reading.{IsArray, IsMap}
 use Rattle.tera_expect.specs.Taking.{Eats, Fails, GivesBy, GoesOn}
-use Rattle.tera_expect.proofs.Going.{stays, took_goes}
+use Rattle.tera_expect.proofs.TakingLemmas.{stays, took_goes}
 use Rattle.tera_expect.proofs.Steps.{failed}
 
 -- a token that had to come and did not, where none is read

@@ -29,7 +29,7 @@ use Rattle.tera_parts.specs.Keys.{taken_literal}
 use Rattle.tera_parts.specs.declared.rows.Values.{Values}
 use Rattle.tera_parts.specs.Rows.{Continues, reader_of}
 use Rattle.tera_expect.specs.Taking.{Fails}
-use Rattle.tera_reader.proofs.RowSteps.{Opening, Rowing, skip_taken, element_read, element_fails, behind, behind_fails, fails_by}
+use Rattle.tera_reader.proofs.RowsLemmas.{Opening, Rowing, skip_taken, element_read, element_fails, behind, behind_fails, fails_by}
 
 -- an entry in front of others
 abbrev pub onto_entry : MapEntryOf Expr → Entries → Entries

@@ -21,7 +21,7 @@ use Rattle.tera_grammar.proofs.statements.Expressions.{component_begins, compone
 use Rattle.tera_grammar.proofs.statements.Heads.{filters_steps}
 use Rattle.tera_statements.specs.Captures.{IsNone}
 use Rattle.tera_statements.specs.Heads.{attributes_to_end, expression_to_end, filters_to_end, section_to_end}
-use Rattle.tera_statements.proofs.Ending.{filters_unended, one_to_end, two_to_end}
+use Rattle.tera_statements.proofs.HeadsLemmas.{filters_unended, one_to_end, two_to_end}
 
 module _ (l : Limits) (self : Reader) (path : Path) (global : Bool) (start : Edge) (first : Span) (seen : Seen) where
   -- behind the name comes a value, or not

@@ -22,7 +22,7 @@ use Rattle.tera_grammar.proofs.expressions.Steps.{row_steps}
 use Rattle.tera_parts.specs.declared.rows.Values.{Values}
 use Rattle.tera_parts.specs.Rows.{reader_by, reader_of, Continues}
 use Rattle.tera_expect.specs.Taking.{Eats, Fails, GoesOn, Took}
-use Rattle.tera_expect.proofs.Going.{stays, took_goes, goes_took}
+use Rattle.tera_expect.proofs.TakingLemmas.{stays, took_goes, goes_took}
 
 pub fresh_given : (l : Bool) (result : Result Expression Error) (n i j : ℕ) (old new : Items) (d : ℕ) (w : Room) (m : ℕ)
     → Gives expression_view l result (at j new) (expr d w m (at n old)) → Gives expression_view l result (at i new) (fresh n (expr d) w m (at i old))

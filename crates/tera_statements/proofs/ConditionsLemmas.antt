@@ -22,7 +22,7 @@ use Rattle.tera_nodes.specs.declared.ast.Node.{Node}
 use Rattle.tera_statements.specs.Adding.{AreBranches, IsBody, IsElse}
 use Rattle.tera_statements.specs.Conditions.{Conditional, conditional_of}
 use Rattle.tera_statements.specs.Heads.{expression_to_end, loop_to_end}
-use Rattle.tera_statements.proofs.Ending.{one_to_end}
+use Rattle.tera_statements.proofs.HeadsLemmas.{one_to_end}
 use Rattle.tera_grammar.proofs.statements.Loops.{is_elif}
 use Rattle.tera_grammar.proofs.statements.Parts.{closed_stands}
 use Rattle.tera_statements.specs.Kinds.{closes}
