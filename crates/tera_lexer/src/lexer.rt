@@ -3,8 +3,8 @@
 pub mod cursor;
 pub mod delimiters;
 mod lexeme;
-pub mod lexer;
 mod markers;
 mod place;
-mod reader;
+mod scanner;
+pub mod stream;
 pub mod tokens;

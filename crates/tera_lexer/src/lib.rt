@@ -6,5 +6,5 @@ mod lexer;
 
 pub use lexer::cursor::Cursor;
 pub use lexer::delimiters::Delimiters;
-pub use lexer::lexer::{Tokens, tokenize};
+pub use lexer::stream::{Tokens, tokenize};
 pub use lexer::tokens::Token;

@@ -4,7 +4,7 @@ use Rattle.std.specs.Str.{IsCharBoundary}
 use Rattle.tera_lexer.specs.grammar.Marks.{marks_of, IsValid}
 use Rattle.tera_lexer.specs.grammar.Place.{place_after}
 use Rattle.tera_lexer.specs.reading.State.{Progress}
-use Rattle.tera_lexer.specs.declared.lexer.reader.Reader.TheInside.{Inside}
+use Rattle.tera_lexer.specs.declared.lexer.scanner.Scanner.TheInside.{Inside}
 
 abbrev pub reading_of : Inside → Progress
 reading_of t = record {

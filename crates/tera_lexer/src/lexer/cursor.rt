@@ -8,7 +8,7 @@ ghost use Rattle.std.specs.Option.{option_map, option_transpose};
 ghost use Rattle.tera_lexer.specs.code.CursorView.{IsTokenAhead};
 ghost use Rattle.tera_base.specs.Errors.{Tells, end_of};
 
-use crate::lexer::lexer::Tokens;
+use crate::lexer::stream::Tokens;
 use crate::lexer::tokens::Token;
 use std::alloc::Global;
 use std::marker::Model;
