@@ -1,7 +1,9 @@
 //! The faults of expressions, in the order in which the language's document lists them.
 
+ghost use Rattle.std.specs.Prelude.{◌⊎◌};
 ghost use Rattle.tera_base.specs.Errors.{TellsBy};
 ghost use Rattle.tera_lexer.specs.code.Cursors.{TellsAt};
+ghost use Rattle.tera_lexer.specs.grammar.Faults.{BeginsWith, EndsWith};
 ghost use Rattle.tera_lexer.specs.grammar.Place.{IsWithin};
 ghost use Rattle.tera_parts.specs.Ranges.{RunsFrom};
 ghost use Rattle.tera_expect.specs.Taking.{Refuses};
@@ -180,10 +182,19 @@ pub fn reported_from(
     requires { IsWithin cursor.now.source first.now }
     ensures { TellsBy (λ text span. RunsFrom first.now cursor.now span) result }
 {
+    Error::reported(cursor.alloc(), message, &up_to_last(cursor, first))
+}
+
+/// From the start of a span to the end of the token taken last.
+pub fn up_to_last(cursor: &Cursor<'_>, first: &Span) -> Span
+    ensures within { IsWithin cursor.now.source first.now → IsWithin cursor.now.source result }
+    ensures starts { BeginsWith first.now result }
+    ensures ends { EndsWith first.now result ⊎ EndsWith cursor.now.span result }
+{
     let last = cursor.current_span();
     let mut span = first.copied();
     if span.range.end <= last.range.end {
         span.expand(last);
     }
-    Error::reported(cursor.alloc(), message, &span)
+    span
 }

@@ -20,7 +20,9 @@ mod words;
 pub use arguments::{argument_name, put_argument};
 pub use attributes::{close_component, quote};
 pub use components::dotted_name;
-pub use faults::{consecutive, misplaced_not, no_component_name, reported_from, too_complex};
+pub use faults::{
+    consecutive, misplaced_not, no_component_name, reported_from, too_complex, up_to_last,
+};
 pub use front::{Ending, Front, begins_prefix, take_condition, take_ending, take_operator};
 pub use keys::key;
 pub use limits::{Limits, Room, Scope, count_link, count_operator};

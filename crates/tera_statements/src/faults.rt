@@ -1,9 +1,6 @@
 //! The faults of statements, in the order in which the language's document lists them.
 
-ghost use Rattle.std.specs.Prelude.{◌⊎◌};
 ghost use Rattle.tera_lexer.specs.code.Cursors.{Position};
-ghost use Rattle.tera_lexer.specs.grammar.Faults.{BeginsWith, EndsWith};
-ghost use Rattle.tera_lexer.specs.grammar.Place.{IsWithin};
 ghost use Rattle.tera_statements.specs.Templates.{StandsNext};
 ghost use Rattle.tera_expect.specs.Taking.{Refuses, RefusesIn, TellsAs, Took};
 
@@ -11,6 +8,7 @@ use crate::around::Opening;
 use tera_base::{Error, ErrorKind, Span, Value};
 use tera_expect::{fault, noted, reported};
 use tera_lexer::{Cursor, Token};
+use tera_parts::up_to_last;
 use tera_tree::ArgType;
 
 /// That no name stands behind the `<` of a tag, which was taken last.
@@ -291,18 +289,4 @@ fn first_defined(cursor: &Cursor<'_>, error: Error, first: &Span) -> Error
     ensures refusal { Refuses cursor.now result }
 {
     noted(error, "first defined here", first)
-}
-
-// From the start of a span to the end of the token taken last.
-fn up_to_last(cursor: &Cursor<'_>, first: &Span) -> Span
-    ensures within { IsWithin cursor.now.source first.now → IsWithin cursor.now.source result }
-    ensures starts { BeginsWith first.now result }
-    ensures ends { EndsWith first.now result ⊎ EndsWith cursor.now.span result }
-{
-    let last = cursor.current_span();
-    let mut span = first.copied();
-    if span.range.end <= last.range.end {
-        span.expand(last);
-    }
-    span
 }
