@@ -102,6 +102,11 @@ fn head(
     ensures later { IfOk result (λ _. Took cursor.old cursor.new) }
 {
     let (token, span) = take(cursor)?;
+    let values = Values {
+        room,
+        below: level.below,
+        own: None,
+    };
     match token {
         Token::Minus => return prefix(cursor, frames, level, UnaryOperator::Minus, span),
         Token::LeftParen => {
@@ -110,20 +115,10 @@ fn head(
         }
         Token::Ident(name) => return word(cursor, links, frames, room, level, name, span),
         Token::LeftBracket => {
-            let values = Values {
-                room,
-                below: level.below,
-                own: None,
-            };
             let expr = array(cursor, links, values, &span)?;
             return Ok(holds(cursor, level, expr, &span));
         }
         Token::LeftBrace => {
-            let values = Values {
-                room,
-                below: level.below,
-                own: None,
-            };
             let expr = map(cursor, links, values, &span)?;
             return Ok(holds(cursor, level, expr, &span));
         }
