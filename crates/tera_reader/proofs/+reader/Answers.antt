@@ -213,6 +213,9 @@ arguments::arguments-returns-in_err-value-clause-gives t c = suffixes.arguments:
 pub arguments::arguments-returns-in_err-open-clause-gives : goal.arguments::arguments-returns-in_err-open-clause-gives
 arguments::arguments-returns-in_err-open-clause-gives t c = suffixes.arguments::arguments-returns-in_err-open-clause-gives t c
 
+pub arguments::arguments-returns-in_err-open-clause-refusal : goal.arguments::arguments-returns-in_err-open-clause-refusal
+arguments::arguments-returns-in_err-open-clause-refusal t c = suffixes.arguments::arguments-returns-in_err-open-clause-refusal t c
+
 pub arguments::arguments-elements-preserved : goal.arguments::arguments-elements-preserved
 arguments::arguments-elements-preserved t c = suffixes.arguments::arguments-elements-preserved t c
 
@@ -422,6 +425,9 @@ arrays::comprehension-returns-in_err-condition-clause-gives t c = arrays.arrays:
 
 pub arrays::comprehension-returns-in_err-close_comprehension-clause-gives : goal.arrays::comprehension-returns-in_err-close_comprehension-clause-gives
 arrays::comprehension-returns-in_err-close_comprehension-clause-gives t c = arrays.arrays::comprehension-returns-in_err-close_comprehension-clause-gives t c
+
+pub arrays::comprehension-returns-in_err-close_comprehension-clause-refusal : goal.arrays::comprehension-returns-in_err-close_comprehension-clause-refusal
+arrays::comprehension-returns-in_err-close_comprehension-clause-refusal t c = arrays.arrays::comprehension-returns-in_err-close_comprehension-clause-refusal t c
 
 pub arrays::comprehension-returns-clause-gives : goal.arrays::comprehension-returns-clause-gives
 arrays::comprehension-returns-clause-gives t c = arrays.arrays::comprehension-returns-clause-gives t c

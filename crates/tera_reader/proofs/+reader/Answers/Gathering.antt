@@ -18,7 +18,7 @@ use Rattle.tera_expect.specs.Taking.{mark_of}
 use Rattle.tera_parts.specs.declared.limits.Scope.{Scope}
 use Rattle.tera_reader.proofs.ArraysLemmas.{no_room, empty_read, by_spread, by_plain, by_for, by_items, head_by}
 use Rattle.tera_reader.proofs.ComprehensionsLemmas.{same_parts, by_variables, no_in, by_target, by_condition, by_end, no_end, extra_absent, extra_present}
-use Rattle.tera_expect.proofs.TakingLemmas.{goes_took, took_all}
+use Rattle.tera_expect.proofs.TakingLemmas.{goes_took, took_all, took_further, refused_behind}
 use Rattle.tera_reader.proofs.ItemsLemmas.{Listed, all_of, no_items, array_shown, lacks_item, lacks_bracket, one_item, first_item, first_lacks_end, array_read, array_missed, spread_read, plain_read}
 use Rattle.tera_reader.proofs.RowsLemmas.{fails_by}
 use Rattle.tera_reader.proofs.+reader.Goals as goal
@@ -311,6 +311,12 @@ arrays::comprehension-returns-in_err-close_comprehension-clause-gives t c = λ t
     (no_end f w c.args.first.now t c.args.cursor.now.span (at i c.args.cursor.now.left) v i c.variables.new.cursor.left named
     c.expect.new.cursor.left c.expect.new.cursor.span c.in_ok-expect.ensures.gives u (at c.value.new.links c.value.new.cursor.left) target g c.extra.new.links c.extra.new.cursor.left condition)
     c.in_err-close_comprehension.ensures.gives)
+
+pub arrays::comprehension-returns-in_err-close_comprehension-clause-refusal : goal.arrays::comprehension-returns-in_err-close_comprehension-clause-refusal
+arrays::comprehension-returns-in_err-close_comprehension-clause-refusal t c =
+    let p = err_from_is_err_and c.from_residual-in_err-close_comprehension.result c.from_residual-in_err-close_comprehension.ensures.1 in
+    let before = took_all _ _ _ c.in_ok-named.ensures.later (took_all _ _ _ c.in_ok-expect.ensures.later c.in_ok-target.ensures.later) in
+    rw (p.1, p.2) (refused_behind _ _ _ (took_further _ _ _ before c.in_ok-condition.ensures.later) c.in_err-close_comprehension.ensures.refusal)
 
 pub arrays::comprehension-returns-clause-gives : goal.arrays::comprehension-returns-clause-gives
 arrays::comprehension-returns-clause-gives t c = λ t is.

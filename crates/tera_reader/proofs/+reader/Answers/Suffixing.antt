@@ -19,7 +19,7 @@ use Rattle.tera_expect.specs.Taking.{name_at}
 use Rattle.tera_reader.proofs.ArgumentsLemmas.{Arguing, Argued, none_yet, none_at_all}
 use Rattle.tera_reader.proofs.ArgumentRows.{no_new_name, lacks_assign, lacks_value, lacks_end, one_argument, arguments_given}
 use Rattle.tera_reader.proofs.CallsLemmas.{subscript_is, test_is, negated_is, test_fails, test_made, call_given, call_unnamed, call_fails, no_arguments, arguments_behind}
-use Rattle.tera_expect.proofs.TakingLemmas.{took_size, took_all, goes_size}
+use Rattle.tera_expect.proofs.TakingLemmas.{took_size, took_all, goes_size, refused_behind, refused_further}
 use Rattle.tera_reader.proofs.RowsLemmas.{begun, gone_begun, gone_on, fresh_given}
 use Rattle.tera_reader.proofs.+reader.Goals as goal
 
@@ -146,6 +146,13 @@ arguments::arguments-returns-in_err-open-clause-gives t c =
     rw (p.1, p.2) (lacks_end c.args.values.room.scope.in_loop (args_view c.elements.arguments.entries) c.args.values (room_of c.args.values.room) (at c.args.links.now c.args.cursor.now.left)
     c.elements.links c.elements.cursor.left o c.argument_name.new.cursor.left (name_at c.argument_name.new.cursor.span c.in_ok-name.name) c.in_ok-name.ensures.gives
     c.expect.new.cursor.left c.expect.new.cursor.span c.in_ok-expect.ensures.gives t c.value.new.links c.value.new.cursor.left read c.more.new.cursor _ c.in_err-open.ensures.gives)
+
+pub arguments::arguments-returns-in_err-open-clause-refusal : goal.arguments::arguments-returns-in_err-open-clause-refusal
+arguments::arguments-returns-in_err-open-clause-refusal t c =
+    let before = rw c.elements-test.true at c.elements.invariant.gone in
+    let p = err_from_is_err_and c.from_residual-in_err-open.result c.from_residual-in_err-open.ensures.1 in
+    rw (p.1, p.2) (refused_further _ c.elements.cursor _ before
+    (refused_behind _ _ _ (took_all _ _ _ c.in_ok-name.ensures.later (took_all _ _ _ c.in_ok-expect.ensures.later c.in_ok-value.ensures.later)) c.in_err-open.ensures.refusal))
 
 pub arguments::arguments-elements-preserved : goal.arguments::arguments-elements-preserved
 arguments::arguments-elements-preserved t c =
