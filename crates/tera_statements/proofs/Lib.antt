@@ -1,3 +1,4 @@
+pub mod OnTheWay
 pub mod RefusalLemmas
 pub mod FrontsLemmas
 pub mod FiltersLemmas

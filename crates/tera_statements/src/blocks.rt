@@ -30,7 +30,7 @@ use tera_tree::{ComponentDefinition, build};
 
 /// Reads the rest of a block, whose word was taken last.
 #[cycle(bodies)]
-#[tactic(auto, using(tera_expect::proofs::TakingLemmas::on_the_way))]
+#[tactic(auto, using(crate::proofs::OnTheWay::through_tags))]
 pub(crate) fn block(
     setting: &Setting<'_>,
     cursor: &mut Cursor<'_>,
@@ -74,7 +74,7 @@ fn new_block<'a>(cursor: &mut Cursor<'a>, blocks: &mut Known) -> Result<(&'a str
 }
 
 // The closing tag of the block with this name.
-#[tactic(auto, using(tera_expect::proofs::TakingLemmas::on_the_way))]
+#[tactic(auto, using(crate::proofs::OnTheWay::through_tags))]
 fn block_end(cursor: &mut Cursor<'_>, name: &str) -> Result<(), Error>
     ensures gives { (n : Name) → n.text ≡ name.now → Passes result cursor.new.left (block_end n cursor.old.left) }
     ensures refusal { IfErr result (Refuses cursor.old) }
@@ -105,7 +105,7 @@ fn check_name(cursor: &Cursor<'_>, name: &str, end: &str) -> Result<(), Error>
 
 /// Reads the rest of the definition of a component, whose word was taken last.
 #[cycle(bodies)]
-#[tactic(auto, using(tera_expect::proofs::TakingLemmas::on_the_way))]
+#[tactic(auto, using(crate::proofs::OnTheWay::through_tags))]
 pub(crate) fn definition(
     setting: &Setting<'_>,
     cursor: &mut Cursor<'_>,

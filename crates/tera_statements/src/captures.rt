@@ -83,7 +83,7 @@ fn set_value(
 
 // The filters and the body that a variable takes, behind its name.
 #[cycle(bodies)]
-#[tactic(auto, using(tera_expect::proofs::TakingLemmas::on_the_way))]
+#[tactic(auto, using(crate::proofs::OnTheWay::through_tags))]
 fn set_body(
     setting: &Setting<'_>,
     cursor: &mut Cursor<'_>,
@@ -119,7 +119,7 @@ fn check_set(cursor: &Cursor<'_>) -> Result<(), Error>
 
 /// Reads the rest of a filter section, whose word was taken last.
 #[cycle(bodies)]
-#[tactic(auto, using(tera_expect::proofs::TakingLemmas::on_the_way))]
+#[tactic(auto, using(crate::proofs::OnTheWay::through_tags))]
 pub(crate) fn section(
     setting: &Setting<'_>,
     cursor: &mut Cursor<'_>,
@@ -143,7 +143,7 @@ pub(crate) fn section(
 
 /// Reads the rest of a call of a component, whose `<` was taken last.
 #[cycle(bodies)]
-#[tactic(auto, using(tera_expect::proofs::TakingLemmas::on_the_way))]
+#[tactic(auto, using(crate::proofs::OnTheWay::through_tags))]
 pub(crate) fn call(
     setting: &Setting<'_>,
     cursor: &mut Cursor<'_>,

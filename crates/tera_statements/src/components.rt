@@ -42,7 +42,7 @@ pub(crate) struct Opened {
 }
 
 /// Reads the opening tag of a component's definition, behind its first word. The name is kept.
-#[tactic(auto, using(tera_expect::proofs::TakingLemmas::on_the_way))]
+#[tactic(auto, using(crate::proofs::OnTheWay::through_tags))]
 pub(crate) fn opening_tag(
     setting: &Setting<'_>,
     cursor: &mut Cursor<'_>,
@@ -127,7 +127,7 @@ fn put_value(
 }
 
 /// Reads the closing tag of the definition of the component with this name.
-#[tactic(auto, using(tera_expect::proofs::TakingLemmas::on_the_way))]
+#[tactic(auto, using(crate::proofs::OnTheWay::through_tags))]
 pub(crate) fn closing_tag(cursor: &mut Cursor<'_>, name: &str) -> Result<(), Error>
     ensures gives { (start : Edge) (first : Span) (o : reading.Opened) → component_text o.name ≡ name.now → Passes result cursor.new.left (ending_of start first o cursor.old.left) }
     ensures refusal { IfErr result (Refuses cursor.old) }

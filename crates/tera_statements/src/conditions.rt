@@ -35,7 +35,7 @@ pub(crate) struct Branch {
 
 /// Reads the rest of an `if`, whose word was taken last.
 #[cycle(bodies)]
-#[tactic(auto, using(tera_expect::proofs::TakingLemmas::on_the_way))]
+#[tactic(auto, using(crate::proofs::OnTheWay::through_tags))]
 pub(crate) fn condition(
     setting: &Setting<'_>,
     cursor: &mut Cursor<'_>,
@@ -56,7 +56,7 @@ pub(crate) fn condition(
 
 // A condition, the end of its tag, and the body under it; the word before it stands at the span.
 #[cycle(bodies)]
-#[tactic(auto, using(tera_expect::proofs::TakingLemmas::on_the_way))]
+#[tactic(auto, using(crate::proofs::OnTheWay::through_tags))]
 fn read_branch(
     setting: &Setting<'_>,
     cursor: &mut Cursor<'_>,

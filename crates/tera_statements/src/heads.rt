@@ -74,7 +74,7 @@ fn more_filters(
 }
 
 /// Reads filters, each behind its bar, and the end of their tag, and puts them behind those that are given.
-#[tactic(auto, using(tera_expect::proofs::TakingLemmas::on_the_way))]
+#[tactic(auto, using(crate::proofs::OnTheWay::through_tags))]
 pub(crate) fn filters_to_end(
     setting: &Setting<'_>,
     cursor: &mut Cursor<'_>,
@@ -108,7 +108,7 @@ pub(crate) fn section_to_end(
 }
 
 /// Reads the attributes of a call of a component, the `>` behind them, and the end of their tag.
-#[tactic(auto, using(tera_expect::proofs::TakingLemmas::on_the_way))]
+#[tactic(auto, using(crate::proofs::OnTheWay::through_tags))]
 pub(crate) fn attributes_to_end(
     setting: &Setting<'_>,
     cursor: &mut Cursor<'_>,

@@ -22,7 +22,7 @@ use tera_tree::{Node, build};
 
 /// Reads the rest of a `for`, whose word was taken last.
 #[cycle(bodies)]
-#[tactic(auto, using(tera_expect::proofs::TakingLemmas::on_the_way))]
+#[tactic(auto, using(crate::proofs::OnTheWay::through_tags))]
 pub(crate) fn for_loop(
     setting: &Setting<'_>,
     cursor: &mut Cursor<'_>,

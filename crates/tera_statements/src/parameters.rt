@@ -211,7 +211,7 @@ fn rest_parameter(cursor: &mut Cursor<'_>, seen: &Known) -> Result<String, Error
 }
 
 // A parameter, whose name is kept.
-#[tactic(auto, using(tera_expect::proofs::TakingLemmas::on_the_way))]
+#[tactic(auto, using(crate::proofs::OnTheWay::through_tags, tera_expect::proofs::TakingLemmas::goes_further))]
 fn parameter(
     setting: &Setting<'_>,
     cursor: &mut Cursor<'_>,
