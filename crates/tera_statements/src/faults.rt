@@ -270,6 +270,7 @@ pub(crate) fn mistyped(cursor: &Cursor<'_>, name: &str, typ: &ArgType, value: &V
 }
 
 // The error with a note on where what stands around begins.
+#[tactic(auto, using(tera_expect::proofs::TakingLemmas::memory_refused))]
 fn inside_of(cursor: &Cursor<'_>, error: Error, opening: &Opening) -> Error
     requires { Refuses cursor.now error }
     ensures tells { TellsAs error result }
