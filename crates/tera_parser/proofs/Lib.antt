@@ -1,2 +1,3 @@
 pub mod About
 pub mod Wholes
+pub mod Meanings

@@ -1,14 +1,24 @@
 //! Laws of the definitions, and what equality decides: each function has the law as its promise.
 
 ghost use Rattle.std.specs.Prelude.{◌≡◌, ◌↔◌, IsTrue, ℕ, List, false};
+ghost use Rattle.tera_base.specs.Kinds.{kind_of};
+ghost use Rattle.tera_base.specs.Same.{key_eq};
+ghost use Rattle.tera_base.specs.Values.{KeyVal, Val, Pairs};
+ghost use Rattle.tera_lexer.specs.code.Cursors as cursors;
 ghost use Rattle.tera_lexer.specs.grammar.Marks.{Marks, IsValid};
+ghost use Rattle.tera_nodes.specs.Spans as nodes;
+ghost use Rattle.tera_tree.specs.Calls as calls;
+ghost use Rattle.tera_tree.specs.Infos.{shown_type, shown_type_name};
 ghost use Rattle.tera_tree.specs.Tree.{Output};
+ghost use Rattle.tera_tree.specs.Types.{type_name, type_of_kind, is_of_type};
+ghost use Rattle.tera_tree.specs.declared.ast.ArgType.{ArgType};
 ghost use Rattle.tera_grammar.specs.Limits.{Limits};
 ghost use Rattle.tera_grammar.specs.expressions.Constants.{IsLiteralNumber};
-ghost use Rattle.tera_grammar.specs.expressions.Output.{output};
+ghost use Rattle.tera_grammar.specs.expressions.Output.{output, same_key, put_pair};
 ghost use Rattle.tera_grammar.specs.statements.Constants.{EachOfOutput};
 ghost use Rattle.tera_grammar.specs.statements.Top.{Derives};
 ghost use Rattle.tera_grammar.specs.statements.Trees.{IsRight};
+ghost use Rattle.tera_grammar.specs.statements.Types.{type_of, has_type};
 ghost use Rattle.tera_source.specs.Outermost.{EachOfBody};
 ghost use Rattle.tera_source.specs.Nodes as trees;
 ghost use Rattle.tera_source.specs.Parts.{EachPart};
@@ -49,6 +59,19 @@ pub fn printed_back()
         EachOfBody (λ in_loop e. EachPart (λ part. PrintsBack l (output in_loop part)) e) false d.2.0 }
     ensures of_trees { (l : Limits) (m : Marks) (source : List ℕ) (read : Output) → Derives l m source read →
         trees.EachOfOutput (PrintsBack l) read }
+{}
+
+/// What two crates define, each in its own terms, agrees: which keys of maps are the same (`keys`), and so what a map is
+/// after a pair was put into it, in a source and by a call (`pairs`); which type a value has, and whether it is of a
+/// type, by its form and by its kind (`types`, `of_types`); the names of types, declared and shown (`names`); and the
+/// span of what stands nowhere (`nowhere`).
+pub fn one_meaning()
+    ensures keys { (k l : KeyVal) → same_key k l ≡ key_eq k l }
+    ensures pairs { (k : KeyVal) (v : Val) (ps : Pairs) → put_pair k v ps ≡ calls.put_pair k v ps }
+    ensures types { (v : Val) → type_of v ≡ type_of_kind (kind_of v) }
+    ensures of_types { (t : ArgType) (v : Val) → has_type t v ≡ is_of_type t (kind_of v) }
+    ensures names { (t : ArgType) → shown_type_name (shown_type t) ≡ type_name t }
+    ensures nowhere { cursors.nowhere ≡ nodes.nowhere }
 {}
 
 /// Outputs are equal exactly where they mean the same, places included.

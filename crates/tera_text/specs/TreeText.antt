@@ -7,8 +7,8 @@ use Rattle.tera_tree.specs.Tree.{Argument, Definition, Output}
 use Rattle.tera_nodes.specs.View.{nodes_of}
 use Rattle.std.specs.List.{flat_map}
 use Rattle.tera_nodes.specs.Text.{text, names_text, call_text, args_text, entries_text}
+use Rattle.tera_tree.specs.Types.{type_name}
 use Rattle.tera_tree.specs.declared.ast.ArgType.{ArgType}
-use Rattle.tera_tree.specs.declared.ast.ArgType.TheVariants as types
 use Rattle.tera_text.specs.Quoted.{quoted}
 
 -- a line at this indent
@@ -84,18 +84,9 @@ abbrev mutual
   nodes_text word indent (OneNode n ns) = node_text word indent n ++ nodes_text word indent ns
 
 -- definitions
-abbrev pub type_text : ArgType → List ℕ
-type_text types.String = codes "string"
-type_text types.Bool = codes "bool"
-type_text types.Integer = codes "integer"
-type_text types.Number = codes "number"
-type_text types.Array = codes "array"
-type_text types.Map = codes "map"
-type_text types.Bytes = codes "bytes"
-
 abbrev pub typed_text : Option ArgType → List ℕ
 typed_text None = []
-typed_text (Some t) = codes ": " ++ type_text t
+typed_text (Some t) = codes ": " ++ type_name t
 
 abbrev pub default_text : Option Val → List ℕ
 default_text None = []

@@ -6,7 +6,7 @@ ghost use Rattle.tera_base.specs.ValueView.{value_view};
 ghost use Rattle.tera_base.specs.Text.{const_text, value_text};
 ghost use Rattle.tera_nodes.specs.View.{name_view, node_view};
 ghost use Rattle.tera_tree.specs.View.{default_view, argument_view, definition_view};
-ghost use Rattle.tera_text.specs.TreeText.{type_text, typed_text, default_text, argument_text, rest_text, meta_text, body_text, definition_text};
+ghost use Rattle.tera_text.specs.TreeText.{typed_text, default_text, argument_text, rest_text, meta_text, body_text, definition_text};
 
 use crate::lines::{push_line, push_nodes, push_word};
 use crate::quoted::push_quoted;
@@ -62,21 +62,7 @@ fn push_type(out: &mut String, typ: Option<ArgType>) -> Result<(), AllocError>
         return Ok(());
     };
     out.push_str(": ")?;
-    out.push_str(name_of(typ))
-}
-
-fn name_of(typ: ArgType) -> &'static str
-    ensures { result.now ≡ type_text typ }
-{
-    match typ {
-        ArgType::String => "string",
-        ArgType::Bool => "bool",
-        ArgType::Integer => "integer",
-        ArgType::Number => "number",
-        ArgType::Array => "array",
-        ArgType::Map => "map",
-        ArgType::Bytes => "bytes",
-    }
+    out.push_str(typ.as_str())
 }
 
 fn push_default(out: &mut String, default: &Option<Value>) -> Result<(), AllocError>
