@@ -19,7 +19,7 @@ use Rattle.tera_grammar.proofs.Options.{bound}
 use Rattle.tera_grammar.proofs.expressions.Fronts.{skip_none}
 use Rattle.tera_grammar.proofs.expressions.Wholes.{left_over_ok}
 use Rattle.tera_expect.specs.Taking.{GivesBy}
-use Rattle.tera_reader.specs.Outermost.{IsComponent}
+use Rattle.tera_expr_reader.specs.Outermost.{IsComponent}
 
 dotted_at_ends : (more : Place → Reads Dotted) → ((p : Place) (x : Dotted × Place) → more p ≡ Some x → skip Dot x.1 ≡ None)
     → (p : Place) (o : Reads Span) → skip Dot p ≡ o → (x : Dotted × Place) → dotted_at more p o ≡ Some x → skip Dot x.1 ≡ None

@@ -28,7 +28,7 @@ use Rattle.tera_grammar.proofs.expressions.Fronts.{ends_stop}
 use Rattle.tera_grammar.proofs.expressions.InFront.{array_puts, attributes_puts, filter_puts, kwargs_puts, map_puts, path_puts, yield_puts}
 use Rattle.tera_grammar.proofs.expressions.Only.{attributes_end, filter_end, path_end}
 use Rattle.tera_grammar.proofs.expressions.Wholes.{attributes_found_whole, attributes_read_whole, expression_found, expression_read, filter_found, filter_read_whole, kwargs_found, kwargs_read, literal_array_found, literal_array_read, literal_map_found, literal_map_read, path_found, path_read}
-use Rattle.tera_reader.specs.Outermost as outermost
+use Rattle.tera_expr_reader.specs.Outermost as outermost
 use Rattle.tera_expr.specs.Promises.{TakesOnly, TookArray, TookAttributes, TookExpression, TookFilter, TookKwargs, TookMap, TookPath}
 use Rattle.tera_expect.specs.Taking.{GivesBy, GoesOn, Took}
 use Rattle.tera_expect.proofs.TakingLemmas.{later}

@@ -26,5 +26,5 @@ pub fn component_name(_alloc: Global, cursor: &mut Cursor<'_>) -> Result<String,
     ensures refusal { IfErr result (RefusesFrom cursor.old) }
     ensures later { IfOk result (λ _. IsLater cursor.old cursor.new) }
 {
-    tera_reader::component_name(cursor)
+    tera_expr_reader::component_name(cursor)
 }

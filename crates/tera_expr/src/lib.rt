@@ -9,6 +9,6 @@ mod whole;
 
 pub use components::component_name;
 pub use outermost::{attributes, filter, kwargs, literal_array, literal_map};
-pub use tera_parts::{Limits, Scope};
+pub use tera_expr_parts::{Limits, Scope};
 pub use tera_source::source_of;
 pub use whole::expression;

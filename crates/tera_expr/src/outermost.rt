@@ -29,13 +29,13 @@ ghost use Rattle.tera_grammar.specs.expressions.Ends.{EndsAttributes, EndsFilter
 ghost use Rattle.tera_grammar.specs.expressions.Measures.{EachAttribute, EachRow, Within};
 ghost use Rattle.tera_grammar.specs.expressions.Output.{attributes_output};
 ghost use Rattle.tera_expr.specs.Promises.{TakesOnly, TookArray, TookAttributes, TookFilter, TookKwargs, TookMap};
-ghost use Rattle.tera_parts.specs.Rooms.{AreValid, limits_of};
+ghost use Rattle.tera_expr_parts.specs.Rooms.{AreValid, limits_of};
 
 use std::alloc::Global;
 use std::collections::BTreeMap;
 use tera_base::{Error, Value};
+use tera_expr_parts::{Limits, Scope};
 use tera_lexer::Cursor;
-use tera_parts::{Limits, Scope};
 use tera_tree::{Expression, MapEntry};
 
 /// Reads the attributes of a call of a component, as many as stand there.
@@ -57,7 +57,7 @@ pub fn attributes(
     ensures refusal { IfErr result (RefusesFrom cursor.old) }
     ensures later { IfOk result (λ _. IsLater cursor.old cursor.new) }
 {
-    tera_reader::attributes(cursor, scope)
+    tera_expr_reader::attributes(cursor, scope)
 }
 
 /// Reads arguments with their parentheses.
@@ -79,7 +79,7 @@ pub fn kwargs(
     ensures refusal { IfErr result (RefusesFrom cursor.old) }
     ensures later { IfOk result (λ _. IsLater cursor.old cursor.new) }
 {
-    tera_reader::kwargs(cursor, scope)
+    tera_expr_reader::kwargs(cursor, scope)
 }
 
 /// Reads the name of a filter and its arguments. What it filters is no value, at the token taken last before.
@@ -97,7 +97,7 @@ pub fn filter(_alloc: Global, cursor: &mut Cursor<'_>, scope: Scope) -> Result<E
     ensures refusal { IfErr result (RefusesFrom cursor.old) }
     ensures later { IfOk result (λ _. IsLater cursor.old cursor.new) }
 {
-    tera_reader::filter(cursor, scope)
+    tera_expr_reader::filter(cursor, scope)
 }
 
 /// Reads an array of constants from its bracket on.
@@ -119,7 +119,7 @@ pub fn literal_array(
     ensures refusal { IfErr result (RefusesFrom cursor.old) }
     ensures later { IfOk result (λ _. IsLater cursor.old cursor.new) }
 {
-    tera_reader::literal_array(cursor, limits)
+    tera_expr_reader::literal_array(cursor, limits)
 }
 
 /// Reads a map of constants from its brace on; a fault tells of what it stands in as the context.
@@ -142,5 +142,5 @@ pub fn literal_map(
     ensures refusal { IfErr result (RefusesFrom cursor.old) }
     ensures later { IfOk result (λ _. IsLater cursor.old cursor.new) }
 {
-    tera_reader::literal_map(cursor, context, limits)
+    tera_expr_reader::literal_map(cursor, context, limits)
 }

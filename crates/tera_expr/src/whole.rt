@@ -10,12 +10,12 @@ ghost use Rattle.tera_grammar.specs.expressions.Ends.{IsStop};
 ghost use Rattle.tera_grammar.specs.expressions.Measures.{Within};
 ghost use Rattle.tera_grammar.specs.expressions.Output.{output};
 ghost use Rattle.tera_expr.specs.Promises.{TakesOnly, TookExpression};
-ghost use Rattle.tera_parts.specs.Rooms.{AreValid, limits_of};
+ghost use Rattle.tera_expr_parts.specs.Rooms.{AreValid, limits_of};
 
 use std::alloc::Global;
 use tera_base::Error;
+use tera_expr_parts::Scope;
 use tera_lexer::Cursor;
-use tera_parts::Scope;
 use tera_tree::Expression;
 
 /// Reads an expression.
@@ -37,5 +37,5 @@ pub fn expression(
     ensures refusal { IfErr result (RefusesFrom cursor.old) }
     ensures later { IfOk result (λ _. IsLater cursor.old cursor.new) }
 {
-    tera_reader::expression(cursor, scope)
+    tera_expr_reader::expression(cursor, scope)
 }

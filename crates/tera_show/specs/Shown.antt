@@ -10,7 +10,7 @@ use Rattle.tera_tree.specs.Tree.{Output}
 use Rattle.tera_grammar.specs.Limits.{Limits}
 use Rattle.tera_grammar.specs.statements.Top.{Derives}
 use Rattle.tera_base.specs.declared.utils.Span.{Span}
-use Rattle.tera_text.specs.TreeText.{text_of}
+use Rattle.tera_tree_text.specs.TreeText.{text_of}
 use Rattle.tera_show.specs.declared.stream.Outcome.{Outcome}
 use Rattle.tera_show.specs.declared.stream.Outcome.TheVariants.{Tree, Syntax, NotUtf8}
 use Rattle.tera_show.specs.declared.stream.ShowFault.{ShowFault}

@@ -6,13 +6,13 @@ ghost use Rattle.tera_base.specs.Errors.{IsMemory};
 ghost use Rattle.tera_nodes.specs.View.{name_view};
 ghost use Rattle.tera_tree.specs.View.{definition_view};
 ghost use Rattle.tera_statements.specs.Outputs.{output_view};
-ghost use Rattle.tera_text.specs.TreeText.{parent_text, definition_text, text_of};
+ghost use Rattle.tera_tree_text.specs.TreeText.{parent_text, definition_text, text_of};
 
 use std::alloc::{AllocError, Global};
 use tera_parser::ParserOutput;
 use tera_parser::ast::ComponentDefinition;
 use tera_parser::value::Error;
-use tera_text::{push_definition, push_named, push_nodes};
+use tera_tree_text::{push_definition, push_named, push_nodes};
 
 /// The text of the tree: its parent, its definitions and its nodes, line by line. The one error is `Memory`.
 pub fn tree_text(alloc: Global, output: &ParserOutput) -> Result<String, Error>

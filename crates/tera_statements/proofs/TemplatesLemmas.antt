@@ -23,7 +23,7 @@ use Rattle.tera_grammar.proofs.statements.Tops.{template_complete, template_soun
 use Rattle.tera_grammar.proofs.statements.Loops.{topping_extends, topping_refused, topping_stops}
 use Rattle.tera_grammar.specs.statements.Top.{is_blank, is_empty}
 use Rattle.tera_statements.specs.Kinds.{kind_of}
-use Rattle.tera_parts.specs.Rooms.{AreValid}
+use Rattle.tera_expr_parts.specs.Rooms.{AreValid}
 use Rattle.tera_expect.specs.Taking.{Fails, RefusesIn, Took}
 use Rattle.tera_statements.specs.Templates.{Excludes, GivesTemplate, ReadsTemplate, StandsNext, TopOf, below_top, phase_if_any}
 use Rattle.tera_statements.specs.declared.fronts.Front.TheVariants as fronts

@@ -15,7 +15,7 @@ use Rattle.tera_grammar.specs.statements.Heads.{Loop, Filters, filters_output}
 use Rattle.tera_grammar.specs.statements.Parts.{Edge}
 use Rattle.tera_grammar.specs.statements.Reading.Heads.{filters_of, loop_of}
 use Rattle.tera_grammar.specs.statements.Reading.Parts.{finish_of}
-use Rattle.tera_parts.specs.Names.{AreVariables}
+use Rattle.tera_expr_parts.specs.Names.{AreVariables}
 use Rattle.tera_statements.specs.Reading.{IsExpression}
 use Rattle.tera_statements.specs.declared.heads.LoopHead.{LoopHead}
 

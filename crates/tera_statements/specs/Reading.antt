@@ -4,7 +4,7 @@ use Rattle.std.specs.declared.alloc.Global.{Global}
 use Rattle.tera_base.specs.declared.utils.Span.{Span}
 use Rattle.tera_grammar.specs.expressions.Concrete.{Quote}
 use Rattle.tera_grammar.specs.expressions.Output.{quote_text}
-pub use Rattle.tera_reader.specs.Outermost.{AreAttributes, IsArray, IsComponent, IsExpression, IsFilter, IsMap}
+pub use Rattle.tera_expr_reader.specs.Outermost.{AreAttributes, IsArray, IsComponent, IsExpression, IsFilter, IsMap}
 
 -- a string, with its span
 abbrev pub IsQuote : String Global × Span → Quote × Span → Type 0

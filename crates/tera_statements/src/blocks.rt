@@ -3,7 +3,7 @@
 ghost use Rattle.std.specs.Prelude.{IfErr, IfOk, ◌≡◌, ◌⊎◌, false, is_none, true};
 ghost use Rattle.std.specs.Str.{bytes_eq};
 ghost use Rattle.tera_base.specs.Errors.{IsMemory};
-ghost use Rattle.tera_parts.specs.Rooms.{limits_of};
+ghost use Rattle.tera_expr_parts.specs.Rooms.{limits_of};
 ghost use Rattle.tera_grammar.specs.statements.Reading as reading;
 ghost use Rattle.tera_grammar.specs.statements.Reading.{block_end, block_of, component_def_of};
 ghost use Rattle.tera_grammar.specs.statements.Parts.{Name};

@@ -5,7 +5,7 @@ ghost use Rattle.tera_grammar.specs.statements.Grammar.{Path, in_loop};
 ghost use Rattle.tera_grammar.specs.statements.Reading as reading;
 ghost use Rattle.tera_statements.specs.Adding.{IsBody, here};
 ghost use Rattle.tera_statements.specs.Around.{Stands, context_of};
-ghost use Rattle.tera_parts.specs.Rooms.{limits_of};
+ghost use Rattle.tera_expr_parts.specs.Rooms.{limits_of};
 ghost use Rattle.tera_expect.specs.Taking.{GivesBy, GoesOn, Refuses};
 
 use crate::added::{Names, push_node};

@@ -3,7 +3,7 @@
 ghost use Rattle.std.specs.Prelude.{◌≡◌, ◌⊎◌, IfErr, IfOk, false, true};
 ghost use Rattle.std.specs.Str.{bytes_eq};
 ghost use Rattle.tera_base.specs.Errors.{IsMemory};
-ghost use Rattle.tera_parts.specs.Rooms.{limits_of};
+ghost use Rattle.tera_expr_parts.specs.Rooms.{limits_of};
 ghost use Rattle.tera_grammar.specs.statements.Expressions.{ComponentName, component_text};
 ghost use Rattle.tera_grammar.specs.statements.Reading.Expressions.{component_of};
 ghost use Rattle.tera_grammar.specs.statements.Reading as reading;
@@ -25,9 +25,9 @@ use crate::parts::{closed, closed_tag, finish};
 use crate::settings::Setting;
 use tera_base::{Error, Span};
 use tera_expect::{Fixed, begins_name, eat, expect};
+use tera_expr_parts::{free_name, spanning};
+use tera_expr_reader::component_name;
 use tera_lexer::{Cursor, Token};
-use tera_parts::{free_name, spanning};
-use tera_reader::component_name;
 use tera_tree::{Expression, Node, build};
 
 /// A variable that is set, for the whole template or not.

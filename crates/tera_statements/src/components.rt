@@ -3,7 +3,7 @@
 ghost use Rattle.std.specs.Prelude.{◌≡◌, [], IfErr, IfOk, OnOk, map, string_bytes};
 ghost use Rattle.tera_base.specs.ValueView.{pairs_view, value_view};
 ghost use Rattle.tera_base.specs.declared.utils.Span.{Span};
-ghost use Rattle.tera_parts.specs.Rooms.{limits_of};
+ghost use Rattle.tera_expr_parts.specs.Rooms.{limits_of};
 ghost use Rattle.tera_grammar.specs.expressions.Marks.{LeftBrace};
 ghost use Rattle.tera_grammar.specs.expressions.Reading.Front.{begins};
 ghost use Rattle.tera_grammar.specs.statements.Components.{put_pairs};
@@ -30,8 +30,8 @@ use std::alloc::{AllocError, Global};
 use std::collections::BTreeMap;
 use tera_base::{Error, Map, Span, Value};
 use tera_expect::{Fixed, begins, begins_name, expect};
+use tera_expr_reader::{component_name, literal_map};
 use tera_lexer::Cursor;
-use tera_reader::{component_name, literal_map};
 
 /// What the opening tag of a component's definition says.
 #[derive(Drop)]

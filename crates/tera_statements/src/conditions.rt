@@ -2,7 +2,7 @@
 
 ghost use Rattle.std.specs.Prelude.{◌≡◌, ◌∷◌, IfErr, IfOk, map};
 ghost use Rattle.tera_base.specs.Errors.{IsMemory};
-ghost use Rattle.tera_parts.specs.Rooms.{limits_of};
+ghost use Rattle.tera_expr_parts.specs.Rooms.{limits_of};
 ghost use Rattle.tera_grammar.specs.statements.Grammar.{InIf, Path, in_loop};
 ghost use Rattle.tera_grammar.specs.statements.Reading as reading;
 ghost use Rattle.tera_grammar.specs.statements.Reading.{branches, if_of};

@@ -7,8 +7,8 @@ ghost use Rattle.tera_expect.specs.Taking.{Refuses, RefusesIn, TellsAs, Took};
 use crate::around::Opening;
 use tera_base::{Error, ErrorKind, Span, Value};
 use tera_expect::{fault, noted, reported};
+use tera_expr_parts::up_to_last;
 use tera_lexer::{Cursor, Token};
-use tera_parts::up_to_last;
 use tera_tree::ArgType;
 
 /// That no name stands behind the `<` of a tag, which was taken last.

@@ -1,7 +1,7 @@
 //! What stands in opening tags, up to their end.
 
 ghost use Rattle.std.specs.Prelude.{IfErr, IfOk};
-ghost use Rattle.tera_parts.specs.Rooms.{limits_of};
+ghost use Rattle.tera_expr_parts.specs.Rooms.{limits_of};
 ghost use Rattle.tera_grammar.specs.statements.Reading.Heads.{filters_of};
 ghost use Rattle.tera_statements.specs.Heads.{AreAllFilters, AreFilters, IsLoop, attributes_to_end, expression_to_end, filters_to_end, loop_to_end, section_to_end};
 ghost use Rattle.tera_statements.specs.Reading.{AreAttributes, IsExpression};
@@ -11,9 +11,9 @@ use crate::parts::finish;
 use crate::settings::Setting;
 use tera_base::Error;
 use tera_expect::{Fixed, eat, expect};
+use tera_expr_parts::variables;
+use tera_expr_reader::{attributes, expression, filter};
 use tera_lexer::Cursor;
-use tera_parts::variables;
-use tera_reader::{attributes, expression, filter};
 use tera_tree::{Expression, MapEntry};
 
 /// Reads an expression, and the end of its tag.

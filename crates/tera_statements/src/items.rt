@@ -10,7 +10,7 @@ ghost use Rattle.tera_lexer.specs.code.Seen.{seen};
 ghost use Rattle.tera_statements.specs.Adding.{AddsBy, added_view, here, seen_of};
 ghost use Rattle.tera_statements.specs.Items.{AreEmptyTexts, Enters, GivesNext, GivesShown, GivesText, GoesByItem, text_in};
 ghost use Rattle.tera_statements.specs.Kinds.{kind_of, opener_of};
-ghost use Rattle.tera_parts.specs.Rooms.{limits_of};
+ghost use Rattle.tera_expr_parts.specs.Rooms.{limits_of};
 ghost use Rattle.tera_statements.specs.Simple.{is_free};
 ghost use Rattle.tera_expect.specs.Taking.{Refuses, RefusesIn, Took};
 ghost use Rattle.tera_statements.specs.declared.fronts.Front.TheVariants as fronts;
@@ -28,8 +28,8 @@ use crate::simple::{Extension, Jump, extends, include, read_jump};
 use std::alloc::{AllocError, Global};
 use tera_base::Error;
 use tera_expect::take;
+use tera_expr_reader::expression;
 use tera_lexer::{Cursor, Token};
-use tera_reader::expression;
 use tera_tree::Node;
 
 /// Reads the next item of a body, where one stands there.

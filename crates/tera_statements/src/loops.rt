@@ -1,7 +1,7 @@
 //! Loops, and the `else` of loops and conditions.
 
 ghost use Rattle.std.specs.Prelude.{IfErr, IfOk, ◌∷◌};
-ghost use Rattle.tera_parts.specs.Rooms.{limits_of};
+ghost use Rattle.tera_expr_parts.specs.Rooms.{limits_of};
 ghost use Rattle.tera_grammar.specs.statements.Grammar.{Path, in_loop};
 ghost use Rattle.tera_grammar.specs.statements.Reading as reading;
 ghost use Rattle.tera_grammar.specs.statements.Reading.{else_of, for_of};

@@ -5,7 +5,7 @@ ghost use Rattle.tera_base.specs.Errors.{IsMemory};
 ghost use Rattle.tera_base.specs.ValueView.{value_view};
 ghost use Rattle.tera_base.specs.Values.{Nothing};
 ghost use Rattle.tera_grammar.specs.Words.{is_none};
-ghost use Rattle.tera_parts.specs.Rooms.{limits_of};
+ghost use Rattle.tera_expr_parts.specs.Rooms.{limits_of};
 ghost use Rattle.tera_grammar.specs.expressions.Marks.{Assign, Colon};
 ghost use Rattle.tera_grammar.specs.expressions.Reading.Front.{takes};
 ghost use Rattle.tera_grammar.specs.statements.Components.{is_nothing};
@@ -26,9 +26,9 @@ use crate::settings::Setting;
 use std::collections::BTreeMap;
 use tera_base::{Error, Span, Value};
 use tera_expect::{Fixed, begins, eat, expect, name, take};
+use tera_expr_parts::is_none;
+use tera_expr_reader::{literal_array, literal_map};
 use tera_lexer::{Cursor, Token};
-use tera_parts::is_none;
-use tera_reader::{literal_array, literal_map};
 use tera_tree::{ArgType, ComponentArgument};
 
 /// The parameters of a component: its arguments, and the name of the one that takes the rest.

@@ -1,8 +1,8 @@
 //! What a template is read with.
 
-ghost use Rattle.tera_parts.specs.Rooms.{AreValid, limits_of};
+ghost use Rattle.tera_expr_parts.specs.Rooms.{AreValid, limits_of};
 
-use tera_parts::{Limits, Scope};
+use tera_expr_parts::{Limits, Scope};
 
 /// What stays the same while an item of the top level is read.
 #[derive(Drop)]

@@ -12,7 +12,7 @@ ghost use Rattle.tera_statements.specs.Adding.{added_view, here};
 ghost use Rattle.tera_statements.specs.Outputs.{output_view};
 ghost use Rattle.tera_statements.specs.Items.{AreEmptyTexts, GivesStep, GoesByItem};
 ghost use Rattle.tera_statements.specs.Kinds.{kind_of};
-ghost use Rattle.tera_parts.specs.Rooms.{AreValid, limits_of};
+ghost use Rattle.tera_expr_parts.specs.Rooms.{AreValid, limits_of};
 ghost use Rattle.tera_expect.specs.Taking.{RefusesIn, Took};
 ghost use Rattle.tera_statements.specs.Templates.{Excludes, GivesTemplate, GivesTop, ReadsTemplate, StandsNext, below_top, phase_if_any, phase_of, weight_of};
 ghost use Rattle.tera_statements.specs.declared.fronts.Front.TheVariants as fronts;
@@ -29,8 +29,8 @@ use crate::parts::{quote, unknown_tag};
 use crate::settings::Setting;
 use crate::simple::Extension;
 use tera_base::{Error, Span};
+use tera_expr_parts::Limits;
 use tera_lexer::Cursor;
-use tera_parts::Limits;
 use tera_tree::Node;
 
 impl ParserOutput {
@@ -130,8 +130,8 @@ fn is_blank(text: &str) -> bool
     text.trim_start().is_empty()
 }
 
-/// Reads the tokens that are left as a whole template, within limits that [`Limits::valid`](tera_parts::Limits::valid)
-/// accepts.
+/// Reads the tokens that are left as a whole template, within limits that
+/// [`Limits::valid`](tera_expr_parts::Limits::valid) accepts.
 ///
 /// An error is the first fault that is met from left to right: the lexical fault, the end of the input, or a syntax
 /// error, whose notes name no file; or it is `Memory`. Empty texts, as comments are, take no memory.

@@ -6,8 +6,8 @@ use std::fmt::Display;
 use std::process::Abort;
 use std::test::Fail;
 use tera_base::Value;
-use tera_text::push_definition;
 use tera_tree::{BinaryOperator, ComponentArgument, ComponentDefinition, Expression, Node};
+use tera_tree_text::push_definition;
 
 fn shown<T: Display>(alloc: Global, x: &T) -> Result<String, AllocError> {
     format!(in alloc; "{x}")

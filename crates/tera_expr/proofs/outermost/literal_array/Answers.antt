@@ -1,4 +1,4 @@
-use Rattle.tera_parts.specs.Rooms.{limits_of}
+use Rattle.tera_expr_parts.specs.Rooms.{limits_of}
 use Rattle.tera_expr.proofs.PromisesLemmas.{array_was_found, array_complete}
 use Rattle.tera_expr.proofs.outermost.literal_array.Goals as goal
 

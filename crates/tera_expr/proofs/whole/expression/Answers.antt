@@ -1,4 +1,4 @@
-use Rattle.tera_parts.specs.Rooms.{limits_of}
+use Rattle.tera_expr_parts.specs.Rooms.{limits_of}
 use Rattle.tera_expr.proofs.PromisesLemmas.{found, complete}
 use Rattle.tera_expr.proofs.whole.expression.Goals as goal
 

@@ -9,7 +9,7 @@ use Rattle.tera_grammar.specs.statements.Reading.{body}
 use Rattle.tera_grammar.proofs.statements.Loops.{going_ends, going_on, going_refused, going_starts}
 use Rattle.tera_statements.specs.Adding.{here}
 use Rattle.tera_statements.specs.Around.{context_of}
-use Rattle.tera_parts.specs.Rooms.{limits_of}
+use Rattle.tera_expr_parts.specs.Rooms.{limits_of}
 use Rattle.tera_expect.specs.Taking.{GoesOn}
 use Rattle.tera_statements.proofs.BodiesLemmas.{no_depth}
 use Rattle.tera_expect.proofs.TakingLemmas.{took_size, goes_further, stays, took_goes}

@@ -4,7 +4,7 @@ use Rattle.tera_grammar.specs.statements.Reading.Components as reading
 use Rattle.tera_grammar.specs.statements.Reading.Meeting.{meet}
 use Rattle.tera_statements.specs.Known.{met_of}
 use Rattle.tera_statements.specs.Parameters.{has_default}
-use Rattle.tera_parts.specs.Rooms.{limits_of}
+use Rattle.tera_expr_parts.specs.Rooms.{limits_of}
 use Rattle.tera_expect.specs.Taking.{name_at}
 use Rattle.tera_statements.proofs.ParametersLemmas.{annotation_known, argument_is, at_behind, at_read, mistyped, no_annotation, no_assigned, no_fresh_name, parameter_given}
 use Rattle.tera_expect.proofs.Steps.{failed_as, fails_by}

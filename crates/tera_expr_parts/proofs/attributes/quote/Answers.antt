@@ -1,0 +1,28 @@
+use Rattle.std.proofs.Common.{Some, ap, sym, ◌∙◌, string_bytes}
+use Rattle.tera_base.specs.Values as values
+use Rattle.tera_nodes.specs.Tree as tree
+use Rattle.tera_lexer.specs.grammar.Tokens.{Token}
+use Rattle.tera_lexer.specs.code.Seen.{seen}
+use Rattle.tera_grammar.specs.expressions.Concrete.{Simple, Escaped}
+use Rattle.tera_grammar.specs.expressions.Reading.Front.{taken_quote}
+use Rattle.tera_expr_parts.proofs.attributes.quote.Goals as goal
+
+pub returns-in_ok-text-in-Str-clause-gives : goal.returns-in_ok-text-in-Str-clause-gives
+returns-in_ok-text-in-Str-clause-gives c =
+    let took = c.in_ok-token.ensures.takes.1 ∙ ap (λ t. Token (seen t) c.in_ok-token.span c.take.new.cursor.left) c.in-Str.is in
+    let here = sym c.in_ok-token.ensures.takes.5 in
+    let x = Simple c.in-Str.text.now in (
+      x,
+      ap taken_quote took ∙ ap (λ s. Some ((x, s), c.take.new.cursor.left)) here,
+      c.in_ok-text-in-Str.ensures ∙ ap (λ s. tree.Const (values.Text c.in-Str.text.now) s) here,
+    )
+
+pub returns-in_ok-string-in-String-clause-gives : goal.returns-in_ok-string-in-String-clause-gives
+returns-in_ok-string-in-String-clause-gives c =
+    let took = c.in_ok-token.ensures.takes.1 ∙ ap (λ t. Token (seen t) c.in_ok-token.span c.take.new.cursor.left) c.in-String.is in
+    let here = sym c.in_ok-token.ensures.takes.5 in
+    let x = Escaped (string_bytes c.in-String.text) in (
+      x,
+      ap taken_quote took ∙ ap (λ s. Some ((x, s), c.take.new.cursor.left)) here,
+      c.in_ok-string-in-String.ensures ∙ ap (λ s. tree.Const (values.Text (string_bytes c.in-String.text)) s) here,
+    )

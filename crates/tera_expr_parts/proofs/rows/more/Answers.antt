@@ -1,0 +1,12 @@
+use Rattle.std.proofs.Common.{not, Ok, subst}
+use Rattle.tera_lexer.specs.code.Cursors.{Position}
+use Rattle.tera_expr_parts.specs.Rows.{Continues}
+use Rattle.tera_expect.specs.Taking.{mark_of}
+use Rattle.tera_expr_parts.proofs.RowsLemmas.{comma_then}
+use Rattle.tera_expr_parts.proofs.rows.more.Goals as goal
+
+pub returns-clause-gives : goal.returns-clause-gives
+returns-clause-gives c =
+    let stays = rw c.if-eat.false at c.eat.ensures in
+    subst (λ (q : Position). Continues (mark_of c.args.end) q.left c.eat-2.new.cursor (Ok (not c.eat-2.result))) stays.1
+    (comma_then (mark_of c.args.end) c.eat.new.cursor.left c.expect.new.cursor c.eat-2.new.cursor c.eat-2.result c.in_ok-expect.ensures.gives c.eat-2.ensures)

@@ -1,0 +1,200 @@
+//! The faults of expressions, in the order in which the language's document lists them.
+
+ghost use Rattle.std.specs.Prelude.{◌⊎◌};
+ghost use Rattle.tera_base.specs.Errors.{TellsBy};
+ghost use Rattle.tera_lexer.specs.code.Cursors.{TellsAt};
+ghost use Rattle.tera_lexer.specs.grammar.Faults.{BeginsWith, EndsWith};
+ghost use Rattle.tera_lexer.specs.grammar.Place.{IsWithin};
+ghost use Rattle.tera_expr_parts.specs.Ranges.{RunsFrom};
+ghost use Rattle.tera_expect.specs.Taking.{Refuses};
+
+use std::alloc::{AllocError, Global};
+use tera_base::{Error, Span};
+use tera_expect::{Fixed, expect, fault, noted, reported};
+use tera_lexer::{Cursor, Token};
+use tera_tree::UnaryOperator;
+
+/// That a token begins no expression, which was taken.
+pub(crate) fn no_expression(cursor: &Cursor<'_>, token: &Token<'_>) -> Error
+    ensures { Refuses cursor.now result }
+{
+    let message = format!(in cursor.alloc();
+        "Found {token} but expected one of: integer, string, bool, ident, `-`, `not`, `<`, `{{`, `[` or `(`"
+    );
+    reported(cursor, message)
+}
+
+/// That a prefix stands behind a prefix; it is taken.
+#[tactic(auto, unfolding(tera_expect::specs::Taking::Refuses, tera_expect::specs::Taking::Took), using(tera_expect::proofs::TakingLemmas::refused_behind))]
+pub fn consecutive(cursor: &mut Cursor<'_>) -> Error
+    ensures { Refuses cursor.old result }
+{
+    match cursor.next_or_eoi() {
+        Ok((_, span)) => Error::syntax_error(
+            cursor.alloc(),
+            "`-` and `not` cannot be used consecutively.",
+            &span,
+        ),
+        Err(error) => error,
+    }
+}
+
+/// That a `not` stands behind an operand without `in`; it is taken.
+#[tactic(auto, using(tera_expect::proofs::TakingLemmas::refused_behind))]
+pub fn misplaced_not(cursor: &mut Cursor<'_>) -> Error
+    ensures { Refuses cursor.old result }
+{
+    match expect(cursor, Fixed::Not) {
+        Ok(()) => fault(cursor, "`not` is only valid here as part of `not in`"),
+        Err(error) => error,
+    }
+}
+
+/// That a prefix stands behind `~`.
+pub(crate) fn prefix_behind_tilde(cursor: &Cursor<'_>, prefix: UnaryOperator) -> Error
+    ensures { Refuses cursor.now result }
+{
+    let message = format!(in cursor.alloc(); "`{prefix}` is not allowed after `~`");
+    reported(cursor, message)
+}
+
+const TOO_COMPLEX: &str = "The expression is too complex";
+
+/// That more expressions or links are open than may be.
+pub fn too_complex(cursor: &Cursor<'_>) -> Error
+    ensures { Refuses cursor.now result }
+{
+    fault(cursor, TOO_COMPLEX)
+}
+
+/// The same at a word, which comes next.
+pub(crate) fn too_complex_at(cursor: &Cursor<'_>, word: &Span) -> Error
+    ensures { TellsAt word.now result }
+{
+    Error::syntax_error(cursor.alloc(), TOO_COMPLEX, word)
+}
+
+/// That more subscripts are open than may be, which are so many.
+pub(crate) fn too_many_subscripts(cursor: &Cursor<'_>, most: usize) -> Error
+    ensures { Refuses cursor.now result }
+{
+    let message = format!(in cursor.alloc();
+        "Identifiers can only have up to {most} nested brackets."
+    );
+    reported(cursor, message)
+}
+
+/// That more arrays are open than may be, which are so many.
+pub(crate) fn too_many_arrays(cursor: &Cursor<'_>, most: usize) -> Error
+    ensures { Refuses cursor.now result }
+{
+    let message = format!(in cursor.alloc(); "Arrays can have a maximum of {most} dimensions.");
+    reported(cursor, message)
+}
+
+/// That an argument of this name was defined before, where the names tell.
+#[tactic(auto, using(tera_expect::proofs::TakingLemmas::same_refused))]
+pub(crate) fn repeated_argument(cursor: &Cursor<'_>, name: &str, names: &[(&str, Span)]) -> Error
+    ensures { Refuses cursor.now result }
+{
+    let message = format!(in cursor.alloc(); "Keyword argument `{name}` is defined more than once");
+    let error = reported(cursor, message);
+    for (known, span) in names {
+        if *known == name {
+            return noted(error, "first defined here", span);
+        }
+    }
+    error
+}
+
+/// That a token, which stands at the span, is no key of a map.
+pub(crate) fn no_key(alloc: Global, token: &Token<'_>, span: &Span) -> Error
+    ensures { TellsAt span.now result }
+{
+    let message = format!(in alloc;
+        "Found {token} but expected `...`, a string, an integer or a bool."
+    );
+    Error::reported(alloc, message, span)
+}
+
+/// That a name, which was taken last, is reserved; `purpose` ends the sentence.
+pub(crate) fn reserved(cursor: &Cursor<'_>, name: &str, purpose: &str) -> Error
+    ensures { Refuses cursor.now result }
+{
+    let message = format!(in cursor.alloc();
+        "{name} is a reserved keyword of Tera, it cannot be {purpose}"
+    );
+    reported(cursor, message)
+}
+
+/// That no name stands behind the `<` of a component, which was taken last.
+pub fn no_component_name(cursor: &Cursor<'_>) -> Error
+    ensures { Refuses cursor.now result }
+{
+    fault(
+        cursor,
+        "Found `<` but expected identifier after it for component call. Use `<` for comparisons in proper context.",
+    )
+}
+
+/// That a token, which was taken, is no value of an attribute.
+pub(crate) fn no_attribute_value(cursor: &Cursor<'_>, token: &Token<'_>) -> Error
+    ensures { Refuses cursor.now result }
+{
+    let message = format!(in cursor.alloc();
+        "Expected \"string\" or {{expression}} but found {token}"
+    );
+    reported(cursor, message)
+}
+
+/// That the next token does not end a component; it is told at the token before.
+#[tactic(auto, unfolding(tera_expect::specs::Taking::Refuses), using(tera_expect::proofs::TakingLemmas::last_refused))]
+pub(crate) fn unclosed_component(cursor: &mut Cursor<'_>) -> Error
+    ensures { Refuses cursor.old result }
+{
+    let alloc = cursor.alloc();
+    let last = cursor.current_span().copied();
+    match cursor.next_or_eoi() {
+        Ok((token, _)) => {
+            let message = format!(in alloc; "Found {token} but expected `/` or `>`");
+            Error::reported(alloc, message, &last)
+        }
+        Err(error) => error,
+    }
+}
+
+/// That a component in an expression has a body; its `>` was taken last.
+pub(crate) fn component_with_body(cursor: &Cursor<'_>) -> Error
+    ensures { Refuses cursor.now result }
+{
+    fault(
+        cursor,
+        "Components with body content must use tag syntax: {% <component()> %}...{% </component> %}",
+    )
+}
+
+/// A fault from the token at the span to the token taken last, whose text was made.
+pub fn reported_from(
+    cursor: &Cursor<'_>,
+    first: &Span,
+    message: Result<String, AllocError>,
+) -> Error
+    requires { IsWithin cursor.now.source first.now }
+    ensures { TellsBy (λ text span. RunsFrom first.now cursor.now span) result }
+{
+    Error::reported(cursor.alloc(), message, &up_to_last(cursor, first))
+}
+
+/// From the start of a span to the end of the token taken last.
+pub fn up_to_last(cursor: &Cursor<'_>, first: &Span) -> Span
+    ensures within { IsWithin cursor.now.source first.now → IsWithin cursor.now.source result }
+    ensures starts { BeginsWith first.now result }
+    ensures ends { EndsWith first.now result ⊎ EndsWith cursor.now.span result }
+{
+    let last = cursor.current_span();
+    let mut span = first.copied();
+    if span.range.end <= last.range.end {
+        span.expand(last);
+    }
+    span
+}

@@ -1,0 +1,71 @@
+-- The parts of a comprehension, one behind another.
+use Rattle.std.proofs.Common.{◌≡◌, ℕ, List, Option, Some, None, refl, ap, ◌∙◌}
+use Rattle.tera_base.specs.declared.utils.Span.{Span}
+use Rattle.tera_lexer.specs.grammar.Tokens.{Items}
+use Rattle.tera_nodes.specs.Tree.{Expr, MaybeExpr, ListComprehension}
+use Rattle.tera_grammar.specs.expressions.Operators.{In}
+use Rattle.tera_grammar.specs.expressions.Marks.{Mark, RightBracket, If, Operation}
+use Rattle.tera_grammar.specs.expressions.Concrete.{Name, Second, Tree, Atomic, Comprehension, Extra, no_extra, extra}
+use Rattle.tera_grammar.specs.Options.{◌>>=◌}
+use Rattle.tera_grammar.specs.expressions.Reading.Front.{Place, at, Reads, takes, skip}
+use Rattle.tera_grammar.specs.expressions.Reading.Parts.{Room, Reader, extra_at, extra_of}
+use Rattle.tera_grammar.specs.expressions.Reading.Atoms.{variables_of, comprehension_of}
+use Rattle.tera_grammar.proofs.expressions.Fronts.{none_skip}
+use Rattle.tera_expr_reader.proofs.RowsLemmas.{skip_taken}
+
+-- an expression behind a mark of its own
+module _ (f : Reader) (w : Room) (m : Mark) (k i : ℕ) (r : Items) where
+  pub extra_absent : takes m r ≡ None → extra_of f w m k (at i r) ≡ Some (no_extra, at i r)
+  unfolding extra_of
+  extra_absent h = ap (extra_at f w k (at i r)) (none_skip m i r h)
+
+  abbrev extra_made : Span → Reads Tree → Reads Extra
+  extra_made s o = o >>= λ e. Some (extra s e.0, e.1)
+
+  pub extra_present : (s : Span) (us : Items) (o : Reads Tree) → takes m r ≡ Some (s, us) → f w k (at i us) ≡ o → extra_of f w m k (at i r) ≡ extra_made s o
+  unfolding extra_of
+  extra_present s us o h read = ap (extra_at f w k (at i r)) (skip_taken m i r us s h) ∙ ap (extra_made s) read
+
+-- a comprehension behind its `for`
+module _ (f : Reader) (w : Room) (b : Span) (e : Tree) (s : Span) where
+  abbrev pub behind_end : (Name × Second) → Span → Tree → Extra → Reads Span → Reads Tree
+  behind_end v i t g o = o >>= λ c. Some (Atomic (Comprehension b e s v.0 v.1 i t g c.0), c.1)
+
+  abbrev pub behind_condition : (Name × Second) → Span → Tree → Reads Extra → Reads Tree
+  behind_condition v i t o = o >>= λ g. behind_end v i t g.0 (skip RightBracket g.1)
+
+  abbrev pub behind_target : (Name × Second) → Span → Reads Tree → Reads Tree
+  behind_target v i o = o >>= λ t. behind_condition v i t.0 (extra_of f w If 1 t.1)
+
+  abbrev pub behind_in : (Name × Second) → Reads Span → Reads Tree
+  behind_in v o = o >>= λ i. behind_target v i.0 (f w 1 i.1)
+
+  abbrev pub behind_variables : Reads (Name × Second) → Reads Tree
+  behind_variables o = o >>= λ v. behind_in v.0 (skip (Operation In) v.1)
+
+  pub by_variables : (p : Place) (o : Reads (Name × Second)) → variables_of p ≡ o → comprehension_of f w b e s p ≡ behind_variables o
+  unfolding comprehension_of
+  by_variables p o h = ap behind_variables h
+
+  module _ (p : Place) (v : Name × Second) (i : ℕ) (us : Items) (named : variables_of p ≡ Some (v, at i us)) where
+    pub no_in : takes (Operation In) us ≡ None → comprehension_of f w b e s p ≡ None
+    no_in h = by_variables p (Some (v, at i us)) named ∙ ap (behind_in v) (none_skip (Operation In) i us h)
+
+    module _ (vs : Items) (n : Span) (inside : takes (Operation In) us ≡ Some (n, vs)) where
+      pub by_target : (o : Reads Tree) → f w 1 (at i vs) ≡ o → comprehension_of f w b e s p ≡ behind_target v n o
+      by_target o h = by_variables p (Some (v, at i us)) named ∙ ap (behind_in v) (skip_taken (Operation In) i us vs n inside) ∙ ap (behind_target v n) h
+
+      module _ (t : Tree) (q : Place) (target : f w 1 (at i vs) ≡ Some (t, q)) where
+        pub by_condition : (o : Reads Extra) → extra_of f w If 1 q ≡ o → comprehension_of f w b e s p ≡ behind_condition v n t o
+        by_condition o h = by_target (Some (t, q)) target ∙ ap (behind_condition v n t) h
+
+        module _ (g : Extra) (j : ℕ) (ws : Items) (condition : extra_of f w If 1 q ≡ Some (g, at j ws)) where
+          pub by_end : (c : Span) (ts : Items) → takes RightBracket ws ≡ Some (c, ts) → comprehension_of f w b e s p ≡ Some (Atomic (Comprehension b e s v.0 v.1 n t g c), at j ts)
+          by_end c ts h = by_condition (Some (g, at j ws)) condition ∙ ap (behind_end v n t g) (skip_taken RightBracket j ws ts c h)
+
+          pub no_end : takes RightBracket ws ≡ None → comprehension_of f w b e s p ≡ None
+          no_end h = by_condition (Some (g, at j ws)) condition ∙ ap (behind_end v n t g) (none_skip RightBracket j ws h)
+
+pub same_parts : (e f : Expr) (k l : Option (List ℕ)) (n m : List ℕ) (t u : Expr) (g h : MaybeExpr) (s r : Span) → e ≡ f → k ≡ l → n ≡ m → t ≡ u → g ≡ h → s ≡ r
+    → ListComprehension e k n t g s ≡ ListComprehension f l m u h r
+same_parts e f k l n m t u g h s r a b c d i j = rw (a, b, c, d, i, j) refl

@@ -1,8 +1,0 @@
-use Rattle.std.proofs.Common.{◌≡◌, ◌++◌, drop, string_bytes}
-use Rattle.tera_nodes.specs.View.{filters_view}
-use Rattle.tera_text.specs.TreeText.{filters_text}
-use Rattle.tera_text.proofs.lines.push_filters.Given as goal
-
-abbrev pub invariant-loop-filter : goal.invariant-loop-filter
-invariant-loop-filter l =
-    string_bytes l.initial.out ++ filters_text l.behind (filters_view l.filter-items) ≡ string_bytes l.out ++ filters_text l.later (filters_view (drop l.filter-index l.filter-items))
