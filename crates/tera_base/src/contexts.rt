@@ -38,7 +38,8 @@ impl Context {
     /// `Memory`: it drops the value, and nothing changes.
     #[tactic(auto, using(crate::proofs::ContextViews::put_entry))]
     pub fn insert_value(&mut self, name: &str, value: Value) -> Result<(), Error>
-        ensures pairs { OnOk result (context_view self.new ≡ put name.now (value_view value) (context_view self.old)) }
+        ensures pairs { OnOk result (context_view self.new
+            ≡ put name.now (value_view value) (context_view self.old)) }
         ensures unchanged { OnErr result (context_view self.new ≡ context_view self.old) }
         ensures refusal { IfErr result IsMemory }
     {
@@ -50,7 +51,8 @@ impl Context {
     /// The value under a name.
     #[tactic(auto, using(crate::proofs::ContextViews::found_entry))]
     pub fn get(&self, name: &str) -> Option<&Value>
-        ensures { option_map (λ v. value_view v.now) result ≡ found name.now (context_view self.now) }
+        ensures { option_map (λ v. value_view v.now) result
+            ≡ found name.now (context_view self.now) }
     {
         self.values.get(name)
     }

@@ -88,7 +88,8 @@ impl Error {
     /// A syntax error with this place and no notes, whose text was made, or `Memory` where it was not, or
     /// where the error finds none.
     pub fn reported(alloc: Global, message: Result<String, AllocError>, span: &Span) -> Error
-        ensures tells { MatchResult message (λ text. Tells (string_bytes text) span.now result) (λ _. IsMemory result) }
+        ensures tells { MatchResult message (λ text. Tells (string_bytes text) span.now result)
+            (λ _. IsMemory result) }
         ensures notes { HasNoNotes result }
     {
         let message = match message {
@@ -128,7 +129,8 @@ impl ReportError {
 
     /// Adds a note behind the others. The only refusal is `Memory`.
     pub fn add_note(&mut self, label: &str, filename: &str, span: &Span) -> Result<(), Error>
-        ensures added { OnOk result (report_view self.new ≡ with_note (report_view self.old) (NoteOf label.now filename.now span.now)) }
+        ensures added { OnOk result (report_view self.new
+            ≡ with_note (report_view self.old) (NoteOf label.now filename.now span.now)) }
         ensures unchanged { OnErr result (report_view self.new ≡ report_view self.old) }
         ensures refusal { IfErr result IsMemory }
     {

@@ -20,7 +20,8 @@ pub fn same_key(a: &Key, b: &Key) -> bool
 
 /// Equal keys hash alike: they take one state of a hasher to one state.
 pub fn hashes_agree<H: Hasher>(a: &Key, b: &Key, first: &mut H, second: &mut H)
-    ensures alike { key_view a.now ≡ key_view b.now → first.old ≡ second.old → first.new ≡ second.new }
+    ensures alike { key_view a.now ≡ key_view b.now → first.old ≡ second.old →
+        first.new ≡ second.new }
     ensures first { first.new ≡ fold H.write first.old (derived_hash.ghosts.hash_input a.now) }
     ensures second { second.new ≡ fold H.write second.old (derived_hash.ghosts.hash_input b.now) }
 {
@@ -46,7 +47,8 @@ pub fn same_map(a: &Map, b: &Map) -> bool
 
 /// Nodes with places are equal exactly where the nodes are and the places are the same.
 pub fn same_spanned<T: PartialEq>(a: &Spanned<T>, b: &Spanned<T>) -> bool
-    ensures { IsTrue result ↔ (IsTrue (T.eq (node_of a.now) (node_of b.now)) × (span_of a.now ≡ span_of b.now)) }
+    ensures { IsTrue result
+        ↔ (IsTrue (T.eq (node_of a.now) (node_of b.now)) × (span_of a.now ≡ span_of b.now)) }
 {
     a == b
 }

@@ -55,7 +55,8 @@ fn show_inner<W: Write>(value: &Value, f: &mut Formatter<W>) -> fmt::Result
 
 // A text inside another value.
 fn show_quoted<W: Write>(text: &str, f: &mut Formatter<W>) -> fmt::Result
-    ensures { WritesOnOk W.write_str_gives f.old result (codes "\"" ++ (text.now ++ codes "\"")) f.new }
+    ensures { WritesOnOk W.write_str_gives f.old result
+        (codes "\"" ++ (text.now ++ codes "\"")) f.new }
 {
     f.write_str("\"")?;
     f.write_str(text)?;
@@ -64,7 +65,8 @@ fn show_quoted<W: Write>(text: &str, f: &mut Formatter<W>) -> fmt::Result
 
 #[cycle(show)]
 fn show_array<W: Write>(values: &Vec<Value>, f: &mut Formatter<W>) -> fmt::Result
-    ensures { WritesOnOk W.write_str_gives f.old result (codes "[" ++ (vals_text false (vals_view values.now.items) ++ codes "]")) f.new }
+    ensures { WritesOnOk W.write_str_gives f.old result
+        (codes "[" ++ (vals_text false (vals_view values.now.items) ++ codes "]")) f.new }
 {
     f.write_str("[")?;
     show_values(values, f)?;
@@ -73,7 +75,8 @@ fn show_array<W: Write>(values: &Vec<Value>, f: &mut Formatter<W>) -> fmt::Resul
 
 #[cycle(show)]
 fn show_map<W: Write>(map: &Map, f: &mut Formatter<W>) -> fmt::Result
-    ensures { WritesOnOk W.write_str_gives f.old result (codes "{" ++ (pairs_text false (pairs_view map.now) ++ codes "}")) f.new }
+    ensures { WritesOnOk W.write_str_gives f.old result
+        (codes "{" ++ (pairs_text false (pairs_view map.now) ++ codes "}")) f.new }
 {
     f.write_str("{")?;
     show_pairs(map, f)?;
@@ -82,7 +85,8 @@ fn show_map<W: Write>(map: &Map, f: &mut Formatter<W>) -> fmt::Result
 
 #[cycle(show)]
 fn show_values<W: Write>(values: &Vec<Value>, f: &mut Formatter<W>) -> fmt::Result
-    ensures { WritesOnOk W.write_str_gives f.old result (vals_text false (vals_view values.now.items)) f.new }
+    ensures { WritesOnOk W.write_str_gives f.old result
+        (vals_text false (vals_view values.now.items)) f.new }
 {
     let mut later = false;
     for value in values {
@@ -95,7 +99,8 @@ fn show_values<W: Write>(values: &Vec<Value>, f: &mut Formatter<W>) -> fmt::Resu
 // One of several values.
 #[cycle(show)]
 fn show_value<W: Write>(later: bool, value: &Value, f: &mut Formatter<W>) -> fmt::Result
-    ensures { WritesOnOk W.write_str_gives f.old result (comma_text later ++ inner_text (value_view value.now)) f.new }
+    ensures { WritesOnOk W.write_str_gives f.old result
+        (comma_text later ++ inner_text (value_view value.now)) f.new }
 {
     if later {
         f.write_str(", ")?;
@@ -105,7 +110,8 @@ fn show_value<W: Write>(later: bool, value: &Value, f: &mut Formatter<W>) -> fmt
 
 #[cycle(show)]
 fn show_pairs<W: Write>(map: &Map, f: &mut Formatter<W>) -> fmt::Result
-    ensures { WritesOnOk W.write_str_gives f.old result (pairs_text false (pairs_view map.now)) f.new }
+    ensures { WritesOnOk W.write_str_gives f.old result
+        (pairs_text false (pairs_view map.now)) f.new }
 {
     let mut keys = map.keys().iter();
     let mut later = false;
@@ -122,7 +128,10 @@ fn show_pairs<W: Write>(map: &Map, f: &mut Formatter<W>) -> fmt::Result
 // One of several pairs.
 #[cycle(show)]
 fn show_pair<W: Write>(later: bool, key: &Key, value: &Value, f: &mut Formatter<W>) -> fmt::Result
-    ensures { WritesOnOk W.write_str_gives f.old result (comma_text later ++ (inner_key_text (key_view key.now) ++ (codes ": " ++ inner_text (value_view value.now)))) f.new }
+    ensures { WritesOnOk W.write_str_gives f.old result
+        (comma_text later
+        ++ (inner_key_text (key_view key.now) ++ (codes ": " ++ inner_text (value_view value.now))))
+        f.new }
 {
     if later {
         f.write_str(", ")?;

@@ -119,7 +119,8 @@ impl<V> MapOf<V> {
 
     /// The pairs, in the order in which their keys came. No key comes twice.
     pub fn iter(&self) -> Zip<slice::Iter<'_, Key>, slice::Iter<'_, V>>
-        ensures pairs { zip (iter_rest (zip_first result)) (iter_rest (zip_second result)) ≡ self.now }
+        ensures pairs { zip (iter_rest (zip_first result)) (iter_rest (zip_second result))
+            ≡ self.now }
         ensures distinct { IsDistinct same_key (keys_of self.now) }
     {
         self.keys.as_slice().iter().zip(self.values.iter())
@@ -149,7 +150,8 @@ impl<V> MapOf<V> {
     where
         V: Drop,
         requires { length values.items ≡ length self.now }
-        ensures keys { IfOk result (λ m. map key_view (keys_of m) ≡ map key_view (keys_of self.now)) }
+        ensures keys { IfOk result (λ m.
+            map key_view (keys_of m) ≡ map key_view (keys_of self.now)) }
         ensures values { IfOk result (λ m. values_of m ≡ values.items) }
     {
         let keys = self.keys.copied()?;
@@ -168,8 +170,10 @@ fn put_pair<V: Drop>(
     requires { length values.old.items ≡ length keys.old }
     ensures beside { length values.new.items ≡ length keys.new }
     ensures before { IfOk result (λ before. before ≡ value_at key (zip keys.old values.old.items)) }
-    ensures pairs { OnOk result (zip keys.new values.new.items ≡ put key value (zip keys.old values.old.items)) }
-    ensures unchanged { OnErr result (zip keys.new values.new.items ≡ zip keys.old values.old.items) }
+    ensures pairs { OnOk result (zip keys.new values.new.items
+        ≡ put key value (zip keys.old values.old.items)) }
+    ensures unchanged { OnErr result (zip keys.new values.new.items
+        ≡ zip keys.old values.old.items) }
     ensures refusal { IfErr result IsMemory }
 {
     match keys.place_of(&key) {

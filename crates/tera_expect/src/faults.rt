@@ -22,7 +22,8 @@ pub fn fault(cursor: &Cursor<'_>, text: &str) -> Error
 /// A fault at the token taken last, whose text was made; `Memory` where it was not.
 #[tactic(auto, using(crate::proofs::TakingLemmas::last_refused, crate::proofs::TakingLemmas::memory_refused))]
 pub fn reported(cursor: &Cursor<'_>, message: Result<String, AllocError>) -> Error
-    ensures tells { MatchResult message (λ text. Tells (string_bytes text) cursor.now.span result) (λ _. IsMemory result) }
+    ensures tells { MatchResult message (λ text. Tells (string_bytes text) cursor.now.span result)
+        (λ _. IsMemory result) }
     ensures refusal { Refuses cursor.now result }
 {
     Error::reported(cursor.alloc(), message, cursor.current_span())

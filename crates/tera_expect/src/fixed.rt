@@ -158,7 +158,8 @@ pub fn take<'a>(cursor: &mut Cursor<'a>) -> Result<(Token<'a>, Span), Error>
 /// Takes the next token, which has to be this one: another is a fault at that token.
 #[tactic(auto, unfolding(crate::specs::Taking::Took, crate::specs::Taking::Refuses))]
 pub fn expect(cursor: &mut Cursor<'_>, wanted: Fixed) -> Result<(), Error>
-    ensures gives { GivesAs (place_at cursor.new.span) result cursor.new.left (takes (mark_of wanted) cursor.old.left) }
+    ensures gives { GivesAs (place_at cursor.new.span) result cursor.new.left
+        (takes (mark_of wanted) cursor.old.left) }
     ensures refusal { IfErr result (Refuses cursor.old) }
     ensures later { IfOk result (λ _. Took cursor.old cursor.new) }
 {
@@ -172,7 +173,8 @@ pub fn expect(cursor: &mut Cursor<'_>, wanted: Fixed) -> Result<(), Error>
 /// Takes the next token, which has to be a name: another is a fault at that token.
 #[tactic(auto, unfolding(crate::specs::Taking::Took, crate::specs::Taking::Refuses))]
 pub fn name<'a>(cursor: &mut Cursor<'a>) -> Result<&'a str, Error>
-    ensures gives { GivesAs (name_at cursor.new.span) result cursor.new.left (taken_name cursor.old.left) }
+    ensures gives { GivesAs (name_at cursor.new.span) result cursor.new.left
+        (taken_name cursor.old.left) }
     ensures refusal { IfErr result (Refuses cursor.old) }
     ensures later { IfOk result (λ _. Took cursor.old cursor.new) }
 {

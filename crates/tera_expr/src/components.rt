@@ -22,7 +22,9 @@ pub fn component_name(_alloc: Global, cursor: &mut Cursor<'_>) -> Result<String,
     // No dot follows a name.
     ensures ends { IfOk result (λ _. EndsPath cursor.new.left) }
     // A name is not refused where no dot follows.
-    ensures complete { (x : Path) (rest : Items) → EndsPath rest → cursor.old.left ≡ path_yield x rest → TakesOnly (λ s. string_bytes s ≡ path_output x) rest result cursor.new }
+    ensures complete { (x : Path) (rest : Items) → EndsPath rest →
+        cursor.old.left ≡ path_yield x rest →
+        TakesOnly (λ s. string_bytes s ≡ path_output x) rest result cursor.new }
     ensures refusal { IfErr result (RefusesFrom cursor.old) }
     ensures later { IfOk result (λ _. IsLater cursor.old cursor.new) }
 {

@@ -50,10 +50,13 @@ pub fn attributes(
 ) -> Result<Vec<MapEntry>, Error>
     requires { AreValid (limits_of scope.limits) }
     // What was taken are the tokens of attributes within the limits, and they are returned.
-    ensures found { IfOk result (λ v. TookAttributes (limits_of scope.limits) scope.in_loop cursor.old v cursor.new) }
+    ensures found { IfOk result (λ v.
+        TookAttributes (limits_of scope.limits) scope.in_loop cursor.old v cursor.new) }
     // Attributes within the limits are not refused where what ends attributes follows.
-    ensures complete { (x : Attributes) (rest : Items) → AreAttributes scope.in_loop x → EachAttribute (Within (limits_of scope.limits)) x → EndsAttributes rest
-        → cursor.old.left ≡ attributes_yield x rest → TakesOnly (λ v. entries_view v.items ≡ attributes_output scope.in_loop x) rest result cursor.new }
+    ensures complete { (x : Attributes) (rest : Items) → AreAttributes scope.in_loop x →
+        EachAttribute (Within (limits_of scope.limits)) x → EndsAttributes rest →
+        cursor.old.left ≡ attributes_yield x rest → TakesOnly
+        (λ v. entries_view v.items ≡ attributes_output scope.in_loop x) rest result cursor.new }
     ensures refusal { IfErr result (RefusesFrom cursor.old) }
     ensures later { IfOk result (λ _. IsLater cursor.old cursor.new) }
 {
@@ -72,10 +75,13 @@ pub fn kwargs(
 ) -> Result<BTreeMap<String, Expression>, Error>
     requires { AreValid (limits_of scope.limits) }
     // What was taken are the tokens of arguments within the limits, and they are returned.
-    ensures found { IfOk result (λ m. TookKwargs (limits_of scope.limits) scope.in_loop cursor.old m cursor.new) }
+    ensures found { IfOk result (λ m.
+        TookKwargs (limits_of scope.limits) scope.in_loop cursor.old m cursor.new) }
     // Arguments within the limits are not refused, whatever follows.
-    ensures complete { (x : Opened) (rest : Items) → AreKwargs scope.in_loop x → EachRow (Within (limits_of scope.limits)) x.row
-        → cursor.old.left ≡ kwargs_yield x rest → TakesOnly (λ m. args_view m.entries ≡ kwargs_output scope.in_loop x) rest result cursor.new }
+    ensures complete { (x : Opened) (rest : Items) → AreKwargs scope.in_loop x →
+        EachRow (Within (limits_of scope.limits)) x.row → cursor.old.left ≡ kwargs_yield x rest →
+        TakesOnly
+        (λ m. args_view m.entries ≡ kwargs_output scope.in_loop x) rest result cursor.new }
     ensures refusal { IfErr result (RefusesFrom cursor.old) }
     ensures later { IfOk result (λ _. IsLater cursor.old cursor.new) }
 {
@@ -90,10 +96,13 @@ pub fn kwargs(
 pub fn filter(_alloc: Global, cursor: &mut Cursor<'_>, scope: Scope) -> Result<Expression, Error>
     requires { AreValid (limits_of scope.limits) }
     // What was taken are the tokens of a filter within the limits, and it is returned.
-    ensures found { IfOk result (λ e. TookFilter (limits_of scope.limits) scope.in_loop cursor.old e cursor.new) }
+    ensures found { IfOk result (λ e.
+        TookFilter (limits_of scope.limits) scope.in_loop cursor.old e cursor.new) }
     // A filter within the limits is not refused where what ends filters follows.
-    ensures complete { (x : Filtering) (rest : Items) → AreArgs scope.in_loop x.args → EachArgs (Within (limits_of scope.limits)) x.args → EndsFilter rest
-        → cursor.old.left ≡ filter_yield x rest → TakesOnly (λ e. expression_view e ≡ filter_output scope.in_loop cursor.old.span x) rest result cursor.new }
+    ensures complete { (x : Filtering) (rest : Items) → AreArgs scope.in_loop x.args →
+        EachArgs (Within (limits_of scope.limits)) x.args → EndsFilter rest →
+        cursor.old.left ≡ filter_yield x rest → TakesOnly (λ e.
+        expression_view e ≡ filter_output scope.in_loop cursor.old.span x) rest result cursor.new }
     ensures refusal { IfErr result (RefusesFrom cursor.old) }
     ensures later { IfOk result (λ _. IsLater cursor.old cursor.new) }
 {
@@ -114,8 +123,9 @@ pub fn literal_array(
     // What was taken are the tokens of an array of constants within the limits, and its value is returned.
     ensures found { IfOk result (λ v. TookArray (limits_of limits) cursor.old v cursor.new) }
     // An array of constants within the limits is not refused, whatever follows.
-    ensures complete { (x : Opened) (vs : Vals) (rest : Items) → IsArray x vs → ArrayWithin (limits_of limits) x
-        → cursor.old.left ≡ array_yield x rest → TakesOnly (λ v. value_view v ≡ values.Array vs) rest result cursor.new }
+    ensures complete { (x : Opened) (vs : Vals) (rest : Items) → IsArray x vs →
+        ArrayWithin (limits_of limits) x → cursor.old.left ≡ array_yield x rest →
+        TakesOnly (λ v. value_view v ≡ values.Array vs) rest result cursor.new }
     ensures refusal { IfErr result (RefusesFrom cursor.old) }
     ensures later { IfOk result (λ _. IsLater cursor.old cursor.new) }
 {
@@ -137,8 +147,9 @@ pub fn literal_map(
     // What was taken are the tokens of a map of constants within the limits, and its value is returned.
     ensures found { IfOk result (λ v. TookMap (limits_of limits) cursor.old v cursor.new) }
     // A map of constants within the limits is not refused, whatever follows.
-    ensures complete { (x : Opened) (ps : Pairs) (rest : Items) → IsMap x ps → EachRow (Within (limits_of limits)) x.row
-        → cursor.old.left ≡ map_yield x rest → TakesOnly (λ v. value_view v ≡ values.Map ps) rest result cursor.new }
+    ensures complete { (x : Opened) (ps : Pairs) (rest : Items) → IsMap x ps →
+        EachRow (Within (limits_of limits)) x.row → cursor.old.left ≡ map_yield x rest →
+        TakesOnly (λ v. value_view v ≡ values.Map ps) rest result cursor.new }
     ensures refusal { IfErr result (RefusesFrom cursor.old) }
     ensures later { IfOk result (λ _. IsLater cursor.old cursor.new) }
 {

@@ -30,10 +30,12 @@ pub fn expression(
 ) -> Result<Expression, Error>
     requires { AreValid (limits_of scope.limits) }
     // What was taken are the tokens of an expression within the limits, and it is returned.
-    ensures found { IfOk result (λ e. TookExpression (limits_of scope.limits) scope.in_loop cursor.old e cursor.new) }
+    ensures found { IfOk result (λ e.
+        TookExpression (limits_of scope.limits) scope.in_loop cursor.old e cursor.new) }
     // An expression within the limits is not refused where a token follows at which expressions end.
-    ensures complete { (t : Tree) (rest : Items) → IsExpression scope.in_loop t → Within (limits_of scope.limits) t → IsStop rest
-        → cursor.old.left ≡ yield t rest → TakesOnly (λ e. expression_view e ≡ output scope.in_loop t) rest result cursor.new }
+    ensures complete { (t : Tree) (rest : Items) → IsExpression scope.in_loop t →
+        Within (limits_of scope.limits) t → IsStop rest → cursor.old.left ≡ yield t rest →
+        TakesOnly (λ e. expression_view e ≡ output scope.in_loop t) rest result cursor.new }
     ensures refusal { IfErr result (RefusesFrom cursor.old) }
     ensures later { IfOk result (λ _. IsLater cursor.old cursor.new) }
 {

@@ -22,7 +22,8 @@ pub fn argument_name<'a>(
     arguments: &BTreeMap<String, Expression>,
     names: &mut Vec<(&'a str, Span)>,
 ) -> Result<&'a str, Error>
-    ensures gives { GivesAs (name_at cursor.new.span) result cursor.new.left (new_name_at (args_view arguments.now.entries) cursor.old.left) }
+    ensures gives { GivesAs (name_at cursor.new.span) result cursor.new.left
+        (new_name_at (args_view arguments.now.entries) cursor.old.left) }
     ensures refusal { IfErr result (Refuses cursor.old) }
     ensures later { IfOk result (λ _. Took cursor.old cursor.new) }
 {
@@ -41,7 +42,8 @@ pub fn put_argument(
     name: &str,
     value: Expression,
 ) -> Result<(), Error>
-    ensures puts { OnOk result (args_view arguments.new.entries ≡ put_arg name.now (expression_view value) (args_view arguments.old.entries)) }
+    ensures puts { OnOk result (args_view arguments.new.entries
+        ≡ put_arg name.now (expression_view value) (args_view arguments.old.entries)) }
     ensures refusal { IfErr result IsMemory }
 {
     let name = String::from_str(alloc, name)?;

@@ -69,7 +69,8 @@ impl Front {
 // What a token begins that is no name.
 #[tactic(auto, unfolding(crate::specs::Unfold::front_of_token))]
 fn symbol_front(token: &Token<'_>) -> Front
-    ensures { IsName (seen token.now) ⊎ ((span : Span) (items : Items) → front_kind result ≡ kind_of (reading.front_of_token (seen token.now) span items)) }
+    ensures { IsName (seen token.now) ⊎ ((span : Span) (items : Items) →
+        front_kind result ≡ kind_of (reading.front_of_token (seen token.now) span items)) }
 {
     match token {
         Token::Pipe => Front::Closes(Ending::Filter),
@@ -123,7 +124,8 @@ fn in_is_second(cursor: &Cursor<'_>) -> bool
 #[tactic(auto, unfolding(tera_expect::specs::Taking::Took))]
 pub fn take_operator(cursor: &mut Cursor<'_>, operator: Operator, negated: bool)
     requires { joined_by (operator_of operator) negated ≡ kind_of (reading.front cursor.old.left) }
-    ensures past { IsOperatorBefore (reading.front cursor.old.left) (operator_of operator) negated cursor.new.left }
+    ensures past { IsOperatorBefore (reading.front cursor.old.left)
+        (operator_of operator) negated cursor.new.left }
     ensures later { Took cursor.old cursor.new }
 {
     let _ = cursor.skip();
@@ -136,7 +138,8 @@ pub fn take_operator(cursor: &mut Cursor<'_>, operator: Operator, negated: bool)
 #[tactic(auto, unfolding(tera_expect::specs::Taking::Took))]
 pub fn take_condition(cursor: &mut Cursor<'_>)
     requires { chosen ≡ kind_of (reading.front cursor.old.left) }
-    ensures past { reading.front cursor.old.left ≡ reading.joins (reading.leads_condition cursor.new.span) cursor.new.left }
+    ensures past { reading.front cursor.old.left
+        ≡ reading.joins (reading.leads_condition cursor.new.span) cursor.new.left }
     ensures later { Took cursor.old cursor.new }
 {
     let _ = cursor.skip();
@@ -146,7 +149,8 @@ pub fn take_condition(cursor: &mut Cursor<'_>)
 #[tactic(auto, unfolding(tera_expect::specs::Taking::Took))]
 pub fn take_ending(cursor: &mut Cursor<'_>, ending: Ending)
     requires { ending_kind ending ≡ kind_of (reading.front cursor.old.left) }
-    ensures past { reading.front cursor.old.left ≡ reading.closes (ending_of ending cursor.new.span) cursor.new.left }
+    ensures past { reading.front cursor.old.left
+        ≡ reading.closes (ending_of ending cursor.new.span) cursor.new.left }
     ensures later { Took cursor.old cursor.new }
 {
     let _ = cursor.skip();

@@ -11,7 +11,8 @@ use tera_lexer::{Cursor, Token};
 /// The key of a pair.
 #[tactic(auto, unfolding(tera_expect::specs::Taking::Took, tera_expect::specs::Taking::Refuses))]
 pub fn key(cursor: &mut Cursor<'_>) -> Result<Key, Error>
-    ensures gives { GivesKey result cursor.new.span cursor.new.left (taken_literal cursor.old.left) }
+    ensures gives { GivesKey result cursor.new.span cursor.new.left
+        (taken_literal cursor.old.left) }
     ensures refusal { IfErr result (Refuses cursor.old) }
     ensures later { IfOk result (λ _. Took cursor.old cursor.new) }
 {

@@ -26,7 +26,8 @@ pub fn text(alloc: Global, text: &str, span: Span) -> Result<Expression, AllocEr
 
 /// A text that was made, which stands at the span.
 pub fn string(alloc: Global, text: String, span: Span) -> Result<Expression, AllocError>
-    ensures { IfOk result (λ e. expression_view e ≡ tree.Const (values.Text (string_bytes text)) span) }
+    ensures { IfOk result (λ e.
+        expression_view e ≡ tree.Const (values.Text (string_bytes text)) span) }
 {
     Ok(Expression::Const(Spanned::new(alloc, Value::String(text), span)?))
 }

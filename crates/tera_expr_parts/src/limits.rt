@@ -105,7 +105,8 @@ impl Room {
     /// The room inside of a subscript, whose bracket was taken last.
     #[tactic(auto, unfolding(crate::specs::Unfold::inside_subscript))]
     pub fn in_subscript(self, cursor: &Cursor<'_>) -> Result<Room, Error>
-        ensures opens { IfOk result (λ r. (inside_subscript (room_of self) ≡ Some (room_of r)) × (r.scope ≡ self.scope)) }
+        ensures opens { IfOk result (λ r.
+            (inside_subscript (room_of self) ≡ Some (room_of r)) × (r.scope ≡ self.scope)) }
         ensures fails { IfErr result (λ e. IsMemory e ⊎ (inside_subscript (room_of self) ≡ None)) }
         ensures refusal { IfErr result (Refuses cursor.now) }
     {
@@ -121,7 +122,8 @@ impl Room {
     /// The room of the items of an array, whose bracket was taken last.
     #[tactic(auto, unfolding(crate::specs::Unfold::inside_array))]
     pub fn in_array(self, cursor: &Cursor<'_>) -> Result<Room, Error>
-        ensures opens { IfOk result (λ r. (inside_array (room_of self) ≡ Some (room_of r)) × (r.scope ≡ self.scope)) }
+        ensures opens { IfOk result (λ r.
+            (inside_array (room_of self) ≡ Some (room_of r)) × (r.scope ≡ self.scope)) }
         ensures fails { IfErr result (λ e. IsMemory e ⊎ (inside_array (room_of self) ≡ None)) }
         ensures refusal { IfErr result (Refuses cursor.now) }
     {

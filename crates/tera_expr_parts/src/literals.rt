@@ -45,7 +45,8 @@ fn is_constant_item(item: &ArrayEntry) -> bool
 
 // The values of items that are constants.
 fn constants(alloc: Global, items: Vec<ArrayEntry>) -> Result<Vec<Value>, AllocError>
-    ensures { IfOk result (λ v. map value_view v.items ≡ flat_map item_values (map item_view items.items)) }
+    ensures { IfOk result (λ v.
+        map value_view v.items ≡ flat_map item_values (map item_view items.items)) }
 {
     let mut values = Vec::new(alloc);
     for item in items {
@@ -85,7 +86,8 @@ pub fn map_or_constant(
     entries: Vec<MapEntry>,
     span: Span,
 ) -> Result<Expression, Error>
-    ensures gives { IfOk result (λ e. expression_view e ≡ map_of (entries_view entries.items) span) }
+    ensures gives { IfOk result (λ e.
+        expression_view e ≡ map_of (entries_view entries.items) span) }
     ensures refusal { IfErr result IsMemory }
 {
     if are_constant_entries(&entries) {
@@ -117,7 +119,8 @@ fn is_constant_entry(entry: &MapEntry) -> bool
 
 // The pairs of entries that are constants.
 fn constant_pairs(alloc: Global, entries: Vec<MapEntry>) -> Result<Map, Error>
-    ensures pairs { IfOk result (λ m. pairs_view m ≡ fold put_entry NoPairs (map entry_view entries.items)) }
+    ensures pairs { IfOk result (λ m.
+        pairs_view m ≡ fold put_entry NoPairs (map entry_view entries.items)) }
     ensures refusal { IfErr result IsMemory }
 {
     let mut pairs = Map::new(alloc);
@@ -129,7 +132,8 @@ fn constant_pairs(alloc: Global, entries: Vec<MapEntry>) -> Result<Map, Error>
 
 // Puts the pair of an entry that is a constant.
 fn put_entry(pairs: &mut Map, entry: MapEntry) -> Result<(), Error>
-    ensures puts { OnOk result (pairs_view pairs.new ≡ put_entry (pairs_view pairs.old) (entry_view entry)) }
+    ensures puts { OnOk result (pairs_view pairs.new
+        ≡ put_entry (pairs_view pairs.old) (entry_view entry)) }
     ensures refusal { IfErr result IsMemory }
 {
     let MapEntry::KeyValue { key, value } = entry else {

@@ -16,7 +16,8 @@ use tera_lexer::Cursor;
 /// A name that is not reserved; `purpose` ends the sentence that tells of one that is.
 #[tactic(auto, using(tera_expect::proofs::TakingLemmas::refused_behind))]
 pub fn free_name<'a>(cursor: &mut Cursor<'a>, purpose: &str) -> Result<&'a str, Error>
-    ensures gives { GivesAs (name_at cursor.new.span) result cursor.new.left (free_name cursor.old.left) }
+    ensures gives { GivesAs (name_at cursor.new.span) result cursor.new.left
+        (free_name cursor.old.left) }
     ensures refusal { IfErr result (Refuses cursor.old) }
     ensures later { IfOk result (λ _. Took cursor.old cursor.new) }
 {
@@ -31,7 +32,8 @@ pub fn free_name<'a>(cursor: &mut Cursor<'a>, purpose: &str) -> Result<&'a str, 
 /// reserved name ends in the same way.
 #[tactic(auto, using(tera_expect::proofs::TakingLemmas::behind_tokens))]
 pub fn variables(cursor: &mut Cursor<'_>, purpose: &str) -> Result<(Option<String>, String), Error>
-    ensures gives { (i : ℕ) → GivesBy AreVariables result (at i cursor.new.left) (variables_of (at i cursor.old.left)) }
+    ensures gives { (i : ℕ) →
+        GivesBy AreVariables result (at i cursor.new.left) (variables_of (at i cursor.old.left)) }
     ensures refusal { IfErr result (Refuses cursor.old) }
     ensures later { IfOk result (λ _. Took cursor.old cursor.new) }
 {

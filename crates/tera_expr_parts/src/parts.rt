@@ -57,7 +57,8 @@ pub fn signed(
     span: Span,
 ) -> Result<Expression, AllocError>
     requires { MayBeNegated (expression_view operand) }
-    ensures gives { IfOk result (λ e. (start : Span) → expression_view e ≡ prefixed (sign_of sign start) (expression_view operand) span) }
+    ensures gives { IfOk result (λ e. (start : Span) →
+        expression_view e ≡ prefixed (sign_of sign start) (expression_view operand) span) }
     ensures negatable { IfOk result (λ e. MayBeNegated (expression_view e)) }
 {
     match (sign, number(&operand)) {
@@ -88,7 +89,9 @@ pub fn joined(
     right: Expression,
     span: Span,
 ) -> Result<Expression, AllocError>
-    ensures { IfOk result (λ e. expression_view e ≡ binary_output (operator_of operator) negated (expression_view left) (expression_view right) span) }
+    ensures { IfOk result (λ e.
+        expression_view e ≡ binary_output (operator_of operator) negated (expression_view left)
+        (expression_view right) span) }
 {
     if !negated {
         return build::binary(alloc, operator.node(), left, right, span);
@@ -104,7 +107,8 @@ pub fn negation(
     start: &Span,
     last: &Span,
 ) -> Result<Expression, AllocError>
-    ensures { IfOk result (λ e. expression_view e ≡ tree.UnaryOperation unary.Not (expression_view test) (spanning start.now last.now)) }
+    ensures { IfOk result (λ e. expression_view e
+        ≡ tree.UnaryOperation unary.Not (expression_view test) (spanning start.now last.now)) }
 {
     let span = spanning(start, last);
     build::unary(alloc, UnaryOperator::Not, test, span)
@@ -116,8 +120,10 @@ pub fn refuse_prefix(
     operator: Operator,
     right: &Expression,
 ) -> Result<(), Error>
-    ensures joins { IfOk result (λ _. refuses (operator_of operator) (expression_view right.now) ≡ false) }
-    ensures fails { IfErr result (λ e. IsMemory e ⊎ (refuses (operator_of operator) (expression_view right.now) ≡ true)) }
+    ensures joins { IfOk result (λ _.
+        refuses (operator_of operator) (expression_view right.now) ≡ false) }
+    ensures fails { IfErr result (λ e.
+        IsMemory e ⊎ (refuses (operator_of operator) (expression_view right.now) ≡ true)) }
     ensures refusal { IfErr result (Refuses cursor.now) }
 {
     match (operator, right) {

@@ -24,7 +24,9 @@ pub(crate) fn arguments(
     links: &mut usize,
     values: Values,
 ) -> Result<BTreeMap<String, Expression>, Error>
-    ensures gives { GivesBy (AreArguments values.room.scope.in_loop cursor.new.span) result (at links.new cursor.new.left) (arguments_of (reader_of values) (room_of values.room) (at links.old cursor.old.left)) }
+    ensures gives { GivesBy (AreArguments values.room.scope.in_loop cursor.new.span) result
+        (at links.new cursor.new.left)
+        (arguments_of (reader_of values) (room_of values.room) (at links.old cursor.old.left)) }
     ensures refusal { IfErr result (Refuses cursor.old) }
     ensures later { IfOk result (λ _. Took cursor.old cursor.new) }
 {

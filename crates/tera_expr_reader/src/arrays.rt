@@ -32,7 +32,10 @@ pub(crate) fn array(
     values: Values,
     first: &Span,
 ) -> Result<Expression, Error>
-    ensures gives { HeadGives expression_view values.room.scope.in_loop result cursor.new.span (at links.new cursor.new.left) (array_of (reader_of values) (room_of values.room) first.now (at links.old cursor.old.left)) }
+    ensures gives { HeadGives expression_view values.room.scope.in_loop result cursor.new.span
+        (at links.new cursor.new.left)
+        (array_of (reader_of values) (room_of values.room) first.now
+        (at links.old cursor.old.left)) }
     ensures negatable { IfOk result (λ e. MayBeNegated (expression_view e)) }
     ensures refusal { IfErr result (Refuses cursor.old) }
     ensures later { IfOk result (λ _. Took cursor.old cursor.new) }
@@ -67,7 +70,10 @@ fn items(
     first: &Span,
     element: ArrayEntry,
 ) -> Result<Expression, Error>
-    ensures gives { (x : Element) → IsItem values.room.scope.in_loop element x → HeadGives expression_view values.room.scope.in_loop result cursor.new.span (at links.new cursor.new.left) (items_from (reader_of values) (room_of values.room) first.now x (at links.old cursor.old.left)) }
+    ensures gives { (x : Element) → IsItem values.room.scope.in_loop element x →
+        HeadGives expression_view values.room.scope.in_loop result cursor.new.span
+        (at links.new cursor.new.left) (items_from (reader_of values)
+        (room_of values.room) first.now x (at links.old cursor.old.left)) }
     ensures negatable { IfOk result (λ e. MayBeNegated (expression_view e)) }
     ensures refusal { IfErr result (Refuses cursor.old) }
     ensures later { IfOk result (λ _. Took cursor.old cursor.new) }
@@ -89,7 +95,9 @@ fn items(
 #[cycle(reader)]
 #[tactic(auto, using(tera_expect::proofs::TakingLemmas::behind_tokens))]
 fn item(cursor: &mut Cursor<'_>, links: &mut usize, values: Values) -> Result<ArrayEntry, Error>
-    ensures gives { GivesBy (IsItem values.room.scope.in_loop) result (at links.new cursor.new.left) (element_of (reader_of values) (room_of values.room) of_items (at links.old cursor.old.left)) }
+    ensures gives { GivesBy (IsItem values.room.scope.in_loop) result (at links.new cursor.new.left)
+        (element_of (reader_of values)
+        (room_of values.room) of_items (at links.old cursor.old.left)) }
     ensures refusal { IfErr result (Refuses cursor.old) }
     ensures later { IfOk result (λ _. Took cursor.old cursor.new) }
 {
@@ -111,7 +119,10 @@ fn comprehension(
     first: &Span,
     element: Expression,
 ) -> Result<Expression, Error>
-    ensures gives { (t : Tree) → expression_view element ≡ output values.room.scope.in_loop t → HeadGives expression_view values.room.scope.in_loop result cursor.new.span (at links.new cursor.new.left) (comprehension_of (reader_of values) (room_of values.room) first.now t cursor.old.span (at links.old cursor.old.left)) }
+    ensures gives { (t : Tree) → expression_view element ≡ output values.room.scope.in_loop t →
+        HeadGives expression_view values.room.scope.in_loop result cursor.new.span
+        (at links.new cursor.new.left) (comprehension_of (reader_of values)
+        (room_of values.room) first.now t cursor.old.span (at links.old cursor.old.left)) }
     ensures negatable { IfOk result (λ e. MayBeNegated (expression_view e)) }
     ensures refusal { IfErr result (Refuses cursor.old) }
     ensures later { IfOk result (λ _. Took cursor.old cursor.new) }
@@ -144,7 +155,10 @@ pub(crate) fn extra(
     before: Fixed,
     least: u8,
 ) -> Result<Option<Expression>, Error>
-    ensures gives { GivesBy (IsExtra values.room.scope.in_loop) result (at links.new cursor.new.left) (extra_of (reader_of values) (room_of values.room) (mark_of before) least (at links.old cursor.old.left)) }
+    ensures gives { GivesBy
+        (IsExtra values.room.scope.in_loop) result (at links.new cursor.new.left)
+        (extra_of (reader_of values) (room_of values.room)
+        (mark_of before) least (at links.old cursor.old.left)) }
     ensures refusal { IfErr result (Refuses cursor.old) }
     ensures later { IfOk result (λ _. GoesOn cursor.old cursor.new) }
 {
@@ -158,7 +172,8 @@ pub(crate) fn extra(
 // The bracket behind a comprehension.
 #[tactic(auto, using(tera_expect::proofs::TakingLemmas::refused_behind))]
 fn close_comprehension(cursor: &mut Cursor<'_>) -> Result<(), Error>
-    ensures gives { GivesAs (place_at cursor.new.span) result cursor.new.left (takes RightBracket cursor.old.left) }
+    ensures gives { GivesAs (place_at cursor.new.span) result cursor.new.left
+        (takes RightBracket cursor.old.left) }
     ensures refusal { IfErr result (Refuses cursor.old) }
     ensures later { IfOk result (λ _. Took cursor.old cursor.new) }
 {

@@ -42,7 +42,10 @@ pub(crate) fn suffix(
     left: Expression,
     start: &Span,
 ) -> Result<Expression, Error>
-    ensures gives { SuffixGives expression_view room.scope.in_loop (expression_view left, start.now) result cursor.new.span (at links.new cursor.new.left) (suffix_in (expr below) (room_of room) (ending_of ending cursor.old.span) (at links.old cursor.old.left)) }
+    ensures gives { SuffixGives expression_view room.scope.in_loop
+        (expression_view left, start.now) result cursor.new.span (at links.new cursor.new.left)
+        (suffix_in (expr below) (room_of room) (ending_of ending cursor.old.span)
+        (at links.old cursor.old.left)) }
     ensures refusal { IfErr result (Refuses cursor.old) }
     ensures later { IfOk result (λ _. Took cursor.old cursor.new) }
 {
@@ -72,7 +75,10 @@ fn test(
     left: Expression,
     start: &Span,
 ) -> Result<Expression, Error>
-    ensures gives { SuffixGives expression_view values.room.scope.in_loop (expression_view left, start.now) result cursor.new.span (at links.new cursor.new.left) (suffix_in (reader_of values) (room_of values.room) (ends_test cursor.old.span) (at links.old cursor.old.left)) }
+    ensures gives { SuffixGives expression_view values.room.scope.in_loop
+        (expression_view left, start.now) result cursor.new.span (at links.new cursor.new.left)
+        (suffix_in (reader_of values) (room_of values.room)
+        (ends_test cursor.old.span) (at links.old cursor.old.left)) }
     ensures refusal { IfErr result (Refuses cursor.old) }
     ensures later { IfOk result (λ _. Took cursor.old cursor.new) }
 {
@@ -95,7 +101,10 @@ pub(crate) fn filter_with(
     values: Values,
     left: Expression,
 ) -> Result<Expression, Error>
-    ensures gives { GivesBy (IsFilter values.room.scope.in_loop (expression_view left) cursor.new.span) result (at links.new cursor.new.left) (call_of (reader_of values) (room_of values.room) (at links.old cursor.old.left)) }
+    ensures gives { GivesBy
+        (IsFilter values.room.scope.in_loop (expression_view left) cursor.new.span) result
+        (at links.new cursor.new.left)
+        (call_of (reader_of values) (room_of values.room) (at links.old cursor.old.left)) }
     ensures refusal { IfErr result (Refuses cursor.old) }
     ensures later { IfOk result (λ _. Took cursor.old cursor.new) }
 {
@@ -107,7 +116,9 @@ pub(crate) fn filter_with(
 #[cycle(reader)]
 #[tactic(auto, using(tera_expect::proofs::TakingLemmas::on_the_way))]
 fn read_call(cursor: &mut Cursor<'_>, links: &mut usize, values: Values) -> Result<Call, Error>
-    ensures gives { GivesBy (IsCall values.room.scope.in_loop cursor.new.span) result (at links.new cursor.new.left) (call_of (reader_of values) (room_of values.room) (at links.old cursor.old.left)) }
+    ensures gives { GivesBy
+        (IsCall values.room.scope.in_loop cursor.new.span) result (at links.new cursor.new.left)
+        (call_of (reader_of values) (room_of values.room) (at links.old cursor.old.left)) }
     ensures refusal { IfErr result (Refuses cursor.old) }
     ensures later { IfOk result (λ _. Took cursor.old cursor.new) }
 {
@@ -127,7 +138,9 @@ fn maybe_arguments(
     links: &mut usize,
     values: Values,
 ) -> Result<BTreeMap<String, Expression>, Error>
-    ensures gives { GivesBy (AreArgs values.room.scope.in_loop cursor.old.span cursor.new.span) result (at links.new cursor.new.left) (args_of (reader_of values) (room_of values.room) (at links.old cursor.old.left)) }
+    ensures gives { GivesBy (AreArgs values.room.scope.in_loop cursor.old.span cursor.new.span)
+        result (at links.new cursor.new.left)
+        (args_of (reader_of values) (room_of values.room) (at links.old cursor.old.left)) }
     ensures refusal { IfErr result (Refuses cursor.old) }
     ensures later { IfOk result (λ _. GoesOn cursor.old cursor.new) }
 {

@@ -74,7 +74,10 @@ pub(crate) fn chain(
     first: &Span,
 ) -> Result<Expression, Error>
     requires { cursor.old.span ≡ first.now }
-    ensures gives { HeadGives expression_view room.scope.in_loop result cursor.new.span (at links.new cursor.new.left) (chain_of (expr below) (room_of room) (name_in name.now first.now) (at links.old cursor.old.left)) }
+    ensures gives { HeadGives expression_view room.scope.in_loop result cursor.new.span
+        (at links.new cursor.new.left)
+        (chain_of (expr below) (room_of room) (name_in name.now first.now)
+        (at links.old cursor.old.left)) }
     ensures negatable { IfOk result (λ e. MayBeNegated (expression_view e)) }
     ensures refusal { IfErr result (Refuses cursor.old) }
     ensures later { IfOk result (λ _. GoesOn cursor.old cursor.new) }
@@ -97,7 +100,10 @@ fn function_call(
     name: &str,
     first: &Span,
 ) -> Result<Expression, Error>
-    ensures gives { GivesBy (IsCallOf room.scope.in_loop (name_in name.now first.now) cursor.new.span) result (at links.new cursor.new.left) (arguments_of (expr below) (room_of room) (at links.old cursor.old.left)) }
+    ensures gives { GivesBy
+        (IsCallOf room.scope.in_loop (name_in name.now first.now) cursor.new.span) result
+        (at links.new cursor.new.left)
+        (arguments_of (expr below) (room_of room) (at links.old cursor.old.left)) }
     ensures refusal { IfErr result (Refuses cursor.old) }
     ensures later { IfOk result (λ _. Took cursor.old cursor.new) }
 {
@@ -126,7 +132,11 @@ fn with_links(
     first: &Span,
 ) -> Result<Expression, Error>
     requires { cursor.old.span ≡ first.now }
-    ensures gives { GivesBy (IsChain room.scope.in_loop (name_in name.now first.now) cursor.new.span) result (at links.new cursor.new.left) (links_of (expr below) (room_of room) (of_loop room.scope.in_loop (name_in name.now first.now)) (at links.old cursor.old.left)) }
+    ensures gives { GivesBy
+        (IsChain room.scope.in_loop (name_in name.now first.now) cursor.new.span) result
+        (at links.new cursor.new.left)
+        (links_of (expr below) (room_of room)
+        (of_loop room.scope.in_loop (name_in name.now first.now)) (at links.old cursor.old.left)) }
     ensures refusal { IfErr result (Refuses cursor.old) }
     ensures later { IfOk result (λ _. GoesOn cursor.old cursor.new) }
 {
@@ -158,7 +168,10 @@ fn with_link(
     fields_of_loop: bool,
     chain: Expression,
 ) -> Result<Linked, Error>
-    ensures gives { LinkedGives room.scope.in_loop fields_of_loop chain result cursor.new (at links.old cursor.old.left) (at links.new cursor.new.left) (λ more. links_at more (expr below) (room_of room) fields_of_loop (at links.old cursor.old.left) (reading.link_of cursor.old.left)) }
+    ensures gives { LinkedGives room.scope.in_loop fields_of_loop chain result cursor.new
+        (at links.old cursor.old.left) (at links.new cursor.new.left) (λ more.
+        links_at more (expr below) (room_of room) fields_of_loop (at links.old cursor.old.left)
+        (reading.link_of cursor.old.left)) }
     ensures refusal { IfErr result (Refuses cursor.old) }
     ensures later { IfOk result (LinkedGoes Took cursor.old cursor.new) }
 {
@@ -198,7 +211,8 @@ fn field(
     chain: Expression,
     optional: bool,
 ) -> Result<Expression, Error>
-    ensures gives { FieldGives of_loop optional (expression_view chain) result cursor.new (taken_field of_loop cursor.old.left) }
+    ensures gives { FieldGives of_loop optional (expression_view chain) result cursor.new
+        (taken_field of_loop cursor.old.left) }
     ensures refusal { IfErr result (Refuses cursor.old) }
     ensures later { IfOk result (λ _. Took cursor.old cursor.new) }
 {

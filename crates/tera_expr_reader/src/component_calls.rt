@@ -33,7 +33,9 @@ pub(crate) fn component(
     below: usize,
     first: &Span,
 ) -> Result<Expression, Error>
-    ensures gives { HeadGives expression_view room.scope.in_loop result cursor.new.span (at links.new cursor.new.left) (component_of (expr below) (room_of room) first.now (at links.old cursor.old.left)) }
+    ensures gives { HeadGives expression_view room.scope.in_loop result cursor.new.span
+        (at links.new cursor.new.left)
+        (component_of (expr below) (room_of room) first.now (at links.old cursor.old.left)) }
     ensures negatable { IfOk result (λ e. MayBeNegated (expression_view e)) }
     ensures refusal { IfErr result (Refuses cursor.old) }
     ensures later { IfOk result (λ _. Took cursor.old cursor.new) }
@@ -63,7 +65,9 @@ pub(crate) fn attributes(
     links: &mut usize,
     values: Values,
 ) -> Result<Vec<MapEntry>, Error>
-    ensures gives { GivesBy (ListsAttributes values.room.scope.in_loop) result (at links.new cursor.new.left) (attributes_of (reader_of values) (room_of values.room) (at links.old cursor.old.left)) }
+    ensures gives { GivesBy
+        (ListsAttributes values.room.scope.in_loop) result (at links.new cursor.new.left)
+        (attributes_of (reader_of values) (room_of values.room) (at links.old cursor.old.left)) }
     ensures refusal { IfErr result (Refuses cursor.old) }
     ensures later { IfOk result (λ _. GoesOn cursor.old cursor.new) }
 {
@@ -82,7 +86,10 @@ fn attribute(
     links: &mut usize,
     values: Values,
 ) -> Result<Option<MapEntry>, Error>
-    ensures gives { MaybeGives values.room.scope.in_loop result (at links.old cursor.old.left) (at links.new cursor.new.left) (λ more. attribute_at more (reader_of values) (room_of values.room) (at links.old cursor.old.left) (name_of (at links.old cursor.old.left)) (skip LeftBrace (at links.old cursor.old.left))) }
+    ensures gives { MaybeGives values.room.scope.in_loop result (at links.old cursor.old.left)
+        (at links.new cursor.new.left) (λ more.
+        attribute_at more (reader_of values) (room_of values.room) (at links.old cursor.old.left)
+        (name_of (at links.old cursor.old.left)) (skip LeftBrace (at links.old cursor.old.left))) }
     ensures refusal { IfErr result (Refuses cursor.old) }
     ensures later { IfOk result (MaybeTook cursor.old cursor.new) }
 {
@@ -107,7 +114,10 @@ fn named_attribute(
     values: Values,
     name: &str,
 ) -> Result<MapEntry, Error>
-    ensures gives { AttributeGives values.room.scope.in_loop result (at links.new cursor.new.left) (λ more. named_at more (reader_of values) (room_of values.room) (name_in name.now cursor.old.span) (at links.old cursor.old.left) (skip Assign (at links.old cursor.old.left))) }
+    ensures gives { AttributeGives values.room.scope.in_loop result
+        (at links.new cursor.new.left) (λ more.
+        named_at more (reader_of values) (room_of values.room) (name_in name.now cursor.old.span)
+        (at links.old cursor.old.left) (skip Assign (at links.old cursor.old.left))) }
     ensures refusal { IfErr result (Refuses cursor.old) }
     ensures later { IfOk result (λ _. GoesOn cursor.old cursor.new) }
 {
@@ -132,7 +142,8 @@ fn attribute_value(
     links: &mut usize,
     values: Values,
 ) -> Result<Expression, Error>
-    ensures gives { ValueGives values.room.scope.in_loop result (at links.new cursor.new.left) (reader_of values) (room_of values.room) (at links.old cursor.old.left) }
+    ensures gives { ValueGives values.room.scope.in_loop result (at links.new cursor.new.left)
+        (reader_of values) (room_of values.room) (at links.old cursor.old.left) }
     ensures refusal { IfErr result (Refuses cursor.old) }
     ensures later { IfOk result (λ _. Took cursor.old cursor.new) }
 {
@@ -146,7 +157,9 @@ fn attribute_value(
 #[cycle(reader)]
 #[tactic(auto, using(tera_expect::proofs::TakingLemmas::behind_tokens))]
 fn braced(cursor: &mut Cursor<'_>, links: &mut usize, values: Values) -> Result<Expression, Error>
-    ensures gives { GivesBy (IsBraced values.room.scope.in_loop) result (at links.new cursor.new.left) (braced_of (reader_of values) (room_of values.room) (at links.old cursor.old.left)) }
+    ensures gives { GivesBy
+        (IsBraced values.room.scope.in_loop) result (at links.new cursor.new.left)
+        (braced_of (reader_of values) (room_of values.room) (at links.old cursor.old.left)) }
     ensures refusal { IfErr result (Refuses cursor.old) }
     ensures later { IfOk result (λ _. Took cursor.old cursor.new) }
 {

@@ -29,7 +29,9 @@ pub(crate) fn map(
     values: Values,
     first: &Span,
 ) -> Result<Expression, Error>
-    ensures gives { HeadGives expression_view values.room.scope.in_loop result cursor.new.span (at links.new cursor.new.left) (map_of (reader_of values) (room_of values.room) first.now (at links.old cursor.old.left)) }
+    ensures gives { HeadGives expression_view values.room.scope.in_loop result cursor.new.span
+        (at links.new cursor.new.left)
+        (map_of (reader_of values) (room_of values.room) first.now (at links.old cursor.old.left)) }
     ensures negatable { IfOk result (λ e. MayBeNegated (expression_view e)) }
     ensures refusal { IfErr result (Refuses cursor.old) }
     ensures later { IfOk result (λ _. Took cursor.old cursor.new) }
@@ -50,7 +52,10 @@ pub(crate) fn map(
 #[cycle(reader)]
 #[tactic(auto, using(tera_expect::proofs::TakingLemmas::behind_tokens))]
 fn entry(cursor: &mut Cursor<'_>, links: &mut usize, values: Values) -> Result<MapEntry, Error>
-    ensures gives { GivesBy (IsEntry values.room.scope.in_loop) result (at links.new cursor.new.left) (element_of (reader_of values) (room_of values.room) of_entries (at links.old cursor.old.left)) }
+    ensures gives { GivesBy
+        (IsEntry values.room.scope.in_loop) result (at links.new cursor.new.left)
+        (element_of (reader_of values) (room_of values.room) of_entries
+        (at links.old cursor.old.left)) }
     ensures refusal { IfErr result (Refuses cursor.old) }
     ensures later { IfOk result (λ _. Took cursor.old cursor.new) }
 {

@@ -22,7 +22,9 @@ pub(crate) fn value(
     values: Values,
     least: u8,
 ) -> Result<Expression, Error>
-    ensures gives { Gives expression_view values.room.scope.in_loop result (at links.new cursor.new.left) (reader_of values (room_of values.room) least (at links.old cursor.old.left)) }
+    ensures gives { Gives expression_view values.room.scope.in_loop result
+        (at links.new cursor.new.left)
+        (reader_of values (room_of values.room) least (at links.old cursor.old.left)) }
     ensures refusal { IfErr result (Refuses cursor.old) }
     ensures later { IfOk result (λ _. Took cursor.old cursor.new) }
 {

@@ -39,7 +39,9 @@ pub(crate) fn expression(
     depth: usize,
     least: u8,
 ) -> Result<Expression, Error>
-    ensures gives { stack.Gives expression_view room.scope.in_loop result (at links.new cursor.new.left) (expr depth (room_of room) least (at links.old cursor.old.left)) }
+    ensures gives { stack.Gives expression_view room.scope.in_loop result
+        (at links.new cursor.new.left)
+        (expr depth (room_of room) least (at links.old cursor.old.left)) }
     ensures refusal { IfErr result (Refuses cursor.old) }
     ensures later { IfOk result (λ _. Took cursor.old cursor.new) }
 {
@@ -68,8 +70,11 @@ fn operand(
     depth: usize,
     least: u8,
 ) -> Result<State, Error>
-    ensures keeps { Keeps room result frames.new.items (at links.new cursor.new.left) (unwind room frames.old.items (stack.coming depth (room_of room) least (at links.old cursor.old.left))) }
-    ensures falls { Falls result frames.new.items (at links.new cursor.new.left) (work frames.old.items (at links.old cursor.old.left)) }
+    ensures keeps { Keeps room result frames.new.items (at links.new cursor.new.left)
+        (unwind room frames.old.items
+        (stack.coming depth (room_of room) least (at links.old cursor.old.left))) }
+    ensures falls { Falls result frames.new.items (at links.new cursor.new.left)
+        (work frames.old.items (at links.old cursor.old.left)) }
     ensures negatable { IfOk result HoldsNegatable }
     ensures refusal { IfErr result (Refuses cursor.old) }
     ensures later { IfOk result (λ _. Took cursor.old cursor.new) }
@@ -95,8 +100,11 @@ fn head(
     room: Room,
     level: Level,
 ) -> Result<State, Error>
-    ensures keeps { Keeps room result frames.new.items (at links.new cursor.new.left) (unwind room frames.old.items (stack.heading (room_of room) (level_view level) (at links.old cursor.old.left))) }
-    ensures falls { Falls result frames.new.items (at links.new cursor.new.left) (work frames.old.items (at links.old cursor.old.left)) }
+    ensures keeps { Keeps room result frames.new.items (at links.new cursor.new.left)
+        (unwind room frames.old.items
+        (stack.heading (room_of room) (level_view level) (at links.old cursor.old.left))) }
+    ensures falls { Falls result frames.new.items
+        (at links.new cursor.new.left) (work frames.old.items (at links.old cursor.old.left)) }
     ensures negatable { IfOk result HoldsNegatable }
     ensures refusal { IfErr result (Refuses cursor.old) }
     ensures later { IfOk result (λ _. Took cursor.old cursor.new) }
@@ -156,8 +164,11 @@ fn word(
     span: Span,
 ) -> Result<State, Error>
     requires { cursor.old.span ≡ span }
-    ensures keeps { Keeps room result frames.new.items (at links.new cursor.new.left) (unwind room frames.old.items (behind_word room level (name_in name.now span) (at links.old cursor.old.left))) }
-    ensures falls { Falls result frames.new.items (at links.new cursor.new.left) (work frames.old.items (at links.old cursor.old.left) + 2) }
+    ensures keeps { Keeps room result frames.new.items (at links.new cursor.new.left)
+        (unwind room frames.old.items
+        (behind_word room level (name_in name.now span) (at links.old cursor.old.left))) }
+    ensures falls { Falls result frames.new.items (at links.new cursor.new.left)
+        (work frames.old.items (at links.old cursor.old.left) + 2) }
     ensures negatable { IfOk result HoldsNegatable }
     ensures refusal { IfErr result (Refuses cursor.old) }
     ensures later { IfOk result (λ _. GoesOn cursor.old cursor.new) }
@@ -183,8 +194,11 @@ fn prefix(
     sign: UnaryOperator,
     span: Span,
 ) -> Result<State, Error>
-    ensures keeps { (room : Room) (links : ℕ) → Keeps room result frames.new.items (at links cursor.new.left) (unwind room frames.old.items (behind_sign room level (sign_of sign span) (at links cursor.old.left))) }
-    ensures falls { (links : ℕ) → Falls result frames.new.items (at links cursor.new.left) (work frames.old.items (at links cursor.old.left) + 2) }
+    ensures keeps { (room : Room) (links : ℕ) →
+        Keeps room result frames.new.items (at links cursor.new.left) (unwind room frames.old.items
+        (behind_sign room level (sign_of sign span) (at links cursor.old.left))) }
+    ensures falls { (links : ℕ) → Falls result frames.new.items (at links cursor.new.left)
+        (work frames.old.items (at links cursor.old.left) + 2) }
     ensures negatable { IfOk result HoldsNegatable }
     ensures refusal { IfErr result (Refuses cursor.old) }
     ensures later { IfOk result (λ _. GoesOn cursor.old cursor.new) }
@@ -209,8 +223,11 @@ fn turn(
     left: Operand,
 ) -> Result<State, Error>
     requires { MayBeNegated (expression_view left.expr) }
-    ensures keeps { Keeps room result frames.new.items (at links.new cursor.new.left) (unwind room frames.old.items (stack.going (room_of room) (level_view level) (operand_view left) (at links.old cursor.old.left))) }
-    ensures falls { Falls result frames.new.items (at links.new cursor.new.left) (work frames.old.items (at links.old cursor.old.left) + 1) }
+    ensures keeps { Keeps room result frames.new.items (at links.new cursor.new.left)
+        (unwind room frames.old.items (stack.going (room_of room) (level_view level)
+        (operand_view left) (at links.old cursor.old.left))) }
+    ensures falls { Falls result frames.new.items (at links.new cursor.new.left)
+        (work frames.old.items (at links.old cursor.old.left) + 1) }
     ensures negatable { IfOk result HoldsNegatable }
     ensures refusal { IfErr result (Refuses cursor.old) }
     ensures later { IfOk result (λ _. GoesOn cursor.old cursor.new) }
@@ -253,8 +270,11 @@ fn turn(
 #[tactic(auto, using(tera_expect::proofs::TakingLemmas::on_the_way))]
 fn close(cursor: &mut Cursor<'_>, frames: &mut Vec<Frame>, inside: Operand) -> Result<State, Error>
     requires { MayBeNegated (expression_view inside.expr) }
-    ensures keeps { (room : Room) (links : ℕ) → Keeps room result frames.new.items (at links cursor.new.left) (unwind room frames.old.items (Some (operand_view inside, at links cursor.old.left))) }
-    ensures falls { (links : ℕ) → Falls result frames.new.items (at links cursor.new.left) (work frames.old.items (at links cursor.old.left) + 1) }
+    ensures keeps { (room : Room) (links : ℕ) →
+        Keeps room result frames.new.items (at links cursor.new.left)
+        (unwind room frames.old.items (Some (operand_view inside, at links cursor.old.left))) }
+    ensures falls { (links : ℕ) → Falls result frames.new.items (at links cursor.new.left)
+        (work frames.old.items (at links cursor.old.left) + 1) }
     ensures negatable { IfOk result HoldsNegatable }
     ensures refusal { IfErr result (Refuses cursor.old) }
     ensures later { IfOk result (λ _. GoesOn cursor.old cursor.new) }
@@ -275,8 +295,12 @@ fn resume(
     inside: Operand,
 ) -> Result<State, Error>
     requires { MayBeNegated (expression_view inside.expr) }
-    ensures keeps { (room : Room) (links : ℕ) → Keeps room result frames.new.items (at links cursor.new.left) (unwind room frames.old.items (stack.resume (room_of room) (frame_view frame) (operand_view inside, at links cursor.old.left))) }
-    ensures falls { (links : ℕ) → Falls result frames.new.items (at links cursor.new.left) (work frames.old.items (at links cursor.old.left) + 2) }
+    ensures keeps { (room : Room) (links : ℕ) →
+        Keeps room result frames.new.items (at links cursor.new.left) (unwind room frames.old.items
+        (stack.resume (room_of room) (frame_view frame)
+        (operand_view inside, at links cursor.old.left))) }
+    ensures falls { (links : ℕ) → Falls result frames.new.items
+        (at links cursor.new.left) (work frames.old.items (at links cursor.old.left) + 2) }
     ensures negatable { IfOk result HoldsNegatable }
     ensures refusal { IfErr result (Refuses cursor.old) }
     ensures later { IfOk result (λ _. GoesOn cursor.old cursor.new) }

@@ -41,7 +41,9 @@ pub(crate) fn read_subscript(
     room: Room,
     below: usize,
 ) -> Result<Subscript, Error>
-    ensures gives { GivesBy (IsSubscript room.scope.in_loop cursor.new.span) result (at links.new cursor.new.left) (sub_of (expr below) (room_of room) (at links.old cursor.old.left)) }
+    ensures gives { GivesBy (IsSubscript room.scope.in_loop cursor.new.span) result
+        (at links.new cursor.new.left)
+        (sub_of (expr below) (room_of room) (at links.old cursor.old.left)) }
     ensures refusal { IfErr result (Refuses cursor.old) }
     ensures later { IfOk result (λ _. Took cursor.old cursor.new) }
 {
@@ -67,7 +69,9 @@ fn slice(
     below: usize,
     start: Option<Expression>,
 ) -> Result<Subscript, Error>
-    ensures gives { (a : Part) (s : Span) → IsPart room.scope.in_loop start a → GivesBy (IsSubscript room.scope.in_loop cursor.new.span) result (at links.new cursor.new.left) (slice_of (expr below) (room_of room) a s (at links.old cursor.old.left)) }
+    ensures gives { (a : Part) (s : Span) → IsPart room.scope.in_loop start a →
+        GivesBy (IsSubscript room.scope.in_loop cursor.new.span) result (at links.new
+        cursor.new.left) (slice_of (expr below) (room_of room) a s (at links.old cursor.old.left)) }
     ensures refusal { IfErr result (Refuses cursor.old) }
     ensures later { IfOk result (λ _. Took cursor.old cursor.new) }
 {
@@ -86,7 +90,8 @@ fn end(
     room: Room,
     below: usize,
 ) -> Result<Option<Expression>, Error>
-    ensures gives { GivesBy (IsPart room.scope.in_loop) result (at links.new cursor.new.left) (part_of (expr below) (room_of room) (at links.old cursor.old.left)) }
+    ensures gives { GivesBy (IsPart room.scope.in_loop) result (at links.new cursor.new.left)
+        (part_of (expr below) (room_of room) (at links.old cursor.old.left)) }
     ensures refusal { IfErr result (Refuses cursor.old) }
     ensures later { IfOk result (λ _. GoesOn cursor.old cursor.new) }
 {
@@ -105,7 +110,8 @@ fn step(
     room: Room,
     below: usize,
 ) -> Result<Option<Expression>, Error>
-    ensures gives { GivesBy (IsExtra room.scope.in_loop) result (at links.new cursor.new.left) (extra_of (expr below) (room_of room) Colon 0 (at links.old cursor.old.left)) }
+    ensures gives { GivesBy (IsExtra room.scope.in_loop) result (at links.new cursor.new.left)
+        (extra_of (expr below) (room_of room) Colon 0 (at links.old cursor.old.left)) }
     ensures refusal { IfErr result (Refuses cursor.old) }
     ensures later { IfOk result (λ _. GoesOn cursor.old cursor.new) }
 {
@@ -123,7 +129,8 @@ pub(crate) fn with_subscript(
     optional: bool,
     last: &Span,
 ) -> Result<Expression, AllocError>
-    ensures { IfOk result (λ e. expression_view e ≡ subscripted subscript optional (expression_view operand) last.now) }
+    ensures { IfOk result (λ e.
+        expression_view e ≡ subscripted subscript optional (expression_view operand) last.now) }
 {
     let mut span = operand.span().copied();
     span.expand(last);

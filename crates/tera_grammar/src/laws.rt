@@ -55,8 +55,8 @@ pub fn expressions()
     ensures unique { (in_loop : Bool) (one other : Tree) (rest last : Items) →
         IsExpression in_loop one → IsExpression in_loop other → IsStop rest → IsStop last →
         yield one rest ≡ yield other last → (one ≡ other) × (rest ≡ last) }
-    ensures alone { (in_loop : Bool) (one other : Tree) → IsExpression in_loop one → IsExpression in_loop other →
-        yield one Ended ≡ yield other Ended → one ≡ other }
+    ensures alone { (in_loop : Bool) (one other : Tree) → IsExpression in_loop one →
+        IsExpression in_loop other → yield one Ended ≡ yield other Ended → one ≡ other }
 {}
 
 /// The same of the arguments of a call, whatever follows.
@@ -88,20 +88,23 @@ pub fn filters()
 /// The same of the attributes of a component, before `/` or `>`.
 pub fn attributes()
     ensures sound { (limits : Limits) (in_loop : Bool) (items rest : Items) (x : Attributes) →
-        all_attributes limits in_loop items ≡ Some (x, rest) →
-        (items ≡ attributes_yield x rest) × AreAttributes in_loop x × EachAttribute (Within limits) x }
+        all_attributes limits in_loop items ≡ Some (x, rest) → (items ≡ attributes_yield x rest)
+        × AreAttributes in_loop x × EachAttribute (Within limits) x }
     ensures complete { (limits : Limits) (in_loop : Bool) (x : Attributes) (rest : Items) →
         AreAttributes in_loop x → EachAttribute (Within limits) x → EndsAttributes rest →
         all_attributes limits in_loop (attributes_yield x rest) ≡ Some (x, rest) }
     ensures unique { (in_loop : Bool) (one other : Attributes) (rest last : Items) →
-        AreAttributes in_loop one → AreAttributes in_loop other → EndsAttributes rest → EndsAttributes last →
-        attributes_yield one rest ≡ attributes_yield other last → (one ≡ other) × (rest ≡ last) }
+        AreAttributes in_loop one → AreAttributes in_loop other → EndsAttributes rest →
+        EndsAttributes last → attributes_yield one rest ≡ attributes_yield other last →
+        (one ≡ other) × (rest ≡ last) }
 {}
 
 /// The same of the name of a component, before all but a dot.
 pub fn component_names()
-    ensures sound { (items rest : Items) (x : Path) → path_of items ≡ Some (x, rest) → items ≡ path_yield x rest }
-    ensures complete { (x : Path) (rest : Items) → EndsPath rest → path_of (path_yield x rest) ≡ Some (x, rest) }
+    ensures sound { (items rest : Items) (x : Path) → path_of items ≡ Some (x, rest) →
+        items ≡ path_yield x rest }
+    ensures complete { (x : Path) (rest : Items) → EndsPath rest →
+        path_of (path_yield x rest) ≡ Some (x, rest) }
     ensures unique { (one other : Path) (rest last : Items) → EndsPath rest → EndsPath last →
         path_yield one rest ≡ path_yield other last → (one ≡ other) × (rest ≡ last) }
 {}
@@ -115,8 +118,8 @@ pub fn literal_arrays()
         IsArray x values → ArrayWithin limits x →
         literal_array_of limits (array_yield x rest) ≡ Some ((x, values), rest) }
     ensures unique { (one other : Opened) (values others : Vals) (rest last : Items) →
-        IsArray one values → IsArray other others →
-        array_yield one rest ≡ array_yield other last → (one ≡ other) × (values ≡ others) × (rest ≡ last) }
+        IsArray one values → IsArray other others → array_yield one rest ≡ array_yield other last →
+        (one ≡ other) × (values ≡ others) × (rest ≡ last) }
 {}
 
 /// The same of a map of constants, whatever follows.
@@ -128,30 +131,34 @@ pub fn literal_maps()
         IsMap x pairs → EachRow (Within limits) x.row →
         literal_map_of limits (map_yield x rest) ≡ Some ((x, pairs), rest) }
     ensures unique { (one other : Opened) (pairs others : Pairs) (rest last : Items) →
-        IsMap one pairs → IsMap other others →
-        map_yield one rest ≡ map_yield other last → (one ≡ other) × (pairs ≡ others) × (rest ≡ last) }
+        IsMap one pairs → IsMap other others → map_yield one rest ≡ map_yield other last →
+        (one ≡ other) × (pairs ≡ others) × (rest ≡ last) }
 {}
 
 /// Each number among the constants of an expression, and of a template, is a number of its tokens or the negation of
 /// one. So where these are at most the greatest `i64`, as those of every source are, each is greater than the least
 /// `i64`, and no minus overflows.
 pub fn constants()
-    ensures of_expressions { (in_loop : Bool) (e : Tree) (rest : Items) → EachNumber IsLiteralNumber (yield e rest) →
+    ensures of_expressions { (in_loop : Bool) (e : Tree) (rest : Items) →
+        EachNumber IsLiteralNumber (yield e rest) →
         EachConstant IsLiteralNumber (output in_loop e) }
-    ensures of_templates { (l : Limits) (items : Items) (b : Body) → IsTemplate l items b → EachNumber IsLiteralNumber items →
-        EachOfOutput IsLiteralNumber (output_of b) }
-    ensures of_sources { (l : Limits) (m : Marks) → IsValid m → (source : List ℕ) (output : Output) →
-        Derives l m source output → EachOfOutput IsLiteralNumber output }
+    ensures of_templates { (l : Limits) (items : Items) (b : Body) → IsTemplate l items b →
+        EachNumber IsLiteralNumber items → EachOfOutput IsLiteralNumber (output_of b) }
+    ensures of_sources { (l : Limits) (m : Marks) → IsValid m →
+        (source : List ℕ) (output : Output) → Derives l m source output →
+        EachOfOutput IsLiteralNumber output }
 {}
 
 /// A template is read from its tokens, and what is read from tokens is a template of them.
 pub fn each_is_read()
-    ensures { (l : Limits) (items : Items) (b : Body) → IsTemplate l items b ↔ (template l items ≡ Some b) }
+    ensures { (l : Limits) (items : Items) (b : Body) →
+        IsTemplate l items b ↔ (template l items ≡ Some b) }
 {}
 
 /// No list of tokens is that of two templates.
 pub fn one_template()
-    ensures { (l : Limits) (items : Items) (one other : Body) → IsTemplate l items one → IsTemplate l items other → one ≡ other }
+    ensures { (l : Limits) (items : Items) (one other : Body) → IsTemplate l items one →
+        IsTemplate l items other → one ≡ other }
 {}
 
 /// No source has derivations with two outputs.
@@ -163,5 +170,6 @@ pub fn one_output()
 /// The tree of a source has no two blocks and no two components of one name, each `break` and `continue` in a
 /// loop, and, where the source extends another template, texts of white space and blocks alone.
 pub fn right_trees()
-    ensures { (l : Limits) (m : Marks) (source : List ℕ) (output : Output) → Derives l m source output → IsRight output }
+    ensures { (l : Limits) (m : Marks) (source : List ℕ) (output : Output) →
+        Derives l m source output → IsRight output }
 {}

@@ -56,7 +56,8 @@ pub fn get_attr(
     optional: bool,
     span: Span,
 ) -> Result<Expression, AllocError>
-    ensures { IfOk result (λ e. expression_view e ≡ tree.GetAttr (expression_view expr) (string_bytes name) optional span) }
+    ensures { IfOk result (λ e.
+        expression_view e ≡ tree.GetAttr (expression_view expr) (string_bytes name) optional span) }
 {
     let node = GetAttr {
         expr,
@@ -74,7 +75,8 @@ pub fn get_item(
     optional: bool,
     span: Span,
 ) -> Result<Expression, AllocError>
-    ensures { IfOk result (λ e. expression_view e ≡ tree.GetItem (expression_view expr) (expression_view sub_expr) optional span) }
+    ensures { IfOk result (λ e. expression_view e
+        ≡ tree.GetItem (expression_view expr) (expression_view sub_expr) optional span) }
 {
     let node = GetItem {
         expr,
@@ -95,7 +97,9 @@ pub fn slice(
     optional: bool,
     span: Span,
 ) -> Result<Expression, AllocError>
-    ensures { IfOk result (λ e. expression_view e ≡ tree.Slice (expression_view expr) (maybe_view start) (maybe_view end) (maybe_view step) optional span) }
+    ensures { IfOk result (λ e.
+        expression_view e ≡ tree.Slice (expression_view expr) (maybe_view start) (maybe_view end)
+        (maybe_view step) optional span) }
 {
     let node = Slice {
         expr,
@@ -116,7 +120,8 @@ pub fn filter(
     kwargs: BTreeMap<String, Expression>,
     span: Span,
 ) -> Result<Expression, AllocError>
-    ensures { IfOk result (λ e. expression_view e ≡ tree.Filter (expression_view expr) (string_bytes name) (args_view kwargs.entries) span) }
+    ensures { IfOk result (λ e. expression_view e
+        ≡ tree.Filter (expression_view expr) (string_bytes name) (args_view kwargs.entries) span) }
 {
     let node = Filter { expr, name, kwargs };
     Ok(Expression::Filter(Spanned::new(alloc, node, span)?))
@@ -131,7 +136,8 @@ pub fn test(
     kwargs: BTreeMap<String, Expression>,
     span: Span,
 ) -> Result<Expression, AllocError>
-    ensures { IfOk result (λ e. expression_view e ≡ tree.Test (expression_view expr) (string_bytes name) (args_view kwargs.entries) span) }
+    ensures { IfOk result (λ e. expression_view e
+        ≡ tree.Test (expression_view expr) (string_bytes name) (args_view kwargs.entries) span) }
 {
     let node = Test { expr, name, kwargs };
     Ok(Expression::Test(Spanned::new(alloc, node, span)?))
@@ -145,7 +151,9 @@ pub fn ternary(
     false_expr: Expression,
     span: Span,
 ) -> Result<Expression, AllocError>
-    ensures { IfOk result (λ e. expression_view e ≡ tree.Ternary (expression_view expr) (expression_view true_expr) (expression_view false_expr) span) }
+    ensures { IfOk result (λ e.
+        expression_view e ≡ tree.Ternary (expression_view expr) (expression_view true_expr)
+        (expression_view false_expr) span) }
 {
     let node = Ternary {
         expr,
@@ -166,7 +174,9 @@ pub fn comprehension(
     condition: Option<Expression>,
     span: Span,
 ) -> Result<Expression, AllocError>
-    ensures { IfOk result (λ e. expression_view e ≡ tree.ListComprehension (expression_view expr) (name_view key) (string_bytes value) (expression_view target) (maybe_view condition) span) }
+    ensures { IfOk result (λ e.
+        expression_view e ≡ tree.ListComprehension (expression_view expr) (name_view key)
+        (string_bytes value) (expression_view target) (maybe_view condition) span) }
 {
     let node = ListComprehension {
         expr,
@@ -188,7 +198,9 @@ pub fn component_call(
     self_closing: bool,
     span: Span,
 ) -> Result<Expression, AllocError>
-    ensures { IfOk result (λ e. expression_view e ≡ tree.ComponentCall (string_bytes name) (entries_view kwargs.items) (nodes_view body.items) self_closing span) }
+    ensures { IfOk result (λ e.
+        expression_view e ≡ tree.ComponentCall (string_bytes name) (entries_view kwargs.items)
+        (nodes_view body.items) self_closing span) }
 {
     let node = ComponentCall {
         name,
@@ -207,7 +219,8 @@ pub fn function_call(
     kwargs: BTreeMap<String, Expression>,
     span: Span,
 ) -> Result<Expression, AllocError>
-    ensures { IfOk result (λ e. expression_view e ≡ tree.FunctionCall (string_bytes name) (args_view kwargs.entries) span) }
+    ensures { IfOk result (λ e.
+        expression_view e ≡ tree.FunctionCall (string_bytes name) (args_view kwargs.entries) span) }
 {
     let node = FunctionCall { name, kwargs };
     Ok(Expression::FunctionCall(Spanned::new(alloc, node, span)?))
@@ -220,7 +233,8 @@ pub fn unary(
     expr: Expression,
     span: Span,
 ) -> Result<Expression, AllocError>
-    ensures { IfOk result (λ e. expression_view e ≡ tree.UnaryOperation op (expression_view expr) span) }
+    ensures { IfOk result (λ e.
+        expression_view e ≡ tree.UnaryOperation op (expression_view expr) span) }
 {
     let node = UnaryOperation { op, expr };
     Ok(Expression::UnaryOperation(Spanned::new(alloc, node, span)?))
@@ -234,7 +248,8 @@ pub fn binary(
     right: Expression,
     span: Span,
 ) -> Result<Expression, AllocError>
-    ensures { IfOk result (λ e. expression_view e ≡ tree.BinaryOperation op (expression_view left) (expression_view right) span) }
+    ensures { IfOk result (λ e. expression_view e
+        ≡ tree.BinaryOperation op (expression_view left) (expression_view right) span) }
 {
     let node = BinaryOperation { op, left, right };
     Ok(Expression::BinaryOperation(Spanned::new(alloc, node, span)?))
@@ -254,7 +269,8 @@ pub fn set(name: String, value: Expression, global: bool) -> Node
 /// A variable that takes what a body is shown as.
 #[tactic(auto, using(crate::proofs::Views::view_block_set))]
 pub fn block_set(name: String, filters: Vec<Expression>, body: Vec<Node>, global: bool) -> Node
-    ensures { node_view result ≡ tree.BlockSet (string_bytes name) (filters_view filters.items) (nodes_view body.items) global }
+    ensures { node_view result ≡ tree.BlockSet (string_bytes name) (filters_view filters.items)
+        (nodes_view body.items) global }
 {
     Node::BlockSet(BlockSet {
         name,
@@ -274,7 +290,8 @@ pub fn include(name: Spanned<String>) -> Node
 /// A body with a name.
 #[tactic(auto, using(crate::proofs::Views::view_block))]
 pub fn block(name: Spanned<String>, body: Vec<Node>) -> Node
-    ensures { node_view result ≡ tree.Block (string_bytes (node_of name)) (span_of name) (nodes_view body.items) }
+    ensures { node_view result
+        ≡ tree.Block (string_bytes (node_of name)) (span_of name) (nodes_view body.items) }
 {
     Node::Block(Block { name, body })
 }
@@ -288,7 +305,8 @@ pub fn for_loop(
     body: Vec<Node>,
     else_body: Vec<Node>,
 ) -> Node
-    ensures { node_view result ≡ tree.ForLoop (name_view key) (string_bytes value) (expression_view target) (nodes_view body.items) (nodes_view else_body.items) }
+    ensures { node_view result ≡ tree.ForLoop (name_view key) (string_bytes value)
+        (expression_view target) (nodes_view body.items) (nodes_view else_body.items) }
 {
     Node::ForLoop(ForLoop {
         key,
@@ -302,7 +320,8 @@ pub fn for_loop(
 /// A body under a condition, and one without it.
 #[tactic(auto, using(crate::proofs::Views::view_if))]
 pub fn when(expr: Expression, body: Vec<Node>, false_body: Vec<Node>) -> Node
-    ensures { node_view result ≡ tree.If (expression_view expr) (nodes_view body.items) (nodes_view false_body.items) }
+    ensures { node_view result
+        ≡ tree.If (expression_view expr) (nodes_view body.items) (nodes_view false_body.items) }
 {
     Node::If(If {
         expr,
@@ -314,7 +333,8 @@ pub fn when(expr: Expression, body: Vec<Node>, false_body: Vec<Node>) -> Node
 /// A body that filters change.
 #[tactic(auto, using(crate::proofs::Views::view_section))]
 pub fn filter_section(filters: Vec<Expression>, body: Vec<Node>) -> Node
-    ensures { node_view result ≡ tree.FilterSection (filters_view filters.items) (nodes_view body.items) }
+    ensures { node_view result
+        ≡ tree.FilterSection (filters_view filters.items) (nodes_view body.items) }
 {
     Node::FilterSection(FilterSection { filters, body })
 }

@@ -210,7 +210,8 @@ fn copy_items(alloc: Global, items: &Vec<ArrayEntry>) -> Result<Vec<ArrayEntry>,
 
 #[cycle(copy)]
 fn copy_filters(alloc: Global, filters: &Vec<Expression>) -> Result<Vec<Expression>, AllocError>
-    ensures { IfOk result (λ c. map expression_view c.items ≡ map expression_view filters.now.items) }
+    ensures { IfOk result (λ c.
+        map expression_view c.items ≡ map expression_view filters.now.items) }
 {
     let mut copies = Vec::with_capacity(alloc, filters.len())?;
     for filter in filters {

@@ -40,7 +40,8 @@ impl Display for MapEntryOf<Expression> {
 }
 
 impl Display for ArrayOf<Expression> {
-    ghost output = { λ x. Some (codes "[" ++ (items_text false (items_view x.items.items) ++ codes "]")) };
+    ghost output = { λ x.
+        Some (codes "[" ++ (items_text false (items_view x.items.items) ++ codes "]")) };
 
     fn fmt<W: Write>(&self, f: &mut Formatter<W>) -> fmt::Result {
         show::show_array(self, f)
@@ -48,7 +49,8 @@ impl Display for ArrayOf<Expression> {
 }
 
 impl Display for MapOf<Expression> {
-    ghost output = { λ x. Some (codes "{" ++ (entries_text false (entries_view x.entries.items) ++ codes "}")) };
+    ghost output = { λ x.
+        Some (codes "{" ++ (entries_text false (entries_view x.entries.items) ++ codes "}")) };
 
     fn fmt<W: Write>(&self, f: &mut Formatter<W>) -> fmt::Result {
         show::show_map(self, f)
@@ -56,7 +58,8 @@ impl Display for MapOf<Expression> {
 }
 
 impl Display for GetAttrOf<Expression> {
-    ghost output = { λ x. Some (text (expression_view x.expr) ++ (dot_text x.optional ++ string_bytes x.name)) };
+    ghost output = { λ x.
+        Some (text (expression_view x.expr) ++ (dot_text x.optional ++ string_bytes x.name)) };
 
     fn fmt<W: Write>(&self, f: &mut Formatter<W>) -> fmt::Result {
         show::show_get_attr(self, f)
@@ -64,7 +67,8 @@ impl Display for GetAttrOf<Expression> {
 }
 
 impl Display for GetItemOf<Expression> {
-    ghost output = { λ x. Some (text (expression_view x.expr) ++ (bracket_text x.optional ++ (text (expression_view x.sub_expr) ++ codes "]"))) };
+    ghost output = { λ x. Some (text (expression_view x.expr)
+        ++ (bracket_text x.optional ++ (text (expression_view x.sub_expr) ++ codes "]"))) };
 
     fn fmt<W: Write>(&self, f: &mut Formatter<W>) -> fmt::Result {
         show::show_get_item(self, f)
@@ -72,7 +76,9 @@ impl Display for GetItemOf<Expression> {
 }
 
 impl Display for SliceOf<Expression> {
-    ghost output = { λ x. Some (text (expression_view x.expr) ++ (bracket_text x.optional ++ (maybe_text [] (maybe_view x.start) ++ (maybe_text (codes ":") (maybe_view x.end) ++ (maybe_text (codes ":") (maybe_view x.step) ++ codes "]"))))) };
+    ghost output = { λ x. Some (text (expression_view x.expr) ++ (bracket_text x.optional
+        ++ (maybe_text [] (maybe_view x.start) ++ (maybe_text (codes ":") (maybe_view x.end)
+        ++ (maybe_text (codes ":") (maybe_view x.step) ++ codes "]"))))) };
 
     fn fmt<W: Write>(&self, f: &mut Formatter<W>) -> fmt::Result {
         show::show_slice(self, f)
@@ -80,7 +86,9 @@ impl Display for SliceOf<Expression> {
 }
 
 impl Display for FilterOf<Expression> {
-    ghost output = { λ x. Some (codes "(| " ++ (text (expression_view x.expr) ++ (codes " " ++ (call_text (string_bytes x.name) (args_text false (args_view x.kwargs.entries)) ++ codes ")")))) };
+    ghost output = { λ x. Some (codes "(| " ++ (text (expression_view x.expr) ++ (codes " "
+        ++ (call_text (string_bytes x.name) (args_text false (args_view x.kwargs.entries))
+        ++ codes ")")))) };
 
     fn fmt<W: Write>(&self, f: &mut Formatter<W>) -> fmt::Result {
         show::show_filter(self, f)
@@ -88,7 +96,9 @@ impl Display for FilterOf<Expression> {
 }
 
 impl Display for TestOf<Expression> {
-    ghost output = { λ x. Some (codes "(is " ++ (text (expression_view x.expr) ++ (codes " " ++ (call_text (string_bytes x.name) (args_text false (args_view x.kwargs.entries)) ++ codes ")")))) };
+    ghost output = { λ x. Some (codes "(is " ++ (text (expression_view x.expr) ++ (codes " "
+        ++ (call_text (string_bytes x.name) (args_text false (args_view x.kwargs.entries))
+        ++ codes ")")))) };
 
     fn fmt<W: Write>(&self, f: &mut Formatter<W>) -> fmt::Result {
         show::show_test(self, f)
@@ -96,7 +106,9 @@ impl Display for TestOf<Expression> {
 }
 
 impl Display for TernaryOf<Expression> {
-    ghost output = { λ x. Some (text (expression_view x.true_expr) ++ (codes " if " ++ (text (expression_view x.expr) ++ (codes " else " ++ text (expression_view x.false_expr))))) };
+    ghost output = { λ x.
+        Some (text (expression_view x.true_expr) ++ (codes " if " ++ (text (expression_view x.expr)
+        ++ (codes " else " ++ text (expression_view x.false_expr))))) };
 
     fn fmt<W: Write>(&self, f: &mut Formatter<W>) -> fmt::Result {
         show::show_ternary(self, f)
@@ -104,7 +116,10 @@ impl Display for TernaryOf<Expression> {
 }
 
 impl Display for ListComprehensionOf<Expression> {
-    ghost output = { λ x. Some (codes "[" ++ (text (expression_view x.expr) ++ (codes " for " ++ (names_text (name_view x.key) (string_bytes x.value) ++ (codes " in " ++ (text (expression_view x.target) ++ (maybe_text (codes " if ") (maybe_view x.condition) ++ codes "]"))))))) };
+    ghost output = { λ x. Some (codes "[" ++ (text (expression_view x.expr)
+        ++ (codes " for " ++ (names_text (name_view x.key) (string_bytes x.value)
+        ++ (codes " in " ++ (text (expression_view x.target)
+        ++ (maybe_text (codes " if ") (maybe_view x.condition) ++ codes "]"))))))) };
 
     fn fmt<W: Write>(&self, f: &mut Formatter<W>) -> fmt::Result {
         show::show_comprehension(self, f)
@@ -112,7 +127,10 @@ impl Display for ListComprehensionOf<Expression> {
 }
 
 impl Display for ComponentCall {
-    ghost output = { λ x. let c = out-ComponentCall x in Some (codes "<" ++ (call_text (string_bytes c.name) (entries_text false (entries_view c.kwargs.items)) ++ closing_text (string_bytes c.name) c.self_closing (count_of (nodes_view c.body.items)))) };
+    ghost output = { λ x. let c = out-ComponentCall x in Some (codes "<"
+        ++ (call_text (string_bytes c.name) (entries_text false (entries_view c.kwargs.items))
+        ++ closing_text (string_bytes c.name) c.self_closing
+        (count_of (nodes_view c.body.items)))) };
 
     fn fmt<W: Write>(&self, f: &mut Formatter<W>) -> fmt::Result {
         show::show_component_call(self, f)
@@ -120,7 +138,8 @@ impl Display for ComponentCall {
 }
 
 impl Display for FunctionCallOf<Expression> {
-    ghost output = { λ x. Some (call_text (string_bytes x.name) (args_text false (args_view x.kwargs.entries))) };
+    ghost output = { λ x.
+        Some (call_text (string_bytes x.name) (args_text false (args_view x.kwargs.entries))) };
 
     fn fmt<W: Write>(&self, f: &mut Formatter<W>) -> fmt::Result {
         show::show_function_call(self, f)
@@ -128,7 +147,8 @@ impl Display for FunctionCallOf<Expression> {
 }
 
 impl Display for UnaryOperationOf<Expression> {
-    ghost output = { λ x. Some (codes "(" ++ (unary_text x.op ++ (codes " " ++ (text (expression_view x.expr) ++ codes ")")))) };
+    ghost output = { λ x. Some (codes "("
+        ++ (unary_text x.op ++ (codes " " ++ (text (expression_view x.expr) ++ codes ")")))) };
 
     fn fmt<W: Write>(&self, f: &mut Formatter<W>) -> fmt::Result {
         show::show_unary(self, f)
@@ -136,7 +156,9 @@ impl Display for UnaryOperationOf<Expression> {
 }
 
 impl Display for BinaryOperationOf<Expression> {
-    ghost output = { λ x. Some (codes "(" ++ (binary_text x.op ++ (codes " " ++ (text (expression_view x.left) ++ (codes " " ++ (text (expression_view x.right) ++ codes ")")))))) };
+    ghost output = { λ x.
+        Some (codes "(" ++ (binary_text x.op ++ (codes " " ++ (text (expression_view x.left)
+        ++ (codes " " ++ (text (expression_view x.right) ++ codes ")")))))) };
 
     fn fmt<W: Write>(&self, f: &mut Formatter<W>) -> fmt::Result {
         show::show_binary(self, f)
@@ -151,7 +173,8 @@ pub struct WithArguments<'a> {
 }
 
 impl<'a> Display for WithArguments<'a> {
-    ghost output = { λ x. Some (call_text x.name.now (args_text false (args_view x.kwargs.now.entries))) };
+    ghost output = { λ x.
+        Some (call_text x.name.now (args_text false (args_view x.kwargs.now.entries))) };
 
     fn fmt<W: Write>(&self, f: &mut Formatter<W>) -> fmt::Result {
         show::show_call(self.name, self.kwargs, f)
@@ -166,7 +189,8 @@ pub struct WithAttributes<'a> {
 }
 
 impl<'a> Display for WithAttributes<'a> {
-    ghost output = { λ x. Some (call_text x.name.now (entries_text false (entries_view x.kwargs.now.items))) };
+    ghost output = { λ x.
+        Some (call_text x.name.now (entries_text false (entries_view x.kwargs.now.items))) };
 
     fn fmt<W: Write>(&self, f: &mut Formatter<W>) -> fmt::Result {
         show::show_attributes(self.name, self.kwargs, f)

@@ -41,7 +41,8 @@ impl Expression {
 
     /// Ends where the other span ends.
     pub fn expand_span(&mut self, other: &Span)
-        ensures { expression_view self.new ≡ with_span (expanded (expr_span (expression_view self.old)) other.now) (expression_view self.old) }
+        ensures { expression_view self.new ≡ with_span
+            (expanded (expr_span (expression_view self.old)) other.now) (expression_view self.old) }
     {
         match self {
             Expression::Const(s) => expand(s, other),

@@ -117,7 +117,8 @@ fn show_bracket<W: Write>(optional: bool, f: &mut Formatter<W>) -> fmt::Result
 
 // The names of a comprehension.
 fn show_names<W: Write>(key: &Option<String>, value: &str, f: &mut Formatter<W>) -> fmt::Result
-    ensures { WritesOnOk W.write_str_gives f.old result (names_text (name_view key.now) value.now) f.new }
+    ensures { WritesOnOk W.write_str_gives f.old result
+        (names_text (name_view key.now) value.now) f.new }
 {
     if let Some(key) = key {
         f.write_str(key.as_str())?;
@@ -140,7 +141,8 @@ fn show_closing<W: Write>(
     nodes: usize,
     f: &mut Formatter<W>,
 ) -> fmt::Result
-    ensures { WritesOnOk W.write_str_gives f.old result (closing_text name.now self_closing nodes) f.new }
+    ensures { WritesOnOk W.write_str_gives f.old result
+        (closing_text name.now self_closing nodes) f.new }
 {
     if self_closing {
         return f.write_str("/>");
@@ -154,7 +156,8 @@ fn show_closing<W: Write>(
 
 #[cycle(show)]
 pub(crate) fn show_array<W: Write>(array: &Array, f: &mut Formatter<W>) -> fmt::Result
-    ensures { WritesOnOk W.write_str_gives f.old result (codes "[" ++ (items_text false (items_view array.now.items.items) ++ codes "]")) f.new }
+    ensures { WritesOnOk W.write_str_gives f.old result
+        (codes "[" ++ (items_text false (items_view array.now.items.items) ++ codes "]")) f.new }
 {
     f.write_str("[")?;
     show_items(&array.items, f)?;
@@ -163,7 +166,9 @@ pub(crate) fn show_array<W: Write>(array: &Array, f: &mut Formatter<W>) -> fmt::
 
 #[cycle(show)]
 pub(crate) fn show_map<W: Write>(map: &Map, f: &mut Formatter<W>) -> fmt::Result
-    ensures { WritesOnOk W.write_str_gives f.old result (codes "{" ++ (entries_text false (entries_view map.now.entries.items) ++ codes "}")) f.new }
+    ensures { WritesOnOk W.write_str_gives f.old result
+        (codes "{"
+        ++ (entries_text false (entries_view map.now.entries.items) ++ codes "}")) f.new }
 {
     f.write_str("{")?;
     show_entries(&map.entries, f)?;
@@ -172,7 +177,9 @@ pub(crate) fn show_map<W: Write>(map: &Map, f: &mut Formatter<W>) -> fmt::Result
 
 #[cycle(show)]
 pub(crate) fn show_get_attr<W: Write>(field: &GetAttr, f: &mut Formatter<W>) -> fmt::Result
-    ensures { WritesOnOk W.write_str_gives f.old result (text (expression_view field.now.expr) ++ (dot_text field.now.optional ++ string_bytes field.now.name)) f.new }
+    ensures { WritesOnOk W.write_str_gives f.old result
+        (text (expression_view field.now.expr)
+        ++ (dot_text field.now.optional ++ string_bytes field.now.name)) f.new }
 {
     show(&field.expr, f)?;
     show_dot(field.optional, f)?;
@@ -181,7 +188,9 @@ pub(crate) fn show_get_attr<W: Write>(field: &GetAttr, f: &mut Formatter<W>) -> 
 
 #[cycle(show)]
 pub(crate) fn show_get_item<W: Write>(field: &GetItem, f: &mut Formatter<W>) -> fmt::Result
-    ensures { WritesOnOk W.write_str_gives f.old result (text (expression_view field.now.expr) ++ (bracket_text field.now.optional ++ (text (expression_view field.now.sub_expr) ++ codes "]"))) f.new }
+    ensures { WritesOnOk W.write_str_gives f.old result
+        (text (expression_view field.now.expr) ++ (bracket_text field.now.optional
+        ++ (text (expression_view field.now.sub_expr) ++ codes "]"))) f.new }
 {
     show(&field.expr, f)?;
     show_bracket(field.optional, f)?;
@@ -191,7 +200,10 @@ pub(crate) fn show_get_item<W: Write>(field: &GetItem, f: &mut Formatter<W>) -> 
 
 #[cycle(show)]
 pub(crate) fn show_slice<W: Write>(part: &Slice, f: &mut Formatter<W>) -> fmt::Result
-    ensures { WritesOnOk W.write_str_gives f.old result (text (expression_view part.now.expr) ++ (bracket_text part.now.optional ++ (maybe_text [] (maybe_view part.now.start) ++ (maybe_text (codes ":") (maybe_view part.now.end) ++ (maybe_text (codes ":") (maybe_view part.now.step) ++ codes "]"))))) f.new }
+    ensures { WritesOnOk W.write_str_gives f.old result
+        (text (expression_view part.now.expr) ++ (bracket_text part.now.optional ++ (maybe_text []
+        (maybe_view part.now.start) ++ (maybe_text (codes ":") (maybe_view part.now.end)
+        ++ (maybe_text (codes ":") (maybe_view part.now.step) ++ codes "]"))))) f.new }
 {
     show(&part.expr, f)?;
     show_bracket(part.optional, f)?;
@@ -203,7 +215,10 @@ pub(crate) fn show_slice<W: Write>(part: &Slice, f: &mut Formatter<W>) -> fmt::R
 
 #[cycle(show)]
 pub(crate) fn show_filter<W: Write>(filter: &Filter, f: &mut Formatter<W>) -> fmt::Result
-    ensures { WritesOnOk W.write_str_gives f.old result (codes "(| " ++ (text (expression_view filter.now.expr) ++ (codes " " ++ (call_text (string_bytes filter.now.name) (args_text false (args_view filter.now.kwargs.entries)) ++ codes ")")))) f.new }
+    ensures { WritesOnOk W.write_str_gives f.old result
+        (codes "(| " ++ (text (expression_view filter.now.expr) ++ (codes " " ++ (call_text
+        (string_bytes filter.now.name) (args_text false (args_view filter.now.kwargs.entries))
+        ++ codes ")")))) f.new }
 {
     f.write_str("(| ")?;
     show(&filter.expr, f)?;
@@ -214,7 +229,10 @@ pub(crate) fn show_filter<W: Write>(filter: &Filter, f: &mut Formatter<W>) -> fm
 
 #[cycle(show)]
 pub(crate) fn show_test<W: Write>(test: &Test, f: &mut Formatter<W>) -> fmt::Result
-    ensures { WritesOnOk W.write_str_gives f.old result (codes "(is " ++ (text (expression_view test.now.expr) ++ (codes " " ++ (call_text (string_bytes test.now.name) (args_text false (args_view test.now.kwargs.entries)) ++ codes ")")))) f.new }
+    ensures { WritesOnOk W.write_str_gives f.old result
+        (codes "(is " ++ (text (expression_view test.now.expr) ++ (codes " " ++ (call_text
+        (string_bytes test.now.name) (args_text false (args_view test.now.kwargs.entries))
+        ++ codes ")")))) f.new }
 {
     f.write_str("(is ")?;
     show(&test.expr, f)?;
@@ -225,7 +243,10 @@ pub(crate) fn show_test<W: Write>(test: &Test, f: &mut Formatter<W>) -> fmt::Res
 
 #[cycle(show)]
 pub(crate) fn show_ternary<W: Write>(choice: &Ternary, f: &mut Formatter<W>) -> fmt::Result
-    ensures { WritesOnOk W.write_str_gives f.old result (text (expression_view choice.now.true_expr) ++ (codes " if " ++ (text (expression_view choice.now.expr) ++ (codes " else " ++ text (expression_view choice.now.false_expr))))) f.new }
+    ensures { WritesOnOk W.write_str_gives f.old result
+        (text (expression_view choice.now.true_expr)
+        ++ (codes " if " ++ (text (expression_view choice.now.expr)
+        ++ (codes " else " ++ text (expression_view choice.now.false_expr))))) f.new }
 {
     show(&choice.true_expr, f)?;
     f.write_str(" if ")?;
@@ -239,7 +260,11 @@ pub(crate) fn show_comprehension<W: Write>(
     list: &ListComprehension,
     f: &mut Formatter<W>,
 ) -> fmt::Result
-    ensures { WritesOnOk W.write_str_gives f.old result (codes "[" ++ (text (expression_view list.now.expr) ++ (codes " for " ++ (names_text (name_view list.now.key) (string_bytes list.now.value) ++ (codes " in " ++ (text (expression_view list.now.target) ++ (maybe_text (codes " if ") (maybe_view list.now.condition) ++ codes "]"))))))) f.new }
+    ensures { WritesOnOk W.write_str_gives f.old result
+        (codes "[" ++ (text (expression_view list.now.expr) ++ (codes " for " ++ (names_text
+        (name_view list.now.key) (string_bytes list.now.value)
+        ++ (codes " in " ++ (text (expression_view list.now.target)
+        ++ (maybe_text (codes " if ") (maybe_view list.now.condition) ++ codes "]"))))))) f.new }
 {
     f.write_str("[")?;
     show(&list.expr, f)?;
@@ -251,7 +276,9 @@ pub(crate) fn show_comprehension<W: Write>(
 // What a comprehension goes over, to its end.
 #[cycle(show)]
 fn show_target<W: Write>(list: &ListComprehension, f: &mut Formatter<W>) -> fmt::Result
-    ensures { WritesOnOk W.write_str_gives f.old result (codes " in " ++ (text (expression_view list.now.target) ++ (maybe_text (codes " if ") (maybe_view list.now.condition) ++ codes "]"))) f.new }
+    ensures { WritesOnOk W.write_str_gives f.old result
+        (codes " in " ++ (text (expression_view list.now.target)
+        ++ (maybe_text (codes " if ") (maybe_view list.now.condition) ++ codes "]"))) f.new }
 {
     f.write_str(" in ")?;
     show(&list.target, f)?;
@@ -264,7 +291,10 @@ pub(crate) fn show_component_call<W: Write>(
     call: &ComponentCall,
     f: &mut Formatter<W>,
 ) -> fmt::Result
-    ensures { let c = out-ComponentCall call.now in WritesOnOk W.write_str_gives f.old result (codes "<" ++ (call_text (string_bytes c.name) (entries_text false (entries_view c.kwargs.items)) ++ closing_text (string_bytes c.name) c.self_closing (count_of (nodes_view c.body.items)))) f.new }
+    ensures { let c = out-ComponentCall call.now in
+        WritesOnOk W.write_str_gives f.old result (codes "<" ++ (call_text (string_bytes c.name)
+        (entries_text false (entries_view c.kwargs.items)) ++ closing_text
+        (string_bytes c.name) c.self_closing (count_of (nodes_view c.body.items)))) f.new }
 {
     f.write_str("<")?;
     show_attributes(call.name.as_str(), &call.kwargs, f)?;
@@ -277,7 +307,8 @@ pub(crate) fn show_attributes<W: Write>(
     kwargs: &Vec<MapEntry>,
     f: &mut Formatter<W>,
 ) -> fmt::Result
-    ensures { WritesOnOk W.write_str_gives f.old result (call_text name.now (entries_text false (entries_view kwargs.now.items))) f.new }
+    ensures { WritesOnOk W.write_str_gives f.old result
+        (call_text name.now (entries_text false (entries_view kwargs.now.items))) f.new }
 {
     f.write_str(name)?;
     f.write_str("{")?;
@@ -287,14 +318,17 @@ pub(crate) fn show_attributes<W: Write>(
 
 #[cycle(show)]
 pub(crate) fn show_function_call<W: Write>(call: &FunctionCall, f: &mut Formatter<W>) -> fmt::Result
-    ensures { WritesOnOk W.write_str_gives f.old result (call_text (string_bytes call.now.name) (args_text false (args_view call.now.kwargs.entries))) f.new }
+    ensures { WritesOnOk W.write_str_gives f.old result
+        (call_text (string_bytes call.now.name)
+        (args_text false (args_view call.now.kwargs.entries))) f.new }
 {
     show_call(call.name.as_str(), &call.kwargs, f)
 }
 
 #[cycle(show)]
 pub(crate) fn show_unary<W: Write>(operation: &UnaryOperation, f: &mut Formatter<W>) -> fmt::Result
-    ensures { WritesOnOk W.write_str_gives f.old result (codes "(" ++ (unary_text operation.now.op ++ (codes " " ++ (text (expression_view operation.now.expr) ++ codes ")")))) f.new }
+    ensures { WritesOnOk W.write_str_gives f.old result (codes "(" ++ (unary_text operation.now.op
+        ++ (codes " " ++ (text (expression_view operation.now.expr) ++ codes ")")))) f.new }
 {
     f.write_str("(")?;
     operation.op.fmt(f)?;
@@ -308,7 +342,10 @@ pub(crate) fn show_binary<W: Write>(
     operation: &BinaryOperation,
     f: &mut Formatter<W>,
 ) -> fmt::Result
-    ensures { WritesOnOk W.write_str_gives f.old result (codes "(" ++ (binary_text operation.now.op ++ (codes " " ++ (text (expression_view operation.now.left) ++ (codes " " ++ (text (expression_view operation.now.right) ++ codes ")")))))) f.new }
+    ensures { WritesOnOk W.write_str_gives f.old result
+        (codes "("
+        ++ (binary_text operation.now.op ++ (codes " " ++ (text (expression_view operation.now.left)
+        ++ (codes " " ++ (text (expression_view operation.now.right) ++ codes ")")))))) f.new }
 {
     f.write_str("(")?;
     operation.op.fmt(f)?;
@@ -318,7 +355,9 @@ pub(crate) fn show_binary<W: Write>(
 
 #[cycle(show)]
 fn show_operands<W: Write>(operation: &BinaryOperation, f: &mut Formatter<W>) -> fmt::Result
-    ensures { WritesOnOk W.write_str_gives f.old result (text (expression_view operation.now.left) ++ (codes " " ++ (text (expression_view operation.now.right) ++ codes ")"))) f.new }
+    ensures { WritesOnOk W.write_str_gives f.old result
+        (text (expression_view operation.now.left)
+        ++ (codes " " ++ (text (expression_view operation.now.right) ++ codes ")"))) f.new }
 {
     show(&operation.left, f)?;
     f.write_str(" ")?;
@@ -329,7 +368,8 @@ fn show_operands<W: Write>(operation: &BinaryOperation, f: &mut Formatter<W>) ->
 // An expression that may be there, behind what stands before it.
 #[cycle(show)]
 fn show_maybe<W: Write>(before: &str, e: &Option<Expression>, f: &mut Formatter<W>) -> fmt::Result
-    ensures { WritesOnOk W.write_str_gives f.old result (maybe_text before.now (maybe_view e.now)) f.new }
+    ensures { WritesOnOk W.write_str_gives f.old result
+        (maybe_text before.now (maybe_view e.now)) f.new }
 {
     match e {
         Some(e) => show_behind(before, e, f),
@@ -339,7 +379,8 @@ fn show_maybe<W: Write>(before: &str, e: &Option<Expression>, f: &mut Formatter<
 
 #[cycle(show)]
 fn show_behind<W: Write>(before: &str, e: &Expression, f: &mut Formatter<W>) -> fmt::Result
-    ensures { WritesOnOk W.write_str_gives f.old result (before.now ++ text (expression_view e.now)) f.new }
+    ensures { WritesOnOk W.write_str_gives f.old result
+        (before.now ++ text (expression_view e.now)) f.new }
 {
     f.write_str(before)?;
     show(e, f)
@@ -352,7 +393,8 @@ pub(crate) fn show_call<W: Write>(
     kwargs: &BTreeMap<String, Expression>,
     f: &mut Formatter<W>,
 ) -> fmt::Result
-    ensures { WritesOnOk W.write_str_gives f.old result (call_text name.now (args_text false (args_view kwargs.now.entries))) f.new }
+    ensures { WritesOnOk W.write_str_gives f.old result
+        (call_text name.now (args_text false (args_view kwargs.now.entries))) f.new }
 {
     f.write_str(name)?;
     f.write_str("{")?;
@@ -362,7 +404,8 @@ pub(crate) fn show_call<W: Write>(
 
 #[cycle(show)]
 fn show_args<W: Write>(args: &BTreeMap<String, Expression>, f: &mut Formatter<W>) -> fmt::Result
-    ensures { WritesOnOk W.write_str_gives f.old result (args_text false (args_view args.now.entries)) f.new }
+    ensures { WritesOnOk W.write_str_gives f.old result
+        (args_text false (args_view args.now.entries)) f.new }
 {
     let mut later = false;
     for (name, e) in args.iter() {
@@ -375,7 +418,8 @@ fn show_args<W: Write>(args: &BTreeMap<String, Expression>, f: &mut Formatter<W>
 // One of several arguments.
 #[cycle(show)]
 fn show_arg<W: Write>(later: bool, name: &str, e: &Expression, f: &mut Formatter<W>) -> fmt::Result
-    ensures { WritesOnOk W.write_str_gives f.old result (comma_text later ++ (name.now ++ (codes "=" ++ text (expression_view e.now)))) f.new }
+    ensures { WritesOnOk W.write_str_gives f.old result
+        (comma_text later ++ (name.now ++ (codes "=" ++ text (expression_view e.now)))) f.new }
 {
     if later {
         f.write_str(", ")?;
@@ -387,7 +431,8 @@ fn show_arg<W: Write>(later: bool, name: &str, e: &Expression, f: &mut Formatter
 
 #[cycle(show)]
 fn show_items<W: Write>(items: &Vec<ArrayEntry>, f: &mut Formatter<W>) -> fmt::Result
-    ensures { WritesOnOk W.write_str_gives f.old result (items_text false (items_view items.now.items)) f.new }
+    ensures { WritesOnOk W.write_str_gives f.old result
+        (items_text false (items_view items.now.items)) f.new }
 {
     let mut later = false;
     for item in items {
@@ -404,7 +449,8 @@ pub(crate) fn show_item<W: Write>(
     item: &ArrayEntry,
     f: &mut Formatter<W>,
 ) -> fmt::Result
-    ensures { WritesOnOk W.write_str_gives f.old result (comma_text later ++ item_text (item_view item.now)) f.new }
+    ensures { WritesOnOk W.write_str_gives f.old result
+        (comma_text later ++ item_text (item_view item.now)) f.new }
 {
     if later {
         f.write_str(", ")?;
@@ -417,7 +463,8 @@ pub(crate) fn show_item<W: Write>(
 
 #[cycle(show)]
 fn show_entries<W: Write>(entries: &Vec<MapEntry>, f: &mut Formatter<W>) -> fmt::Result
-    ensures { WritesOnOk W.write_str_gives f.old result (entries_text false (entries_view entries.now.items)) f.new }
+    ensures { WritesOnOk W.write_str_gives f.old result
+        (entries_text false (entries_view entries.now.items)) f.new }
 {
     let mut later = false;
     for entry in entries {
@@ -434,7 +481,8 @@ pub(crate) fn show_entry<W: Write>(
     entry: &MapEntry,
     f: &mut Formatter<W>,
 ) -> fmt::Result
-    ensures { WritesOnOk W.write_str_gives f.old result (comma_text later ++ entry_text (entry_view entry.now)) f.new }
+    ensures { WritesOnOk W.write_str_gives f.old result
+        (comma_text later ++ entry_text (entry_view entry.now)) f.new }
 {
     if later {
         f.write_str(", ")?;
@@ -447,7 +495,8 @@ pub(crate) fn show_entry<W: Write>(
 
 #[cycle(show)]
 fn show_pair<W: Write>(key: &Key, e: &Expression, f: &mut Formatter<W>) -> fmt::Result
-    ensures { WritesOnOk W.write_str_gives f.old result (key_text (key_view key.now) ++ (codes ": " ++ text (expression_view e.now))) f.new }
+    ensures { WritesOnOk W.write_str_gives f.old result
+        (key_text (key_view key.now) ++ (codes ": " ++ text (expression_view e.now))) f.new }
 {
     key.fmt(f)?;
     f.write_str(": ")?;

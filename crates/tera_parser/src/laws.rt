@@ -33,11 +33,12 @@ pub fn one_output()
         Derives l m source one → Derives l m source other → one ≡ other }
 {}
 
-/// In the tree of a source no two blocks have one name, nor two components; each `break` and `continue` stands in a loop,
-/// with no body that is taken as a value between; and where the source extends another template, texts of white space
-/// and blocks alone stand at its top level.
+/// In the tree of a source no two blocks have one name, nor two components; each `break` and `continue` stands in a
+/// loop, with no body that is taken as a value between; and where the source extends another template, texts of white
+/// space and blocks alone stand at its top level.
 pub fn right_trees()
-    ensures { (l : Limits) (m : Marks) (source : List ℕ) (read : Output) → Derives l m source read → IsRight read }
+    ensures { (l : Limits) (m : Marks) (source : List ℕ) (read : Output) → Derives l m source read →
+        IsRight read }
 {}
 
 /// Each number among the constants of the tree of a source is greater than the least `i64`, so no minus overflows.
@@ -46,8 +47,8 @@ pub fn constants()
         Derives l m source read → EachOfOutput IsLiteralNumber read }
 {}
 
-/// An expression that is parsed, written back and parsed again is itself, apart from places. It has a source text, and in
-/// a variable tag between the default markers this has a derivation within the same limits, of one node alone, which
+/// An expression that is parsed, written back and parsed again is itself, apart from places. It has a source text, and
+/// in a variable tag between the default markers this has a derivation within the same limits, of one node alone, which
 /// shows the expression. So it is for each expression in a derivation of a source, at any depth (`of_sources`), and for
 /// each that a node of its tree shows, sets, goes over or asks (`of_trees`).
 ///
@@ -55,14 +56,15 @@ pub fn constants()
 /// [`crate::expr::source_of`] answers is the source text, or `Memory`, by `text` and `memory`; and that text is parsed,
 /// or `Memory` is answered, by `complete`.
 pub fn printed_back()
-    ensures of_sources { (l : Limits) (m : Marks) (source : List ℕ) (read : Output) (d : Derives l m source read) →
-        EachOfBody (λ in_loop e. EachPart (λ part. PrintsBack l (output in_loop part)) e) false d.2.0 }
-    ensures of_trees { (l : Limits) (m : Marks) (source : List ℕ) (read : Output) → Derives l m source read →
-        trees.EachOfOutput (PrintsBack l) read }
+    ensures of_sources { (l : Limits) (m : Marks) (source : List ℕ) (read : Output)
+        (d : Derives l m source read) → EachOfBody
+        (λ in_loop e. EachPart (λ part. PrintsBack l (output in_loop part)) e) false d.2.0 }
+    ensures of_trees { (l : Limits) (m : Marks) (source : List ℕ) (read : Output) →
+        Derives l m source read → trees.EachOfOutput (PrintsBack l) read }
 {}
 
-/// What two crates define, each in its own terms, agrees: which keys of maps are the same (`keys`), and so what a map is
-/// after a pair was put into it, in a source and by a call (`pairs`); which type a value has, and whether it is of a
+/// What two crates define, each in its own terms, agrees: which keys of maps are the same (`keys`), and so what a map
+/// is after a pair was put into it, in a source and by a call (`pairs`); which type a value has, and whether it is of a
 /// type, by its form and by its kind (`types`, `of_types`); the names of types, declared and shown (`names`); and the
 /// span of what stands nowhere (`nowhere`).
 pub fn one_meaning()

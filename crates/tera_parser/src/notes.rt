@@ -27,7 +27,8 @@ pub(crate) fn in_file(alloc: Global, error: Error, filename: &str) -> Error
 
 // Has the notes be about this file.
 fn name_file(alloc: Global, notes: &mut Vec<Note>, filename: &str) -> Result<(), AllocError>
-    ensures { OnOk result (map note_view notes.new.items ≡ map (about filename.now) (map note_view notes.old.items)) }
+    ensures { OnOk result (map note_view notes.new.items
+        ≡ map (about filename.now) (map note_view notes.old.items)) }
 {
     'notes: for note in notes.iter_mut() {
         note.filename = String::from_str(alloc, filename)?;

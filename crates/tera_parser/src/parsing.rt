@@ -53,7 +53,12 @@ impl<'a> Parser<'a> {
         delimiters: Delimiters,
     ) -> Parser<'a>
         requires { IsValid (marks_of delimiters) }
-        ensures { result ≡ record { filename = filename.now; source = source.now; marks = marks_of delimiters; limits = usual } }
+        ensures { result ≡ record {
+          filename = filename.now;
+          source = source.now;
+          marks = marks_of delimiters;
+          limits = usual;
+        } }
     {
         Parser::with_limits(alloc, filename, source, delimiters, Limits::default())
     }
@@ -68,7 +73,12 @@ impl<'a> Parser<'a> {
     ) -> Parser<'a>
         requires marks { IsValid (marks_of delimiters) }
         requires limits { AreValid (limits_of limits) }
-        ensures { result ≡ record { filename = filename.now; source = source.now; marks = marks_of delimiters; limits = limits_of limits } }
+        ensures { result ≡ record {
+          filename = filename.now;
+          source = source.now;
+          marks = marks_of delimiters;
+          limits = limits_of limits;
+        } }
     {
         Parser {
             alloc,
@@ -84,8 +94,10 @@ impl<'a> Parser<'a> {
     /// It is read from left to right, and the first fault that is met is told. The one other refusal is
     /// `Memory`. The notes of a fault are about the parser's file.
     pub fn parse(self) -> Result<ParserOutput, Error>
-        ensures sound { IfOk result (λ o. Derives self.entry.limits self.entry.marks self.entry.source (output_view o)) }
-        ensures complete { (output : Output) → Derives self.entry.limits self.entry.marks self.entry.source output →
+        ensures sound { IfOk result (λ o.
+            Derives self.entry.limits self.entry.marks self.entry.source (output_view o)) }
+        ensures complete { (output : Output) →
+            Derives self.entry.limits self.entry.marks self.entry.source output →
             MatchResult result (λ o. output_view o ≡ output) IsMemory }
         ensures refusal { IfErr result (Refuses self.entry.marks self.entry.source) }
         ensures notes { IfErr result (NotesName self.entry.filename) }

@@ -59,7 +59,8 @@ pub fn show<R: Read, W: Write>(
     reader: &mut R,
     writer: &mut W,
 ) -> Result<Outcome, ShowFault>
-    ensures { IsShown usual (R.remaining reader.old) (W.contents writer.old) (W.contents writer.new) result }
+    ensures { IsShown usual (R.remaining reader.old) (W.contents writer.old)
+        (W.contents writer.new) result }
 {
     show_with(alloc, reader, writer, Limits::default())
 }
@@ -72,7 +73,8 @@ pub fn show_with<R: Read, W: Write>(
     limits: Limits,
 ) -> Result<Outcome, ShowFault>
     requires { AreValid (limits_of limits) }
-    ensures { IsShown (limits_of limits) (R.remaining reader.old) (W.contents writer.old) (W.contents writer.new) result }
+    ensures { IsShown (limits_of limits) (R.remaining reader.old)
+        (W.contents writer.old) (W.contents writer.new) result }
 {
     let input = read_all(alloc, reader)?;
     let (outcome, text) = answer(alloc, input.as_slice(), limits)?;
@@ -117,8 +119,8 @@ fn read_all<R: Read>(alloc: Global, reader: &mut R) -> Result<Vec<u8>, ShowFault
 // Writes all of the text, or a beginning of it.
 fn write_all<W: Write>(writer: &mut W, text: &[u8]) -> Result<(), ShowFault>
     ensures ok { OnOk result (Appends (W.contents writer.old) (W.contents writer.new) text.now) }
-    ensures err { IfErr result (λ e. (e ≡ ShowFault.Write)
-        × ((n : ℕ) × (n < length text.now) × Appends (W.contents writer.old) (W.contents writer.new) (take n text.now))) }
+    ensures err { IfErr result (λ e. (e ≡ ShowFault.Write) × ((n : ℕ) × (n < length text.now)
+        × Appends (W.contents writer.old) (W.contents writer.new) (take n text.now))) }
 {
     let mut done = 0;
     while done < text.len() {

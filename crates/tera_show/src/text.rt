@@ -28,7 +28,8 @@ pub fn tree_text(alloc: Global, output: &ParserOutput) -> Result<String, Error>
 
 // The line of the parent, if there is one.
 fn push_parent(text: &mut String, parent: &Option<String>) -> Result<(), AllocError>
-    ensures { OnOk result (string_bytes text.new ≡ string_bytes text.old ++ parent_text (name_view parent.now)) }
+    ensures { OnOk result (string_bytes text.new
+        ≡ string_bytes text.old ++ parent_text (name_view parent.now)) }
 {
     match parent {
         Some(name) => push_named(text, "", "parent ", name.as_str()),
@@ -41,7 +42,8 @@ fn push_definitions(
     text: &mut String,
     definitions: &Vec<ComponentDefinition>,
 ) -> Result<(), AllocError>
-    ensures { OnOk result (string_bytes text.new ≡ string_bytes text.old ++ flat_map definition_text (map definition_view definitions.now.items)) }
+    ensures { OnOk result (string_bytes text.new ≡ string_bytes text.old
+        ++ flat_map definition_text (map definition_view definitions.now.items)) }
 {
     for definition in definitions {
         push_definition(text, definition)?;

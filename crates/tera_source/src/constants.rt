@@ -13,7 +13,8 @@ use tera_base::{Key, Map, Value};
 
 /// A key of a map.
 pub(crate) fn push_key(out: &mut String, key: &Key) -> Result<(), AllocError>
-    ensures { OnOk result (string_bytes out.new ≡ string_bytes out.old ++ key_source (key_view key.now)) }
+    ensures { OnOk result (string_bytes out.new
+        ≡ string_bytes out.old ++ key_source (key_view key.now)) }
 {
     if let Key::String(text) = key {
         return push_quoted(out, text.as_str());
@@ -25,7 +26,8 @@ pub(crate) fn push_key(out: &mut String, key: &Key) -> Result<(), AllocError>
 /// A constant. What stands for no value, and in no template, is written `none`.
 #[cycle(constants)]
 pub(crate) fn push_constant(out: &mut String, value: &Value) -> Result<(), AllocError>
-    ensures { OnOk result (string_bytes out.new ≡ string_bytes out.old ++ constant_text (value_view value.now)) }
+    ensures { OnOk result (string_bytes out.new
+        ≡ string_bytes out.old ++ constant_text (value_view value.now)) }
 {
     match value {
         Value::Undefined | Value::None | Value::Bytes(_) => out.push_str("none"),
@@ -65,7 +67,8 @@ fn push_signed(out: &mut String, n: i128) -> Result<(), AllocError>
 
 #[cycle(constants)]
 fn push_array(out: &mut String, values: &Vec<Value>) -> Result<(), AllocError>
-    ensures { OnOk result (string_bytes out.new ≡ string_bytes out.old ++ (codes "[" ++ (vals_text false (vals_view values.now.items) ++ codes " ]"))) }
+    ensures { OnOk result (string_bytes out.new ≡ string_bytes out.old ++ (codes "["
+        ++ (vals_text false (vals_view values.now.items) ++ codes " ]"))) }
 {
     out.push_str("[")?;
     let mut later = false;
@@ -79,7 +82,8 @@ fn push_array(out: &mut String, values: &Vec<Value>) -> Result<(), AllocError>
 
 #[cycle(constants)]
 fn push_map(out: &mut String, map: &Map) -> Result<(), AllocError>
-    ensures { OnOk result (string_bytes out.new ≡ string_bytes out.old ++ (codes "{" ++ (pairs_text false (pairs_view map.now) ++ codes " }"))) }
+    ensures { OnOk result (string_bytes out.new ≡ string_bytes out.old ++ (codes "{"
+        ++ (pairs_text false (pairs_view map.now) ++ codes " }"))) }
 {
     out.push_str("{")?;
     push_pairs(out, map)?;
@@ -88,7 +92,8 @@ fn push_map(out: &mut String, map: &Map) -> Result<(), AllocError>
 
 #[cycle(constants)]
 fn push_pairs(out: &mut String, map: &Map) -> Result<(), AllocError>
-    ensures { OnOk result (string_bytes out.new ≡ string_bytes out.old ++ pairs_text false (pairs_view map.now)) }
+    ensures { OnOk result (string_bytes out.new
+        ≡ string_bytes out.old ++ pairs_text false (pairs_view map.now)) }
 {
     let mut later = false;
     for (key, value) in map.iter() {
@@ -101,7 +106,9 @@ fn push_pairs(out: &mut String, map: &Map) -> Result<(), AllocError>
 
 #[cycle(constants)]
 fn push_pair(out: &mut String, key: &Key, value: &Value) -> Result<(), AllocError>
-    ensures { OnOk result (string_bytes out.new ≡ string_bytes out.old ++ (key_source (key_view key.now) ++ (codes " : " ++ constant_text (value_view value.now)))) }
+    ensures { OnOk result (string_bytes out.new
+        ≡ string_bytes out.old ++ (key_source (key_view key.now)
+        ++ (codes " : " ++ constant_text (value_view value.now)))) }
 {
     push_key(out, key)?;
     out.push_str(" : ")?;

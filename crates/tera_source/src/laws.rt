@@ -32,7 +32,8 @@ pub fn sources()
     ensures bound { (in_loop : Bool) (e : Tree) → IsExpression in_loop e →
         IsExpression false (source_tree (output in_loop e)) }
     ensures within { (m : Marks) (source : List ℕ) (limits : Limits) (in_loop : Bool) (e : Tree) →
-        StandsIn m source e → IsExpression in_loop e → Within limits e → Within limits (source_tree (output in_loop e)) }
+        StandsIn m source e →
+        IsExpression in_loop e → Within limits e → Within limits (source_tree (output in_loop e)) }
     ensures same { (in_loop : Bool) (e : Tree) → IsExpression in_loop e →
         placeless (output false (source_tree (output in_loop e))) ≡ placeless (output in_loop e) }
 {}
@@ -49,16 +50,17 @@ pub fn read_back()
 {}
 
 /// Each expression that stands in a source is printed back within the limits of the expression (`each`). So it is for
-/// each expression in a derivation of a source, at any depth, between whatever markers (`of_sources`), and for each that
-/// a node of its tree shows, sets, goes over or asks (`of_trees`).
+/// each expression in a derivation of a source, at any depth, between whatever markers (`of_sources`), and for each
+/// that a node of its tree shows, sets, goes over or asks (`of_trees`).
 pub fn printed_back()
     ensures each { (m : Marks) (source : List ℕ) (limits : Limits) (in_loop : Bool) (e : Tree) →
         StandsIn m source e → IsExpression in_loop e → Within limits e → 1 ≤ limits.bodies →
         PrintsBack limits (output in_loop e) }
-    ensures of_sources { (m : Marks) (source : List ℕ) (limits : Limits) (read : Output) (d : Derives limits m source read) →
-        EachOfBody (λ in_loop e. EachPart (λ part. PrintsBack limits (output in_loop part)) e) false d.2.0 }
-    ensures of_trees { (m : Marks) (source : List ℕ) (limits : Limits) (read : Output) → Derives limits m source read →
-        EachOfOutput (PrintsBack limits) read }
+    ensures of_sources { (m : Marks) (source : List ℕ) (limits : Limits) (read : Output)
+        (d : Derives limits m source read) → EachOfBody
+        (λ in_loop e. EachPart (λ part. PrintsBack limits (output in_loop part)) e) false d.2.0 }
+    ensures of_trees { (m : Marks) (source : List ℕ) (limits : Limits) (read : Output) →
+        Derives limits m source read → EachOfOutput (PrintsBack limits) read }
 {}
 
 /// What is written for an expression, form by form, is the text of its source tree.
@@ -77,5 +79,6 @@ pub fn outputs()
 /// Expressions that are the same apart from places have one source text. So what is printed, read and printed again is
 /// the first text.
 pub fn one_text()
-    ensures { (one other : Expr) → placeless one ≡ placeless other → source_text one ≡ source_text other }
+    ensures { (one other : Expr) → placeless one ≡ placeless other →
+        source_text one ≡ source_text other }
 {}

@@ -25,10 +25,13 @@ pub fn source_of(alloc: Global, expression: &Expression) -> Result<String, Error
     ensures text { IsWritable (expression_view expression.now) →
         IfOk result (λ text. string_bytes text ≡ source_text (expression_view expression.now)) }
     ensures read { (in_loop : Bool) (t : Tree) → expression_view expression.now ≡ output in_loop t →
-        MatchResult result (λ text. string_bytes text ≡ source_text (expression_view expression.now)) IsMemory }
+        MatchResult result
+        (λ text. string_bytes text ≡ source_text (expression_view expression.now)) IsMemory }
     ensures bodiless { IfOk result (λ _. has_body (expression_view expression.now) ≡ false) }
-    ensures message { IfErr result (Says (codes "A component call with a body has no expression text")) }
-    ensures memory { IfErr result (λ error. has_body (expression_view expression.now) ≡ false → IsMemory error) }
+    ensures message { IfErr result
+        (Says (codes "A component call with a body has no expression text")) }
+    ensures memory { IfErr result (λ error. has_body (expression_view expression.now) ≡ false →
+        IsMemory error) }
 {
     let mut text = String::new(alloc);
     match push_expression(&mut text, expression, Context::free()) {

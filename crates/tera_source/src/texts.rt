@@ -19,7 +19,8 @@ pub(crate) fn push_quoted(out: &mut String, content: &str) -> Result<(), AllocEr
 
 #[tactic(auto, using(crate::proofs::Characters::escaped_kept))]
 fn push_escaped(out: &mut String, c: char) -> Result<(), AllocError>
-    ensures { OnOk result (string_bytes out.new ≡ string_bytes out.old ++ with_escapes (encode_utf8 c)) }
+    ensures { OnOk result (string_bytes out.new
+        ≡ string_bytes out.old ++ with_escapes (encode_utf8 c)) }
 {
     match c {
         '\\' => out.push_str("\\\\"),

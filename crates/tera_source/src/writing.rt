@@ -33,7 +33,8 @@ pub(crate) fn push_expression(
     e: &Expression,
     context: Context,
 ) -> Result<(), Refusal>
-    ensures text { OnOk result (string_bytes out.new ≡ string_bytes out.old ++ written (expression_view e.now) context) }
+    ensures text { OnOk result (string_bytes out.new
+        ≡ string_bytes out.old ++ written (expression_view e.now) context) }
     ensures body { Finds result (has_body (expression_view e.now)) }
 {
     if !context.bars(e) {
@@ -53,7 +54,8 @@ fn push_bare(
     negated: bool,
     context: Context,
 ) -> Result<(), Refusal>
-    ensures text { OnOk result (string_bytes out.new ≡ string_bytes out.old ++ text negated (expression_view e.now) context) }
+    ensures text { OnOk result (string_bytes out.new
+        ≡ string_bytes out.old ++ text negated (expression_view e.now) context) }
     ensures body { Finds result (has_body (expression_view e.now)) }
 {
     match e {
@@ -77,7 +79,8 @@ fn push_bare(
 
 #[cycle(writing)]
 fn push_array(out: &mut String, array: &Array) -> Result<(), Refusal>
-    ensures text { OnOk result (string_bytes out.new ≡ string_bytes out.old ++ (codes "[" ++ (items_text false (items_view array.now.items.items) ++ codes " ]"))) }
+    ensures text { OnOk result (string_bytes out.new ≡ string_bytes out.old ++ (codes "["
+        ++ (items_text false (items_view array.now.items.items) ++ codes " ]"))) }
     ensures body { Finds result (items_have_body (items_view array.now.items.items)) }
 {
     out.push_str("[")?;
@@ -87,7 +90,8 @@ fn push_array(out: &mut String, array: &Array) -> Result<(), Refusal>
 
 #[cycle(writing)]
 fn push_map(out: &mut String, map: &Map) -> Result<(), Refusal>
-    ensures text { OnOk result (string_bytes out.new ≡ string_bytes out.old ++ (codes "{" ++ (entries_text false (entries_view map.now.entries.items) ++ codes " }"))) }
+    ensures text { OnOk result (string_bytes out.new ≡ string_bytes out.old ++ (codes "{"
+        ++ (entries_text false (entries_view map.now.entries.items) ++ codes " }"))) }
     ensures body { Finds result (entries_have_body (entries_view map.now.entries.items)) }
 {
     out.push_str("{")?;
@@ -97,8 +101,9 @@ fn push_map(out: &mut String, map: &Map) -> Result<(), Refusal>
 
 #[cycle(writing)]
 fn push_get_attr(out: &mut String, field: &GetAttr, context: Context) -> Result<(), Refusal>
-    ensures text { OnOk result (string_bytes out.new ≡ string_bytes out.old
-        ++ (written (expression_view field.now.expr) (before 21 context) ++ (dot_text field.now.optional ++ string_bytes field.now.name))) }
+    ensures text { OnOk result (string_bytes out.new
+        ≡ string_bytes out.old ++ (written (expression_view field.now.expr) (before 21 context)
+        ++ (dot_text field.now.optional ++ string_bytes field.now.name))) }
     ensures body { Finds result (has_body (expression_view field.now.expr)) }
 {
     push_expression(out, &field.expr, context.before(CLOSED))?;
@@ -108,10 +113,12 @@ fn push_get_attr(out: &mut String, field: &GetAttr, context: Context) -> Result<
 
 #[cycle(writing)]
 fn push_get_item(out: &mut String, field: &GetItem, context: Context) -> Result<(), Refusal>
-    ensures text { OnOk result (string_bytes out.new ≡ string_bytes out.old
-        ++ (written (expression_view field.now.expr) (before 21 context)
-        ++ (bracket_text field.now.optional ++ (codes " " ++ (written (expression_view field.now.sub_expr) at.free ++ codes " ]"))))) }
-    ensures body { Finds result (has_body (expression_view field.now.expr) || has_body (expression_view field.now.sub_expr)) }
+    ensures text { OnOk result (string_bytes out.new
+        ≡ string_bytes out.old ++ (written (expression_view field.now.expr) (before 21 context)
+        ++ (bracket_text field.now.optional
+        ++ (codes " " ++ (written (expression_view field.now.sub_expr) at.free ++ codes " ]"))))) }
+    ensures body { Finds result (has_body (expression_view field.now.expr)
+        || has_body (expression_view field.now.sub_expr)) }
 {
     push_expression(out, &field.expr, context.before(CLOSED))?;
     push_bracket(out, field.optional)?;
@@ -122,10 +129,14 @@ fn push_get_item(out: &mut String, field: &GetItem, context: Context) -> Result<
 
 #[cycle(writing)]
 fn push_slice(out: &mut String, part: &Slice, context: Context) -> Result<(), Refusal>
-    ensures text { OnOk result (string_bytes out.new ≡ string_bytes out.old
-        ++ (written (expression_view part.now.expr) (before 21 context)
-        ++ (bracket_text part.now.optional ++ (maybe_text (codes " ") 0 (maybe_view part.now.start) ++ (codes " :" ++ (maybe_text (codes " ") 0 (maybe_view part.now.end) ++ (maybe_text (codes " : ") 0 (maybe_view part.now.step) ++ codes " ]"))))))) }
-    ensures body { Finds result (has_body (expression_view part.now.expr) || (maybe_has_body (maybe_view part.now.start) || (maybe_has_body (maybe_view part.now.end) || maybe_has_body (maybe_view part.now.step)))) }
+    ensures text { OnOk result (string_bytes out.new
+        ≡ string_bytes out.old ++ (written (expression_view part.now.expr) (before 21 context)
+        ++ (bracket_text part.now.optional ++ (maybe_text (codes " ") 0 (maybe_view part.now.start)
+        ++ (codes " :" ++ (maybe_text (codes " ") 0 (maybe_view part.now.end)
+        ++ (maybe_text (codes " : ") 0 (maybe_view part.now.step) ++ codes " ]"))))))) }
+    ensures body { Finds result (has_body (expression_view part.now.expr)
+        || (maybe_has_body (maybe_view part.now.start) || (maybe_has_body (maybe_view part.now.end)
+        || maybe_has_body (maybe_view part.now.step)))) }
 {
     push_expression(out, &part.expr, context.before(CLOSED))?;
     push_bracket(out, part.optional)?;
@@ -144,10 +155,13 @@ fn push_bracket(out: &mut String, optional: bool) -> Result<(), AllocError>
 
 #[cycle(writing)]
 fn push_filter(out: &mut String, filter: &Filter, context: Context) -> Result<(), Refusal>
-    ensures text { OnOk result (string_bytes out.new ≡ string_bytes out.old
-        ++ (written (expression_view filter.now.expr) (before 18 context)
-        ++ (codes " | " ++ (string_bytes filter.now.name ++ optional_args (args_view filter.now.kwargs.entries) (args_text false (args_view filter.now.kwargs.entries)))))) }
-    ensures body { Finds result (has_body (expression_view filter.now.expr) || args_have_body (args_view filter.now.kwargs.entries)) }
+    ensures text { OnOk result (string_bytes out.new
+        ≡ string_bytes out.old ++ (written (expression_view filter.now.expr) (before 18 context)
+        ++ (codes " | " ++ (string_bytes filter.now.name
+        ++ optional_args (args_view filter.now.kwargs.entries)
+        (args_text false (args_view filter.now.kwargs.entries)))))) }
+    ensures body { Finds result (has_body (expression_view filter.now.expr)
+        || args_have_body (args_view filter.now.kwargs.entries)) }
 {
     push_expression(out, &filter.expr, context.before(FILTER_POWER + 1))?;
     out.push_str(" | ")?;
@@ -157,10 +171,13 @@ fn push_filter(out: &mut String, filter: &Filter, context: Context) -> Result<()
 
 #[cycle(writing)]
 fn push_test(out: &mut String, test: &Test, negated: bool, context: Context) -> Result<(), Refusal>
-    ensures text { OnOk result (string_bytes out.new ≡ string_bytes out.old
-        ++ (written (expression_view test.now.expr) (before 6 context)
-        ++ (test_text negated ++ (string_bytes test.now.name ++ optional_args (args_view test.now.kwargs.entries) (args_text false (args_view test.now.kwargs.entries)))))) }
-    ensures body { Finds result (has_body (expression_view test.now.expr) || args_have_body (args_view test.now.kwargs.entries)) }
+    ensures text { OnOk result (string_bytes out.new
+        ≡ string_bytes out.old ++ (written (expression_view test.now.expr) (before 6 context)
+        ++ (test_text negated ++ (string_bytes test.now.name
+        ++ optional_args (args_view test.now.kwargs.entries)
+        (args_text false (args_view test.now.kwargs.entries)))))) }
+    ensures body { Finds result (has_body (expression_view test.now.expr)
+        || args_have_body (args_view test.now.kwargs.entries)) }
 {
     push_expression(out, &test.expr, context.before(TEST_POWER + 1))?;
     out.push_str(if negated { " is not " } else { " is " })?;
@@ -170,10 +187,13 @@ fn push_test(out: &mut String, test: &Test, negated: bool, context: Context) -> 
 
 #[cycle(writing)]
 fn push_ternary(out: &mut String, choice: &Ternary, context: Context) -> Result<(), Refusal>
-    ensures text { OnOk result (string_bytes out.new ≡ string_bytes out.old
-        ++ (written (expression_view choice.now.true_expr) (before 1 context)
-        ++ (codes " if " ++ (written (expression_view choice.now.expr) at.free ++ (codes " else " ++ written (expression_view choice.now.false_expr) (behind 0 context)))))) }
-    ensures body { Finds result (has_body (expression_view choice.now.expr) || (has_body (expression_view choice.now.true_expr) || has_body (expression_view choice.now.false_expr))) }
+    ensures text { OnOk result (string_bytes out.new
+        ≡ string_bytes out.old ++ (written (expression_view choice.now.true_expr) (before 1 context)
+        ++ (codes " if " ++ (written (expression_view choice.now.expr) at.free ++ (codes " else "
+        ++ written (expression_view choice.now.false_expr) (behind 0 context)))))) }
+    ensures body { Finds result (has_body (expression_view choice.now.expr)
+        || (has_body (expression_view choice.now.true_expr)
+        || has_body (expression_view choice.now.false_expr))) }
 {
     push_expression(out, &choice.true_expr, context.before(TERNARY_POWER + 1))?;
     out.push_str(" if ")?;
@@ -184,10 +204,14 @@ fn push_ternary(out: &mut String, choice: &Ternary, context: Context) -> Result<
 
 #[cycle(writing)]
 fn push_comprehension(out: &mut String, list: &ListComprehension) -> Result<(), Refusal>
-    ensures text { OnOk result (string_bytes out.new ≡ string_bytes out.old
-        ++ (codes "[ " ++ (written (expression_view list.now.expr) at.free
-        ++ (codes " for " ++ (names_text (name_view list.now.key) (string_bytes list.now.value) ++ (codes " in " ++ (written (expression_view list.now.target) (above 1) ++ (maybe_text (codes " if ") 1 (maybe_view list.now.condition) ++ codes " ]")))))))) }
-    ensures body { Finds result (has_body (expression_view list.now.expr) || (has_body (expression_view list.now.target) || maybe_has_body (maybe_view list.now.condition))) }
+    ensures text { OnOk result (string_bytes out.new
+        ≡ string_bytes out.old ++ (codes "[ " ++ (written (expression_view list.now.expr) at.free
+        ++ (codes " for " ++ (names_text (name_view list.now.key) (string_bytes list.now.value)
+        ++ (codes " in " ++ (written (expression_view list.now.target) (above 1)
+        ++ (maybe_text (codes " if ") 1 (maybe_view list.now.condition) ++ codes " ]")))))))) }
+    ensures body { Finds result (has_body (expression_view list.now.expr)
+        || (has_body (expression_view list.now.target)
+        || maybe_has_body (maybe_view list.now.condition))) }
 {
     out.push_str("[ ")?;
     push_expression(out, &list.expr, Context::free())?;
@@ -199,9 +223,11 @@ fn push_comprehension(out: &mut String, list: &ListComprehension) -> Result<(), 
 // What a comprehension goes over, to its end.
 #[cycle(writing)]
 fn push_target(out: &mut String, list: &ListComprehension) -> Result<(), Refusal>
-    ensures text { OnOk result (string_bytes out.new ≡ string_bytes out.old
-        ++ (codes " in " ++ (written (expression_view list.now.target) (above 1) ++ (maybe_text (codes " if ") 1 (maybe_view list.now.condition) ++ codes " ]")))) }
-    ensures body { Finds result (has_body (expression_view list.now.target) || maybe_has_body (maybe_view list.now.condition)) }
+    ensures text { OnOk result (string_bytes out.new ≡ string_bytes out.old ++ (codes " in "
+        ++ (written (expression_view list.now.target) (above 1)
+        ++ (maybe_text (codes " if ") 1 (maybe_view list.now.condition) ++ codes " ]")))) }
+    ensures body { Finds result (has_body (expression_view list.now.target)
+        || maybe_has_body (maybe_view list.now.condition)) }
 {
     out.push_str(" in ")?;
     push_expression(out, &list.target, Context::above(TERNARY_POWER + 1))?;
@@ -216,7 +242,8 @@ fn push_target(out: &mut String, list: &ListComprehension) -> Result<(), Refusal
 
 // The variables of a comprehension.
 fn push_names(out: &mut String, key: &Option<String>, value: &str) -> Result<(), AllocError>
-    ensures { OnOk result (string_bytes out.new ≡ string_bytes out.old ++ names_text (name_view key.now) value.now) }
+    ensures { OnOk result (string_bytes out.new
+        ≡ string_bytes out.old ++ names_text (name_view key.now) value.now) }
 {
     if let Some(key) = key {
         out.push_str(key.as_str())?;
@@ -227,9 +254,11 @@ fn push_names(out: &mut String, key: &Option<String>, value: &str) -> Result<(),
 
 #[cycle(writing)]
 fn push_component_call(out: &mut String, call: &ComponentCall) -> Result<(), Refusal>
-    ensures text { let c = out-ComponentCall call.now in OnOk result (string_bytes out.new ≡ string_bytes out.old
-        ++ (codes "< " ++ (dotted (string_bytes c.name) ++ (attributes_text (entries_view c.kwargs.items) ++ codes " / >")))) }
-    ensures body { let c = out-ComponentCall call.now in Finds result (not c.self_closing || entries_have_body (entries_view c.kwargs.items)) }
+    ensures text { let c = out-ComponentCall call.now in OnOk result (string_bytes out.new
+        ≡ string_bytes out.old ++ (codes "< " ++ (dotted (string_bytes c.name)
+        ++ (attributes_text (entries_view c.kwargs.items) ++ codes " / >")))) }
+    ensures body { let c = out-ComponentCall call.now in
+        Finds result (not c.self_closing || entries_have_body (entries_view c.kwargs.items)) }
 {
     if !call.self_closing {
         return Err(Refusal::Body);
@@ -242,8 +271,9 @@ fn push_component_call(out: &mut String, call: &ComponentCall) -> Result<(), Ref
 
 #[cycle(writing)]
 fn push_function_call(out: &mut String, call: &FunctionCall) -> Result<(), Refusal>
-    ensures text { OnOk result (string_bytes out.new ≡ string_bytes out.old
-        ++ (string_bytes call.now.name ++ (codes " (" ++ (args_text false (args_view call.now.kwargs.entries) ++ codes " )")))) }
+    ensures text { OnOk result (string_bytes out.new
+        ≡ string_bytes out.old ++ (string_bytes call.now.name
+        ++ (codes " (" ++ (args_text false (args_view call.now.kwargs.entries) ++ codes " )")))) }
     ensures body { Finds result (args_have_body (args_view call.now.kwargs.entries)) }
 {
     out.push_str(call.name.as_str())?;
@@ -252,7 +282,8 @@ fn push_function_call(out: &mut String, call: &FunctionCall) -> Result<(), Refus
 
 #[cycle(writing)]
 fn push_unary(out: &mut String, operation: &UnaryOperation, context: Context) -> Result<(), Refusal>
-    ensures text { OnOk result (string_bytes out.new ≡ string_bytes out.old ++ unary_text operation.now.op (expression_view operation.now.expr) context) }
+    ensures text { OnOk result (string_bytes out.new ≡ string_bytes out.old
+        ++ unary_text operation.now.op (expression_view operation.now.expr) context) }
     ensures body { Finds result (has_body (expression_view operation.now.expr)) }
 {
     match operation.op {
@@ -266,7 +297,8 @@ fn push_unary(out: &mut String, operation: &UnaryOperation, context: Context) ->
 
 #[cycle(writing)]
 fn push_negation(out: &mut String, e: &Expression, context: Context) -> Result<(), Refusal>
-    ensures text { OnOk result (string_bytes out.new ≡ string_bytes out.old ++ unary_text UnaryOperator.Not (expression_view e.now) context) }
+    ensures text { OnOk result (string_bytes out.new
+        ≡ string_bytes out.old ++ unary_text UnaryOperator.Not (expression_view e.now) context) }
     ensures body { Finds result (has_body (expression_view e.now)) }
 {
     if takes_negation(e) {
@@ -283,10 +315,13 @@ fn push_binary(
     negated: bool,
     context: Context,
 ) -> Result<(), Refusal>
-    ensures text { OnOk result (string_bytes out.new ≡ string_bytes out.old
-        ++ (written (expression_view operation.now.left) (before (suc (left_of operation.now.op)) context)
-        ++ (operator_text negated operation.now.op ++ written (expression_view operation.now.right) (behind (right_of operation.now.op) context)))) }
-    ensures body { Finds result (has_body (expression_view operation.now.left) || has_body (expression_view operation.now.right)) }
+    ensures text { OnOk result (string_bytes out.new
+        ≡ string_bytes out.old ++ (written (expression_view operation.now.left)
+        (before (suc (left_of operation.now.op)) context) ++ (operator_text negated operation.now.op
+        ++ written (expression_view operation.now.right)
+        (behind (right_of operation.now.op) context)))) }
+    ensures body { Finds result (has_body (expression_view operation.now.left)
+        || has_body (expression_view operation.now.right)) }
 {
     let op = operation.op;
     push_expression(out, &operation.left, context.before_operator(op))?;
@@ -302,7 +337,8 @@ fn push_maybe(
     e: &Option<Expression>,
     context: Context,
 ) -> Result<(), Refusal>
-    ensures text { (power : ℕ) → context ≡ above power → OnOk result (string_bytes out.new ≡ string_bytes out.old ++ maybe_text before.now power (maybe_view e.now)) }
+    ensures text { (power : ℕ) → context ≡ above power → OnOk result (string_bytes out.new
+        ≡ string_bytes out.old ++ maybe_text before.now power (maybe_view e.now)) }
     ensures body { Finds result (maybe_has_body (maybe_view e.now)) }
 {
     match e {
@@ -318,7 +354,8 @@ fn push_behind(
     e: &Expression,
     context: Context,
 ) -> Result<(), Refusal>
-    ensures text { OnOk result (string_bytes out.new ≡ string_bytes out.old ++ (before.now ++ written (expression_view e.now) context)) }
+    ensures text { OnOk result (string_bytes out.new
+        ≡ string_bytes out.old ++ (before.now ++ written (expression_view e.now) context)) }
     ensures body { Finds result (has_body (expression_view e.now)) }
 {
     out.push_str(before)?;
@@ -328,7 +365,9 @@ fn push_behind(
 // The arguments of a test or a filter, which has parentheses only around some.
 #[cycle(writing)]
 fn push_optional_args(out: &mut String, args: &BTreeMap<String, Expression>) -> Result<(), Refusal>
-    ensures text { OnOk result (string_bytes out.new ≡ string_bytes out.old ++ optional_args (args_view args.now.entries) (args_text false (args_view args.now.entries))) }
+    ensures text { OnOk result (string_bytes out.new
+        ≡ string_bytes out.old ++ optional_args (args_view args.now.entries)
+        (args_text false (args_view args.now.entries))) }
     ensures body { Finds result (args_have_body (args_view args.now.entries)) }
 {
     if has_args(args) {
@@ -347,7 +386,8 @@ fn has_args(args: &BTreeMap<String, Expression>) -> bool
 
 #[cycle(writing)]
 fn push_args(out: &mut String, args: &BTreeMap<String, Expression>) -> Result<(), Refusal>
-    ensures text { OnOk result (string_bytes out.new ≡ string_bytes out.old ++ (codes " (" ++ (args_text false (args_view args.now.entries) ++ codes " )"))) }
+    ensures text { OnOk result (string_bytes out.new ≡ string_bytes out.old ++ (codes " ("
+        ++ (args_text false (args_view args.now.entries) ++ codes " )"))) }
     ensures body { Finds result (args_have_body (args_view args.now.entries)) }
 {
     out.push_str(" (")?;
@@ -362,7 +402,8 @@ fn push_args(out: &mut String, args: &BTreeMap<String, Expression>) -> Result<()
 // One of several arguments.
 #[cycle(writing)]
 fn push_arg(out: &mut String, later: bool, name: &str, e: &Expression) -> Result<(), Refusal>
-    ensures text { OnOk result (string_bytes out.new ≡ string_bytes out.old ++ (comma_text later ++ (name.now ++ (codes " = " ++ written (expression_view e.now) at.free)))) }
+    ensures text { OnOk result (string_bytes out.new ≡ string_bytes out.old ++ (comma_text later
+        ++ (name.now ++ (codes " = " ++ written (expression_view e.now) at.free)))) }
     ensures body { Finds result (has_body (expression_view e.now)) }
 {
     push_comma(out, later)?;
@@ -372,7 +413,8 @@ fn push_arg(out: &mut String, later: bool, name: &str, e: &Expression) -> Result
 
 #[cycle(writing)]
 fn push_items(out: &mut String, items: &Vec<ArrayEntry>) -> Result<(), Refusal>
-    ensures text { OnOk result (string_bytes out.new ≡ string_bytes out.old ++ items_text false (items_view items.now.items)) }
+    ensures text { OnOk result (string_bytes out.new
+        ≡ string_bytes out.old ++ items_text false (items_view items.now.items)) }
     ensures body { Finds result (items_have_body (items_view items.now.items)) }
 {
     let mut later = false;
@@ -386,7 +428,8 @@ fn push_items(out: &mut String, items: &Vec<ArrayEntry>) -> Result<(), Refusal>
 // One of several items.
 #[cycle(writing)]
 fn push_item(out: &mut String, later: bool, item: &ArrayEntry) -> Result<(), Refusal>
-    ensures text { OnOk result (string_bytes out.new ≡ string_bytes out.old ++ (comma_text later ++ item_text (item_view item.now))) }
+    ensures text { OnOk result (string_bytes out.new
+        ≡ string_bytes out.old ++ (comma_text later ++ item_text (item_view item.now))) }
     ensures body { Finds result (item_has_body (item_view item.now)) }
 {
     push_comma(out, later)?;
@@ -398,7 +441,8 @@ fn push_item(out: &mut String, later: bool, item: &ArrayEntry) -> Result<(), Ref
 
 #[cycle(writing)]
 fn push_entries(out: &mut String, entries: &Vec<MapEntry>) -> Result<(), Refusal>
-    ensures text { OnOk result (string_bytes out.new ≡ string_bytes out.old ++ entries_text false (entries_view entries.now.items)) }
+    ensures text { OnOk result (string_bytes out.new
+        ≡ string_bytes out.old ++ entries_text false (entries_view entries.now.items)) }
     ensures body { Finds result (entries_have_body (entries_view entries.now.items)) }
 {
     let mut later = false;
@@ -412,7 +456,8 @@ fn push_entries(out: &mut String, entries: &Vec<MapEntry>) -> Result<(), Refusal
 // One of several entries of a map.
 #[cycle(writing)]
 fn push_entry(out: &mut String, later: bool, entry: &MapEntry) -> Result<(), Refusal>
-    ensures text { OnOk result (string_bytes out.new ≡ string_bytes out.old ++ (comma_text later ++ entry_text (entry_view entry.now))) }
+    ensures text { OnOk result (string_bytes out.new
+        ≡ string_bytes out.old ++ (comma_text later ++ entry_text (entry_view entry.now))) }
     ensures body { Finds result (entry_has_body (entry_view entry.now)) }
 {
     push_comma(out, later)?;
@@ -424,7 +469,9 @@ fn push_entry(out: &mut String, later: bool, entry: &MapEntry) -> Result<(), Ref
 
 #[cycle(writing)]
 fn push_pair(out: &mut String, key: &Key, value: &Expression) -> Result<(), Refusal>
-    ensures text { OnOk result (string_bytes out.new ≡ string_bytes out.old ++ (key_source (key_view key.now) ++ (codes " : " ++ written (expression_view value.now) at.free))) }
+    ensures text { OnOk result (string_bytes out.new
+        ≡ string_bytes out.old ++ (key_source (key_view key.now)
+        ++ (codes " : " ++ written (expression_view value.now) at.free))) }
     ensures body { Finds result (has_body (expression_view value.now)) }
 {
     push_key(out, key)?;
@@ -433,7 +480,8 @@ fn push_pair(out: &mut String, key: &Key, value: &Expression) -> Result<(), Refu
 
 #[cycle(writing)]
 fn push_attributes(out: &mut String, attributes: &Vec<MapEntry>) -> Result<(), Refusal>
-    ensures text { OnOk result (string_bytes out.new ≡ string_bytes out.old ++ attributes_text (entries_view attributes.now.items)) }
+    ensures text { OnOk result (string_bytes out.new
+        ≡ string_bytes out.old ++ attributes_text (entries_view attributes.now.items)) }
     ensures body { Finds result (entries_have_body (entries_view attributes.now.items)) }
 {
     for attribute in attributes {
@@ -445,7 +493,8 @@ fn push_attributes(out: &mut String, attributes: &Vec<MapEntry>) -> Result<(), R
 
 #[cycle(writing)]
 fn push_attribute(out: &mut String, attribute: &MapEntry) -> Result<(), Refusal>
-    ensures text { OnOk result (string_bytes out.new ≡ string_bytes out.old ++ one_attribute (entry_view attribute.now)) }
+    ensures text { OnOk result (string_bytes out.new
+        ≡ string_bytes out.old ++ one_attribute (entry_view attribute.now)) }
     ensures body { Finds result (entry_has_body (entry_view attribute.now)) }
 {
     match attribute {
@@ -458,7 +507,9 @@ fn push_attribute(out: &mut String, attribute: &MapEntry) -> Result<(), Refusal>
 #[cycle(writing)]
 #[tactic(auto, using(crate::proofs::Bodiless::bare_bodiless))]
 fn push_named(out: &mut String, name: &Key, value: &Expression) -> Result<(), Refusal>
-    ensures text { OnOk result (string_bytes out.new ≡ string_bytes out.old ++ attribute_text (key_view name.now) (expression_view value.now) (written (expression_view value.now) at.free)) }
+    ensures text { OnOk result (string_bytes out.new
+        ≡ string_bytes out.old ++ attribute_text (key_view name.now) (expression_view value.now)
+        (written (expression_view value.now) at.free)) }
     ensures body { Finds result (has_body (expression_view value.now)) }
 {
     write!(out, "{name}")?;
@@ -481,7 +532,9 @@ fn is_bare(name: &Key, value: &Expression) -> bool
 
 #[cycle(writing)]
 fn push_attribute_value(out: &mut String, value: &Expression) -> Result<(), Refusal>
-    ensures text { OnOk result (string_bytes out.new ≡ string_bytes out.old ++ attribute_value (expression_view value.now) (written (expression_view value.now) at.free)) }
+    ensures text { OnOk result (string_bytes out.new
+        ≡ string_bytes out.old ++ attribute_value
+        (expression_view value.now) (written (expression_view value.now) at.free)) }
     ensures body { Finds result (has_body (expression_view value.now)) }
 {
     if let Expression::Const(s) = value
@@ -495,7 +548,8 @@ fn push_attribute_value(out: &mut String, value: &Expression) -> Result<(), Refu
 // An expression in braces, of which the first is given.
 #[cycle(writing)]
 fn push_braced(out: &mut String, brace: &str, e: &Expression) -> Result<(), Refusal>
-    ensures text { OnOk result (string_bytes out.new ≡ string_bytes out.old ++ (brace.now ++ (written (expression_view e.now) at.free ++ codes " }"))) }
+    ensures text { OnOk result (string_bytes out.new ≡ string_bytes out.old ++ (brace.now
+        ++ (written (expression_view e.now) at.free ++ codes " }"))) }
     ensures body { Finds result (has_body (expression_view e.now)) }
 {
     push_behind(out, brace, e, Context::free())?;

@@ -10,13 +10,14 @@ ghost use Rattle.tera_spelling.specs.Given.{EachToken, IsGiven};
 /// The text of tokens that can be spelled, in a variable tag between the default markers, has tokens, and they are the
 /// start of the tag, these tokens, and the end of the tag, apart from where each stands.
 pub fn read_back()
-    ensures exists { (items : Items) → AreSpelled items →
-        (read : Items) × AreTokensOf default_marks (in_tag (tokens_text items)) read × IsTagOf items read }
-    ensures each { (items read : Items) → AreSpelled items → AreTokensOf default_marks (in_tag (tokens_text items)) read →
-        IsTagOf items read }
+    ensures exists { (items : Items) → AreSpelled items → (read : Items) ×
+        AreTokensOf default_marks (in_tag (tokens_text items)) read × IsTagOf items read }
+    ensures each { (items read : Items) → AreSpelled items →
+        AreTokensOf default_marks (in_tag (tokens_text items)) read → IsTagOf items read }
 {}
 
 /// The names, the numbers and the operators of each source can be spelled.
 pub fn given_tokens()
-    ensures { (m : Marks) (source : List ℕ) (items : Items) → AreTokensOf m source items → EachToken IsGiven items }
+    ensures { (m : Marks) (source : List ℕ) (items : Items) → AreTokensOf m source items →
+        EachToken IsGiven items }
 {}

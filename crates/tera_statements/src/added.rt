@@ -53,7 +53,8 @@ impl Names {
 
 /// Puts what is a node behind the others.
 pub(crate) fn push_node(nodes: &mut Vec<Node>, added: Added) -> Result<(), Error>
-    ensures pushed { OnOk result (map node_view nodes.new.items ≡ map node_view nodes.old.items ++ added_nodes (added_view added)) }
+    ensures pushed { OnOk result (map node_view nodes.new.items
+        ≡ map node_view nodes.old.items ++ added_nodes (added_view added)) }
     ensures refusal { IfErr result IsMemory }
 {
     match added {

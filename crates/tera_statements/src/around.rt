@@ -92,7 +92,8 @@ impl Breaks {
 
     // What they find inside of another context.
     fn inside(&self, opening: &Opening) -> Breaks
-        ensures { holds_breaks result ≡ break_step (holds_breaks self.now) (context_of opening.now.context) }
+        ensures { holds_breaks result
+            ≡ break_step (holds_breaks self.now) (context_of opening.now.context) }
     {
         match opening.context {
             Context::Loop => Breaks::Loop,
@@ -130,7 +131,8 @@ impl Around {
 
     /// What stands around inside of another context.
     pub fn inside(&self, opening: &Opening) -> Around
-        ensures stands { (path : Path) → Stands path self.now → Stands (context_of opening.now.context ∷ path) result }
+        ensures stands { (path : Path) → Stands path self.now →
+            Stands (context_of opening.now.context ∷ path) result }
         ensures inner { is_none result.innermost ≡ false }
     {
         Around {
@@ -143,7 +145,8 @@ impl Around {
 
     // The outermost that holds no blocks, inside of another context.
     fn barrier_inside(&self, opening: &Opening) -> Option<Opening>
-        ensures { is_none result ≡ (grammar.holds_blocks (context_of opening.now.context) && is_none self.now.barrier) }
+        ensures { is_none result
+            ≡ (grammar.holds_blocks (context_of opening.now.context) && is_none self.now.barrier) }
     {
         match &self.barrier {
             Some(barrier) => Some(barrier.copied()),

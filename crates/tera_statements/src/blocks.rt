@@ -38,7 +38,9 @@ pub(crate) fn block(
     around: &Around,
     below: usize,
 ) -> Result<Added, Error>
-    ensures gives { AddsBy around.now result (here names.new cursor.new) (λ path start. block_of (reading.body below (limits_of setting.now.limits)) path start cursor.old.span (seen_of names.old) cursor.old.left) }
+    ensures gives { AddsBy around.now result (here names.new cursor.new) (λ path start.
+        block_of (reading.body below (limits_of setting.now.limits)) path start cursor.old.span
+        (seen_of names.old) cursor.old.left) }
     ensures refusal { IfErr result (Refuses cursor.old) }
     ensures later { IfOk result (λ _. Took cursor.old cursor.new) }
 {
@@ -60,7 +62,8 @@ pub(crate) fn block(
 // The name of a block that the template does not have yet, and where it stands. It is kept.
 #[tactic(auto, using(tera_expect::proofs::TakingLemmas::behind_tokens))]
 fn new_block<'a>(cursor: &mut Cursor<'a>, blocks: &mut Known) -> Result<(&'a str, Span), Error>
-    ensures gives { GivesBy IsName result cursor.new.left (new_block_of (met_of blocks.old) cursor.old.left) }
+    ensures gives { GivesBy IsName result cursor.new.left
+        (new_block_of (met_of blocks.old) cursor.old.left) }
     ensures kept { IfOk result (λ n. met_of blocks.new ≡ meet n.0.now (met_of blocks.old)) }
     ensures refusal { IfErr result (Refuses cursor.old) }
     ensures later { IfOk result (λ _. Took cursor.old cursor.new) }
@@ -76,7 +79,8 @@ fn new_block<'a>(cursor: &mut Cursor<'a>, blocks: &mut Known) -> Result<(&'a str
 // The closing tag of the block with this name.
 #[tactic(auto, using(crate::proofs::OnTheWay::through_tags))]
 fn block_end(cursor: &mut Cursor<'_>, name: &str) -> Result<(), Error>
-    ensures gives { (n : Name) → n.text ≡ name.now → Passes result cursor.new.left (block_end n cursor.old.left) }
+    ensures gives { (n : Name) → n.text ≡ name.now →
+        Passes result cursor.new.left (block_end n cursor.old.left) }
     ensures refusal { IfErr result (Refuses cursor.old) }
     ensures later { IfOk result (λ _. Took cursor.old cursor.new) }
 {
@@ -113,7 +117,10 @@ pub(crate) fn definition(
     around: &Around,
     below: usize,
 ) -> Result<Added, Error>
-    ensures gives { AddsBy around.now result (here names.new cursor.new) (λ path start. component_def_of (limits_of setting.now.limits) (reading.body below (limits_of setting.now.limits)) path start cursor.old.span (seen_of names.old) cursor.old.left) }
+    ensures gives { AddsBy around.now result (here names.new cursor.new) (λ path start.
+        component_def_of (limits_of setting.now.limits)
+        (reading.body below (limits_of setting.now.limits)) path start cursor.old.span
+        (seen_of names.old) cursor.old.left) }
     ensures refusal { IfErr result (Refuses cursor.old) }
     ensures later { IfOk result (λ _. Took cursor.old cursor.new) }
 {

@@ -29,7 +29,10 @@ pub(crate) fn body(
     opening: &Opening,
     below: usize,
 ) -> Result<Vec<Node>, Error>
-    ensures gives { (path : Path) → Stands path around.now → GivesBy (λ ns b. IsBody (in_loop (context_of opening.now.context ∷ path)) ns.items b) result (here names.new cursor.new) (reading.body below (limits_of setting.now.limits) (context_of opening.now.context ∷ path) (here names.old cursor.old)) }
+    ensures gives { (path : Path) → Stands path around.now →
+        GivesBy (λ ns b. IsBody (in_loop (context_of opening.now.context ∷ path)) ns.items b) result
+        (here names.new cursor.new) (reading.body below (limits_of setting.now.limits)
+        (context_of opening.now.context ∷ path) (here names.old cursor.old)) }
     ensures refusal { IfErr result (Refuses cursor.old) }
     ensures later { IfOk result (λ _. GoesOn cursor.old cursor.new) }
 {

@@ -48,7 +48,9 @@ pub(crate) fn set(
     global: bool,
     below: usize,
 ) -> Result<Added, Error>
-    ensures gives { AddsBy around.now result (here names.new cursor.new) (λ path start. set_of (limits_of setting.now.limits) (reading.body below (limits_of setting.now.limits)) path global start cursor.old.span (seen_of names.old) cursor.old.left) }
+    ensures gives { AddsBy around.now result (here names.new cursor.new) (λ path start.
+        set_of (limits_of setting.now.limits) (reading.body below (limits_of setting.now.limits))
+        path global start cursor.old.span (seen_of names.old) cursor.old.left) }
     ensures refusal { IfErr result (Refuses cursor.old) }
     ensures later { IfOk result (λ _. Took cursor.old cursor.new) }
 {
@@ -72,7 +74,8 @@ fn set_value(
     around: &Around,
     variable: Variable<'_>,
 ) -> Result<Added, Error>
-    ensures gives { GivesSetValue (limits_of setting.now.limits) around.now variable.entry.name.now variable.entry.global result cursor.new cursor.old }
+    ensures gives { GivesSetValue (limits_of setting.now.limits)
+        around.now variable.entry.name.now variable.entry.global result cursor.new cursor.old }
     ensures refusal { IfErr result (Refuses cursor.old) }
     ensures later { IfOk result (λ _. Took cursor.old cursor.new) }
 {
@@ -93,7 +96,9 @@ fn set_body(
     variable: Variable<'_>,
     below: usize,
 ) -> Result<Added, Error>
-    ensures gives { GivesSetBody (limits_of setting.now.limits) below around.now opening.now.context variable.entry.name.now variable.entry.global result (here names.new cursor.new) (here names.old cursor.old) }
+    ensures gives { GivesSetBody (limits_of setting.now.limits)
+        below around.now opening.now.context variable.entry.name.now variable.entry.global result
+        (here names.new cursor.new) (here names.old cursor.old) }
     ensures refusal { IfErr result (Refuses cursor.old) }
     ensures later { IfOk result (λ _. Took cursor.old cursor.new) }
 {
@@ -127,7 +132,10 @@ pub(crate) fn section(
     around: &Around,
     below: usize,
 ) -> Result<Added, Error>
-    ensures gives { AddsBy around.now result (here names.new cursor.new) (λ path start. section_of (limits_of setting.now.limits) (reading.body below (limits_of setting.now.limits)) path start cursor.old.span (seen_of names.old) cursor.old.left) }
+    ensures gives { AddsBy around.now result (here names.new cursor.new) (λ path start.
+        section_of (limits_of setting.now.limits)
+        (reading.body below (limits_of setting.now.limits)) path start cursor.old.span
+        (seen_of names.old) cursor.old.left) }
     ensures refusal { IfErr result (Refuses cursor.old) }
     ensures later { IfOk result (λ _. Took cursor.old cursor.new) }
 {
@@ -151,7 +159,9 @@ pub(crate) fn call(
     around: &Around,
     below: usize,
 ) -> Result<Added, Error>
-    ensures gives { AddsBy around.now result (here names.new cursor.new) (λ path start. call_of (limits_of setting.now.limits) (reading.body below (limits_of setting.now.limits)) path start cursor.old.span (seen_of names.old) cursor.old.left) }
+    ensures gives { AddsBy around.now result (here names.new cursor.new) (λ path start.
+        call_of (limits_of setting.now.limits) (reading.body below (limits_of setting.now.limits))
+        path start cursor.old.span (seen_of names.old) cursor.old.left) }
     ensures refusal { IfErr result (Refuses cursor.old) }
     ensures later { IfOk result (λ _. Took cursor.old cursor.new) }
 {
@@ -190,7 +200,8 @@ fn called_name(cursor: &mut Cursor<'_>) -> Result<String, Error>
 // The closing tag of a call of the component with this name, and where its `>` stands.
 #[tactic(auto, using(tera_expect::proofs::TakingLemmas::behind_tokens))]
 fn call_end(cursor: &mut Cursor<'_>, name: &str) -> Result<Span, Error>
-    ensures gives { (n : ComponentName) → component_text n ≡ name.now → GivesBy IsCallEnd result cursor.new.left (call_end n cursor.old.left) }
+    ensures gives { (n : ComponentName) → component_text n ≡ name.now →
+        GivesBy IsCallEnd result cursor.new.left (call_end n cursor.old.left) }
     ensures refusal { IfErr result (Refuses cursor.old) }
     ensures later { IfOk result (λ _. Took cursor.old cursor.new) }
 {

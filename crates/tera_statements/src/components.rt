@@ -48,8 +48,10 @@ pub(crate) fn opening_tag(
     cursor: &mut Cursor<'_>,
     seen: &mut Known,
 ) -> Result<Opened, Error>
-    ensures gives { GivesBy IsOpened result cursor.new.left (opened_of (limits_of setting.now.limits) (met_of seen.old) cursor.old.left) }
-    ensures kept { IfOk result (λ o. met_of seen.new ≡ meet (string_bytes o.name) (met_of seen.old)) }
+    ensures gives { GivesBy IsOpened result cursor.new.left
+        (opened_of (limits_of setting.now.limits) (met_of seen.old) cursor.old.left) }
+    ensures kept { IfOk result (λ o.
+        met_of seen.new ≡ meet (string_bytes o.name) (met_of seen.old)) }
     ensures refusal { IfErr result (Refuses cursor.old) }
     ensures later { IfOk result (λ _. Took cursor.old cursor.new) }
 {
@@ -68,7 +70,8 @@ pub(crate) fn opening_tag(
 // The name of a component that the template did not define before. It is kept.
 #[tactic(auto, using(tera_expect::proofs::TakingLemmas::behind_tokens))]
 fn new_component(cursor: &mut Cursor<'_>, seen: &mut Known) -> Result<String, Error>
-    ensures gives { GivesBy IsComponent result cursor.new.left (new_component_of (met_of seen.old) cursor.old.left) }
+    ensures gives { GivesBy IsComponent result cursor.new.left
+        (new_component_of (met_of seen.old) cursor.old.left) }
     ensures kept { IfOk result (λ s. met_of seen.new ≡ meet (string_bytes s) (met_of seen.old)) }
     ensures refusal { IfErr result (Refuses cursor.old) }
     ensures later { IfOk result (λ _. Took cursor.old cursor.new) }
@@ -87,7 +90,9 @@ fn metadata(
     setting: &Setting<'_>,
     cursor: &mut Cursor<'_>,
 ) -> Result<BTreeMap<String, Value>, Error>
-    ensures gives { GivesBy (λ m x. IsMetadata m.entries x) result cursor.new.left (metadata_in (limits_of setting.now.limits) cursor.old.left (begins LeftBrace cursor.old.left)) }
+    ensures gives { GivesBy (λ m x. IsMetadata m.entries x) result cursor.new.left
+        (metadata_in (limits_of setting.now.limits) cursor.old.left
+        (begins LeftBrace cursor.old.left)) }
     ensures refusal { IfErr result (Refuses cursor.old) }
     ensures later { IfOk result (λ _. GoesOn cursor.old cursor.new) }
 {
@@ -120,7 +125,8 @@ fn put_value(
     name: String,
     value: Value,
 ) -> Result<(), AllocError>
-    ensures { OnOk result (map named_value values.new.entries ≡ put_name (string_bytes name) (value_view value) (map named_value values.old.entries)) }
+    ensures { OnOk result (map named_value values.new.entries
+        ≡ put_name (string_bytes name) (value_view value) (map named_value values.old.entries)) }
 {
     let _before = values.insert(name, value)?;
     Ok(())
@@ -129,7 +135,9 @@ fn put_value(
 /// Reads the closing tag of the definition of the component with this name.
 #[tactic(auto, using(crate::proofs::OnTheWay::through_tags))]
 pub(crate) fn closing_tag(cursor: &mut Cursor<'_>, name: &str) -> Result<(), Error>
-    ensures gives { (start : Edge) (first : Span) (o : reading.Opened) → component_text o.name ≡ name.now → Passes result cursor.new.left (ending_of start first o cursor.old.left) }
+    ensures gives { (start : Edge) (first : Span) (o : reading.Opened) →
+        component_text o.name ≡ name.now →
+        Passes result cursor.new.left (ending_of start first o cursor.old.left) }
     ensures refusal { IfErr result (Refuses cursor.old) }
     ensures later { IfOk result (λ _. Took cursor.old cursor.new) }
 {

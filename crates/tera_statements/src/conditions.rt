@@ -43,7 +43,9 @@ pub(crate) fn condition(
     around: &Around,
     below: usize,
 ) -> Result<Added, Error>
-    ensures gives { AddsBy around.now result (here names.new cursor.new) (λ path start. if_of (limits_of setting.now.limits) (reading.body below (limits_of setting.now.limits)) path start cursor.old.span (seen_of names.old) cursor.old.left) }
+    ensures gives { AddsBy around.now result (here names.new cursor.new) (λ path start.
+        if_of (limits_of setting.now.limits) (reading.body below (limits_of setting.now.limits))
+        path start cursor.old.span (seen_of names.old) cursor.old.left) }
     ensures refusal { IfErr result (Refuses cursor.old) }
     ensures later { IfOk result (λ _. Took cursor.old cursor.new) }
 {
@@ -65,7 +67,9 @@ fn read_branch(
     word: &Span,
     below: usize,
 ) -> Result<Branch, Error>
-    ensures gives { (path : Path) → Stands path around.now → GivesBranch (limits_of setting.now.limits) below (InIf ∷ path) result (here names.new cursor.new) (here names.old cursor.old) }
+    ensures gives { (path : Path) → Stands path around.now →
+        GivesBranch (limits_of setting.now.limits) below (InIf ∷ path) result
+        (here names.new cursor.new) (here names.old cursor.old) }
     ensures refusal { IfErr result (Refuses cursor.old) }
     ensures later { IfOk result (λ _. Took cursor.old cursor.new) }
 {
@@ -89,7 +93,10 @@ fn other_branches(
     word: Span,
     below: usize,
 ) -> Result<Vec<Node>, Error>
-    ensures gives { (path : Path) → Stands path around.now → GivesBy (λ ns bs. AreBranches (in_loop path) ns.items bs) result (here names.new cursor.new) (branches (limits_of setting.now.limits) (reading.body below (limits_of setting.now.limits)) (InIf ∷ path) (here names.old cursor.old)) }
+    ensures gives { (path : Path) → Stands path around.now →
+        GivesBy (λ ns bs. AreBranches (in_loop path) ns.items bs) result (here names.new cursor.new)
+        (branches (limits_of setting.now.limits) (reading.body below (limits_of setting.now.limits))
+        (InIf ∷ path) (here names.old cursor.old)) }
     ensures refusal { IfErr result (Refuses cursor.old) }
     ensures later { IfOk result (λ _. GoesOn cursor.old cursor.new) }
 {
@@ -112,7 +119,8 @@ fn other_branches(
 
 // The branches, each with those behind it as what is under no condition.
 fn nested(alloc: Global, branches: Vec<Branch>, otherwise: Vec<Node>) -> Result<Vec<Node>, Error>
-    ensures nested { IfOk result (λ ns. map node_view ns.items ≡ nest (map branch_view branches.items) (map node_view otherwise.items)) }
+    ensures nested { IfOk result (λ ns. map node_view ns.items
+        ≡ nest (map branch_view branches.items) (map node_view otherwise.items)) }
     ensures refusal { IfErr result IsMemory }
 {
     let mut branches = branches;

@@ -54,7 +54,8 @@ pub(crate) enum Front {
 impl Closer {
     /// Whether it is the other one.
     pub fn is(self, other: Closer) -> bool
-        ensures { result ≡ same_token (closer_token (closer_of self)) (closer_token (closer_of other)) }
+        ensures { result
+            ≡ same_token (closer_token (closer_of self)) (closer_token (closer_of other)) }
     {
         match self {
             Closer::Elif => matches!(other, Closer::Elif),

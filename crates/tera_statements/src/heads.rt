@@ -23,7 +23,8 @@ pub(crate) fn expression_to_end(
     cursor: &mut Cursor<'_>,
     in_loop: bool,
 ) -> Result<Expression, Error>
-    ensures gives { GivesBy (λ e x. IsExpression in_loop e x.0) result cursor.new.left (expression_to_end (limits_of setting.now.limits) in_loop cursor.old.left) }
+    ensures gives { GivesBy (λ e x. IsExpression in_loop e x.0) result cursor.new.left
+        (expression_to_end (limits_of setting.now.limits) in_loop cursor.old.left) }
     ensures refusal { IfErr result (Refuses cursor.old) }
     ensures later { IfOk result (λ _. Took cursor.old cursor.new) }
 {
@@ -43,7 +44,8 @@ pub(crate) struct LoopHead {
 /// Reads the head of a loop, and the end of its tag.
 #[tactic(auto, using(tera_expect::proofs::TakingLemmas::behind_tokens))]
 pub(crate) fn loop_to_end(setting: &Setting<'_>, cursor: &mut Cursor<'_>) -> Result<LoopHead, Error>
-    ensures gives { GivesBy (λ h x. IsLoop h x.0) result cursor.new.left (loop_to_end (limits_of setting.now.limits) cursor.old.left) }
+    ensures gives { GivesBy (λ h x. IsLoop h x.0) result cursor.new.left
+        (loop_to_end (limits_of setting.now.limits) cursor.old.left) }
     ensures refusal { IfErr result (Refuses cursor.old) }
     ensures later { IfOk result (λ _. Took cursor.old cursor.new) }
 {
@@ -61,7 +63,8 @@ fn more_filters(
     in_loop: bool,
     before: Vec<Expression>,
 ) -> Result<Vec<Expression>, Error>
-    ensures gives { GivesBy (λ es fs. AreFilters in_loop before.items es.items fs) result cursor.new.left (filters_of (limits_of setting.now.limits) in_loop cursor.old.left) }
+    ensures gives { GivesBy (λ es fs. AreFilters in_loop before.items es.items fs)
+        result cursor.new.left (filters_of (limits_of setting.now.limits) in_loop cursor.old.left) }
     ensures refusal { IfErr result (Refuses cursor.old) }
     ensures later { IfOk result (λ _. GoesOn cursor.old cursor.new) }
 {
@@ -81,7 +84,8 @@ pub(crate) fn filters_to_end(
     in_loop: bool,
     before: Vec<Expression>,
 ) -> Result<Vec<Expression>, Error>
-    ensures gives { GivesBy (λ es x. AreFilters in_loop before.items es.items x.0) result cursor.new.left (filters_to_end (limits_of setting.now.limits) in_loop cursor.old.left) }
+    ensures gives { GivesBy (λ es x. AreFilters in_loop before.items es.items x.0) result
+        cursor.new.left (filters_to_end (limits_of setting.now.limits) in_loop cursor.old.left) }
     ensures refusal { IfErr result (Refuses cursor.old) }
     ensures later { IfOk result (λ _. Took cursor.old cursor.new) }
 {
@@ -97,7 +101,8 @@ pub(crate) fn section_to_end(
     cursor: &mut Cursor<'_>,
     in_loop: bool,
 ) -> Result<Vec<Expression>, Error>
-    ensures gives { GivesBy (λ es x. AreAllFilters in_loop cursor.old.span es.items x.0 x.1) result cursor.new.left (section_to_end (limits_of setting.now.limits) in_loop cursor.old.left) }
+    ensures gives { GivesBy (λ es x. AreAllFilters in_loop cursor.old.span es.items x.0 x.1) result
+        cursor.new.left (section_to_end (limits_of setting.now.limits) in_loop cursor.old.left) }
     ensures refusal { IfErr result (Refuses cursor.old) }
     ensures later { IfOk result (λ _. Took cursor.old cursor.new) }
 {
@@ -114,7 +119,8 @@ pub(crate) fn attributes_to_end(
     cursor: &mut Cursor<'_>,
     in_loop: bool,
 ) -> Result<Vec<MapEntry>, Error>
-    ensures gives { GivesBy (λ es x. AreAttributes in_loop es.items x.0) result cursor.new.left (attributes_to_end (limits_of setting.now.limits) in_loop cursor.old.left) }
+    ensures gives { GivesBy (λ es x. AreAttributes in_loop es.items x.0) result cursor.new.left
+        (attributes_to_end (limits_of setting.now.limits) in_loop cursor.old.left) }
     ensures refusal { IfErr result (Refuses cursor.old) }
     ensures later { IfOk result (λ _. Took cursor.old cursor.new) }
 {

@@ -44,7 +44,8 @@ pub(crate) fn item(
     below: usize,
 ) -> Result<Option<Added>, Error>
     requires { is_none around.now.innermost ≡ true → is_free extension ≡ true }
-    ensures gives { GivesNext (limits_of setting.now.limits) below around.now result (here names.new cursor.new) (here names.old cursor.old) }
+    ensures gives { GivesNext (limits_of setting.now.limits) below around.now result
+        (here names.new cursor.new) (here names.old cursor.old) }
     ensures refusal { IfErr result (RefusesIn cursor.old) }
     ensures empty { IfErr result (λ _. AreEmptyTexts cursor.old.left → ⊥) }
     ensures later { GoesByItem result cursor.old cursor.new }
@@ -106,7 +107,8 @@ pub(crate) fn shown(
     around: &Around,
 ) -> Result<Added, Error>
     requires { fronts.Shows ≡ kind_of (front cursor.old.left) }
-    ensures gives { GivesShown (limits_of setting.now.limits) around.now result cursor.new.left (front cursor.old.left) }
+    ensures gives { GivesShown (limits_of setting.now.limits) around.now result cursor.new.left
+        (front cursor.old.left) }
     ensures refusal { IfErr result (RefusesIn cursor.old) }
     ensures later { IfOk result (λ _. Took cursor.old cursor.new) }
 {
@@ -142,7 +144,9 @@ fn tag(
     below: usize,
 ) -> Result<Added, Error>
     requires { is_none around.now.innermost ≡ true → is_free extension ≡ true }
-    ensures gives { AddsBy around.now result (here names.new cursor.new) (λ path start. tag_of (limits_of setting.now.limits) (reading.body below (limits_of setting.now.limits)) path (opener_of opener) start cursor.old.span (seen_of names.old) cursor.old.left) }
+    ensures gives { AddsBy around.now result (here names.new cursor.new) (λ path start.
+        tag_of (limits_of setting.now.limits) (reading.body below (limits_of setting.now.limits))
+        path (opener_of opener) start cursor.old.span (seen_of names.old) cursor.old.left) }
     ensures refusal { IfErr result (Refuses cursor.old) }
     ensures later { IfOk result (λ _. Took cursor.old cursor.new) }
 {

@@ -30,7 +30,9 @@ pub(crate) fn for_loop(
     around: &Around,
     below: usize,
 ) -> Result<Added, Error>
-    ensures gives { AddsBy around.now result (here names.new cursor.new) (λ path start. for_of (limits_of setting.now.limits) (reading.body below (limits_of setting.now.limits)) path start cursor.old.span (seen_of names.old) cursor.old.left) }
+    ensures gives { AddsBy around.now result (here names.new cursor.new) (λ path start.
+        for_of (limits_of setting.now.limits) (reading.body below (limits_of setting.now.limits))
+        path start cursor.old.span (seen_of names.old) cursor.old.left) }
     ensures refusal { IfErr result (Refuses cursor.old) }
     ensures later { IfOk result (λ _. Took cursor.old cursor.new) }
 {
@@ -60,7 +62,10 @@ pub(crate) fn else_body(
     opening: &Opening,
     below: usize,
 ) -> Result<Vec<Node>, Error>
-    ensures gives { (path : Path) → Stands path around.now → GivesBy (λ ns o. IsElse (in_loop (context_of opening.now.context ∷ path)) ns.items o) result (here names.new cursor.new) (else_of (reading.body below (limits_of setting.now.limits)) (context_of opening.now.context ∷ path) (here names.old cursor.old)) }
+    ensures gives { (path : Path) → Stands path around.now →
+        GivesBy (λ ns o. IsElse (in_loop (context_of opening.now.context ∷ path)) ns.items o) result
+        (here names.new cursor.new) (else_of (reading.body below (limits_of setting.now.limits))
+        (context_of opening.now.context ∷ path) (here names.old cursor.old)) }
     ensures refusal { IfErr result (Refuses cursor.old) }
     ensures later { IfOk result (λ _. GoesOn cursor.old cursor.new) }
 {

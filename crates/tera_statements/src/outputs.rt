@@ -60,7 +60,8 @@ fn same_nodes(a: &Vec<Node>, b: &Vec<Node>) -> bool
 }
 
 fn same_definitions(a: &Vec<ComponentDefinition>, b: &Vec<ComponentDefinition>) -> bool
-    ensures { result ≡ pointwise definition_eq (map definition_view a.now.items) (map definition_view b.now.items) }
+    ensures { result ≡ pointwise definition_eq (map definition_view a.now.items)
+        (map definition_view b.now.items) }
 {
     a == b
 }
@@ -87,7 +88,8 @@ fn copy_nodes(nodes: &Vec<Node>) -> Result<Vec<Node>, AllocError>
 fn copy_definitions(
     definitions: &Vec<ComponentDefinition>,
 ) -> Result<Vec<ComponentDefinition>, AllocError>
-    ensures { IfOk result (λ c. map definition_view c.items ≡ map definition_view definitions.now.items) }
+    ensures { IfOk result (λ c.
+        map definition_view c.items ≡ map definition_view definitions.now.items) }
 {
     let copies = definitions.clone()?;
     Ok(copies)

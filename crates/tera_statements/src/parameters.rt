@@ -44,7 +44,8 @@ pub(crate) fn read_parameters(
     setting: &Setting<'_>,
     cursor: &mut Cursor<'_>,
 ) -> Result<Parameters, Error>
-    ensures gives { GivesBy AreParameters result cursor.new.left (parameters_of (limits_of setting.now.limits) nothing_met cursor.old.left) }
+    ensures gives { GivesBy AreParameters result cursor.new.left
+        (parameters_of (limits_of setting.now.limits) nothing_met cursor.old.left) }
     ensures refusal { IfErr result (Refuses cursor.old) }
     ensures later { IfOk result (λ _. Took cursor.old cursor.new) }
 {
@@ -77,7 +78,8 @@ pub(crate) fn read_parameters(
 // A default: a literal, a negative number, a word for no value, a constant array or a constant map.
 #[tactic(auto, using(tera_expect::proofs::TakingLemmas::behind_tokens))]
 fn default_value(setting: &Setting<'_>, cursor: &mut Cursor<'_>) -> Result<Value, Error>
-    ensures gives { GivesBy IsDefault result cursor.new.left (default_of (limits_of setting.now.limits) cursor.old.left) }
+    ensures gives { GivesBy IsDefault result cursor.new.left
+        (default_of (limits_of setting.now.limits) cursor.old.left) }
     ensures refusal { IfErr result (Refuses cursor.old) }
     ensures later { IfOk result (λ _. Took cursor.old cursor.new) }
 {
@@ -102,7 +104,8 @@ fn default_value(setting: &Setting<'_>, cursor: &mut Cursor<'_>) -> Result<Value
 // The number behind a minus, which was taken last.
 #[tactic(auto, using(tera_expect::proofs::TakingLemmas::behind_tokens))]
 fn negative(cursor: &mut Cursor<'_>) -> Result<Value, Error>
-    ensures gives { GivesBy IsDefault result cursor.new.left (minus_of cursor.old.span cursor.old.left) }
+    ensures gives { GivesBy IsDefault result cursor.new.left
+        (minus_of cursor.old.span cursor.old.left) }
     ensures refusal { IfErr result (Refuses cursor.old) }
     ensures later { IfOk result (λ _. Took cursor.old cursor.new) }
 {
@@ -129,7 +132,8 @@ fn no_value(cursor: &Cursor<'_>, name: &str) -> Result<Value, Error>
 // The type behind a colon, where one stands.
 #[tactic(auto, using(tera_expect::proofs::TakingLemmas::on_the_way))]
 fn argument_type(cursor: &mut Cursor<'_>) -> Result<Option<ArgType>, Error>
-    ensures gives { GivesBy IsType result cursor.new.left (annotation_in cursor.old.left (takes Colon cursor.old.left)) }
+    ensures gives { GivesBy IsType result cursor.new.left
+        (annotation_in cursor.old.left (takes Colon cursor.old.left)) }
     ensures refusal { IfErr result (Refuses cursor.old) }
     ensures later { IfOk result (λ _. GoesOn cursor.old cursor.new) }
 {
@@ -158,7 +162,9 @@ fn named_type(cursor: &Cursor<'_>, name: &str) -> Result<ArgType, Error>
 // The default behind an equals sign, where one stands.
 #[tactic(auto, using(tera_expect::proofs::TakingLemmas::on_the_way))]
 fn assigned(setting: &Setting<'_>, cursor: &mut Cursor<'_>) -> Result<Option<Value>, Error>
-    ensures gives { GivesBy IsAssigned result cursor.new.left (assigned_in (limits_of setting.now.limits) cursor.old.left (takes Assign cursor.old.left)) }
+    ensures gives { GivesBy IsAssigned result cursor.new.left
+        (assigned_in (limits_of setting.now.limits) cursor.old.left
+        (takes Assign cursor.old.left)) }
     ensures refusal { IfErr result (Refuses cursor.old) }
     ensures later { IfOk result (λ _. GoesOn cursor.old cursor.new) }
 {
@@ -171,7 +177,8 @@ fn assigned(setting: &Setting<'_>, cursor: &mut Cursor<'_>) -> Result<Option<Val
 // A name that is neither `body` nor that of an earlier parameter.
 #[tactic(auto, using(tera_expect::proofs::TakingLemmas::refused_behind))]
 fn fresh_name<'a>(cursor: &mut Cursor<'a>, seen: &Known, rest: bool) -> Result<&'a str, Error>
-    ensures gives { GivesAs (name_at cursor.new.span) result cursor.new.left (fresh_name (met_of seen.now) cursor.old.left) }
+    ensures gives { GivesAs (name_at cursor.new.span) result cursor.new.left
+        (fresh_name (met_of seen.now) cursor.old.left) }
     ensures refusal { IfErr result (Refuses cursor.old) }
     ensures later { IfOk result (λ _. Took cursor.old cursor.new) }
 {
@@ -199,7 +206,8 @@ fn repeated(cursor: &Cursor<'_>, name: &str, first: &Span, rest: bool) -> Error
 // The name of the rest parameter, behind its dots, and the closing parenthesis.
 #[tactic(auto, using(tera_expect::proofs::TakingLemmas::behind_tokens))]
 fn rest_parameter(cursor: &mut Cursor<'_>, seen: &Known) -> Result<String, Error>
-    ensures gives { GivesBy (λ s n. string_bytes s ≡ n.text) result cursor.new.left (taken_rest (met_of seen.now) cursor.old.left) }
+    ensures gives { GivesBy (λ s n. string_bytes s ≡ n.text) result cursor.new.left
+        (taken_rest (met_of seen.now) cursor.old.left) }
     ensures refusal { IfErr result (Refuses cursor.old) }
     ensures later { IfOk result (λ _. Took cursor.old cursor.new) }
 {
@@ -217,7 +225,8 @@ fn parameter(
     cursor: &mut Cursor<'_>,
     seen: &mut Known,
 ) -> Result<(String, ComponentArgument), Error>
-    ensures gives { GivesBy IsParameter result cursor.new.left (parameter_of (limits_of setting.now.limits) (met_of seen.old) cursor.old.left) }
+    ensures gives { GivesBy IsParameter result cursor.new.left
+        (parameter_of (limits_of setting.now.limits) (met_of seen.old) cursor.old.left) }
     ensures kept { IfOk result (λ p. met_of seen.new ≡ meet (string_bytes p.0) (met_of seen.old)) }
     ensures refusal { IfErr result (Refuses cursor.old) }
     ensures later { IfOk result (λ _. Took cursor.old cursor.new) }
@@ -252,7 +261,8 @@ fn argument(typ: Option<ArgType>, default: Option<Value>, implicit: bool) -> Com
 // Refuses a default that is a value and not of the type of its argument.
 fn check_default(cursor: &Cursor<'_>, name: &str, argument: &ComponentArgument) -> Result<(), Error>
     ensures fits { IfOk result (λ _. has_default (argument_view argument.now) ≡ true) }
-    ensures fails { IfErr result (λ e. IsMemory e ⊎ (has_default (argument_view argument.now) ≡ false)) }
+    ensures fails { IfErr result (λ e.
+        IsMemory e ⊎ (has_default (argument_view argument.now) ≡ false)) }
     ensures refusal { IfErr result (Refuses cursor.now) }
 {
     match (&argument.typ, &argument.default) {
@@ -263,7 +273,8 @@ fn check_default(cursor: &Cursor<'_>, name: &str, argument: &ComponentArgument) 
 
 // Whether a value is of the type, or is no value.
 fn fits(typ: &ArgType, value: &Value) -> bool
-    ensures { result ≡ (is_nothing (value_view value.now) || has_type typ.now (value_view value.now)) }
+    ensures { result
+        ≡ (is_nothing (value_view value.now) || has_type typ.now (value_view value.now)) }
 {
     matches!(value, Value::None) || typ.matches_value(value)
 }
@@ -274,7 +285,9 @@ fn put_argument(
     name: String,
     argument: ComponentArgument,
 ) -> Result<(), Error>
-    ensures puts { OnOk result (arguments_view arguments.new.entries ≡ put_name (string_bytes name) (argument_view argument) (arguments_view arguments.old.entries)) }
+    ensures puts { OnOk result (arguments_view arguments.new.entries
+        ≡ put_name (string_bytes name) (argument_view argument)
+        (arguments_view arguments.old.entries)) }
     ensures refusal { IfErr result IsMemory }
 {
     let _before = arguments.insert(name, argument)?;

@@ -22,7 +22,8 @@ use tera_tree::{Node, build};
 /// Reads the rest of an `include`.
 #[tactic(auto, using(tera_expect::proofs::TakingLemmas::behind_tokens))]
 pub(crate) fn include(cursor: &mut Cursor<'_>, around: &Around) -> Result<Added, Error>
-    ensures gives { AddsAlone around.now result cursor.new (λ path start seen. include_of start cursor.old.span seen cursor.old.left) }
+    ensures gives { AddsAlone around.now result cursor.new (λ path start seen.
+        include_of start cursor.old.span seen cursor.old.left) }
     ensures refusal { IfErr result (Refuses cursor.old) }
     ensures later { IfOk result (λ _. Took cursor.old cursor.new) }
 {
@@ -66,7 +67,8 @@ pub(crate) fn read_jump(
     around: &Around,
     jump: Jump,
 ) -> Result<Added, Error>
-    ensures gives { AddsAlone around.now result cursor.new (λ path start seen. break_of path (jump_item jump) start cursor.old.span seen cursor.old.left) }
+    ensures gives { AddsAlone around.now result cursor.new (λ path start seen.
+        break_of path (jump_item jump) start cursor.old.span seen cursor.old.left) }
     ensures refusal { IfErr result (Refuses cursor.old) }
     ensures later { IfOk result (λ _. Took cursor.old cursor.new) }
 {
@@ -126,7 +128,8 @@ pub(crate) fn extends(
     extension: Extension<'_>,
 ) -> Result<Added, Error>
     requires { is_none around.now.innermost ≡ true → is_free extension ≡ true }
-    ensures gives { AddsAlone around.now result cursor.new (λ path start seen. extends_of path start cursor.old.span seen cursor.old.left) }
+    ensures gives { AddsAlone around.now result cursor.new (λ path start seen.
+        extends_of path start cursor.old.span seen cursor.old.left) }
     ensures refusal { IfErr result (Refuses cursor.old) }
     ensures later { IfOk result (λ _. Took cursor.old cursor.new) }
 {

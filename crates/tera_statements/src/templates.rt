@@ -44,7 +44,8 @@ impl ParserOutput {
 
     // Takes what an item adds.
     fn add(&mut self, added: Added) -> Result<(), Error>
-        ensures added { OnOk result (output_view self.new ≡ with_added (output_view self.old) (added_view added)) }
+        ensures added { OnOk result (output_view self.new
+            ≡ with_added (output_view self.old) (added_view added)) }
         ensures refusal { IfErr result IsMemory }
         ensures nothing { IfErr result (λ _. added_view added ≡ AddsNothing → ⊥) }
     {
@@ -184,7 +185,8 @@ fn next_item(
     parent: Option<&str>,
     phase: Phase,
 ) -> Result<Option<(Added, Phase)>, Error>
-    ensures gives { GivesTop (limits_of setting.now.limits) phase result (here names.new cursor.new) (here names.old cursor.old) }
+    ensures gives { GivesTop (limits_of setting.now.limits) phase result (here names.new cursor.new)
+        (here names.old cursor.old) }
     ensures refusal { IfErr result (RefusesIn cursor.old) }
     ensures empty { IfErr result (λ _. AreEmptyTexts cursor.old.left → ⊥) }
     ensures later { GoesByItem result cursor.old cursor.new }
@@ -208,7 +210,8 @@ fn refuse_extends(
     phase: Phase,
 ) -> Result<(), Error>
     ensures stays { IfOk result (λ _. cursor.new ≡ cursor.old) }
-    ensures excludes { IfErr result (λ _. (seen : Seen) → Excludes (limits_of setting.now.limits) (at seen cursor.old.left) (phase_of phase)) }
+    ensures excludes { IfErr result (λ _. (seen : Seen) →
+        Excludes (limits_of setting.now.limits) (at seen cursor.old.left) (phase_of phase)) }
     ensures refusal { IfErr result (RefusesIn cursor.old) }
     ensures empty { IfErr result (λ _. AreEmptyTexts cursor.old.left → ⊥) }
 {
@@ -258,14 +261,18 @@ fn next_place(cursor: &Cursor<'_>) -> Option<Span>
     }
 }
 
-// Reads the next item of the top level, where one stands there; the template extends this parent, as far as it is known.
+// Reads the next item of the top level, where one stands there; the template extends this parent, as far as it is
+// known.
 fn top_item(
     setting: &Setting<'_>,
     cursor: &mut Cursor<'_>,
     names: &mut Names,
     parent: Option<&str>,
 ) -> Result<Option<Added>, Error>
-    ensures gives { GivesStep [] result (here names.new cursor.new) (here names.old cursor.old) (step (limits_of setting.now.limits) (body (below_top (limits_of setting.now.limits)) (limits_of setting.now.limits)) [] (here names.old cursor.old).seen (front cursor.old.left)) }
+    ensures gives { GivesStep [] result (here names.new cursor.new) (here names.old cursor.old)
+        (step (limits_of setting.now.limits)
+        (body (below_top (limits_of setting.now.limits)) (limits_of setting.now.limits)) []
+        (here names.old cursor.old).seen (front cursor.old.left)) }
     ensures refusal { IfErr result (RefusesIn cursor.old) }
     ensures empty { IfErr result (λ _. AreEmptyTexts cursor.old.left → ⊥) }
     ensures later { GoesByItem result cursor.old cursor.new }

@@ -82,7 +82,8 @@ impl ComponentArg {
         name: &str,
         argument: &ComponentArgument,
     ) -> Result<ComponentArg, AllocError>
-        ensures { IfOk result (λ told. arg_view told ≡ argument_info (name.now, argument_view argument.now)) }
+        ensures { IfOk result (λ told.
+            arg_view told ≡ argument_info (name.now, argument_view argument.now)) }
     {
         Ok(ComponentArg {
             name: String::from_str(alloc, name)?,

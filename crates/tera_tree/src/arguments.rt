@@ -24,7 +24,8 @@ impl ComponentArgument {
 
     // What was passed, or found, where it is of the argument's type.
     pub(crate) fn checked(&self, alloc: Global, name: &str, value: Value) -> Result<Value, Error>
-        ensures { ComesTo (λ v. (name.now, value_view v)) (λ o. o ≡ of_type name.now self.now.typ (value_view value)) result }
+        ensures { ComesTo (λ v. (name.now, value_view v))
+            (λ o. o ≡ of_type name.now self.now.typ (value_view value)) result }
     {
         match &self.typ {
             Some(typ) => {
@@ -41,7 +42,8 @@ impl ComponentArgument {
 
     // The default, and where there is none the refusal.
     pub(crate) fn default_value(&self, alloc: Global, name: &str) -> Result<Value, Error>
-        ensures { ComesTo (λ v. (name.now, value_view v)) (λ o. o ≡ default_of name.now (argument_view self.now)) result }
+        ensures { ComesTo (λ v. (name.now, value_view v))
+            (λ o. o ≡ default_of name.now (argument_view self.now)) result }
     {
         match &self.default {
             Some(value) => Ok(value.clone()?),
@@ -71,7 +73,8 @@ fn wrong_type_message(
     value: &Value,
     typ: ArgType,
 ) -> Result<String, AllocError>
-    ensures { IfOk result (λ m. string_bytes m ≡ wrong_type_text name.now (value_view value.now) typ) }
+    ensures { IfOk result (λ m.
+        string_bytes m ≡ wrong_type_text name.now (value_view value.now) typ) }
 {
     let kind = value.name();
     let wanted = typ.as_str();

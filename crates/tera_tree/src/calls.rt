@@ -34,7 +34,10 @@ impl ComponentArgument {
     where
         H: Fn(&str) -> Result<Value, Error>,
         requires { (n : Bor (List ℕ)) → n.now ≡ name.now → H.pre get_implicit_value.now n }
-        ensures { ComesTo (λ v. (name.now, value_view v)) (λ o. (answer : Result Value Error) × FnReturnsAt H.Fn get_implicit_value.now name.now answer × (o ≡ found_outcome name.now (argument_view self.now) answer)) result }
+        ensures { ComesTo (λ v. (name.now, value_view v))
+            (λ o. (answer : Result Value Error) ×
+            FnReturnsAt H.Fn get_implicit_value.now name.now answer
+            × (o ≡ found_outcome name.now (argument_view self.now) answer)) result }
     {
         let value = get_implicit_value(name)?;
         if value.is_undefined() {
@@ -57,7 +60,9 @@ impl ComponentArgument {
         H: Fn(&str) -> Result<Value, Error>,
         requires value { (n : Bor (List ℕ)) → n.now ≡ name.now → G.pre get_value.now n }
         requires implicit { (n : Bor (List ℕ)) → n.now ≡ name.now → H.pre get_implicit_value.now n }
-        ensures { ComesTo (λ v. (name.now, value_view v)) (ArgumentComesTo (FnReturnsAt G.Fn get_value.now) (FnReturnsAt H.Fn get_implicit_value.now) (name.now, argument_view self.now)) result }
+        ensures { ComesTo (λ v. (name.now, value_view v))
+            (ArgumentComesTo (FnReturnsAt G.Fn get_value.now)
+            (FnReturnsAt H.Fn get_implicit_value.now) (name.now, argument_view self.now)) result }
     {
         match get_value(name)? {
             Some(value) => self.checked(alloc, name, value),
@@ -77,7 +82,8 @@ fn rest_value<G>(alloc: Global, name: &str, get_value: &G) -> Result<Value, Erro
 where
     G: Fn(&str) -> Result<Option<Value>, Error>,
     requires { (n : Bor (List ℕ)) → n.now ≡ name.now → G.pre get_value.now n }
-    ensures { ComesTo (λ v. (name.now, value_view v)) (RestNameComesTo (FnReturnsAt G.Fn get_value.now) name.now) result }
+    ensures { ComesTo (λ v. (name.now, value_view v))
+        (RestNameComesTo (FnReturnsAt G.Fn get_value.now) name.now) result }
 {
     match get_value(name)? {
         Some(value) => Ok(value),
@@ -96,7 +102,8 @@ fn rest_map<G>(alloc: Global, names: &[&str], get_value: &G) -> Result<Map, Erro
 where
     G: Fn(&str) -> Result<Option<Value>, Error>,
     requires { (n : Bor (List ℕ)) → IsAmong (texts names.now) n.now → G.pre get_value.now n }
-    ensures { ComesTo pairs_view (RestMapComesTo (FnReturnsAt G.Fn get_value.now) (texts names.now)) result }
+    ensures { ComesTo pairs_view
+        (RestMapComesTo (FnReturnsAt G.Fn get_value.now) (texts names.now)) result }
 {
     let mut map = Map::new(alloc);
     for name in names {
@@ -114,7 +121,10 @@ impl ComponentDefinition {
         I: Iterator<Item = &'a str> + Drop,
         requires can { I.can_next provided_keys }
         requires ends { IsFinite (I.remaining provided_keys) }
-        ensures { MatchResult result (λ v. (names : List (Bor (List ℕ))) × Drains I.next_gives provided_keys names × (texts v.items ≡ unknown (arguments_view self.now.kwargs.entries) (texts names))) IsMemory }
+        ensures { MatchResult result
+            (λ v. (names : List (Bor (List ℕ))) × Drains I.next_gives provided_keys names
+            × (texts v.items ≡ unknown (arguments_view self.now.kwargs.entries) (texts names)))
+            IsMemory }
     {
         let mut names = Vec::new(alloc);
         for name in provided_keys {
@@ -135,9 +145,16 @@ impl ComponentDefinition {
     where
         G: Fn(&str) -> Result<Option<Value>, Error>,
         H: Fn(&str) -> Result<Value, Error>,
-        requires value { (n : Bor (List ℕ)) → IsAmong (argument_names (arguments_view self.now.kwargs.entries)) n.now → G.pre get_value.now n }
-        requires implicit { (n : Bor (List ℕ)) → IsAmong (argument_names (arguments_view self.now.kwargs.entries)) n.now → H.pre get_implicit_value.now n }
-        ensures { ComesTo context_view (ArgumentsComeTo (FnReturnsAt G.Fn get_value.now) (FnReturnsAt H.Fn get_implicit_value.now) (arguments_view self.now.kwargs.entries)) result }
+        requires value { (n : Bor (List ℕ)) →
+            IsAmong (argument_names (arguments_view self.now.kwargs.entries)) n.now →
+            G.pre get_value.now n }
+        requires implicit { (n : Bor (List ℕ)) →
+            IsAmong (argument_names (arguments_view self.now.kwargs.entries)) n.now →
+            H.pre get_implicit_value.now n }
+        ensures { ComesTo context_view
+            (ArgumentsComeTo (FnReturnsAt G.Fn get_value.now)
+            (FnReturnsAt H.Fn get_implicit_value.now) (arguments_view self.now.kwargs.entries))
+            result }
     {
         let mut context = Context::new(alloc);
         for (name, argument) in self.kwargs.iter() {
@@ -157,7 +174,9 @@ impl ComponentDefinition {
     where
         G: Fn(&str) -> Result<Option<Value>, Error>,
         requires { (n : Bor (List ℕ)) → IsAmong (texts unknown.now) n.now → G.pre get_value.now n }
-        ensures { ComesTo passed_pairs (RestComesTo (FnReturnsAt G.Fn get_value.now) (name_view self.now.rest_param_name) (arguments_view self.now.kwargs.entries) (texts unknown.now)) result }
+        ensures { ComesTo passed_pairs
+            (RestComesTo (FnReturnsAt G.Fn get_value.now) (name_view self.now.rest_param_name)
+            (arguments_view self.now.kwargs.entries) (texts unknown.now)) result }
     {
         match &self.rest_param_name {
             Some(name) => {
@@ -176,7 +195,8 @@ impl ComponentDefinition {
     }
 
     fn unknown_message(&self, alloc: Global, unknown: &[&str]) -> Result<String, AllocError>
-        ensures { IfOk result (λ m. string_bytes m ≡ unknown_text (texts unknown.now) (arguments_view self.now.kwargs.entries)) }
+        ensures { IfOk result (λ m. string_bytes m
+            ≡ unknown_text (texts unknown.now) (arguments_view self.now.kwargs.entries)) }
     {
         let arguments = self.listed_arguments(alloc)?;
         let names = sorted_names(alloc, unknown)?;
@@ -189,8 +209,10 @@ impl ComponentDefinition {
 
     // The names of the arguments, in byte order.
     fn listed_arguments(&self, alloc: Global) -> Result<Vec<&str>, AllocError>
-        ensures names { IfOk result (λ v. texts v.items ≡ map (λ a. a.0) (arguments_view self.now.kwargs.entries)) }
-        ensures ordered { IfOk result (λ v. IsStrictlySortedBy (slice_cmp nat_cmp) (texts v.items)) }
+        ensures names { IfOk result (λ v.
+            texts v.items ≡ map (λ a. a.0) (arguments_view self.now.kwargs.entries)) }
+        ensures ordered { IfOk result (λ v.
+            IsStrictlySortedBy (slice_cmp nat_cmp) (texts v.items)) }
     {
         let mut names = Vec::new(alloc);
         for name in self.kwargs.keys() {
@@ -201,8 +223,11 @@ impl ComponentDefinition {
 
     /// The names of the arguments, in byte order.
     pub fn kwargs_list(&self, alloc: Global) -> Result<Vec<&str>, Error>
-        ensures names { MatchResult result (λ v. texts v.items ≡ map (λ a. a.0) (arguments_view self.now.kwargs.entries)) IsMemory }
-        ensures ordered { IfOk result (λ v. IsStrictlySortedBy (slice_cmp nat_cmp) (texts v.items)) }
+        ensures names { MatchResult result
+            (λ v. texts v.items
+            ≡ map (λ a. a.0) (arguments_view self.now.kwargs.entries)) IsMemory }
+        ensures ordered { IfOk result (λ v.
+            IsStrictlySortedBy (slice_cmp nat_cmp) (texts v.items)) }
     {
         Ok(self.listed_arguments(alloc)?)
     }
@@ -224,9 +249,14 @@ impl ComponentDefinition {
         H: Fn(&str) -> Result<Value, Error> + Drop,
         requires can { I.can_next provided_keys }
         requires ends { IsFinite (I.remaining provided_keys) }
-        requires value { (n : Bor (List ℕ)) → IsAsked (arguments_view self.now.kwargs.entries) (Drains I.next_gives provided_keys) n.now → G.pre get_value n }
-        requires implicit { (n : Bor (List ℕ)) → IsAmong (argument_names (arguments_view self.now.kwargs.entries)) n.now → H.pre get_implicit_value n }
-        ensures { ComesTo context_view (BuildsContext (FnReturnsAt G.Fn get_value) (FnReturnsAt H.Fn get_implicit_value) (Drains I.next_gives provided_keys) (definition_view self.now) body) result }
+        requires value { (n : Bor (List ℕ)) → IsAsked (arguments_view self.now.kwargs.entries)
+            (Drains I.next_gives provided_keys) n.now → G.pre get_value n }
+        requires implicit { (n : Bor (List ℕ)) →
+            IsAmong (argument_names (arguments_view self.now.kwargs.entries)) n.now →
+            H.pre get_implicit_value n }
+        ensures { ComesTo context_view
+            (BuildsContext (FnReturnsAt G.Fn get_value) (FnReturnsAt H.Fn get_implicit_value)
+            (Drains I.next_gives provided_keys) (definition_view self.now) body) result }
     {
         let unknown = self.unknown_names(alloc, provided_keys)?;
         let rest = self.rest_value(alloc, &unknown, &get_value)?;
@@ -238,7 +268,9 @@ impl ComponentDefinition {
 }
 
 fn put_value(context: &mut Context, passed: Option<(&str, Value)>) -> Result<(), Error>
-    ensures { MatchResult result (λ _. context_view context.new ≡ put_all (passed_pairs passed.entry) (context_view context.old)) IsMemory }
+    ensures { MatchResult result
+        (λ _. context_view context.new
+        ≡ put_all (passed_pairs passed.entry) (context_view context.old)) IsMemory }
 {
     match passed {
         Some((name, value)) => context.insert_value(name, value),
@@ -280,7 +312,8 @@ fn listed_names<'a>(alloc: Global, sorted: &BTreeSet<&'a str>) -> Result<Vec<&'a
 
 #[tactic(auto, using(crate::proofs::CallNames::possible_texts))]
 fn push_possible(text: &mut String, names: &[&str]) -> Result<(), AllocError>
-    ensures { OnOk result (string_bytes text.new ≡ string_bytes text.old ++ possible_text (texts names.now)) }
+    ensures { OnOk result (string_bytes text.new
+        ≡ string_bytes text.old ++ possible_text (texts names.now)) }
 {
     if names.is_empty() {
         return Ok(());
@@ -291,7 +324,8 @@ fn push_possible(text: &mut String, names: &[&str]) -> Result<(), AllocError>
 }
 
 fn push_names(text: &mut String, names: &[&str]) -> Result<(), AllocError>
-    ensures { OnOk result (string_bytes text.new ≡ string_bytes text.old ++ names_text (texts names.now)) }
+    ensures { OnOk result (string_bytes text.new
+        ≡ string_bytes text.old ++ names_text (texts names.now)) }
 {
     if let Some((first, others)) = names.split_first() {
         push_quoted(text, first)?;

@@ -78,13 +78,15 @@ fn same_arguments(
     a: &BTreeMap<String, ComponentArgument>,
     b: &BTreeMap<String, ComponentArgument>,
 ) -> bool
-    ensures { result ≡ pointwise named_argument_eq (map named_argument a.now.entries) (map named_argument b.now.entries) }
+    ensures { result ≡ pointwise named_argument_eq (map named_argument a.now.entries)
+        (map named_argument b.now.entries) }
 {
     a == b
 }
 
 fn same_metadata(a: &BTreeMap<String, Value>, b: &BTreeMap<String, Value>) -> bool
-    ensures { result ≡ pointwise named_value_eq (map named_value a.now.entries) (map named_value b.now.entries) }
+    ensures { result
+        ≡ pointwise named_value_eq (map named_value a.now.entries) (map named_value b.now.entries) }
 {
     a == b
 }
@@ -112,7 +114,8 @@ impl Clone for ComponentDefinition {
 fn copy_arguments(
     arguments: &BTreeMap<String, ComponentArgument>,
 ) -> Result<BTreeMap<String, ComponentArgument>, AllocError>
-    ensures { IfOk result (λ c. map named_argument c.entries ≡ map named_argument arguments.now.entries) }
+    ensures { IfOk result (λ c.
+        map named_argument c.entries ≡ map named_argument arguments.now.entries) }
 {
     let copies = arguments.clone()?;
     Ok(copies)

@@ -34,7 +34,8 @@ impl ComponentInfo {
         definition: &ComponentDefinition,
     ) -> Result<ComponentInfo, Error>
         ensures info { IfOk result (λ i. info_view i ≡ info_of (definition_view definition.now)) }
-        ensures ordered { IfOk result (λ i. IsStrictlySortedBy (slice_cmp nat_cmp) (map (λ a. a.name) (info_view i).arguments)) }
+        ensures ordered { IfOk result (λ i.
+            IsStrictlySortedBy (slice_cmp nat_cmp) (map (λ a. a.name) (info_view i).arguments)) }
         ensures refusal { IfErr result IsMemory }
     {
         Ok(ComponentInfo {
@@ -94,8 +95,10 @@ fn told_arguments(
     alloc: Global,
     arguments: &BTreeMap<String, ComponentArgument>,
 ) -> Result<Vec<ComponentArg>, AllocError>
-    ensures told { IfOk result (λ told. map arg_view told.items ≡ map argument_info (arguments_view arguments.now.entries)) }
-    ensures ordered { IfOk result (λ told. IsStrictlySortedBy (slice_cmp nat_cmp) (map (λ a. a.name) (map arg_view told.items))) }
+    ensures told { IfOk result (λ told.
+        map arg_view told.items ≡ map argument_info (arguments_view arguments.now.entries)) }
+    ensures ordered { IfOk result (λ told.
+        IsStrictlySortedBy (slice_cmp nat_cmp) (map (λ a. a.name) (map arg_view told.items))) }
 {
     let mut told = Vec::new(alloc);
     for (name, argument) in arguments {

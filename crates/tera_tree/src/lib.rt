@@ -1,4 +1,5 @@
-//! The tree of a template of the engine Tera: definitions of components, with the expressions and nodes of `tera_nodes`.
+//! The tree of a template of the engine Tera: definitions of components, with the expressions and nodes of
+//! `tera_nodes`.
 #![tactic(auto)]
 
 mod argument_infos;

@@ -17,7 +17,8 @@ impl ArgType {
     /// message that lists the types, or `Memory`.
     pub fn from_str(alloc: Global, name: &str) -> Result<ArgType, Error>
         ensures found { IfOk result (λ typ. map to_ascii_lowercase name.now ≡ type_name typ) }
-        ensures none { IfErr result (λ _. (typ : ArgType) → map to_ascii_lowercase name.now ≡ type_name typ → ⊥) }
+        ensures none { IfErr result (λ _. (typ : ArgType) →
+            map to_ascii_lowercase name.now ≡ type_name typ → ⊥) }
         ensures refusal { IfErr result (Says (no_type_text name.now)) }
     {
         match named(name) {
@@ -85,7 +86,8 @@ fn is_name(name: &str, typ: ArgType) -> bool
 #[tactic(auto, using(crate::proofs::Names::no_name))]
 fn named(name: &str) -> Option<ArgType>
     ensures some { IfSome result (λ typ. map to_ascii_lowercase name.now ≡ type_name typ) }
-    ensures none { IfNone result ((typ : ArgType) → map to_ascii_lowercase name.now ≡ type_name typ → ⊥) }
+    ensures none { IfNone result ((typ : ArgType) →
+        map to_ascii_lowercase name.now ≡ type_name typ → ⊥) }
 {
     if is_name(name, ArgType::String) {
         Some(ArgType::String)

@@ -18,7 +18,8 @@ use tera_tree::{ArgType, ComponentArgument, ComponentDefinition, Node};
 
 /// The lines of a definition.
 pub fn push_definition(out: &mut String, definition: &ComponentDefinition) -> Result<(), AllocError>
-    ensures { OnOk result (string_bytes out.new ≡ string_bytes out.old ++ definition_text (definition_view definition.now)) }
+    ensures { OnOk result (string_bytes out.new
+        ≡ string_bytes out.old ++ definition_text (definition_view definition.now)) }
 {
     push_word(out, "", "component ", definition.name.as_str())?;
     push_arguments(out, &definition.kwargs)?;
@@ -31,7 +32,9 @@ fn push_arguments(
     out: &mut String,
     kwargs: &BTreeMap<String, ComponentArgument>,
 ) -> Result<(), AllocError>
-    ensures { OnOk result (string_bytes out.new ≡ string_bytes out.old ++ flat_map argument_text (map (λ a. (string_bytes a.0, argument_view a.1)) kwargs.now.entries)) }
+    ensures { OnOk result (string_bytes out.new
+        ≡ string_bytes out.old ++ flat_map argument_text
+        (map (λ a. (string_bytes a.0, argument_view a.1)) kwargs.now.entries)) }
 {
     for (name, argument) in kwargs.iter() {
         push_argument(out, name.as_str(), argument)?;
@@ -44,7 +47,8 @@ fn push_argument(
     name: &str,
     argument: &ComponentArgument,
 ) -> Result<(), AllocError>
-    ensures { OnOk result (string_bytes out.new ≡ string_bytes out.old ++ argument_text (name.now, argument_view argument.now)) }
+    ensures { OnOk result (string_bytes out.new
+        ≡ string_bytes out.old ++ argument_text (name.now, argument_view argument.now)) }
 {
     out.push_str("  ")?;
     out.push_str("arg ")?;
@@ -66,7 +70,8 @@ fn push_type(out: &mut String, typ: Option<ArgType>) -> Result<(), AllocError>
 }
 
 fn push_default(out: &mut String, default: &Option<Value>) -> Result<(), AllocError>
-    ensures { OnOk result (string_bytes out.new ≡ string_bytes out.old ++ default_text (default_view default.now)) }
+    ensures { OnOk result (string_bytes out.new
+        ≡ string_bytes out.old ++ default_text (default_view default.now)) }
 {
     let Some(value) = default else {
         return Ok(());
@@ -77,7 +82,8 @@ fn push_default(out: &mut String, default: &Option<Value>) -> Result<(), AllocEr
 
 // A value as a constant of an expression.
 fn push_constant(out: &mut String, value: &Value) -> Result<(), AllocError>
-    ensures { OnOk result (string_bytes out.new ≡ string_bytes out.old ++ const_text (value_view value.now)) }
+    ensures { OnOk result (string_bytes out.new
+        ≡ string_bytes out.old ++ const_text (value_view value.now)) }
 {
     match value {
         Value::String(text) => {
@@ -90,14 +96,16 @@ fn push_constant(out: &mut String, value: &Value) -> Result<(), AllocError>
 }
 
 fn push_value(out: &mut String, value: &Value) -> Result<(), AllocError>
-    ensures { OnOk result (string_bytes out.new ≡ string_bytes out.old ++ value_text (value_view value.now)) }
+    ensures { OnOk result (string_bytes out.new
+        ≡ string_bytes out.old ++ value_text (value_view value.now)) }
 {
     write!(out, "{value}")?;
     Ok(())
 }
 
 fn push_rest(out: &mut String, name: &Option<String>) -> Result<(), AllocError>
-    ensures { OnOk result (string_bytes out.new ≡ string_bytes out.old ++ rest_text (name_view name.now)) }
+    ensures { OnOk result (string_bytes out.new
+        ≡ string_bytes out.old ++ rest_text (name_view name.now)) }
 {
     match name {
         Some(name) => push_word(out, "  ", "rest ", name.as_str()),
@@ -106,7 +114,9 @@ fn push_rest(out: &mut String, name: &Option<String>) -> Result<(), AllocError>
 }
 
 fn push_metadata(out: &mut String, metadata: &BTreeMap<String, Value>) -> Result<(), AllocError>
-    ensures { OnOk result (string_bytes out.new ≡ string_bytes out.old ++ flat_map meta_text (map (λ m. (string_bytes m.0, value_view m.1)) metadata.now.entries)) }
+    ensures { OnOk result (string_bytes out.new
+        ≡ string_bytes out.old ++ flat_map meta_text
+        (map (λ m. (string_bytes m.0, value_view m.1)) metadata.now.entries)) }
 {
     for (key, value) in metadata.iter() {
         push_meta(out, key.as_str(), value)?;
@@ -115,7 +125,8 @@ fn push_metadata(out: &mut String, metadata: &BTreeMap<String, Value>) -> Result
 }
 
 fn push_meta(out: &mut String, key: &str, value: &Value) -> Result<(), AllocError>
-    ensures { OnOk result (string_bytes out.new ≡ string_bytes out.old ++ meta_text (key.now, value_view value.now)) }
+    ensures { OnOk result (string_bytes out.new
+        ≡ string_bytes out.old ++ meta_text (key.now, value_view value.now)) }
 {
     out.push_str("  ")?;
     out.push_str("meta ")?;
@@ -126,7 +137,8 @@ fn push_meta(out: &mut String, key: &str, value: &Value) -> Result<(), AllocErro
 }
 
 fn push_body(out: &mut String, body: &Vec<Node>) -> Result<(), AllocError>
-    ensures { OnOk result (string_bytes out.new ≡ string_bytes out.old ++ body_text (map node_view body.now.items)) }
+    ensures { OnOk result (string_bytes out.new
+        ≡ string_bytes out.old ++ body_text (map node_view body.now.items)) }
 {
     if body.is_empty() {
         return Ok(());

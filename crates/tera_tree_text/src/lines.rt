@@ -22,7 +22,8 @@ use tera_tree::{
 
 // An expression.
 fn push_expression(out: &mut String, e: &Expression) -> Result<(), AllocError>
-    ensures { OnOk result (string_bytes out.new ≡ string_bytes out.old ++ text (expression_view e.now)) }
+    ensures { OnOk result (string_bytes out.new
+        ≡ string_bytes out.old ++ text (expression_view e.now)) }
 {
     write!(out, "{e}")?;
     Ok(())
@@ -30,7 +31,8 @@ fn push_expression(out: &mut String, e: &Expression) -> Result<(), AllocError>
 
 // A line.
 pub(crate) fn push_line(out: &mut String, indent: &str, words: &str) -> Result<(), AllocError>
-    ensures { OnOk result (string_bytes out.new ≡ string_bytes out.old ++ line indent.now words.now) }
+    ensures { OnOk result (string_bytes out.new
+        ≡ string_bytes out.old ++ line indent.now words.now) }
 {
     out.push_str(indent)?;
     out.push_str(words)?;
@@ -44,7 +46,8 @@ pub(crate) fn push_worded(
     word: &str,
     e: &Expression,
 ) -> Result<(), AllocError>
-    ensures { OnOk result (string_bytes out.new ≡ string_bytes out.old ++ line indent.now (word.now ++ text (expression_view e.now))) }
+    ensures { OnOk result (string_bytes out.new
+        ≡ string_bytes out.old ++ line indent.now (word.now ++ text (expression_view e.now))) }
 {
     out.push_str(indent)?;
     out.push_str(word)?;
@@ -54,7 +57,8 @@ pub(crate) fn push_worded(
 
 /// A line of a word and a text between quotes.
 pub fn push_named(out: &mut String, indent: &str, word: &str, name: &str) -> Result<(), AllocError>
-    ensures { OnOk result (string_bytes out.new ≡ string_bytes out.old ++ line indent.now (word.now ++ quoted name.now)) }
+    ensures { OnOk result (string_bytes out.new
+        ≡ string_bytes out.old ++ line indent.now (word.now ++ quoted name.now)) }
 {
     out.push_str(indent)?;
     out.push_str(word)?;
@@ -70,14 +74,17 @@ fn set_word(global: bool) -> &'static str
 
 // What begins the setting of a variable.
 fn push_set_name(out: &mut String, global: bool, name: &str) -> Result<(), AllocError>
-    ensures { OnOk result (string_bytes out.new ≡ string_bytes out.old ++ set_text global name.now) }
+    ensures { OnOk result (string_bytes out.new
+        ≡ string_bytes out.old ++ set_text global name.now) }
 {
     out.push_str(set_word(global))?;
     out.push_str(name)
 }
 
 fn push_set(out: &mut String, indent: &str, set: &Set) -> Result<(), AllocError>
-    ensures { OnOk result (string_bytes out.new ≡ string_bytes out.old ++ line indent.now (set_text set.now.global (string_bytes set.now.name) ++ (codes " = " ++ text (expression_view set.now.value)))) }
+    ensures { OnOk result (string_bytes out.new ≡ string_bytes out.old
+        ++ line indent.now (set_text set.now.global (string_bytes set.now.name)
+        ++ (codes " = " ++ text (expression_view set.now.value)))) }
 {
     out.push_str(indent)?;
     push_set_name(out, set.global, set.name.as_str())?;
@@ -93,7 +100,8 @@ pub(crate) fn push_word(
     word: &str,
     name: &str,
 ) -> Result<(), AllocError>
-    ensures { OnOk result (string_bytes out.new ≡ string_bytes out.old ++ line indent.now (word.now ++ name.now)) }
+    ensures { OnOk result (string_bytes out.new
+        ≡ string_bytes out.old ++ line indent.now (word.now ++ name.now)) }
 {
     out.push_str(indent)?;
     out.push_str(word)?;
@@ -103,7 +111,8 @@ pub(crate) fn push_word(
 
 // A filter without what it changes.
 fn push_filter(out: &mut String, filter: &Expression) -> Result<(), AllocError>
-    ensures { OnOk result (string_bytes out.new ≡ string_bytes out.old ++ filter_text (expression_view filter.now)) }
+    ensures { OnOk result (string_bytes out.new
+        ≡ string_bytes out.old ++ filter_text (expression_view filter.now)) }
 {
     match filter {
         Expression::Filter(s) => push_arguments(out, s.node().name.as_str(), &s.node().kwargs),
@@ -117,7 +126,8 @@ fn push_arguments(
     name: &str,
     kwargs: &BTreeMap<String, Expression>,
 ) -> Result<(), AllocError>
-    ensures { OnOk result (string_bytes out.new ≡ string_bytes out.old ++ call_text name.now (args_text false (args_view kwargs.now.entries))) }
+    ensures { OnOk result (string_bytes out.new ≡ string_bytes out.old
+        ++ call_text name.now (args_text false (args_view kwargs.now.entries))) }
 {
     let shown = WithArguments { name, kwargs };
     write!(out, "{shown}")?;
@@ -126,7 +136,8 @@ fn push_arguments(
 
 // A name with its attributes.
 fn push_attributes(out: &mut String, name: &str, kwargs: &Vec<MapEntry>) -> Result<(), AllocError>
-    ensures { OnOk result (string_bytes out.new ≡ string_bytes out.old ++ call_text name.now (entries_text false (entries_view kwargs.now.items))) }
+    ensures { OnOk result (string_bytes out.new ≡ string_bytes out.old
+        ++ call_text name.now (entries_text false (entries_view kwargs.now.items))) }
 {
     let shown = WithAttributes { name, kwargs };
     write!(out, "{shown}")?;
@@ -135,7 +146,8 @@ fn push_attributes(out: &mut String, name: &str, kwargs: &Vec<MapEntry>) -> Resu
 
 // Filters with bars between them, and one before the first if something stands before it.
 fn push_filters(out: &mut String, behind: bool, filters: &Vec<Expression>) -> Result<(), AllocError>
-    ensures { OnOk result (string_bytes out.new ≡ string_bytes out.old ++ filters_text behind (filters_view filters.now.items)) }
+    ensures { OnOk result (string_bytes out.new
+        ≡ string_bytes out.old ++ filters_text behind (filters_view filters.now.items)) }
 {
     let mut later = behind;
     for filter in filters {
@@ -146,7 +158,8 @@ fn push_filters(out: &mut String, behind: bool, filters: &Vec<Expression>) -> Re
 }
 
 fn push_later(out: &mut String, later: bool, filter: &Expression) -> Result<(), AllocError>
-    ensures { OnOk result (string_bytes out.new ≡ string_bytes out.old ++ ((if later then codes " | " else []) ++ filter_text (expression_view filter.now))) }
+    ensures { OnOk result (string_bytes out.new ≡ string_bytes out.old
+        ++ ((if later then codes " | " else []) ++ filter_text (expression_view filter.now))) }
 {
     if later {
         out.push_str(" | ")?;
@@ -155,8 +168,10 @@ fn push_later(out: &mut String, later: bool, filter: &Expression) -> Result<(), 
 }
 
 fn push_call_line(out: &mut String, indent: &str, call: &ComponentCall) -> Result<(), AllocError>
-    ensures { let c = out-ComponentCall call.now in OnOk result (string_bytes out.new ≡ string_bytes out.old
-        ++ line indent.now (codes "call <" ++ (call_text (string_bytes c.name) (entries_text false (entries_view c.kwargs.items)) ++ codes ">"))) }
+    ensures { let c = out-ComponentCall call.now in
+        OnOk result (string_bytes out.new ≡ string_bytes out.old ++ line indent.now (codes "call <"
+        ++ (call_text (string_bytes c.name) (entries_text false (entries_view c.kwargs.items))
+        ++ codes ">"))) }
 {
     out.push_str(indent)?;
     out.push_str("call <")?;
@@ -166,7 +181,9 @@ fn push_call_line(out: &mut String, indent: &str, call: &ComponentCall) -> Resul
 }
 
 fn push_block_set_line(out: &mut String, indent: &str, set: &BlockSet) -> Result<(), AllocError>
-    ensures { let s = out-BlockSet set.now in OnOk result (string_bytes out.new ≡ string_bytes out.old ++ line indent.now (set_text s.global (string_bytes s.name) ++ filters_text true (filters_view s.filters.items))) }
+    ensures { let s = out-BlockSet set.now in OnOk result (string_bytes out.new
+        ≡ string_bytes out.old ++ line indent.now (set_text s.global (string_bytes s.name)
+        ++ filters_text true (filters_view s.filters.items))) }
 {
     out.push_str(indent)?;
     push_set_name(out, set.global, set.name.as_str())?;
@@ -179,7 +196,9 @@ fn push_section_line(
     indent: &str,
     section: &FilterSection,
 ) -> Result<(), AllocError>
-    ensures { let s = out-FilterSection section.now in OnOk result (string_bytes out.new ≡ string_bytes out.old ++ line indent.now (codes "filter " ++ filters_text false (filters_view s.filters.items))) }
+    ensures { let s = out-FilterSection section.now in
+        OnOk result (string_bytes out.new ≡ string_bytes out.old ++ line indent.now (codes "filter "
+        ++ filters_text false (filters_view s.filters.items))) }
 {
     out.push_str(indent)?;
     out.push_str("filter ")?;
@@ -188,8 +207,10 @@ fn push_section_line(
 }
 
 fn push_for_line(out: &mut String, indent: &str, parts: &ForLoop) -> Result<(), AllocError>
-    ensures { let p = out-ForLoop parts.now in OnOk result (string_bytes out.new ≡ string_bytes out.old
-        ++ line indent.now (codes "for " ++ (names_text (name_view p.key) (string_bytes p.value) ++ (codes " in " ++ text (expression_view p.target))))) }
+    ensures { let p = out-ForLoop parts.now in
+        OnOk result (string_bytes out.new ≡ string_bytes out.old ++ line indent.now (codes "for "
+        ++ (names_text (name_view p.key) (string_bytes p.value)
+        ++ (codes " in " ++ text (expression_view p.target))))) }
 {
     out.push_str(indent)?;
     out.push_str("for ")?;
@@ -200,7 +221,8 @@ fn push_for_line(out: &mut String, indent: &str, parts: &ForLoop) -> Result<(), 
 }
 
 fn push_names(out: &mut String, key: &Option<String>, value: &str) -> Result<(), AllocError>
-    ensures { OnOk result (string_bytes out.new ≡ string_bytes out.old ++ names_text (name_view key.now) value.now) }
+    ensures { OnOk result (string_bytes out.new
+        ≡ string_bytes out.old ++ names_text (name_view key.now) value.now) }
 {
     if let Some(key) = key {
         out.push_str(key.as_str())?;
@@ -226,7 +248,8 @@ pub fn push_nodes(
     indent: &str,
     nodes: &Vec<Node>,
 ) -> Result<(), AllocError>
-    ensures { OnOk result (string_bytes out.new ≡ string_bytes out.old ++ nodes_text word.now indent.now (nodes_view nodes.now.items)) }
+    ensures { OnOk result (string_bytes out.new
+        ≡ string_bytes out.old ++ nodes_text word.now indent.now (nodes_view nodes.now.items)) }
 {
     for node in nodes {
         push_node(out, word, indent, node)?;
@@ -236,7 +259,8 @@ pub fn push_nodes(
 
 #[cycle(lines)]
 fn push_node(out: &mut String, word: &str, indent: &str, node: &Node) -> Result<(), AllocError>
-    ensures { OnOk result (string_bytes out.new ≡ string_bytes out.old ++ node_text word.now indent.now (node_view node.now)) }
+    ensures { OnOk result (string_bytes out.new
+        ≡ string_bytes out.old ++ node_text word.now indent.now (node_view node.now)) }
 {
     match node {
         Node::Content(s) => push_named(out, indent, "text ", s.as_str()),
@@ -256,7 +280,8 @@ fn push_node(out: &mut String, word: &str, indent: &str, node: &Node) -> Result<
 // The lines of a body one level deeper.
 #[cycle(lines)]
 fn push_body(out: &mut String, indent: &str, nodes: &Vec<Node>) -> Result<(), AllocError>
-    ensures { OnOk result (string_bytes out.new ≡ string_bytes out.old ++ nodes_text (codes "if ") (deeper indent.now) (nodes_view nodes.now.items)) }
+    ensures { OnOk result (string_bytes out.new ≡ string_bytes out.old
+        ++ nodes_text (codes "if ") (deeper indent.now) (nodes_view nodes.now.items)) }
 {
     let below = deeper(out, indent)?;
     push_nodes(out, "if ", below.as_str(), nodes)
@@ -265,7 +290,8 @@ fn push_body(out: &mut String, indent: &str, nodes: &Vec<Node>) -> Result<(), Al
 // An expression that is shown: a call with a body has the lines of its body.
 #[cycle(lines)]
 fn push_shown(out: &mut String, indent: &str, e: &Expression) -> Result<(), AllocError>
-    ensures { OnOk result (string_bytes out.new ≡ string_bytes out.old ++ shown_text indent.now (expression_view e.now)) }
+    ensures { OnOk result (string_bytes out.new
+        ≡ string_bytes out.old ++ shown_text indent.now (expression_view e.now)) }
 {
     if let Expression::ComponentCall(call) = e
         && !call.node().self_closing
@@ -277,8 +303,10 @@ fn push_shown(out: &mut String, indent: &str, e: &Expression) -> Result<(), Allo
 
 #[cycle(lines)]
 fn push_call(out: &mut String, indent: &str, call: &ComponentCall) -> Result<(), AllocError>
-    ensures { let c = out-ComponentCall call.now in OnOk result (string_bytes out.new ≡ string_bytes out.old
-        ++ (line indent.now (codes "call <" ++ (call_text (string_bytes c.name) (entries_text false (entries_view c.kwargs.items)) ++ codes ">")) ++ nodes_text (codes "if ") (deeper indent.now) (nodes_view c.body.items))) }
+    ensures { let c = out-ComponentCall call.now in OnOk result (string_bytes out.new
+        ≡ string_bytes out.old ++ (line indent.now (codes "call <" ++ (call_text
+        (string_bytes c.name) (entries_text false (entries_view c.kwargs.items)) ++ codes ">"))
+        ++ nodes_text (codes "if ") (deeper indent.now) (nodes_view c.body.items))) }
 {
     push_call_line(out, indent, call)?;
     push_body(out, indent, &call.body)
@@ -286,7 +314,9 @@ fn push_call(out: &mut String, indent: &str, call: &ComponentCall) -> Result<(),
 
 #[cycle(lines)]
 fn push_block(out: &mut String, indent: &str, block: &Block) -> Result<(), AllocError>
-    ensures { OnOk result (string_bytes out.new ≡ string_bytes out.old ++ (line indent.now (codes "block " ++ string_bytes (node_of block.now.name)) ++ nodes_text (codes "if ") (deeper indent.now) (nodes_view block.now.body.items))) }
+    ensures { OnOk result (string_bytes out.new ≡ string_bytes out.old
+        ++ (line indent.now (codes "block " ++ string_bytes (node_of block.now.name))
+        ++ nodes_text (codes "if ") (deeper indent.now) (nodes_view block.now.body.items))) }
 {
     push_word(out, indent, "block ", block.name.node().as_str())?;
     push_body(out, indent, &block.body)
@@ -294,8 +324,10 @@ fn push_block(out: &mut String, indent: &str, block: &Block) -> Result<(), Alloc
 
 #[cycle(lines)]
 fn push_block_set(out: &mut String, indent: &str, set: &BlockSet) -> Result<(), AllocError>
-    ensures { let s = out-BlockSet set.now in OnOk result (string_bytes out.new ≡ string_bytes out.old
-        ++ (line indent.now (set_text s.global (string_bytes s.name) ++ filters_text true (filters_view s.filters.items)) ++ nodes_text (codes "if ") (deeper indent.now) (nodes_view s.body.items))) }
+    ensures { let s = out-BlockSet set.now in OnOk result (string_bytes out.new
+        ≡ string_bytes out.old ++ (line indent.now (set_text s.global (string_bytes s.name)
+        ++ filters_text true (filters_view s.filters.items))
+        ++ nodes_text (codes "if ") (deeper indent.now) (nodes_view s.body.items))) }
 {
     push_block_set_line(out, indent, set)?;
     push_body(out, indent, &set.body)
@@ -303,8 +335,10 @@ fn push_block_set(out: &mut String, indent: &str, set: &BlockSet) -> Result<(), 
 
 #[cycle(lines)]
 fn push_section(out: &mut String, indent: &str, section: &FilterSection) -> Result<(), AllocError>
-    ensures { let s = out-FilterSection section.now in OnOk result (string_bytes out.new ≡ string_bytes out.old
-        ++ (line indent.now (codes "filter " ++ filters_text false (filters_view s.filters.items)) ++ nodes_text (codes "if ") (deeper indent.now) (nodes_view s.body.items))) }
+    ensures { let s = out-FilterSection section.now in
+        OnOk result (string_bytes out.new ≡ string_bytes out.old
+        ++ (line indent.now (codes "filter " ++ filters_text false (filters_view s.filters.items))
+        ++ nodes_text (codes "if ") (deeper indent.now) (nodes_view s.body.items))) }
 {
     push_section_line(out, indent, section)?;
     push_body(out, indent, &section.body)
@@ -312,9 +346,12 @@ fn push_section(out: &mut String, indent: &str, section: &FilterSection) -> Resu
 
 #[cycle(lines)]
 fn push_for(out: &mut String, indent: &str, parts: &ForLoop) -> Result<(), AllocError>
-    ensures { let p = out-ForLoop parts.now in OnOk result (string_bytes out.new ≡ string_bytes out.old
-        ++ (line indent.now (codes "for " ++ (names_text (name_view p.key) (string_bytes p.value) ++ (codes " in " ++ text (expression_view p.target))))
-        ++ (nodes_text (codes "if ") (deeper indent.now) (nodes_view p.body.items) ++ else_text (nodes_view p.else_body.items) indent.now (nodes_text (codes "if ") (deeper indent.now) (nodes_view p.else_body.items))))) }
+    ensures { let p = out-ForLoop parts.now in OnOk result (string_bytes out.new
+        ≡ string_bytes out.old ++ (line indent.now (codes "for " ++ (names_text (name_view p.key)
+        (string_bytes p.value) ++ (codes " in " ++ text (expression_view p.target))))
+        ++ (nodes_text (codes "if ") (deeper indent.now) (nodes_view p.body.items)
+        ++ else_text (nodes_view p.else_body.items) indent.now
+        (nodes_text (codes "if ") (deeper indent.now) (nodes_view p.else_body.items))))) }
 {
     push_for_line(out, indent, parts)?;
     push_body(out, indent, &parts.body)?;
@@ -324,7 +361,9 @@ fn push_for(out: &mut String, indent: &str, parts: &ForLoop) -> Result<(), Alloc
 // What stands behind the body of a loop, or of the last `If` of a chain.
 #[cycle(lines)]
 fn push_else(out: &mut String, indent: &str, nodes: &Vec<Node>) -> Result<(), AllocError>
-    ensures { let ns = nodes_view nodes.now.items in OnOk result (string_bytes out.new ≡ string_bytes out.old ++ else_text ns indent.now (nodes_text (codes "if ") (deeper indent.now) ns)) }
+    ensures { let ns = nodes_view nodes.now.items in
+        OnOk result (string_bytes out.new ≡ string_bytes out.old
+        ++ else_text ns indent.now (nodes_text (codes "if ") (deeper indent.now) ns)) }
 {
     if has_none(nodes) {
         return Ok(());
@@ -337,7 +376,8 @@ fn push_else(out: &mut String, indent: &str, nodes: &Vec<Node>) -> Result<(), Al
 #[cycle(lines)]
 #[tactic(auto, using(crate::proofs::Elifs::elif_text, crate::proofs::Elifs::last_text))]
 fn push_if(out: &mut String, word: &str, indent: &str, parts: &If) -> Result<(), AllocError>
-    ensures { OnOk result (string_bytes out.new ≡ string_bytes out.old ++ node_text word.now indent.now (if_view parts.now)) }
+    ensures { OnOk result (string_bytes out.new
+        ≡ string_bytes out.old ++ node_text word.now indent.now (if_view parts.now)) }
 {
     let mut word = word;
     let mut parts = parts;

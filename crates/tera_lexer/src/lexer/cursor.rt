@@ -118,7 +118,8 @@ impl<'a> Cursor<'a> {
 
     /// The next token. There is none at the end, at a fault, and where no memory was found for it.
     pub fn first(&self) -> Option<&Token<'a>>
-        ensures shows { MatchOption result (self.now.sight ≡ 0) (λ t. (0 < self.now.sight) × FirstIs self.now.left (seen t.now)) }
+        ensures shows { MatchOption result (self.now.sight ≡ 0) (λ t.
+            (0 < self.now.sight) × FirstIs self.now.left (seen t.now)) }
         ensures sight { SeesTwo self.now }
         ensures tokens { AreLexed self.now.left }
     {
@@ -128,7 +129,8 @@ impl<'a> Cursor<'a> {
 
     /// The token behind the next one. There is none where either is not shown.
     pub fn second(&self) -> Option<&Token<'a>>
-        ensures shows { MatchOption result (self.now.sight ≤ 1) (λ t. (1 < self.now.sight) × SecondIs self.now.left (seen t.now)) }
+        ensures shows { MatchOption result (self.now.sight ≤ 1) (λ t.
+            (1 < self.now.sight) × SecondIs self.now.left (seen t.now)) }
         ensures sight { SeesTwo self.now }
     {
         let _ = shown(&self.first)?;
@@ -138,7 +140,8 @@ impl<'a> Cursor<'a> {
 
     /// The span of the next token, where `first` shows that.
     pub fn first_span(&self) -> Option<&Span>
-        ensures shows { MatchOption result (self.now.sight ≡ 0) (λ s. (0 < self.now.sight) × FirstStandsAt self.now.left s.now × IsWithin self.now.source s.now) }
+        ensures shows { MatchOption result (self.now.sight ≡ 0) (λ s. (0 < self.now.sight)
+            × FirstStandsAt self.now.left s.now × IsWithin self.now.source s.now) }
         ensures sight { SeesTwo self.now }
     {
         let (_, span) = shown(&self.first)?;

@@ -116,7 +116,8 @@ fn number_at(rest: &str) -> Found<'_>
 fn integer_of(digits: &str) -> Option<i64>
     requires some { 0 < length digits.now }
     requires digits { AllByRecursion (λ d. is_ascii_digit d ≡ true) digits.now }
-    ensures { MatchOption result (2 ^ 63 ≤ decimal digits.now) (λ n. (decimal digits.now < 2 ^ 63) × (n ≡ pos (decimal digits.now))) }
+    ensures { MatchOption result (2 ^ 63 ≤ decimal digits.now) (λ n.
+        (decimal digits.now < 2 ^ 63) × (n ≡ pos (decimal digits.now))) }
 {
     digits.parse::<i64>().ok()
 }

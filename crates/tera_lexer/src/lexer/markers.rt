@@ -98,7 +98,8 @@ fn first_byte(marker: &str) -> u8
 pub(crate) fn text_len(rest: &str, delimiters: &Delimiters) -> usize
     requires { IsValid (marks_of delimiters.now) }
     ensures cut { IsCharBoundary rest.now result }
-    ensures plain { NowhereIn (is_at_start (marks_of delimiters.now)) (take result rest.now) (drop result rest.now) }
+    ensures plain { NowhereIn (is_at_start (marks_of delimiters.now)) (take result rest.now)
+        (drop result rest.now) }
     ensures stops { EndsText (marks_of delimiters.now) (drop result rest.now) }
 {
     let bytes = rest.as_bytes();
@@ -175,7 +176,8 @@ fn first_marker(bytes: &[u8], marker: &[u8]) -> Option<usize>
 fn near_marker(bytes: &[u8], near: usize, marker: &[u8]) -> Option<usize>
     requires two { length marker.now ≡ 2 }
     requires near { near ≤ length bytes.now }
-    ensures { MatchOption result (Nowhere (OccursAt bytes.now marker.now) 0 near) (λ i. FindsNeedle bytes.now marker.now 0 (Some i)) }
+    ensures { MatchOption result (Nowhere (OccursAt bytes.now marker.now) 0 near) (λ i.
+        FindsNeedle bytes.now marker.now 0 (Some i)) }
 {
     for i in 0..near {
         if begins(&bytes[i..], marker) {
@@ -276,7 +278,9 @@ fn word_tag_at(bytes: &[u8], word: &[u8], end: &[u8]) -> Option<WordTag>
 /// Where the block start stands that closes a raw piece, and the tag behind it.
 pub(crate) fn raw_end(text: &str, delimiters: &Delimiters) -> Option<(usize, WordTag)>
     requires { IsValid (marks_of delimiters.now) }
-    ensures end { IsRawEndOf (marks_of delimiters.now).block_end result (raw_end (marks_of delimiters.now).block_start (marks_of delimiters.now).block_end false text.now) }
+    ensures end { IsRawEndOf (marks_of delimiters.now).block_end result
+        (raw_end (marks_of delimiters.now).block_start
+        (marks_of delimiters.now).block_end false text.now) }
     ensures cut { IfSome result (IsRawCut (marks_of delimiters.now) text.now) }
 {
     let start = delimiters.block_start.as_str().as_bytes();
@@ -306,7 +310,8 @@ fn end_between(bytes: &[u8], start: &[u8], end: &[u8]) -> Option<(usize, WordTag
 fn end_behind(bytes: &[u8], first: usize, start: &[u8], end: &[u8]) -> Option<(usize, WordTag)>
     requires start { length start.now ≡ 2 }
     requires within { first ≤ length bytes.now }
-    requires left { raw_end start.now end.now false bytes.now ≡ further_end first (raw_end start.now end.now false (drop first bytes.now)) }
+    requires left { raw_end start.now end.now false bytes.now
+        ≡ further_end first (raw_end start.now end.now false (drop first bytes.now)) }
     ensures { IsRawEndOf end.now result (raw_end start.now end.now false bytes.now) }
 {
     let starts = memmem::Finder::new(start);

@@ -113,7 +113,8 @@ impl<'a> Scanner<'a> {
         requires { IsCharBoundary self.now.rest n }
         ensures text { result.0.now ≡ take n self.now.rest }
         ensures place { result.1 ≡ place_after (self.now.front ++ take n self.now.rest) }
-        ensures within { IsWithin (whole_of self.now) (span_of self.now.front (take n self.now.rest)) }
+        ensures within { IsWithin (whole_of self.now)
+            (span_of self.now.front (take n self.now.rest)) }
     {
         let (text, _) = self.rest.split_at(n);
         (text, self.place.after(text))
@@ -123,7 +124,10 @@ impl<'a> Scanner<'a> {
     #[inline(always)]
     fn advance(&mut self, n: usize) -> (&'a str, Span)
         requires { IsCharBoundary self.old.rest n }
-        ensures state { self.new ≡ record self.old { front = self.old.front ++ take n self.old.rest; rest = drop n self.old.rest } }
+        ensures state { self.new ≡ record self.old {
+          front = self.old.front ++ take n self.old.rest;
+          rest = drop n self.old.rest;
+        } }
         ensures text { result.0.now ≡ take n self.old.rest }
         ensures span { result.1 ≡ span_of self.old.front (take n self.old.rest) }
         ensures within { IsWithin (whole_of self.old) result.1 }
@@ -140,8 +144,10 @@ impl<'a> Scanner<'a> {
     fn fail(&mut self, message: Result<String, AllocError>, len: usize) -> Error
         requires { IsCharBoundary self.old.rest len }
         ensures state { self.new ≡ record self.old { failed = true } }
-        ensures within { IsWithin (whole_of self.old) (span_of self.old.front (take len self.old.rest)) }
-        ensures error { (text : List ℕ) → IfOk message (λ t. string_bytes t ≡ text) → Tells text (span_of self.old.front (take len self.old.rest)) result }
+        ensures within { IsWithin (whole_of self.old)
+            (span_of self.old.front (take len self.old.rest)) }
+        ensures error { (text : List ℕ) → IfOk message (λ t. string_bytes t ≡ text) →
+            Tells text (span_of self.old.front (take len self.old.rest)) result }
     {
         let (_, end) = self.peek(len);
         let span = self.place.to(end);
