@@ -1,5 +1,12 @@
-//! The parts of expressions that are read without reading an expression inside of them: operators and what
-//! goes on with an operand, constants, names, keys, the marks between elements, limits, and the faults of these.
+//! The parts of expressions that are read without reading an expression inside of them.
+//!
+//! It takes a cursor, and gives operators and what else goes on with an operand (`kind_of`), constants, names, keys,
+//! the marks between elements (`Continues`), what may still open (`room_of`), and the faults of these. It stands on
+//! `tera_expect`; `tera_expr_reader` and `tera_statements` stand on it.
+//!
+//! In the order of reading: `limits`; `operators`; `front`, what stands behind an operand; `parts` and `leaves`, which
+//! make expressions; `literals`, arrays and maps that may be constants; `rows`, what stands between elements; `words`,
+//! `names`, `arguments`, `keys`, `components` and `attributes`; `faults`.
 #![tactic(auto)]
 
 mod arguments;

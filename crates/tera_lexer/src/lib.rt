@@ -1,4 +1,12 @@
 //! The lexer of the template engine Tera: from a source to its tokens.
+//!
+//! It takes a source and six markers. It gives the tokens, one at a time (`AreTokensOf`), and a cursor over them, which
+//! shows two and takes one (`Position`). It stands on `tera_base`, and on `memchr` of the kit, which searches for
+//! markers.
+//!
+//! In the order of reading, in the folder `lexer`: `tokens`, the types; `delimiters`, the markers; `stream`, the tokens
+//! of a source; `cursor`; specs `grammar`, what tokens a source has, `reading`, how they are found, and `code`, what
+//! the values of the code mean. Then what finds them: `scanner`, by `markers`, `lexeme` and `place`. Then `laws`.
 #![tactic(auto)]
 
 pub mod laws;

@@ -1,4 +1,11 @@
 //! Expressions and nodes of a template of the engine Tera.
+//!
+//! It takes the parts of a node, and its place, and gives expressions and nodes, their copies and equality, and the
+//! text of an expression. `expression_view` and `node_view` are what they stand for, wherever in memory they lie. It
+//! stands on `tera_base`, and `tera_tree` passes its public names on.
+//!
+//! In the order of reading: `ast`, the types; `build`, which makes them; `read`, what the form alone tells; `show` and
+//! `parts`, their texts; specs `Tree`, `View` and `Text`. Then `copies`, `equality` and `laws`.
 #![tactic(auto)]
 
 mod ast;

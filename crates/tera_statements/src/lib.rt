@@ -1,4 +1,12 @@
 //! The statements of the template engine Tera, and whole templates.
+//!
+//! It takes a cursor and limits, and gives a `ParserOutput` (`output_view`), as `template` of `tera_grammar` reads it.
+//! It stands on `tera_expr_reader`. Items and bodies hold one another: their functions are proved together, as the
+//! cycle `bodies`, and the answers to their goals stand in `proofs/+bodies`.
+//!
+//! In the order of reading: `templates`, the top level; `bodies`; `items`, which `fronts` tells apart; the tags:
+//! `simple`, `blocks`, `loops`, `conditions`, `captures`, and `components` with `parameters`; `heads` and `parts`, what
+//! stands in tags; `settings`, `around`, `names`, `added` and `outputs`, what these hand on; `faults`.
 #![tactic(auto)]
 
 mod added;

@@ -1,5 +1,13 @@
 //! The tree of a template of the engine Tera: definitions of components, with the expressions and nodes of
 //! `tera_nodes`.
+//!
+//! It takes the arguments of a call and names, and gives definitions of components, the context of a call or why there
+//! is none (`BuildsContext`), and what a catalogue of components is told. It stands on `tera_nodes`, and passes its
+//! public names on.
+//!
+//! In the order of reading: `ast` and `types`; `arguments`, what one takes; `calls`, the contexts; `infos` and
+//! `argument_infos`, for a catalogue; `definitions`, copies and equality; specs `Tree`, `View`, `Calls` and `Outcomes`.
+//! Then `laws`.
 #![tactic(auto)]
 
 mod argument_infos;

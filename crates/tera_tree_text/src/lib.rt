@@ -1,4 +1,10 @@
 //! The text of a tree, line by line.
+//!
+//! It takes nodes and definitions, and puts their lines at the end of a text; `text_of` is the text of a whole
+//! template. It stands on `tera_tree`, and needs no parser.
+//!
+//! In the order of reading: specs `TreeText` and `Quoted`, what is written; `lines`, of nodes; `definitions`, of
+//! components; `quoted`, of texts.
 #![tactic(auto)]
 
 mod definitions;
