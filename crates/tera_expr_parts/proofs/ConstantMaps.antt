@@ -39,7 +39,7 @@ truths_same true false = refl
 truths_same false true = refl
 truths_same false false = refl
 
-keys_same : (k l : KeyVal) → key_eq k l ≡ same_key k l
+pub keys_same : (k l : KeyVal) → key_eq k l ≡ same_key k l
 keys_same (TextKey s) (TextKey t) = refl
 keys_same (TextKey s) (I64Key n) = refl
 keys_same (TextKey s) (TruthKey b) = refl

@@ -1,55 +1,26 @@
 -- What two crates define, each in its own terms, agrees.
-use Rattle.std.proofs.Common.{◌≡◌, Bool, true, false, cond, ◌&&◌, ℤ, pos, negsuc, nat_eq, List, Option, Some, None, refl, sym, ap, ◌∙◌}
-use Rattle.std.specs.Bool.{Decides, one_answer, beq}
-use Rattle.std.specs.Ordering.{int_eq}
-use Rattle.std.proofs.lemmas.Bool.Decides.{Decides-eqb, Decides-int_eq, Decides-like}
+use Rattle.std.proofs.Common.{◌≡◌, cond, refl, sym, ap, ◌∙◌}
 use Rattle.tera_base.specs.Kinds.{kind_of}
 use Rattle.tera_base.specs.Same.{key_eq}
 use Rattle.tera_base.specs.Values as values
-use Rattle.tera_base.specs.Values.{KeyVal, TextKey, I64Key, TruthKey, Val, Pairs, NoPairs, OnePair}
+use Rattle.tera_base.specs.Values.{KeyVal, Val, Pairs, NoPairs, OnePair}
 use Rattle.tera_tree.specs.Calls as calls
 use Rattle.tera_tree.specs.Infos.{shown_type, shown_type_name}
 use Rattle.tera_tree.specs.Types.{type_name, type_of_kind, is_of_type}
 use Rattle.tera_tree.specs.declared.ast.ArgType.{ArgType}
 use Rattle.tera_tree.specs.declared.ast.ArgType.TheVariants as types
-use Rattle.tera_grammar.specs.expressions.Output.{same_number, same_truth, same_key, put_pair}
+use Rattle.tera_grammar.specs.expressions.Output.{same_key, put_pair}
 use Rattle.tera_grammar.specs.statements.Types.{type_of, has_type}
+use Rattle.tera_expr_parts.proofs.ConstantMaps.{keys_same}
 
--- ---- keys
-
-number_decides : (m n : ℤ) → Decides (same_number m n) (m ≡ n)
-number_decides (pos a) (pos b) = Decides-like (nat_eq a b) (λ (e : a ≡ b). ap pos e) (λ (e : pos a ≡ pos b). cc) (Decides-eqb a b)
-number_decides (negsuc a) (negsuc b) = Decides-like (nat_eq a b) (λ (e : a ≡ b). ap negsuc e) (λ (e : negsuc a ≡ negsuc b). cc) (Decides-eqb a b)
-number_decides (pos a) (negsuc b) = (λ (h : false ≡ true). cc, λ (e : pos a ≡ negsuc b). cc)
-number_decides (negsuc a) (pos b) = (λ (h : false ≡ true). cc, λ (e : negsuc a ≡ pos b). cc)
-
-truths_same : (a b : Bool) → same_truth a b ≡ beq a b
-truths_same true true = refl
-truths_same true false = refl
-truths_same false true = refl
-truths_same false false = refl
-
-pub keys_same : (k l : KeyVal) → same_key k l ≡ key_eq k l
-keys_same (TextKey s) (TextKey t) = refl
-keys_same (TextKey s) (I64Key n) = refl
-keys_same (TextKey s) (TruthKey b) = refl
-keys_same (I64Key m) (TextKey t) = refl
-keys_same (I64Key m) (I64Key n) = one_answer (same_number m n) (int_eq m n) (number_decides m n) (Decides-int_eq m n)
-keys_same (I64Key m) (TruthKey b) = refl
-keys_same (TruthKey a) (TextKey t) = refl
-keys_same (TruthKey a) (I64Key n) = refl
-keys_same (TruthKey a) (TruthKey b) = truths_same a b
-
--- ---- a pair that is put into a map
-
+-- a pair that is put into a map
 pub pairs_same : (k : KeyVal) (v : Val) (ps : Pairs) → put_pair k v ps ≡ calls.put_pair k v ps
 pairs_same k v NoPairs = refl
 pairs_same k v (OnePair l w ps) =
-    ap (λ b. cond b (OnePair l v ps) (OnePair l w (put_pair k v ps))) (keys_same k l)
+    ap (λ b. cond b (OnePair l v ps) (OnePair l w (put_pair k v ps))) (sym (keys_same k l))
     ∙ ap (λ more. cond (key_eq k l) (OnePair l v ps) (OnePair l w more)) (pairs_same k v ps)
 
--- ---- types
-
+-- the type of a value, by its form and by its kind
 pub types_same : (v : Val) → type_of v ≡ type_of_kind (kind_of v)
 types_same values.Undefined = refl
 types_same values.Nothing = refl
