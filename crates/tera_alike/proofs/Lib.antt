@@ -1,0 +1,6 @@
+pub mod Parts
+pub mod BodyPlaces
+pub mod BodyOutput
+pub mod BodyConditions
+pub mod Templates
+pub mod Derivations

@@ -1,0 +1,11 @@
+pub mod Defaults
+pub mod Respaced
+pub mod Likeness
+pub mod Openings
+pub mod RawPieces
+pub mod Widened
+pub mod Bytes
+pub mod Solids
+pub mod Layouts
+pub mod Written
+mod Examples

@@ -1,0 +1,342 @@
+-- What is written of the tokens of a source is its layout.
+use Rattle.std.proofs.Common.{◌≡◌, ℕ, suc, ◌-◌, Bool, true, false, ◌||◌, List, [], ◌∷◌, ◌++◌, length, map, take, drop, Option, Some, None, inl, inr, ⊎_elim, sym, ap, ap₂, ◌∙◌, refl, subst, arith, append_assoc}
+use Rattle.std.specs.Prelude.{◌⊎◌, codes, slice_range, if◌then◌else◌, string_bytes}
+use Rattle.std.specs.Str.{bytes_eq}
+use Rattle.std.specs.Option.{option_map}
+use Rattle.std.proofs.lemmas.Bool.{cases_Bool}
+use Rattle.std.proofs.lemmas.List.{length-append}
+use Rattle.tera_base.specs.Errors.{IsMemoryKind, IsMemory, KindTells}
+use Rattle.tera_base.specs.declared.errors.Error.{Error}
+use Rattle.tera_base.specs.declared.errors.ErrorKind.{ErrorKind}
+use Rattle.tera_base.specs.declared.errors.ErrorKind.TheVariants.{Memory, Message, SyntaxError}
+use Rattle.tera_base.specs.declared.utils.Span.{Span}
+use Rattle.tera_base.proofs.Tellings.{tells_weaker}
+use Rattle.tera_lexer.specs.declared.lexer.delimiters.Kind.{Kind}
+use Rattle.tera_lexer.specs.grammar.Marks.{IsValid, default_marks, start_marker, end_marker, dash_bytes}
+use Rattle.tera_lexer.specs.grammar.Place.{place_after, span_of, IsWithin}
+use Rattle.tera_lexer.specs.grammar.Faults.{IsFaultOf, IsEndOf}
+use Rattle.tera_lexer.specs.grammar.Lexeme.{Item, Lexeme, Name, Number, Quoted, Operator, spelled, has_escape, End, IsInside}
+use Rattle.tera_lexer.specs.grammar.Raw.{WordTag, word_tag_bytes, raw_word, endraw_word}
+use Rattle.tera_lexer.specs.grammar.Division.{Piece, Text, Comment, Raw, Tag, Ending, Complete, OpenTag, BadTag, OpenRaw, OpenComment, IsPiece, IsDivision}
+use Rattle.tera_lexer.specs.grammar.Trimming.{trims_start, trims_end, trimmed}
+use Rattle.tera_lexer.specs.grammar.Tiling.{in_tag_behind, Tile}
+use Rattle.tera_lexer.specs.grammar.Tokens as toks
+use Rattle.tera_lexer.specs.grammar.Tokens.{Tok, Items, Ended, Failed, Token, name_token, token_of, lexemes, tag_start, tag_end, failed, comment_bytes, raw_bytes, piece_tokens, ending_tokens, tokens_of, AreTokensOf}
+use Rattle.tera_lexer.proofs.Divisions.{division_found}
+use Rattle.tera_lexer.proofs.Slices.{span_slice}
+use Rattle.tera_lexer.proofs.Tilings.{lexeme_inside, end_splits, comment_splits, raw_splits, tokens_tile}
+use Rattle.tera_layout.proofs.Defaults.{default_valid}
+use Rattle.tera_layout.specs.declared.formatting.Reached.{Reached}
+use Rattle.tera_layout.specs.Widened.{items_bytes, word_tag_front, piece_bytes}
+use Rattle.tera_layout.specs.Layout.{laid_edge, laid_gap, laid_item, laid_items, laid_piece, laid_out_by, laid_out}
+use Rattle.tera_layout.specs.Refusal.{Refuses}
+use Rattle.tera_layout.specs.Written.{is_start, is_finish, laid_between, put, nothing, reached, token_text, written, Follow, KeepsFaults, RefusesTokens}
+
+-- Texts, one behind the other
+same_put : (f g : List ℕ → List ℕ) → ((r : List ℕ) → f r ≡ g r) → (o : Option (List ℕ)) → option_map f o ≡ option_map g o
+same_put f g h None = refl
+same_put f g h (Some r) = ap Some (h r)
+
+put_put : (f g : List ℕ → List ℕ) (o : Option (List ℕ)) → option_map f (option_map g o) ≡ option_map (λ r. f (g r)) o
+put_put f g None = refl
+put_put f g (Some r) = refl
+
+-- A lexeme is no marker
+either : (a b : List ℕ) → List ℕ → Bool
+either a b name = bytes_eq name a || bytes_eq name b
+
+name_plain : (P : Bool → Type 0) (test : Tok → Bool) (name : List ℕ) →
+    P (test (toks.Truth true)) → P (test (toks.Truth false)) → P (test (toks.Ident name)) → P (test (name_token name))
+unfolding either
+name_plain P test name right wrong other =
+    ⊎_elim
+    (λ here. rw here right)
+    (λ first. rw first (⊎_elim (λ here. rw here wrong) (λ second. rw second other) (cases_Bool (either (codes "false") (codes "False") name))))
+    (cases_Bool (either (codes "true") (codes "True") name))
+
+no_start : (l : Lexeme) → is_start (token_of l) ≡ false
+no_start (Name b bs) = name_plain (λ t. t ≡ false) is_start (b ∷ bs) refl refl refl
+no_start (Number b bs) = refl
+no_start (Quoted quote is) = ⊎_elim (λ escape. rw escape refl) (λ plain. rw plain refl) (cases_Bool (has_escape is))
+no_start (Operator op) = refl
+
+no_finish : (l : Lexeme) → is_finish (token_of l) ≡ false
+no_finish (Name b bs) = name_plain (λ t. t ≡ false) is_finish (b ∷ bs) refl refl refl
+no_finish (Number b bs) = refl
+no_finish (Quoted quote is) = ⊎_elim (λ escape. rw escape refl) (λ plain. rw plain refl) (cases_Bool (has_escape is))
+no_finish (Operator op) = refl
+
+-- how far the source is written behind some bytes of it
+abbrev behind : List ℕ → Bool → Bool → Reached
+behind front in_tag at_start = record { end = length front; in_tag = in_tag; at_start = at_start }
+
+module _ (source : List ℕ) where
+  -- a token behind a gap
+  token_written : (front gap bytes rest : List ℕ) (in_tag edge : Bool) (t : Tok) (items : Items) →
+      source ≡ front ++ (gap ++ (bytes ++ rest)) →
+      written source (behind front in_tag edge) (Token t (span_of (front ++ gap) bytes) items)
+      ≡ put (laid_between (edge || is_finish t) gap ++ bytes)
+      (written source (behind ((front ++ gap) ++ bytes) (in_tag_behind in_tag t) (is_start t)) items)
+  unfolding place_after
+  token_written front gap bytes rest in_tag edge t items splits =
+      let here : slice_range source (length front) (length (front ++ gap)) ≡ gap =
+      ap (λ s. slice_range s (length front) (length (front ++ gap))) splits ∙ span_slice front gap (bytes ++ rest) in
+      let there : slice_range source (length (front ++ gap)) (length ((front ++ gap) ++ bytes)) ≡ bytes =
+      ap (λ s. slice_range s (length (front ++ gap)) (length ((front ++ gap) ++ bytes))) (splits ∙ sym (append_assoc front gap (bytes ++ rest)))
+      ∙ span_slice (front ++ gap) bytes rest in
+      ap₂ (λ g b. put (laid_between (edge || is_finish t) g ++ b)
+      (written source (behind ((front ++ gap) ++ bytes) (in_tag_behind in_tag t) (is_start t)) items)) here there
+
+  -- a token where no gap comes first
+  token_here : (front bytes rest : List ℕ) (t : Tok) (items : Items) → source ≡ front ++ (bytes ++ rest) → is_finish t ≡ false →
+      written source (behind front false false) (Token t (span_of front bytes) items)
+      ≡ put bytes (written source (behind (front ++ bytes) (in_tag_behind false t) (is_start t)) items)
+  unfolding place_after
+  token_here front bytes rest t items splits plain =
+      let none : length front - length front ≡ 0 = omega arith in
+      let here : slice_range source (length front) (length front) ≡ [] = ap (λ n. take n (drop (length front) source)) none in
+      let there : slice_range source (length front) (length (front ++ bytes)) ≡ bytes =
+      ap (λ s. slice_range s (length front) (length (front ++ bytes))) splits ∙ span_slice front bytes rest in
+      let text : List ℕ → List ℕ → Bool → Option (List ℕ) =
+      λ g b f. put (laid_between (false || f) g ++ b) (written source (behind (front ++ bytes) (in_tag_behind false t) (is_start t)) items) in
+      ap₂ (λ g b. text g b (is_finish t)) here there ∙ ap (text [] bytes) plain
+
+  module _ (valid : IsValid default_marks) (more : Option (List ℕ)) (rest : List ℕ) (follows : List ℕ → Items)
+      (h : (g : List ℕ) → source ≡ g ++ rest → written source (behind g false false) (follows g) ≡ more) where
+    -- the lexemes of a tag, of which the first stands beside a marker or none does
+    abbrev items_from : Bool → List Item → List Item
+    items_from edge [] = []
+    items_from edge (i ∷ is) = record { gap = laid_between edge i.gap; lexeme = i.lexeme } ∷ items_from false is
+
+    abbrev end_from : List Item → Kind → List ℕ → Bool → List ℕ → List ℕ
+    end_from js kind gap last r = items_bytes js (laid_edge gap ++ (dash_bytes last ++ (end_marker kind default_marks ++ r)))
+
+    inside_written : (kind : Kind) (is : List Item) (gap : List ℕ) (last edge : Bool) (front bytes : List ℕ) → source ≡ front ++ bytes →
+        IsInside (end_marker kind default_marks) is (End gap last rest) bytes →
+        written source (behind front true edge) (lexemes front is (λ g. tag_end default_marks (g ++ gap) kind last follows))
+        ≡ option_map (end_from (items_from edge is) kind gap last) more
+    inside_written kind [] gap last edge front bytes splits (at, is_bytes, is_gap, ends) =
+        let end : List ℕ = end_marker kind default_marks in
+        let marker : List ℕ = dash_bytes last ++ end in
+        let whole : source ≡ front ++ (gap ++ (marker ++ rest)) =
+        splits ∙ ap (λ l. front ++ l) (is_bytes ∙ ap (λ l. gap ++ l) (end_splits default_marks valid end last at rest ends)) in
+        let there : source ≡ ((front ++ gap) ++ marker) ++ rest =
+        whole ∙ sym (append_assoc front gap (marker ++ rest)) ∙ sym (append_assoc (front ++ gap) marker rest) in
+        let beside : edge || true ≡ true = ⊎_elim (λ e. rw e refl) (λ e. rw e refl) (cases_Bool edge) in
+        token_written front gap marker rest true edge (toks.Finish kind last) (follows ((front ++ gap) ++ marker)) whole
+        ∙ ap₂ (λ b o. put (laid_between b gap ++ marker) o) beside (h ((front ++ gap) ++ marker) there)
+        ∙ same_put (λ r. (laid_edge gap ++ marker) ++ r) (end_from [] kind gap last)
+        (λ r. append_assoc (laid_edge gap) marker r ∙ ap (λ l. laid_edge gap ++ l) (append_assoc (dash_bytes last) end r)) more
+    inside_written kind (i ∷ is) gap last edge front bytes splits (more_bytes, is_bytes, is_gap, no_end, stands, inside) =
+        let text : List ℕ = spelled i.lexeme in
+        let whole : source ≡ front ++ (i.gap ++ (text ++ more_bytes)) = splits ∙ ap (λ l. front ++ l) is_bytes in
+        let there : source ≡ ((front ++ i.gap) ++ text) ++ more_bytes =
+        whole ∙ sym (append_assoc front i.gap (text ++ more_bytes)) ∙ sym (append_assoc (front ++ i.gap) text more_bytes) in
+        let items : Items = lexemes ((front ++ i.gap) ++ text) is (λ g. tag_end default_marks (g ++ gap) kind last follows) in
+        let beside : edge || is_finish (token_of i.lexeme) ≡ edge =
+        ap (λ b. edge || b) (no_finish i.lexeme) ∙ ⊎_elim (λ e. rw e refl) (λ e. rw e refl) (cases_Bool edge) in
+        token_written front i.gap text more_bytes true edge (token_of i.lexeme) items whole
+        ∙ ap₂ (λ b r. put (laid_between b i.gap ++ text) (written source r items)) beside
+        (ap₂ (λ b c. behind ((front ++ i.gap) ++ text) b c) (lexeme_inside i.lexeme) (no_start i.lexeme))
+        ∙ ap (put (laid_between edge i.gap ++ text)) (inside_written kind is gap last false ((front ++ i.gap) ++ text) more_bytes there inside)
+        ∙ put_put (λ r. (laid_between edge i.gap ++ text) ++ r) (end_from (items_from false is) kind gap last) more
+        ∙ same_put (λ r. (laid_between edge i.gap ++ text) ++ end_from (items_from false is) kind gap last r) (end_from (items_from edge (i ∷ is)) kind gap last)
+        (λ r. append_assoc (laid_between edge i.gap) text (end_from (items_from false is) kind gap last r)) more
+
+    items_others : (is : List Item) → items_from false is ≡ map laid_item is
+    items_others [] = refl
+    items_others (i ∷ is) = ap (λ js. record { gap = laid_gap i.gap; lexeme = i.lexeme } ∷ js) (items_others is)
+
+    items_first : (is : List Item) → items_from true is ≡ laid_items is
+    items_first [] = refl
+    items_first (i ∷ is) = ap (λ js. record { gap = laid_edge i.gap; lexeme = i.lexeme } ∷ js) (items_others is)
+
+    comment_front : (dash : Bool) (inside r : List ℕ) → comment_bytes default_marks dash inside ++ r ≡ piece_bytes default_marks (Comment dash inside) r
+    comment_front dash inside r =
+        append_assoc (codes "{#") (dash_bytes dash ++ (inside ++ codes "#}")) r
+        ∙ ap (λ l. codes "{#" ++ l) (append_assoc (dash_bytes dash) (inside ++ codes "#}") r ∙ ap (λ l. dash_bytes dash ++ l) (append_assoc inside (codes "#}") r))
+
+    word_front : (word end : List ℕ) (t : WordTag) (r : List ℕ) → word_tag_bytes word end t ++ r ≡ word_tag_front word end t r
+    word_front word end t r =
+        append_assoc (dash_bytes t.dash_in) (t.before ++ (word ++ (t.behind ++ (dash_bytes t.dash_out ++ end)))) r
+        ∙ ap (λ l. dash_bytes t.dash_in ++ l) (append_assoc t.before (word ++ (t.behind ++ (dash_bytes t.dash_out ++ end))) r
+        ∙ ap (λ l. t.before ++ l) (append_assoc word (t.behind ++ (dash_bytes t.dash_out ++ end)) r
+        ∙ ap (λ l. word ++ l) (append_assoc t.behind (dash_bytes t.dash_out ++ end) r
+        ∙ ap (λ l. t.behind ++ l) (append_assoc (dash_bytes t.dash_out) end r))))
+
+    raw_front : (dash : Bool) (opening : WordTag) (body : List ℕ) (closing : WordTag) (r : List ℕ) →
+        raw_bytes default_marks dash opening body closing ++ r ≡ piece_bytes default_marks (Raw dash opening body closing) r
+    raw_front dash opening body closing r =
+        let start : List ℕ = codes "{%" in
+        let open_tag : List ℕ = word_tag_bytes raw_word (codes "%}") opening in
+        let close_tag : List ℕ = word_tag_bytes endraw_word (codes "%}") closing in
+        append_assoc start (dash_bytes dash ++ (open_tag ++ (body ++ (start ++ close_tag)))) r
+        ∙ ap (λ l. start ++ l) (append_assoc (dash_bytes dash) (open_tag ++ (body ++ (start ++ close_tag))) r
+        ∙ ap (λ l. dash_bytes dash ++ l) (append_assoc open_tag (body ++ (start ++ close_tag)) r
+        ∙ word_front raw_word (codes "%}") opening ((body ++ (start ++ close_tag)) ++ r)
+        ∙ ap (word_tag_front raw_word (codes "%}") opening) (append_assoc body (start ++ close_tag) r
+        ∙ ap (λ l. body ++ l) (append_assoc start close_tag r
+        ∙ ap (λ l. start ++ l) (word_front endraw_word (codes "%}") closing r)))))
+
+    -- a piece whose token is its bytes
+    bytes_written : (p : Piece) (front text bytes : List ℕ) (t : Tok) → source ≡ front ++ bytes → bytes ≡ text ++ rest →
+        is_finish t ≡ false → is_start t ≡ false → in_tag_behind false t ≡ false → ((r : List ℕ) → text ++ r ≡ piece_bytes default_marks p r) →
+        written source (behind front false false) (Token t (span_of front text) (follows (front ++ text)))
+        ≡ option_map (piece_bytes default_marks p) more
+    bytes_written p front text bytes t splits is_bytes no_end no_begin outside same =
+        let whole : source ≡ front ++ (text ++ rest) = splits ∙ ap (λ l. front ++ l) is_bytes in
+        token_here front text rest t (follows (front ++ text)) whole no_end
+        ∙ ap₂ (λ a b. put text (written source (behind (front ++ text) a b) (follows (front ++ text)))) outside no_begin
+        ∙ ap (put text) (h (front ++ text) (whole ∙ sym (append_assoc front text rest)))
+        ∙ same_put (λ r. text ++ r) (piece_bytes default_marks p) same more
+
+    piece_written : (p : Piece) (start end : Bool) (front bytes : List ℕ) → source ≡ front ++ bytes → IsPiece default_marks p bytes rest →
+        written source (behind front false false) (piece_tokens default_marks front start end p follows)
+        ≡ option_map (piece_bytes default_marks (laid_piece p)) more
+    piece_written (Text text) start end front bytes splits (is_bytes, some, nowhere, ends) =
+        bytes_written (Text text) front text bytes (toks.Content (trimmed start end text)) splits is_bytes refl refl refl (λ r. refl)
+    piece_written (Comment dash inside) start end front bytes splits piece =
+        bytes_written (Comment dash inside) front (comment_bytes default_marks dash inside) bytes (toks.Content []) splits
+        (comment_splits default_marks valid dash inside bytes rest piece) refl refl refl (comment_front dash inside)
+    piece_written (Raw dash opening body closing) start end front bytes splits piece =
+        bytes_written (Raw dash opening body closing) front (raw_bytes default_marks dash opening body closing) bytes
+        (toks.Content (trimmed (opening.dash_out || start) (closing.dash_in || end) body)) splits
+        (raw_splits default_marks valid dash opening body closing bytes rest piece) refl refl refl (raw_front dash opening body closing)
+    piece_written (Tag kind dash items gap last) start end front bytes splits (inside, (is_bytes, takes), opens, stands) =
+        let first : List ℕ = start_marker kind default_marks ++ dash_bytes dash in
+        let whole : source ≡ front ++ (first ++ inside) =
+        splits ∙ ap (λ l. front ++ l) (is_bytes ∙ sym (append_assoc (start_marker kind default_marks) (dash_bytes dash) inside)) in
+        let there : source ≡ (front ++ first) ++ inside = whole ∙ sym (append_assoc front first inside) in
+        token_here front first inside (toks.Start kind dash) (lexemes (front ++ first) items (λ g. tag_end default_marks (g ++ gap) kind last follows)) whole refl
+        ∙ ap (put first) (inside_written kind items gap last true (front ++ first) inside there stands)
+        ∙ ap (λ js. put first (option_map (end_from js kind gap last) more)) (items_first items)
+        ∙ put_put (λ r. first ++ r) (end_from (laid_items items) kind gap last) more
+        ∙ same_put (λ r. first ++ end_from (laid_items items) kind gap last r) (piece_bytes default_marks (laid_piece (Tag kind dash items gap last)))
+        (λ r. append_assoc (start_marker kind default_marks) (dash_bytes dash) (end_from (laid_items items) kind gap last r)) more
+
+  -- nothing is written where the tokens end in a tag or in a fault
+  open_written : (is : List Item) (last : List ℕ → Items) → ((g : List ℕ) (r : Reached) → r.in_tag ≡ true → written source r (last g) ≡ None) →
+      (front : List ℕ) (r : Reached) → r.in_tag ≡ true → written source r (lexemes front is last) ≡ None
+  open_written [] last h front r inside = h front r inside
+  open_written (i ∷ is) last h front r inside =
+      let t : Tok = token_of i.lexeme in
+      let span : Span = span_of (front ++ i.gap) (spelled i.lexeme) in
+      ap (put (token_text source r t span))
+      (open_written is last h ((front ++ i.gap) ++ spelled i.lexeme) (reached r t span.range.end) (ap (λ b. in_tag_behind b t) inside ∙ lexeme_inside i.lexeme))
+
+  ending_written : (ending : Ending) (front : List ℕ) →
+      written source (behind front false false) (ending_tokens default_marks front ending) ≡ laid_out_by ([], ending)
+  ending_written Complete front = refl
+  ending_written (OpenTag kind dash items gap) front =
+      let first : List ℕ = start_marker kind default_marks ++ dash_bytes dash in
+      let at : Reached = behind front false false in
+      let span : Span = span_of front first in
+      ap (put (token_text source at (toks.Start kind dash) span))
+      (open_written items (λ g. Ended) (λ g r inside. ap (λ b. if b then None else Some []) inside) (front ++ first) (reached at (toks.Start kind dash) span.range.end) refl)
+  ending_written (BadTag kind dash items gap fault at_fault) front =
+      let first : List ℕ = start_marker kind default_marks ++ dash_bytes dash in
+      let at : Reached = behind front false false in
+      let span : Span = span_of front first in
+      ap (put (token_text source at (toks.Start kind dash) span))
+      (open_written items (λ g. failed (g ++ gap) fault) (λ g r inside. refl) (front ++ first) (reached at (toks.Start kind dash) span.range.end) refl)
+  ending_written (OpenRaw dash) front = refl
+  ending_written (OpenComment dash) front = refl
+
+  laid_more : (p : Piece) (ps : List Piece) (ending : Ending) →
+      option_map (piece_bytes default_marks (laid_piece p)) (laid_out_by (ps, ending)) ≡ laid_out_by (p ∷ ps, ending)
+  laid_more p ps Complete = refl
+  laid_more p ps (OpenTag kind dash items gap) = refl
+  laid_more p ps (BadTag kind dash items gap fault at) = refl
+  laid_more p ps (OpenRaw dash) = refl
+  laid_more p ps (OpenComment dash) = refl
+
+  pieces_written : IsValid default_marks → (ps : List Piece) (ending : Ending) (left : List Piece) (front bytes : List ℕ) →
+      source ≡ front ++ bytes → IsDivision default_marks ps ending bytes →
+      written source (behind front false false) (tokens_of default_marks front left ps ending) ≡ laid_out_by (ps, ending)
+  pieces_written valid [] ending left front bytes splits divides = ending_written ending front
+  pieces_written valid (p ∷ ps) ending left front bytes splits (rest, piece, divides) =
+      piece_written valid (laid_out_by (ps, ending)) rest (λ f. tokens_of default_marks f (p ∷ left) ps ending)
+      (λ g there. pieces_written valid ps ending (p ∷ left) g rest there divides)
+      p (trims_start left) (trims_end ps ending) front bytes splits piece
+      ∙ laid_more p ps ending
+
+pub layout_written : (source : List ℕ) (items : Items) → AreTokensOf default_marks source items →
+    written source (behind [] false false) items ≡ laid_out source
+layout_written source items (ps, ending, divides, is) =
+    ap (written source (behind [] false false)) is
+    ∙ pieces_written source default_valid ps ending [] [] source refl divides
+    ∙ sym (ap laid_out_by (division_found default_marks default_valid ps ending (suc (length source)) source divides (omega arith)))
+
+-- Each token begins where the one before it ends, or later
+pub tile_follow : (items : Items) (inside : Bool) (front rest : List ℕ) → Tile inside front rest items → Follow (length front) items
+unfolding place_after
+tile_follow Ended inside front rest tile = tt
+tile_follow (Failed text span) inside front rest tile = tt
+tile_follow (Token t span items) inside front rest (gap, bytes, more, e, between, some, belongs, shows, is, tile) =
+    let start : span.range.start ≡ length (front ++ gap) = ap (λ (s : Span). s.range.start) is in
+    let end : span.range.end ≡ length ((front ++ gap) ++ bytes) = ap (λ (s : Span). s.range.end) is in
+    (omega (arith, start, length-append front gap), subst (λ n. Follow n items) (sym end) (tile_follow items (in_tag_behind inside t) ((front ++ gap) ++ bytes) more tile))
+
+pub source_follow : (source : List ℕ) (items : Items) → AreTokensOf default_marks source items → Follow 0 items
+source_follow source items are = tile_follow items false [] source (tokens_tile default_marks default_valid source items are)
+
+-- What is answered of the tokens of a source
+put_nil : (o : Option (List ℕ)) → put [] o ≡ o
+put_nil None = refl
+put_nil (Some r) = refl
+
+pub source_written : (source old new : List ℕ) (items : Items) → AreTokensOf default_marks source items → old ≡ [] →
+    put old (written source nothing items) ≡ Some new → laid_out source ≡ Some new
+source_written source old new items are empty is =
+    sym (layout_written source items are) ∙ sym (put_nil (written source nothing items))
+    ∙ ap (λ text. put text (written source nothing items)) (sym empty) ∙ is
+
+pub source_refused : (source : List ℕ) (items : Items) (e : Error) → AreTokensOf default_marks source items →
+    RefusesTokens source items e → Refuses source e
+source_refused source items e are =
+    tells_weaker
+    (λ text span. IsWithin source span × (written source nothing items ≡ None) × (IsFaultOf items text span ⊎ IsEndOf items text span))
+    (λ text span. IsWithin source span × (laid_out source ≡ None)
+    × ((tokens : Items) × AreTokensOf default_marks source tokens × (IsFaultOf tokens text span ⊎ IsEndOf tokens text span)))
+    e
+    (λ text span (within, none, fault). (within, sym (layout_written source items are) ∙ none, (items, are, fault)))
+
+some_none : {text : List ℕ} → None ≡ Some text → ⊥
+some_none e = cc
+
+kind_memory : (P : List ℕ → Span → Type 0) (k : ErrorKind) → ((text : List ℕ) (span : Span) → P text span → ⊥) → KindTells P k → IsMemoryKind k
+kind_memory P Memory never told = tt
+kind_memory P (Message s) never told = absurd told
+kind_memory P (SyntaxError b) never told = absurd (never (string_bytes b.value.message) b.value.span told)
+
+-- a source that has a layout is refused for want of memory alone
+pub laid_refused : (source layout : List ℕ) (e : Error) → laid_out source ≡ Some layout → Refuses source e → IsMemory e
+laid_refused source layout e is told =
+    kind_memory
+    (λ text span. IsWithin source span × (laid_out source ≡ None)
+    × ((tokens : Items) × AreTokensOf default_marks source tokens × (IsFaultOf tokens text span ⊎ IsEndOf tokens text span)))
+    e.kind (λ text span (within, none, fault). some_none (sym none ∙ is)) told
+
+-- One token further
+pub first_kept : (items : Items) (last : Span) → KeepsFaults items last items
+first_kept Ended last text span = (λ h. h, λ ends. inr refl)
+first_kept (Failed told here) last text span = (λ h. h, λ ends. absurd ends)
+first_kept (Token t here items) last text span = (λ h. h, λ ends. inl ends)
+
+pub token_kept : (items : Items) (last : Span) (t : Tok) (here : Span) (left : Items) → KeepsFaults items last (Token t here left) → KeepsFaults items here left
+token_kept items last t here left h text span = h text span
+
+put_append : (a b : List ℕ) (o : Option (List ℕ)) → put (a ++ b) o ≡ put a (put b o)
+put_append a b None = refl
+put_append a b (Some r) = ap Some (append_assoc a b r)
+
+pub text_kept : (source out new : List ℕ) (r next : Reached) (t : Tok) (span : Span) (left : Items) →
+    new ≡ out ++ token_text source r t span → next ≡ reached r t span.range.end →
+    put new (written source next left) ≡ put out (written source r (Token t span left))
+text_kept source out new r next t span left is is_next =
+    ap₂ (λ n k. put n (written source k left)) is is_next
+    ∙ put_append out (token_text source r t span) (written source (reached r t span.range.end) left)
+
+pub nothing_is : (r : Reached) → r.end ≡ 0 → r.in_tag ≡ false → r.at_start ≡ false → r ≡ nothing
+nothing_is r end in_tag at_start =
+    ap₂ (λ n t. record { end = n; in_tag = t; at_start = r.at_start }) end in_tag ∙ ap (λ s. record { end = 0; in_tag = false; at_start = s }) at_start

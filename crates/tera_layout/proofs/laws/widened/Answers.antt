@@ -1,0 +1,5 @@
+use Rattle.tera_layout.proofs.Widened.{widened_respaced}
+use Rattle.tera_layout.proofs.laws.widened.Goals as goal
+
+pub returns : goal.returns
+returns c = λ ps qs one h w. widened_respaced ps qs one h w

@@ -1,0 +1,6 @@
+pub mod Layout
+pub mod Refusal
+pub mod Widened
+pub mod Respaced
+pub mod Alike
+pub mod Written

@@ -1,0 +1,70 @@
+-- The layout as it is written: token by token, each with what stands in the place of the gap before it.
+use Rattle.std.specs.Prelude.{◌≡◌, ◌⊎◌, ◌≤◌, ℕ, Bool, true, false, ◌||◌, if◌then◌else◌, List, [], ◌++◌, Option, Some, None, slice_range}
+use Rattle.std.specs.Option.{option_map}
+use Rattle.tera_base.specs.Errors.{TellsBy}
+use Rattle.tera_base.specs.declared.utils.Span.{Span}
+use Rattle.tera_base.specs.declared.errors.Error.{Error}
+use Rattle.tera_lexer.specs.grammar.Place.{IsWithin}
+use Rattle.tera_lexer.specs.grammar.Faults.{IsFaultOf, IsEndBehind, IsEndOf}
+use Rattle.tera_lexer.specs.grammar.Tiling.{in_tag_behind}
+use Rattle.tera_lexer.specs.grammar.Tokens as toks
+use Rattle.tera_lexer.specs.grammar.Tokens.{Tok, Items, Ended, Failed, Token}
+use Rattle.tera_layout.specs.Layout.{laid_edge, laid_gap}
+use Rattle.tera_layout.specs.declared.formatting.Reached.{Reached}
+
+-- the token is the start, the end of a tag
+abbrev pub is_start : Tok → Bool
+is_start (toks.Start kind dash) = true
+is_start t = false
+
+abbrev pub is_finish : Tok → Bool
+is_finish (toks.Finish kind dash) = true
+is_finish t = false
+
+-- what stands in the place of a gap, beside a marker or not
+abbrev pub laid_between : Bool → List ℕ → List ℕ
+laid_between edge gap = if edge then laid_edge gap else laid_gap gap
+
+-- a text and what is written behind it, if that is
+abbrev pub put : List ℕ → Option (List ℕ) → Option (List ℕ)
+put text written = option_map (λ more. text ++ more) written
+
+-- before the first token
+abbrev pub nothing : Reached
+nothing = record { end = 0; in_tag = false; at_start = false }
+
+-- behind a token that ends there
+abbrev pub reached : Reached → Tok → ℕ → Reached
+reached r t end = record { end = end; in_tag = in_tag_behind r.in_tag t; at_start = is_start t }
+
+-- what is written of a token and the gap before it
+abbrev pub token_text : List ℕ → Reached → Tok → Span → List ℕ
+token_text source r t span =
+    laid_between (r.at_start || is_finish t) (slice_range source r.end span.range.start)
+    ++ slice_range source span.range.start span.range.end
+
+-- what is written of tokens that stand behind what was reached: nothing where they end in a fault, or in a tag
+abbrev pub written : List ℕ → Reached → Items → Option (List ℕ)
+written source r Ended = if r.in_tag then None else Some []
+written source r (Failed text span) = None
+written source r (Token t span items) = put (token_text source r t span) (written source (reached r t span.range.end) items)
+
+-- each token begins where the one before it ends, or later
+abbrev pub Follow : ℕ → Items → Type 0
+Follow end Ended = Unit {0}
+Follow end (Failed text span) = Unit {0}
+Follow end (Token t span items) = (end ≤ span.range.start) × Follow span.range.end items
+
+-- a fault of the tokens that are left, or their end behind the last that was taken, is one of all
+abbrev pub KeepsFaults : Items → Span → Items → Type 0
+KeepsFaults items last left =
+    (text : List ℕ) (span : Span) →
+    (IsFaultOf left text span → IsFaultOf items text span)
+    × (IsEndBehind last left text span → IsEndOf items text span ⊎ (items ≡ Ended))
+
+-- a refusal of tokens: nothing is written of them, and what is told is the fault in which they end, or their end where a
+-- tag is open
+abbrev pub RefusesTokens : List ℕ → Items → Error → Type 0
+RefusesTokens source items e =
+    TellsBy (λ text span. IsWithin source span × (written source nothing items ≡ None)
+    × (IsFaultOf items text span ⊎ IsEndOf items text span)) e

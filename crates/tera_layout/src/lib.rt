@@ -1,0 +1,15 @@
+//! The layout of the sources of the template engine Tera: white space in tags as it is usually
+//! written.
+//!
+//! It takes a source and gives its layout (`format`), or the fault for which the source has none. It
+//! stands on `tera_lexer`.
+//!
+//! In the order of reading: specs `Layout`, and of `Widened` what the bytes of pieces are;
+//! `formatting`, which writes the layout, with the specs `Written`. Then `laws`, with the specs
+//! `Respaced`, `Alike` and `Widened`. `Examples` in `proofs` runs the layout.
+#![tactic(auto)]
+
+mod formatting;
+pub mod laws;
+
+pub use formatting::format;

@@ -1,0 +1,5 @@
+//! Tests of layouts, and of refusals of sources that have none.
+#![tactic(auto)]
+
+#[cfg(test)]
+mod layouts;
