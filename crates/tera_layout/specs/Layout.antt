@@ -2,6 +2,7 @@
 -- white space; but white space with a line feed stays as it is.
 use Rattle.std.specs.Prelude.{◌≡◌, ◌==◌, ℕ, Bool, if◌then◌else◌, List, [], ◌∷◌, map, Option, Some, None}
 use Rattle.std.specs.List.{list_any}
+use Rattle.tera_lexer.specs.grammar.Bytes.{line_feed, space}
 use Rattle.tera_lexer.specs.grammar.Marks.{default_marks}
 use Rattle.tera_lexer.specs.grammar.Lexeme.{Item}
 use Rattle.tera_lexer.specs.grammar.Division.{Piece, Tag, Ending, Complete, IsDivision}
@@ -9,11 +10,11 @@ use Rattle.tera_lexer.specs.reading.Front.{division_of}
 use Rattle.tera_layout.specs.Widened.{pieces_bytes}
 
 abbrev pub has_line_feed : List ℕ → Bool
-has_line_feed gap = list_any (λ b. b == 10) gap
+has_line_feed gap = list_any (λ b. b == line_feed) gap
 
 -- what stands in the place of a gap beside a marker
 abbrev pub laid_edge : List ℕ → List ℕ
-laid_edge gap = if has_line_feed gap then gap else 32 ∷ []
+laid_edge gap = if has_line_feed gap then gap else space ∷ []
 
 -- what stands in the place of another gap: nothing only where nothing stood
 abbrev pub laid_gap : List ℕ → List ℕ

@@ -1,3 +1,4 @@
+pub mod Bytes
 pub mod Place
 pub mod Marks
 pub mod Lexeme

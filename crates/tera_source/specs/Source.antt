@@ -2,6 +2,7 @@
 use Rattle.std.specs.Prelude.{ℕ, ℤ, Bool, suc, true, false, ◌||◌, ltb, cond, nat_eq, pos, negsuc, List, [], ◌∷◌, Option, Some, None, codes}
 use Rattle.std.specs.List.{list_any}
 use Rattle.std.specs.Str.{bytes_eq}
+use Rattle.tera_lexer.specs.grammar.Bytes.{dot}
 use Rattle.tera_lexer.specs.grammar.Tokens.{Ended}
 use Rattle.tera_lexer.specs.code.Cursors.{nowhere}
 use Rattle.tera_base.specs.Values as values
@@ -127,7 +128,7 @@ longer b x = record { name = word (b ∷ x.name.text); further = x.further }
 
 abbrev pub path_from : List ℕ → Path
 path_from [] = record { name = word []; further = no_dots }
-path_from (b ∷ bs) = cond (nat_eq b 46)
+path_from (b ∷ bs) = cond (nat_eq b dot)
     (record { name = word []; further = dots nowhere (path_from bs).name (path_from bs).further })
     (longer b (path_from bs))
 

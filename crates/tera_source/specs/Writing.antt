@@ -1,5 +1,6 @@
 -- The text that is written for an expression, form by form.
 use Rattle.std.specs.Prelude.{ℕ, ℤ, pos, negsuc, suc, Bool, true, false, nat_eq, cond, if◌then◌else◌, List, [], ◌∷◌, ◌++◌, Option, None, Some, codes}
+use Rattle.tera_lexer.specs.grammar.Bytes.{dot}
 use Rattle.tera_spelling.specs.Spelling.{in_quotes}
 use Rattle.std.specs.Fmt.{decimal, signed_decimal}
 use Rattle.std.specs.Str.{bytes_eq}
@@ -22,7 +23,7 @@ use Rattle.tera_source.specs.Contexts.{free, above, before, behind, behind_prefi
 -- a space stands around each dot in the name of a component
 abbrev pub dotted : List ℕ → List ℕ
 dotted [] = []
-dotted (b ∷ bs) = cond (nat_eq b 46) (codes " . " ++ dotted bs) (b ∷ dotted bs)
+dotted (b ∷ bs) = cond (nat_eq b dot) (codes " . " ++ dotted bs) (b ∷ dotted bs)
 
 -- what stands before one of several
 abbrev pub comma_text : Bool → List ℕ

@@ -2,6 +2,7 @@
 use Rattle.std.specs.Prelude.{◌≡◌, ℕ, Bool, true, false, ◌||◌, ◌==◌, if◌then◌else◌, List, [], ◌∷◌, ◌++◌, Some, codes}
 use Rattle.std.specs.List.{AllByRecursion, list_any}
 use Rattle.std.specs.Fmt.{signed_decimal}
+use Rattle.tera_lexer.specs.grammar.Bytes.{double_quote, backslash}
 use Rattle.tera_lexer.specs.grammar.Lexeme.{begins_name, goes_on_name, operator_at}
 use Rattle.tera_lexer.specs.grammar.Lexed.{IsCount}
 use Rattle.tera_lexer.specs.grammar.Tokens.{Tok, Ident, Str, Escaped, Integer, Truth, Symbol, Items, Ended, Failed, Token, name_token}
@@ -13,7 +14,7 @@ IsName (b ∷ bs) = (begins_name b ≡ true) × AllByRecursion (λ c. goes_on_na
 
 -- a double quote and a backslash stand behind a backslash
 abbrev pub is_special : ℕ → Bool
-is_special b = b == 34 || b == 92
+is_special b = b == double_quote || b == backslash
 
 -- a name that is no word for a truth; a string, which has escapes where its text has something special; a number
 -- of 0 .. 9223372036854775807; a truth; an operator
@@ -33,10 +34,10 @@ AreSpelled (Token t span items) = IsSpelled t × AreSpelled items
 
 abbrev pub with_escapes : List ℕ → List ℕ
 with_escapes [] = []
-with_escapes (b ∷ bs) = if is_special b then 92 ∷ b ∷ with_escapes bs else b ∷ with_escapes bs
+with_escapes (b ∷ bs) = if is_special b then backslash ∷ b ∷ with_escapes bs else b ∷ with_escapes bs
 
 abbrev pub in_quotes : List ℕ → List ℕ
-in_quotes text = 34 ∷ (with_escapes text ++ 34 ∷ [])
+in_quotes text = double_quote ∷ (with_escapes text ++ double_quote ∷ [])
 
 -- the bytes of a token; the others have none
 abbrev pub spelling : Tok → List ℕ

@@ -1,5 +1,6 @@
 -- Tokens without where they lie in memory.
 use Rattle.std.specs.Prelude.{ℕ, string_bytes, List, ◌∷◌, ◌++◌, [], codes}
+use Rattle.tera_lexer.specs.grammar.Bytes.{backquote}
 use Rattle.tera_lexer.specs.grammar.Tokens as toks
 use Rattle.tera_lexer.specs.grammar.Tokens.{Tok, Remark, Start, Finish, Escaped, Truth, Symbol}
 use Rattle.tera_lexer.specs.declared.lexer.delimiters.Kind.TheVariants.{Variable, Block}
@@ -65,4 +66,4 @@ displayed (toks.Str s) = codes "string"
 displayed (Escaped s) = codes "string"
 displayed (toks.Integer n) = codes "integer"
 displayed (Truth b) = codes "bool"
-displayed (Symbol op) = 96 ∷ (op ++ 96 ∷ [])
+displayed (Symbol op) = backquote ∷ (op ++ backquote ∷ [])

@@ -2,6 +2,7 @@
 use Rattle.std.specs.Prelude.{◌≡◌, ◌≢◌, ◌⊎◌, ℕ, ◌+◌, ◌-◌, ◌*◌, ◌^◌, ◌<◌, ◌≤◌, Bool, true, false, not, ◌||◌, ◌==◌, if◌then◌else◌, List, [], ◌∷◌, ◌++◌, Option, Some, None, find, codes}
 use Rattle.std.specs.List.{AllByRecursion, list_any}
 use Rattle.std.specs.Char.{is_ascii_digit, is_ascii_alphabetic, is_ascii_alphanumeric, is_ascii_whitespace}
+use Rattle.tera_lexer.specs.grammar.Bytes.{line_feed, tab, carriage_return, double_quote, single_quote, backquote, dash_byte, dot, slash, digit_zero, backslash, underscore, letter_n, letter_r, letter_t}
 use Rattle.tera_lexer.specs.grammar.Marks.{begins}
 
 -- the bytes are none, or their first fails the test
@@ -18,13 +19,13 @@ abbrev pub IsGap : List ℕ → List ℕ → Type 0
 IsGap gap rest = IsRun is_ascii_whitespace gap rest
 
 abbrev pub begins_name : ℕ → Bool
-begins_name b = is_ascii_alphabetic b || b == 95
+begins_name b = is_ascii_alphabetic b || b == underscore
 
 abbrev pub goes_on_name : ℕ → Bool
-goes_on_name b = is_ascii_alphanumeric b || b == 95
+goes_on_name b = is_ascii_alphanumeric b || b == underscore
 
 abbrev pub is_quote : ℕ → Bool
-is_quote b = b == 34 || (b == 39 || b == 96)
+is_quote b = b == double_quote || (b == single_quote || b == backquote)
 
 -- what stands between two quotes: a byte that is neither that quote nor a backslash; a backslash with
 -- the byte behind it
@@ -33,14 +34,14 @@ pub data Inner : Type 0 where
   Escape : ℕ → Inner
 
 abbrev pub IsInner : ℕ → Inner → Type 0
-IsInner quote (Plain b) = (b ≢ quote) × (b ≢ 92)
+IsInner quote (Plain b) = (b ≢ quote) × (b ≢ backslash)
 IsInner quote (Escape b) = Unit {0}
 
 -- the bytes of the inside of a string
 abbrev pub written : List Inner → List ℕ
 written [] = []
 written (Plain b ∷ is) = b ∷ written is
-written (Escape b ∷ is) = 92 ∷ b ∷ written is
+written (Escape b ∷ is) = backslash ∷ b ∷ written is
 
 abbrev pub is_escape : Inner → Bool
 is_escape (Plain b) = false
@@ -52,7 +53,7 @@ has_escape is = list_any is_escape is
 -- the escapes that are known: of the two quotes, of the slash and the backslash, and of a line feed, a tab
 -- and a carriage return
 abbrev pub is_known : ℕ → Bool
-is_known b = list_any (λ c. c == b) (34 ∷ 39 ∷ 47 ∷ 92 ∷ codes "ntr")
+is_known b = list_any (λ c. c == b) (double_quote ∷ single_quote ∷ slash ∷ backslash ∷ codes "ntr")
 
 abbrev pub is_unknown_escape : Inner → Bool
 is_unknown_escape (Plain b) = false
@@ -63,7 +64,8 @@ has_unknown_escape is = list_any is_unknown_escape is
 
 -- what a known escape stands for
 abbrev pub escaped : ℕ → ℕ
-escaped b = if b == 110 then 10 else (if b == 116 then 9 else (if b == 114 then 13 else b))
+escaped b =
+    if b == letter_n then line_feed else (if b == letter_t then tab else (if b == letter_r then carriage_return else b))
 
 -- the text that a string stands for
 abbrev pub value_of : List Inner → List ℕ
@@ -100,7 +102,7 @@ operator_at bytes = first_of (long_operator_at bytes) (short_operator_at bytes)
 -- the number that these digits write
 abbrev pub decimal_from : ℕ → List ℕ → ℕ
 decimal_from n [] = n
-decimal_from n (b ∷ bs) = decimal_from (n * 10 + (b - 48)) bs
+decimal_from n (b ∷ bs) = decimal_from (n * 10 + (b - digit_zero)) bs
 
 abbrev pub decimal : List ℕ → ℕ
 decimal bs = decimal_from 0 bs
@@ -135,7 +137,7 @@ IsQuoted quote is = (is_quote quote ≡ true) × AllByRecursion (IsInner quote) 
 -- the lexeme stands there, before rest
 abbrev pub IsLexeme : Lexeme → List ℕ → Type 0
 IsLexeme (Name b bs) rest = (begins_name b ≡ true) × IsRun goes_on_name bs rest
-IsLexeme (Number b bs) rest = AreDigits b bs rest × (begins (46 ∷ []) rest ≡ false) × (decimal (b ∷ bs) < 2 ^ 63)
+IsLexeme (Number b bs) rest = AreDigits b bs rest × (begins (dot ∷ []) rest ≡ false) × (decimal (b ∷ bs) < 2 ^ 63)
 IsLexeme (Quoted quote is) rest = IsQuoted quote is × (has_unknown_escape is ≡ false)
 IsLexeme (Operator op) rest = operator_at (op ++ rest) ≡ Some op
 
@@ -154,7 +156,7 @@ told Unexpected = []
 told (Unclosed quote) = []
 told (UnknownEscape quote is) = quoted quote is
 told (TooGreat b bs) = b ∷ bs
-told (Float b bs more) = b ∷ (bs ++ 46 ∷ more)
+told (Float b bs more) = b ∷ (bs ++ dot ∷ more)
 
 -- the first byte begins no lexeme
 abbrev pub BeginsNothing : List ℕ → Type 0
@@ -165,7 +167,7 @@ BeginsNothing (b ∷ bs) =
 -- no quote closes in these bytes, which may end behind a backslash
 abbrev pub IsUnclosed : ℕ → List ℕ → Type 0
 IsUnclosed quote bytes =
-    (is : List Inner) × AllByRecursion (IsInner quote) is × ((bytes ≡ written is) ⊎ (bytes ≡ written is ++ 92 ∷ []))
+    (is : List Inner) × AllByRecursion (IsInner quote) is × ((bytes ≡ written is) ⊎ (bytes ≡ written is ++ backslash ∷ []))
 
 -- the fault stands at the front of the bytes
 abbrev pub IsFault : Fault → List ℕ → Type 0
@@ -174,9 +176,9 @@ IsFault (Unclosed quote) bytes = (rest : List ℕ) × (bytes ≡ quote ∷ rest)
 IsFault (UnknownEscape quote is) bytes =
     (rest : List ℕ) × (bytes ≡ quoted quote is ++ rest) × IsQuoted quote is × (has_unknown_escape is ≡ true)
 IsFault (TooGreat b bs) bytes =
-    (rest : List ℕ) × (bytes ≡ b ∷ (bs ++ rest)) × AreDigits b bs rest × (begins (46 ∷ []) rest ≡ false) × (2 ^ 63 ≤ decimal (b ∷ bs))
+    (rest : List ℕ) × (bytes ≡ b ∷ (bs ++ rest)) × AreDigits b bs rest × (begins (dot ∷ []) rest ≡ false) × (2 ^ 63 ≤ decimal (b ∷ bs))
 IsFault (Float b bs more) bytes =
-    (rest : List ℕ) × (bytes ≡ b ∷ (bs ++ 46 ∷ (more ++ rest))) × (is_ascii_digit b ≡ true) × AllByRecursion (λ d. is_ascii_digit d ≡ true) bs × IsRun is_ascii_digit more rest
+    (rest : List ℕ) × (bytes ≡ b ∷ (bs ++ dot ∷ (more ++ rest))) × (is_ascii_digit b ≡ true) × AllByRecursion (λ d. is_ascii_digit d ≡ true) bs × IsRun is_ascii_digit more rest
 
 -- a lexeme with the gap before it
 pub record Item : Type 0 where
@@ -192,12 +194,12 @@ pub data Close : Type 0 where
 
 -- the tag ends here: at a dash with the end marker, or at the end marker
 abbrev pub is_at_end : List ℕ → List ℕ → Bool
-is_at_end end bytes = begins (45 ∷ end) bytes || begins end bytes
+is_at_end end bytes = begins (dash_byte ∷ end) bytes || begins end bytes
 
 -- the end marker with a dash or none; one that stands there with a dash in front is taken with it
 abbrev pub IsEnd : List ℕ → Bool → List ℕ → List ℕ → Type 0
-IsEnd end true at rest = at ≡ 45 ∷ (end ++ rest)
-IsEnd end false at rest = (at ≡ end ++ rest) × (begins (45 ∷ end) at ≡ false)
+IsEnd end true at rest = at ≡ dash_byte ∷ (end ++ rest)
+IsEnd end false at rest = (at ≡ end ++ rest) × (begins (dash_byte ∷ end) at ≡ false)
 
 abbrev pub IsClose : List ℕ → Close → List ℕ → Type 0
 IsClose end (End gap dash rest) bytes = (at : List ℕ) × (bytes ≡ gap ++ at) × IsGap gap at × IsEnd end dash at rest

@@ -2,6 +2,7 @@
 use Rattle.std.specs.Prelude.{◌≡◌, ◌≢◌, ℕ, Bool, true, false, List, [], ◌∷◌, ◌++◌, length, nat_eq, codes, IsUtf8}
 use Rattle.std.specs.List.{starts_with}
 use Rattle.std.specs.Cow.{cow_str_bytes}
+use Rattle.tera_lexer.specs.grammar.Bytes.{dash_byte}
 use Rattle.tera_lexer.specs.declared.lexer.delimiters.Delimiters.{Delimiters}
 use Rattle.tera_lexer.specs.declared.lexer.delimiters.Kind.{Kind}
 use Rattle.tera_lexer.specs.declared.lexer.delimiters.Kind.TheVariants.{Variable, Block}
@@ -75,10 +76,10 @@ NowhereIn test (b ∷ bs) rest = (test (b ∷ (bs ++ rest)) ≡ false) × Nowher
 
 -- a dash, or none
 abbrev pub dash_bytes : Bool → List ℕ
-dash_bytes true = 45 ∷ []
+dash_bytes true = dash_byte ∷ []
 dash_bytes false = []
 
 -- a dash is taken wherever one stands
 abbrev pub TakesDash : Bool → List ℕ → Type 0
 TakesDash true rest = Unit {0}
-TakesDash false rest = begins (45 ∷ []) rest ≡ false
+TakesDash false rest = begins (dash_byte ∷ []) rest ≡ false

@@ -2,11 +2,12 @@
 use Rattle.std.specs.Prelude.{ℕ, nat_eq, Bool, false, ◌||◌, if◌then◌else◌, List, [], ◌∷◌}
 use Rattle.std.specs.List.{ends_with}
 use Rattle.std.specs.Str.{trim_start, trim_end}
+use Rattle.tera_lexer.specs.grammar.Bytes.{dash_byte}
 use Rattle.tera_lexer.specs.grammar.Division.{Piece, Text, Comment, Raw, Tag, Ending, Complete, OpenTag, BadTag, OpenRaw, OpenComment}
 
 -- the end of a comment has a dash where the last byte before it is one
 abbrev pub ends_dashed : List ℕ → Bool
-ends_dashed inside = ends_with nat_eq inside (45 ∷ [])
+ends_dashed inside = ends_with nat_eq inside (dash_byte ∷ [])
 
 -- of the pieces to the left, the nearest first: going over comments whose end has no dash, the nearest other is
 -- one whose end has a dash

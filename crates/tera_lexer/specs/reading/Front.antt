@@ -3,6 +3,7 @@
 use Rattle.std.specs.Prelude.{ℕ, zero, suc, ◌+◌, ◌^◌, Bool, true, false, not, if◌then◌else◌, nat_lt, ◌==◌, List, [], ◌∷◌, length, take, drop, codes, Option, Some, None}
 use Rattle.std.specs.List.{prefix_len, list_any}
 use Rattle.std.specs.Char.{is_ascii_digit, is_ascii_whitespace}
+use Rattle.tera_lexer.specs.grammar.Bytes.{dash_byte, dot, backslash}
 use Rattle.tera_lexer.specs.grammar.Marks.{Marks, end_marker, begins, dash_bytes}
 use Rattle.tera_lexer.specs.grammar.Lexeme.{begins_name, goes_on_name, is_quote, Inner, Plain, Escape, is_known, escaped, has_unknown_escape, operator_at, decimal, Lexeme, Name, Number, Quoted, Operator, Fault, Unexpected, Unclosed, UnknownEscape, TooGreat, Float, Item, Close, End, Open, Bad}
 use Rattle.tera_lexer.specs.grammar.Raw.{WordTag, raw_word, endraw_word}
@@ -32,7 +33,7 @@ string_at quote [] = None
 string_at quote (b ∷ []) = if b == quote then Some ([], []) else None
 string_at quote (b ∷ c ∷ cs) =
     if b == quote then Some ([], c ∷ cs)
-    else (if b == 92 then with_inner (Escape c) (string_at quote cs) else with_inner (Plain b) (string_at quote (c ∷ cs)))
+    else (if b == backslash then with_inner (Escape c) (string_at quote cs) else with_inner (Plain b) (string_at quote (c ∷ cs)))
 
 -- how many bytes stand before the closing quote, behind a backslash or not
 abbrev pub more : Option ℕ → Option ℕ
@@ -43,22 +44,22 @@ abbrev pub closing_at : ℕ → Bool → List ℕ → Option ℕ
 closing_at quote escaped [] = None
 closing_at quote true (b ∷ bs) = more (closing_at quote false bs)
 closing_at quote false (b ∷ bs) =
-    if b == 92 then more (closing_at quote true bs) else (if b == quote then Some 0 else more (closing_at quote false bs))
+    if b == backslash then more (closing_at quote true bs) else (if b == quote then Some 0 else more (closing_at quote false bs))
 
 abbrev pub is_plain : ℕ → Bool
-is_plain b = not (b == 92)
+is_plain b = not (b == backslash)
 
 -- the text that the inside of a string stands for
 abbrev pub unescaped : List ℕ → List ℕ
 unescaped [] = []
 unescaped (b ∷ []) = b ∷ []
-unescaped (b ∷ c ∷ cs) = if b == 92 then escaped c ∷ unescaped cs else b ∷ unescaped (c ∷ cs)
+unescaped (b ∷ c ∷ cs) = if b == backslash then escaped c ∷ unescaped cs else b ∷ unescaped (c ∷ cs)
 
 -- whether an escape in it is unknown, behind a backslash or not
 abbrev pub unknown_in : Bool → List ℕ → Bool
 unknown_in escape [] = false
 unknown_in true (b ∷ bs) = if is_known b then unknown_in false bs else true
-unknown_in false (b ∷ bs) = if b == 92 then unknown_in true bs else unknown_in false bs
+unknown_in false (b ∷ bs) = if b == backslash then unknown_in true bs else unknown_in false bs
 
 abbrev pub string_front : ℕ → Option (List Inner × List ℕ) → Front
 string_front quote None = Breaks (Unclosed quote)
@@ -67,7 +68,7 @@ string_front quote (Some p) = if has_unknown_escape p.0 then Breaks (UnknownEsca
 -- digits b and bs, and what is behind them
 abbrev pub number_front : ℕ → List ℕ → List ℕ → Front
 number_front b bs rest =
-    if begins (46 ∷ []) rest then Breaks (Float b bs (run_of is_ascii_digit (drop 1 rest)))
+    if begins (dot ∷ []) rest then Breaks (Float b bs (run_of is_ascii_digit (drop 1 rest)))
     else (if nat_lt (decimal (b ∷ bs)) (2 ^ 63) then Reads (Number b bs) rest else Breaks (TooGreat b bs))
 
 -- an operator of more than one byte begins with the byte
@@ -96,7 +97,7 @@ pub data Next : Type 0 where
 abbrev pub next_at : List ℕ → List ℕ → Next
 next_at end [] = Ends
 next_at end (b ∷ bs) =
-    if begins (45 ∷ end) (b ∷ bs) then Closes true (drop (suc (length end)) (b ∷ bs))
+    if begins (dash_byte ∷ end) (b ∷ bs) then Closes true (drop (suc (length end)) (b ∷ bs))
     else (if begins end (b ∷ bs) then Closes false (drop (length end) (b ∷ bs)) else Stands (front_of (b ∷ bs)))
 
 abbrev pub item_before : Item → List Item × Close → List Item × Close
@@ -137,7 +138,7 @@ abbrev pub behind_marker : List ℕ → List ℕ → List ℕ
 behind_marker marker bytes = drop (length marker) bytes
 
 abbrev pub at_dash : List ℕ → Bool
-at_dash bytes = begins (45 ∷ []) bytes
+at_dash bytes = begins (dash_byte ∷ []) bytes
 
 abbrev pub behind_dash : List ℕ → List ℕ
 behind_dash bytes = drop (length (dash_bytes (at_dash bytes))) bytes
