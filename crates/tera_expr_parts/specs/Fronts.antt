@@ -10,7 +10,7 @@ use Rattle.tera_grammar.specs.expressions.Operators as operators
 use Rattle.tera_grammar.specs.expressions.Operators.{BinaryOperator}
 use Rattle.tera_grammar.specs.expressions.Marks.{Operation}
 use Rattle.tera_grammar.specs.expressions.Concrete.{Sign, Negative, Negates, Op}
-use Rattle.tera_grammar.specs.expressions.Powers.{left_of}
+use Rattle.tera_grammar.specs.expressions.Powers.{left_of, test_power, filter_power}
 use Rattle.tera_grammar.specs.expressions.Reading.Front as reading
 use Rattle.tera_grammar.specs.expressions.Reading.Front.{takes}
 use Rattle.tera_grammar.specs.expressions.Stack.{operator_in, is_negated}
@@ -84,10 +84,10 @@ abbrev pub keeps_off : ℕ → Kind → Bool
 keeps_off m no_kind = true
 keeps_off m (joined_by o n) = ltb (left_of o) m
 keeps_off m chosen = ltb 0 m
-keeps_off m tested = ltb 5 m
-keeps_off m filtered = ltb 17 m
+keeps_off m tested = ltb test_power m
+keeps_off m filtered = ltb filter_power m
 keeps_off m subscripted = false
-keeps_off m misplaced = ltb 5 m
+keeps_off m misplaced = ltb test_power m
 
 abbrev pub IsName : Tok → Type 0
 IsName (Ident name) = Unit {0}

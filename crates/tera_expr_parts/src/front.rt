@@ -9,7 +9,7 @@ ghost use Rattle.tera_grammar.specs.expressions.Reading.Front.{begins_sign};
 ghost use Rattle.tera_expr_parts.specs.Fronts.{IsName, IsOperatorBefore, chosen, ending_kind, ending_of, front_kind, joined_by, keeps_off, kind_of, operator_of, second_is_in, word_kind};
 ghost use Rattle.tera_expect.specs.Taking.{Took};
 
-use crate::operators::Operator;
+use crate::operators::{FILTER_POWER, Operator, TEST_POWER};
 use tera_expect::{Fixed, begins};
 use tera_lexer::{Cursor, Token};
 
@@ -59,8 +59,8 @@ impl Front {
             Front::Nothing => true,
             Front::Joins(operator, _) => operator.left_power() < least,
             Front::Chooses => 0 < least,
-            Front::Closes(Ending::Test) | Front::Misplaced => 5 < least,
-            Front::Closes(Ending::Filter) => 17 < least,
+            Front::Closes(Ending::Test) | Front::Misplaced => TEST_POWER < least,
+            Front::Closes(Ending::Filter) => FILTER_POWER < least,
             Front::Closes(Ending::Subscript) => false,
         }
     }
@@ -120,7 +120,7 @@ fn in_is_second(cursor: &Cursor<'_>) -> bool
     }
 }
 
-/// Takes the tokens of an operator.
+/// Takes the tokens of an operator. No token of these takes memory, so they are in sight and `skip` takes them.
 #[tactic(auto, unfolding(tera_expect::specs::Taking::Took))]
 pub fn take_operator(cursor: &mut Cursor<'_>, operator: Operator, negated: bool)
     requires { joined_by (operator_of operator) negated ≡ kind_of (reading.front cursor.old.left) }
@@ -134,7 +134,7 @@ pub fn take_operator(cursor: &mut Cursor<'_>, operator: Operator, negated: bool)
     }
 }
 
-/// Takes the `if` of a ternary.
+/// Takes the `if` of a ternary, which is in sight as well.
 #[tactic(auto, unfolding(tera_expect::specs::Taking::Took))]
 pub fn take_condition(cursor: &mut Cursor<'_>)
     requires { chosen ≡ kind_of (reading.front cursor.old.left) }
@@ -145,7 +145,7 @@ pub fn take_condition(cursor: &mut Cursor<'_>)
     let _ = cursor.skip();
 }
 
-/// Takes the first token of a test, a filter or a subscript.
+/// Takes the first token of a test, a filter or a subscript, which is in sight as well.
 #[tactic(auto, unfolding(tera_expect::specs::Taking::Took))]
 pub fn take_ending(cursor: &mut Cursor<'_>, ending: Ending)
     requires { ending_kind ending ≡ kind_of (reading.front cursor.old.left) }

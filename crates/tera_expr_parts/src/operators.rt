@@ -91,6 +91,12 @@ impl Operator {
     }
 }
 
+/// How tightly a test binds what stands before it.
+pub(crate) const TEST_POWER: u8 = 5;
+
+/// How tightly a filter binds what stands before it.
+pub(crate) const FILTER_POWER: u8 = 17;
+
 /// How tightly a prefix binds what stands behind it.
 pub fn prefix_power(sign: UnaryOperator) -> u8
     ensures { (span : Span) → result ≡ sign_power (sign_of sign span) }

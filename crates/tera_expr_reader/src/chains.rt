@@ -194,7 +194,7 @@ fn with_link(
     }
 }
 
-// Takes the first token of a link.
+// Takes the first token of a link, which takes no memory, so it is in sight.
 fn take_link(cursor: &mut Cursor<'_>)
     requires { link_kind (reading.link_of cursor.old.left) ≢ variants.Nothing }
     ensures past { LinkAt (reading.link_of cursor.old.left) cursor.new.span cursor.new.left }

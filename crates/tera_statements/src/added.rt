@@ -51,7 +51,7 @@ impl Names {
     }
 }
 
-/// Puts what is a node behind the others.
+/// Puts what is a node behind the others. What adds a parent or a definition is refused in a body, so none comes here.
 pub(crate) fn push_node(nodes: &mut Vec<Node>, added: Added) -> Result<(), Error>
     ensures pushed { OnOk result (map node_view nodes.new.items
         ≡ map node_view nodes.old.items ++ added_nodes (added_view added)) }
