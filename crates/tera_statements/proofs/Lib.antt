@@ -5,7 +5,6 @@ pub mod FiltersLemmas
 pub mod HeadsLemmas
 pub mod Tags
 pub mod LoopHeads
-pub mod AroundLemmas
 pub mod SimpleLemmas
 pub mod CapturesLemmas
 pub mod ConditionsLemmas

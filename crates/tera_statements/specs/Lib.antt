@@ -1,6 +1,7 @@
 pub mod Known
 pub mod Kinds
 pub mod Reading
+pub mod Settings
 pub mod Heads
 pub mod Around
 pub mod Adding

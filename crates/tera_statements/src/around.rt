@@ -2,8 +2,7 @@
 
 ghost use Rattle.std.specs.Prelude.{◌≡◌, ◌∷◌, ◌&&◌, [], false, is_none};
 ghost use Rattle.tera_grammar.specs.statements.Grammar as grammar;
-ghost use Rattle.tera_grammar.specs.statements.Grammar.{Path};
-ghost use Rattle.tera_grammar.proofs.statements.Paths.{break_step};
+ghost use Rattle.tera_grammar.specs.statements.Grammar.{Path, may_break};
 ghost use Rattle.tera_statements.specs.Around.{Stands, context_of, holds_breaks, is_loop};
 
 use tera_base::Span;
@@ -92,8 +91,8 @@ impl Breaks {
 
     // What they find inside of another context.
     fn inside(&self, opening: &Opening) -> Breaks
-        ensures { holds_breaks result
-            ≡ break_step (holds_breaks self.now) (context_of opening.now.context) }
+        ensures { (path : Path) → holds_breaks self.now ≡ may_break path →
+            holds_breaks result ≡ may_break (context_of opening.now.context ∷ path) }
     {
         match opening.context {
             Context::Loop => Breaks::Loop,

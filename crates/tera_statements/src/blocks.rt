@@ -3,14 +3,13 @@
 ghost use Rattle.std.specs.Prelude.{IfErr, IfOk, ◌≡◌, ◌⊎◌, false, is_none, true};
 ghost use Rattle.std.specs.Str.{bytes_eq};
 ghost use Rattle.tera_base.specs.Errors.{IsMemory};
-ghost use Rattle.tera_expr_parts.specs.Rooms.{limits_of};
-ghost use Rattle.tera_grammar.specs.statements.Reading as reading;
 ghost use Rattle.tera_grammar.specs.statements.Reading.{block_end, block_of, component_def_of};
 ghost use Rattle.tera_grammar.specs.statements.Parts.{Name};
 ghost use Rattle.tera_grammar.specs.statements.Reading.Meeting.{meet};
 ghost use Rattle.tera_statements.specs.Adding.{AddsBy, here, seen_of};
 ghost use Rattle.tera_statements.specs.Blocks.{IsName, new_block_of};
 ghost use Rattle.tera_statements.specs.Known.{met_of};
+ghost use Rattle.tera_statements.specs.Settings.{bodies_under, limits_under};
 ghost use Rattle.tera_expect.specs.Taking.{GivesBy, Passes, Refuses, Took};
 
 use crate::added::{Added, Names};
@@ -39,7 +38,7 @@ pub(crate) fn block(
     below: usize,
 ) -> Result<Added, Error>
     ensures gives { AddsBy around.now result (here names.new cursor.new) (λ path start.
-        block_of (reading.body below (limits_of setting.now.limits)) path start cursor.old.span
+        block_of (bodies_under setting.now below) path start cursor.old.span
         (seen_of names.old) cursor.old.left) }
     ensures refusal { IfErr result (Refuses cursor.old) }
     ensures later { IfOk result (λ _. Took cursor.old cursor.new) }
@@ -118,9 +117,8 @@ pub(crate) fn definition(
     below: usize,
 ) -> Result<Added, Error>
     ensures gives { AddsBy around.now result (here names.new cursor.new) (λ path start.
-        component_def_of (limits_of setting.now.limits)
-        (reading.body below (limits_of setting.now.limits)) path start cursor.old.span
-        (seen_of names.old) cursor.old.left) }
+        component_def_of (limits_under setting.now) (bodies_under setting.now below) path start
+        cursor.old.span (seen_of names.old) cursor.old.left) }
     ensures refusal { IfErr result (Refuses cursor.old) }
     ensures later { IfOk result (λ _. Took cursor.old cursor.new) }
 {

@@ -2,10 +2,9 @@
 
 ghost use Rattle.std.specs.Prelude.{◌∷◌, IfErr, IfOk};
 ghost use Rattle.tera_grammar.specs.statements.Grammar.{Path, in_loop};
-ghost use Rattle.tera_grammar.specs.statements.Reading as reading;
 ghost use Rattle.tera_statements.specs.Adding.{IsBody, here};
 ghost use Rattle.tera_statements.specs.Around.{Stands, context_of};
-ghost use Rattle.tera_expr_parts.specs.Rooms.{limits_of};
+ghost use Rattle.tera_statements.specs.Settings.{bodies_under};
 ghost use Rattle.tera_expect.specs.Taking.{GivesBy, GoesOn, Refuses};
 
 use crate::added::{Names, push_node};
@@ -31,8 +30,9 @@ pub(crate) fn body(
 ) -> Result<Vec<Node>, Error>
     ensures gives { (path : Path) → Stands path around.now →
         GivesBy (λ ns b. IsBody (in_loop (context_of opening.now.context ∷ path)) ns.items b) result
-        (here names.new cursor.new) (reading.body below (limits_of setting.now.limits)
-        (context_of opening.now.context ∷ path) (here names.old cursor.old)) }
+        (here names.new cursor.new)
+        (bodies_under setting.now below (context_of opening.now.context ∷ path)
+        (here names.old cursor.old)) }
     ensures refusal { IfErr result (Refuses cursor.old) }
     ensures later { IfOk result (λ _. GoesOn cursor.old cursor.new) }
 {

@@ -3,14 +3,13 @@
 ghost use Rattle.std.specs.Prelude.{◌≡◌, ◌⊎◌, IfErr, IfOk, false, true};
 ghost use Rattle.std.specs.Str.{bytes_eq};
 ghost use Rattle.tera_base.specs.Errors.{IsMemory};
-ghost use Rattle.tera_expr_parts.specs.Rooms.{limits_of};
 ghost use Rattle.tera_grammar.specs.statements.Expressions.{ComponentName, component_text};
 ghost use Rattle.tera_grammar.specs.statements.Reading.Expressions.{component_of};
-ghost use Rattle.tera_grammar.specs.statements.Reading as reading;
 ghost use Rattle.tera_grammar.specs.statements.Reading.{call_end, call_of, section_of, set_of};
 ghost use Rattle.tera_statements.specs.Adding.{AddsBy, here, seen_of};
 ghost use Rattle.tera_statements.specs.Captures.{GivesSetBody, GivesSetValue, IsCallEnd, IsNoBody};
 ghost use Rattle.tera_statements.specs.Reading.{IsComponent};
+ghost use Rattle.tera_statements.specs.Settings.{bodies_under, limits_under};
 ghost use Rattle.tera_expect.specs.Taking.{GivesBy, Refuses, Took};
 ghost use Rattle.tera_nodes.specs.Tree as tree;
 ghost use Rattle.tera_nodes.specs.View.{expression_view, node_view};
@@ -49,8 +48,8 @@ pub(crate) fn set(
     below: usize,
 ) -> Result<Added, Error>
     ensures gives { AddsBy around.now result (here names.new cursor.new) (λ path start.
-        set_of (limits_of setting.now.limits) (reading.body below (limits_of setting.now.limits))
-        path global start cursor.old.span (seen_of names.old) cursor.old.left) }
+        set_of (limits_under setting.now) (bodies_under setting.now below) path global start
+        cursor.old.span (seen_of names.old) cursor.old.left) }
     ensures refusal { IfErr result (Refuses cursor.old) }
     ensures later { IfOk result (λ _. Took cursor.old cursor.new) }
 {
@@ -74,8 +73,8 @@ fn set_value(
     around: &Around,
     variable: Variable<'_>,
 ) -> Result<Added, Error>
-    ensures gives { GivesSetValue (limits_of setting.now.limits)
-        around.now variable.entry.name.now variable.entry.global result cursor.new cursor.old }
+    ensures gives { GivesSetValue (limits_under setting.now) around.now
+        variable.entry.name.now variable.entry.global result cursor.new cursor.old }
     ensures refusal { IfErr result (Refuses cursor.old) }
     ensures later { IfOk result (λ _. Took cursor.old cursor.new) }
 {
@@ -96,8 +95,8 @@ fn set_body(
     variable: Variable<'_>,
     below: usize,
 ) -> Result<Added, Error>
-    ensures gives { GivesSetBody (limits_of setting.now.limits)
-        below around.now opening.now.context variable.entry.name.now variable.entry.global result
+    ensures gives { GivesSetBody (limits_under setting.now) below around.now opening.now.context
+        variable.entry.name.now variable.entry.global result
         (here names.new cursor.new) (here names.old cursor.old) }
     ensures refusal { IfErr result (Refuses cursor.old) }
     ensures later { IfOk result (λ _. Took cursor.old cursor.new) }
@@ -133,9 +132,8 @@ pub(crate) fn section(
     below: usize,
 ) -> Result<Added, Error>
     ensures gives { AddsBy around.now result (here names.new cursor.new) (λ path start.
-        section_of (limits_of setting.now.limits)
-        (reading.body below (limits_of setting.now.limits)) path start cursor.old.span
-        (seen_of names.old) cursor.old.left) }
+        section_of (limits_under setting.now) (bodies_under setting.now below) path start
+        cursor.old.span (seen_of names.old) cursor.old.left) }
     ensures refusal { IfErr result (Refuses cursor.old) }
     ensures later { IfOk result (λ _. Took cursor.old cursor.new) }
 {
@@ -160,8 +158,8 @@ pub(crate) fn call(
     below: usize,
 ) -> Result<Added, Error>
     ensures gives { AddsBy around.now result (here names.new cursor.new) (λ path start.
-        call_of (limits_of setting.now.limits) (reading.body below (limits_of setting.now.limits))
-        path start cursor.old.span (seen_of names.old) cursor.old.left) }
+        call_of (limits_under setting.now) (bodies_under setting.now below) path start
+        cursor.old.span (seen_of names.old) cursor.old.left) }
     ensures refusal { IfErr result (Refuses cursor.old) }
     ensures later { IfOk result (λ _. Took cursor.old cursor.new) }
 {

@@ -3,7 +3,6 @@
 ghost use Rattle.std.specs.Prelude.{◌≡◌, [], IfErr, IfOk, OnOk, map, string_bytes};
 ghost use Rattle.tera_base.specs.ValueView.{pairs_view, value_view};
 ghost use Rattle.tera_base.specs.declared.utils.Span.{Span};
-ghost use Rattle.tera_expr_parts.specs.Rooms.{limits_of};
 ghost use Rattle.tera_grammar.specs.expressions.Marks.{LeftBrace};
 ghost use Rattle.tera_grammar.specs.expressions.Reading.Front.{begins};
 ghost use Rattle.tera_grammar.specs.statements.Components.{put_pairs};
@@ -17,6 +16,7 @@ ghost use Rattle.tera_statements.specs.Components.{IsOpened, agreeing_name, new_
 ghost use Rattle.tera_statements.specs.Known.{met_of};
 ghost use Rattle.tera_statements.specs.Parameters.{IsMetadata};
 ghost use Rattle.tera_statements.specs.Reading.{IsComponent};
+ghost use Rattle.tera_statements.specs.Settings.{limits_under};
 ghost use Rattle.tera_expect.specs.Taking.{GivesBy, GoesOn, Passes, Refuses, Took};
 ghost use Rattle.tera_tree.specs.Definitions.{named_value};
 
@@ -49,7 +49,7 @@ pub(crate) fn opening_tag(
     seen: &mut Known,
 ) -> Result<Opened, Error>
     ensures gives { GivesBy IsOpened result cursor.new.left
-        (opened_of (limits_of setting.now.limits) (met_of seen.old) cursor.old.left) }
+        (opened_of (limits_under setting.now) (met_of seen.old) cursor.old.left) }
     ensures kept { IfOk result (λ o.
         met_of seen.new ≡ meet (string_bytes o.name) (met_of seen.old)) }
     ensures refusal { IfErr result (Refuses cursor.old) }
@@ -91,7 +91,7 @@ fn metadata(
     cursor: &mut Cursor<'_>,
 ) -> Result<BTreeMap<String, Value>, Error>
     ensures gives { GivesBy (λ m x. IsMetadata m.entries x) result cursor.new.left
-        (metadata_in (limits_of setting.now.limits) cursor.old.left
+        (metadata_in (limits_under setting.now) cursor.old.left
         (begins LeftBrace cursor.old.left)) }
     ensures refusal { IfErr result (Refuses cursor.old) }
     ensures later { IfOk result (λ _. GoesOn cursor.old cursor.new) }

@@ -2,14 +2,13 @@
 
 ghost use Rattle.std.specs.Prelude.{◌≡◌, ◌∷◌, IfErr, IfOk, map};
 ghost use Rattle.tera_base.specs.Errors.{IsMemory};
-ghost use Rattle.tera_expr_parts.specs.Rooms.{limits_of};
 ghost use Rattle.tera_grammar.specs.statements.Grammar.{InIf, Path, in_loop};
-ghost use Rattle.tera_grammar.specs.statements.Reading as reading;
 ghost use Rattle.tera_grammar.specs.statements.Reading.{branches, if_of};
 ghost use Rattle.tera_grammar.specs.statements.Reading.Loops.{nest};
 ghost use Rattle.tera_statements.specs.Adding.{AddsBy, AreBranches, here, seen_of};
 ghost use Rattle.tera_statements.specs.Around.{Stands};
 ghost use Rattle.tera_statements.specs.Conditions.{GivesBranch, branch_view};
+ghost use Rattle.tera_statements.specs.Settings.{bodies_under, limits_under};
 ghost use Rattle.tera_expect.specs.Taking.{GivesBy, GoesOn, Refuses, Took};
 ghost use Rattle.tera_nodes.specs.View.{node_view};
 
@@ -44,8 +43,8 @@ pub(crate) fn condition(
     below: usize,
 ) -> Result<Added, Error>
     ensures gives { AddsBy around.now result (here names.new cursor.new) (λ path start.
-        if_of (limits_of setting.now.limits) (reading.body below (limits_of setting.now.limits))
-        path start cursor.old.span (seen_of names.old) cursor.old.left) }
+        if_of (limits_under setting.now) (bodies_under setting.now below) path start
+        cursor.old.span (seen_of names.old) cursor.old.left) }
     ensures refusal { IfErr result (Refuses cursor.old) }
     ensures later { IfOk result (λ _. Took cursor.old cursor.new) }
 {
@@ -68,7 +67,7 @@ fn read_branch(
     below: usize,
 ) -> Result<Branch, Error>
     ensures gives { (path : Path) → Stands path around.now →
-        GivesBranch (limits_of setting.now.limits) below (InIf ∷ path) result
+        GivesBranch (limits_under setting.now) below (InIf ∷ path) result
         (here names.new cursor.new) (here names.old cursor.old) }
     ensures refusal { IfErr result (Refuses cursor.old) }
     ensures later { IfOk result (λ _. Took cursor.old cursor.new) }
@@ -95,7 +94,7 @@ fn other_branches(
 ) -> Result<Vec<Node>, Error>
     ensures gives { (path : Path) → Stands path around.now →
         GivesBy (λ ns bs. AreBranches (in_loop path) ns.items bs) result (here names.new cursor.new)
-        (branches (limits_of setting.now.limits) (reading.body below (limits_of setting.now.limits))
+        (branches (limits_under setting.now) (bodies_under setting.now below)
         (InIf ∷ path) (here names.old cursor.old)) }
     ensures refusal { IfErr result (Refuses cursor.old) }
     ensures later { IfOk result (λ _. GoesOn cursor.old cursor.new) }

@@ -1,10 +1,10 @@
 //! What stands in opening tags, up to their end.
 
 ghost use Rattle.std.specs.Prelude.{IfErr, IfOk};
-ghost use Rattle.tera_expr_parts.specs.Rooms.{limits_of};
 ghost use Rattle.tera_grammar.specs.statements.Reading.Heads.{filters_of};
 ghost use Rattle.tera_statements.specs.Heads.{AreAllFilters, AreFilters, IsLoop, attributes_to_end, expression_to_end, filters_to_end, loop_to_end, section_to_end};
 ghost use Rattle.tera_statements.specs.Reading.{AreAttributes, IsExpression};
+ghost use Rattle.tera_statements.specs.Settings.{limits_under};
 ghost use Rattle.tera_expect.specs.Taking.{GivesBy, GoesOn, Refuses, Took};
 
 use crate::parts::finish;
@@ -24,7 +24,7 @@ pub(crate) fn expression_to_end(
     in_loop: bool,
 ) -> Result<Expression, Error>
     ensures gives { GivesBy (λ e x. IsExpression in_loop e x.0) result cursor.new.left
-        (expression_to_end (limits_of setting.now.limits) in_loop cursor.old.left) }
+        (expression_to_end (limits_under setting.now) in_loop cursor.old.left) }
     ensures refusal { IfErr result (Refuses cursor.old) }
     ensures later { IfOk result (λ _. Took cursor.old cursor.new) }
 {
@@ -45,7 +45,7 @@ pub(crate) struct LoopHead {
 #[tactic(auto, using(tera_expect::proofs::TakingLemmas::behind_tokens))]
 pub(crate) fn loop_to_end(setting: &Setting<'_>, cursor: &mut Cursor<'_>) -> Result<LoopHead, Error>
     ensures gives { GivesBy (λ h x. IsLoop h x.0) result cursor.new.left
-        (loop_to_end (limits_of setting.now.limits) cursor.old.left) }
+        (loop_to_end (limits_under setting.now) cursor.old.left) }
     ensures refusal { IfErr result (Refuses cursor.old) }
     ensures later { IfOk result (λ _. Took cursor.old cursor.new) }
 {
@@ -64,7 +64,7 @@ fn more_filters(
     before: Vec<Expression>,
 ) -> Result<Vec<Expression>, Error>
     ensures gives { GivesBy (λ es fs. AreFilters in_loop before.items es.items fs)
-        result cursor.new.left (filters_of (limits_of setting.now.limits) in_loop cursor.old.left) }
+        result cursor.new.left (filters_of (limits_under setting.now) in_loop cursor.old.left) }
     ensures refusal { IfErr result (Refuses cursor.old) }
     ensures later { IfOk result (λ _. GoesOn cursor.old cursor.new) }
 {
@@ -85,7 +85,7 @@ pub(crate) fn filters_to_end(
     before: Vec<Expression>,
 ) -> Result<Vec<Expression>, Error>
     ensures gives { GivesBy (λ es x. AreFilters in_loop before.items es.items x.0) result
-        cursor.new.left (filters_to_end (limits_of setting.now.limits) in_loop cursor.old.left) }
+        cursor.new.left (filters_to_end (limits_under setting.now) in_loop cursor.old.left) }
     ensures refusal { IfErr result (Refuses cursor.old) }
     ensures later { IfOk result (λ _. Took cursor.old cursor.new) }
 {
@@ -102,7 +102,7 @@ pub(crate) fn section_to_end(
     in_loop: bool,
 ) -> Result<Vec<Expression>, Error>
     ensures gives { GivesBy (λ es x. AreAllFilters in_loop cursor.old.span es.items x.0 x.1) result
-        cursor.new.left (section_to_end (limits_of setting.now.limits) in_loop cursor.old.left) }
+        cursor.new.left (section_to_end (limits_under setting.now) in_loop cursor.old.left) }
     ensures refusal { IfErr result (Refuses cursor.old) }
     ensures later { IfOk result (λ _. Took cursor.old cursor.new) }
 {
@@ -120,7 +120,7 @@ pub(crate) fn attributes_to_end(
     in_loop: bool,
 ) -> Result<Vec<MapEntry>, Error>
     ensures gives { GivesBy (λ es x. AreAttributes in_loop es.items x.0) result cursor.new.left
-        (attributes_to_end (limits_of setting.now.limits) in_loop cursor.old.left) }
+        (attributes_to_end (limits_under setting.now) in_loop cursor.old.left) }
     ensures refusal { IfErr result (Refuses cursor.old) }
     ensures later { IfOk result (λ _. Took cursor.old cursor.new) }
 {

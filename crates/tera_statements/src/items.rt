@@ -3,15 +3,14 @@
 ghost use Rattle.std.specs.Prelude.{◌≡◌, [], IfErr, IfOk, is_none, true};
 ghost use Rattle.tera_base.specs.Errors.{IsMemory};
 ghost use Rattle.tera_grammar.specs.statements.Output.{text_adds};
-ghost use Rattle.tera_grammar.specs.statements.Reading as reading;
 ghost use Rattle.tera_grammar.specs.statements.Reading.{tag_of};
 ghost use Rattle.tera_grammar.specs.statements.Reading.Parts.{front};
 ghost use Rattle.tera_lexer.specs.code.Seen.{seen};
 ghost use Rattle.tera_statements.specs.Adding.{AddsBy, added_view, here, seen_of};
 ghost use Rattle.tera_statements.specs.Items.{AreEmptyTexts, Enters, GivesNext, GivesShown, GivesText, GoesByItem, text_in};
 ghost use Rattle.tera_statements.specs.Kinds.{kind_of, opener_of};
-ghost use Rattle.tera_expr_parts.specs.Rooms.{limits_of};
 ghost use Rattle.tera_statements.specs.Simple.{is_free};
+ghost use Rattle.tera_statements.specs.Settings.{bodies_under, limits_under};
 ghost use Rattle.tera_expect.specs.Taking.{Refuses, RefusesIn, Took};
 ghost use Rattle.tera_statements.specs.declared.fronts.Front.TheVariants as fronts;
 
@@ -44,7 +43,7 @@ pub(crate) fn item(
     below: usize,
 ) -> Result<Option<Added>, Error>
     requires { is_none around.now.innermost ≡ true → is_free extension ≡ true }
-    ensures gives { GivesNext (limits_of setting.now.limits) below around.now result
+    ensures gives { GivesNext (limits_under setting.now) below around.now result
         (here names.new cursor.new) (here names.old cursor.old) }
     ensures refusal { IfErr result (RefusesIn cursor.old) }
     ensures empty { IfErr result (λ _. AreEmptyTexts cursor.old.left → ⊥) }
@@ -107,7 +106,7 @@ pub(crate) fn shown(
     around: &Around,
 ) -> Result<Added, Error>
     requires { fronts.Shows ≡ kind_of (front cursor.old.left) }
-    ensures gives { GivesShown (limits_of setting.now.limits) around.now result cursor.new.left
+    ensures gives { GivesShown (limits_under setting.now) around.now result cursor.new.left
         (front cursor.old.left) }
     ensures refusal { IfErr result (RefusesIn cursor.old) }
     ensures later { IfOk result (λ _. Took cursor.old cursor.new) }
@@ -145,8 +144,8 @@ fn tag(
 ) -> Result<Added, Error>
     requires { is_none around.now.innermost ≡ true → is_free extension ≡ true }
     ensures gives { AddsBy around.now result (here names.new cursor.new) (λ path start.
-        tag_of (limits_of setting.now.limits) (reading.body below (limits_of setting.now.limits))
-        path (opener_of opener) start cursor.old.span (seen_of names.old) cursor.old.left) }
+        tag_of (limits_under setting.now) (bodies_under setting.now below) path (opener_of opener)
+        start cursor.old.span (seen_of names.old) cursor.old.left) }
     ensures refusal { IfErr result (Refuses cursor.old) }
     ensures later { IfOk result (λ _. Took cursor.old cursor.new) }
 {

@@ -1,12 +1,11 @@
 //! Loops, and the `else` of loops and conditions.
 
 ghost use Rattle.std.specs.Prelude.{IfErr, IfOk, ◌∷◌};
-ghost use Rattle.tera_expr_parts.specs.Rooms.{limits_of};
 ghost use Rattle.tera_grammar.specs.statements.Grammar.{Path, in_loop};
-ghost use Rattle.tera_grammar.specs.statements.Reading as reading;
 ghost use Rattle.tera_grammar.specs.statements.Reading.{else_of, for_of};
 ghost use Rattle.tera_statements.specs.Adding.{AddsBy, IsElse, here, seen_of};
 ghost use Rattle.tera_statements.specs.Around.{Stands, context_of};
+ghost use Rattle.tera_statements.specs.Settings.{bodies_under, limits_under};
 ghost use Rattle.tera_expect.specs.Taking.{GivesBy, GoesOn, Refuses, Took};
 
 use crate::added::{Added, Names};
@@ -31,8 +30,8 @@ pub(crate) fn for_loop(
     below: usize,
 ) -> Result<Added, Error>
     ensures gives { AddsBy around.now result (here names.new cursor.new) (λ path start.
-        for_of (limits_of setting.now.limits) (reading.body below (limits_of setting.now.limits))
-        path start cursor.old.span (seen_of names.old) cursor.old.left) }
+        for_of (limits_under setting.now) (bodies_under setting.now below) path start
+        cursor.old.span (seen_of names.old) cursor.old.left) }
     ensures refusal { IfErr result (Refuses cursor.old) }
     ensures later { IfOk result (λ _. Took cursor.old cursor.new) }
 {
@@ -64,7 +63,7 @@ pub(crate) fn else_body(
 ) -> Result<Vec<Node>, Error>
     ensures gives { (path : Path) → Stands path around.now →
         GivesBy (λ ns o. IsElse (in_loop (context_of opening.now.context ∷ path)) ns.items o) result
-        (here names.new cursor.new) (else_of (reading.body below (limits_of setting.now.limits))
+        (here names.new cursor.new) (else_of (bodies_under setting.now below)
         (context_of opening.now.context ∷ path) (here names.old cursor.old)) }
     ensures refusal { IfErr result (Refuses cursor.old) }
     ensures later { IfOk result (λ _. GoesOn cursor.old cursor.new) }

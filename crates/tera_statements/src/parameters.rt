@@ -5,7 +5,6 @@ ghost use Rattle.tera_base.specs.Errors.{IsMemory};
 ghost use Rattle.tera_base.specs.ValueView.{value_view};
 ghost use Rattle.tera_base.specs.Values.{Nothing};
 ghost use Rattle.tera_grammar.specs.Words.{is_none};
-ghost use Rattle.tera_expr_parts.specs.Rooms.{limits_of};
 ghost use Rattle.tera_grammar.specs.expressions.Marks.{Assign, Colon};
 ghost use Rattle.tera_grammar.specs.expressions.Reading.Front.{takes};
 ghost use Rattle.tera_grammar.specs.statements.Components.{is_nothing};
@@ -14,6 +13,7 @@ ghost use Rattle.tera_grammar.specs.statements.Types.{has_type, put_name, type_n
 ghost use Rattle.tera_grammar.specs.statements.Reading.Meeting.{meet, nothing_met};
 ghost use Rattle.tera_statements.specs.Known.{met_of};
 ghost use Rattle.tera_statements.specs.Parameters.{AreParameters, IsAssigned, IsDefault, IsParameter, IsType, argument_as, arguments_view, has_default, taken_rest};
+ghost use Rattle.tera_statements.specs.Settings.{limits_under};
 ghost use Rattle.tera_expect.specs.Taking.{Fails, GivesAs, GivesBy, GoesOn, Refuses, Took, name_at};
 ghost use Rattle.tera_tree.specs.View.{argument_view, default_view};
 
@@ -45,7 +45,7 @@ pub(crate) fn read_parameters(
     cursor: &mut Cursor<'_>,
 ) -> Result<Parameters, Error>
     ensures gives { GivesBy AreParameters result cursor.new.left
-        (parameters_of (limits_of setting.now.limits) nothing_met cursor.old.left) }
+        (parameters_of (limits_under setting.now) nothing_met cursor.old.left) }
     ensures refusal { IfErr result (Refuses cursor.old) }
     ensures later { IfOk result (λ _. Took cursor.old cursor.new) }
 {
@@ -79,7 +79,7 @@ pub(crate) fn read_parameters(
 #[tactic(auto, using(tera_expect::proofs::TakingLemmas::behind_tokens))]
 fn default_value(setting: &Setting<'_>, cursor: &mut Cursor<'_>) -> Result<Value, Error>
     ensures gives { GivesBy IsDefault result cursor.new.left
-        (default_of (limits_of setting.now.limits) cursor.old.left) }
+        (default_of (limits_under setting.now) cursor.old.left) }
     ensures refusal { IfErr result (Refuses cursor.old) }
     ensures later { IfOk result (λ _. Took cursor.old cursor.new) }
 {
@@ -163,8 +163,7 @@ fn named_type(cursor: &Cursor<'_>, name: &str) -> Result<ArgType, Error>
 #[tactic(auto, using(tera_expect::proofs::TakingLemmas::on_the_way))]
 fn assigned(setting: &Setting<'_>, cursor: &mut Cursor<'_>) -> Result<Option<Value>, Error>
     ensures gives { GivesBy IsAssigned result cursor.new.left
-        (assigned_in (limits_of setting.now.limits) cursor.old.left
-        (takes Assign cursor.old.left)) }
+        (assigned_in (limits_under setting.now) cursor.old.left (takes Assign cursor.old.left)) }
     ensures refusal { IfErr result (Refuses cursor.old) }
     ensures later { IfOk result (λ _. GoesOn cursor.old cursor.new) }
 {
@@ -226,7 +225,7 @@ fn parameter(
     seen: &mut Known,
 ) -> Result<(String, ComponentArgument), Error>
     ensures gives { GivesBy IsParameter result cursor.new.left
-        (parameter_of (limits_of setting.now.limits) (met_of seen.old) cursor.old.left) }
+        (parameter_of (limits_under setting.now) (met_of seen.old) cursor.old.left) }
     ensures kept { IfOk result (λ p. met_of seen.new ≡ meet (string_bytes p.0) (met_of seen.old)) }
     ensures refusal { IfErr result (Refuses cursor.old) }
     ensures later { IfOk result (λ _. Took cursor.old cursor.new) }

@@ -3,7 +3,7 @@
 ghost use Rattle.std.specs.Prelude.{◌≡◌, IfErr, IfOk, None, OnOk, []};
 ghost use Rattle.tera_base.specs.Errors.{IsMemory};
 ghost use Rattle.tera_grammar.specs.statements.Output.{AddsNothing};
-ghost use Rattle.tera_grammar.specs.statements.Reading.{at, body, step};
+ghost use Rattle.tera_grammar.specs.statements.Reading.{at, step};
 ghost use Rattle.tera_grammar.specs.statements.Reading.Meeting.{Seen};
 ghost use Rattle.tera_grammar.specs.statements.Reading.Loops.{node_weight, turn, weight, with_added};
 ghost use Rattle.tera_grammar.specs.statements.Reading.Parts.{front};
@@ -14,6 +14,7 @@ ghost use Rattle.tera_statements.specs.Items.{AreEmptyTexts, GivesStep, GoesByIt
 ghost use Rattle.tera_statements.specs.Kinds.{kind_of};
 ghost use Rattle.tera_expr_parts.specs.Rooms.{AreValid, limits_of};
 ghost use Rattle.tera_expect.specs.Taking.{RefusesIn, Took};
+ghost use Rattle.tera_statements.specs.Settings.{bodies_under, limits_under};
 ghost use Rattle.tera_statements.specs.Templates.{Excludes, GivesTemplate, GivesTop, ReadsTemplate, StandsNext, below_top, phase_if_any, phase_of, weight_of};
 ghost use Rattle.tera_statements.specs.declared.fronts.Front.TheVariants as fronts;
 ghost use Rattle.tera_statements.specs.declared.fronts.Opener.TheVariants as openers;
@@ -152,7 +153,7 @@ pub fn read_template(mut cursor: Cursor<'_>, limits: Limits) -> Result<ParserOut
 // Reads a whole template.
 #[tactic(auto, using(crate::proofs::RefusalLemmas::goes_inside, crate::proofs::RefusalLemmas::memory_inside))]
 fn whole(setting: &Setting<'_>, cursor: &mut Cursor<'_>) -> Result<ParserOutput, Error>
-    ensures gives { ReadsTemplate (limits_of setting.now.limits) result cursor.old.left }
+    ensures gives { ReadsTemplate (limits_under setting.now) result cursor.old.left }
     ensures refusal { IfErr result (RefusesIn cursor.old) }
     ensures empty { IfErr result (λ _. AreEmptyTexts cursor.old.left → ⊥) }
 {
@@ -185,7 +186,7 @@ fn next_item(
     parent: Option<&str>,
     phase: Phase,
 ) -> Result<Option<(Added, Phase)>, Error>
-    ensures gives { GivesTop (limits_of setting.now.limits) phase result (here names.new cursor.new)
+    ensures gives { GivesTop (limits_under setting.now) phase result (here names.new cursor.new)
         (here names.old cursor.old) }
     ensures refusal { IfErr result (RefusesIn cursor.old) }
     ensures empty { IfErr result (λ _. AreEmptyTexts cursor.old.left → ⊥) }
@@ -211,7 +212,7 @@ fn refuse_extends(
 ) -> Result<(), Error>
     ensures stays { IfOk result (λ _. cursor.new ≡ cursor.old) }
     ensures excludes { IfErr result (λ _. (seen : Seen) →
-        Excludes (limits_of setting.now.limits) (at seen cursor.old.left) (phase_of phase)) }
+        Excludes (limits_under setting.now) (at seen cursor.old.left) (phase_of phase)) }
     ensures refusal { IfErr result (RefusesIn cursor.old) }
     ensures empty { IfErr result (λ _. AreEmptyTexts cursor.old.left → ⊥) }
 {
@@ -270,8 +271,8 @@ fn top_item(
     parent: Option<&str>,
 ) -> Result<Option<Added>, Error>
     ensures gives { GivesStep [] result (here names.new cursor.new) (here names.old cursor.old)
-        (step (limits_of setting.now.limits)
-        (body (below_top (limits_of setting.now.limits)) (limits_of setting.now.limits)) []
+        (step (limits_under setting.now)
+        (bodies_under setting.now (below_top (limits_under setting.now))) []
         (here names.old cursor.old).seen (front cursor.old.left)) }
     ensures refusal { IfErr result (RefusesIn cursor.old) }
     ensures empty { IfErr result (λ _. AreEmptyTexts cursor.old.left → ⊥) }
