@@ -1,5 +1,5 @@
 -- How the top level of a template is read.
-use Rattle.std.proofs.Common.{◌≡◌, ◌⊎◌, ℕ, zero, suc, ◌+◌, ◌<◌, ◌≤◌, true, false, List, [], ◌∷◌, length, ◌==◌, Option, Some, None, Result, Ok, Err, inl, inr, ⊎_elim, refl, sym, ap, subst, ◌∙◌, arith, is_some}
+use Rattle.std.proofs.Common.{◌≡◌, ◌⊎◌, ℕ, zero, suc, ◌+◌, ◌<◌, ◌≤◌, Bool, true, false, List, [], ◌∷◌, ◌++◌, append-nil, length, ◌==◌, Option, Some, None, Result, Ok, Err, IfErr, inl, inr, ⊎_elim, refl, sym, ap, subst, ◌∙◌, arith, is_some}
 use Rattle.std.proofs.Math.Dec.{eqb-suc-zero}
 use Rattle.std.specs.Str.{chars, trim_start}
 use Rattle.tera_base.proofs.Tellings.{tells_weaker}
@@ -10,27 +10,30 @@ use Rattle.tera_lexer.specs.code.Cursors.{Passes, Position, size}
 use Rattle.tera_lexer.specs.grammar.Faults.{BeginsWith, Covers, EndsIn, EndsWith, Faults}
 use Rattle.tera_lexer.specs.grammar.Place.{IsWithin}
 use Rattle.tera_lexer.specs.grammar.Tokens.{Tok, Items, Ended, Failed, Token}
+use Rattle.tera_nodes.specs.Tree.{Stmt}
 use Rattle.tera_tree.specs.Tree.{Output}
 use Rattle.tera_grammar.specs.statements.Expressions.{Limits}
-use Rattle.tera_grammar.specs.statements.Grammar.{Body, Item}
-use Rattle.tera_grammar.specs.statements.Output.{added_by}
+use Rattle.tera_grammar.specs.statements.Grammar.{Body, Item, Single, Text}
+use Rattle.tera_grammar.specs.statements.Output.{added_by, added_nodes, text_adds}
 use Rattle.tera_grammar.specs.statements.Reading as reading
 use Rattle.tera_grammar.specs.statements.Reading.{Place, at, body, step, template}
 use Rattle.tera_grammar.specs.statements.Reading.Loops as loops
-use Rattle.tera_grammar.specs.statements.Reading.Loops.{turn, weight, with_added}
-use Rattle.tera_grammar.specs.statements.Reading.Parts.{front}
+use Rattle.tera_grammar.specs.statements.Reading.Loops.{text_weight, turn, weight, with_added}
+use Rattle.tera_grammar.specs.statements.Reading.Parts.{Holds, front, front_at}
 use Rattle.tera_grammar.proofs.statements.Tops.{template_complete, template_sound}
 use Rattle.tera_grammar.proofs.statements.Loops.{topping_extends, topping_refused, topping_stops}
 use Rattle.tera_grammar.specs.statements.Top.{is_blank, is_empty}
+use Rattle.tera_grammar.specs.statements.Reading.Meeting.{Seen}
+use Rattle.tera_statements.specs.Items.{AreEmptyTexts, GoesByItem}
 use Rattle.tera_statements.specs.Kinds.{kind_of}
 use Rattle.tera_expr_parts.specs.Rooms.{AreValid}
 use Rattle.tera_expect.specs.Taking.{Fails, RefusesIn, Took}
-use Rattle.tera_statements.specs.Templates.{Excludes, GivesTemplate, ReadsTemplate, StandsNext, TopOf, below_top, phase_if_any}
+use Rattle.tera_statements.specs.Templates.{Excludes, GivesPhase, GivesTemplate, GivesTextPhase, ReadsTemplate, StandsNext, TopOf, below_top, phase_if_any, phase_of}
 use Rattle.tera_statements.specs.declared.fronts.Front.TheVariants as fronts
 use Rattle.tera_statements.specs.declared.fronts.Opener.TheVariants as openers
 use Rattle.tera_statements.specs.declared.templates.Phase.{Phase}
 use Rattle.tera_statements.specs.declared.outputs.ParserOutput.{ParserOutput}
-use Rattle.tera_statements.proofs.ItemsLemmas.{opens_tag}
+use Rattle.tera_statements.proofs.ItemsLemmas.{opens_tag, step_holds}
 
 -- a body may open
 pub opens : (l : Limits) → AreValid l → l.bodies ≡ suc (below_top l)
@@ -108,3 +111,48 @@ template_given l (Err e) ts (inr none) = inr (λ b is. not_read b (sym (template
   where
     not_read : (b : Body) → Some b ≡ None → ⊥
     not_read b h = cc
+
+-- what a text weighs
+pub weight_text : (text : List ℕ) → weight (text_adds text) ≡ text_weight (is_blank text)
+weight_text [] = refl
+weight_text (b ∷ bs) = refl
+
+standing_by : (blank : Bool) → turn reading.Standing (text_weight blank) ≡ Some reading.Standing
+standing_by true = refl
+standing_by false = refl
+
+pub standing_text : (text : List ℕ) → turn reading.Standing (weight (text_adds text)) ≡ Some reading.Standing
+standing_text text = ap (turn reading.Standing) (weight_text text) ∙ standing_by (is_blank text)
+
+-- a text is put behind the nodes
+pub with_text : (out : Output) (text : List ℕ) (nodes : List Stmt) → nodes ≡ out.nodes ++ added_nodes (text_adds text) → (record out { nodes = nodes }) ≡ with_added out (text_adds text)
+with_text out [] nodes h = λ i. record { parent = out.parent; nodes = h i; definitions = sym (append-nil out.definitions) i }
+with_text out (b ∷ bs) nodes h = λ i. record { parent = out.parent; nodes = h i; definitions = sym (append-nil out.definitions) i }
+
+-- a text that comes next is an item of the template
+pub text_gives : (l : Limits) → AreValid l → (ph : Phase) (r : Result (Option Phase) Error) (out before : Output) (seen : Seen) (ts us : Items) (text : List ℕ) (span : Span)
+    → front ts ≡ Holds text span us → GivesTextPhase text ph r out before → GivesPhase l ph r out before (at seen us) (at seen ts)
+text_gives l valid ph (Ok None) out before seen ts us text span is gives = absurd gives
+text_gives l valid ph (Ok (Some q)) out before seen ts us text span is (shows, turned) =
+    (Single (Text text span), step_holds l (body (below_top l) l) [] seen (front ts) text span us is, shows, turned)
+text_gives l valid ph (Err e) out before seen ts us text span is (inl memory) = inl memory
+text_gives l valid ph (Err e) out before seen ts us text span is (inr none) =
+    inr (turn_excluded l valid (at seen ts) (phase_of ph) (Single (Text text span)) (at seen us) (step_holds l (body (below_top l) l) [] seen (front ts) text span us is) none)
+
+pub text_goes : (ph : Phase) (r : Result (Option Phase) Error) (out before : Output) (text : List ℕ) (old new : Position) → GivesTextPhase text ph r out before → Took old new → GoesByItem r old new
+text_goes ph (Ok None) out before text old new gives took = absurd gives
+text_goes ph (Ok (Some q)) out before text old new gives took = took
+text_goes ph (Err e) out before text old new gives took = tt
+
+held_empty : (ts us : Items) (text : List ℕ) (span : Span) → front ts ≡ Holds text span us → AreEmptyTexts ts → text ≡ []
+held_empty Ended us text span is empty = cc
+held_empty (Failed told here) us text span is empty = absurd empty
+held_empty (Token t here items) us text span is empty = same (sym (ap (λ u. front_at u here items) empty.0) ∙ is)
+  where
+    same : Holds [] here items ≡ Holds text span us → text ≡ []
+    same h = cc
+
+pub text_empty : (r : Result (Option Phase) Error) (ts us : Items) (text : List ℕ) (span : Span) → front ts ≡ Holds text span us
+    → IfErr r (λ e. text ≡ [] → ⊥) → IfErr r (λ e. AreEmptyTexts ts → ⊥)
+text_empty (Ok x) ts us text span is h = tt
+text_empty (Err e) ts us text span is h = λ empty. h (held_empty ts us text span is empty)

@@ -1,14 +1,17 @@
 -- The items of bodies, as they are read.
-use Rattle.std.specs.Prelude.{◌≡◌, ℕ, List, [], Option, Some, None, Result, Ok, Err}
+use Rattle.std.specs.Prelude.{◌≡◌, ◌++◌, ℕ, List, [], Option, Some, None, Result, Ok, Err}
+use Rattle.std.specs.Borrow.{Bor}
 use Rattle.tera_base.specs.declared.errors.Error.{Error}
 use Rattle.tera_lexer.specs.code.Cursors.{Position}
 use Rattle.tera_lexer.specs.grammar.Tokens.{Items, Ended, Failed, Token, Tok, Content}
+use Rattle.tera_nodes.specs.Tree.{Stmt}
 use Rattle.tera_grammar.specs.statements.Expressions.{Limits}
+use Rattle.tera_grammar.specs.statements.Output.{added_by, added_nodes}
 use Rattle.tera_grammar.specs.statements.Grammar.{Item, Path, in_loop}
 use Rattle.tera_grammar.specs.statements.Reading.Meeting.{Seen}
 use Rattle.tera_grammar.specs.statements.Parts.{Edge, Opener}
 use Rattle.tera_grammar.specs.statements.Reading.{Place, Reader, at, body, step}
-use Rattle.tera_grammar.specs.statements.Reading.Parts.{Front, Opens, front}
+use Rattle.tera_grammar.specs.statements.Reading.Parts.{Front, Holds, Opens, front}
 use Rattle.tera_statements.specs.Adding.{GivesItem}
 use Rattle.tera_statements.specs.Around.{Stands}
 use Rattle.tera_expect.specs.Taking.{Fails, Took}
@@ -23,6 +26,13 @@ GivesStep path (Err e) new old read = Fails read e
 
 abbrev pub GivesNext : Limits → ℕ → Around → Result (Option Added) Error → Place → Place → Type 0
 GivesNext l below around r new old = (path : Path) → Stands path around → GivesStep path r new old (step l (body below l) path old.seen (front old.tokens))
+
+-- likewise, where what the item adds was put behind other nodes
+abbrev pub GivesNode : {A : Type 0} → Limits → ℕ → Path → Result (Option A) Error → List Stmt → List Stmt → Place → Place → Type 0
+GivesNode l below path (Ok None) nodes before new old = (step l (body below l) path old.seen (front old.tokens) ≡ Some None) × (new ≡ old) × (nodes ≡ before)
+GivesNode l below path (Ok (Some a)) nodes before new old =
+    (i : Item) × (step l (body below l) path old.seen (front old.tokens) ≡ Some (Some (i, new))) × (nodes ≡ before ++ added_nodes (added_by (in_loop path) i))
+GivesNode l below path (Err e) nodes before new old = Fails (step l (body below l) path old.seen (front old.tokens)) e
 
 -- tokens were taken where there is an item
 abbrev pub GoesByItem : {A : Type 0} → Result (Option A) Error → Position → Position → Type 0
@@ -51,3 +61,8 @@ AreEmptyTexts (Token t span items) = (t ≡ Content []) × AreEmptyTexts items
 -- the start of a tag and its first token were taken
 abbrev pub Enters : Opener → Items → Position → Type 0
 Enters o old new = (start : Edge) × (front old ≡ Opens o start new.span new.left)
+
+-- the text that came next was taken, or nothing
+abbrev pub EatsText : Option (Bor (List ℕ)) → Position → Position → Type 0
+EatsText (Some text) old new = (front old.left ≡ Holds text.now new.span new.left) × Took old new
+EatsText None old new = new ≡ old

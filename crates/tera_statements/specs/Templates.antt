@@ -1,5 +1,5 @@
 -- Whole templates, as they are read.
-use Rattle.std.specs.Prelude.{◌≡◌, ◌⊎◌, ◌-◌, ℕ, [], false, Option, Some, None, Result, Ok, Err}
+use Rattle.std.specs.Prelude.{◌≡◌, ◌⊎◌, ◌-◌, ℕ, List, [], false, Option, Some, None, Result, Ok, Err}
 use Rattle.tera_base.specs.Errors.{IsMemory}
 use Rattle.tera_base.specs.declared.errors.Error.{Error}
 use Rattle.tera_base.specs.declared.utils.Span.{Span}
@@ -10,11 +10,11 @@ use Rattle.tera_tree.specs.Tree.{Output}
 use Rattle.tera_grammar.specs.statements.Expressions.{Limits}
 use Rattle.tera_grammar.specs.statements.Grammar.{Body, Item}
 use Rattle.tera_grammar.specs.statements.Reading.Meeting.{nothing_seen}
-use Rattle.tera_grammar.specs.statements.Output.{added_by, output_of}
+use Rattle.tera_grammar.specs.statements.Output.{added_by, output_of, text_adds}
 use Rattle.tera_grammar.specs.statements.Reading as reading
 use Rattle.tera_grammar.specs.statements.Reading.{Place, at, body, step, template}
 use Rattle.tera_grammar.specs.statements.Reading.Loops as loops
-use Rattle.tera_grammar.specs.statements.Reading.Loops.{Topping, turn, weight}
+use Rattle.tera_grammar.specs.statements.Reading.Loops.{Topping, turn, weight, with_added}
 use Rattle.tera_grammar.specs.statements.Reading.Parts.{front}
 use Rattle.tera_grammar.specs.statements.Top.{IsTemplate}
 use Rattle.tera_statements.specs.Adding.{IsAdded}
@@ -62,6 +62,21 @@ GivesTop l ph (Ok (Some a)) new old =
     (i : Item) × (step l (body (below_top l) l) [] old.seen (front old.tokens) ≡ Some (Some (i, new))) × IsAdded false a.0 i
     × (turn (phase_of ph) (weight (added_by false i)) ≡ Some (phase_of a.1))
 GivesTop l ph (Err e) new old = IsMemory e ⊎ Excludes l old (phase_of ph)
+
+-- likewise, where what the item adds was taken
+abbrev pub GivesPhase : Limits → Phase → Result (Option Phase) Error → Output → Output → Place → Place → Type 0
+GivesPhase l ph (Ok None) out before new old = (step l (body (below_top l) l) [] old.seen (front old.tokens) ≡ Some None) × (new ≡ old) × (out ≡ before)
+GivesPhase l ph (Ok (Some q)) out before new old =
+    (i : Item) × (step l (body (below_top l) l) [] old.seen (front old.tokens) ≡ Some (Some (i, new))) × (out ≡ with_added before (added_by false i))
+    × (turn (phase_of ph) (weight (added_by false i)) ≡ Some (phase_of q))
+GivesPhase l ph (Err e) out before new old = IsMemory e ⊎ Excludes l old (phase_of ph)
+
+-- likewise of a text, which may not stand where there is no phase behind it
+abbrev pub GivesTextPhase : List ℕ → Phase → Result (Option Phase) Error → Output → Output → Type 0
+GivesTextPhase text ph (Ok None) out before = ⊥
+GivesTextPhase text ph (Ok (Some q)) out before =
+    (out ≡ with_added before (text_adds text)) × (turn (phase_of ph) (weight (text_adds text)) ≡ Some (phase_of q))
+GivesTextPhase text ph (Err e) out before = IsMemory e ⊎ (turn (phase_of ph) (weight (text_adds text)) ≡ None)
 
 -- the template that the tokens are read as
 abbrev pub ReadsTemplate : Limits → Result ParserOutput Error → Items → Type 0

@@ -1,9 +1,10 @@
 //! What the items of a body add to a template, and the names that it defines.
 
-ghost use Rattle.std.specs.Prelude.{◌≡◌, ◌++◌, IfErr, OnOk, map};
+ghost use Rattle.std.specs.Prelude.{◌≡◌, ◌++◌, ◌∷◌, IfErr, OnOk, [], map};
 ghost use Rattle.tera_base.specs.Errors.{IsMemory};
 ghost use Rattle.tera_grammar.specs.statements.Reading.Meeting.{nothing_seen};
-ghost use Rattle.tera_grammar.specs.statements.Output.{added_nodes};
+ghost use Rattle.tera_grammar.specs.statements.Output.{added_nodes, text_adds};
+ghost use Rattle.tera_grammar.specs.statements.Top.{is_blank};
 ghost use Rattle.tera_statements.specs.Adding.{added_view, seen_of};
 ghost use Rattle.tera_nodes.specs.View.{node_view};
 
@@ -26,10 +27,17 @@ impl Added {
     pub fn is_blank(&self) -> bool {
         match self {
             Added::Nothing | Added::Definition(_) => true,
-            Added::Node(Node::Content(text)) => text.as_str().trim_start().is_empty(),
+            Added::Node(Node::Content(text)) => is_blank(text.as_str()),
             _ => false,
         }
     }
+}
+
+/// Whether a text is of white space alone.
+pub(crate) fn is_blank(text: &str) -> bool
+    ensures { result ≡ is_blank text.now }
+{
+    text.trim_start().is_empty()
 }
 
 /// The names of the blocks and of the components so far, each with where it stands.
@@ -51,6 +59,21 @@ impl Names {
     }
 }
 
+/// Puts a text behind the others, unless it is empty.
+pub(crate) fn push_text(nodes: &mut Vec<Node>, alloc: Global, text: &str) -> Result<(), Error>
+    ensures pushed { OnOk result (map node_view nodes.new.items ≡
+        map node_view nodes.old.items ++ added_nodes (text_adds text.now)) }
+    ensures refusal { IfErr result IsMemory }
+    ensures empty { IfErr result (λ _. text.now ≡ [] → ⊥) }
+{
+    if text.is_empty() {
+        return Ok(());
+    }
+    let text = String::from_str(alloc, text)?;
+    push(nodes, Node::Content(text))?;
+    Ok(())
+}
+
 /// Puts what is a node behind the others. What adds a parent or a definition is refused in a body, so none comes here.
 pub(crate) fn push_node(nodes: &mut Vec<Node>, added: Added) -> Result<(), Error>
     ensures pushed { OnOk result (map node_view nodes.new.items
@@ -59,13 +82,24 @@ pub(crate) fn push_node(nodes: &mut Vec<Node>, added: Added) -> Result<(), Error
 {
     match added {
         Added::Node(node) => {
-            // Many bodies have a single node.
-            if nodes.is_empty() {
-                nodes.reserve_exact(1)?;
-            }
-            nodes.push(node)?;
+            push(nodes, node)?;
             Ok(())
         }
         Added::Nothing | Added::Parent(_) | Added::Definition(_) => Ok(()),
     }
+}
+
+// Puts a node behind the others.
+#[inline(always)]
+fn push(nodes: &mut Vec<Node>, node: Node) -> Result<(), Error>
+    ensures pushed { OnOk result (map node_view nodes.new.items ≡
+        map node_view nodes.old.items ++ (node_view node ∷ [])) }
+    ensures refusal { IfErr result IsMemory }
+{
+    // Many bodies have a single node.
+    if nodes.is_empty() {
+        nodes.reserve_exact(1)?;
+    }
+    nodes.push(node)?;
+    Ok(())
 }

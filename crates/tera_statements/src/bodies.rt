@@ -1,16 +1,18 @@
 //! Bodies.
 
-ghost use Rattle.std.specs.Prelude.{◌∷◌, IfErr, IfOk};
+ghost use Rattle.std.specs.Prelude.{◌≡◌, ◌∷◌, IfErr, IfOk, false, is_none, map};
 ghost use Rattle.tera_grammar.specs.statements.Grammar.{Path, in_loop};
 ghost use Rattle.tera_statements.specs.Adding.{IsBody, here};
+ghost use Rattle.tera_statements.specs.Items.{GivesNode, GoesByItem};
 ghost use Rattle.tera_statements.specs.Around.{Stands, context_of};
-ghost use Rattle.tera_statements.specs.Settings.{bodies_under};
-ghost use Rattle.tera_expect.specs.Taking.{GivesBy, GoesOn, Refuses};
+ghost use Rattle.tera_statements.specs.Settings.{bodies_under, limits_under};
+ghost use Rattle.tera_expect.specs.Taking.{GivesBy, GoesOn, Refuses, RefusesIn};
+ghost use Rattle.tera_nodes.specs.View.{node_view};
 
-use crate::added::{Names, push_node};
+use crate::added::{Names, push_node, push_text};
 use crate::around::{Around, Opening};
 use crate::faults::too_deep;
-use crate::items::item;
+use crate::items::{eat_text, item};
 use crate::settings::Setting;
 use crate::simple::Extension;
 use tera_base::Error;
@@ -42,11 +44,72 @@ pub(crate) fn body(
     let inside = around.inside(opening);
     let mut nodes = Vec::new(cursor.alloc());
     let mut extension = Extension::behind(setting.parent);
-    'items: while let Some(added) = item(setting, cursor, names, &inside, extension, below - 1)? {
-        if !added.is_blank() {
-            extension = extension.later();
-        }
-        push_node(&mut nodes, added)?;
+    'items: while let Some(later) = next_node(
+        setting,
+        cursor,
+        names,
+        &mut nodes,
+        &inside,
+        extension,
+        below - 1,
+    )? {
+        extension = later;
     }
     Ok(nodes)
+}
+
+// Takes the next item of a body, where one stands there, and tells what keeps a template from extending another
+// behind it.
+#[cycle(bodies)]
+#[tactic(auto, using(crate::proofs::RefusalLemmas::memory_inside))]
+fn next_node<'p>(
+    setting: &Setting<'_>,
+    cursor: &mut Cursor<'_>,
+    names: &mut Names,
+    nodes: &mut Vec<Node>,
+    around: &Around,
+    extension: Extension<'p>,
+    below: usize,
+) -> Result<Option<Extension<'p>>, Error>
+    requires { is_none around.now.innermost ≡ false }
+    ensures gives { (path : Path) → Stands path around.now →
+        GivesNode (limits_under setting.now) below path result (map node_view nodes.new.items)
+        (map node_view nodes.old.items) (here names.new cursor.new) (here names.old cursor.old) }
+    ensures refusal { IfErr result (RefusesIn cursor.old) }
+    ensures later { GoesByItem result cursor.old cursor.new }
+{
+    match eat_text(cursor) {
+        Some(text) => {
+            push_text(nodes, cursor.alloc(), text)?;
+            Ok(Some(extension.later_text(text)))
+        }
+        None => item_node(setting, cursor, names, nodes, around, extension, below),
+    }
+}
+
+// Takes what the next item of a body adds, where one stands there, and tells the same.
+#[cycle(bodies)]
+#[tactic(auto, using(crate::proofs::RefusalLemmas::memory_inside))]
+fn item_node<'p>(
+    setting: &Setting<'_>,
+    cursor: &mut Cursor<'_>,
+    names: &mut Names,
+    nodes: &mut Vec<Node>,
+    around: &Around,
+    extension: Extension<'p>,
+    below: usize,
+) -> Result<Option<Extension<'p>>, Error>
+    requires { is_none around.now.innermost ≡ false }
+    ensures gives { (path : Path) → Stands path around.now →
+        GivesNode (limits_under setting.now) below path result (map node_view nodes.new.items)
+        (map node_view nodes.old.items) (here names.new cursor.new) (here names.old cursor.old) }
+    ensures refusal { IfErr result (RefusesIn cursor.old) }
+    ensures later { GoesByItem result cursor.old cursor.new }
+{
+    let Some(added) = item(setting, cursor, names, around, extension, below)? else {
+        return Ok(None);
+    };
+    let later = extension.later(&added);
+    push_node(nodes, added)?;
+    Ok(Some(later))
 }

@@ -7,7 +7,7 @@ ghost use Rattle.tera_grammar.specs.statements.Reading.{tag_of};
 ghost use Rattle.tera_grammar.specs.statements.Reading.Parts.{front};
 ghost use Rattle.tera_lexer.specs.code.Seen.{seen};
 ghost use Rattle.tera_statements.specs.Adding.{AddsBy, added_view, here, seen_of};
-ghost use Rattle.tera_statements.specs.Items.{AreEmptyTexts, Enters, GivesNext, GivesShown, GivesText, GoesByItem, text_in};
+ghost use Rattle.tera_statements.specs.Items.{AreEmptyTexts, EatsText, Enters, GivesNext, GivesShown, GivesText, GoesByItem, text_in};
 ghost use Rattle.tera_statements.specs.Kinds.{kind_of, opener_of};
 ghost use Rattle.tera_statements.specs.Simple.{is_free};
 ghost use Rattle.tera_statements.specs.Settings.{bodies_under, limits_under};
@@ -61,6 +61,18 @@ pub(crate) fn item(
         }
         Front::Wrong => Err(unknown_tag(cursor)),
     }
+}
+
+/// Takes the text that comes next, if one does.
+#[tactic(auto, unfolding(tera_expect::specs::Taking::Took))]
+pub(crate) fn eat_text<'a>(cursor: &mut Cursor<'a>) -> Option<&'a str>
+    ensures { EatsText result cursor.old cursor.new }
+{
+    let Some(Token::Content(text)) = cursor.first() else {
+        return None;
+    };
+    let text = *text;
+    if cursor.skip() { Some(text) } else { None }
 }
 
 // A text, which comes next.

@@ -9,7 +9,7 @@ ghost use Rattle.tera_statements.specs.Simple.{is_free, jump_item, jump_output};
 ghost use Rattle.tera_expect.specs.Taking.{Refuses, Took};
 ghost use Rattle.tera_nodes.specs.View.{node_view};
 
-use crate::added::Added;
+use crate::added::{Added, is_blank};
 use crate::around::{Around, Breaks};
 use crate::faults::{
     again_extended, barred_block, captured_jump, jump_in_no_loop, late_extended, nested_extends,
@@ -111,10 +111,18 @@ impl<'p> Extension<'p> {
         }
     }
 
-    /// What keeps it behind a node of a body.
-    pub fn later(self) -> Extension<'p> {
+    /// What keeps it behind what an item of the body adds.
+    pub fn later(self, added: &Added) -> Extension<'p> {
         match self {
-            Extension::Free => Extension::Late,
+            Extension::Free if !added.is_blank() => Extension::Late,
+            other => other,
+        }
+    }
+
+    /// What keeps it behind a text of the body.
+    pub fn later_text(self, text: &str) -> Extension<'p> {
+        match self {
+            Extension::Free if !is_blank(text) => Extension::Late,
             other => other,
         }
     }

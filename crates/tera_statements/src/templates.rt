@@ -2,12 +2,12 @@
 
 ghost use Rattle.std.specs.Prelude.{◌≡◌, IfErr, IfOk, None, OnOk, []};
 ghost use Rattle.tera_base.specs.Errors.{IsMemory};
-ghost use Rattle.tera_grammar.specs.statements.Output.{AddsNothing};
+ghost use Rattle.tera_lexer.specs.code.Cursors.{Position};
+ghost use Rattle.tera_grammar.specs.statements.Output.{AddsNothing, text_adds};
 ghost use Rattle.tera_grammar.specs.statements.Reading.{at, step};
 ghost use Rattle.tera_grammar.specs.statements.Reading.Meeting.{Seen};
 ghost use Rattle.tera_grammar.specs.statements.Reading.Loops.{node_weight, turn, weight, with_added};
 ghost use Rattle.tera_grammar.specs.statements.Reading.Parts.{front};
-ghost use Rattle.tera_grammar.specs.statements.Top.{is_blank};
 ghost use Rattle.tera_statements.specs.Adding.{added_view, here};
 ghost use Rattle.tera_statements.specs.Outputs.{output_view};
 ghost use Rattle.tera_statements.specs.Items.{AreEmptyTexts, GivesStep, GoesByItem};
@@ -15,20 +15,21 @@ ghost use Rattle.tera_statements.specs.Kinds.{kind_of};
 ghost use Rattle.tera_expr_parts.specs.Rooms.{AreValid, limits_of};
 ghost use Rattle.tera_expect.specs.Taking.{RefusesIn, Took};
 ghost use Rattle.tera_statements.specs.Settings.{bodies_under, limits_under};
-ghost use Rattle.tera_statements.specs.Templates.{Excludes, GivesTemplate, GivesTop, ReadsTemplate, StandsNext, below_top, phase_if_any, phase_of, weight_of};
+ghost use Rattle.tera_statements.specs.Templates.{Excludes, GivesPhase, GivesTemplate, GivesTextPhase, GivesTop, ReadsTemplate, StandsNext, below_top, phase_if_any, phase_of, weight_of};
 ghost use Rattle.tera_statements.specs.declared.fronts.Front.TheVariants as fronts;
 ghost use Rattle.tera_statements.specs.declared.fronts.Opener.TheVariants as openers;
 ghost use Rattle.tera_nodes.specs.View.{node_view};
 
-use crate::added::{Added, Names};
+use crate::added::{Added, Names, is_blank, push_text};
 use crate::around::Around;
 use crate::faults::{again_extended, ignored, late_extended};
 use crate::fronts::{Front, Opener};
-use crate::items::{enter, item};
+use crate::items::{eat_text, enter, item};
 use crate::outputs::ParserOutput;
 use crate::parts::{quote, unknown_tag};
 use crate::settings::Setting;
 use crate::simple::Extension;
+use std::alloc::Global;
 use tera_base::{Error, Span};
 use tera_expr_parts::Limits;
 use tera_lexer::Cursor;
@@ -41,6 +42,17 @@ impl ParserOutput {
             Some(name) => Some(name.as_str()),
             None => None,
         }
+    }
+
+    // Takes a text.
+    fn add_text(&mut self, alloc: Global, text: &str) -> Result<(), Error>
+        ensures added { OnOk result (output_view self.new ≡
+            with_added (output_view self.old) (text_adds text.now)) }
+        ensures refusal { IfErr result IsMemory }
+        ensures empty { IfErr result (λ _. text.now ≡ [] → ⊥) }
+    {
+        push_text(&mut self.nodes, alloc, text)?;
+        Ok(())
     }
 
     // Takes what an item adds.
@@ -101,6 +113,17 @@ impl Phase {
             (Phase::Extending, Weight::Parent | Weight::Other) => None,
         }
     }
+
+    // The phase behind a text, where such a text may stand. In most templates each may, behind the start.
+    #[tactic(auto, using(crate::proofs::TemplatesLemmas::standing_text))]
+    fn behind_text(self, text: &str) -> Option<Phase>
+        ensures { phase_if_any result ≡ turn (phase_of self) (weight (text_adds text.now)) }
+    {
+        match self {
+            Phase::Standing => Some(Phase::Standing),
+            _ => self.behind(text_weight(text)),
+        }
+    }
 }
 
 // What an item is to the top level.
@@ -125,11 +148,19 @@ fn node_weight(node: &Node) -> Weight
     }
 }
 
-// Whether a text is of white space alone.
-fn is_blank(text: &str) -> bool
-    ensures { result ≡ is_blank text.now }
+// What a text is to it.
+#[tactic(auto, using(crate::proofs::TemplatesLemmas::weight_text))]
+fn text_weight(text: &str) -> Weight
+    ensures { weight_of result ≡ weight (text_adds text.now) }
 {
-    text.trim_start().is_empty()
+    if text.is_empty() {
+        return Weight::Silent;
+    }
+    if is_blank(text) {
+        Weight::Silent
+    } else {
+        Weight::Other
+    }
 }
 
 /// Reads the tokens that are left as a whole template, within limits that
@@ -161,20 +192,75 @@ fn whole(setting: &Setting<'_>, cursor: &mut Cursor<'_>) -> Result<ParserOutput,
     let mut names = Names::new(alloc);
     let mut output = ParserOutput::empty(alloc);
     let mut phase = Phase::Starting;
-    'items: while let Some((added, next)) = next_item(
-        setting,
-        cursor,
-        &mut names,
-        output.parent(),
-        phase,
-    )? {
-        output.add(added)?;
+    'items: while let Some(next) = next_phase(setting, cursor, &mut names, &mut output, phase)? {
         phase = next;
     }
     if !cursor.at_end() {
         return Err(unknown_tag(cursor));
     }
     Ok(output)
+}
+
+// Takes the next item of the top level, where one stands there, and tells the phase behind it.
+fn next_phase(
+    setting: &Setting<'_>,
+    cursor: &mut Cursor<'_>,
+    names: &mut Names,
+    output: &mut ParserOutput,
+    phase: Phase,
+) -> Result<Option<Phase>, Error>
+    ensures gives { GivesPhase (limits_under setting.now) phase result (output_view output.new)
+        (output_view output.old) (here names.new cursor.new) (here names.old cursor.old) }
+    ensures refusal { IfErr result (RefusesIn cursor.old) }
+    ensures empty { IfErr result (λ _. AreEmptyTexts cursor.old.left → ⊥) }
+    ensures later { GoesByItem result cursor.old cursor.new }
+{
+    match eat_text(cursor) {
+        Some(text) => text_phase(cursor, output, phase, text),
+        None => item_phase(setting, cursor, names, output, phase),
+    }
+}
+
+// Takes what a text adds, which was taken last, and tells the phase behind it.
+#[tactic(auto, using(crate::proofs::RefusalLemmas::memory_inside))]
+fn text_phase(
+    cursor: &Cursor<'_>,
+    output: &mut ParserOutput,
+    phase: Phase,
+    text: &str,
+) -> Result<Option<Phase>, Error>
+    ensures gives { GivesTextPhase text.now phase result (output_view output.new)
+        (output_view output.old) }
+    ensures refusal { (old : Position) → Took old cursor.now → IfErr result (RefusesIn old) }
+    ensures empty { IfErr result (λ _. text.now ≡ [] → ⊥) }
+{
+    let Some(next) = phase.behind_text(text) else {
+        return Err(ignored(cursor, None));
+    };
+    output.add_text(cursor.alloc(), text)?;
+    Ok(Some(next))
+}
+
+// Takes what the next item adds, where one stands there, and tells the phase behind it.
+#[tactic(auto, using(crate::proofs::RefusalLemmas::memory_inside))]
+fn item_phase(
+    setting: &Setting<'_>,
+    cursor: &mut Cursor<'_>,
+    names: &mut Names,
+    output: &mut ParserOutput,
+    phase: Phase,
+) -> Result<Option<Phase>, Error>
+    ensures gives { GivesPhase (limits_under setting.now) phase result (output_view output.new)
+        (output_view output.old) (here names.new cursor.new) (here names.old cursor.old) }
+    ensures refusal { IfErr result (RefusesIn cursor.old) }
+    ensures empty { IfErr result (λ _. AreEmptyTexts cursor.old.left → ⊥) }
+    ensures later { GoesByItem result cursor.old cursor.new }
+{
+    let Some((added, next)) = next_item(setting, cursor, names, output.parent(), phase)? else {
+        return Ok(None);
+    };
+    output.add(added)?;
+    Ok(Some(next))
 }
 
 // Reads the next item of the top level, where one stands there, and tells the phase behind it.

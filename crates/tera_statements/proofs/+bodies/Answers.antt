@@ -14,8 +14,14 @@ mod Blocking
 mod Looping
 mod Conditioning
 
-pub bodies::body-item-requires : goal.bodies::body-item-requires
-bodies::body-item-requires t c = (omega arith, λ none. not_both _ none c.inside-inside.ensures.inner)
+pub bodies::body-next_node-requires : goal.bodies::body-next_node-requires
+bodies::body-next_node-requires t c = (omega arith, c.inside-inside.ensures.inner)
+
+pub bodies::next_node-item_node-requires : goal.bodies::next_node-item_node-requires
+bodies::next_node-item_node-requires t c = (omega arith, c.requires)
+
+pub bodies::item_node-item-requires : goal.bodies::item_node-item-requires
+bodies::item_node-item-requires t c = (omega arith, λ none. not_both _ none c.requires)
 
 pub items::item-tag-requires : goal.items::item-tag-requires
 items::item-tag-requires t c = (omega arith, c.requires)
@@ -26,8 +32,8 @@ bodies::body-returns-then-below-eq0-clause-gives t c = bodies.bodies::body-retur
 pub bodies::body-items-init : goal.bodies::body-items-init
 bodies::body-items-init t c = bodies.bodies::body-items-init t c
 
-pub bodies::body-returns-in_err-added-clause-gives : goal.bodies::body-returns-in_err-added-clause-gives
-bodies::body-returns-in_err-added-clause-gives t c = bodies.bodies::body-returns-in_err-added-clause-gives t c
+pub bodies::body-returns-in_err-later-clause-gives : goal.bodies::body-returns-in_err-later-clause-gives
+bodies::body-returns-in_err-later-clause-gives t c = bodies.bodies::body-returns-in_err-later-clause-gives t c
 
 pub bodies::body-items-preserved : goal.bodies::body-items-preserved
 bodies::body-items-preserved t c = bodies.bodies::body-items-preserved t c
@@ -40,6 +46,27 @@ bodies::body-returns-clause-gives t c = bodies.bodies::body-returns-clause-gives
 
 pub bodies::body-returns-clause-later : goal.bodies::body-returns-clause-later
 bodies::body-returns-clause-later t c = bodies.bodies::body-returns-clause-later t c
+
+pub bodies::next_node-returns-in_ok-push_text-in-Some-clause-gives : goal.bodies::next_node-returns-in_ok-push_text-in-Some-clause-gives
+bodies::next_node-returns-in_ok-push_text-in-Some-clause-gives t c = bodies.bodies::next_node-returns-in_ok-push_text-in-Some-clause-gives t c
+
+pub bodies::next_node-returns-in-None-clause-gives : goal.bodies::next_node-returns-in-None-clause-gives
+bodies::next_node-returns-in-None-clause-gives t c = bodies.bodies::next_node-returns-in-None-clause-gives t c
+
+pub bodies::next_node-returns-in-None-clause-refusal : goal.bodies::next_node-returns-in-None-clause-refusal
+bodies::next_node-returns-in-None-clause-refusal t c = bodies.bodies::next_node-returns-in-None-clause-refusal t c
+
+pub bodies::next_node-returns-in-None-clause-later : goal.bodies::next_node-returns-in-None-clause-later
+bodies::next_node-returns-in-None-clause-later t c = bodies.bodies::next_node-returns-in-None-clause-later t c
+
+pub bodies::item_node-returns-in_err-added-clause-gives : goal.bodies::item_node-returns-in_err-added-clause-gives
+bodies::item_node-returns-in_err-added-clause-gives t c = bodies.bodies::item_node-returns-in_err-added-clause-gives t c
+
+pub bodies::item_node-returns-in_default-clause-gives : goal.bodies::item_node-returns-in_default-clause-gives
+bodies::item_node-returns-in_default-clause-gives t c = bodies.bodies::item_node-returns-in_default-clause-gives t c
+
+pub bodies::item_node-returns-clause-gives : goal.bodies::item_node-returns-clause-gives
+bodies::item_node-returns-clause-gives t c = bodies.bodies::item_node-returns-clause-gives t c
 
 pub items::item-returns-in-Ends-clause-gives : goal.items::item-returns-in-Ends-clause-gives
 items::item-returns-in-Ends-clause-gives t c = items.items::item-returns-in-Ends-clause-gives t c

@@ -3,15 +3,17 @@ use Rattle.std.proofs.Common.{◌≡◌, ◌∙◌, ◌∷◌, ◌-◌, suc, Som
 use Rattle.std.proofs.lemmas.Result.{err_from_is_err_and}
 use Rattle.tera_lexer.specs.code.Cursors.{Position}
 use Rattle.tera_nodes.specs.View.{node_view}
-use Rattle.tera_grammar.specs.statements.Grammar.{in_loop}
+use Rattle.tera_grammar.specs.statements.Grammar.{Single, Text, in_loop}
 use Rattle.tera_grammar.specs.statements.Output.{added_nodes}
 use Rattle.tera_grammar.specs.statements.Reading.{body}
+use Rattle.tera_grammar.specs.statements.Reading.Parts.{front}
 use Rattle.tera_grammar.proofs.statements.Loops.{going_ends, going_on, going_refused, going_starts}
-use Rattle.tera_statements.specs.Adding.{here}
+use Rattle.tera_statements.specs.Adding.{here, seen_of}
 use Rattle.tera_statements.specs.Around.{context_of}
 use Rattle.tera_expr_parts.specs.Rooms.{limits_of}
 use Rattle.tera_expect.specs.Taking.{GoesOn}
 use Rattle.tera_statements.proofs.BodiesLemmas.{no_depth}
+use Rattle.tera_statements.proofs.ItemsLemmas.{step_holds}
 use Rattle.tera_expect.proofs.TakingLemmas.{took_size, goes_further, stays, took_goes}
 use Rattle.tera_expect.proofs.Steps.{failed_as}
 use Rattle.tera_statements.proofs.+bodies.Goals as goal
@@ -29,14 +31,14 @@ bodies::body-items-init t c = record {
   later = stays c.args.cursor.now;
 }
 
-pub bodies::body-returns-in_err-added-clause-gives : goal.bodies::body-returns-in_err-added-clause-gives
-bodies::body-returns-in_err-added-clause-gives t c = λ path stands.
+pub bodies::body-returns-in_err-later-clause-gives : goal.bodies::body-returns-in_err-later-clause-gives
+bodies::body-returns-in_err-later-clause-gives t c = λ path stands.
     let l = limits_of c.args.setting.now.limits in
     let inside = context_of c.args.opening.now.context ∷ path in
     let start = here c.args.names.now c.args.cursor.now in
     let p = err_from_is_err_and c.from_residual.result c.from_residual.ensures.1 in
     let deep : c.args.below ≡ suc (c.args.below - 1) = omega arith in
-    let fact = c.in_err-added.ensures.gives inside (c.inside-inside.ensures.stands path stands) in
+    let fact = c.in_err-later.ensures.gives inside (c.inside-inside.ensures.stands path stands) in
     rw (p.1, p.2) (failed_as _ _ _ (λ h. ap (λ n. body n l inside start) deep
     ∙ going_refused l (c.args.below - 1) inside (in_loop inside) start (here c.items.names c.items.cursor) (map node_view c.items.nodes.items) (c.items.invariant.going path stands) h) fact)
 
@@ -46,16 +48,15 @@ bodies::body-items-preserved t c = record {
       let l = limits_of c.args.setting.now.limits in
       let inside = context_of c.args.opening.now.context ∷ path in
       let start = here c.args.names.now c.args.cursor.now in
-      let gives = rw c.in-Some.is at c.in_ok-added.ensures.gives in
+      let gives = rw c.in-Some.is at c.in_ok-later.ensures.gives in
       let (i, read, shows) = gives inside (c.inside-inside.ensures.stands path stands) in
-      going_on l (c.args.below - 1) inside (in_loop inside) start (here c.items.names c.items.cursor) (map node_view c.items.nodes.items) i (here c.item.new.names c.item.new.cursor)
-      (map node_view c.push_node.new.nodes.items) (c.items.invariant.going path stands) read
-      (c.in_ok-push_node.ensures.pushed ∙ ap (λ a. map node_view c.items.nodes.items ++ added_nodes a) shows);
-  later = goes_further _ _ _ c.items.invariant.later (took_goes _ _ (rw c.in-Some.is at c.in_ok-added.ensures.later));
+      going_on l (c.args.below - 1) inside (in_loop inside) start (here c.items.names c.items.cursor) (map node_view c.items.nodes.items) i (here c.next_node.new.names c.next_node.new.cursor)
+      (map node_view c.next_node.new.nodes.items) (c.items.invariant.going path stands) read shows;
+  later = goes_further _ _ _ c.items.invariant.later (took_goes _ _ (rw c.in-Some.is at c.in_ok-later.ensures.later));
 }
 
 pub bodies::body-items-smaller : goal.bodies::body-items-smaller
-bodies::body-items-smaller t c = took_size c.items.cursor c.item.new.cursor (rw c.in-Some.is at c.in_ok-added.ensures.later)
+bodies::body-items-smaller t c = took_size c.items.cursor c.next_node.new.cursor (rw c.in-Some.is at c.in_ok-later.ensures.later)
 
 pub bodies::body-returns-clause-gives : goal.bodies::body-returns-clause-gives
 bodies::body-returns-clause-gives t c = λ path stands.
@@ -63,12 +64,48 @@ bodies::body-returns-clause-gives t c = λ path stands.
     let inside = context_of c.args.opening.now.context ∷ path in
     let start = here c.args.names.now c.args.cursor.now in
     let deep : c.args.below ≡ suc (c.args.below - 1) = omega arith in
-    let gives = rw c.in_default.is at c.in_ok-added.ensures.gives in
+    let gives = rw c.in_default.is at c.in_ok-later.ensures.gives in
     let none = gives inside (c.inside-inside.ensures.stands path stands) in
     let (b, read, shows) = going_ends l (c.args.below - 1) inside (in_loop inside) start (here c.items.names c.items.cursor) (map node_view c.items.nodes.items) (c.items.invariant.going path stands) none.0 in
-    (b, ap (λ n. body n l inside start) deep ∙ read ∙ ap (λ p. Some (b, p)) (sym none.1), shows)
+    (b, ap (λ n. body n l inside start) deep ∙ read ∙ ap (λ p. Some (b, p)) (sym none.1), none.2 ∙ shows)
 
 pub bodies::body-returns-clause-later : goal.bodies::body-returns-clause-later
 bodies::body-returns-clause-later t c =
-    let stayed = rw c.in_default.is at c.in_ok-added.ensures.later in
+    let stayed = rw c.in_default.is at c.in_ok-later.ensures.later in
     subst (λ (q : Position). GoesOn c.args.cursor.now q) (sym stayed) c.items.invariant.later
+
+pub bodies::next_node-returns-in_ok-push_text-in-Some-clause-gives : goal.bodies::next_node-returns-in_ok-push_text-in-Some-clause-gives
+bodies::next_node-returns-in_ok-push_text-in-Some-clause-gives t c = λ path stands.
+    let l = limits_of c.args.setting.now.limits in
+    let text = c.in-Some.text.now in
+    let behind = c.eat_text.new.cursor in (
+      Single (Text text behind.span),
+      step_holds l (body c.args.below l) path (seen_of c.args.names.now) (front c.args.cursor.now.left) text behind.span behind.left c.in-Some.ensures.0,
+      c.in_ok-push_text-in-Some.ensures.pushed,
+    )
+
+pub bodies::next_node-returns-in-None-clause-gives : goal.bodies::next_node-returns-in-None-clause-gives
+bodies::next_node-returns-in-None-clause-gives t c = rw c.in-None.ensures at c.item_node.ensures.gives
+
+pub bodies::next_node-returns-in-None-clause-refusal : goal.bodies::next_node-returns-in-None-clause-refusal
+bodies::next_node-returns-in-None-clause-refusal t c = rw c.in-None.ensures at c.item_node.ensures.refusal
+
+pub bodies::next_node-returns-in-None-clause-later : goal.bodies::next_node-returns-in-None-clause-later
+bodies::next_node-returns-in-None-clause-later t c = rw c.in-None.ensures at c.item_node.ensures.later
+
+pub bodies::item_node-returns-in_err-added-clause-gives : goal.bodies::item_node-returns-in_err-added-clause-gives
+bodies::item_node-returns-in_err-added-clause-gives t c = λ path stands.
+    let p = err_from_is_err_and c.from_residual.result c.from_residual.ensures.1 in
+    rw (p.1, p.2) (c.in_err-added.ensures.gives path stands)
+
+pub bodies::item_node-returns-in_default-clause-gives : goal.bodies::item_node-returns-in_default-clause-gives
+bodies::item_node-returns-in_default-clause-gives t c = λ path stands.
+    let gives = rw c.in_default.is at c.in_ok-added.ensures.gives in
+    let none = gives path stands in
+    (none.0, none.1, refl)
+
+pub bodies::item_node-returns-clause-gives : goal.bodies::item_node-returns-clause-gives
+bodies::item_node-returns-clause-gives t c = λ path stands.
+    let gives = rw c.in-Some.is at c.in_ok-added.ensures.gives in
+    let (i, read, shows) = gives path stands in
+    (i, read, c.in_ok-push_node.ensures.pushed ∙ ap (λ a. map node_view c.args.nodes.now.items ++ added_nodes a) shows)

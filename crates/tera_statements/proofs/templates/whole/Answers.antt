@@ -2,7 +2,6 @@ use Rattle.std.proofs.Common.{◌∙◌, [], false, ap, inr, refl, subst, sym}
 use Rattle.std.proofs.lemmas.Result.{err_from_is_err_and}
 use Rattle.tera_lexer.specs.code.Cursors.{Position, is_end}
 use Rattle.tera_grammar.specs.statements.Reading.{Place, Starting, at, body}
-use Rattle.tera_grammar.specs.statements.Reading.Loops.{with_added}
 use Rattle.tera_grammar.proofs.statements.Loops.{topping_ends, topping_left, topping_on, topping_starts}
 use Rattle.tera_statements.specs.Adding.{here, seen_of}
 use Rattle.tera_expr_parts.specs.Rooms.{limits_of}
@@ -10,7 +9,7 @@ use Rattle.tera_expect.specs.Taking.{GoesOn}
 use Rattle.tera_statements.specs.Templates.{below_top, phase_of}
 use Rattle.tera_statements.specs.Outputs.{output_view}
 use Rattle.tera_expect.proofs.TakingLemmas.{took_size, goes_further, stays, took_goes}
-use Rattle.tera_statements.proofs.RefusalLemmas.{empty_adds, empty_ends, goes_empty, goes_inside, not_both}
+use Rattle.tera_statements.proofs.RefusalLemmas.{empty_ends, goes_empty, goes_inside, not_both}
 use Rattle.tera_statements.proofs.TemplatesLemmas.{excluded_fails, opens}
 use Rattle.tera_statements.proofs.templates.whole.Goals as goal
 
@@ -24,66 +23,59 @@ items-init c =
       later = stays c.args.cursor.now;
     }
 
-pub returns-in_err-added-clause-gives : goal.returns-in_err-added-clause-gives
-returns-in_err-added-clause-gives c =
+pub returns-in_err-next-clause-gives : goal.returns-in_err-next-clause-gives
+returns-in_err-next-clause-gives c =
     let p = err_from_is_err_and c.from_residual.result c.from_residual.ensures.1 in
     rw (p.1, p.2) (excluded_fails (limits_of c.args.setting.now.limits) c.args.cursor.now.left (here c.items.names c.items.cursor) (output_view c.items.output) (phase_of c.items.phase) _
-    c.items.invariant.top c.in_err-added.ensures.gives)
+    c.items.invariant.top c.in_err-next.ensures.gives)
 
 pub items-preserved : goal.items-preserved
 items-preserved c =
     let l = limits_of c.args.setting.now.limits in
-    let (i, read, shows, turned) = rw c.in-Some.is at c.in_ok-added.ensures.gives in
-    let took = rw c.in-Some.is at c.in_ok-added.ensures.later in
+    let (i, read, shows, turned) = rw c.in-Some.is at c.in_ok-next.ensures.gives in
+    let took = rw c.in-Some.is at c.in_ok-next.ensures.later in
     record {
       top = topping_on l (below_top l) (opens l c.args.setting.now.valid) c.args.cursor.now.left (here c.items.names c.items.cursor) (output_view c.items.output) (phase_of c.items.phase)
-          i (here c.next_item.new.names c.next_item.new.cursor) (output_view c.add.new.self) c.items.invariant.top read
-          (c.in_ok-add.ensures.added ∙ ap (with_added (output_view c.items.output)) shows) (phase_of c.in-Some.next) turned;
+          i (here c.next_phase.new.names c.next_phase.new.cursor) (output_view c.next_phase.new.output) c.items.invariant.top read
+          shows (phase_of c.in-Some.next) turned;
       later = goes_further _ _ _ c.items.invariant.later (took_goes _ _ took);
     }
 
 pub items-smaller : goal.items-smaller
-items-smaller c = took_size c.items.cursor c.next_item.new.cursor (rw c.in-Some.is at c.in_ok-added.ensures.later)
+items-smaller c = took_size c.items.cursor c.next_phase.new.cursor (rw c.in-Some.is at c.in_ok-next.ensures.later)
 
 pub returns-clause-gives : goal.returns-clause-gives
 returns-clause-gives c =
     let l = limits_of c.args.setting.now.limits in
-    let none = rw c.in_default.is at c.in_ok-added.ensures.gives in
+    let none = rw c.in_default.is at c.in_ok-next.ensures.gives in
     let left = ap (λ (p : Place). is_end p.tokens) (sym none.1) ∙ sym c.at_end.ensures ∙ c.if-not-at_end.false in
-    topping_ends l (below_top l) (opens l c.args.setting.now.valid) c.args.cursor.now.left (here c.items.names c.items.cursor) (output_view c.items.output) (phase_of c.items.phase)
-    c.items.invariant.top none.0 left
+    let (b, read, shows) = topping_ends l (below_top l) (opens l c.args.setting.now.valid) c.args.cursor.now.left (here c.items.names c.items.cursor) (output_view c.items.output)
+    (phase_of c.items.phase) c.items.invariant.top none.0 left in
+    (b, read, none.2 ∙ shows)
 
 pub returns-then-not-at_end-clause-gives : goal.returns-then-not-at_end-clause-gives
 returns-then-not-at_end-clause-gives c =
     let l = limits_of c.args.setting.now.limits in
-    let none = rw c.in_default.is at c.in_ok-added.ensures.gives in
+    let none = rw c.in_default.is at c.in_ok-next.ensures.gives in
     let left = ap (λ (p : Place). is_end p.tokens) (sym none.1) ∙ sym c.at_end.ensures ∙ c.if-not-at_end.true in
     inr (topping_left l (below_top l) (opens l c.args.setting.now.valid) c.args.cursor.now.left (here c.items.names c.items.cursor) (output_view c.items.output) (phase_of c.items.phase)
     c.items.invariant.top none.0 left)
 
 pub returns-then-not-at_end-clause-refusal : goal.returns-then-not-at_end-clause-refusal
 returns-then-not-at_end-clause-refusal c =
-    let stayed = rw c.in_default.is at c.in_ok-added.ensures.later in
+    let stayed = rw c.in_default.is at c.in_ok-next.ensures.later in
     let left = sym c.at_end.ensures ∙ c.if-not-at_end.true in
     goes_inside _ _ _ (subst (λ (q : Position). GoesOn c.args.cursor.now q) (sym stayed) c.items.invariant.later) (c.unknown_tag.ensures.inside left)
 
-pub returns-in_err-added-clause-empty : goal.returns-in_err-added-clause-empty
-returns-in_err-added-clause-empty c =
+pub returns-in_err-next-clause-empty : goal.returns-in_err-next-clause-empty
+returns-in_err-next-clause-empty c =
     let p = err_from_is_err_and c.from_residual.result c.from_residual.ensures.1 in
-    rw p.1 (λ empty. c.in_err-added.ensures.empty (goes_empty _ _ c.items.invariant.later empty))
-
-pub returns-in_err-add-clause-empty : goal.returns-in_err-add-clause-empty
-returns-in_err-add-clause-empty c =
-    let p = err_from_is_err_and c.from_residual-in_err-add.result c.from_residual-in_err-add.ensures.1 in
-    let l = limits_of c.args.setting.now.limits in
-    let (i, read, shows, turned) = rw c.in-Some.is at c.in_ok-added.ensures.gives in
-    rw p.1 (λ empty. c.in_err-add.ensures.nothing (shows ∙ empty_adds l (body (below_top l) l) [] (seen_of c.items.names) false c.items.cursor.left i _
-    (goes_empty _ _ c.items.invariant.later empty) read))
+    rw p.1 (λ empty. c.in_err-next.ensures.empty (goes_empty _ _ c.items.invariant.later empty))
 
 pub returns-then-not-at_end-clause-empty : goal.returns-then-not-at_end-clause-empty
 returns-then-not-at_end-clause-empty c = λ empty.
     let l = limits_of c.args.setting.now.limits in
-    let none = rw c.in_default.is at c.in_ok-added.ensures.gives in
+    let none = rw c.in_default.is at c.in_ok-next.ensures.gives in
     let ended = empty_ends l (body (below_top l) l) [] (seen_of c.items.names) c.items.cursor.left (goes_empty _ _ c.items.invariant.later empty) none.0 in
     let left = ap (λ (p : Place). is_end p.tokens) (sym none.1) ∙ sym c.at_end.ensures ∙ c.if-not-at_end.true in
     not_both (sym ended ∙ left)

@@ -1,0 +1,32 @@
+use Rattle.std.proofs.Common.{◌∙◌, [], false, ap, refl}
+use Rattle.std.proofs.lemmas.Result.{err_from_is_err_and}
+use Rattle.tera_grammar.specs.statements.Reading.{body}
+use Rattle.tera_grammar.specs.statements.Reading.Loops.{with_added}
+use Rattle.tera_expr_parts.specs.Rooms.{limits_of}
+use Rattle.tera_statements.specs.Adding.{seen_of}
+use Rattle.tera_statements.specs.Outputs.{output_view}
+use Rattle.tera_statements.specs.Templates.{below_top}
+use Rattle.tera_statements.proofs.RefusalLemmas.{empty_adds}
+use Rattle.tera_statements.proofs.templates.item_phase.Goals as goal
+
+pub returns-in_err-added-clause-gives : goal.returns-in_err-added-clause-gives
+returns-in_err-added-clause-gives c =
+    let p = err_from_is_err_and c.from_residual.result c.from_residual.ensures.1 in
+    rw (p.1, p.2) c.in_err-added.ensures.gives
+
+pub returns-in_default-clause-gives : goal.returns-in_default-clause-gives
+returns-in_default-clause-gives c =
+    let none = rw c.in_default.is at c.in_ok-added.ensures.gives in
+    (none.0, none.1, refl)
+
+pub returns-clause-gives : goal.returns-clause-gives
+returns-clause-gives c =
+    let (i, read, shows, turned) = rw c.in-Some.is at c.in_ok-added.ensures.gives in
+    (i, read, c.in_ok-add.ensures.added ∙ ap (with_added (output_view c.args.output.now)) shows, turned)
+
+pub returns-in_err-add-clause-empty : goal.returns-in_err-add-clause-empty
+returns-in_err-add-clause-empty c =
+    let p = err_from_is_err_and c.from_residual-in_err-add.result c.from_residual-in_err-add.ensures.1 in
+    let l = limits_of c.args.setting.now.limits in
+    let (i, read, shows, turned) = rw c.in-Some.is at c.in_ok-added.ensures.gives in
+    rw p.1 (λ empty. c.in_err-add.ensures.nothing (shows ∙ empty_adds l (body (below_top l) l) [] (seen_of c.args.names.now) false c.args.cursor.now.left i _ empty read))
