@@ -1,15 +1,20 @@
 -- Tags that close a body.
-use Rattle.std.proofs.Common.{◌≡◌, inl, inr, true, false, None, Some, refl, ap}
+use Rattle.std.proofs.Common.{◌≡◌, ◌<◌, Bool, inl, inr, true, false, None, Some, refl, ap, sym, ◌∙◌, arith}
 use Rattle.tera_base.specs.Errors.{IsMemory}
 use Rattle.tera_base.specs.declared.errors.Error.{Error}
 use Rattle.tera_base.specs.declared.utils.Span.{Span}
-use Rattle.tera_lexer.specs.code.Cursors.{is_end}
-use Rattle.tera_lexer.specs.grammar.Tokens.{Tok, Items, Ended, Failed, Token}
+use Rattle.tera_lexer.specs.code.Cursors.{FirstIs, Position, Skips, is_end}
+use Rattle.tera_lexer.specs.grammar.Tokens.{Tok, Items, Ended, Failed, Finish, Token}
+use Rattle.tera_lexer.specs.code.Seen.{seen}
+use Rattle.tera_lexer.specs.declared.lexer.delimiters.Kind.{Kind}
+use Rattle.tera_grammar.specs.expressions.Reading.Front.{Takes}
 use Rattle.tera_grammar.specs.statements.Parts as parts
 use Rattle.tera_grammar.specs.statements.Parts.{Edge}
 use Rattle.tera_grammar.specs.statements.Reading.Parts.{Front, Ends, Closes, Holds, Shows, Opens, Wrong, front, closed_at, closed}
 use Rattle.tera_grammar.proofs.statements.Parts.{FrontOf, front_is}
 use Rattle.tera_statements.specs.Kinds.{closer_of, closes}
+use Rattle.tera_statements.specs.Reading.{EatsEnd}
+use Rattle.tera_expr_parts.proofs.FrontsLemmas.{took_token}
 use Rattle.tera_expect.specs.Taking.{Fails}
 use Rattle.tera_statements.specs.declared.fronts.Closer.{Closer}
 
@@ -58,3 +63,19 @@ pub unclosed_at_end : (c : parts.Closer) (ts : Items) → is_end ts ≡ true →
 unclosed_at_end c Ended h = refl
 unclosed_at_end c (Failed text span) h = cc
 unclosed_at_end c (Token t span items) h = cc
+
+-- the end of a tag that comes next is taken
+pub end_eaten : (kind : Kind) (read : Items → Takes Edge) → ((dash : Bool) (span : Span) (us : Items) → read (Token (Finish kind dash) span us) ≡ Some (record { dash = dash; span = span }, us))
+    → (old new : Position) (b dash : Bool) → FirstIs old.left (Finish kind dash) → 0 < old.sight → Skips old b new → EatsEnd b old new (read old.left)
+end_eaten kind read reads old new true dash (span, behind, first) some (p, takes) =
+    let same : Token (Finish kind dash) span behind ≡ Token (seen p.0) p.1 new.left = sym first ∙ takes.1 in
+    let here : span ≡ new.span = span_first _ _ _ _ _ _ same ∙ sym takes.5 in
+    let left : behind ≡ new.left = behind_first _ _ _ _ _ _ same in
+    (dash, ap read first ∙ reads dash span behind ∙ (λ i. Some (record { dash = dash; span = here i }, left i)), took_token old new p takes)
+  where
+    span_first : (t u : Tok) (s r : Span) (us vs : Items) → Token t s us ≡ Token u r vs → s ≡ r
+    span_first t u s r us vs h = cc
+
+    behind_first : (t u : Tok) (s r : Span) (us vs : Items) → Token t s us ≡ Token u r vs → us ≡ vs
+    behind_first t u s r us vs h = cc
+end_eaten kind read reads old new false dash first some (none, same) = absurd (omega (arith, some, none))

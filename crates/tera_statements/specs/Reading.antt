@@ -1,11 +1,27 @@
 -- What the parts of a template stand for, as they are read.
-use Rattle.std.specs.Prelude.{◌≡◌, String, string_bytes}
+use Rattle.std.specs.Prelude.{◌≡◌, Bool, true, false, Option, Some, None, Result, Ok, Err, String, string_bytes}
 use Rattle.std.specs.declared.alloc.Global.{Global}
+use Rattle.tera_base.specs.declared.errors.Error.{Error}
 use Rattle.tera_base.specs.declared.utils.Span.{Span}
+use Rattle.tera_lexer.specs.code.Cursors.{Position, Takes, TakesOne}
+use Rattle.tera_lexer.specs.declared.lexer.tokens.Token.{Token}
+use Rattle.tera_lexer.specs.grammar.Tokens.{Items}
 use Rattle.tera_grammar.specs.expressions.Concrete.{Quote}
 use Rattle.tera_grammar.specs.expressions.Output.{quote_text}
+use Rattle.tera_grammar.specs.statements.Parts.{Edge}
+use Rattle.tera_expect.specs.Taking.{Took}
 pub use Rattle.tera_expr_reader.specs.Outermost.{AreAttributes, IsArray, IsComponent, IsExpression, IsFilter, IsMap}
 
 -- a string, with its span
 abbrev pub IsQuote : String Global × Span → Quote × Span → Type 0
 IsQuote s q = (string_bytes s.0 ≡ quote_text q.0) × (s.1 ≡ q.1)
+
+-- the end of a tag that came next was taken, or nothing
+abbrev pub EatsEnd : Bool → Position → Position → Option (Edge × Items) → Type 0
+EatsEnd true old new read = (dash : Bool) × (read ≡ Some (record { dash = dash; span = new.span }, new.left)) × Took old new
+EatsEnd false old new read = (read ≡ None) × (new ≡ old)
+
+-- the next token was taken, or it was told that there is none, or that reading stopped
+abbrev pub PassesOne : Position → Result (Unit {0}) Error → Position → Type 0
+PassesOne old (Ok u) new = (p : Token × Span) × Takes old (Ok (Some p)) new
+PassesOne old (Err e) new = TakesOne old (Err e) new

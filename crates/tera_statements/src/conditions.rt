@@ -18,7 +18,7 @@ use crate::bodies::body;
 use crate::fronts::Closer;
 use crate::heads::expression_to_end;
 use crate::loops::else_body;
-use crate::parts::{closed, closed_tag, closes};
+use crate::parts::{closed_tag, closes, take_closer};
 use crate::settings::Setting;
 use std::alloc::Global;
 use tera_base::{Error, Span};
@@ -103,7 +103,7 @@ fn other_branches(
     let mut word = word;
     let mut branches = Vec::new(alloc);
     'branches: while closes(cursor, Closer::Elif) {
-        closed(cursor, Closer::Elif)?;
+        take_closer(cursor, Closer::Elif)?;
         word = cursor.current_span().copied();
         let branch = read_branch(setting, cursor, names, around, &word, below)?;
         branches.push(branch)?;

@@ -21,7 +21,7 @@ use crate::captures::{call, section, set, shown_node};
 use crate::conditions::condition;
 use crate::fronts::{Front, Opener};
 use crate::loops::for_loop;
-use crate::parts::{unknown_tag, variable_end};
+use crate::parts::{pass, unknown_tag, variable_end};
 use crate::settings::Setting;
 use crate::simple::{Extension, Jump, extends, include, read_jump};
 use std::alloc::{AllocError, Global};
@@ -123,7 +123,7 @@ pub(crate) fn shown(
     ensures refusal { IfErr result (RefusesIn cursor.old) }
     ensures later { IfOk result (λ _. Took cursor.old cursor.new) }
 {
-    let _ = take(cursor)?;
+    pass(cursor)?;
     let expr = expression(cursor, setting.scope(around.in_loop))?;
     variable_end(cursor)?;
     Ok(Added::Node(shown_node(expr)))
@@ -138,8 +138,8 @@ pub(crate) fn enter(cursor: &mut Cursor<'_>, opener: Opener) -> Result<(), Error
     ensures refusal { IfErr result (Refuses cursor.old) }
     ensures later { IfOk result (λ _. Took cursor.old cursor.new) }
 {
-    let _ = take(cursor)?;
-    let _ = take(cursor)?;
+    pass(cursor)?;
+    pass(cursor)?;
     Ok(())
 }
 

@@ -13,7 +13,7 @@ use crate::around::{Around, Context, Opening};
 use crate::bodies::body;
 use crate::fronts::Closer;
 use crate::heads::loop_to_end;
-use crate::parts::{closed, closed_tag, closes, finish};
+use crate::parts::{closed_tag, closes, finish, take_closer};
 use crate::settings::Setting;
 use tera_base::Error;
 use tera_lexer::Cursor;
@@ -71,7 +71,7 @@ pub(crate) fn else_body(
     if !closes(cursor, Closer::Else) {
         return Ok(Vec::new(cursor.alloc()));
     }
-    closed(cursor, Closer::Else)?;
+    take_closer(cursor, Closer::Else)?;
     finish(cursor)?;
     body(setting, cursor, names, around, opening, below)
 }

@@ -1,11 +1,11 @@
 //! The parts of tags.
 
-ghost use Rattle.std.specs.Prelude.{◌≡◌, IfErr, IfOk, false};
+ghost use Rattle.std.specs.Prelude.{◌≡◌, IfErr, IfOk, false, true};
 ghost use Rattle.tera_lexer.specs.code.Cursors.{is_end};
 ghost use Rattle.tera_grammar.specs.expressions.Reading.Front.{taken_quote};
 ghost use Rattle.tera_grammar.specs.statements.Reading.Parts.{closed, closed_tag, finish_of, front, variable_end_of};
 ghost use Rattle.tera_statements.specs.Kinds.{closer_of, closes};
-ghost use Rattle.tera_statements.specs.Reading.{IsQuote};
+ghost use Rattle.tera_statements.specs.Reading.{EatsEnd, IsQuote, PassesOne};
 ghost use Rattle.tera_expect.specs.Taking.{GivesBy, Passes, Refuses, RefusesIn, Took};
 
 use crate::faults::unknown;
@@ -21,10 +21,21 @@ pub(crate) fn finish(cursor: &mut Cursor<'_>) -> Result<(), Error>
     ensures refusal { IfErr result (Refuses cursor.old) }
     ensures later { IfOk result (λ _. Took cursor.old cursor.new) }
 {
+    if eat_end(cursor) {
+        return Ok(());
+    }
     let (token, span) = cursor.next_or_eoi()?;
-    match token {
-        Token::TagEnd(_) => Ok(()),
-        _ => Err(unexpected(cursor.alloc(), &token, "%}", &span)),
+    Err(unexpected(cursor.alloc(), &token, "%}", &span))
+}
+
+// Takes the end of a tag, if it comes next.
+#[tactic(auto, unfolding(tera_expect::specs::Taking::Took))]
+fn eat_end(cursor: &mut Cursor<'_>) -> bool
+    ensures { EatsEnd result cursor.old cursor.new (finish_of cursor.old.left) }
+{
+    match cursor.first() {
+        Some(Token::TagEnd(_)) => cursor.skip(),
+        _ => false,
     }
 }
 
@@ -35,11 +46,36 @@ pub(crate) fn variable_end(cursor: &mut Cursor<'_>) -> Result<(), Error>
     ensures refusal { IfErr result (Refuses cursor.old) }
     ensures later { IfOk result (λ _. Took cursor.old cursor.new) }
 {
-    let (token, span) = cursor.next_or_eoi()?;
-    match token {
-        Token::VariableEnd(_) => Ok(()),
-        _ => Err(unexpected(cursor.alloc(), &token, "}}", &span)),
+    if eat_variable_end(cursor) {
+        return Ok(());
     }
+    let (token, span) = cursor.next_or_eoi()?;
+    Err(unexpected(cursor.alloc(), &token, "}}", &span))
+}
+
+// Takes the end of a variable tag, if it comes next.
+#[tactic(auto, unfolding(tera_expect::specs::Taking::Took))]
+fn eat_variable_end(cursor: &mut Cursor<'_>) -> bool
+    ensures { EatsEnd result cursor.old cursor.new (variable_end_of cursor.old.left) }
+{
+    match cursor.first() {
+        Some(Token::VariableEnd(_)) => cursor.skip(),
+        _ => false,
+    }
+}
+
+/// Takes the next token, where one has to come, and lets it go.
+#[tactic(auto, unfolding(tera_expect::specs::Taking::Took, tera_expect::specs::Taking::Refuses))]
+pub(crate) fn pass(cursor: &mut Cursor<'_>) -> Result<(), Error>
+    ensures passes { PassesOne cursor.old result cursor.new }
+    ensures refusal { IfErr result (Refuses cursor.old) }
+    ensures later { IfOk result (λ _. Took cursor.old cursor.new) }
+{
+    if cursor.skip() {
+        return Ok(());
+    }
+    let _ = cursor.next_or_eoi()?;
+    Ok(())
 }
 
 /// A string, and where it stands.
@@ -80,7 +116,7 @@ fn begin_tag(cursor: &mut Cursor<'_>) -> Result<(), Error>
 {
     let (token, _) = take(cursor)?;
     if let Token::TagStart(_) = token {
-        let _ = take(cursor)?;
+        pass(cursor)?;
     }
     Ok(())
 }
@@ -105,8 +141,19 @@ pub(crate) fn closed(cursor: &mut Cursor<'_>, closer: Closer) -> Result<(), Erro
     if !closes(cursor, closer) {
         return Err(unknown_tag(cursor));
     }
-    let _ = take(cursor)?;
-    let _ = take(cursor)?;
+    take_closer(cursor, closer)
+}
+
+/// Takes the start of a tag and this closing token, which come next.
+#[tactic(auto, using(tera_expect::proofs::TakingLemmas::behind_tokens))]
+pub(crate) fn take_closer(cursor: &mut Cursor<'_>, closer: Closer) -> Result<(), Error>
+    requires { closes closer (front cursor.old.left) ≡ true }
+    ensures gives { Passes result cursor.new.left (closed (closer_of closer) cursor.old.left) }
+    ensures refusal { IfErr result (Refuses cursor.old) }
+    ensures later { IfOk result (λ _. Took cursor.old cursor.new) }
+{
+    pass(cursor)?;
+    pass(cursor)?;
     Ok(())
 }
 

@@ -185,8 +185,8 @@ loops::for_loop-returns-clause-gives t c = loops.loops::for_loop-returns-clause-
 pub loops::else_body-returns-then-not-closes-clause-gives : goal.loops::else_body-returns-then-not-closes-clause-gives
 loops::else_body-returns-then-not-closes-clause-gives t c = loops.loops::else_body-returns-then-not-closes-clause-gives t c
 
-pub loops::else_body-returns-in_err-closed-clause-gives : goal.loops::else_body-returns-in_err-closed-clause-gives
-loops::else_body-returns-in_err-closed-clause-gives t c = loops.loops::else_body-returns-in_err-closed-clause-gives t c
+pub loops::else_body-returns-in_err-take_closer-clause-gives : goal.loops::else_body-returns-in_err-take_closer-clause-gives
+loops::else_body-returns-in_err-take_closer-clause-gives t c = loops.loops::else_body-returns-in_err-take_closer-clause-gives t c
 
 pub loops::else_body-returns-in_err-finish-clause-gives : goal.loops::else_body-returns-in_err-finish-clause-gives
 loops::else_body-returns-in_err-finish-clause-gives t c = loops.loops::else_body-returns-in_err-finish-clause-gives t c
@@ -221,8 +221,8 @@ conditions::read_branch-returns-clause-gives t c = conditions.conditions::read_b
 pub conditions::other_branches-branches-init : goal.conditions::other_branches-branches-init
 conditions::other_branches-branches-init t c = conditions.conditions::other_branches-branches-init t c
 
-pub conditions::other_branches-returns-in_err-closed-clause-gives : goal.conditions::other_branches-returns-in_err-closed-clause-gives
-conditions::other_branches-returns-in_err-closed-clause-gives t c = conditions.conditions::other_branches-returns-in_err-closed-clause-gives t c
+pub conditions::other_branches-returns-in_err-take_closer-clause-gives : goal.conditions::other_branches-returns-in_err-take_closer-clause-gives
+conditions::other_branches-returns-in_err-take_closer-clause-gives t c = conditions.conditions::other_branches-returns-in_err-take_closer-clause-gives t c
 
 pub conditions::other_branches-returns-in_err-branch-clause-gives : goal.conditions::other_branches-returns-in_err-branch-clause-gives
 conditions::other_branches-returns-in_err-branch-clause-gives t c = conditions.conditions::other_branches-returns-in_err-branch-clause-gives t c

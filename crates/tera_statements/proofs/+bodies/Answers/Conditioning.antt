@@ -78,40 +78,40 @@ conditions::other_branches-branches-init t c = record {
   later = stays c.args.cursor.now;
 }
 
-pub conditions::other_branches-returns-in_err-closed-clause-gives : goal.conditions::other_branches-returns-in_err-closed-clause-gives
-conditions::other_branches-returns-in_err-closed-clause-gives t c = λ path stands.
+pub conditions::other_branches-returns-in_err-take_closer-clause-gives : goal.conditions::other_branches-returns-in_err-take_closer-clause-gives
+conditions::other_branches-returns-in_err-take_closer-clause-gives t c = λ path stands.
     let p = err_from_is_err_and c.from_residual.result c.from_residual.ensures.1 in
-    rw (p.1, p.2) (inl (closed_memory closers.Elif c.branches.cursor.left _ (sym c.closes.ensures ∙ c.branches-test.true) c.in_err-closed.ensures.gives))
+    rw (p.1, p.2) (inl (closed_memory closers.Elif c.branches.cursor.left _ (sym c.closes.ensures ∙ c.branches-test.true) c.in_err-take_closer.ensures.gives))
 
 pub conditions::other_branches-returns-in_err-branch-clause-gives : goal.conditions::other_branches-returns-in_err-branch-clause-gives
 conditions::other_branches-returns-in_err-branch-clause-gives t c = λ path stands.
     let l = limits_of c.args.setting.now.limits in
     let seen = seen_of c.branches.names in
     let p = err_from_is_err_and c.from_residual-in_err-branch.result c.from_residual-in_err-branch.ensures.1 in
-    let (x, there) = c.in_ok-closed.ensures.gives in
+    let (x, there) = c.in_ok-take_closer.ensures.gives in
     let so_far = c.branches.invariant.branching path stands in
     rw (p.1, p.2) (failed_as _ _ _ (λ h. branching_refused l c.args.below (InIf ∷ path) (in_loop path) (here c.args.names.now c.args.cursor.now) (here c.branches.names c.branches.cursor) _ so_far
-    (no_elif_branch l c.args.below (InIf ∷ path) seen c.branches.cursor.left c.closed.new.cursor.left x there h)) (c.in_err-branch.ensures.gives path stands))
+    (no_elif_branch l c.args.below (InIf ∷ path) seen c.branches.cursor.left c.take_closer.new.cursor.left x there h)) (c.in_err-branch.ensures.gives path stands))
 
 pub conditions::other_branches-branches-preserved : goal.conditions::other_branches-branches-preserved
 conditions::other_branches-branches-preserved t c = record {
   branching = λ path stands.
       let l = limits_of c.args.setting.now.limits in
       let seen = seen_of c.branches.names in
-      let (x, there) = c.in_ok-closed.ensures.gives in
+      let (x, there) = c.in_ok-take_closer.ensures.gives in
       let (b, read, is) = c.in_ok-branch.ensures.gives path stands in
       let so_far = c.branches.invariant.branching path stands in
       let one : c.push.new.self.items ≡ c.branches.branches.items ++ c.in_ok-branch.branch ∷ [] = search rules in
       let pushed = ap (map branch_view) one ∙ map-append branch_view c.branches.branches.items (c.in_ok-branch.branch ∷ []) in
       branching_on l c.args.below (InIf ∷ path) (in_loop path) (here c.args.names.now c.args.cursor.now) (here c.branches.names c.branches.cursor) (map branch_view c.branches.branches.items)
       (record { tag = tag x.0 x.1 b.1; condition = b.0; body = b.2 }) (here c.read_branch.new.names c.read_branch.new.cursor) (map branch_view c.push.new.self.items) so_far
-      (elif_branch l c.args.below (InIf ∷ path) seen c.branches.cursor.left c.closed.new.cursor.left x there b _ read)
+      (elif_branch l c.args.below (InIf ∷ path) seen c.branches.cursor.left c.take_closer.new.cursor.left x there b _ read)
       (pushed ∙ (λ i. map branch_view c.branches.branches.items ++ (is.0 i, is.1 i) ∷ []));
-  later = goes_further _ _ _ c.branches.invariant.later (took_goes _ _ (took_all _ _ _ c.in_ok-closed.ensures.later c.in_ok-branch.ensures.later));
+  later = goes_further _ _ _ c.branches.invariant.later (took_goes _ _ (took_all _ _ _ c.in_ok-take_closer.ensures.later c.in_ok-branch.ensures.later));
 }
 
 pub conditions::other_branches-branches-smaller : goal.conditions::other_branches-branches-smaller
-conditions::other_branches-branches-smaller t c = took_size c.branches.cursor c.read_branch.new.cursor (took_all _ _ _ c.in_ok-closed.ensures.later c.in_ok-branch.ensures.later)
+conditions::other_branches-branches-smaller t c = took_size c.branches.cursor c.read_branch.new.cursor (took_all _ _ _ c.in_ok-take_closer.ensures.later c.in_ok-branch.ensures.later)
 
 pub conditions::other_branches-returns-in_err-otherwise-clause-gives : goal.conditions::other_branches-returns-in_err-otherwise-clause-gives
 conditions::other_branches-returns-in_err-otherwise-clause-gives t c = λ path stands.

@@ -59,25 +59,25 @@ loops::else_body-returns-then-not-closes-clause-gives t c = λ path stands.
     let none = unclosed closers.Else c.args.cursor.now.left (sym c.closes.ensures ∙ c.if-not-closes.true) in
     (NoElse, without_else _ _ (seen_of c.args.names.now) c.args.cursor.now.left none, ap (map node_view) c.new.ensures.items)
 
-pub loops::else_body-returns-in_err-closed-clause-gives : goal.loops::else_body-returns-in_err-closed-clause-gives
-loops::else_body-returns-in_err-closed-clause-gives t c = λ path stands.
+pub loops::else_body-returns-in_err-take_closer-clause-gives : goal.loops::else_body-returns-in_err-take_closer-clause-gives
+loops::else_body-returns-in_err-take_closer-clause-gives t c = λ path stands.
     let p = err_from_is_err_and c.from_residual.result c.from_residual.ensures.1 in
-    rw (p.1, p.2) (inl (closed_memory closers.Else c.args.cursor.now.left _ (sym c.closes.ensures ∙ c.if-not-closes.false) c.in_err-closed.ensures.gives))
+    rw (p.1, p.2) (inl (closed_memory closers.Else c.args.cursor.now.left _ (sym c.closes.ensures ∙ c.if-not-closes.false) c.in_err-take_closer.ensures.gives))
 
 pub loops::else_body-returns-in_err-finish-clause-gives : goal.loops::else_body-returns-in_err-finish-clause-gives
 loops::else_body-returns-in_err-finish-clause-gives t c = λ path stands.
     let p = err_from_is_err_and c.from_residual-in_err-finish.result c.from_residual-in_err-finish.ensures.1 in
-    let (x, there) = c.in_ok-closed.ensures.gives in
+    let (x, there) = c.in_ok-take_closer.ensures.gives in
     rw (p.1, p.2) (failed_as _ _ _ (λ h. else_unfinished _ _ (seen_of c.args.names.now) c.args.cursor.now.left x _ there h) c.in_err-finish.ensures.gives)
 
 pub loops::else_body-returns-clause-gives : goal.loops::else_body-returns-clause-gives
 loops::else_body-returns-clause-gives t c = λ path stands.
-    let (x, there) = c.in_ok-closed.ensures.gives in
+    let (x, there) = c.in_ok-take_closer.ensures.gives in
     let (f, ended) = c.in_ok-finish.ensures.gives in
     let l = limits_of c.args.setting.now.limits in
-    otherwise_given (body c.args.below l) (context_of c.args.opening.now.context ∷ path) (seen_of c.args.names.now) c.args.cursor.now.left x c.closed.new.cursor.left there f c.finish.new.cursor.left ended
+    otherwise_given (body c.args.below l) (context_of c.args.opening.now.context ∷ path) (seen_of c.args.names.now) c.args.cursor.now.left x c.take_closer.new.cursor.left there f c.finish.new.cursor.left ended
     c.body.result (here c.body.new.names c.body.new.cursor) (c.body.ensures.gives path stands)
 
 pub loops::else_body-returns-clause-later : goal.loops::else_body-returns-clause-later
 loops::else_body-returns-clause-later t c =
-    goes_all_ok c.body.result c.args.cursor.now c.finish.new.cursor c.body.new.cursor (took_all _ _ _ c.in_ok-closed.ensures.later c.in_ok-finish.ensures.later) c.body.ensures.later
+    goes_all_ok c.body.result c.args.cursor.now c.finish.new.cursor c.body.new.cursor (took_all _ _ _ c.in_ok-take_closer.ensures.later c.in_ok-finish.ensures.later) c.body.ensures.later
