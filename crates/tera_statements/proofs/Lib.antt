@@ -3,6 +3,7 @@ pub mod RefusalLemmas
 pub mod FrontsLemmas
 pub mod FiltersLemmas
 pub mod HeadsLemmas
+pub mod AloneLemmas
 pub mod Tags
 pub mod LoopHeads
 pub mod SimpleLemmas

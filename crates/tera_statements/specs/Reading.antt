@@ -1,11 +1,15 @@
 -- What the parts of a template stand for, as they are read.
-use Rattle.std.specs.Prelude.{◌≡◌, Bool, true, false, Option, Some, None, Result, Ok, Err, String, string_bytes}
+use Rattle.std.specs.Prelude.{◌≡◌, ℕ, Bool, true, false, List, Option, Some, None, Result, Ok, Err, String, string_bytes}
+use Rattle.std.specs.Borrow.{Bor}
 use Rattle.std.specs.declared.alloc.Global.{Global}
 use Rattle.tera_base.specs.declared.errors.Error.{Error}
 use Rattle.tera_base.specs.declared.utils.Span.{Span}
-use Rattle.tera_lexer.specs.code.Cursors.{Position, Takes, TakesOne}
+use Rattle.tera_lexer.specs.code.Cursors.{Position, SecondIs, Takes, TakesOne}
 use Rattle.tera_lexer.specs.declared.lexer.tokens.Token.{Token}
-use Rattle.tera_lexer.specs.grammar.Tokens.{Items}
+use Rattle.tera_lexer.specs.declared.lexer.delimiters.Kind.{Kind}
+use Rattle.tera_lexer.specs.grammar.Tokens as toks
+use Rattle.tera_lexer.specs.grammar.Tokens.{Finish, Ident, Items}
+use Rattle.tera_grammar.specs.Words.{is_none, is_not}
 use Rattle.tera_grammar.specs.expressions.Concrete.{Quote}
 use Rattle.tera_grammar.specs.expressions.Output.{quote_text}
 use Rattle.tera_grammar.specs.statements.Parts.{Edge}
@@ -25,3 +29,17 @@ EatsEnd false old new read = (read ≡ None) × (new ≡ old)
 abbrev pub PassesOne : Position → Result (Unit {0}) Error → Position → Type 0
 PassesOne old (Ok u) new = (p : Token × Span) × Takes old (Ok (Some p)) new
 PassesOne old (Err e) new = TakesOne old (Err e) new
+
+-- the second of the tokens ends a tag
+abbrev pub EndsBehind : Items → Type 0
+EndsBehind items = (kind : Kind) × (dash : Bool) × SecondIs items (Finish kind dash)
+
+-- a word that is neither one for no value nor the negation
+abbrev pub NamesVariable : List ℕ → Type 0
+NamesVariable word = (is_none word ≡ false) × (is_not word ≡ false)
+
+-- the name of a variable was taken, behind which a tag ends, or nothing
+abbrev pub EatsAlone : Option (Bor (List ℕ)) → Position → Position → Type 0
+EatsAlone (Some name) old new =
+    (old.left ≡ toks.Token (Ident name.now) new.span new.left) × NamesVariable name.now × EndsBehind old.left × Took old new
+EatsAlone None old new = new ≡ old

@@ -7,12 +7,12 @@ ghost use Rattle.tera_statements.specs.Reading.{AreAttributes, IsExpression};
 ghost use Rattle.tera_statements.specs.Settings.{limits_under};
 ghost use Rattle.tera_expect.specs.Taking.{GivesBy, GoesOn, Refuses, Took};
 
-use crate::parts::finish;
+use crate::parts::{finish, tag_expression};
 use crate::settings::Setting;
 use tera_base::Error;
 use tera_expect::{Fixed, eat, expect};
 use tera_expr_parts::variables;
-use tera_expr_reader::{attributes, expression, filter};
+use tera_expr_reader::{attributes, filter};
 use tera_lexer::Cursor;
 use tera_tree::{Expression, MapEntry};
 
@@ -28,7 +28,7 @@ pub(crate) fn expression_to_end(
     ensures refusal { IfErr result (Refuses cursor.old) }
     ensures later { IfOk result (λ _. Took cursor.old cursor.new) }
 {
-    let expr = expression(cursor, setting.scope(in_loop))?;
+    let expr = tag_expression(setting, cursor, in_loop)?;
     finish(cursor)?;
     Ok(expr)
 }

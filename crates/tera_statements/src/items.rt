@@ -21,13 +21,12 @@ use crate::captures::{call, section, set, shown_node};
 use crate::conditions::condition;
 use crate::fronts::{Front, Opener};
 use crate::loops::for_loop;
-use crate::parts::{pass, unknown_tag, variable_end};
+use crate::parts::{pass, tag_expression, unknown_tag, variable_end};
 use crate::settings::Setting;
 use crate::simple::{Extension, Jump, extends, include, read_jump};
 use std::alloc::{AllocError, Global};
 use tera_base::Error;
 use tera_expect::take;
-use tera_expr_reader::expression;
 use tera_lexer::{Cursor, Token};
 use tera_tree::Node;
 
@@ -124,7 +123,7 @@ pub(crate) fn shown(
     ensures later { IfOk result (λ _. Took cursor.old cursor.new) }
 {
     pass(cursor)?;
-    let expr = expression(cursor, setting.scope(around.in_loop))?;
+    let expr = tag_expression(setting, cursor, around.in_loop)?;
     variable_end(cursor)?;
     Ok(Added::Node(shown_node(expr)))
 }

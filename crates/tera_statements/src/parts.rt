@@ -1,18 +1,25 @@
 //! The parts of tags.
 
 ghost use Rattle.std.specs.Prelude.{◌≡◌, IfErr, IfOk, false, true};
+ghost use Rattle.std.specs.Bool.{OnTrue};
 ghost use Rattle.tera_lexer.specs.code.Cursors.{is_end};
 ghost use Rattle.tera_grammar.specs.expressions.Reading.Front.{taken_quote};
+ghost use Rattle.tera_grammar.specs.statements.Reading.Expressions.{expression_of};
 ghost use Rattle.tera_grammar.specs.statements.Reading.Parts.{closed, closed_tag, finish_of, front, variable_end_of};
 ghost use Rattle.tera_statements.specs.Kinds.{closer_of, closes};
-ghost use Rattle.tera_statements.specs.Reading.{EatsEnd, IsQuote, PassesOne};
+ghost use Rattle.tera_statements.specs.Reading.{EatsAlone, EatsEnd, EndsBehind, IsExpression, IsQuote, NamesVariable, PassesOne};
+ghost use Rattle.tera_statements.specs.Settings.{limits_under};
 ghost use Rattle.tera_expect.specs.Taking.{GivesBy, Passes, Refuses, RefusesIn, Took};
 
 use crate::faults::unknown;
 use crate::fronts::{Closer, Front};
+use crate::settings::Setting;
 use tera_base::{Error, Span};
 use tera_expect::{take, unexpected};
+use tera_expr_parts::{is_none, is_not, leaves};
+use tera_expr_reader::expression;
 use tera_lexer::{Cursor, Token};
+use tera_tree::Expression;
 
 /// The end of a tag.
 #[tactic(auto, unfolding(tera_expect::specs::Taking::Took, tera_expect::specs::Taking::Refuses))]
@@ -76,6 +83,66 @@ pub(crate) fn pass(cursor: &mut Cursor<'_>) -> Result<(), Error>
     }
     let _ = cursor.next_or_eoi()?;
     Ok(())
+}
+
+/// An expression. A variable alone is answered at once.
+#[tactic(auto, using(tera_expect::proofs::TakingLemmas::memory_refused))]
+pub(crate) fn tag_expression(
+    setting: &Setting<'_>,
+    cursor: &mut Cursor<'_>,
+    in_loop: bool,
+) -> Result<Expression, Error>
+    ensures gives { GivesBy (IsExpression in_loop) result cursor.new.left
+        (expression_of (limits_under setting.now) in_loop cursor.old.left) }
+    ensures refusal { IfErr result (Refuses cursor.old) }
+    ensures later { IfOk result (λ _. Took cursor.old cursor.new) }
+{
+    match eat_alone(cursor) {
+        Some(name) => {
+            let span = cursor.current_span().copied();
+            Ok(leaves::variable(cursor.alloc(), name, span)?)
+        }
+        None => expression(cursor, setting.scope(in_loop)),
+    }
+}
+
+// Takes the name of a variable, if it comes next and the tag ends behind it.
+#[tactic(auto, unfolding(tera_expect::specs::Taking::Took))]
+fn eat_alone<'a>(cursor: &mut Cursor<'a>) -> Option<&'a str>
+    ensures { EatsAlone result cursor.old cursor.new }
+{
+    if !ends_behind(cursor) {
+        return None;
+    }
+    let Some(Token::Ident(name)) = cursor.first() else {
+        return None;
+    };
+    let name = *name;
+    if !is_variable(name) {
+        return None;
+    }
+    if cursor.skip() { Some(name) } else { None }
+}
+
+// Whether the tag ends behind the next token.
+fn ends_behind(cursor: &Cursor<'_>) -> bool
+    ensures { OnTrue result (EndsBehind cursor.now.left) }
+{
+    match cursor.second() {
+        Some(Token::VariableEnd(_)) => true,
+        Some(Token::TagEnd(_)) => true,
+        _ => false,
+    }
+}
+
+// Whether the word is the name of a variable: it is neither one for no value nor the negation.
+fn is_variable(word: &str) -> bool
+    ensures { OnTrue result (NamesVariable word.now) }
+{
+    if is_none(word) {
+        return false;
+    }
+    !is_not(word)
 }
 
 /// A string, and where it stands.
