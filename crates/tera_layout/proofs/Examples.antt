@@ -11,7 +11,7 @@ minus_behind_a_dash : laid_out (codes "{{-1}}") ≡ Some (codes "{{- 1 }}")
 unfolding division_by inside_by front_of
 minus_behind_a_dash = refl
 
-white_space_in_a_string : laid_out (codes "{{  'b  c'|d  }}") ≡ Some (codes "{{ 'b  c'|d }}")
+white_space_in_a_string : laid_out (codes "{{  'b  c'|d  }}") ≡ Some (codes "{{ 'b  c' | d }}")
 unfolding division_by inside_by front_of
 white_space_in_a_string = refl
 
@@ -23,10 +23,22 @@ raw_piece : laid_out (codes "{%raw  %} {{a}}{% endraw%}") ≡ Some (codes "{%raw
 unfolding division_by inside_by front_of
 raw_piece = refl
 
-line_feeds : laid_out (codes "{{a" ++ 10 ∷ codes "  |b   |c}}") ≡ Some (codes "{{ a" ++ 10 ∷ codes "  |b |c }}")
+line_feeds : laid_out (codes "{{a" ++ 10 ∷ codes "  |b   |c}}") ≡ Some (codes "{{ a" ++ 10 ∷ codes "  | b | c }}")
 unfolding division_by inside_by front_of
 line_feeds = refl
 
 open_tag : laid_out (codes "{{ a") ≡ None
 unfolding division_by inside_by front_of
 open_tag = refl
+
+white_space_that_goes : laid_out (codes "{{ a . b [ 0 ]|f( x =1 ) }}") ≡ Some (codes "{{ a.b[0] | f(x=1) }}")
+unfolding division_by inside_by front_of
+white_space_that_goes = refl
+
+lexemes_that_would_not_stay_two : laid_out (codes "{{ 1 . . 2} } }}") ≡ Some (codes "{{ 1 . . 2} } }}")
+unfolding division_by inside_by front_of
+lexemes_that_would_not_stay_two = refl
+
+name_that_is_set : laid_out (codes "{%set a=f( b = -1 )%}") ≡ Some (codes "{% set a = f(b=-1) %}")
+unfolding division_by inside_by front_of
+name_that_is_set = refl

@@ -3,9 +3,10 @@ pub mod Respaced
 pub mod Likeness
 pub mod Openings
 pub mod RawPieces
-pub mod Widened
+pub mod Narrowed
 pub mod Bytes
 pub mod Solids
+pub mod Together
 pub mod Layouts
 pub mod Written
 mod Examples

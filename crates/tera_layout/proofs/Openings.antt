@@ -14,7 +14,8 @@ use Rattle.tera_lexer.specs.reading.Front.{behind_run}
 use Rattle.tera_lexer.proofs.Runs.{behind_found}
 use Rattle.tera_lexer.proofs.Operators.{name_no_operator}
 use Rattle.tera_lexer.proofs.Insides.{spelled_some}
-use Rattle.tera_layout.specs.Widened.{Widens, AreWidenedItems}
+use Rattle.tera_layout.specs.Widened.{Widens}
+use Rattle.tera_layout.specs.Narrowed.{AreNarrowedBehind, AreNarrowedItems}
 use Rattle.tera_layout.proofs.Likeness.{white_no_name}
 
 none_some : {A : Type 0} {a : A} → None ≡ Some a → ⊥
@@ -147,17 +148,35 @@ closed_dash : (e : Bool) (s x : List ℕ) → closed e s ≡ 45 ∷ x → end ++
 closed_dash true s x h = cc
 closed_dash false s x h = absurd (false≢true (ap (begins (45 ∷ [])) h))
 
+-- the same lexemes
+abbrev SameLexemes : List Item → List Item → Type 0
+SameLexemes [] [] = Unit {0}
+SameLexemes (i ∷ is) (j ∷ js) = (j.lexeme ≡ i.lexeme) × SameLexemes is js
+SameLexemes _ _ = ⊥
+
+same_behind : (l : Lexeme) (is js : List Item) → AreNarrowedBehind l is js → SameLexemes is js
+same_behind l [] [] same = tt
+same_behind l [] (j ∷ js) same = absurd same
+same_behind l (i ∷ is) [] same = absurd same
+same_behind l (i ∷ is) (j ∷ js) same = (same.1, same_behind i.lexeme is js same.2)
+
+same_items : (is js : List Item) → AreNarrowedItems is js → SameLexemes is js
+same_items [] [] same = tt
+same_items [] (j ∷ js) same = absurd same
+same_items (i ∷ is) [] same = absurd same
+same_items (i ∷ is) (j ∷ js) same = (same.1, same_behind i.lexeme is js same.2)
+
 module _ (gap new : List ℕ) (widens : Widens gap new) (e : Bool) (r s : List ℕ) where
   -- what is one word with other white space was one
-  was_word : (is js : List Item) → AreWidenedItems is js → (j : Item) → js ≡ j ∷ [] → j.lexeme ≡ word → (old : List ℕ) → IsInside end is (End gap e r) old → (dash : Bool) →
+  was_word : (is js : List Item) → SameLexemes is js → (j : Item) → js ≡ j ∷ [] → j.lexeme ≡ word → (old : List ℕ) → IsInside end is (End gap e r) old → (dash : Bool) →
       (t : WordTag) × OpensRaw default_marks t (dash_bytes dash ++ old) r
-  was_word [] js same j one lexeme old inside dash = let clash = subst (AreWidenedItems []) one same in absurd clash
+  was_word [] js same j one lexeme old inside dash = let clash = subst (SameLexemes []) one same in absurd clash
   was_word (i ∷ []) js same j one lexeme old inside dash =
-      let widened = subst (AreWidenedItems (i ∷ [])) one same in
-      (tag dash i.gap gap e, word_opens i gap e r old inside (sym widened.1 ∙ lexeme) dash)
-  was_word (i ∷ k ∷ is) js same j one lexeme old inside dash = let clash = subst (AreWidenedItems (i ∷ k ∷ is)) one same in absurd clash.2
+      let widened = subst (SameLexemes (i ∷ [])) one same in
+      (tag dash i.gap gap e, word_opens i gap e r old inside (sym widened.0 ∙ lexeme) dash)
+  was_word (i ∷ k ∷ is) js same j one lexeme old inside dash = let clash = subst (SameLexemes (i ∷ k ∷ is)) one same in absurd clash.1
 
-  dash_before : (is js : List Item) → AreWidenedItems is js → (old bytes : List ℕ) → IsInside end is (End gap e r) old → IsInside end js (End new e s) bytes →
+  dash_before : (is js : List Item) → AreNarrowedItems is js → (old bytes : List ℕ) → IsInside end is (End gap e r) old → IsInside end js (End new e s) bytes →
       (before behind : List ℕ) (out : Bool) (last : List ℕ) → OpensRaw default_marks (tag true before behind out) bytes last → (t : WordTag) × OpensRaw default_marks t old r
   dash_before [] [] same old bytes inside (at, splits, is_gap, ends) before behind out last opens =
       let x = before ++ (raw_word ++ (behind ++ closed out last)) in
@@ -174,19 +193,19 @@ module _ (gap new : List ℕ) (widens : Widens gap new) (e : Bool) (r s : List �
       let all : spelled j.lexeme ++ rest' ≡ 45 ∷ x = sym (ap (λ g. g ++ (spelled j.lexeme ++ rest')) none) ∙ sym splits' ∙ opens.splits in
       let (dash, tail) = is_dash j.lexeme rest' x stands' all in
       let (k, one, is_word_too) = word_alone js new e s rest' before behind out last more' opens.gap_before opens.gap_behind tail in
-      let (t, opens_old) = was_word is js same.2 k one is_word_too rest more true in
+      let (t, opens_old) = was_word is js (same_behind i.lexeme is js same.2) k one is_word_too rest more true in
       let begun : old ≡ 45 ∷ rest = splits ∙ ap (λ g. g ++ (spelled i.lexeme ++ rest)) (same.0.1 none) ∙ ap (λ l. spelled l ++ rest) (sym same.1 ∙ dash) in
       (t, subst (λ b. OpensRaw default_marks t b r) (sym begun) opens_old)
 
-  opened_before : (is js : List Item) → AreWidenedItems is js → (old bytes : List ℕ) → IsInside end is (End gap e r) old → IsInside end js (End new e s) bytes →
+  opened_before : (is js : List Item) → AreNarrowedItems is js → (old bytes : List ℕ) → IsInside end is (End gap e r) old → IsInside end js (End new e s) bytes →
       (dash : Bool) (before behind : List ℕ) (out : Bool) (last : List ℕ) → OpensRaw default_marks (tag dash before behind out) bytes last → (t : WordTag) × OpensRaw default_marks t old r
   opened_before is js same old bytes inside new_inside false before behind out last opens =
       let (j, one, lexeme) = word_alone js new e s bytes before behind out last new_inside opens.gap_before opens.gap_behind opens.splits in
-      was_word is js same j one lexeme old inside false
+      was_word is js (same_items is js same) j one lexeme old inside false
   opened_before is js same old bytes inside new_inside true before behind out last opens =
       dash_before is js same old bytes inside new_inside before behind out last opens
 
-  pub opens_no_raw : (is js : List Item) → AreWidenedItems is js → (old bytes : List ℕ) → IsInside end is (End gap e r) old → OpensTag default_marks Block old →
+  pub opens_no_raw : (is js : List Item) → AreNarrowedItems is js → (old bytes : List ℕ) → IsInside end is (End gap e r) old → OpensTag default_marks Block old →
       IsInside end js (End new e s) bytes → OpensTag default_marks Block bytes
   opens_no_raw is js same old bytes inside none new_inside = λ t last opens.
       let (u, opened) = opened_before is js same old bytes inside new_inside t.dash_in t.before t.behind t.dash_out last opens in none u r opened

@@ -26,11 +26,16 @@ use Rattle.tera_lexer.proofs.Divisions.{division_found}
 use Rattle.tera_lexer.proofs.Slices.{span_slice}
 use Rattle.tera_lexer.proofs.Tilings.{lexeme_inside, end_splits, comment_splits, raw_splits, tokens_tile}
 use Rattle.tera_layout.proofs.Defaults.{default_valid}
+use Rattle.tera_layout.proofs.Together.{name_any}
 use Rattle.tera_layout.specs.declared.formatting.Reached.{Reached}
 use Rattle.tera_layout.specs.Widened.{items_bytes, word_tag_front, piece_bytes}
-use Rattle.tera_layout.specs.Layout.{laid_edge, laid_gap, laid_item, laid_items, laid_piece, laid_out_by, laid_out}
+use Rattle.tera_layout.specs.declared.sides.Left.{Left}
+use Rattle.tera_layout.specs.declared.sides.Join.{Join}
+use Rattle.tera_layout.specs.declared.sides.Join.TheVariants.{Space, Kept}
+use Rattle.tera_layout.specs.Sides.{outside, at_start, behind}
+use Rattle.tera_layout.specs.Layout.{laid_edge, laid_gap, join_inside, laid_items, laid_piece, laid_out_by, laid_out}
 use Rattle.tera_layout.specs.Refusal.{Refuses}
-use Rattle.tera_layout.specs.Written.{is_start, is_finish, laid_between, put, nothing, reached, token_text, written, Follow, KeepsFaults, RefusesTokens}
+use Rattle.tera_layout.specs.Written.{is_finish, join_of, put, nothing, reached, token_text, written, Follow, KeepsFaults, RefusesTokens}
 
 -- Texts, one behind the other
 same_put : (f g : List ℕ → List ℕ) → ((r : List ℕ) → f r ≡ g r) → (o : Option (List ℕ)) → option_map f o ≡ option_map g o
@@ -42,114 +47,82 @@ put_put f g None = refl
 put_put f g (Some r) = refl
 
 -- A lexeme is no marker
-either : (a b : List ℕ) → List ℕ → Bool
-either a b name = bytes_eq name a || bytes_eq name b
-
-name_plain : (P : Bool → Type 0) (test : Tok → Bool) (name : List ℕ) →
-    P (test (toks.Truth true)) → P (test (toks.Truth false)) → P (test (toks.Ident name)) → P (test (name_token name))
-unfolding either
-name_plain P test name right wrong other =
-    ⊎_elim
-    (λ here. rw here right)
-    (λ first. rw first (⊎_elim (λ here. rw here wrong) (λ second. rw second other) (cases_Bool (either (codes "false") (codes "False") name))))
-    (cases_Bool (either (codes "true") (codes "True") name))
-
-no_start : (l : Lexeme) → is_start (token_of l) ≡ false
-no_start (Name b bs) = name_plain (λ t. t ≡ false) is_start (b ∷ bs) refl refl refl
-no_start (Number b bs) = refl
-no_start (Quoted quote is) = ⊎_elim (λ escape. rw escape refl) (λ plain. rw plain refl) (cases_Bool (has_escape is))
-no_start (Operator op) = refl
-
 no_finish : (l : Lexeme) → is_finish (token_of l) ≡ false
-no_finish (Name b bs) = name_plain (λ t. t ≡ false) is_finish (b ∷ bs) refl refl refl
+no_finish (Name b bs) = name_any (λ t. is_finish t ≡ false) (b ∷ bs) refl refl refl
 no_finish (Number b bs) = refl
 no_finish (Quoted quote is) = ⊎_elim (λ escape. rw escape refl) (λ plain. rw plain refl) (cases_Bool (has_escape is))
 no_finish (Operator op) = refl
 
 -- how far the source is written behind some bytes of it
-abbrev behind : List ℕ → Bool → Bool → Reached
-behind front in_tag at_start = record { end = length front; in_tag = in_tag; at_start = at_start }
+abbrev so_far : List ℕ → Bool → Left → Reached
+so_far front in_tag left = record { end = length front; in_tag = in_tag; left = left }
 
 module _ (source : List ℕ) where
   -- a token behind a gap
-  token_written : (front gap bytes rest : List ℕ) (in_tag edge : Bool) (t : Tok) (items : Items) →
+  token_written : (front gap bytes rest : List ℕ) (in_tag : Bool) (left : Left) (t : Tok) (items : Items) →
       source ≡ front ++ (gap ++ (bytes ++ rest)) →
-      written source (behind front in_tag edge) (Token t (span_of (front ++ gap) bytes) items)
-      ≡ put (laid_between (edge || is_finish t) gap ++ bytes)
-      (written source (behind ((front ++ gap) ++ bytes) (in_tag_behind in_tag t) (is_start t)) items)
+      written source (so_far front in_tag left) (Token t (span_of (front ++ gap) bytes) items)
+      ≡ put (laid_gap (join_of left t) gap ++ bytes)
+      (written source (so_far ((front ++ gap) ++ bytes) (in_tag_behind in_tag t) (behind left t)) items)
   unfolding place_after
-  token_written front gap bytes rest in_tag edge t items splits =
+  token_written front gap bytes rest in_tag left t items splits =
       let here : slice_range source (length front) (length (front ++ gap)) ≡ gap =
       ap (λ s. slice_range s (length front) (length (front ++ gap))) splits ∙ span_slice front gap (bytes ++ rest) in
       let there : slice_range source (length (front ++ gap)) (length ((front ++ gap) ++ bytes)) ≡ bytes =
       ap (λ s. slice_range s (length (front ++ gap)) (length ((front ++ gap) ++ bytes))) (splits ∙ sym (append_assoc front gap (bytes ++ rest)))
       ∙ span_slice (front ++ gap) bytes rest in
-      ap₂ (λ g b. put (laid_between (edge || is_finish t) g ++ b)
-      (written source (behind ((front ++ gap) ++ bytes) (in_tag_behind in_tag t) (is_start t)) items)) here there
+      ap₂ (λ g b. put (laid_gap (join_of left t) g ++ b)
+      (written source (so_far ((front ++ gap) ++ bytes) (in_tag_behind in_tag t) (behind left t)) items)) here there
 
   -- a token where no gap comes first
-  token_here : (front bytes rest : List ℕ) (t : Tok) (items : Items) → source ≡ front ++ (bytes ++ rest) → is_finish t ≡ false →
-      written source (behind front false false) (Token t (span_of front bytes) items)
-      ≡ put bytes (written source (behind (front ++ bytes) (in_tag_behind false t) (is_start t)) items)
+  token_here : (front bytes rest : List ℕ) (t : Tok) (items : Items) → source ≡ front ++ (bytes ++ rest) → join_of outside t ≡ Kept →
+      written source (so_far front false outside) (Token t (span_of front bytes) items)
+      ≡ put bytes (written source (so_far (front ++ bytes) (in_tag_behind false t) (behind outside t)) items)
   unfolding place_after
   token_here front bytes rest t items splits plain =
       let none : length front - length front ≡ 0 = omega arith in
       let here : slice_range source (length front) (length front) ≡ [] = ap (λ n. take n (drop (length front) source)) none in
       let there : slice_range source (length front) (length (front ++ bytes)) ≡ bytes =
       ap (λ s. slice_range s (length front) (length (front ++ bytes))) splits ∙ span_slice front bytes rest in
-      let text : List ℕ → List ℕ → Bool → Option (List ℕ) =
-      λ g b f. put (laid_between (false || f) g ++ b) (written source (behind (front ++ bytes) (in_tag_behind false t) (is_start t)) items) in
-      ap₂ (λ g b. text g b (is_finish t)) here there ∙ ap (text [] bytes) plain
+      let text : List ℕ → List ℕ → Join → Option (List ℕ) =
+      λ g b j. put (laid_gap j g ++ b) (written source (so_far (front ++ bytes) (in_tag_behind false t) (behind outside t)) items) in
+      ap₂ (λ g b. text g b (join_of outside t)) here there ∙ ap (text [] bytes) plain
 
   module _ (valid : IsValid default_marks) (more : Option (List ℕ)) (rest : List ℕ) (follows : List ℕ → Items)
-      (h : (g : List ℕ) → source ≡ g ++ rest → written source (behind g false false) (follows g) ≡ more) where
-    -- the lexemes of a tag, of which the first stands beside a marker or none does
-    abbrev items_from : Bool → List Item → List Item
-    items_from edge [] = []
-    items_from edge (i ∷ is) = record { gap = laid_between edge i.gap; lexeme = i.lexeme } ∷ items_from false is
-
+      (h : (g : List ℕ) → source ≡ g ++ rest → written source (so_far g false outside) (follows g) ≡ more) where
     abbrev end_from : List Item → Kind → List ℕ → Bool → List ℕ → List ℕ
     end_from js kind gap last r = items_bytes js (laid_edge gap ++ (dash_bytes last ++ (end_marker kind default_marks ++ r)))
 
-    inside_written : (kind : Kind) (is : List Item) (gap : List ℕ) (last edge : Bool) (front bytes : List ℕ) → source ≡ front ++ bytes →
+    inside_written : (kind : Kind) (is : List Item) (gap : List ℕ) (last : Bool) (left : Left) (front bytes : List ℕ) → source ≡ front ++ bytes →
         IsInside (end_marker kind default_marks) is (End gap last rest) bytes →
-        written source (behind front true edge) (lexemes front is (λ g. tag_end default_marks (g ++ gap) kind last follows))
-        ≡ option_map (end_from (items_from edge is) kind gap last) more
-    inside_written kind [] gap last edge front bytes splits (at, is_bytes, is_gap, ends) =
+        written source (so_far front true left) (lexemes front is (λ g. tag_end default_marks (g ++ gap) kind last follows))
+        ≡ option_map (end_from (laid_items left is) kind gap last) more
+    inside_written kind [] gap last left front bytes splits (at, is_bytes, is_gap, ends) =
         let end : List ℕ = end_marker kind default_marks in
         let marker : List ℕ = dash_bytes last ++ end in
         let whole : source ≡ front ++ (gap ++ (marker ++ rest)) =
         splits ∙ ap (λ l. front ++ l) (is_bytes ∙ ap (λ l. gap ++ l) (end_splits default_marks valid end last at rest ends)) in
         let there : source ≡ ((front ++ gap) ++ marker) ++ rest =
         whole ∙ sym (append_assoc front gap (marker ++ rest)) ∙ sym (append_assoc (front ++ gap) marker rest) in
-        let beside : edge || true ≡ true = ⊎_elim (λ e. rw e refl) (λ e. rw e refl) (cases_Bool edge) in
-        token_written front gap marker rest true edge (toks.Finish kind last) (follows ((front ++ gap) ++ marker)) whole
-        ∙ ap₂ (λ b o. put (laid_between b gap ++ marker) o) beside (h ((front ++ gap) ++ marker) there)
+        token_written front gap marker rest true left (toks.Finish kind last) (follows ((front ++ gap) ++ marker)) whole
+        ∙ ap (put (laid_edge gap ++ marker)) (h ((front ++ gap) ++ marker) there)
         ∙ same_put (λ r. (laid_edge gap ++ marker) ++ r) (end_from [] kind gap last)
         (λ r. append_assoc (laid_edge gap) marker r ∙ ap (λ l. laid_edge gap ++ l) (append_assoc (dash_bytes last) end r)) more
-    inside_written kind (i ∷ is) gap last edge front bytes splits (more_bytes, is_bytes, is_gap, no_end, stands, inside) =
+    inside_written kind (i ∷ is) gap last left front bytes splits (more_bytes, is_bytes, is_gap, no_end, stands, inside) =
         let text : List ℕ = spelled i.lexeme in
+        let t : Tok = token_of i.lexeme in
         let whole : source ≡ front ++ (i.gap ++ (text ++ more_bytes)) = splits ∙ ap (λ l. front ++ l) is_bytes in
         let there : source ≡ ((front ++ i.gap) ++ text) ++ more_bytes =
         whole ∙ sym (append_assoc front i.gap (text ++ more_bytes)) ∙ sym (append_assoc (front ++ i.gap) text more_bytes) in
         let items : Items = lexemes ((front ++ i.gap) ++ text) is (λ g. tag_end default_marks (g ++ gap) kind last follows) in
-        let beside : edge || is_finish (token_of i.lexeme) ≡ edge =
-        ap (λ b. edge || b) (no_finish i.lexeme) ∙ ⊎_elim (λ e. rw e refl) (λ e. rw e refl) (cases_Bool edge) in
-        token_written front i.gap text more_bytes true edge (token_of i.lexeme) items whole
-        ∙ ap₂ (λ b r. put (laid_between b i.gap ++ text) (written source r items)) beside
-        (ap₂ (λ b c. behind ((front ++ i.gap) ++ text) b c) (lexeme_inside i.lexeme) (no_start i.lexeme))
-        ∙ ap (put (laid_between edge i.gap ++ text)) (inside_written kind is gap last false ((front ++ i.gap) ++ text) more_bytes there inside)
-        ∙ put_put (λ r. (laid_between edge i.gap ++ text) ++ r) (end_from (items_from false is) kind gap last) more
-        ∙ same_put (λ r. (laid_between edge i.gap ++ text) ++ end_from (items_from false is) kind gap last r) (end_from (items_from edge (i ∷ is)) kind gap last)
-        (λ r. append_assoc (laid_between edge i.gap) text (end_from (items_from false is) kind gap last r)) more
-
-    items_others : (is : List Item) → items_from false is ≡ map laid_item is
-    items_others [] = refl
-    items_others (i ∷ is) = ap (λ js. record { gap = laid_gap i.gap; lexeme = i.lexeme } ∷ js) (items_others is)
-
-    items_first : (is : List Item) → items_from true is ≡ laid_items is
-    items_first [] = refl
-    items_first (i ∷ is) = ap (λ js. record { gap = laid_edge i.gap; lexeme = i.lexeme } ∷ js) (items_others is)
+        let gap_is : List ℕ = laid_gap (join_inside left t) i.gap in
+        let inner : join_of left t ≡ join_inside left t = ap (λ b. if b then Space else join_inside left t) (no_finish i.lexeme) in
+        token_written front i.gap text more_bytes true left t items whole
+        ∙ ap₂ (λ j b. put (laid_gap j i.gap ++ text) (written source (so_far ((front ++ i.gap) ++ text) b (behind left t)) items)) inner (lexeme_inside i.lexeme)
+        ∙ ap (put (gap_is ++ text)) (inside_written kind is gap last (behind left t) ((front ++ i.gap) ++ text) more_bytes there inside)
+        ∙ put_put (λ r. (gap_is ++ text) ++ r) (end_from (laid_items (behind left t) is) kind gap last) more
+        ∙ same_put (λ r. (gap_is ++ text) ++ end_from (laid_items (behind left t) is) kind gap last r) (end_from (laid_items left (i ∷ is)) kind gap last)
+        (λ r. append_assoc gap_is text (end_from (laid_items (behind left t) is) kind gap last r)) more
 
     comment_front : (dash : Bool) (inside r : List ℕ) → comment_bytes default_marks dash inside ++ r ≡ piece_bytes default_marks (Comment dash inside) r
     comment_front dash inside r =
@@ -180,18 +153,18 @@ module _ (source : List ℕ) where
 
     -- a piece whose token is its bytes
     bytes_written : (p : Piece) (front text bytes : List ℕ) (t : Tok) → source ≡ front ++ bytes → bytes ≡ text ++ rest →
-        is_finish t ≡ false → is_start t ≡ false → in_tag_behind false t ≡ false → ((r : List ℕ) → text ++ r ≡ piece_bytes default_marks p r) →
-        written source (behind front false false) (Token t (span_of front text) (follows (front ++ text)))
+        join_of outside t ≡ Kept → behind outside t ≡ outside → in_tag_behind false t ≡ false → ((r : List ℕ) → text ++ r ≡ piece_bytes default_marks p r) →
+        written source (so_far front false outside) (Token t (span_of front text) (follows (front ++ text)))
         ≡ option_map (piece_bytes default_marks p) more
-    bytes_written p front text bytes t splits is_bytes no_end no_begin outside same =
+    bytes_written p front text bytes t splits is_bytes kept left_is not_in same =
         let whole : source ≡ front ++ (text ++ rest) = splits ∙ ap (λ l. front ++ l) is_bytes in
-        token_here front text rest t (follows (front ++ text)) whole no_end
-        ∙ ap₂ (λ a b. put text (written source (behind (front ++ text) a b) (follows (front ++ text)))) outside no_begin
+        token_here front text rest t (follows (front ++ text)) whole kept
+        ∙ ap₂ (λ a b. put text (written source (so_far (front ++ text) a b) (follows (front ++ text)))) not_in left_is
         ∙ ap (put text) (h (front ++ text) (whole ∙ sym (append_assoc front text rest)))
         ∙ same_put (λ r. text ++ r) (piece_bytes default_marks p) same more
 
     piece_written : (p : Piece) (start end : Bool) (front bytes : List ℕ) → source ≡ front ++ bytes → IsPiece default_marks p bytes rest →
-        written source (behind front false false) (piece_tokens default_marks front start end p follows)
+        written source (so_far front false outside) (piece_tokens default_marks front start end p follows)
         ≡ option_map (piece_bytes default_marks (laid_piece p)) more
     piece_written (Text text) start end front bytes splits (is_bytes, some, nowhere, ends) =
         bytes_written (Text text) front text bytes (toks.Content (trimmed start end text)) splits is_bytes refl refl refl (λ r. refl)
@@ -208,11 +181,10 @@ module _ (source : List ℕ) where
         splits ∙ ap (λ l. front ++ l) (is_bytes ∙ sym (append_assoc (start_marker kind default_marks) (dash_bytes dash) inside)) in
         let there : source ≡ (front ++ first) ++ inside = whole ∙ sym (append_assoc front first inside) in
         token_here front first inside (toks.Start kind dash) (lexemes (front ++ first) items (λ g. tag_end default_marks (g ++ gap) kind last follows)) whole refl
-        ∙ ap (put first) (inside_written kind items gap last true (front ++ first) inside there stands)
-        ∙ ap (λ js. put first (option_map (end_from js kind gap last) more)) (items_first items)
-        ∙ put_put (λ r. first ++ r) (end_from (laid_items items) kind gap last) more
-        ∙ same_put (λ r. first ++ end_from (laid_items items) kind gap last r) (piece_bytes default_marks (laid_piece (Tag kind dash items gap last)))
-        (λ r. append_assoc (start_marker kind default_marks) (dash_bytes dash) (end_from (laid_items items) kind gap last r)) more
+        ∙ ap (put first) (inside_written kind items gap last at_start (front ++ first) inside there stands)
+        ∙ put_put (λ r. first ++ r) (end_from (laid_items at_start items) kind gap last) more
+        ∙ same_put (λ r. first ++ end_from (laid_items at_start items) kind gap last r) (piece_bytes default_marks (laid_piece (Tag kind dash items gap last)))
+        (λ r. append_assoc (start_marker kind default_marks) (dash_bytes dash) (end_from (laid_items at_start items) kind gap last r)) more
 
   -- nothing is written where the tokens end in a tag or in a fault
   open_written : (is : List Item) (last : List ℕ → Items) → ((g : List ℕ) (r : Reached) → r.in_tag ≡ true → written source r (last g) ≡ None) →
@@ -225,17 +197,17 @@ module _ (source : List ℕ) where
       (open_written is last h ((front ++ i.gap) ++ spelled i.lexeme) (reached r t span.range.end) (ap (λ b. in_tag_behind b t) inside ∙ lexeme_inside i.lexeme))
 
   ending_written : (ending : Ending) (front : List ℕ) →
-      written source (behind front false false) (ending_tokens default_marks front ending) ≡ laid_out_by ([], ending)
+      written source (so_far front false outside) (ending_tokens default_marks front ending) ≡ laid_out_by ([], ending)
   ending_written Complete front = refl
   ending_written (OpenTag kind dash items gap) front =
       let first : List ℕ = start_marker kind default_marks ++ dash_bytes dash in
-      let at : Reached = behind front false false in
+      let at : Reached = so_far front false outside in
       let span : Span = span_of front first in
       ap (put (token_text source at (toks.Start kind dash) span))
       (open_written items (λ g. Ended) (λ g r inside. ap (λ b. if b then None else Some []) inside) (front ++ first) (reached at (toks.Start kind dash) span.range.end) refl)
   ending_written (BadTag kind dash items gap fault at_fault) front =
       let first : List ℕ = start_marker kind default_marks ++ dash_bytes dash in
-      let at : Reached = behind front false false in
+      let at : Reached = so_far front false outside in
       let span : Span = span_of front first in
       ap (put (token_text source at (toks.Start kind dash) span))
       (open_written items (λ g. failed (g ++ gap) fault) (λ g r inside. refl) (front ++ first) (reached at (toks.Start kind dash) span.range.end) refl)
@@ -252,7 +224,7 @@ module _ (source : List ℕ) where
 
   pieces_written : IsValid default_marks → (ps : List Piece) (ending : Ending) (left : List Piece) (front bytes : List ℕ) →
       source ≡ front ++ bytes → IsDivision default_marks ps ending bytes →
-      written source (behind front false false) (tokens_of default_marks front left ps ending) ≡ laid_out_by (ps, ending)
+      written source (so_far front false outside) (tokens_of default_marks front left ps ending) ≡ laid_out_by (ps, ending)
   pieces_written valid [] ending left front bytes splits divides = ending_written ending front
   pieces_written valid (p ∷ ps) ending left front bytes splits (rest, piece, divides) =
       piece_written valid (laid_out_by (ps, ending)) rest (λ f. tokens_of default_marks f (p ∷ left) ps ending)
@@ -261,9 +233,9 @@ module _ (source : List ℕ) where
       ∙ laid_more p ps ending
 
 pub layout_written : (source : List ℕ) (items : Items) → AreTokensOf default_marks source items →
-    written source (behind [] false false) items ≡ laid_out source
+    written source (so_far [] false outside) items ≡ laid_out source
 layout_written source items (ps, ending, divides, is) =
-    ap (written source (behind [] false false)) is
+    ap (written source (so_far [] false outside)) is
     ∙ pieces_written source default_valid ps ending [] [] source refl divides
     ∙ sym (ap laid_out_by (division_found default_marks default_valid ps ending (suc (length source)) source divides (omega arith)))
 
@@ -336,7 +308,3 @@ pub text_kept : (source out new : List ℕ) (r next : Reached) (t : Tok) (span :
 text_kept source out new r next t span left is is_next =
     ap₂ (λ n k. put n (written source k left)) is is_next
     ∙ put_append out (token_text source r t span) (written source (reached r t span.range.end) left)
-
-pub nothing_is : (r : Reached) → r.end ≡ 0 → r.in_tag ≡ false → r.at_start ≡ false → r ≡ nothing
-nothing_is r end in_tag at_start =
-    ap₂ (λ n t. record { end = n; in_tag = t; at_start = r.at_start }) end in_tag ∙ ap (λ s. record { end = 0; in_tag = false; at_start = s }) at_start

@@ -1,12 +1,18 @@
--- The layout of a source. Behind the start and before the end of a tag stands one space, and inside of it one space for
--- white space; but white space with a line feed stays as it is.
+-- The layout of a source. Behind the start and before the end of a tag stands one space; inside of it nothing between
+-- tokens that stand together, one space between those that stand apart, and between others one space for white space;
+-- but white space with a line feed stays as it is.
 use Rattle.std.specs.Prelude.{◌≡◌, ◌==◌, ℕ, Bool, if◌then◌else◌, List, [], ◌∷◌, map, Option, Some, None}
 use Rattle.std.specs.List.{list_any}
 use Rattle.tera_lexer.specs.grammar.Bytes.{line_feed, space}
 use Rattle.tera_lexer.specs.grammar.Marks.{default_marks}
 use Rattle.tera_lexer.specs.grammar.Lexeme.{Item}
 use Rattle.tera_lexer.specs.grammar.Division.{Piece, Tag, Ending, Complete, IsDivision}
+use Rattle.tera_lexer.specs.grammar.Tokens.{Tok, token_of}
 use Rattle.tera_lexer.specs.reading.Front.{division_of}
+use Rattle.tera_layout.specs.declared.sides.Left.{Left}
+use Rattle.tera_layout.specs.declared.sides.Join.{Join}
+use Rattle.tera_layout.specs.declared.sides.Join.TheVariants.{Space, Nothing, Kept}
+use Rattle.tera_layout.specs.Sides.{side_of, placed, join_between, is_start, at_start, behind}
 use Rattle.tera_layout.specs.Widened.{pieces_bytes}
 
 abbrev pub has_line_feed : List ℕ → Bool
@@ -16,20 +22,25 @@ has_line_feed gap = list_any (λ b. b == line_feed) gap
 abbrev pub laid_edge : List ℕ → List ℕ
 laid_edge gap = if has_line_feed gap then gap else space ∷ []
 
--- what stands in the place of another gap: nothing only where nothing stood
-abbrev pub laid_gap : List ℕ → List ℕ
-laid_gap [] = []
-laid_gap (b ∷ bs) = laid_edge (b ∷ bs)
+-- .. and of any gap: one space; nothing; one space, but nothing where nothing stood
+abbrev pub laid_gap : Join → List ℕ → List ℕ
+laid_gap Space gap = laid_edge gap
+laid_gap Nothing gap = if has_line_feed gap then gap else []
+laid_gap Kept [] = []
+laid_gap Kept (b ∷ bs) = laid_edge (b ∷ bs)
 
-abbrev pub laid_item : Item → Item
-laid_item i = record { gap = laid_gap i.gap; lexeme = i.lexeme }
+-- what joins a lexeme to what stands on its left
+abbrev pub join_inside : Left → Tok → Join
+join_inside l t = if is_start l.side then Space else join_between l.side (placed l (side_of t))
 
-abbrev pub laid_items : List Item → List Item
-laid_items [] = []
-laid_items (i ∷ is) = record { gap = laid_edge i.gap; lexeme = i.lexeme } ∷ map laid_item is
+abbrev pub laid_items : Left → List Item → List Item
+laid_items l [] = []
+laid_items l (i ∷ is) =
+    record { gap = laid_gap (join_inside l (token_of i.lexeme)) i.gap; lexeme = i.lexeme }
+    ∷ laid_items (behind l (token_of i.lexeme)) is
 
 abbrev pub laid_piece : Piece → Piece
-laid_piece (Tag kind dash items gap end) = Tag kind dash (laid_items items) (laid_edge gap) end
+laid_piece (Tag kind dash items gap end) = Tag kind dash (laid_items at_start items) (laid_edge gap) end
 laid_piece p = p
 
 -- the source of the same pieces in this layout

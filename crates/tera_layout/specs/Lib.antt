@@ -1,6 +1,9 @@
+pub mod Sides
 pub mod Layout
 pub mod Refusal
 pub mod Widened
+pub mod Apart
+pub mod Narrowed
 pub mod Respaced
 pub mod Alike
 pub mod Written

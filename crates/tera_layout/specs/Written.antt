@@ -1,5 +1,5 @@
 -- The layout as it is written: token by token, each with what stands in the place of the gap before it.
-use Rattle.std.specs.Prelude.{◌≡◌, ◌⊎◌, ◌≤◌, ℕ, Bool, true, false, ◌||◌, if◌then◌else◌, List, [], ◌++◌, Option, Some, None, slice_range}
+use Rattle.std.specs.Prelude.{◌≡◌, ◌⊎◌, ◌≤◌, ℕ, Bool, true, false, if◌then◌else◌, List, [], ◌∷◌, ◌++◌, Option, Some, None, slice_range}
 use Rattle.std.specs.Option.{option_map}
 use Rattle.tera_base.specs.Errors.{TellsBy}
 use Rattle.tera_base.specs.declared.utils.Span.{Span}
@@ -9,21 +9,21 @@ use Rattle.tera_lexer.specs.grammar.Faults.{IsFaultOf, IsEndBehind, IsEndOf}
 use Rattle.tera_lexer.specs.grammar.Tiling.{in_tag_behind}
 use Rattle.tera_lexer.specs.grammar.Tokens as toks
 use Rattle.tera_lexer.specs.grammar.Tokens.{Tok, Items, Ended, Failed, Token}
-use Rattle.tera_layout.specs.Layout.{laid_edge, laid_gap}
 use Rattle.tera_layout.specs.declared.formatting.Reached.{Reached}
+use Rattle.tera_layout.specs.declared.sides.Left.{Left}
+use Rattle.tera_layout.specs.declared.sides.Join.{Join}
+use Rattle.tera_layout.specs.declared.sides.Join.TheVariants.{Space, Nothing, Kept}
+use Rattle.tera_layout.specs.Sides.{outside, behind}
+use Rattle.tera_layout.specs.Layout.{laid_gap, join_inside}
 
--- the token is the start, the end of a tag
-abbrev pub is_start : Tok → Bool
-is_start (toks.Start kind dash) = true
-is_start t = false
-
+-- the token is the end of a tag
 abbrev pub is_finish : Tok → Bool
 is_finish (toks.Finish kind dash) = true
 is_finish t = false
 
--- what stands in the place of a gap, beside a marker or not
-abbrev pub laid_between : Bool → List ℕ → List ℕ
-laid_between edge gap = if edge then laid_edge gap else laid_gap gap
+-- what joins a token to what stands on its left
+abbrev pub join_of : Left → Tok → Join
+join_of l t = if is_finish t then Space else join_inside l t
 
 -- a text and what is written behind it, if that is
 abbrev pub put : List ℕ → Option (List ℕ) → Option (List ℕ)
@@ -31,16 +31,16 @@ put text written = option_map (λ more. text ++ more) written
 
 -- before the first token
 abbrev pub nothing : Reached
-nothing = record { end = 0; in_tag = false; at_start = false }
+nothing = record { end = 0; in_tag = false; left = outside }
 
 -- behind a token that ends there
 abbrev pub reached : Reached → Tok → ℕ → Reached
-reached r t end = record { end = end; in_tag = in_tag_behind r.in_tag t; at_start = is_start t }
+reached r t end = record { end = end; in_tag = in_tag_behind r.in_tag t; left = behind r.left t }
 
 -- what is written of a token and the gap before it
 abbrev pub token_text : List ℕ → Reached → Tok → Span → List ℕ
 token_text source r t span =
-    laid_between (r.at_start || is_finish t) (slice_range source r.end span.range.start)
+    laid_gap (join_of r.left t) (slice_range source r.end span.range.start)
     ++ slice_range source span.range.start span.range.end
 
 -- what is written of tokens that stand behind what was reached: nothing where they end in a fault, or in a tag
@@ -68,3 +68,10 @@ abbrev pub RefusesTokens : List ℕ → Items → Error → Type 0
 RefusesTokens source items e =
     TellsBy (λ text span. IsWithin source span × (written source nothing items ≡ None)
     × (IsFaultOf items text span ⊎ IsEndOf items text span)) e
+
+-- one space stands in the place of a gap without a line feed
+abbrev pub is_one_space : Join → List ℕ → Bool
+is_one_space Space gap = true
+is_one_space Nothing gap = false
+is_one_space Kept [] = false
+is_one_space Kept (b ∷ bs) = true

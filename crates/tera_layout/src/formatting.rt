@@ -5,17 +5,20 @@ ghost use Rattle.std.specs.Str.{IsCharBoundary};
 ghost use Rattle.tera_base.specs.Errors.{IsMemory};
 ghost use Rattle.tera_lexer.specs.grammar.Place.{IsWithin};
 ghost use Rattle.tera_lexer.specs.code.Seen.{seen};
-ghost use Rattle.tera_layout.specs.Layout.{laid_out};
+ghost use Rattle.tera_lexer.specs.grammar.Tiling.{in_tag_behind};
+ghost use Rattle.tera_layout.specs.Layout.{laid_gap, laid_out};
 ghost use Rattle.tera_layout.specs.Refusal.{Refuses};
-ghost use Rattle.tera_layout.specs.Written.{is_finish, laid_between, nothing, reached as behind_token, put, token_text, written, Follow, RefusesTokens};
+ghost use Rattle.tera_layout.specs.Written.{is_one_space, nothing, reached as behind_token, put, token_text, written, Follow, RefusesTokens};
 
+use crate::sides::{Join, Left};
 use std::alloc::{AllocError, Global};
 use tera_base::{Error, Span};
 use tera_lexer::{Cursor, Delimiters, Token, tokenize};
 
 /// The source in its layout, between the default markers: in each tag one space behind the start and
-/// before the end, and one in the place of white space inside. White space with a line feed stays as
-/// it is, and so does all that stands outside of tags.
+/// before the end, nothing between what stands together, as `a.b` and `f(x=1)`, and one space in the
+/// place of other white space. White space with a line feed stays as it is, and so does all that
+/// stands outside of tags.
 ///
 /// A source with a lexical fault, or with a tag that never ends, is refused, and its fault told;
 /// whether it is a template is not asked. The only other refusal is `Memory`.
@@ -45,7 +48,11 @@ fn push_tokens(out: &mut String, source: &str, cursor: &mut Cursor<'_>) -> Resul
         ≡ Some (string_bytes out.new)) }
     ensures refusal { IfErr result (RefusesTokens source.now cursor.old.left) }
 {
-    let mut reached = Reached::default();
+    let mut reached = Reached {
+        end: 0,
+        in_tag: false,
+        left: Left::outside(),
+    };
     'tokens: while let Some((token, span)) = cursor.next()? {
         reached = push_token(out, source, reached, token, &span)?;
     }
@@ -57,42 +64,36 @@ fn push_tokens(out: &mut String, source: &str, cursor: &mut Cursor<'_>) -> Resul
 }
 
 // How far a source is written.
-#[derive(Default, Clone, Copy)]
+#[derive(Clone, Copy)]
 struct Reached {
     // Where the token before ends.
     end: usize,
     // Whether a tag is open there.
     in_tag: bool,
-    // Whether the token before is the start of a tag.
-    at_start: bool,
+    // What the token before is to those beside it.
+    left: Left,
 }
 
-impl Reached {
-    // Whether the token stands beside a marker, or is one.
-    fn is_edge(self, token: &Token<'_>) -> bool
-        ensures { result ≡ (self.at_start || is_finish (seen token.now)) }
-    {
-        self.at_start || is_end(token)
-    }
-
-    // Behind a token that ends there.
-    fn behind(self, token: &Token<'_>, end: usize) -> Reached
-        ensures { result ≡ behind_token self (seen token.now) end }
-    {
-        let at_start = matches!(token, Token::VariableStart(_) | Token::TagStart(_));
-        Reached {
-            end,
-            in_tag: at_start || (self.in_tag && !is_end(token)),
-            at_start,
-        }
-    }
-}
-
-// Whether the token is the end of a tag.
-fn is_end(token: &Token<'_>) -> bool
-    ensures { result ≡ is_finish (seen token.now) }
+// Behind a token that ends there.
+fn behind(reached: Reached, token: &Token<'_>, end: usize) -> Reached
+    ensures { result ≡ behind_token reached (seen token.now) end }
 {
-    matches!(token, Token::VariableEnd(_) | Token::TagEnd(_))
+    Reached {
+        end,
+        in_tag: goes_on_inside(reached.in_tag, token),
+        left: reached.left.behind(token),
+    }
+}
+
+// Whether a tag is open behind the token.
+fn goes_on_inside(in_tag: bool, token: &Token<'_>) -> bool
+    ensures { result ≡ in_tag_behind in_tag (seen token.now) }
+{
+    match token {
+        Token::VariableStart(_) | Token::TagStart(_) => true,
+        Token::VariableEnd(_) | Token::TagEnd(_) => false,
+        _ => in_tag,
+    }
 }
 
 // Writes a token behind what was reached, and answers what is reached then.
@@ -111,25 +112,33 @@ fn push_token(
     ensures text { OnOk result (string_bytes out.new
         ≡ string_bytes out.old ++ token_text source.now reached (seen token.entry) span.now) }
 {
-    push_gap(
-        out,
-        &source[reached.end..span.range.start],
-        reached.is_edge(&token),
-    )?;
+    let gap = &source[reached.end..span.range.start];
+    push_gap(out, gap, reached.left.join(&token))?;
     out.push_str(&source[span.range.start..span.range.end])?;
-    Ok(reached.behind(&token, span.range.end))
+    Ok(behind(reached, &token, span.range.end))
 }
 
-// What stands in the place of a gap, beside a marker or not.
-fn push_gap(out: &mut String, gap: &str, edge: bool) -> Result<(), AllocError>
+// What stands in the place of a gap.
+fn push_gap(out: &mut String, gap: &str, join: Join) -> Result<(), AllocError>
     ensures { OnOk result (string_bytes out.new
-        ≡ string_bytes out.old ++ laid_between edge gap.now) }
+        ≡ string_bytes out.old ++ laid_gap join gap.now) }
 {
     if gap.as_bytes().contains(&b'\n') {
         out.push_str(gap)
-    } else if edge || !gap.is_empty() {
+    } else if is_space(join, gap) {
         out.push(' ')
     } else {
         Ok(())
+    }
+}
+
+// Whether one space stands in the place of a gap without a line feed.
+fn is_space(join: Join, gap: &str) -> bool
+    ensures { result ≡ is_one_space join gap.now }
+{
+    match join {
+        Join::Space => true,
+        Join::Nothing => false,
+        Join::Kept => !gap.is_empty(),
     }
 }

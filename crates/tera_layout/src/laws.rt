@@ -5,6 +5,7 @@ ghost use Rattle.tera_lexer.specs.grammar.Division.{Piece, Complete, IsDivision}
 ghost use Rattle.tera_lexer.specs.grammar.Marks.{Marks, default_marks};
 ghost use Rattle.tera_layout.specs.Alike.{AreAlikeSources};
 ghost use Rattle.tera_layout.specs.Layout.{IsLaidOut, laid_out};
+ghost use Rattle.tera_layout.specs.Narrowed.{AreNarrowed};
 ghost use Rattle.tera_layout.specs.Respaced.{IsRespaced, without_white};
 ghost use Rattle.tera_layout.specs.Widened.{pieces_bytes, AreWidened};
 
@@ -25,6 +26,13 @@ pub fn respaced()
 pub fn widened()
     ensures { (ps qs : List Piece) (one : List ℕ) → IsDivision default_marks ps Complete one →
         AreWidened ps qs → IsRespaced default_marks one (pieces_bytes default_marks qs) }
+{}
+
+/// White space may be taken out as well between lexemes that stay apart by themselves, as a name and a
+/// bracket do, and a number and a point do not.
+pub fn narrowed()
+    ensures { (ps qs : List Piece) (one : List ℕ) → IsDivision default_marks ps Complete one →
+        AreNarrowed ps qs → IsRespaced default_marks one (pieces_bytes default_marks qs) }
 {}
 
 /// Each source without a fault and without an open tag has a layout, between the default markers.

@@ -4,12 +4,14 @@
 //! It takes a source and gives its layout (`format`), or the fault for which the source has none. It
 //! stands on `tera_lexer`.
 //!
-//! In the order of reading: specs `Layout`, and of `Widened` what the bytes of pieces are;
-//! `formatting`, which writes the layout, with the specs `Written`. Then `laws`, with the specs
-//! `Respaced`, `Alike` and `Widened`. `Examples` in `proofs` runs the layout.
+//! In the order of reading: specs `Sides`, which tokens stand together and which apart, and `Layout`,
+//! and of `Widened` what the bytes of pieces are; `sides`, and `formatting`, which writes the layout,
+//! with the specs `Written`. Then `laws`, with the specs `Respaced`, `Alike`, `Widened`, `Apart` and
+//! `Narrowed`. `Examples` in `proofs` runs the layout.
 #![tactic(auto)]
 
 mod formatting;
 pub mod laws;
+mod sides;
 
 pub use formatting::format;

@@ -17,20 +17,76 @@ const LAYOUTS: [(&str, &str); 21] = [
     ("{%-if  a-%} b{%endif%}", "{%- if a -%} b{% endif %}"),
     ("{{-1}}", "{{- 1 }}"),
     ("{{ -1 }}", "{{ -1 }}"),
-    ("{{a+b}}", "{{ a+b }}"),
+    ("{{a+b}}", "{{ a + b }}"),
     ("{{a  +  b}}", "{{ a + b }}"),
     (
         "{{ a|default( value =  \"b  c\" ) }}",
-        "{{ a|default( value = \"b  c\" ) }}",
+        "{{ a | default(value=\"b  c\") }}",
     ),
     ("{{ 'a\\'  b'  }}", "{{ 'a\\'  b' }}"),
     ("{{\ta\t}}", "{{ a }}"),
     ("{{\n  a\n}}", "{{\n  a\n}}"),
-    ("{{a\n    |b   |c}}", "{{ a\n    |b |c }}"),
+    ("{{a\n    |b   |c}}", "{{ a\n    | b | c }}"),
     ("{{a \r\n b}}", "{{ a \r\n b }}"),
     ("{#  a{{b}}  #}", "{#  a{{b}}  #}"),
     ("{%raw  %}{{  a}}{% endraw%}", "{%raw  %}{{  a}}{% endraw%}"),
-    ("{%  set  a=[1,2]%}", "{% set a=[1,2] %}"),
+    ("{%  set  a=[1,2]%}", "{% set a = [1, 2] %}"),
+];
+
+// What stands together and apart in expressions.
+const EXPRESSIONS: [(&str, &str); 27] = [
+    ("{{ a . b ?. c }}", "{{ a.b?.c }}"),
+    ("{{ f ( x = 1 , y=2 ) [ 0 ] }}", "{{ f(x=1, y=2)[0] }}"),
+    ("{{ a [ b ?[ c ] ] }}", "{{ a[b?[c]] }}"),
+    ("{{ a[1:2] }}", "{{ a[1:2] }}"),
+    ("{{ a[1 : 2] }}", "{{ a[1: 2] }}"),
+    ("{{ a\n.b . c }}", "{{ a\n.b.c }}"),
+    ("{{ a . . b }}", "{{ a. .b }}"),
+    ("{{ 1 . 2 }}", "{{ 1 . 2 }}"),
+    (
+        "{{ {\"k\" : 1,\"l\":{ 2:a } } }}",
+        "{{ {\"k\": 1, \"l\": {2:a} } }}",
+    ),
+    ("{{ [ ... a , b , ] }}", "{{ [...a, b,] }}"),
+    ("{{ {\"a\":b , } }}", "{{ {\"a\": b,} }}"),
+    (
+        "{{ [a for b,c in d if(e)] }}",
+        "{{ [a for b, c in d if (e)] }}",
+    ),
+    ("{{ not(a)and b in[1] }}", "{{ not (a) and b in [1] }}"),
+    ("{{ a if(b)else\"c\" }}", "{{ a if (b) else \"c\" }}"),
+    ("{{ - 1 }}", "{{ -1 }}"),
+    ("{{- - a }}", "{{- -a }}"),
+    ("{{a -1}}", "{{ a - 1 }}"),
+    ("{{ (a)-b[- 1] }}", "{{ (a) - b[-1] }}"),
+    ("{{ a~-1 }}", "{{ a ~ -1 }}"),
+    ("{{ a<b }}", "{{ a < b }}"),
+    ("{{ a>b }}", "{{ a>b }}"),
+    ("{{ a  /  b }}", "{{ a / b }}"),
+    ("{{ a==b//c }}", "{{ a == b // c }}"),
+    ("{{ 'a'b\"c\" }}", "{{ 'a' b \"c\" }}"),
+    ("{{ true . a }}", "{{ true.a }}"),
+    ("{{ ( in . a ) }}", "{{ (in .a) }}"),
+    ("{{ }- }}", "{{ } - }}"),
+];
+
+// .. and in statements and components.
+const STATEMENTS: [(&str, &str); 9] = [
+    ("{% set x = f( y = 1 ) %}", "{% set x = f(y=1) %}"),
+    ("{%set_global x=1%}", "{% set_global x = 1 %}"),
+    ("{% set x|f|g( a = 1 )%}", "{% set x | f | g(a=1) %}"),
+    ("{% for a , b in c %}", "{% for a, b in c %}"),
+    ("{% include\"a\" %}", "{% include \"a\" %}"),
+    (
+        "{% component a . b( @ c=1 , d : string = \"e\" , ... f ){ \"g\":1} %}",
+        "{% component a.b(@c=1, d: string = \"e\", ...f) {\"g\": 1} %}",
+    ),
+    (
+        "{{ < a . b c = \"d\" e={ f }g {... h} /> }}",
+        "{{ <a.b c=\"d\" e={f} g {...h} /> }}",
+    ),
+    ("{% < a . b > %}{% </ a.b> %}", "{% <a.b > %}{% </a.b> %}"),
+    ("{{ f(x=< a/> ) }}", "{{ f(x=<a/>) }}"),
 ];
 
 fn is_laid_out(alloc: Global, source: &str, layout: &str) -> bool {
@@ -43,6 +99,24 @@ fn is_laid_out(alloc: Global, source: &str, layout: &str) -> bool {
 #[test]
 fn each_source_has_its_layout(rt: HostRuntime) -> Result<(), Fail> {
     for (source, layout) in LAYOUTS {
+        assert!(rt; is_laid_out(rt.alloc(), source, layout), "{source}");
+        assert!(rt; is_laid_out(rt.alloc(), layout, layout), "{layout}");
+    }
+    Ok(())
+}
+
+#[test]
+fn each_expression_has_its_layout(rt: HostRuntime) -> Result<(), Fail> {
+    for (source, layout) in EXPRESSIONS {
+        assert!(rt; is_laid_out(rt.alloc(), source, layout), "{source}");
+        assert!(rt; is_laid_out(rt.alloc(), layout, layout), "{layout}");
+    }
+    Ok(())
+}
+
+#[test]
+fn each_statement_has_its_layout(rt: HostRuntime) -> Result<(), Fail> {
+    for (source, layout) in STATEMENTS {
         assert!(rt; is_laid_out(rt.alloc(), source, layout), "{source}");
         assert!(rt; is_laid_out(rt.alloc(), layout, layout), "{layout}");
     }

@@ -1,22 +1,21 @@
-use Rattle.std.proofs.Common.{Ok, sym, ◌∙◌, ap, subst, string_bytes}
+use Rattle.std.proofs.Common.{Ok, false, sym, ◌∙◌, ap, subst, string_bytes}
 use Rattle.std.specs.Str.{IsCharBoundary}
 use Rattle.std.proofs.lemmas.Str.{IsCharBoundary-start}
 use Rattle.tera_lexer.specs.code.Cursors.{Takes}
 use Rattle.tera_lexer.specs.code.Seen.{seen}
 use Rattle.tera_layout.specs.Written.{put, written, Follow, KeepsFaults}
-use Rattle.tera_layout.proofs.Written.{first_kept, token_kept, text_kept, nothing_is}
+use Rattle.tera_layout.proofs.Written.{first_kept, token_kept, text_kept}
 use Rattle.tera_layout.proofs.formatting.push_tokens.Goals as goal
 
 pub tokens-init : goal.tokens-init
 tokens-init c =
-    let (end, (in_tag, at_start)) = c.default-reached.ensures in
     let source = c.args.source.now in
     let left = c.args.cursor.now.left in
     record {
       source = c.requires.source;
-      cut = subst (IsCharBoundary source) (sym end) (IsCharBoundary-start source c.utf8.source);
-      follow = subst (λ n. Follow n left) (sym end) c.requires.follow;
-      text = ap (λ r. put (string_bytes c.args.out.now) (written source r left)) (nothing_is c.default-reached.result end in_tag at_start);
+      cut = IsCharBoundary-start source c.utf8.source;
+      follow = c.requires.follow;
+      text = ap (λ l. put (string_bytes c.args.out.now) (written source (record { end = 0; in_tag = false; left = l }) left)) c.outside.ensures;
       faults = first_kept left c.args.cursor.now.span;
     }
 

@@ -1,4 +1,4 @@
-use Rattle.tera_layout.proofs.Widened.{widened_respaced}
+use Rattle.tera_layout.proofs.Narrowed.{widened_respaced}
 use Rattle.tera_layout.proofs.laws.widened.Goals as goal
 
 pub returns : goal.returns
