@@ -1,0 +1,5 @@
+pub mod CatalogueLemmas
+pub mod JudgedLemmas
+pub mod Parts
+pub mod PassedLemmas
+pub mod Unknown

@@ -1,0 +1,6 @@
+use Rattle.tera_check.proofs.Parts.{all_found, emptied}
+use Rattle.tera_check.proofs.calls.calls_of.Goals as goal
+
+pub returns-in-None : goal.returns-in-None
+returns-in-None c =
+    all_found c.loop-part.left.items c.loop-part.calls.items _ _ c.loop-part.invariant (emptied _ _ _ c.in-None.ensures.cases.0 c.in-None.ensures.items c.in-None.ensures.rest) c.turned.ensures

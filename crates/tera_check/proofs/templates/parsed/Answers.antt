@@ -1,0 +1,34 @@
+use Rattle.std.proofs.Common.{◌≡◌, ◌∙◌, ℕ, List, IfOk, IfErr, MatchResult, subst, ap}
+use Rattle.tera_base.specs.Errors.{IsMemory}
+use Rattle.tera_lexer.specs.grammar.Marks.{Marks, default_marks}
+use Rattle.tera_grammar.specs.Limits.{Limits, usual}
+use Rattle.tera_grammar.specs.statements.Top.{Derives}
+use Rattle.tera_parser.specs.Job.{Job}
+use Rattle.tera_parser.specs.Notes.{NotesName}
+use Rattle.tera_parser.specs.Refusal.{Refuses}
+use Rattle.tera_statements.specs.Outputs.{output_view}
+use Rattle.tera_tree.specs.Tree.{Output}
+use Rattle.tera_check.proofs.templates.parsed.Goals as goal
+
+-- what holds of a parser's source, between its markers and within its limits, holds of those that it was made of
+job : (l : Limits) (name : List ℕ) (a b : Marks) (s : List ℕ) (j : Job) → (j ≡ record { filename = name; source = s; marks = a; limits = l }) → a ≡ b
+    → (P : Limits → Marks → List ℕ → Type 0) → P j.limits j.marks j.source → P l b s
+job l name a b s j is marks P p =
+    subst (λ i. P i b s) (ap (λ (k : Job). k.limits) is)
+    (subst (λ m. P j.limits m s) (ap (λ (k : Job). k.marks) is ∙ marks) (subst (λ x. P j.limits j.marks x) (ap (λ (k : Job). k.source) is) p))
+
+pub returns-clause-sound : goal.returns-clause-sound
+returns-clause-sound c =
+    job usual _ _ default_marks c.args.source.now c.new-parser.result c.new-parser.ensures c.default.ensures.0 (λ l m s. IfOk c.parse.result (λ o. Derives l m s (output_view o))) c.parse.ensures.sound
+
+pub returns-clause-refusal : goal.returns-clause-refusal
+returns-clause-refusal c =
+    job usual _ _ default_marks c.args.source.now c.new-parser.result c.new-parser.ensures c.default.ensures.0 (λ l m s. IfErr c.parse.result (Refuses m s)) c.parse.ensures.refusal
+
+pub returns-clause-complete : goal.returns-clause-complete
+returns-clause-complete c =
+    job usual _ _ default_marks c.args.source.now c.new-parser.result c.new-parser.ensures c.default.ensures.0
+    (λ l m s. (output : Output) → Derives l m s output → MatchResult c.parse.result (λ o. output_view o ≡ output) IsMemory) c.parse.ensures.complete
+
+pub returns-clause-notes : goal.returns-clause-notes
+returns-clause-notes c = subst (λ f. IfErr c.parse.result (NotesName f)) (ap (λ (k : Job). k.filename) c.new-parser.ensures) c.parse.ensures.notes

@@ -1,0 +1,60 @@
+-- Findings, and the lines that are written of them.
+use Rattle.std.specs.Prelude.{◌≡◌, ◌+◌, ◌-◌, ◌^◌, ℕ, List, [], ◌∷◌, ◌++◌, map, codes, string_bytes, min, nat_eq, if◌then◌else◌}
+use Rattle.std.specs.Fmt.{decimal}
+use Rattle.std.specs.List.{flat_map}
+use Rattle.tera_base.specs.ErrorView.{ErrorVal, NoMemory, Saying, Reporting, ReportVal, ReportOf}
+use Rattle.tera_base.specs.ErrorView as errors
+use Rattle.tera_base.specs.declared.utils.Span.{Span}
+use Rattle.tera_check.specs.declared.finding.Place.{Place}
+use Rattle.tera_check.specs.declared.finding.Note.{Note}
+use Rattle.tera_check.specs.declared.finding.Finding.{Finding}
+
+-- where a span begins, with its column counted from 1
+abbrev pub place_of : Span → Place
+place_of s = record { line = s.start_line; column = min (s.start_col + 1) (2 ^ 64 - 1) }
+
+-- a note: its file, its place there, and its text
+pub data NoteVal : Type 0 where
+  NoteOf : List ℕ → Place → List ℕ → NoteVal
+
+-- a finding: its place, its text, and its notes in order
+pub data FindingVal : Type 0 where
+  FindingOf : Place → List ℕ → List NoteVal → FindingVal
+
+abbrev pub note_view : Note → NoteVal
+note_view n = NoteOf (string_bytes n.file) n.place (string_bytes n.message)
+
+abbrev pub finding_view : Finding → FindingVal
+finding_view f = FindingOf f.place (string_bytes f.message) (map note_view f.notes.items)
+
+-- what is found of a note of a fault, and of a fault
+abbrev pub note_of : errors.NoteVal → NoteVal
+note_of (errors.NoteOf label file span) = NoteOf file (place_of span) label
+
+abbrev pub finding_of : ReportVal → FindingVal
+finding_of (ReportOf text span notes) = FindingOf (place_of span) text (map note_of notes)
+
+-- the finding is that of the error; there is none of want of memory
+abbrev pub IsOfError : ErrorVal → FindingVal → Type 0
+IsOfError NoMemory f = ⊥
+IsOfError (Saying text) f = f ≡ FindingOf (record { line = 1; column = 1 }) text []
+IsOfError (Reporting r) f = f ≡ finding_of r
+
+-- a byte of a text that stands on one line: a line feed and a carriage return are a backslash and a letter
+abbrev pub shown_byte : ℕ → List ℕ
+shown_byte b = if nat_eq b 10 then 92 ∷ 110 ∷ [] else (if nat_eq b 13 then 92 ∷ 114 ∷ [] else b ∷ [])
+
+abbrev pub shown : List ℕ → List ℕ
+shown text = flat_map shown_byte text
+
+-- a line: where, of what kind, and what
+abbrev pub line_of : List ℕ → Place → List ℕ → List ℕ → List ℕ
+line_of file place kind text =
+    shown file ++ ((codes ":" ++ (decimal place.line ++ (codes ":" ++ (decimal place.column ++ (codes ": " ++ (kind ++ codes ": ")))))) ++ (shown text ++ 10 ∷ []))
+
+abbrev pub note_line : NoteVal → List ℕ
+note_line (NoteOf file place text) = line_of file place (codes "note") text
+
+-- the lines of a finding in a file: its own, and one for each of its notes
+abbrev pub lines_of : List ℕ → FindingVal → List ℕ
+lines_of file (FindingOf place text notes) = line_of file place (codes "error") text ++ flat_map note_line notes

@@ -1,0 +1,62 @@
+-- The components that templates define, by their names.
+use Rattle.std.specs.Prelude.{ℕ, suc, List, [], ◌∷◌, ◌++◌, cond, map, Option, None, Some, Result, Ok, Err, String, string_bytes, slice_index_or}
+use Rattle.std.specs.declared.alloc.Global.{Global}
+use Rattle.std.specs.BTreeMap.{BTreeMap, get_by_text}
+use Rattle.std.specs.Option.{option_map}
+use Rattle.std.specs.Str.{bytes_eq}
+use Rattle.tera_base.specs.declared.errors.Error.{Error}
+use Rattle.tera_statements.specs.declared.outputs.ParserOutput.{ParserOutput}
+use Rattle.std.specs.List.{flat_map}
+use Rattle.tera_tree.specs.Tree.{Definition, Output}
+use Rattle.tera_tree.specs.View.{definition_view}
+use Rattle.tera_check.specs.Calls.{calls_of}
+use Rattle.tera_check.specs.Findings.{FindingVal}
+use Rattle.tera_check.specs.Judged.{KnownVal, known_view, call_findings, again_findings}
+use Rattle.tera_check.specs.declared.catalogue.Known.{Known}
+use Rattle.tera_check.specs.declared.finding.Place.{Place}
+use Rattle.tera_check.specs.declared.templates.Template.{Template}
+
+-- what a catalogue has under a name
+abbrev pub known_in : BTreeMap (String Global) Known → List ℕ → Option KnownVal
+known_in catalogue n = option_map known_view (get_by_text catalogue n)
+
+-- where a template defines its component of a number, from 0; the beginning of the file where that is not known
+abbrev pub place_at : Template → ℕ → Place
+place_at t at = slice_index_or t.defined_at.items at (record { line = 1; column = 1 })
+
+abbrev pub known_at : ℕ → Template → ℕ → Definition → KnownVal
+known_at number t at d = record { definition = d; template = number; file = string_bytes t.file; place = place_at t at }
+
+-- the components of a template: these definitions, from that of a number on
+abbrev pub defined_from : ℕ → Template → ℕ → List Definition → List KnownVal
+defined_from number t at [] = []
+defined_from number t at (d ∷ ds) = known_at number t at d ∷ defined_from number t (suc at) ds
+
+-- one with a fault defines none
+abbrev pub definitions_of : Result ParserOutput Error → List Definition
+definitions_of (Ok output) = map definition_view output.component_definitions.items
+definitions_of (Err e) = []
+
+abbrev pub defined_in : ℕ → Template → List KnownVal
+defined_in number t = defined_from number t 0 (definitions_of t.parsed)
+
+-- those of templates in order, of which the first has a number
+abbrev pub defined_by : ℕ → List Template → List KnownVal
+defined_by number [] = []
+defined_by number (t ∷ ts) = defined_in number t ++ defined_by (suc number) ts
+
+-- the first of a name
+abbrev pub first_named : List ℕ → List KnownVal → Option KnownVal
+first_named n [] = None
+first_named n (k ∷ ks) = cond (bytes_eq k.definition.name n) (Some k) (first_named n ks)
+
+-- the first that there is
+abbrev pub or_else : Option KnownVal → Option KnownVal → Option KnownVal
+or_else None other = other
+or_else (Some k) other = Some k
+
+-- what is found in a template of a number, by what is known under each name: components that are defined before, and
+-- calls
+abbrev pub tree_findings : (List ℕ → Option KnownVal) → ℕ → Template → Output → List FindingVal
+tree_findings known number t o =
+    again_findings known number (place_at t) 0 o.definitions ++ flat_map (call_findings known) (calls_of o)

@@ -1,0 +1,291 @@
+//! The arguments of a call, beside those that the component is defined with.
+
+ghost use Rattle.std.specs.Prelude.{◌≡◌, ◌∷◌, [], ◌++◌, ◌&&◌, not, if◌then◌else◌, Some, map, string_bytes, IfOk, OnOk};
+ghost use Rattle.std.specs.BTreeSet.{contains_text};
+ghost use Rattle.std.specs.Option.{option_map};
+ghost use Rattle.tera_base.specs.Contexts.{found};
+ghost use Rattle.tera_base.specs.ValueView.{value_view};
+ghost use Rattle.tera_tree.specs.View.{argument_view, definition_view};
+ghost use Rattle.tera_check.specs.Findings.{finding_view, note_view};
+ghost use Rattle.tera_check.specs.Judged.{known_view, defined_here, about, told, is_required, missing_message, refused_type, refused_name, refusal, counted, refused, refused_one, refused_findings, missing_findings};
+ghost use Rattle.tera_check.specs.Passed.{passed_view, named_view, is_in, AreNamesOf};
+
+use crate::catalogue::Known;
+use crate::finding::{Finding, Note, Place};
+use crate::messages::{missing, unknown, wrong_type};
+use crate::passed::{Named, Names, Passed};
+use std::alloc::{AllocError, Global};
+use tera_parser::ast::ComponentArgument;
+use tera_parser::value::Value;
+
+/// Adds a finding for each argument that is passed and refused, at the place of its value, from the last to the first.
+/// Under a name that comes again the last counts. The answer is the names of all that is passed.
+pub(crate) fn push_refused(
+    alloc: Global,
+    findings: &mut Vec<Finding>,
+    known: &Known<'_>,
+    mut passed: Vec<Passed<'_>>,
+) -> Result<Names, AllocError>
+    ensures findings { OnOk result (map finding_view findings.new.items
+        ≡ map finding_view findings.old.items
+        ++ refused_findings (known_view known.now) (map passed_view passed.entry.items)) }
+    ensures names { IfOk result (λ names. AreNamesOf names (map passed_view passed.entry.items)) }
+{
+    let mut later = Names::none(alloc);
+    'values: while let Some(one) = passed.pop() {
+        push_if_refused(alloc, findings, known, &later, &one)?;
+        later.add(&one)?;
+    }
+    Ok(later)
+}
+
+fn push_if_refused(
+    alloc: Global,
+    findings: &mut Vec<Finding>,
+    known: &Known<'_>,
+    later: &Names,
+    one: &Passed<'_>,
+) -> Result<(), AllocError>
+    ensures { OnOk result (map finding_view findings.new.items ≡ map finding_view findings.old.items
+        ++ refused_one (known_view known.now) (is_in later.now (passed_view one.now))
+        later.now.more (passed_view one.now)) }
+{
+    match one {
+        Passed::Named(named) => push_if_last(alloc, findings, known, later, named),
+        Passed::Any => Ok(()),
+    }
+}
+
+fn push_if_last(
+    alloc: Global,
+    findings: &mut Vec<Finding>,
+    known: &Known<'_>,
+    later: &Names,
+    named: &Named<'_>,
+) -> Result<(), AllocError>
+    ensures { OnOk result (map finding_view findings.new.items ≡ map finding_view findings.old.items
+        ++ (if contains_text later.now.under (named_view named.now).name then []
+        else refused (known_view known.now) later.now.more (named_view named.now))) }
+{
+    if later.under.contains(named.name.as_str()) {
+        return Ok(());
+    }
+    push_named(alloc, findings, known, later.more, named)
+}
+
+fn push_named(
+    alloc: Global,
+    findings: &mut Vec<Finding>,
+    known: &Known<'_>,
+    more: bool,
+    named: &Named<'_>,
+) -> Result<(), AllocError>
+    ensures { OnOk result (map finding_view findings.new.items ≡ map finding_view findings.old.items
+        ++ refused (known_view known.now) more (named_view named.now)) }
+{
+    let message = refusal(alloc, known, named.name.as_str(), counted(more, named))?;
+    push_told(alloc, findings, known, Place::of(named.span), message)
+}
+
+// The constant, unless more is passed behind, so that it may not be the value that counts.
+fn counted<'a>(more: bool, named: &Named<'a>) -> Option<&'a Value>
+    ensures { option_map (λ v. value_view v.now) result
+        ≡ counted more (named_view named.now).constant }
+{
+    if more { None } else { named.constant }
+}
+
+// Adds a finding with the message, if there is one.
+fn push_told(
+    alloc: Global,
+    findings: &mut Vec<Finding>,
+    known: &Known<'_>,
+    place: Place,
+    message: Option<String>,
+) -> Result<(), AllocError>
+    ensures { OnOk result (map finding_view findings.new.items ≡ map finding_view findings.old.items
+        ++ told (known_view known.now) place (option_map string_bytes message)) }
+{
+    match message {
+        Some(message) => push_about(alloc, findings, known, place, message),
+        None => Ok(()),
+    }
+}
+
+#[tactic(auto, using(crate::proofs::JudgedLemmas::finding_more))]
+fn push_about(
+    alloc: Global,
+    findings: &mut Vec<Finding>,
+    known: &Known<'_>,
+    place: Place,
+    message: String,
+) -> Result<(), AllocError>
+    ensures { OnOk result (map finding_view findings.new.items ≡ map finding_view findings.old.items
+        ++ (about (known_view known.now) place (string_bytes message) ∷ [])) }
+{
+    let finding = about(alloc, known, place, message)?;
+    findings.push(finding)?;
+    Ok(())
+}
+
+// A finding about a call of the component, with a note that says where that is defined.
+fn about(
+    alloc: Global,
+    known: &Known<'_>,
+    place: Place,
+    message: String,
+) -> Result<Finding, AllocError>
+    ensures { IfOk result (λ f. finding_view f
+        ≡ about (known_view known.now) place (string_bytes message)) }
+{
+    let note = defined_here(alloc, known)?;
+    Finding::with_note(alloc, place, message, note)
+}
+
+fn defined_here(alloc: Global, known: &Known<'_>) -> Result<Note, AllocError>
+    ensures { IfOk result (λ n. note_view n ≡ defined_here (known_view known.now)) }
+{
+    let name = known.definition.name.as_str();
+    Ok(Note {
+        file: String::from_str(alloc, known.file)?,
+        place: known.place,
+        message: format!(in alloc; "`{name}` is defined here")?,
+    })
+}
+
+// Why a value under the name is refused, if it is; of a value that is no constant its type is not known.
+fn refusal(
+    alloc: Global,
+    known: &Known<'_>,
+    name: &str,
+    constant: Option<&Value>,
+) -> Result<Option<String>, AllocError>
+    ensures { IfOk result (λ message. option_map string_bytes message
+        ≡ refusal (definition_view known.now.definition.now) name.now
+        (option_map (λ v. value_view v.now) constant.entry)) }
+{
+    match argument_of(known, name) {
+        Some(argument) => refused_type(alloc, name, argument, constant),
+        None => refused_name(alloc, known, name),
+    }
+}
+
+fn argument_of<'a>(known: &Known<'a>, name: &str) -> Option<&'a ComponentArgument>
+    ensures { option_map (λ a. argument_view a.now) result
+        ≡ found name.now (definition_view known.now.definition.now).arguments }
+{
+    known.definition.kwargs.get(name)
+}
+
+// That the constant is of another type than the argument, if it is.
+fn refused_type(
+    alloc: Global,
+    name: &str,
+    argument: &ComponentArgument,
+    constant: Option<&Value>,
+) -> Result<Option<String>, AllocError>
+    ensures { IfOk result (λ message. option_map string_bytes message
+        ≡ refused_type argument.now.typ name.now
+        (option_map (λ v. value_view v.now) constant.entry)) }
+{
+    match constant {
+        Some(value) => wrong_value(alloc, name, argument, value),
+        None => Ok(None),
+    }
+}
+
+fn wrong_value(
+    alloc: Global,
+    name: &str,
+    argument: &ComponentArgument,
+    value: &Value,
+) -> Result<Option<String>, AllocError>
+    ensures { IfOk result (λ message. option_map string_bytes message
+        ≡ refused_type argument.now.typ name.now (Some (value_view value.now))) }
+{
+    if argument.type_matches(value) {
+        return Ok(None);
+    }
+    match argument.typ {
+        Some(typ) => Ok(Some(wrong_type(alloc, name, value, typ)?)),
+        None => Ok(None),
+    }
+}
+
+// That the component has no argument of this name and takes no others.
+fn refused_name(alloc: Global, known: &Known<'_>, name: &str) -> Result<Option<String>, AllocError>
+    ensures { IfOk result (λ message. option_map string_bytes message
+        ≡ refused_name (definition_view known.now.definition.now) name.now) }
+{
+    match &known.definition.rest_param_name {
+        Some(_) => Ok(None),
+        None => Ok(Some(unknown(alloc, known.definition, name)?)),
+    }
+}
+
+/// Adds a finding for each argument that has to be given and is not passed, at the place of the call.
+pub(crate) fn push_missing(
+    alloc: Global,
+    findings: &mut Vec<Finding>,
+    known: &Known<'_>,
+    passed: &Names,
+    place: Place,
+) -> Result<(), AllocError>
+    ensures { OnOk result (map finding_view findings.new.items ≡ map finding_view findings.old.items
+        ++ (if passed.now.more then [] else missing_findings (known_view known.now) (contains_text
+        passed.now.under) place)) }
+{
+    if passed.more {
+        return Ok(());
+    }
+    push_all_missing(alloc, findings, known, passed, place)
+}
+
+fn push_all_missing(
+    alloc: Global,
+    findings: &mut Vec<Finding>,
+    known: &Known<'_>,
+    passed: &Names,
+    place: Place,
+) -> Result<(), AllocError>
+    ensures { OnOk result (map finding_view findings.new.items ≡ map finding_view findings.old.items
+        ++ missing_findings (known_view known.now) (contains_text passed.now.under) place) }
+{
+    for (name, argument) in known.definition.kwargs.iter() {
+        let message = missing_message(alloc, passed, name.as_str(), argument)?;
+        push_told(alloc, findings, known, place, message)?;
+    }
+    Ok(())
+}
+
+// That nothing is passed for the argument, where something has to be.
+fn missing_message(
+    alloc: Global,
+    passed: &Names,
+    name: &str,
+    argument: &ComponentArgument,
+) -> Result<Option<String>, AllocError>
+    ensures { IfOk result (λ message. option_map string_bytes message
+        ≡ missing_message (contains_text passed.now.under) (name.now, argument_view argument.now)) }
+{
+    if is_missing(passed, name, argument) {
+        Ok(Some(missing(alloc, name, argument.typ)?))
+    } else {
+        Ok(None)
+    }
+}
+
+fn is_missing(passed: &Names, name: &str, argument: &ComponentArgument) -> bool
+    ensures { result
+        ≡ (is_required (argument_view argument.now) && not (contains_text passed.now.under
+        name.now)) }
+{
+    is_required(argument) && !passed.under.contains(name)
+}
+
+// Whether the argument has to be given.
+fn is_required(argument: &ComponentArgument) -> bool
+    ensures { result ≡ is_required (argument_view argument.now) }
+{
+    !argument.implicit && argument.default.is_none()
+}

@@ -1,0 +1,118 @@
+//! The components that templates define.
+
+ghost use Rattle.std.specs.Prelude.{◌≡◌, ◌∷◌, [], ℕ, List, map, IfOk, OnOk};
+ghost use Rattle.tera_tree.specs.View.{definition_view};
+ghost use Rattle.tera_check.specs.Judged.{known_view};
+ghost use Rattle.tera_check.specs.Named.{known_in, place_at, known_at, defined_from, defined_in, defined_by, first_named, or_else};
+
+use crate::finding::Place;
+use crate::templates::Template;
+use std::alloc::{AllocError, Global};
+use std::collections::BTreeMap;
+use tera_parser::ParserOutput;
+use tera_parser::ast::ComponentDefinition;
+
+/// A component, and where it is defined.
+#[derive(Clone, Copy)]
+pub struct Known<'a> {
+    pub definition: &'a ComponentDefinition,
+    /// The number of its template among all.
+    pub template: usize,
+    pub file: &'a str,
+    pub place: Place,
+}
+
+/// The components that some templates define, by their names. Of components with one name the first counts.
+pub type Catalogue<'a> = BTreeMap<String, Known<'a>>;
+
+/// The components that the templates define. One with a fault defines none.
+pub fn catalogue_of<'a>(
+    alloc: Global,
+    templates: &'a Vec<Template>,
+) -> Result<Catalogue<'a>, AllocError>
+    ensures { IfOk result (λ c. (n : List ℕ) → known_in c n
+        ≡ first_named n (defined_by 0 templates.now.items)) }
+{
+    let mut catalogue = BTreeMap::new(alloc);
+    for (number, template) in templates.iter().enumerate() {
+        add_template(alloc, &mut catalogue, number, template)?;
+    }
+    Ok(catalogue)
+}
+
+fn add_template<'a>(
+    alloc: Global,
+    catalogue: &mut Catalogue<'a>,
+    number: usize,
+    template: &'a Template,
+) -> Result<(), AllocError>
+    ensures { OnOk result ((n : List ℕ) → known_in catalogue.new n
+        ≡ or_else (known_in catalogue.old n) (first_named n (defined_in number template.now))) }
+{
+    match &template.parsed {
+        Ok(output) => add_all(alloc, catalogue, number, template, output),
+        Err(_) => Ok(()),
+    }
+}
+
+fn add_all<'a>(
+    alloc: Global,
+    catalogue: &mut Catalogue<'a>,
+    number: usize,
+    template: &'a Template,
+    output: &'a ParserOutput,
+) -> Result<(), AllocError>
+    ensures { OnOk result ((n : List ℕ) → known_in catalogue.new n
+        ≡ or_else (known_in catalogue.old n) (first_named n
+        (defined_from number template.now 0 (map definition_view
+        output.now.component_definitions.items)))) }
+{
+    for (at, definition) in output.component_definitions.iter().enumerate() {
+        let known = known_at(number, template, at, definition);
+        add(alloc, catalogue, &known)?;
+    }
+    Ok(())
+}
+
+fn known_at<'a>(
+    number: usize,
+    template: &'a Template,
+    at: usize,
+    definition: &'a ComponentDefinition,
+) -> Known<'a>
+    ensures { known_view result ≡ known_at number template.now at (definition_view definition.now) }
+{
+    Known {
+        definition,
+        template: number,
+        file: template.file.as_str(),
+        place: defined_at(template, at),
+    }
+}
+
+// Adds the component, unless there is one of its name.
+fn add<'a>(
+    alloc: Global,
+    catalogue: &mut Catalogue<'a>,
+    known: &Known<'a>,
+) -> Result<(), AllocError>
+    ensures { OnOk result ((n : List ℕ) → known_in catalogue.new n
+        ≡ or_else (known_in catalogue.old n) (first_named n (known_view known.now ∷ []))) }
+{
+    let name = known.definition.name.as_str();
+    if catalogue.contains_key(name) {
+        return Ok(());
+    }
+    catalogue.insert(String::from_str(alloc, name)?, *known)?;
+    Ok(())
+}
+
+/// Where the template defines the component of this number.
+pub(crate) fn defined_at(template: &Template, at: usize) -> Place
+    ensures { result ≡ place_at template.now at }
+{
+    match template.defined_at.get(at) {
+        Some(place) => *place,
+        None => Place::first(),
+    }
+}

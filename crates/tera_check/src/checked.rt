@@ -1,0 +1,288 @@
+//! What is found in a template beside others.
+
+ghost use Rattle.std.specs.Prelude.{◌≡◌, ◌∷◌, [], ◌++◌, map, codes, string_bytes, Some, IfOk, IfErr, OnOk};
+ghost use Rattle.std.specs.List.{flat_map};
+ghost use Rattle.std.specs.Option.{option_map};
+ghost use Rattle.std.specs.List.Sorted.{IsPermutation};
+ghost use Rattle.tera_base.specs.ErrorView.{error_view};
+ghost use Rattle.tera_check.specs.Findings.{finding_view, note_view, IsOfError};
+ghost use Rattle.tera_check.specs.declared.finding.Finding.{Finding};
+ghost use Rattle.tera_base.specs.Spanned.{node_of, span_of};
+ghost use Rattle.tera_nodes.specs.View.{call_view, entries_view};
+ghost use Rattle.tera_nodes.specs.declared.ast.ComponentCall.{out-ComponentCall};
+ghost use Rattle.tera_statements.specs.Outputs.{output_view};
+ghost use Rattle.tera_tree.specs.View.{definition_view};
+ghost use Rattle.tera_check.specs.Calls.{calls_of};
+ghost use Rattle.tera_check.specs.Findings.{NoteOf, place_of};
+ghost use Rattle.tera_check.specs.Judged.{known_view, undefined, judged, call_findings, again, defined_again, again_findings, refused_findings, missing_in};
+ghost use Rattle.tera_check.specs.Named.{known_in, place_at, tree_findings};
+ghost use Rattle.tera_check.specs.Parts.{seen};
+ghost use Rattle.tera_check.specs.Passed.{passed_view, passed_by};
+ghost use Rattle.tera_check.specs.Rules.{IsInOrder, status_of};
+
+use crate::arguments::{push_missing, push_refused};
+use crate::calls::calls_of;
+use crate::catalogue::{Catalogue, Known, defined_at};
+use crate::faults::finding_of_fault;
+use crate::finding::{Finding, Note, Place};
+use crate::passed::passed_by;
+use crate::templates::Template;
+use std::alloc::{AllocError, Global};
+use tera_parser::ParserOutput;
+use tera_parser::ast::{ComponentCall, MapEntry};
+use tera_parser::value::{Error, Spanned};
+
+/// What is found in the template of this number, in the order of the places: its fault; or the components that a
+/// template before it defines too, and the calls that no component takes.
+pub fn findings_of(
+    alloc: Global,
+    catalogue: &Catalogue<'_>,
+    number: usize,
+    template: &Template,
+) -> Result<Vec<Finding>, AllocError>
+    ensures fault { IfErr template.now.parsed (λ e. IfOk result (λ v.
+        (f : Finding) × (v.items ≡ f ∷ []) × IsOfError (error_view e) (finding_view f))) }
+    ensures ordered { IfOk template.now.parsed (λ _. IfOk result (λ v. IsInOrder v.items)) }
+    ensures found { IfOk template.now.parsed (λ o. IfOk result (λ v.
+        IsPermutation (tree_findings (known_in catalogue.now) number template.now (output_view o))
+        (map finding_view v.items))) }
+{
+    match &template.parsed {
+        Ok(output) => findings_of_tree(alloc, catalogue, number, template, output),
+        Err(error) => finding_alone(alloc, error),
+    }
+}
+
+fn finding_alone(alloc: Global, error: &Error) -> Result<Vec<Finding>, AllocError>
+    ensures { IfOk result (λ v.
+        (f : Finding) × (v.items ≡ f ∷ []) × IsOfError (error_view error.now) (finding_view f)) }
+{
+    let finding = finding_of_fault(alloc, error)?;
+    let mut findings = Vec::new(alloc);
+    findings.push(finding)?;
+    Ok(findings)
+}
+
+fn findings_of_tree(
+    alloc: Global,
+    catalogue: &Catalogue<'_>,
+    number: usize,
+    template: &Template,
+    output: &ParserOutput,
+) -> Result<Vec<Finding>, AllocError>
+    ensures ordered { IfOk result (λ v. IsInOrder v.items) }
+    ensures found { IfOk result (λ v.
+        IsPermutation (tree_findings (known_in catalogue.now) number template.now (output_view
+        output.now)) (map finding_view v.items)) }
+{
+    let mut findings = Vec::new(alloc);
+    push_all_again(alloc, &mut findings, catalogue, number, template, output)?;
+    push_calls(alloc, &mut findings, catalogue, output)?;
+    put_in_order(&mut findings)?;
+    Ok(findings)
+}
+
+fn put_in_order(findings: &mut Vec<Finding>) -> Result<(), AllocError>
+    ensures ordered { OnOk result (IsInOrder findings.new.items) }
+    ensures same { IsPermutation findings.old.items findings.new.items }
+{
+    findings.sort_by_key(|finding| (finding.place.line, finding.place.column))?;
+    Ok(())
+}
+
+/// The status of a program that checked some templates: 2 where one of them could not be read, or else 1 where
+/// something was found.
+pub fn status(found: bool, unread: bool) -> u8
+    ensures { result ≡ status_of found unread }
+{
+    if unread {
+        2
+    } else if found {
+        1
+    } else {
+        0
+    }
+}
+
+// Adds a finding for each component of which one stands in another template.
+fn push_all_again(
+    alloc: Global,
+    findings: &mut Vec<Finding>,
+    catalogue: &Catalogue<'_>,
+    number: usize,
+    template: &Template,
+    output: &ParserOutput,
+) -> Result<(), AllocError>
+    ensures { OnOk result (map finding_view findings.new.items ≡ map finding_view findings.old.items
+        ++ again_findings (known_in catalogue.now) number (place_at template.now) 0
+        (map definition_view output.now.component_definitions.items)) }
+{
+    for (at, definition) in output.component_definitions.iter().enumerate() {
+        let known = known_as(catalogue, definition.name.as_str());
+        push_again(alloc, findings, known, number, defined_at(template, at))?;
+    }
+    Ok(())
+}
+
+// What the catalogue has under the name.
+fn known_as<'c, 'a>(catalogue: &'c Catalogue<'a>, name: &str) -> Option<&'c Known<'a>>
+    ensures { option_map (λ k. known_view k.now) result ≡ known_in catalogue.now name.now }
+{
+    catalogue.get(name)
+}
+
+fn push_again(
+    alloc: Global,
+    findings: &mut Vec<Finding>,
+    known: Option<&Known<'_>>,
+    number: usize,
+    place: Place,
+) -> Result<(), AllocError>
+    ensures { OnOk result (map finding_view findings.new.items ≡ map finding_view findings.old.items
+        ++ defined_again number place (option_map (λ k. known_view k.now) known.entry)) }
+{
+    match known {
+        Some(known) => push_other(alloc, findings, known, number, place),
+        None => Ok(()),
+    }
+}
+
+#[tactic(auto, using(crate::proofs::JudgedLemmas::finding_more))]
+fn push_other(
+    alloc: Global,
+    findings: &mut Vec<Finding>,
+    known: &Known<'_>,
+    number: usize,
+    place: Place,
+) -> Result<(), AllocError>
+    ensures { OnOk result (map finding_view findings.new.items ≡ map finding_view findings.old.items
+        ++ defined_again number place (Some (known_view known.now))) }
+{
+    if known.template == number {
+        return Ok(());
+    }
+    findings.push(again(alloc, known, place)?)?;
+    Ok(())
+}
+
+fn again(alloc: Global, known: &Known<'_>, place: Place) -> Result<Finding, AllocError>
+    ensures { IfOk result (λ f. finding_view f ≡ again (known_view known.now) place) }
+{
+    let name = known.definition.name.as_str();
+    let note = first_defined(alloc, known)?;
+    let message = format!(in alloc;
+        "Another template already contains a component named `{name}`"
+    )?;
+    Finding::with_note(alloc, place, message, note)
+}
+
+fn first_defined(alloc: Global, known: &Known<'_>) -> Result<Note, AllocError>
+    ensures { IfOk result (λ n. note_view n
+        ≡ NoteOf known.now.file.now known.now.place (codes "first defined here")) }
+{
+    Ok(Note {
+        file: String::from_str(alloc, known.file)?,
+        place: known.place,
+        message: String::from_str(alloc, "first defined here")?,
+    })
+}
+
+fn push_calls(
+    alloc: Global,
+    findings: &mut Vec<Finding>,
+    catalogue: &Catalogue<'_>,
+    output: &ParserOutput,
+) -> Result<(), AllocError>
+    ensures { OnOk result (map finding_view findings.new.items ≡ map finding_view findings.old.items
+        ++ flat_map (call_findings (known_in catalogue.now)) (calls_of (output_view output.now))) }
+{
+    let calls = calls_of(alloc, output)?;
+    push_found(alloc, findings, catalogue, &calls)
+}
+
+fn push_found(
+    alloc: Global,
+    findings: &mut Vec<Finding>,
+    catalogue: &Catalogue<'_>,
+    calls: &Vec<&Spanned<ComponentCall>>,
+) -> Result<(), AllocError>
+    ensures { OnOk result (map finding_view findings.new.items ≡ map finding_view findings.old.items
+        ++ flat_map (call_findings (known_in catalogue.now)) (map seen calls.now.items)) }
+{
+    for call in calls {
+        push_call(alloc, findings, catalogue, call)?;
+    }
+    Ok(())
+}
+
+// Adds what is found in the call.
+fn push_call(
+    alloc: Global,
+    findings: &mut Vec<Finding>,
+    catalogue: &Catalogue<'_>,
+    call: &Spanned<ComponentCall>,
+) -> Result<(), AllocError>
+    ensures { OnOk result (map finding_view findings.new.items ≡ map finding_view findings.old.items
+        ++ call_findings (known_in catalogue.now) (call_view (node_of call.now) (span_of
+        call.now))) }
+{
+    let known = known_as(catalogue, call.node().name.as_str());
+    push_judged(alloc, findings, known, call)
+}
+
+fn push_judged(
+    alloc: Global,
+    findings: &mut Vec<Finding>,
+    known: Option<&Known<'_>>,
+    call: &Spanned<ComponentCall>,
+) -> Result<(), AllocError>
+    ensures { let c = out-ComponentCall (node_of call.now) in
+        OnOk result (map finding_view findings.new.items ≡ map finding_view findings.old.items
+        ++ judged (option_map
+        (λ k. known_view k.now) known.entry) (string_bytes c.name) (place_of (span_of call.now))
+        (passed_by (entries_view c.kwargs.items))) }
+{
+    let place = Place::of(call.span());
+    match known {
+        Some(known) => push_arguments(alloc, findings, known, place, &call.node().kwargs),
+        None => push_undefined(alloc, findings, place, call.node().name.as_str()),
+    }
+}
+
+// Adds what is found in the arguments of a call of the component.
+fn push_arguments(
+    alloc: Global,
+    findings: &mut Vec<Finding>,
+    known: &Known<'_>,
+    place: Place,
+    attributes: &Vec<MapEntry>,
+) -> Result<(), AllocError>
+    ensures { let ps = passed_by (entries_view attributes.now.items) in
+        OnOk result (map finding_view findings.new.items ≡ map finding_view findings.old.items
+        ++ (refused_findings (known_view known.now) ps
+        ++ missing_in (known_view known.now) place ps)) }
+{
+    let passed = passed_by(alloc, attributes)?;
+    let names = push_refused(alloc, findings, known, passed)?;
+    push_missing(alloc, findings, known, &names, place)?;
+    Ok(())
+}
+
+#[tactic(auto, using(crate::proofs::JudgedLemmas::finding_more))]
+fn push_undefined(
+    alloc: Global,
+    findings: &mut Vec<Finding>,
+    place: Place,
+    name: &str,
+) -> Result<(), AllocError>
+    ensures { OnOk result (map finding_view findings.new.items ≡ map finding_view findings.old.items
+        ++ (undefined place name.now ∷ [])) }
+{
+    let message = format!(in alloc; "No template defines a component named `{name}`")?;
+    findings.push(Finding {
+        place,
+        message,
+        notes: Vec::new(alloc),
+    })?;
+    Ok(())
+}

@@ -1,0 +1,65 @@
+//! The fault of a template.
+
+ghost use Rattle.std.specs.Prelude.{◌≡◌, IfOk, map, []};
+ghost use Rattle.tera_base.specs.ErrorView.{error_view, report_view};
+ghost use Rattle.tera_base.specs.ErrorView as errors;
+ghost use Rattle.tera_check.specs.Findings.{finding_view, note_view, note_of, finding_of, FindingOf, IsOfError};
+
+use crate::finding::{Finding, Note, Place};
+use std::alloc::{AllocError, Global};
+use tera_parser::value;
+use tera_parser::value::{Error, ErrorKind, ReportError};
+
+/// The finding of a fault: its text and its notes, each where it begins. That no memory was found is no finding.
+pub fn finding_of_fault(alloc: Global, error: &Error) -> Result<Finding, AllocError>
+    ensures { IfOk result (λ f. IsOfError (error_view error.now) (finding_view f)) }
+{
+    match &error.kind {
+        ErrorKind::SyntaxError(report) => finding_of_report(alloc, report),
+        ErrorKind::Message(message) => placeless(alloc, message.as_str()),
+        ErrorKind::Memory => Err(AllocError),
+    }
+}
+
+fn finding_of_report(alloc: Global, report: &ReportError) -> Result<Finding, AllocError>
+    ensures { IfOk result (λ f. finding_view f ≡ finding_of (report_view report.now)) }
+{
+    let notes = notes_of(alloc, &report.notes)?;
+    Ok(Finding {
+        place: Place::of(&report.span),
+        message: report.message.clone()?,
+        notes,
+    })
+}
+
+fn notes_of(alloc: Global, notes: &Vec<value::Note>) -> Result<Vec<Note>, AllocError>
+    ensures { IfOk result (λ v. map note_view v.items
+        ≡ map note_of (map errors.note_view notes.now.items)) }
+{
+    let mut found = Vec::new(alloc);
+    for note in notes {
+        found.push(found_note(note)?)?;
+    }
+    Ok(found)
+}
+
+fn found_note(note: &value::Note) -> Result<Note, AllocError>
+    ensures { IfOk result (λ n. note_view n ≡ note_of (errors.note_view note.now)) }
+{
+    Ok(Note {
+        file: note.filename.clone()?,
+        place: Place::of(&note.span),
+        message: note.label.clone()?,
+    })
+}
+
+fn placeless(alloc: Global, message: &str) -> Result<Finding, AllocError>
+    ensures { IfOk result (λ f. finding_view f
+        ≡ FindingOf (record { line = 1; column = 1 }) message.now []) }
+{
+    Ok(Finding {
+        place: Place::first(),
+        message: String::from_str(alloc, message)?,
+        notes: Vec::new(alloc),
+    })
+}

@@ -1,0 +1,32 @@
+//! Checks templates: the fault of each, and over all of them together how components are defined and called.
+//!
+//! It takes templates that were read. What it finds are the fault of each (`IsOfError`), or what is found in its tree
+//! (`tree_findings`); and it writes findings as lines (`lines_of`) or objects of JSON (`object_of`). It stands on
+//! `tera_parser`, and names nothing below that in its code; of the kit on `json`.
+//!
+//! In the order of reading: specs `Findings`, `Calls`, `Passed`, `Judged`, `Named`, `Rules`, `Objects`; `templates` and
+//! `definitions`, which read; `catalogue`; `calls`, over a stack of parts (specs `Parts`); `passed`, `arguments` and
+//! `messages`, of one call; `checked`, of a template; `finding`, `faults`, `lines` and `objects`.
+#![tactic(auto)]
+
+mod arguments;
+mod calls;
+mod catalogue;
+mod checked;
+mod definitions;
+mod faults;
+mod finding;
+mod lines;
+mod messages;
+mod objects;
+mod passed;
+mod templates;
+
+pub use calls::calls_of;
+pub use catalogue::{Catalogue, Known, catalogue_of};
+pub use checked::{findings_of, status};
+pub use faults::finding_of_fault;
+pub use finding::{Finding, Note, Place};
+pub use lines::lines_of;
+pub use objects::object_of;
+pub use templates::{Template, read_template};
