@@ -1,0 +1,195 @@
+/* What bad input and want of memory are answered: bad_input, linked with --wrap=malloc and --wrap=realloc. It ends
+ * with 0, or names the line of the first answer that is another one. */
+#include <stdio.h>
+#include <stdlib.h>
+#include <string.h>
+
+#include "../tera.h"
+
+#define HOLDS(fact) \
+    do { \
+        if (!(fact)) { \
+            fprintf(stderr, "bad_input.c:%d: %s does not hold\n", __LINE__, #fact); \
+            exit(1); \
+        } \
+    } while (0)
+
+/* The calls that still find memory; below 0 each does. */
+static long granted = -1;
+
+void *__real_malloc(size_t size);
+void *__real_realloc(void *at, size_t size);
+
+static int is_granted(void) {
+    if (granted == 0) return 0;
+    if (granted > 0) granted--;
+    return 1;
+}
+
+void *__wrap_malloc(size_t size) { return is_granted() ? __real_malloc(size) : NULL; }
+
+void *__wrap_realloc(void *at, size_t size) { return is_granted() ? __real_realloc(at, size) : NULL; }
+
+static const char GREETING[] = "hi {{ a }}";
+static const char GREETING_TREE[] = "text \"hi \"\nexpr a\n";
+static const char TWICE[] = "{% component a() %}{% endcomponent a %}{% component a() %}{% endcomponent %}";
+static const char TWICE_FAULT[] = "Template already contains a component named `a`";
+
+static struct tera_source source_of(const char *text) {
+    struct tera_source source = {text, strlen(text), NULL, NULL};
+    return source;
+}
+
+static int is_left(const char *buffer, size_t from, size_t to) {
+    for (size_t i = from; i < to; i++)
+        if (buffer[i] != '*') return 0;
+    return 1;
+}
+
+static void buffers_of_trees(void) {
+    struct tera_source source = source_of(GREETING);
+    size_t length = strlen(GREETING_TREE), needed = 0;
+    char buffer[64];
+    HOLDS(tera_tree(&source, NULL, 0, &needed) == TERA_SHORT && needed == length);
+    HOLDS(tera_tree(&source, NULL, sizeof buffer, &needed) == TERA_SHORT && needed == length);
+    for (size_t room = 0; room < sizeof buffer; room++) {
+        memset(buffer, '*', sizeof buffer);
+        enum tera_status status = tera_tree(&source, buffer, room, &needed);
+        HOLDS(needed == length);
+        if (room < length) {
+            HOLDS(status == TERA_SHORT && is_left(buffer, 0, sizeof buffer));
+        } else {
+            HOLDS(status == TERA_WRITTEN && memcmp(buffer, GREETING_TREE, length) == 0);
+            HOLDS(is_left(buffer, length, sizeof buffer));
+        }
+    }
+    HOLDS(tera_tree(&source, buffer, sizeof buffer, NULL) == TERA_WRITTEN);
+    struct tera_source nothing = {NULL, 5, NULL, NULL};
+    HOLDS(tera_tree(&nothing, NULL, 0, &needed) == TERA_WRITTEN && needed == 0);
+}
+
+static void buffers_of_faults(void) {
+    struct tera_source source = source_of(TWICE);
+    size_t length = strlen(TWICE_FAULT), needed = 0;
+    char buffer[64];
+    struct tera_fault fault = {{0, 0, 0, 0, 0, 0}, 9};
+    memset(buffer, '*', sizeof buffer);
+    HOLDS(tera_tree(&source, buffer, sizeof buffer, &needed) == TERA_FAULTY && needed == 0);
+    HOLDS(tera_fault(&source, buffer, length - 1, &needed, NULL) == TERA_SHORT && needed == length);
+    HOLDS(is_left(buffer, 0, sizeof buffer));
+    HOLDS(tera_fault(&source, buffer, length - 1, &needed, &fault) == TERA_SHORT && fault.notes == 1);
+    HOLDS(tera_fault(&source, buffer, length, &needed, &fault) == TERA_WRITTEN && needed == length);
+    HOLDS(memcmp(buffer, TWICE_FAULT, length) == 0 && is_left(buffer, length, sizeof buffer));
+    HOLDS(fault.place.start_line == 1 && fault.place.start_column == 52 && fault.place.start == 52);
+    HOLDS(fault.place.end_line == 1 && fault.place.end_column == 53 && fault.place.end == 53);
+    struct tera_source whole = source_of(GREETING);
+    fault.notes = 9;
+    HOLDS(tera_fault(&whole, buffer, sizeof buffer, &needed, &fault) == TERA_NOTHING && needed == 0);
+    HOLDS(fault.notes == 9);
+}
+
+static void notes(void) {
+    struct tera_source source = source_of(TWICE), whole = source_of(GREETING);
+    static const char label[] = "first defined here";
+    size_t length = strlen(label), needed = 0;
+    char buffer[64];
+    struct tera_place place = {0, 0, 0, 0, 0, 9};
+    memset(buffer, '*', sizeof buffer);
+    HOLDS(tera_note(&source, 0, NULL, 0, &needed, NULL) == TERA_SHORT && needed == length);
+    HOLDS(tera_note(&source, 1, buffer, sizeof buffer, &needed, &place) == TERA_NOTHING && needed == 0);
+    HOLDS(tera_note(&whole, 0, buffer, sizeof buffer, &needed, &place) == TERA_NOTHING && needed == 0);
+    HOLDS(place.end == 9 && is_left(buffer, 0, sizeof buffer));
+    HOLDS(tera_note(&source, 0, buffer, length, &needed, &place) == TERA_WRITTEN && needed == length);
+    HOLDS(memcmp(buffer, label, length) == 0 && is_left(buffer, length, sizeof buffer));
+    HOLDS(place.start_line == 1 && place.start_column == 13 && place.start == 13 && place.end == 14);
+}
+
+/* Each call answers this, and writes nothing. */
+static void refused(const struct tera_source *source, enum tera_status status) {
+    char buffer[64];
+    size_t needed = 9;
+    struct tera_fault fault = {{0, 0, 0, 0, 0, 0}, 9};
+    memset(buffer, '*', sizeof buffer);
+    HOLDS(tera_tree(source, buffer, sizeof buffer, &needed) == status && needed == 0);
+    needed = 9;
+    HOLDS(tera_fault(source, buffer, sizeof buffer, &needed, &fault) == status && needed == 0);
+    needed = 9;
+    HOLDS(tera_note(source, 0, buffer, sizeof buffer, &needed, &fault.place) == status && needed == 0);
+    HOLDS(fault.notes == 9 && fault.place.end == 0 && is_left(buffer, 0, sizeof buffer));
+}
+
+static void refusals(void) {
+    static const char *const bytes[] = {"\xff", "a\xc3", "\xed\xa0\x80", "{{ \x80 }}"};
+    for (size_t i = 0; i < sizeof bytes / sizeof *bytes; i++) {
+        struct tera_source source = source_of(bytes[i]);
+        refused(&source, TERA_NOT_UTF8);
+    }
+    static const char *const markers[] = {"", "{%%}{{}}{##", "{%%}{{}}{##}}", "{%%}{%}}{##}", "{{%}{{}}{{#}",
+                                          "{%%}{{}}{%#}", "{%%}{{}}\xff##}", "\xc3%\x97}{{}}{##}"};
+    for (size_t i = 0; i < sizeof markers / sizeof *markers; i++) {
+        struct tera_source source = source_of(GREETING);
+        source.markers = markers[i];
+        refused(&source, TERA_BAD_MARKERS);
+    }
+    static const struct tera_limits limits[] = {{0, 256, 4, 2, 40}, {101, 256, 4, 2, 40}, {40, 4097, 4, 2, 40},
+                                                {40, 256, 17, 2, 40}, {40, 256, 4, 9, 40}, {40, 256, 4, 2, 101}};
+    for (size_t i = 0; i < sizeof limits / sizeof *limits; i++) {
+        struct tera_source source = source_of(GREETING);
+        source.limits = &limits[i];
+        refused(&source, TERA_BAD_LIMITS);
+    }
+}
+
+static void others(void) {
+    static const struct tera_limits narrow = {1, 1, 1, 1, 1};
+    struct tera_source marked = {"hi <<a>>", 8, "<%%><<>><##>", NULL};
+    struct tera_source letters = {"hi \xc3\x97 a\xc3\xb7", 9, "{%%}\xc3\x97\xc3\xb7{##}", NULL};
+    struct tera_source deep = {"{{ (a) }}", 9, NULL, &narrow};
+    char buffer[64];
+    size_t needed = 0;
+    HOLDS(tera_tree(&marked, buffer, sizeof buffer, &needed) == TERA_WRITTEN);
+    HOLDS(needed == strlen(GREETING_TREE) && memcmp(buffer, GREETING_TREE, needed) == 0);
+    HOLDS(tera_tree(&letters, buffer, sizeof buffer, &needed) == TERA_WRITTEN);
+    HOLDS(needed == strlen(GREETING_TREE) && memcmp(buffer, GREETING_TREE, needed) == 0);
+    HOLDS(tera_tree(&deep, buffer, sizeof buffer, &needed) == TERA_FAULTY);
+    deep.limits = NULL;
+    HOLDS(tera_tree(&deep, buffer, sizeof buffer, &needed) == TERA_WRITTEN);
+}
+
+/* Each call that may find no memory is answered so, or as ever, where the memory that is refused is not needed. */
+static void scarce_memory(void) {
+    struct tera_source source = source_of(TWICE), whole = source_of(GREETING);
+    char buffer[64];
+    size_t needed = 0;
+    struct tera_fault fault = {{0, 0, 0, 0, 0, 0}, 0};
+    int turns = 0;
+    for (long calls = 0;; calls++, turns++) {
+        memset(buffer, '*', sizeof buffer);
+        granted = calls;
+        enum tera_status tree = tera_tree(&whole, buffer, sizeof buffer, &needed);
+        int left = granted != 0;
+        granted = -1;
+        if (tree == TERA_WRITTEN && left) break;
+        HOLDS(tree == TERA_WRITTEN || (tree == TERA_NO_MEMORY && needed == 0 && is_left(buffer, 0, sizeof buffer)));
+    }
+    HOLDS(turns > 6);
+    for (long calls = 0;; calls++) {
+        granted = calls;
+        enum tera_status told = tera_fault(&source, buffer, sizeof buffer, &needed, &fault);
+        int left = granted != 0;
+        granted = -1;
+        if (told == TERA_WRITTEN && left) break;
+        HOLDS(told == TERA_WRITTEN || (told == TERA_NO_MEMORY && needed == 0));
+    }
+    HOLDS(memcmp(buffer, TWICE_FAULT, needed) == 0);
+}
+
+int main(void) {
+    buffers_of_trees();
+    buffers_of_faults();
+    notes();
+    refusals();
+    others();
+    scarce_memory();
+    return 0;
+}

@@ -1,0 +1,58 @@
+//! Prints the tree of each template, or its fault: answer [--markers TWELVE] FILE..
+mod tera;
+
+use std::io::Write;
+use std::process::ExitCode;
+use tera::{Fault, Refusal, Source};
+
+fn fault_text(fault: &Fault) -> String {
+    let p = &fault.place;
+    let mut text = format!(
+        "syntax error at {}:{} ({}..{}): {}\nends at {}:{}\n",
+        p.start_line, p.start_column, p.start, p.end, fault.text, p.end_line, p.end_column
+    );
+    for note in &fault.notes {
+        let (label, p) = (&note.label, &note.place);
+        text += &format!(
+            "note {label} at {}:{}-{}:{} {}..{}\n",
+            p.start_line, p.start_column, p.end_line, p.end_column, p.start, p.end
+        );
+    }
+    text
+}
+
+// The answer to one file: 0 for a tree, 1 for a fault, 2 where neither could be told.
+fn answer(name: &str, markers: Option<&str>) -> (u8, String) {
+    let Ok(bytes) = std::fs::read(name) else {
+        eprintln!("{name}: cannot be read");
+        return (2, String::new());
+    };
+    let mut source = Source::new(&bytes);
+    source.markers = markers.unwrap_or(source.markers);
+    match source.tree() {
+        Ok(tree) => (0, tree),
+        Err(Refusal::Fault(fault)) => (1, fault_text(&fault)),
+        Err(refusal) => {
+            eprintln!("{name}: {refusal}");
+            (2, String::new())
+        }
+    }
+}
+
+fn main() -> ExitCode {
+    let words: Vec<String> = std::env::args().skip(1).collect();
+    let (markers, files) = match words.as_slice() {
+        [flag, markers, files @ ..] if flag == "--markers" => (Some(markers.as_str()), files),
+        files => (None, files),
+    };
+    let mut worst = 0;
+    let mut out = std::io::stdout().lock();
+    for name in files {
+        let (came, text) = answer(name, markers);
+        if write!(out, "== {name}\n{text}").is_err() {
+            return ExitCode::from(2);
+        }
+        worst = worst.max(came);
+    }
+    ExitCode::from(worst)
+}

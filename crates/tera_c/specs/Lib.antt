@@ -1,0 +1,4 @@
+pub mod Asked
+pub mod Refusals
+pub mod Statuses
+pub mod Told

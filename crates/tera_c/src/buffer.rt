@@ -1,0 +1,18 @@
+//! What is written into a buffer of the caller's.
+
+ghost use Rattle.tera_c.specs.Statuses.{IsPut};
+
+use crate::status::Status;
+
+/// Puts a text at the start of a buffer, unless it is too short, and tells what the text needs.
+pub(crate) fn put(text: &str, buffer: &mut [u8], needed: &mut usize) -> Status
+    ensures { IsPut text.now result buffer.old buffer.new needed.new }
+{
+    let bytes = text.as_bytes();
+    *needed = bytes.len();
+    if bytes.len() > buffer.len() {
+        return Status::Short;
+    }
+    buffer[..bytes.len()].copy_from_slice(bytes);
+    Status::Written
+}

@@ -1,0 +1,105 @@
+//! The parser for other languages: a static library that writes the text of a template's tree, or of its fault, into
+//! a buffer of the caller's.
+//!
+//! Each call takes a source, six markers of two bytes, one behind the other, and limits; parses anew; and answers the
+//! number of a [`Status`]. `TellsTree`, `TellsFault` and `TellsNote` say what it leaves in the buffer and tells beside
+//! it, by the words of `tera_parser` and of `tera_show`, on which it stands.
+//!
+//! In the order of reading: `status` and `shapes`, the types; specs `Statuses`, what a buffer holds, `Asked`, what can
+//! be read, and `Told`. Then `buffer`; `markers`; `parsed`, with specs `Refusals`; `trees`; `faults`.
+#![tactic(auto)]
+
+mod buffer;
+mod faults;
+mod markers;
+mod parsed;
+mod shapes;
+mod status;
+mod trees;
+
+ghost use Rattle.std.specs.Prelude.{◌≡◌};
+ghost use Rattle.tera_c.specs.Asked.{limits_at};
+ghost use Rattle.tera_c.specs.Statuses.{number_of};
+ghost use Rattle.tera_c.specs.Told.{TellsTree, TellsFault, TellsNote};
+
+use buffer::put;
+use faults::{put_fault, put_note};
+use parsed::{Refusal, parsed};
+pub use shapes::{AskedLimits, Fault, Place};
+pub use status::Status;
+use std::alloc::Global;
+use trees::tree_of;
+
+/// Writes the text of the tree of the source.
+///
+/// What is needed is told in any case, and 0 where nothing is to be written.
+#[unsafe(no_mangle)]
+pub extern "C" fn tera_c_tree(
+    alloc: Global,
+    source: &[u8],
+    markers: &[u8],
+    limits: &AskedLimits,
+    text: &mut [u8],
+    needed: &mut usize,
+) -> u32
+    ensures { (status : Status) × (result ≡ number_of status)
+        × TellsTree (limits_at limits.now) markers.now source.now status
+        text.old text.new needed.new }
+{
+    *needed = 0;
+    match tree_of(alloc, source, markers, limits) {
+        Ok(tree) => put(tree.as_str(), text, needed).number(),
+        Err(status) => status.number(),
+    }
+}
+
+/// Writes the text of the fault of the source, and tells where it stands and how many notes it has.
+///
+/// Both are told also where the buffer is too short for the text.
+#[unsafe(no_mangle)]
+pub extern "C" fn tera_c_fault(
+    alloc: Global,
+    source: &[u8],
+    markers: &[u8],
+    limits: &AskedLimits,
+    text: &mut [u8],
+    needed: &mut usize,
+    fault: &mut Fault,
+) -> u32
+    ensures { (status : Status) × (result ≡ number_of status)
+        × TellsFault (limits_at limits.now) markers.now source.now status
+        text.old text.new needed.new fault.old fault.new }
+{
+    *needed = 0;
+    match parsed(alloc, source, markers, limits) {
+        Ok(_) => Status::Nothing.number(),
+        Err(Refusal::Fault(report)) => put_fault(&report, text, needed, fault).number(),
+        Err(Refusal::Untold(status)) => status.number(),
+    }
+}
+
+/// Writes the label of the note of this number, from 0, of the fault of the source, and tells where it stands.
+///
+/// It is about the source.
+#[unsafe(no_mangle)]
+pub extern "C" fn tera_c_note(
+    alloc: Global,
+    source: &[u8],
+    markers: &[u8],
+    limits: &AskedLimits,
+    index: usize,
+    text: &mut [u8],
+    needed: &mut usize,
+    place: &mut Place,
+) -> u32
+    ensures { (status : Status) × (result ≡ number_of status)
+        × TellsNote (limits_at limits.now) markers.now source.now index status
+        text.old text.new needed.new place.old place.new }
+{
+    *needed = 0;
+    match parsed(alloc, source, markers, limits) {
+        Ok(_) => Status::Nothing.number(),
+        Err(Refusal::Fault(report)) => put_note(&report, index, text, needed, place).number(),
+        Err(Refusal::Untold(status)) => status.number(),
+    }
+}
