@@ -43,6 +43,46 @@ def post():
             f'</article>\n')
 
 
+def section():
+    number = random.randrange(1000)
+    return (f'  <section id="part-{number}">\n    <h2>{{{{ part_{number}.title }}}}</h2>\n    <p>{text(random.choice([900, 1500, 2400]))}</p>\n'
+            f'    {{% if part_{number}.image %}}<img src="{{{{ url(path=part_{number}.image) }}}}" alt="">{{% endif %}}\n'
+            f'    <p>{text(random.choice([400, 1200, 3000]))}</p>\n  </section>\n')
+
+
+def site():
+    return ('{% extends "base.html" %}\n{% block title %}{{ page.title | title }}{% endblock title %}\n{% block content %}\n'
+            + filled(section) + '{% include "comments.html" %}\n{% endblock content %}\n')
+
+
+def tree(depth):
+    """A component with a body, in which stand components, down to one without a body."""
+    number = random.randrange(40)
+    if depth == 0:
+        return f'<b>{{{{ <ui.icon name="i{number}" size={{{number}}} label={{item.label}}/> }}}}</b>'
+    inner = "\n".join(tree(depth - 1) for _ in range(random.choice([1, 1, 1, 2, 2, 3])))
+    return (f'{{% <ui.box{number} class="level-{depth}" gap={{{number}}} wide title={{page.title | upper}}> %}}\n{inner}\n'
+            f'{{% </ui.box{number}> %}}')
+
+
+def numbered(part):
+    numbers = iter(range(SIZE))
+    return filled(lambda: part(next(numbers)))
+
+
+def piece(number):
+    """A block, or the definition of a component with parameters and metadata."""
+    if number % 2:
+        return f'{{% block part_{number} %}}\n  {text(120)}{{{{ super() }}}}{text(60)}\n{{% endblock part_{number} %}}\n'
+    return (f'{{% component card_{number}(title: string, size: integer = {number}, kind = "plain", @lang: string = "en", items: array = [1, 2], ...rest)'
+            f' {{"description": "{text(40).strip()}", "since": {number}, "tags": ["a", "b"], "is_open": true}} %}}\n'
+            f'  <div class="{{{{ kind }}}}">{{{{ title }}}}{text(30)}</div>\n{{% endcomponent card_{number} %}}\n')
+
+
+def name():
+    return random.choice("abcdefghijklmnopqrstuvwxyz_") + "".join(random.choice("abcdefghijklmnopqrstuvwxyz_0123456789") for _ in range(random.randrange(2, 20)))
+
+
 def main():
     random.seed(7)
     folder = pathlib.Path(sys.argv[1])
@@ -62,9 +102,19 @@ def main():
         "string": "{{ '" + text(SIZE) + "' }}",
         "page": filled(post),
         "chain": "{% if a %}b" + "{% elif a %}b" * 62000 + "{% endif %}",
+        "site": site(),
+        "components": filled(lambda: tree(10) + "\n"),
+        "child": '{% extends "base.html" %}\n' + numbered(piece),
+        "names": "{{ [" + filled(lambda: "x" + name() + ", ") + "] }}",
+        "arguments": "{{ f(" + numbered(lambda number: f"{name()}_{number}=a, ") + ") }}",
+        "keys": "{{ {" + numbered(lambda number: f'"{name()}_{number}": a, ') + "} }}",
+        "constants": "{{ {" + numbered(lambda number: f'"{name()}_{number}": {number}, ') + "} }}",
+        "name": "{{ " + "a_long_name" * (SIZE // 11) + " }}",
+        "blanks": "{{ a" + " " * SIZE + "}}",
     }
-    for name, source in inputs.items():
-        (folder / name).write_text(source)
+    for title, source in inputs.items():
+        (folder / title).write_text(source)
+    (folder / "order").write_text("\n".join(inputs) + "\n")
 
 
 main()
