@@ -4,6 +4,8 @@ use std::io::{Read, Write};
 use std::{fs, io};
 use tera_base::{Error, ErrorKind, ReportError};
 use tera_layout::format;
+use tera_parser::Parser;
+use tera_parser::lexer::Delimiters;
 
 /// Why a file was not laid out.
 #[derive(Drop)]
@@ -25,8 +27,9 @@ impl From<Error> for Refusal {
     }
 }
 
-/// Lays out the file, and names it on standard output where that changes it; under `check` it is left as it is. The
-/// layout of standard input, `-`, is written to standard output. The answer is whether the layout is another text.
+/// Lays out the file where it holds a template, and names it on standard output where that changes it; under `check` it
+/// is left as it is. The layout of standard input, `-`, is written to standard output. The answer is whether the layout
+/// is another text.
 pub(crate) fn lay_out(rt: &HostRuntime, file: &str, check: bool) -> Result<bool, Refusal> {
     let bytes = match bytes_of(rt, file) {
         Ok(bytes) => bytes,
@@ -35,6 +38,7 @@ pub(crate) fn lay_out(rt: &HostRuntime, file: &str, check: bool) -> Result<bool,
     let Ok(source) = str::from_utf8(bytes.as_slice()) else {
         return Err(Refusal::NotUtf8);
     };
+    Parser::new(rt.alloc(), file, source, Delimiters::default()).parse()?;
     let layout = format(rt.alloc(), source)?;
     let differs = layout.as_str() != source;
     match put(rt, file, check, differs, layout.as_str()) {
