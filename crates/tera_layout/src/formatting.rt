@@ -16,9 +16,9 @@ use tera_base::{Error, Span};
 use tera_lexer::{Cursor, Delimiters, Token, tokenize};
 
 /// The source in its layout, between the default markers: in each tag one space behind the start and
-/// before the end, nothing between what stands together, as `a.b` and `f(x=1)`, and one space in the
-/// place of other white space. White space with a line feed stays as it is, and so does all that
-/// stands outside of tags.
+/// before the end, nothing between what stands together, as `a.b` and `f(x=1)`, one space between
+/// what stands apart, as `a | b`, and one space in the place of other white space. White space with a
+/// line feed stays as it is, and so does all that stands outside of tags.
 ///
 /// A source with a lexical fault, or with a tag that never ends, is refused, and its fault told;
 /// whether it is a template is not asked. The only other refusal is `Memory`.
