@@ -11,7 +11,7 @@ use Rattle.tera_lexer.specs.grammar.Marks.{dash_bytes}
 use Rattle.tera_lexer.specs.grammar.Lexeme.{begins_name, goes_on_name, is_quote, Inner, written, quoted, Name, Number, Quoted, Operator, spelled, Unexpected, Unclosed, UnknownEscape, TooGreat, Float, told}
 use Rattle.tera_lexer.specs.reading.Front.{Front, Reads, Breaks, run_of, behind_run}
 use Rattle.tera_lexer.proofs.Runs.{run_stands, run_splits}
-use Rattle.tera_lexer.proofs.Operators.{operator_ascii}
+use Rattle.tera_lexer.proofs.Operators.{Printable, operator_printable}
 use Rattle.tera_lexer.proofs.Fronts.{IsFront}
 
 pub digit_ascii : (b : ℕ) → is_ascii_digit b ≡ true → b < 128
@@ -97,7 +97,8 @@ front_cut bytes (Reads (Name b bs) rest) utf8 (e, is) =
     cut_behind_ascii bytes (b ∷ bs) rest utf8 e (begin_ascii b is.0, all_weaker (λ c. goes_on_name c ≡ true) (λ c. c < 128) bs name_ascii is.1.0)
 front_cut bytes (Reads (Number b bs) rest) utf8 (e, is) = cut_behind_ascii bytes (b ∷ bs) rest utf8 e (digit_ascii b is.0.0, digits_ascii bs is.0.1.0)
 front_cut bytes (Reads (Quoted quote is) rest) utf8 (e, q) = string_cut quote is rest bytes utf8 q.0.0 e
-front_cut bytes (Reads (Operator op) rest) utf8 (e, is) = cut_behind_ascii bytes op rest utf8 e (operator_ascii (op ++ rest) op is)
+front_cut bytes (Reads (Operator op) rest) utf8 (e, is) =
+    cut_behind_ascii bytes op rest utf8 e (all_weaker Printable (λ b. b < 128) op (λ b plain. plain.1) (operator_printable (op ++ rest) op is))
 front_cut bytes (Breaks Unexpected) utf8 here = none_cut bytes utf8
 front_cut bytes (Breaks (Unclosed quote)) utf8 here = none_cut bytes utf8
 front_cut bytes (Breaks (UnknownEscape quote is)) utf8 (rest, e, q, escape) = string_cut quote is rest bytes utf8 q.0 e

@@ -1,5 +1,5 @@
 -- What the program finds in a tag is what stands there.
-use Rattle.std.proofs.Common.{◌≡◌, ◌≢◌, ℕ, suc, ◌+◌, ◌<◌, ◌≤◌, ◌^◌, Bool, true, false, List, [], ◌∷◌, length, take, drop, get_or, Option, Some, None, ap, sym, ◌∙◌, refl, subst, arith, IsUtf8}
+use Rattle.std.proofs.Common.{◌≡◌, ◌≢◌, ℕ, zero, suc, ◌+◌, ◌<◌, ◌≤◌, ◌^◌, Bool, true, false, List, [], ◌∷◌, ◌++◌, length, take, drop, get_or, Option, Some, None, ap, sym, ◌∙◌, refl, subst, arith, IsUtf8}
 use Rattle.std.specs.Prelude.{nat_lt, ◌==◌, if◌then◌else◌, pos, codes}
 use Rattle.std.specs.List.{AllByRecursion, prefix_len, list_any}
 use Rattle.std.specs.Char.{is_ascii_digit}
@@ -13,13 +13,15 @@ use Rattle.tera_lexer.specs.grammar.Tokens.{Tok, name_token, unclosed}
 use Rattle.tera_lexer.specs.grammar.Tokens as toks
 use Rattle.tera_lexer.specs.reading.Front.{Front, Reads, Breaks, run_of, behind_run, number_front, string_front, operator_front, front_of, string_at, closing_at, unknown_in}
 use Rattle.tera_lexer.proofs.Escapes.{unknown_written}
-use Rattle.tera_lexer.specs.code.Found.{BeginsBy, IsOperatorOf, IsTokenAt, IsEscapedAt, IsFaultAt, IsFound, found_len}
+use Rattle.tera_lexer.specs.code.Found.{BeginsBy, IsOperatorOf, IsTokenAt, IsPlainAt, IsEscapedAt, IsFaultAt, IsFound, found_len}
+use Rattle.tera_lexer.specs.code.Counting.{ArePrintable}
 use Rattle.tera_lexer.specs.code.Seen.{seen}
 use Rattle.tera_lexer.specs.declared.lexer.tokens.Token.{Token}
 use Rattle.tera_lexer.specs.declared.lexer.lexeme.Found.{Found}
 use Rattle.tera_lexer.specs.declared.lexer.lexeme.Found.TheVariants as found
 use Rattle.tera_lexer.proofs.Closings.{IsInsideOf, inside_closes, nothing_closes, escape_written}
-use Rattle.tera_lexer.proofs.Cuts.{cut_before_byte, quote_ascii, front_len, front_cut}
+use Rattle.tera_lexer.proofs.Cuts.{cut_before_byte, digit_ascii, name_ascii, quote_ascii, all_weaker, front_len, front_cut}
+use Rattle.tera_lexer.proofs.Operators.{Printable, operator_printable}
 use Rattle.tera_lexer.proofs.Runs.{run_grows, run_stands}
 use Rattle.tera_lexer.proofs.Fronts.{front_digit, front_name, quote_front, other_front, IsFront, front_stands}
 
@@ -40,11 +42,11 @@ module _ (p : ℕ → Bool) (b : ℕ) (bs : List ℕ) (first : p b ≡ true) whe
   pub length_whole : prefix_len p (b ∷ bs) ≡ length (b ∷ run_of p bs)
   length_whole = run_grows p b bs first ∙ ap suc (sym (length-prefix_len p bs))
 
-pub name_is_found : (bytes : List ℕ) (token : Tok) → BeginsBy begins_name bytes → token ≡ name_token (run_of goes_on_name bytes) → IsTokenAt token (prefix_len goes_on_name bytes) (front_of bytes)
+pub name_is_found : (bytes : List ℕ) (token : Tok) → BeginsBy begins_name bytes → token ≡ name_token (run_of goes_on_name bytes) → IsPlainAt token (prefix_len goes_on_name bytes) (front_of bytes)
 name_is_found [] token name is = absurd name
 name_is_found (b ∷ bs) token name is =
     let goes_on = begins_goes_on b name in
-    subst (IsTokenAt token (prefix_len goes_on_name (b ∷ bs))) (sym (front_name b bs name)) (is ∙ ap name_token (run_whole goes_on_name b bs goes_on), length_whole goes_on_name b bs goes_on)
+    subst (IsPlainAt token (prefix_len goes_on_name (b ∷ bs))) (sym (front_name b bs name)) ((is ∙ ap name_token (run_whole goes_on_name b bs goes_on), length_whole goes_on_name b bs goes_on), refl)
 
 -- digits are found as such
 number_is : (b : ℕ) (bs : List ℕ) → is_ascii_digit b ≡ true → front_of (b ∷ bs) ≡ number_front b (run_of is_ascii_digit bs) (behind_run is_ascii_digit (b ∷ bs))
@@ -71,12 +73,12 @@ float_is_found (b ∷ bs) n digit point len =
     subst (IsFaultAt (codes "Float literals are not supported") n) (sym (number_is b bs digit ∙ float_front b (run_of is_ascii_digit bs) (behind_run is_ascii_digit (b ∷ bs)) point)) (refl, omega (arith, length-append (run_of is_ascii_digit bs) (46 ∷ run_of is_ascii_digit behind)))
 
 pub integer_is_found : (bytes : List ℕ) (token : Tok) → BeginsBy is_ascii_digit bytes → begins (46 ∷ []) (behind_run is_ascii_digit bytes) ≡ false
-    → decimal (run_of is_ascii_digit bytes) < 2 ^ 63 → token ≡ toks.Integer (pos (decimal (run_of is_ascii_digit bytes))) → IsTokenAt token (prefix_len is_ascii_digit bytes) (front_of bytes)
+    → decimal (run_of is_ascii_digit bytes) < 2 ^ 63 → token ≡ toks.Integer (pos (decimal (run_of is_ascii_digit bytes))) → IsPlainAt token (prefix_len is_ascii_digit bytes) (front_of bytes)
 integer_is_found [] token digit no_point low is = absurd digit
 integer_is_found (b ∷ bs) token digit no_point low is =
     let whole = run_whole is_ascii_digit b bs digit in
-    subst (IsTokenAt token (prefix_len is_ascii_digit (b ∷ bs)))
-    (sym (number_is b bs digit ∙ integer_front b (run_of is_ascii_digit bs) (behind_run is_ascii_digit (b ∷ bs)) no_point (subst (λ l. decimal l < 2 ^ 63) whole low))) (is ∙ ap (λ l. toks.Integer (pos (decimal l))) whole, length_whole is_ascii_digit b bs digit)
+    subst (IsPlainAt token (prefix_len is_ascii_digit (b ∷ bs)))
+    (sym (number_is b bs digit ∙ integer_front b (run_of is_ascii_digit bs) (behind_run is_ascii_digit (b ∷ bs)) no_point (subst (λ l. decimal l < 2 ^ 63) whole low))) ((is ∙ ap (λ l. toks.Integer (pos (decimal l))) whole, length_whole is_ascii_digit b bs digit), refl)
 
 pub great_is_found : (bytes : List ℕ) (n : ℕ) → BeginsBy is_ascii_digit bytes → begins (46 ∷ []) (behind_run is_ascii_digit bytes) ≡ false
     → 2 ^ 63 ≤ decimal (run_of is_ascii_digit bytes) → n ≡ prefix_len is_ascii_digit bytes → IsFaultAt (codes "Invalid Integer") n (front_of bytes)
@@ -158,12 +160,12 @@ module _ (bytes : List ℕ) (some : 0 < length bytes) (digit : is_ascii_digit (g
   front_other : front_of bytes ≡ operator_front bytes (operator_at bytes)
   front_other = other_at bytes some digit name quote
 
-  pub operator_is_found : (p : Token × ℕ) → IsOperatorOf (Some p) (operator_at bytes) → IsTokenAt (seen p.0) p.1 (front_of bytes)
-  operator_is_found p is = subst (IsTokenAt (seen p.0) p.1) (sym front_other) (by (operator_at bytes) is)
+  pub operator_is_found : (p : Token × ℕ) → IsOperatorOf (Some p) (operator_at bytes) → IsPlainAt (seen p.0) p.1 (front_of bytes)
+  operator_is_found p is = subst (IsPlainAt (seen p.0) p.1) (sym front_other) (by (operator_at bytes) is)
     where
-      by : (o : Option (List ℕ)) → IsOperatorOf (Some p) o → IsTokenAt (seen p.0) p.1 (operator_front bytes o)
+      by : (o : Option (List ℕ)) → IsOperatorOf (Some p) o → IsPlainAt (seen p.0) p.1 (operator_front bytes o)
       by None is = absurd is
-      by (Some op) is = is
+      by (Some op) is = (is, refl)
 
   pub nothing_is_found : IsOperatorOf None (operator_at bytes) → IsFaultAt (codes "Unexpected character") 0 (front_of bytes)
   nothing_is_found is = subst (IsFaultAt (codes "Unexpected character") 0) (sym front_other) (by (operator_at bytes) is)
@@ -181,8 +183,10 @@ escaped_length inside n (Reads (Quoted quote inner) rest) is = sym is.2
 escaped_length inside n (Breaks f) is = absurd is
 
 pub found_length : (f : Found) (front : Front) → IsFound f front → front_len front ≡ found_len f
-found_length (found.Lexeme token n) (Reads l rest) is = sym is.1
-found_length (found.Lexeme token n) (Breaks f) is = absurd is
+found_length (found.Lexeme token n) (Reads l rest) is = sym is.0.1
+found_length (found.Lexeme token n) (Breaks f) is = absurd is.0
+found_length (found.Text inside n) (Reads l rest) is = sym is.1
+found_length (found.Text inside n) (Breaks f) is = absurd is
 found_length (found.Escaped inside n) front is = escaped_length inside.now n front is
 found_length (found.Fault fault) (Reads l rest) is = absurd is
 found_length (found.Fault fault) (Breaks f) is = sym is.1
@@ -196,6 +200,30 @@ found_cut (b ∷ bs) f utf8 some is =
 pub front_here : (bytes : List ℕ) → 0 < length bytes → IsFront bytes (front_of bytes)
 front_here [] some = absurd (omega arith)
 front_here (b ∷ bs) some = front_stands b bs
+
+-- the bytes of a lexeme that is no string are printable
+digit_printable : (b : ℕ) → is_ascii_digit b ≡ true → Printable b
+digit_printable b h = (grind (arith, nat_tests), digit_ascii b h)
+
+name_printable : (b : ℕ) → goes_on_name b ≡ true → Printable b
+name_printable b h = (grind (arith, nat_tests), name_ascii b h)
+
+each_printable : (bytes : List ℕ) → AllByRecursion Printable bytes → ArePrintable bytes
+each_printable [] all k lt = absurd (omega arith)
+each_printable (b ∷ bs) all zero lt = all.0
+each_printable (b ∷ bs) all (suc k) lt = each_printable bs all.1 k (omega arith)
+
+first_printable : (bytes front rest : List ℕ) (n : ℕ) → bytes ≡ front ++ rest → n ≡ length front → AllByRecursion Printable front → ArePrintable (take n bytes)
+first_printable bytes front rest n e len all = subst ArePrintable (sym (ap (take n) e ∙ take_at front rest n (sym len))) (each_printable front all)
+
+pub plain_printable : (bytes : List ℕ) (token : Tok) (n : ℕ) (front : Front) → IsFront bytes front → IsPlainAt token n front → ArePrintable (take n bytes)
+plain_printable bytes token n (Reads (Name b bs) rest) (e, is) found =
+    first_printable bytes (b ∷ bs) rest n e found.0.1 (name_printable b (begins_goes_on b is.0), all_weaker (λ c. goes_on_name c ≡ true) Printable bs name_printable is.1.0)
+plain_printable bytes token n (Reads (Number b bs) rest) (e, is) found =
+    first_printable bytes (b ∷ bs) rest n e found.0.1 (digit_printable b is.0.0, all_weaker (λ c. is_ascii_digit c ≡ true) Printable bs digit_printable is.0.1.0)
+plain_printable bytes token n (Reads (Operator op) rest) (e, is) found = first_printable bytes op rest n e found.0.1 (operator_printable (op ++ rest) op is)
+plain_printable bytes token n (Reads (Quoted quote is) rest) here found = let clash : true ≡ false = found.1 in cc
+plain_printable bytes token n (Breaks f) here found = absurd found.0
 
 -- in a string with escapes that is found none is unknown
 pub escaped_known : (bytes inside : List ℕ) (n : ℕ) (front : Front) → IsFront bytes front → IsEscapedAt inside n front → unknown_in false inside ≡ false

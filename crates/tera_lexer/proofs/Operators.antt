@@ -1,5 +1,5 @@
 -- Which operators there are, and which bytes begin none.
-use Rattle.std.proofs.Common.{◌≡◌, ℕ, ◌<◌, Bool, true, false, List, [], ◌∷◌, ◌++◌, length, drop, Option, Some, None, ⊎_elim, ap, sym, ◌∙◌, refl, subst, arith, cond}
+use Rattle.std.proofs.Common.{◌≡◌, ℕ, ◌<◌, ◌≤◌, Bool, true, false, List, [], ◌∷◌, ◌++◌, length, drop, Option, Some, None, ⊎_elim, ap, sym, ◌∙◌, refl, subst, arith, cond}
 use Rattle.std.specs.Prelude.{nat_lt, find}
 use Rattle.std.specs.List.{AllByRecursion}
 use Rattle.std.specs.Char.{is_ascii_digit}
@@ -39,55 +39,72 @@ find_among p q (y ∷ ys) x all e =
     (λ other. find_among p q ys x all.1 (rw other at e))
     (cases_Bool (p y))
 
--- an operator is ASCII, and not empty
-is_ascii : List ℕ → Bool
-is_ascii [] = false
-is_ascii (b ∷ []) = nat_lt b 128
-is_ascii (b ∷ c ∷ cs) = cond (nat_lt b 128) (is_ascii (c ∷ cs)) false
+-- an operator is printable, and not empty
+abbrev pub Printable : ℕ → Type 0
+Printable b = (32 ≤ b) × (b < 128)
 
-ascii_some : (op : List ℕ) → is_ascii op ≡ true → (0 < length op) × AllByRecursion (λ b. b < 128) op
-unfolding is_ascii
-ascii_some [] h = cc
-ascii_some (b ∷ []) h = (omega arith, ((Decides-ltb b 128).0 h, tt))
-ascii_some (b ∷ c ∷ cs) h =
+is_printable : ℕ → Bool
+is_printable b = cond (nat_lt 31 b) (nat_lt b 128) false
+
+are_printable : List ℕ → Bool
+are_printable [] = false
+are_printable (b ∷ []) = is_printable b
+are_printable (b ∷ c ∷ cs) = cond (is_printable b) (are_printable (c ∷ cs)) false
+
+printable_is : (b : ℕ) → is_printable b ≡ true → Printable b
+unfolding is_printable
+printable_is b h =
     ⊎_elim
-    (λ low. let rec = ascii_some (c ∷ cs) (rw low at h) in (omega arith, ((Decides-ltb b 128).0 low, rec.1)))
-    (λ high. let clash : false ≡ true = rw high at h in cc)
-    (cases_Bool (nat_lt b 128))
+    (λ high. let low = rw high at h in let over = (Decides-ltb 31 b).0 high in (omega arith, (Decides-ltb b 128).0 low))
+    (λ none. let clash : false ≡ true = rw none at h in cc)
+    (cases_Bool (nat_lt 31 b))
 
-short_is : (b : ℕ) (op : List ℕ) → short_operator b ≡ Some op → (op ≡ b ∷ []) × (b < 128)
+printable_some : (op : List ℕ) → are_printable op ≡ true → (0 < length op) × AllByRecursion Printable op
+unfolding are_printable
+printable_some [] h = cc
+printable_some (b ∷ []) h = (omega arith, (printable_is b h, tt))
+printable_some (b ∷ c ∷ cs) h =
+    ⊎_elim
+    (λ here. let rec = printable_some (c ∷ cs) (rw here at h) in (omega arith, (printable_is b here, rec.1)))
+    (λ other. let clash : false ≡ true = rw other at h in cc)
+    (cases_Bool (is_printable b))
+
+short_is : (b : ℕ) (op : List ℕ) → short_operator b ≡ Some op → (op ≡ b ∷ []) × Printable b
 short_is b op e =
     ⊎_elim
-    (λ here. let same : Some (b ∷ []) ≡ Some op = rw here at e in let op_is : b ∷ [] ≡ op = cc in (sym op_is, short_low b here))
+    (λ here. let same : Some (b ∷ []) ≡ Some op = rw here at e in let op_is : b ∷ [] ≡ op = cc in (sym op_is, (short_high b here, short_low b here)))
     (λ other. let clash : None ≡ Some op = rw other at e in cc)
     (cases_Bool (is_short_operator b))
   where
     short_low : (b : ℕ) → is_short_operator b ≡ true → b < 128
     short_low b h = grind (arith, nat_tests)
 
+    short_high : (b : ℕ) → is_short_operator b ≡ true → 32 ≤ b
+    short_high b h = grind (arith, nat_tests)
+
 -- an operator that is found stands there
 pub record IsOperator (op bytes : List ℕ) : Type 0 where
   pub splits : bytes ≡ op ++ drop (length op) bytes
   pub some : 0 < length op
-  pub ascii : AllByRecursion (λ b. b < 128) op
+  pub printable : AllByRecursion Printable op
 
-each_ascii : AllByRecursion (λ z. is_ascii z ≡ true) long_operators
-unfolding is_ascii
-each_ascii = (refl, (refl, (refl, (refl, (refl, (refl, (refl, (refl, (refl, (refl, tt))))))))))
+each_printable : AllByRecursion (λ z. are_printable z ≡ true) long_operators
+unfolding are_printable is_printable
+each_printable = (refl, (refl, (refl, (refl, (refl, (refl, (refl, (refl, (refl, (refl, tt))))))))))
 
 operator_by : (b : ℕ) (bs op : List ℕ) (o : Option (List ℕ)) → long_operator_at (b ∷ bs) ≡ o → first_of o (short_operator b) ≡ Some op → IsOperator op (b ∷ bs)
 operator_by b bs op (Some long) e f =
     let same : long ≡ op = cc in
     let found = e ∙ ap Some same in
-    let passes = ascii_some op (find_among (λ x. begins x (b ∷ bs)) is_ascii long_operators op each_ascii found) in
-    record { splits = begins_splits op (b ∷ bs) (find_passes (λ x. begins x (b ∷ bs)) long_operators op found); some = passes.0; ascii = passes.1 }
+    let passes = printable_some op (find_among (λ x. begins x (b ∷ bs)) are_printable long_operators op each_printable found) in
+    record { splits = begins_splits op (b ∷ bs) (find_passes (λ x. begins x (b ∷ bs)) long_operators op found); some = passes.0; printable = passes.1 }
 operator_by b bs op None e f =
-    let (is, low) = short_is b op f in
-    rw is (record { splits = refl; some = omega arith; ascii = (low, tt) })
+    let (is, plain) = short_is b op f in
+    rw is (record { splits = refl; some = omega arith; printable = (plain, tt) })
 
 pub operator_stands : (b : ℕ) (bs op : List ℕ) → operator_at (b ∷ bs) ≡ Some op → IsOperator op (b ∷ bs)
 operator_stands b bs op e = operator_by b bs op (long_operator_at (b ∷ bs)) refl e
 
-pub operator_ascii : (bytes op : List ℕ) → operator_at bytes ≡ Some op → AllByRecursion (λ b. b < 128) op
-operator_ascii [] op e = cc
-operator_ascii (b ∷ bs) op e = (operator_stands b bs op e).ascii
+pub operator_printable : (bytes op : List ℕ) → operator_at bytes ≡ Some op → AllByRecursion Printable op
+operator_printable [] op e = cc
+operator_printable (b ∷ bs) op e = (operator_stands b bs op e).printable

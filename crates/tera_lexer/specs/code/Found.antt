@@ -1,16 +1,16 @@
 -- What the program finds at a place in a tag, against what stands there.
-use Rattle.std.specs.Prelude.{◌≡◌, true, ℕ, Bool, List, [], ◌∷◌, length, Option, Some, None}
+use Rattle.std.specs.Prelude.{◌≡◌, true, false, ℕ, Bool, List, [], ◌∷◌, length, Option, Some, None}
 use Rattle.std.specs.Char.{is_ascii_digit, is_ascii_whitespace}
 use Rattle.tera_lexer.specs.grammar.Lexeme.{goes_on_name, spelled, told, quoted, Inner, IsQuoted, written, has_escape, has_unknown_escape}
 use Rattle.tera_lexer.specs.grammar.Lexeme as lexeme
-use Rattle.tera_lexer.specs.grammar.Tokens.{Tok, token_of, fault_text, Symbol}
+use Rattle.tera_lexer.specs.grammar.Tokens.{Tok, token_of, fault_text, Str, Symbol}
 use Rattle.tera_lexer.specs.reading.Front.{Front, Reads, Breaks}
 use Rattle.tera_lexer.specs.code.Seen.{seen}
 use Rattle.tera_lexer.specs.declared.lexer.tokens.Token.{Token}
 use Rattle.tera_lexer.specs.declared.lexer.lexeme.Class.{Class}
 use Rattle.tera_lexer.specs.declared.lexer.lexeme.Class.TheVariants.{Space, Name, Digit}
 use Rattle.tera_lexer.specs.declared.lexer.lexeme.Found.{Found}
-use Rattle.tera_lexer.specs.declared.lexer.lexeme.Found.TheVariants.{Lexeme, Escaped, Fault}
+use Rattle.tera_lexer.specs.declared.lexer.lexeme.Found.TheVariants.{Lexeme, Text, Escaped, Fault}
 
 abbrev pub passes : Class → ℕ → Bool
 passes Space b = is_ascii_whitespace b
@@ -27,6 +27,14 @@ abbrev pub IsTokenAt : Tok → ℕ → Front → Type 0
 IsTokenAt token n (Reads lexeme rest) = (token ≡ token_of lexeme) × (n ≡ length (spelled lexeme))
 IsTokenAt token n (Breaks fault) = ⊥
 
+-- the same of a lexeme that is no string
+abbrev pub is_string : Front → Bool
+is_string (Reads (lexeme.Quoted quote is) rest) = true
+is_string front = false
+
+abbrev pub IsPlainAt : Tok → ℕ → Front → Type 0
+IsPlainAt token n front = IsTokenAt token n front × (is_string front ≡ false)
+
 -- the text of a fault that stands there, with the length of what it tells
 abbrev pub IsFaultAt : List ℕ → ℕ → Front → Type 0
 IsFaultAt text n (Reads lexeme rest) = ⊥
@@ -38,12 +46,14 @@ IsEscapedAt inside n (Reads (lexeme.Quoted quote is) rest) = (inside ≡ written
 IsEscapedAt inside n _ = ⊥
 
 abbrev pub IsFound : Found → Front → Type 0
-IsFound (Lexeme token n) front = IsTokenAt (seen token) n front
+IsFound (Lexeme token n) front = IsPlainAt (seen token) n front
+IsFound (Text inside n) front = IsTokenAt (Str inside.now) n front
 IsFound (Escaped inside n) front = IsEscapedAt inside.now n front
 IsFound (Fault fault) front = IsFaultAt fault.message.now fault.len front
 
 abbrev pub found_len : Found → ℕ
 found_len (Lexeme token n) = n
+found_len (Text inside n) = n
 found_len (Escaped inside n) = n
 found_len (Fault fault) = fault.len
 

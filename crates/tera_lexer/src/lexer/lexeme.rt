@@ -13,10 +13,12 @@ ghost use Rattle.tera_lexer.specs.code.Found.{passes, BeginsBy, IsFound, IsOpera
 use crate::lexer::tokens::Token;
 use std::alloc::{AllocError, Global};
 
-/// What was found: a token, or the inside of a string with escapes, with how many bytes it takes; or a fault.
+/// What was found: a token that is no string, or the inside of a string without or with escapes, with how many bytes
+/// it takes; or a fault.
 #[derive(Drop)]
 pub enum Found<'a> {
     Lexeme(Token<'a>, usize),
+    Text(&'a str, usize),
     Escaped(&'a str, usize),
     Fault(Fault),
 }
@@ -36,12 +38,23 @@ pub enum Class {
     Digit,
 }
 
+// Each byte of a name stands at its own place, and a comma at every other place.
+static NAMES: [u8; 256] = *b"\
+    ,,,,,,,,,,,,,,,,,,,,,,,,,,,,,,,,\
+    ,,,,,,,,,,,,,,,,0123456789,,,,,,\
+    ,ABCDEFGHIJKLMNOPQRSTUVWXYZ,,,,_\
+    ,abcdefghijklmnopqrstuvwxyz,,,,,\
+    ,,,,,,,,,,,,,,,,,,,,,,,,,,,,,,,,\
+    ,,,,,,,,,,,,,,,,,,,,,,,,,,,,,,,,\
+    ,,,,,,,,,,,,,,,,,,,,,,,,,,,,,,,,\
+    ,,,,,,,,,,,,,,,,,,,,,,,,,,,,,,,,";
+
 fn is_in(class: Class, b: u8) -> bool
     ensures { result ≡ passes class b }
 {
     match class {
         Class::Space => b.is_ascii_whitespace(),
-        Class::Name => b.is_ascii_alphanumeric() || b == b'_',
+        Class::Name => NAMES[usize::from(b)] != b',',
         Class::Digit => b.is_ascii_digit(),
     }
 }
@@ -158,7 +171,7 @@ fn string_at(rest: &str) -> Found<'_>
     };
     let (inside, _) = behind.split_at(len);
     if !inside.as_bytes().contains(&b'\\') {
-        return Found::Lexeme(Token::Str(inside), len + 2);
+        return Found::Text(inside, len + 2);
     }
     if has_unknown_escape(inside.as_bytes()) {
         return Found::Fault(Fault {

@@ -1,6 +1,6 @@
 //! Places in a source.
 
-ghost use Rattle.std.specs.Prelude.{◌≡◌, ◌+◌, ◌<◌, ◌≤◌, ◌^◌, length, count_by};
+ghost use Rattle.std.specs.Prelude.{◌≡◌, ◌+◌, ◌<◌, ◌≤◌, ◌^◌, List, ℕ, length, count_by};
 ghost use Rattle.std.specs.Bool.{OnTrue};
 ghost use Rattle.tera_lexer.specs.grammar.Place.{is_line_feed, begins_character};
 ghost use Rattle.tera_lexer.specs.code.Counting.{ArePrintable};
@@ -33,13 +33,23 @@ impl Place {
     {
         let bytes = text.as_bytes();
         if bytes.len() < 32 && is_printable(bytes) {
-            Place {
-                line: self.line,
-                column: self.column + bytes.len(),
-                byte: self.byte + bytes.len(),
-            }
+            self.along(bytes.len())
         } else {
             self.counted(bytes)
+        }
+    }
+
+    /// The same for so many printable bytes.
+    #[inline(always)]
+    pub(crate) fn along(self, len: usize) -> Place
+        requires column { self.column + len < 2 ^ 64 }
+        requires byte { self.byte + len < 2 ^ 64 }
+        ensures { (text : List ℕ) → len ≡ length text → ArePrintable text → result ≡ moved self text }
+    {
+        Place {
+            line: self.line,
+            column: self.column + len,
+            byte: self.byte + len,
         }
     }
 

@@ -10,6 +10,7 @@ ghost use Rattle.tera_lexer.specs.reading.Left.{start_of, left_of, whole_of, str
 ghost use Rattle.tera_lexer.specs.grammar.Lexed.{AreLexed};
 ghost use Rattle.tera_lexer.specs.grammar.Trimming.{trimmed};
 ghost use Rattle.tera_lexer.specs.grammar.Tokens.{Finish};
+ghost use Rattle.tera_lexer.specs.code.Counting.{ArePrintable};
 ghost use Rattle.tera_lexer.specs.code.Seen.{seen};
 ghost use Rattle.tera_lexer.specs.reading.Front.{front_of};
 ghost use Rattle.tera_lexer.specs.code.Found.{IsEscapedAt};
@@ -138,6 +139,40 @@ impl<'a> Scanner<'a> {
         self.place = end;
         self.rest = rest;
         (text, span)
+    }
+
+    // The same for printable bytes, at which there is no need to look.
+    #[inline(always)]
+    fn advance_plain(&mut self, n: usize) -> Span
+        requires cut { IsCharBoundary self.old.rest n }
+        requires printable { ArePrintable (take n self.old.rest) }
+        ensures state { self.new ≡ record self.old {
+          front = self.old.front ++ take n self.old.rest;
+          rest = drop n self.old.rest;
+        } }
+        ensures span { result ≡ span_of self.old.front (take n self.old.rest) }
+        ensures within { IsWithin (whole_of self.old) result }
+    {
+        let (_, rest) = self.rest.split_at(n);
+        let end = self.place.along(n);
+        let span = self.place.to(end);
+        self.place = end;
+        self.rest = rest;
+        span
+    }
+
+    // Passes over the next bytes, if there are any.
+    #[inline(always)]
+    fn pass(&mut self, n: usize)
+        requires { IsCharBoundary self.old.rest n }
+        ensures { self.new ≡ record self.old {
+          front = self.old.front ++ take n self.old.rest;
+          rest = drop n self.old.rest;
+        } }
+    {
+        if n > 0 {
+            let _ = self.advance(n);
+        }
     }
 
     // Tells a fault in the next bytes, after which nothing comes.
@@ -271,7 +306,7 @@ impl<'a> Scanner<'a> {
         if gap == rest.len() {
             return None;
         }
-        let _ = self.advance(gap);
+        self.pass(gap);
         Some(self.behind_gap(kind))
     }
 
@@ -289,8 +324,12 @@ impl<'a> Scanner<'a> {
         }
         match lexeme_at(rest) {
             Found::Lexeme(token, len) => {
-                let (_, span) = self.advance(len);
+                let span = self.advance_plain(len);
                 Ok((token, span))
+            }
+            Found::Text(inside, len) => {
+                let (_, span) = self.advance(len);
+                Ok((Token::Str(inside), span))
             }
             Found::Escaped(inside, len) => self.escaped(kind, inside, len),
             Found::Fault(Fault { message, len }) => {

@@ -2,10 +2,12 @@ use Rattle.std.proofs.Common.{List, ℕ, ap, subst, refl, ◌∙◌, IsUtf8}
 use Rattle.tera_lexer.specs.grammar.Marks.{end_marker}
 use Rattle.tera_lexer.specs.reading.State.{Progress}
 use Rattle.tera_lexer.specs.reading.Front.{front_of}
-use Rattle.tera_lexer.specs.code.Found.{IsFound}
+use Rattle.tera_lexer.specs.code.Found.{IsFound, IsPlainAt}
+use Rattle.tera_lexer.specs.code.Seen.{seen}
 use Rattle.tera_lexer.specs.code.Markers.{IsEndOf}
-use Rattle.tera_lexer.specs.declared.lexer.lexeme.Found.TheVariants.{Lexeme, Escaped, Fault}
-use Rattle.tera_lexer.proofs.Finds.{found_cut, front_here}
+use Rattle.tera_lexer.specs.declared.lexer.lexeme.Found.TheVariants.{Lexeme, Text, Escaped, Fault}
+use Rattle.tera_lexer.specs.declared.lexer.tokens.Token.TheVariants.{Str}
+use Rattle.tera_lexer.proofs.Finds.{found_cut, front_here, plain_printable}
 use Rattle.tera_lexer.proofs.Readings.{lexeme_step, fault_step}
 use Rattle.tera_lexer.proofs.lexer.scanner.Scanner.behind_gap.Goals as goal
 use Rattle.tera_lexer.proofs.lexer.scanner.Scanner.behind_gap.Goals.{After-end_at, After-lexeme_at}
@@ -25,10 +27,20 @@ utf8 c = subst IsUtf8 c.rest-rest.ensures.rest c.rest-rest.utf8
 pub close-requires-clause-ends : goal.close-requires-clause-ends
 close-requires-clause-ends c = rw c.in-Some.is at (end_is (goal.at.close-requires-clause-ends c).After-end_at)
 
+pub advance_plain-span-requires-clause-cut : goal.advance_plain-span-requires-clause-cut
+advance_plain-span-requires-clause-cut c =
+    let at = goal.at.advance_plain-span-requires-clause-cut c in
+    found_cut c.args.self.now.rest (Lexeme c.in-Lexeme.token c.in-Lexeme.len) (utf8 at.After-end_at) c.requires.some (rw c.in-Lexeme.is at (found_is at.After-lexeme_at))
+
+pub advance_plain-span-requires-clause-printable : goal.advance_plain-span-requires-clause-printable
+advance_plain-span-requires-clause-printable c =
+    let at = goal.at.advance_plain-span-requires-clause-printable c in
+    plain_printable c.args.self.now.rest (seen c.in-Lexeme.token) c.in-Lexeme.len (front_of c.args.self.now.rest) (front_here c.args.self.now.rest c.requires.some) (rw c.in-Lexeme.is at (found_is at.After-lexeme_at))
+
 pub advance-requires : goal.advance-requires
 advance-requires c =
     let at = goal.at.advance-requires c in
-    found_cut c.args.self.now.rest (Lexeme c.in-Lexeme.token c.in-Lexeme.len) (utf8 at.After-end_at) c.requires.some (rw c.in-Lexeme.is at (found_is at.After-lexeme_at))
+    found_cut c.args.self.now.rest (Text c.in-Text.inside c.in-Text.len) (utf8 at.After-end_at) c.requires.some (rw c.in-Text.is at (found_is at.After-lexeme_at))
 
 pub escaped-requires-clause-cut : goal.escaped-requires-clause-cut
 escaped-requires-clause-cut c =
@@ -43,8 +55,15 @@ fail-requires c =
 pub returns-in-Lexeme : goal.returns-in-Lexeme
 returns-in-Lexeme c =
     let at = goal.at.returns-in-Lexeme c in
-    lexeme_step c.args.self.now c.requires.going c.args.kind c.requires.inside c.rest-rest.ensures.valid c.requires.stops c.requires.some (rw c.in_default.is at (end_is at.After-end_at)) c.advance.new.self c.in-Lexeme.token c.advance.result.1 c.in-Lexeme.len
-    (front_of c.args.self.now.rest) refl (front_here c.args.self.now.rest c.requires.some) (rw c.in-Lexeme.is at (found_is at.After-lexeme_at)) c.advance.ensures.state c.advance.ensures.span c.advance.ensures.within
+    let found : IsPlainAt (seen c.in-Lexeme.token) c.in-Lexeme.len (front_of c.args.self.now.rest) = rw c.in-Lexeme.is at (found_is at.After-lexeme_at) in
+    lexeme_step c.args.self.now c.requires.going c.args.kind c.requires.inside c.rest-rest.ensures.valid c.requires.stops c.requires.some (rw c.in_default.is at (end_is at.After-end_at)) c.advance_plain-span.new.self c.in-Lexeme.token c.advance_plain-span.result c.in-Lexeme.len
+    (front_of c.args.self.now.rest) refl (front_here c.args.self.now.rest c.requires.some) found.0 c.advance_plain-span.ensures.state c.advance_plain-span.ensures.span c.advance_plain-span.ensures.within
+
+pub returns-in-Text : goal.returns-in-Text
+returns-in-Text c =
+    let at = goal.at.returns-in-Text c in
+    lexeme_step c.args.self.now c.requires.going c.args.kind c.requires.inside c.rest-rest.ensures.valid c.requires.stops c.requires.some (rw c.in_default.is at (end_is at.After-end_at)) c.advance.new.self (Str c.in-Text.inside) c.advance.result.1 c.in-Text.len
+    (front_of c.args.self.now.rest) refl (front_here c.args.self.now.rest c.requires.some) (rw c.in-Text.is at (found_is at.After-lexeme_at)) c.advance.ensures.state c.advance.ensures.span c.advance.ensures.within
 
 pub returns-in-Fault : goal.returns-in-Fault
 returns-in-Fault c =

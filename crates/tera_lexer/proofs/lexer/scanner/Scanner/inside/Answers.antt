@@ -27,15 +27,15 @@ returns-then-gap-rest c =
     inside_ends c.args.self.now c.requires.going c.args.kind c.requires.inside c.rest-rest.ensures.valid
     (subst (λ (g : List ℕ). IsGap g []) (take_all n rest all) (subst (IsGap (take n rest)) (drop_all n rest all) gap))
 
-pub advance-requires : goal.advance-requires
-advance-requires c =
-    rw (gap_len (goal.at.advance-requires c).After-run_len-gap) (run_cut is_ascii_whitespace c.args.self.now.rest (rw c.rest-rest.ensures.rest at c.rest-rest.utf8) space_ascii)
+pub pass-requires : goal.pass-requires
+pass-requires c =
+    rw (gap_len (goal.at.pass-requires c).After-run_len-gap) (run_cut is_ascii_whitespace c.args.self.now.rest (rw c.rest-rest.ensures.rest at c.rest-rest.utf8) space_ascii)
 
 pub behind_gap-requires-clause-stops : goal.behind_gap-requires-clause-stops
 behind_gap-requires-clause-stops c =
-    subst (λ (r : Progress). StopsAt is_ascii_whitespace r.rest) (sym c.advance.ensures.state) (is_gap (goal.at.behind_gap-requires-clause-stops c).After-run_len-gap).1
+    subst (λ (r : Progress). StopsAt is_ascii_whitespace r.rest) (sym c.pass.ensures) (is_gap (goal.at.behind_gap-requires-clause-stops c).After-run_len-gap).1
 
 pub returns : goal.returns
 returns c =
-    gap_step c.args.self.now c.requires.going c.args.kind c.requires.inside c.rest-rest.ensures.valid c.advance.new.self c.behind_gap.new.self c.behind_gap.result c.run_len-gap.result (is_gap (goal.at.returns c).After-run_len-gap)
-    c.advance.ensures.state c.behind_gap.ensures
+    gap_step c.args.self.now c.requires.going c.args.kind c.requires.inside c.rest-rest.ensures.valid c.pass.new.self c.behind_gap.new.self c.behind_gap.result c.run_len-gap.result (is_gap (goal.at.returns c).After-run_len-gap)
+    c.pass.ensures c.behind_gap.ensures
