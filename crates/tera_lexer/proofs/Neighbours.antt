@@ -1,18 +1,19 @@
 -- Whether what begins some bytes begins with a dash, so that it trims a text before them.
-use Rattle.std.proofs.Common.{◌≡◌, ◌≤◌, ℕ, Bool, true, false, ◌&&◌, List, [], ◌∷◌, ◌++◌, length, drop, Option, Some, None, ap, sym, subst, ◌∙◌, refl, arith}
+use Rattle.std.proofs.Common.{◌≡◌, ◌≤◌, ℕ, Bool, true, false, ◌&&◌, ◌||◌, List, [], ◌∷◌, ◌++◌, length, drop, Option, Some, None, ap, sym, subst, ◌∙◌, refl, arith}
 use Rattle.std.proofs.lemmas.List.{drop_at, length-append}
 use Rattle.std.specs.Option.{is_some}
 use Rattle.tera_lexer.specs.grammar.Marks.{Marks, IsValid, end_marker, begins}
 use Rattle.tera_lexer.specs.grammar.Lexeme.{Item, Close, End, Open, Bad}
 use Rattle.tera_lexer.specs.grammar.Raw.{WordTag, word_tag_bytes, raw_word}
-use Rattle.tera_lexer.specs.grammar.Division.{Piece, Ending, Starts}
+use Rattle.tera_lexer.specs.grammar.Division.{is_at_start, Piece, Ending, Starts}
 use Rattle.tera_lexer.specs.grammar.Trimming.{trims_end}
 use Rattle.tera_lexer.specs.reading.Front.{inside_of, find_marker, word_tag_at, RawEnd, raw_end, tag_step, comment_step, raw_step, block_step, division_by}
 use Rattle.tera_lexer.specs.reading.Left.{starts_dashed}
-use Rattle.tera_lexer.specs.code.Markers.{IsWordTagOf, IsRawEndOf, closes_by, is_block_piece, is_comment}
+use Rattle.tera_lexer.specs.code.Markers.{marker_len, IsStartOf, IsWordTagOf, IsRawEndOf, closes_by, is_block_piece, is_comment}
 use Rattle.tera_lexer.specs.declared.lexer.markers.WordTag.{WordTag as WordTagOfCode}
 use Rattle.tera_lexer.specs.declared.lexer.delimiters.Kind.{Kind}
 use Rattle.tera_lexer.specs.declared.lexer.delimiters.Kind.TheVariants.{Variable, Block}
+use Rattle.tera_lexer.proofs.Markers.{or_false}
 use Rattle.tera_lexer.proofs.WordTags.{IsTagAt, word_tag_stands, word_tag_splits}
 use Rattle.tera_lexer.proofs.Divisions.{at_variable, at_block, at_comment}
 
@@ -64,14 +65,25 @@ module _ (m : Marks) (valid : IsValid m) (bytes : List ℕ) where
   comment_dashed dash behind starts =
       ap trims (at_comment m valid (length bytes) dash bytes behind starts) ∙ comment_trims (division_by (length bytes) m) dash m behind (find_marker m.comment_end behind)
 
-  -- a text has no dash, and neither has the end of the source
-  pub nothing_dashed : begins m.variable_start bytes ≡ false → begins m.block_start bytes ≡ false → begins m.comment_start bytes ≡ false → starts_dashed m bytes ≡ false
+  -- a start without a dash, a text and the end of the source begin with none
+  pub block_undashed : (dash : Bool) → dash ≡ false → IsStartOf m.block_start bytes (Some dash) → starts_dashed m bytes ≡ false
+  block_undashed dash none starts =
+      block_dashed dash _ starts.0 ∙ ap (λ b. b && is_block_piece m (drop (marker_len m.block_start dash) bytes)) none
+
+  pub comment_undashed : (dash : Bool) → dash ≡ false → IsStartOf m.comment_start bytes (Some dash) → starts_dashed m bytes ≡ false
+  comment_undashed dash none starts =
+      comment_dashed dash _ starts.0 ∙ ap (λ b. b && is_comment m (drop (marker_len m.comment_start dash) bytes)) none
+
+  pub nothing_dashed : is_at_start m bytes ≡ false → starts_dashed m bytes ≡ false
   unfolding division_by
-  nothing_dashed variable block comment = by bytes variable block comment
+  nothing_dashed none = by bytes none
     where
-      by : (bytes : List ℕ) → begins m.variable_start bytes ≡ false → begins m.block_start bytes ≡ false → begins m.comment_start bytes ≡ false → starts_dashed m bytes ≡ false
-      by [] variable block comment = refl
-      by (b ∷ bs) variable block comment = rw (variable, block, comment) refl
+      by : (bytes : List ℕ) → is_at_start m bytes ≡ false → starts_dashed m bytes ≡ false
+      by [] none = refl
+      by (b ∷ bs) none =
+          let (variable, other) = or_false (begins m.variable_start (b ∷ bs)) (begins m.block_start (b ∷ bs) || begins m.comment_start (b ∷ bs)) none in
+          let (block, comment) = or_false (begins m.block_start (b ∷ bs)) (begins m.comment_start (b ∷ bs)) other in
+          rw (variable, block, comment) refl
 
 -- behind the tag that opens a raw piece stands its body
 module _ (m : Marks) (bytes : List ℕ) (tag : WordTagOfCode) where
@@ -81,11 +93,6 @@ module _ (m : Marks) (bytes : List ℕ) (tag : WordTagOfCode) where
   tag_splits (Some p) e is =
       let stands : IsTagAt raw_word m.block_end bytes (Some p) = subst (IsTagAt raw_word m.block_end bytes) e (word_tag_stands raw_word m.block_end bytes) in
       (p.0, p.1, refl, word_tag_splits raw_word m.block_end p.0 bytes p.1 stands, is.2)
-
-  pub tag_fits : IsWordTagOf raw_word m.block_end (Some tag) (word_tag_at raw_word m.block_end bytes) → tag.len ≤ length bytes
-  tag_fits is =
-      let (t, body, e, splits, len) = tag_splits (word_tag_at raw_word m.block_end bytes) refl is in
-      omega (arith, ap length splits, length-append (word_tag_bytes raw_word m.block_end t) body, len)
 
   pub closes_here : IsWordTagOf raw_word m.block_end (Some tag) (word_tag_at raw_word m.block_end bytes) → (o : Option (ℕ × WordTagOfCode)) → IsRawEndOf m.block_end o (raw_end m.block_start m.block_end false (drop tag.len bytes))
       → is_some o ≡ is_block_piece m bytes

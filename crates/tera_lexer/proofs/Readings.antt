@@ -137,12 +137,11 @@ module _ (r : Progress) (going : r.failed ≡ false) (outside : r.tag ≡ None) 
       (ahead_outside (toks.Token (seen t) (span_of r.front (marker ++ dash_bytes dash)) (left_inside r.marks kind (r.front ++ (marker ++ dash_bytes dash)) inside))
       (start_left r.marks valid kind r.front r.trim dash r.rest inside starts.0 opens ∙ ap (λ k. toks.Token k (span_of r.front (marker ++ dash_bytes dash)) (left_inside r.marks kind (r.front ++ (marker ++ dash_bytes dash)) inside)) (sym t_is)))
 
-  pub outside_text : (new : Progress) (text : Bor (List ℕ)) (span : Span) (n : ℕ) → 0 < length r.rest → begins r.marks.variable_start r.rest ≡ false → begins r.marks.block_start r.rest ≡ false → begins r.marks.comment_start r.rest ≡ false
+  pub outside_text : (new : Progress) (text : Bor (List ℕ)) (span : Span) (n : ℕ) → 0 < length r.rest → is_at_start r.marks r.rest ≡ false
       → NowhereIn (is_at_start r.marks) (take n r.rest) (drop n r.rest) → EndsText r.marks (drop n r.rest)
       → new ≡ record (forward r n) { trim = false } → text.now ≡ trimmed r.trim (starts_dashed r.marks (drop n r.rest)) (take n r.rest) → IsPart text.now (take n r.rest) → length (take n r.rest) ≡ n
       → span ≡ span_of r.front (take n r.rest) → IsWithin (whole_of r) span → Steps (stream_of r) (Some (Ok (Content text, span))) (stream_of new)
-  outside_text new text span n some variable block comment none ends new_is text_is part len span_is within =
-      let nowhere : is_at_start r.marks r.rest ≡ false = rw (variable, block, comment) refl in
+  outside_text new text span n some nowhere none ends new_is text_is part len span_is within =
       let splits = sym (take-append-drop n r.rest) in
       took r new going n (take n r.rest) (drop n r.rest) splits (sym len) (Content text) span None false (new_is ∙ (λ i. record (forward r n) { tag = outside i; trim = false })) span_is within part
       (ahead_outside (toks.Token (toks.Content text.now) (span_of r.front (take n r.rest)) (left_outside r.marks (r.front ++ take n r.rest) false (drop n r.rest)))

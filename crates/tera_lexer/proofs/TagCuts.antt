@@ -113,15 +113,19 @@ raw_cuts m valid text (Some p) (Some e) utf8 start_text end_text ends (body, len
       subst (IsCharBoundary text) (λ i. at i + (length m.block_start + tag i)) cuts.behind,
     )
 
--- the tag that opens a raw piece, where one is found
+-- behind the tag that opens a raw piece, where one is found
+pub opens_cut : (m : Marks) (tag : WordTagOfCode) (behind : List ℕ) (o : Option (WordTag × List ℕ)) → IsUtf8 behind → IsUtf8 m.block_end → word_tag_at raw_word m.block_end behind ≡ o → IsWordTagOf raw_word m.block_end (Some tag) o → IsCharBoundary behind tag.len
+opens_cut m tag behind None utf8 end_text e is = absurd is
+opens_cut m tag behind (Some p) utf8 end_text e is =
+    let stands : IsTagAt raw_word m.block_end behind (Some p) = subst (IsTagAt raw_word m.block_end behind) e (word_tag_stands raw_word m.block_end behind) in
+    subst (IsCharBoundary behind) (sym is.2) (word_tag_cut raw_word m.block_end p.0 behind p.1 utf8 end_text raw_ascii stands)
+
 pub opens_by : (m : Marks) (dash : Bool) (tag : WordTagOfCode) (rest : List ℕ) (o : Option (WordTag × List ℕ)) → IsUtf8 rest → IsUtf8 m.block_end → IsCharBoundary rest (marker_len m.block_start dash)
     → word_tag_at raw_word m.block_end (drop (marker_len m.block_start dash) rest) ≡ o → IsWordTagOf raw_word m.block_end (Some tag) o → OpensBy m dash tag rest
 opens_by m dash tag rest None utf8 end_text cut e is = absurd is
 opens_by m dash tag rest (Some p) utf8 end_text cut e is =
     let at : ℕ = marker_len m.block_start dash in
-    let behind : List ℕ = drop at rest in
-    let stands : IsTagAt raw_word m.block_end behind (Some p) = subst (IsTagAt raw_word m.block_end behind) e (word_tag_stands raw_word m.block_end behind) in
-    let cut_on : IsCharBoundary behind tag.len = subst (IsCharBoundary behind) (sym is.2) (word_tag_cut raw_word m.block_end p.0 behind p.1 (IsUtf8-drop rest at utf8 cut) end_text raw_ascii stands) in
+    let cut_on = opens_cut m tag (drop at rest) (Some p) (IsUtf8-drop rest at utf8 cut) end_text e is in
     (p.0, p.1, is, IsCharBoundary-from_rest rest at tag.len cut.0 cut_on, e)
 
 pub opens_none : (word end bytes : List ℕ) (o : Option (WordTag × List ℕ)) → word_tag_at word end bytes ≡ o → IsWordTagOf word end None o → (t : WordTag) (rest : List ℕ) → IsWordTag word end t bytes rest → ⊥

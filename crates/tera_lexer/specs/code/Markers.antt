@@ -1,14 +1,18 @@
 -- What the program finds at a marker.
-use Rattle.std.specs.Prelude.{◌≡◌, ℕ, ◌+◌, Bool, true, false, List, length, drop, Option, Some, None, IsUtf8}
+use Rattle.std.specs.Prelude.{◌≡◌, ℕ, ◌+◌, Bool, true, false, List, length, drop, Option, Some, None, IfSome, IsUtf8}
 use Rattle.std.specs.Option.{is_some}
 use Rattle.std.specs.Str.{IsCharBoundary}
 use Rattle.tera_lexer.specs.grammar.Marks.{Marks, begins, dash_bytes}
 use Rattle.tera_lexer.specs.grammar.Lexeme.{is_at_end, IsEnd}
 use Rattle.tera_lexer.specs.grammar.Raw as raw
 use Rattle.tera_lexer.specs.grammar.Raw.{word_tag_bytes, raw_word, endraw_word}
-use Rattle.tera_lexer.specs.grammar.Division.{Starts}
+use Rattle.tera_lexer.specs.grammar.Division.{Starts, is_at_start}
 use Rattle.tera_lexer.specs.reading.Front.{RawEnd, find_marker, word_tag_at, raw_end}
 use Rattle.tera_lexer.specs.declared.lexer.markers.WordTag.{WordTag}
+use Rattle.tera_lexer.specs.declared.lexer.markers.Start.{Start}
+use Rattle.tera_lexer.specs.declared.lexer.markers.Start.TheVariants.{Variable, Block, Comment, Text}
+use Rattle.tera_lexer.specs.declared.lexer.markers.Ahead.{Ahead}
+use Rattle.tera_lexer.specs.declared.lexer.markers.Ahead.TheVariants as ahead
 
 -- the start markers are texts
 pub record AreStartTexts (m : Marks) : Type 0 where
@@ -24,6 +28,13 @@ marker_len marker dash = length marker + length (dash_bytes dash)
 abbrev pub IsStartOf : List ℕ → List ℕ → Option Bool → Type 0
 IsStartOf marker rest None = begins marker rest ≡ false
 IsStartOf marker rest (Some dash) = Starts marker dash rest (drop (marker_len marker dash) rest) × IsCharBoundary rest (marker_len marker dash)
+
+-- what begins a text
+abbrev pub IsStart : Marks → List ℕ → Start → Type 0
+IsStart m rest (Variable dash) = IsStartOf m.variable_start rest (Some dash)
+IsStart m rest (Block dash) = IsStartOf m.block_start rest (Some dash)
+IsStart m rest (Comment dash) = IsStartOf m.comment_start rest (Some dash)
+IsStart m rest Text = is_at_start m rest ≡ false
 
 -- an end marker with its dash
 abbrev pub IsEndOf : List ℕ → List ℕ → Option Bool → Type 0
@@ -72,3 +83,17 @@ is_comment m bytes = is_some (find_marker m.comment_end bytes)
 -- at which the text may be cut before its block start and behind its tag
 abbrev pub IsRawCut : Marks → List ℕ → ℕ × WordTag → Type 0
 IsRawCut m text p = IsCharBoundary text p.0 × IsCharBoundary text (p.0 + (length m.block_start + p.1.len))
+
+-- how the raw piece closes that this tag opens
+abbrev pub ClosesBy : Marks → Bool → WordTag → Option (ℕ × WordTag) → List ℕ → Type 0
+ClosesBy m dash opening end rest =
+    let body = drop (marker_len m.block_start dash + opening.len) rest in
+    IsRawEndOf m.block_end end (raw_end m.block_start m.block_end false body) × IfSome end (IsRawCut m body)
+
+-- what is known of the piece that begins a text
+abbrev pub IsAhead : Marks → List ℕ → Ahead → Type 0
+IsAhead m rest ahead.Nothing = Unit {0}
+IsAhead m rest (ahead.Comment len) =
+    IsStartOf m.comment_start rest (Some true) × (find_marker m.comment_end (drop (marker_len m.comment_start true) rest) ≡ Some len)
+IsAhead m rest (ahead.Raw opening closing) =
+    IsStartOf m.block_start rest (Some true) × OpensBy m true opening rest × ClosesBy m true opening (Some closing) rest

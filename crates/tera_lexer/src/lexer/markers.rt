@@ -1,6 +1,6 @@
 //! Where markers stand.
 
-ghost use Rattle.std.specs.Prelude.{◌≡◌, ◌≤◌, ◌∷◌, ◌+◌, false, Some, IfSome, MatchOption, length, take, drop, get_or};
+ghost use Rattle.std.specs.Prelude.{◌≡◌, ◌≤◌, ◌∷◌, ◌+◌, ◌||◌, true, false, Some, IfSome, MatchOption, length, take, drop, get_or};
 ghost use Rattle.std.specs.Bool.{OnTrue};
 ghost use Rattle.std.specs.Str.{IsCharBoundary};
 ghost use Rattle.memchr.specs.Find.{IsFirstByte, FindsNeedle, Nowhere, OccursAt, Passes, is_byte3};
@@ -9,7 +9,7 @@ ghost use Rattle.tera_lexer.specs.grammar.Raw.{raw_word};
 ghost use Rattle.tera_lexer.specs.grammar.Division.{is_at_start, EndsText};
 ghost use Rattle.tera_lexer.specs.reading.Front.{find_marker, gap_len, word_tag_at, raw_end};
 ghost use Rattle.tera_lexer.specs.reading.Left.{starts_dashed};
-ghost use Rattle.tera_lexer.specs.code.Markers.{AreStartTexts, IsStartOf, IsEndOf, IsWordTagOf, IsRawEndOf, IsRawCut, further_end, is_block_piece, is_comment};
+ghost use Rattle.tera_lexer.specs.code.Markers.{AreStartTexts, IsStart, IsStartOf, IsEndOf, IsWordTagOf, IsRawEndOf, IsRawCut, IsAhead, further_end};
 
 use crate::lexer::delimiters::Delimiters;
 use crate::lexer::lexeme::{Class, run_len};
@@ -20,6 +20,27 @@ pub(crate) fn dash_len(dash: bool) -> usize
     ensures { result ≡ length (dash_bytes dash) }
 {
     usize::from(dash)
+}
+
+/// What begins a text: a start marker, with a dash behind it or none, or no marker.
+#[derive(Clone, Copy)]
+pub enum Start {
+    Variable(bool),
+    Block(bool),
+    Comment(bool),
+    Text,
+}
+
+/// What is known of the piece that comes next, where its end was sought to see whether it is one.
+#[derive(Clone, Copy)]
+pub enum Ahead {
+    /// Nothing.
+    Nothing,
+    /// It is a comment with a dash, whose end marker stands so many bytes behind that.
+    Comment(usize),
+    /// It is a raw piece with a dash: the tag that opens it, and where the block start stands that closes it, with
+    /// the tag behind that.
+    Raw(WordTag, (usize, WordTag)),
 }
 
 // Whether the marker begins the bytes.
@@ -187,49 +208,72 @@ fn near_marker(bytes: &[u8], near: usize, marker: &[u8]) -> Option<usize>
     None
 }
 
-/// Whether the piece that begins the text begins with a dash. A tag is one even where it never ends or a fault
-/// stands in it; a comment or a raw piece that never closes is none.
-pub(crate) fn starts_dashed(rest: &str, delimiters: &Delimiters) -> bool
-    requires { IsValid (marks_of delimiters.now) }
-    ensures { result ≡ starts_dashed (marks_of delimiters.now) rest.now }
+/// What begins the text.
+pub(crate) fn start_of(rest: &str, delimiters: &Delimiters) -> Start
+    ensures { IsStart (marks_of delimiters.now) rest.now result }
 {
     if let Some(dash) = start_at(rest, delimiters.variable_start.as_str()) {
-        return dash;
+        return Start::Variable(dash);
     }
     if let Some(dash) = start_at(rest, delimiters.block_start.as_str()) {
-        let start = delimiters.block_start.len() + dash_len(dash);
-        let (_, behind) = rest.as_bytes().split_at(start);
-        return dash && is_block_piece(behind, delimiters);
+        return Start::Block(dash);
     }
     if let Some(dash) = start_at(rest, delimiters.comment_start.as_str()) {
-        let start = delimiters.comment_start.len() + dash_len(dash);
-        let (_, behind) = rest.as_bytes().split_at(start);
-        return dash && is_comment(behind, delimiters);
+        return Start::Comment(dash);
     }
-    false
+    Start::Text
 }
 
-// Whether these bytes behind a block start and its dash make it a piece: they close a raw piece that they open.
-fn is_block_piece(bytes: &[u8], delimiters: &Delimiters) -> bool
+/// Whether the text before this one loses the white space at its end, by its own end or by the dash with which the
+/// piece begins that begins this text; and what was found of that piece. A tag is one even where it never ends or a
+/// fault stands in it; a comment or a raw piece that never closes is none.
+pub(crate) fn look_ahead(trim: bool, rest: &str, delimiters: &Delimiters) -> (bool, Ahead)
     requires { IsValid (marks_of delimiters.now) }
-    ensures { result ≡ is_block_piece (marks_of delimiters.now) bytes.now }
+    ensures trims { result.0 ≡ trim || starts_dashed (marks_of delimiters.now) rest.now }
+    ensures ahead { IsAhead (marks_of delimiters.now) rest.now result.1 }
 {
-    let start = delimiters.block_start.as_str().as_bytes();
+    if trim {
+        return (true, Ahead::Nothing);
+    }
+    match start_of(rest, delimiters) {
+        Start::Variable(dash) => (dash, Ahead::Nothing),
+        Start::Block(dash) if dash => block_ahead(rest, delimiters),
+        Start::Comment(dash) if dash => comment_ahead(rest, delimiters),
+        _ => (false, Ahead::Nothing),
+    }
+}
+
+// The same, where a block start with a dash begins the text.
+fn block_ahead(rest: &str, delimiters: &Delimiters) -> (bool, Ahead)
+    requires valid { IsValid (marks_of delimiters.now) }
+    requires starts { IsStartOf (marks_of delimiters.now).block_start rest.now (Some true) }
+    ensures trims { result.0 ≡ starts_dashed (marks_of delimiters.now) rest.now }
+    ensures ahead { IsAhead (marks_of delimiters.now) rest.now result.1 }
+{
+    let (_, behind) = rest.split_at(delimiters.block_start.len() + 1);
     let end = delimiters.block_end.as_str().as_bytes();
-    let Some(opening) = raw_tag_at(bytes, end) else {
-        return true;
+    let Some(opening) = raw_tag_at(behind.as_bytes(), end) else {
+        return (true, Ahead::Nothing);
     };
-    let (_, body) = bytes.split_at(opening.len);
-    end_between(body, start, end).is_some()
+    let (_, body) = behind.split_at(opening.len);
+    match raw_end(body, delimiters) {
+        Some(closing) => (true, Ahead::Raw(opening, closing)),
+        None => (false, Ahead::Nothing),
+    }
 }
 
-// Whether these bytes behind a comment start and its dash make it a piece: they close it.
-fn is_comment(bytes: &[u8], delimiters: &Delimiters) -> bool
-    requires { IsValid (marks_of delimiters.now) }
-    ensures { result ≡ is_comment (marks_of delimiters.now) bytes.now }
+// The same, where a comment start with a dash begins the text.
+fn comment_ahead(rest: &str, delimiters: &Delimiters) -> (bool, Ahead)
+    requires valid { IsValid (marks_of delimiters.now) }
+    requires starts { IsStartOf (marks_of delimiters.now).comment_start rest.now (Some true) }
+    ensures trims { result.0 ≡ starts_dashed (marks_of delimiters.now) rest.now }
+    ensures ahead { IsAhead (marks_of delimiters.now) rest.now result.1 }
 {
-    let end = delimiters.comment_end.as_str().as_bytes();
-    find_marker(bytes, end).is_some()
+    let (_, behind) = rest.as_bytes().split_at(delimiters.comment_start.len() + 1);
+    match find_marker(behind, delimiters.comment_end.as_str().as_bytes()) {
+        Some(len) => (true, Ahead::Comment(len)),
+        None => (false, Ahead::Nothing),
+    }
 }
 
 /// A tag that opens or closes a raw piece, behind its block start and the dash of that: whether it begins and

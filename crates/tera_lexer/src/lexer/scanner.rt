@@ -1,6 +1,6 @@
 //! Reads a source, token by token.
 
-ghost use Rattle.std.specs.Prelude.{◌≡◌, ◌++◌, ◌<◌, ◌≤◌, ◌^◌, List, ℕ, None, Some, Ok, Err, IfOk, IsUtf8, length, take, drop, string_bytes, true, false};
+ghost use Rattle.std.specs.Prelude.{◌≡◌, ◌+◌, ◌++◌, ◌<◌, ◌≤◌, ◌^◌, List, ℕ, None, Some, Ok, Err, IfOk, IsUtf8, length, take, drop, string_bytes, true, false};
 ghost use Rattle.std.specs.Char.{is_ascii_whitespace};
 ghost use Rattle.std.specs.Str.{IsCharBoundary};
 ghost use Rattle.tera_lexer.specs.grammar.Marks.{marks_of, end_marker, IsValid};
@@ -14,14 +14,17 @@ ghost use Rattle.tera_lexer.specs.code.Counting.{ArePrintable};
 ghost use Rattle.tera_lexer.specs.code.Seen.{seen};
 ghost use Rattle.tera_lexer.specs.reading.Front.{front_of};
 ghost use Rattle.tera_lexer.specs.code.Found.{IsEscapedAt};
-ghost use Rattle.tera_lexer.specs.code.Markers.{IsStartOf, IsEndOf, OpensBy};
+ghost use Rattle.tera_lexer.specs.grammar.Division.{is_at_start};
+ghost use Rattle.tera_lexer.specs.reading.Front.{find_marker};
+ghost use Rattle.tera_lexer.specs.code.Markers.{marker_len, IsStartOf, IsEndOf, OpensBy, ClosesBy};
 ghost use Rattle.tera_base.specs.Errors.{Tells};
 ghost use Rattle.tera_lexer.specs.code.Steps.{Steps, IsPart};
 
 use crate::lexer::delimiters::{Delimiters, Kind};
 use crate::lexer::lexeme::{Class, Fault, Found, lexeme_at, run_len, unescape};
 use crate::lexer::markers::{
-    WordTag, dash_len, end_at, find_marker, raw_end, raw_tag_at, start_at, starts_dashed, text_len,
+    Ahead, Start, WordTag, dash_len, end_at, find_marker, look_ahead, raw_end, raw_tag_at,
+    start_of, text_len,
 };
 use crate::lexer::place::Place;
 use crate::lexer::tokens::Token;
@@ -41,6 +44,8 @@ pub(crate) struct Scanner<'a> {
     tag: Option<Kind>,
     trim: bool,
     failed: bool,
+    // What is known of what is left.
+    ahead: Ahead,
 }
 
 impl<'a> Model for Scanner<'a> {
@@ -74,6 +79,7 @@ impl<'a> Scanner<'a> {
             tag: None,
             trim: false,
             failed: false,
+            ahead: Ahead::Nothing,
         }
     }
 
@@ -138,6 +144,7 @@ impl<'a> Scanner<'a> {
         let span = self.place.to(end);
         self.place = end;
         self.rest = rest;
+        self.ahead = Ahead::Nothing;
         (text, span)
     }
 
@@ -158,6 +165,7 @@ impl<'a> Scanner<'a> {
         let span = self.place.to(end);
         self.place = end;
         self.rest = rest;
+        self.ahead = Ahead::Nothing;
         span
     }
 
@@ -196,25 +204,48 @@ impl<'a> Scanner<'a> {
         requires outside { self.old.tag ≡ None }
         ensures { Steps (stream_of self.old) result (stream_of self.new) }
     {
+        match self.ahead {
+            Ahead::Nothing => self.unseen(),
+            Ahead::Comment(len) => Some(Ok(self.closed_comment(true, len))),
+            Ahead::Raw(opening, end) => Some(Ok(self.closed_raw(true, opening, end))),
+        }
+    }
+
+    // The same, where nothing is known of what is left.
+    fn unseen(&mut self) -> Option<Result<(Token<'a>, Span), Error>>
+        requires going { self.old.failed ≡ false }
+        requires outside { self.old.tag ≡ None }
+        ensures { Steps (stream_of self.old) result (stream_of self.new) }
+    {
         let rest = self.rest();
         if rest.is_empty() {
             return None;
         }
-        if let Some(dash) = start_at(rest, self.delimiters.variable_start.as_str()) {
-            return Some(Ok(self.variable(dash)));
+        match start_of(rest, &self.delimiters) {
+            Start::Variable(dash) => Some(Ok(self.variable(dash))),
+            Start::Block(dash) => Some(self.block(dash)),
+            Start::Comment(dash) => Some(self.comment(dash)),
+            Start::Text => Some(Ok(self.text())),
         }
-        if let Some(dash) = start_at(rest, self.delimiters.block_start.as_str()) {
-            return Some(self.block(dash));
-        }
-        if let Some(dash) = start_at(rest, self.delimiters.comment_start.as_str()) {
-            return Some(self.comment(dash));
-        }
+    }
+
+    // A text.
+    fn text(&mut self) -> (Token<'a>, Span)
+        requires going { self.old.failed ≡ false }
+        requires outside { self.old.tag ≡ None }
+        requires some { 0 < length self.old.rest }
+        requires text { is_at_start self.old.marks self.old.rest ≡ false }
+        ensures { Steps (stream_of self.old) (Some (Ok result)) (stream_of self.new) }
+    {
+        let rest = self.rest();
         let len = text_len(rest, &self.delimiters);
         let (text, behind) = rest.split_at(len);
-        let text = trimmed(text, self.trim, starts_dashed(behind, &self.delimiters));
+        let (trim_end, ahead) = look_ahead(false, behind, &self.delimiters);
+        let text = trimmed(text, self.trim, trim_end);
         let (_, span) = self.advance(len);
         self.trim = false;
-        Some(Ok((Token::Content(text), span)))
+        self.ahead = ahead;
+        (Token::Content(text), span)
     }
 
     // The start of a variable tag.
@@ -258,19 +289,40 @@ impl<'a> Scanner<'a> {
     {
         let start = self.delimiters.block_start.len() + dash_len(dash);
         let (_, body) = self.rest().split_at(start + opening.len);
-        let Some((len, closing)) = raw_end(body, &self.delimiters) else {
+        let Some(end) = raw_end(body, &self.delimiters) else {
             let message = String::from_str(self.alloc, "unexpected end of raw block");
             return Err(self.fail(message, start));
         };
-        let whole = start + opening.len + (len + (self.delimiters.block_start.len() + closing.len));
+        Ok(self.closed_raw(dash, opening, end))
+    }
+
+    // The same, which that tag closes.
+    fn closed_raw(
+        &mut self,
+        dash: bool,
+        opening: WordTag,
+        end: (usize, WordTag),
+    ) -> (Token<'a>, Span)
+        requires going { self.old.failed ≡ false }
+        requires outside { self.old.tag ≡ None }
+        requires starts { IsStartOf self.old.marks.block_start self.old.rest (Some dash) }
+        requires opens { OpensBy self.old.marks dash opening self.old.rest }
+        requires closes { ClosesBy self.old.marks dash opening (Some end) self.old.rest }
+        ensures { Steps (stream_of self.old) (Some (Ok result)) (stream_of self.new) }
+    {
+        let (len, closing) = end;
+        let begin = self.delimiters.block_start.len() + dash_len(dash) + opening.len;
+        let whole = begin + (len + (self.delimiters.block_start.len() + closing.len));
+        let (_, body) = self.rest().split_at(begin);
         let (text, _) = body.split_at(len);
         let (_, behind) = self.rest().split_at(whole);
         let trim_start = opening.dash_out || self.trim;
-        let trim_end = closing.dash_in || starts_dashed(behind, &self.delimiters);
+        let (trim_end, ahead) = look_ahead(closing.dash_in, behind, &self.delimiters);
         let text = trimmed(text, trim_start, trim_end);
         let (_, span) = self.advance(whole);
         self.trim = closing.dash_out;
-        Ok((Token::Content(text), span))
+        self.ahead = ahead;
+        (Token::Content(text), span)
     }
 
     // A comment.
@@ -287,12 +339,27 @@ impl<'a> Scanner<'a> {
             let message = format!(in self.alloc; "Closing comment tag `{end}` not found");
             return Err(self.fail(message, start));
         };
-        let (inside, _) = behind.as_bytes().split_at(len);
+        Ok(self.closed_comment(dash, len))
+    }
+
+    // The same, of which so many bytes stand before the end marker.
+    fn closed_comment(&mut self, dash: bool, len: usize) -> (Token<'a>, Span)
+        requires going { self.old.failed ≡ false }
+        requires outside { self.old.tag ≡ None }
+        requires starts { IsStartOf self.old.marks.comment_start self.old.rest (Some dash) }
+        requires closes { find_marker self.old.marks.comment_end
+            (drop (marker_len self.old.marks.comment_start dash) self.old.rest) ≡ Some len }
+        ensures { Steps (stream_of self.old) (Some (Ok result)) (stream_of self.new) }
+    {
+        let start = self.delimiters.comment_start.len() + dash_len(dash);
+        let (_, behind) = self.rest().as_bytes().split_at(start);
+        let (inside, _) = behind.split_at(len);
         let dash_end = inside.ends_with(b"-");
+        let end = self.delimiters.comment_end.as_str();
         let whole = start + (len + end.len());
         let (_, span) = self.advance(whole);
         self.trim |= dash_end;
-        Ok((Token::Content(""), span))
+        (Token::Content(""), span)
     }
 
     // The next token inside a tag.
