@@ -1,0 +1,4 @@
+pub mod ConstantLemmas
+pub mod EscapeLemmas
+pub mod ListedLemmas
+pub mod StepLemmas

@@ -1,0 +1,70 @@
+-- The catalogue as tokens of JSON: an array with an object for each component.
+use Rattle.std.specs.Prelude.{ℕ, List, [], ◌∷◌, ◌++◌, Bool, Option, None, Some, codes, string_bytes}
+use Rattle.std.specs.List.{flat_map}
+use Rattle.std.specs.Option.{option_map}
+use Rattle.json.specs.Token.{Token, begin_object, end_object, begin_array, end_array, key, string, boolean, null}
+use Rattle.tera_base.specs.Values.{Val}
+use Rattle.tera_check.specs.Objects.{text_member, number_member}
+use Rattle.tera_check.specs.declared.finding.Place.{Place}
+use Rattle.tera_tree.specs.Infos.{Info, ArgumentInfo, is_required, shown_type_name}
+use Rattle.tera_catalogue.specs.Constants.{constant}
+use Rattle.tera_catalogue.specs.Listed.{ListedVal, listed_view}
+use Rattle.tera_catalogue.specs.declared.components.Component.{Component}
+
+-- a text, or null
+abbrev pub text_or_null : Option (List ℕ) → Token
+text_or_null None = null
+text_or_null (Some text) = string text
+
+-- members with whatever value, with a text or null, and with a truth
+abbrev pub member : List ℕ → List Token → List Token
+member name value = key name ∷ value
+
+abbrev pub maybe_member : List ℕ → Option (List ℕ) → List Token
+maybe_member name text = member name (text_or_null text ∷ [])
+
+abbrev pub truth_member : List ℕ → Bool → List Token
+truth_member name truth = member name (boolean truth ∷ [])
+
+-- a parameter: the default is there where the parameter has one
+abbrev pub default_member : Option Val → List Token
+default_member None = []
+default_member (Some v) = member (codes "default") (constant v)
+
+abbrev pub parameter : ArgumentInfo → List Token
+parameter a =
+    begin_object ∷ (text_member (codes "name") a.name
+    ++ (maybe_member (codes "type") (option_map shown_type_name a.typ)
+    ++ (truth_member (codes "required") (is_required a)
+    ++ (truth_member (codes "implicit") a.implicit ++ (default_member a.default ++ (end_object ∷ []))))))
+
+abbrev pub parameters_member : List ArgumentInfo → List Token
+parameters_member args = key (codes "parameters") ∷ begin_array ∷ (flat_map parameter args ++ end_array ∷ [])
+
+-- the metadata, each value under its name
+abbrev pub named : List ℕ × Val → List Token
+named m = key m.0 ∷ constant m.1
+
+abbrev pub metadata_member : List (List ℕ × Val) → List Token
+metadata_member ms = key (codes "metadata") ∷ begin_object ∷ (flat_map named ms ++ end_object ∷ [])
+
+-- a component
+abbrev pub place_members : List ℕ → Place → List Token
+place_members file place =
+    text_member (codes "file") file ++ (number_member (codes "line") place.line ++ number_member (codes "column") place.column)
+
+abbrev pub info_members : Info → List Token
+info_members i = parameters_member i.arguments ++ (maybe_member (codes "rest") i.rest ++ metadata_member i.metadata)
+
+abbrev pub object : ListedVal → Option (List ℕ) → List Token
+object l call =
+    begin_object ∷ (text_member (codes "name") l.info.name
+    ++ (place_members l.file l.place
+    ++ (info_members l.info
+    ++ (truth_member (codes "body") l.has_body ++ (maybe_member (codes "call") call ++ (end_object ∷ []))))))
+
+abbrev pub object_of : Component → List Token
+object_of c = object (listed_view c) (option_map string_bytes c.call)
+
+abbrev pub catalogue_tokens : List Component → List Token
+catalogue_tokens cs = begin_array ∷ (flat_map object_of cs ++ end_array ∷ [])

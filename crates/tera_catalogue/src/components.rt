@@ -1,0 +1,174 @@
+//! The components that templates define, in a stable order.
+
+ghost use Rattle.std.specs.Prelude.{◌≡◌, ◌++◌, map, IfOk, OnOk};
+ghost use Rattle.std.specs.List.{All};
+ghost use Rattle.std.specs.List.Sorted.{IsPermutation};
+ghost use Rattle.tera_check.specs.Judged.{known_view};
+ghost use Rattle.tera_check.specs.Named.{known_at, defined_from, defined_in, defined_by};
+ghost use Rattle.tera_tree.specs.Infos.{info_of, info_view};
+ghost use Rattle.tera_tree.specs.View.{definition_view};
+ghost use Rattle.tera_catalogue.specs.Listed.{listed, listed_view, rank_of, rank_cmp, IsInOrder};
+ghost use Rattle.tera_catalogue.specs.Offered.{IsOffered};
+
+use crate::offers::offered;
+use std::alloc::{AllocError, Global};
+use std::cmp::Ordering;
+use tera_check::{Known, Place, Template};
+use tera_parser::ParserOutput;
+use tera_parser::ast::{ComponentDefinition, ComponentInfo};
+
+/// A component that is listed.
+#[derive(Drop)]
+pub struct Component<'a> {
+    /// What is told of it.
+    pub info: ComponentInfo,
+    /// Whether something stands in its body.
+    pub has_body: bool,
+    /// The file that defines it.
+    pub file: &'a str,
+    /// Where it is defined there.
+    pub place: Place,
+    /// A call of it to copy, unless the parser refuses it.
+    pub call: Option<String>,
+}
+
+/// The components that the templates define: by name, those of one name by file, and those of one file by place. A
+/// template with a fault defines none; a component that is defined again is listed again.
+pub fn components_of<'a>(
+    alloc: Global,
+    templates: &'a Vec<Template>,
+) -> Result<Vec<Component<'a>>, AllocError>
+    ensures all { IfOk result (λ v. IsPermutation (map listed (defined_by 0 templates.now.items))
+        (map listed_view v.items)) }
+    ensures ordered { IfOk result (λ v. IsInOrder (map listed_view v.items)) }
+    ensures offered { IfOk result (λ v. All IsOffered v.items) }
+{
+    let mut known = all_known(alloc, templates)?;
+    put_in_order(&mut known)?;
+    let components = told(alloc, &known)?;
+    Ok(components)
+}
+
+// What is told of the components.
+fn told<'a>(alloc: Global, known: &Vec<Known<'a>>) -> Result<Vec<Component<'a>>, AllocError>
+    ensures told { IfOk result (λ v. map listed_view v.items
+        ≡ map listed (map known_view known.now.items)) }
+    ensures offered { IfOk result (λ v. All IsOffered v.items) }
+{
+    let mut components = Vec::new(alloc);
+    for one in known {
+        components.push(component_of(alloc, one)?)?;
+    }
+    Ok(components)
+}
+
+fn component_of<'a>(alloc: Global, known: &Known<'a>) -> Result<Component<'a>, AllocError>
+    ensures told { IfOk result (λ c. listed_view c ≡ listed (known_view known.now)) }
+    ensures offered { IfOk result IsOffered }
+{
+    let info = info_of(alloc, known.definition)?;
+    let call = offered(alloc, &info)?;
+    Ok(Component {
+        info,
+        has_body: !known.definition.body.is_empty(),
+        file: known.file,
+        place: known.place,
+        call,
+    })
+}
+
+fn info_of(alloc: Global, definition: &ComponentDefinition) -> Result<ComponentInfo, AllocError>
+    ensures { IfOk result (λ i. info_view i ≡ info_of (definition_view definition.now)) }
+{
+    match ComponentInfo::from_definition(alloc, definition) {
+        Ok(info) => Ok(info),
+        // The only refusal is want of memory.
+        Err(_) => Err(AllocError),
+    }
+}
+
+// By name, file, line and column.
+fn put_in_order(known: &mut Vec<Known<'_>>) -> Result<(), AllocError>
+    ensures ordered { OnOk result (IsInOrder (map listed (map known_view known.new.items))) }
+    ensures same { IsPermutation known.old.items known.new.items }
+{
+    known.sort_by(|one, other| order(one, other))?;
+    Ok(())
+}
+
+fn order(one: &Known<'_>, other: &Known<'_>) -> Ordering
+    ensures { result
+        ≡ rank_cmp (rank_of (listed (known_view one.now))) (rank_of (listed (known_view other.now))) }
+{
+    let names = one
+        .definition
+        .name
+        .as_str()
+        .cmp(&other.definition.name.as_str());
+    let files = one.file.cmp(&other.file);
+    let lines = one.place.line.cmp(&other.place.line);
+    let columns = one.place.column.cmp(&other.place.column);
+    names.then(files).then(lines).then(columns)
+}
+
+// All components, template by template.
+fn all_known<'a>(alloc: Global, templates: &'a Vec<Template>) -> Result<Vec<Known<'a>>, AllocError>
+    ensures { IfOk result (λ v. map known_view v.items ≡ defined_by 0 templates.now.items) }
+{
+    let mut known = Vec::new(alloc);
+    for (number, template) in templates.iter().enumerate() {
+        push_defined(&mut known, number, template)?;
+    }
+    Ok(known)
+}
+
+// Adds the components of the template.
+fn push_defined<'a>(
+    known: &mut Vec<Known<'a>>,
+    number: usize,
+    template: &'a Template,
+) -> Result<(), AllocError>
+    ensures { OnOk result (map known_view known.new.items
+        ≡ map known_view known.old.items ++ defined_in number template.now) }
+{
+    match &template.parsed {
+        Ok(output) => push_all(known, number, template, output),
+        Err(_) => Ok(()),
+    }
+}
+
+fn push_all<'a>(
+    known: &mut Vec<Known<'a>>,
+    number: usize,
+    template: &'a Template,
+    output: &'a ParserOutput,
+) -> Result<(), AllocError>
+    ensures { OnOk result (map known_view known.new.items
+        ≡ map known_view known.old.items ++ defined_from number template.now 0
+        (map definition_view output.now.component_definitions.items)) }
+{
+    for (at, definition) in output.component_definitions.iter().enumerate() {
+        known.push(known_at(number, template, at, definition))?;
+    }
+    Ok(())
+}
+
+fn known_at<'a>(
+    number: usize,
+    template: &'a Template,
+    at: usize,
+    definition: &'a ComponentDefinition,
+) -> Known<'a>
+    ensures { known_view result ≡ known_at number template.now at (definition_view definition.now) }
+{
+    let place = match template.defined_at.get(at) {
+        Some(place) => *place,
+        None => Place::first(),
+    };
+    Known {
+        definition,
+        template: number,
+        file: template.file.as_str(),
+        place,
+    }
+}

@@ -1,0 +1,25 @@
+//! Lists the components that templates define, for people who call them: as JSON, and as a page of HTML.
+//!
+//! It takes templates that were read by `tera_check`, and gives their components in a stable order (`listed`), each
+//! with a call to copy that the parser accepts (`IsOffered`); and it writes them as JSON (`catalogue_tokens`) or as a
+//! page (`page_of`). It stands on `tera_check` and `tera_parser`, and names nothing below that in its code; of the kit
+//! on `json`.
+//!
+//! In the order of reading: specs `Listed`, `Offered`; `components`, over `offers`; then `values` and `objects`, the
+//! JSON (specs `Constants`, `Objects`), and `escapes`, `cells` and `pages`, the HTML (specs `Escapes`, `Pages`).
+#![tactic(auto)]
+
+mod cells;
+mod components;
+mod escapes;
+mod frame;
+mod objects;
+mod offers;
+mod pages;
+mod values;
+
+pub use components::{Component, components_of};
+pub use escapes::escaped;
+pub use objects::json_of;
+pub use offers::{call_of, offered};
+pub use pages::html_of;

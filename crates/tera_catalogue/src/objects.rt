@@ -1,0 +1,206 @@
+//! The catalogue as JSON.
+
+ghost use Rattle.std.specs.Prelude.{◌≡◌, ◌++◌, [], ◌∷◌, map, string_bytes, IfOk, OnOk};
+ghost use Rattle.std.specs.Option.{option_map};
+ghost use Rattle.json.specs.Layout.{pretty};
+ghost use Rattle.tera_base.specs.ValueView.{value_view};
+ghost use Rattle.tera_check.specs.Objects.{text_member, number_member};
+ghost use Rattle.tera_tree.specs.Definitions.{named_value};
+ghost use Rattle.tera_tree.specs.Infos.{arg_view, info_view, shown_type_name};
+ghost use Rattle.tera_catalogue.specs.Objects.{maybe_member, truth_member, default_member, parameter, parameters_member, named, metadata_member, place_members, info_members, object_of, catalogue_tokens};
+
+use crate::components::Component;
+use crate::values::write_constant;
+use json::{Pretty, Token};
+use std::alloc::{AllocError, Global};
+use std::collections::BTreeMap;
+use tera_check::Place;
+use tera_parser::ast::{ComponentArg, ComponentInfo};
+use tera_parser::value::Value;
+
+/// The components as an array of JSON, an object for each, with a line for each member.
+pub fn json_of(alloc: Global, components: &[Component<'_>]) -> Result<Vec<u8>, AllocError>
+    ensures { IfOk result (λ v. v.items ≡ pretty (catalogue_tokens components.now) ++ 10 ∷ []) }
+{
+    let mut writer = Pretty::new(alloc);
+    writer.token(Token::BeginArray)?;
+    for component in components {
+        write_component(alloc, &mut writer, component)?;
+    }
+    writer.token(Token::EndArray)?;
+    let mut text = writer.into_inner();
+    text.push(b'\n')?;
+    Ok(text)
+}
+
+fn write_component(
+    alloc: Global,
+    writer: &mut Pretty,
+    component: &Component<'_>,
+) -> Result<(), AllocError>
+    ensures { OnOk result (writer.new ≡ writer.old ++ object_of component.now) }
+{
+    writer.token(Token::BeginObject)?;
+    write_text(writer, "name", component.info.name())?;
+    write_place(alloc, writer, component.file, component.place)?;
+    write_info(alloc, writer, &component.info)?;
+    write_truth(writer, "body", component.has_body)?;
+    write_maybe(writer, "call", call_to_copy(component))?;
+    writer.token(Token::EndObject)
+}
+
+fn write_place(
+    alloc: Global,
+    writer: &mut Pretty,
+    file: &str,
+    place: Place,
+) -> Result<(), AllocError>
+    ensures { OnOk result (writer.new ≡ writer.old ++ place_members file.now place) }
+{
+    write_text(writer, "file", file)?;
+    write_number(alloc, writer, "line", place.line)?;
+    write_number(alloc, writer, "column", place.column)
+}
+
+fn write_info(alloc: Global, writer: &mut Pretty, info: &ComponentInfo) -> Result<(), AllocError>
+    ensures { OnOk result (writer.new ≡ writer.old ++ info_members (info_view info.now)) }
+{
+    write_parameters(alloc, writer, info.args())?;
+    write_maybe(writer, "rest", info.rest_param())?;
+    write_metadata(alloc, writer, info.metadata())
+}
+
+fn write_parameters(
+    alloc: Global,
+    writer: &mut Pretty,
+    arguments: &[ComponentArg],
+) -> Result<(), AllocError>
+    ensures { OnOk result (writer.new
+        ≡ writer.old ++ parameters_member (map arg_view arguments.now)) }
+{
+    writer.token(Token::Key("parameters"))?;
+    writer.token(Token::BeginArray)?;
+    for argument in arguments {
+        write_parameter(alloc, writer, argument)?;
+    }
+    writer.token(Token::EndArray)
+}
+
+fn write_parameter(
+    alloc: Global,
+    writer: &mut Pretty,
+    argument: &ComponentArg,
+) -> Result<(), AllocError>
+    ensures { OnOk result (writer.new ≡ writer.old ++ parameter (arg_view argument.now)) }
+{
+    writer.token(Token::BeginObject)?;
+    write_text(writer, "name", argument.name())?;
+    write_maybe(writer, "type", type_name(argument))?;
+    write_truth(writer, "required", argument.is_required())?;
+    write_truth(writer, "implicit", argument.is_implicit())?;
+    write_default(alloc, writer, argument.default())?;
+    writer.token(Token::EndObject)
+}
+
+fn write_default(
+    alloc: Global,
+    writer: &mut Pretty,
+    default: Option<&Value>,
+) -> Result<(), AllocError>
+    ensures { OnOk result (writer.new
+        ≡ writer.old ++ default_member (option_map (λ v. value_view v.now) default.entry)) }
+{
+    let Some(value) = default else {
+        return Ok(());
+    };
+    writer.token(Token::Key("default"))?;
+    write_constant(alloc, writer, value)
+}
+
+fn write_metadata(
+    alloc: Global,
+    writer: &mut Pretty,
+    metadata: &BTreeMap<String, Value>,
+) -> Result<(), AllocError>
+    ensures { OnOk result (writer.new
+        ≡ writer.old ++ metadata_member (map named_value metadata.now.entries)) }
+{
+    writer.token(Token::Key("metadata"))?;
+    writer.token(Token::BeginObject)?;
+    for (name, value) in metadata.iter() {
+        write_named(alloc, writer, name.as_str(), value)?;
+    }
+    writer.token(Token::EndObject)
+}
+
+fn write_named(
+    alloc: Global,
+    writer: &mut Pretty,
+    name: &str,
+    value: &Value,
+) -> Result<(), AllocError>
+    ensures { OnOk result (writer.new ≡ writer.old ++ named (name.now, value_view value.now)) }
+{
+    writer.token(Token::Key(name))?;
+    write_constant(alloc, writer, value)
+}
+
+/// The call to copy.
+pub(crate) fn call_to_copy<'c>(component: &'c Component<'_>) -> Option<&'c str>
+    ensures { option_map (λ t. t.now) result ≡ option_map string_bytes component.now.call }
+{
+    match &component.call {
+        Some(call) => Some(call.as_str()),
+        None => None,
+    }
+}
+
+/// The name of the argument's type.
+pub(crate) fn type_name(argument: &ComponentArg) -> Option<&'static str>
+    ensures { option_map (λ t. t.now) result
+        ≡ option_map shown_type_name (arg_view argument.now).typ }
+{
+    match argument.arg_type() {
+        Some(typ) => Some(typ.as_str()),
+        None => None,
+    }
+}
+
+fn write_text(writer: &mut Pretty, name: &str, text: &str) -> Result<(), AllocError>
+    ensures { OnOk result (writer.new ≡ writer.old ++ text_member name.now text.now) }
+{
+    writer.token(Token::Key(name))?;
+    writer.token(Token::String(text))
+}
+
+// A text, or null.
+fn write_maybe(writer: &mut Pretty, name: &str, text: Option<&str>) -> Result<(), AllocError>
+    ensures { OnOk result (writer.new
+        ≡ writer.old ++ maybe_member name.now (option_map (λ t. t.now) text.entry)) }
+{
+    writer.token(Token::Key(name))?;
+    match text {
+        Some(text) => writer.token(Token::String(text)),
+        None => writer.token(Token::Null),
+    }
+}
+
+fn write_truth(writer: &mut Pretty, name: &str, truth: bool) -> Result<(), AllocError>
+    ensures { OnOk result (writer.new ≡ writer.old ++ truth_member name.now truth) }
+{
+    writer.token(Token::Key(name))?;
+    writer.token(Token::Bool(truth))
+}
+
+fn write_number(
+    alloc: Global,
+    writer: &mut Pretty,
+    name: &str,
+    number: usize,
+) -> Result<(), AllocError>
+    ensures { OnOk result (writer.new ≡ writer.old ++ number_member name.now number) }
+{
+    let text = format!(in alloc; "{number}")?;
+    writer.token(Token::Key(name))?;
+    writer.token(Token::Number(text.as_str()))
+}
