@@ -1,4 +1,4 @@
-/* The tree of a Tera template as text, or its fault, from the static library libtera_c.a.
+/* The tree of a Tera template as text or as JSON, or its fault, from the static library libtera_c.a.
  *
  * Each call parses a source anew and writes one text into a buffer of the caller's: no call keeps anything, and what it
  * takes from malloc it gives back. Calls may run at the same time in several threads, where their buffers differ.
@@ -25,7 +25,7 @@ extern "C" {
 enum tera_status {
     TERA_WRITTEN = 0,     /* the text is in the buffer */
     TERA_SHORT = 1,       /* the buffer is too short: nothing was written, and `needed` tells what the text needs */
-    TERA_FAULTY = 2,      /* tera_tree alone: the source has a fault, so it has no tree */
+    TERA_FAULTY = 2,      /* tera_tree, tera_json: the source has a fault, so it has no tree */
     TERA_NOTHING = 3,     /* tera_fault, tera_note: the source has a tree, or its fault has no such note */
     TERA_NOT_UTF8 = 4,    /* the source is no UTF-8 */
     TERA_BAD_MARKERS = 5, /* not twelve bytes that are six texts of two bytes, of which the three starts differ */
@@ -77,6 +77,8 @@ struct tera_source {
  * zeros. */
 uint32_t tera_c_tree(const uint8_t *source, size_t source_length, const uint8_t *markers, size_t markers_length,
                      const struct tera_limits *limits, uint8_t *text, size_t text_length, size_t *needed);
+uint32_t tera_c_json(const uint8_t *source, size_t source_length, const uint8_t *markers, size_t markers_length,
+                     const struct tera_limits *limits, uint8_t *text, size_t text_length, size_t *needed);
 uint32_t tera_c_fault(const uint8_t *source, size_t source_length, const uint8_t *markers, size_t markers_length,
                       const struct tera_limits *limits, uint8_t *text, size_t text_length, size_t *needed,
                       struct tera_fault *fault);
@@ -103,6 +105,16 @@ static inline uint32_t tera_tree(const struct tera_source *source, void *text, s
     uint8_t none = 0;
     size_t untold = 0;
     return tera_c_tree((const uint8_t *)given.bytes, given.length, (const uint8_t *)given.markers,
+                       strlen(given.markers), given.limits, text == NULL ? &none : (uint8_t *)text,
+                       text == NULL ? 0 : length, needed == NULL ? &untold : needed);
+}
+
+/* Writes the JSON of the tree, with the places of its expressions, in the same way. */
+static inline uint32_t tera_json(const struct tera_source *source, void *text, size_t length, size_t *needed) {
+    struct tera_source given = tera_source_given(source);
+    uint8_t none = 0;
+    size_t untold = 0;
+    return tera_c_json((const uint8_t *)given.bytes, given.length, (const uint8_t *)given.markers,
                        strlen(given.markers), given.limits, text == NULL ? &none : (uint8_t *)text,
                        text == NULL ? 0 : length, needed == NULL ? &untold : needed);
 }

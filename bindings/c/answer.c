@@ -1,4 +1,4 @@
-/* Prints the tree of each template, or its fault: answer [--markers TWELVE] FILE.. */
+/* Prints the tree of each template, with --json as JSON, or its fault: answer [--json] [--markers TWELVE] FILE.. */
 #include <stdio.h>
 #include <stdlib.h>
 #include <string.h>
@@ -37,11 +37,12 @@ static struct bytes read_file(const char *name) {
     return all;
 }
 
-/* Which text is asked for: the tree; the fault; or, from 0, a note of it. */
-enum { TREE = -2, FAULT = -1 };
+/* Which text is asked for: the tree, also as JSON; the fault; or, from 0, a note of it. */
+enum { JSON = -3, TREE = -2, FAULT = -1 };
 
 static enum tera_status ask(const struct tera_source *source, long what, struct bytes *text, size_t *needed,
                             struct tera_fault *fault) {
+    if (what == JSON) return tera_json(source, text->at, text->length, needed);
     if (what == TREE) return tera_tree(source, text->at, text->length, needed);
     if (what == FAULT) return tera_fault(source, text->at, text->length, needed, fault);
     return tera_note(source, (size_t)what, text->at, text->length, needed, &fault->place);
@@ -93,7 +94,7 @@ static const char *reason(enum tera_status status) {
 }
 
 /* Prints the answer to one file: 0 for a tree, 1 for a fault, 2 where neither could be told. */
-static int answer(const char *name, const char *markers) {
+static int answer(const char *name, const char *markers, long what) {
     struct bytes file = read_file(name);
     if (file.at == NULL) {
         fprintf(stderr, "%s: cannot be read\n", name);
@@ -102,10 +103,11 @@ static int answer(const char *name, const char *markers) {
     struct tera_source source = {file.at, file.length, markers, NULL};
     struct bytes text = {NULL, 0};
     struct tera_fault fault = {{0, 0, 0, 0, 0, 0}, 0};
-    enum tera_status status = written(&source, TREE, &text, &fault);
+    enum tera_status status = written(&source, what, &text, &fault);
     int came = 2;
     if (status == TERA_WRITTEN) {
         fwrite(text.at, 1, text.length, stdout);
+        if (what == JSON) printf("\n");
         came = 0;
     } else if (status == TERA_FAULTY && (status = written(&source, FAULT, &text, &fault)) == TERA_WRITTEN) {
         print_fault(&source, &text, &fault);
@@ -120,15 +122,20 @@ static int answer(const char *name, const char *markers) {
 
 int main(int count, char **words) {
     const char *markers = NULL;
+    long what = TREE;
     int first = 1;
-    if (count > 2 && strcmp(words[1], "--markers") == 0) {
-        markers = words[2];
-        first = 3;
+    if (count > first && strcmp(words[first], "--json") == 0) {
+        what = JSON;
+        first += 1;
+    }
+    if (count > first + 1 && strcmp(words[first], "--markers") == 0) {
+        markers = words[first + 1];
+        first += 2;
     }
     int worst = 0;
     for (int i = first; i < count; i++) {
         printf("== %s\n", words[i]);
-        int came = answer(words[i], markers);
+        int came = answer(words[i], markers, what);
         if (came > worst) worst = came;
     }
     return worst;

@@ -32,6 +32,10 @@ void *__wrap_realloc(void *at, size_t size) { return is_granted() ? __real_reall
 
 static const char GREETING[] = "hi {{ a }}";
 static const char GREETING_TREE[] = "text \"hi \"\nexpr a\n";
+static const char GREETING_JSON[] =
+    "{\"parent\":null,\"component_definitions\":[],\"nodes\":[{\"kind\":\"Content\",\"text\":\"hi \"},"
+    "{\"kind\":\"Expression\",\"expr\":{\"kind\":\"Var\",\"span\":{\"start_line\":1,\"start_col\":6,\"end_line\":1,"
+    "\"end_col\":7,\"start\":6,\"end\":7},\"name\":\"a\"}}]}";
 static const char TWICE[] = "{% component a() %}{% endcomponent a %}{% component a() %}{% endcomponent %}";
 static const char TWICE_FAULT[] = "Template already contains a component named `a`";
 
@@ -66,6 +70,19 @@ static void buffers_of_trees(void) {
     HOLDS(tera_tree(&source, buffer, sizeof buffer, NULL) == TERA_WRITTEN);
     struct tera_source nothing = {NULL, 5, NULL, NULL};
     HOLDS(tera_tree(&nothing, NULL, 0, &needed) == TERA_WRITTEN && needed == 0);
+}
+
+static void buffers_of_json(void) {
+    struct tera_source source = source_of(GREETING), twice = source_of(TWICE);
+    size_t length = strlen(GREETING_JSON), needed = 0;
+    char buffer[512];
+    memset(buffer, '*', sizeof buffer);
+    HOLDS(tera_json(&source, NULL, 0, &needed) == TERA_SHORT && needed == length);
+    HOLDS(tera_json(&source, buffer, length - 1, &needed) == TERA_SHORT && needed == length);
+    HOLDS(tera_json(&twice, buffer, sizeof buffer, &needed) == TERA_FAULTY && needed == 0);
+    HOLDS(is_left(buffer, 0, sizeof buffer));
+    HOLDS(tera_json(&source, buffer, length, &needed) == TERA_WRITTEN && needed == length);
+    HOLDS(memcmp(buffer, GREETING_JSON, length) == 0 && is_left(buffer, length, sizeof buffer));
 }
 
 static void buffers_of_faults(void) {
@@ -112,6 +129,8 @@ static void refused(const struct tera_source *source, enum tera_status status) {
     memset(buffer, '*', sizeof buffer);
     HOLDS(tera_tree(source, buffer, sizeof buffer, &needed) == status && needed == 0);
     needed = 9;
+    HOLDS(tera_json(source, buffer, sizeof buffer, &needed) == status && needed == 0);
+    needed = 9;
     HOLDS(tera_fault(source, buffer, sizeof buffer, &needed, &fault) == status && needed == 0);
     needed = 9;
     HOLDS(tera_note(source, 0, buffer, sizeof buffer, &needed, &fault.place) == status && needed == 0);
@@ -156,6 +175,37 @@ static void others(void) {
     HOLDS(tera_tree(&deep, buffer, sizeof buffer, &needed) == TERA_WRITTEN);
 }
 
+static char *append(char *at, const char *text) {
+    size_t length = strlen(text);
+    memcpy(at, text, length + 1);
+    return at + length;
+}
+
+/* A chain of more `elif`s than a stack has room for calls. */
+static void long_chain(void) {
+    static const char first[] = "{% if a %}", more[] = "{% elif a %}", last[] = "{% endif %}";
+    static const char kind[] = "\"kind\":\"If\"";
+    const size_t elifs = 100000;
+    char *text = malloc(sizeof first + elifs * strlen(more) + sizeof last), *at = text;
+    HOLDS(text != NULL);
+    at = append(at, first);
+    for (size_t i = 0; i < elifs; i++) at = append(at, more);
+    append(at, last);
+    struct tera_source source = source_of(text);
+    size_t needed = 0, ifs = 0;
+    HOLDS(tera_json(&source, NULL, 0, &needed) == TERA_SHORT);
+    char *json = calloc(needed + 1, 1);
+    HOLDS(json != NULL && tera_json(&source, json, needed, &needed) == TERA_WRITTEN && strlen(json) == needed);
+    for (const char *found = json; (found = strstr(found, kind)) != NULL; found++) ifs++;
+    HOLDS(ifs == elifs + 1);
+    const char *end = json + needed - 2 * elifs - strlen("[]}]}");
+    HOLDS(memcmp(end, "[]}", 3) == 0);
+    for (size_t i = 0; i < elifs; i++) HOLDS(memcmp(end + 3 + 2 * i, "]}", 2) == 0);
+    HOLDS(strcmp(end + 3 + 2 * elifs, "]}") == 0);
+    free(json);
+    free(text);
+}
+
 /* Each call that may find no memory is answered so, or as ever, where the memory that is refused is not needed. */
 static void scarce_memory(void) {
     struct tera_source source = source_of(TWICE), whole = source_of(GREETING);
@@ -173,6 +223,17 @@ static void scarce_memory(void) {
         HOLDS(tree == TERA_WRITTEN || (tree == TERA_NO_MEMORY && needed == 0 && is_left(buffer, 0, sizeof buffer)));
     }
     HOLDS(turns > 6);
+    char json[512];
+    for (long calls = 0;; calls++) {
+        memset(json, '*', sizeof json);
+        granted = calls;
+        enum tera_status told = tera_json(&whole, json, sizeof json, &needed);
+        int left = granted != 0;
+        granted = -1;
+        if (told == TERA_WRITTEN && left) break;
+        HOLDS(told == TERA_WRITTEN || (told == TERA_NO_MEMORY && needed == 0 && is_left(json, 0, sizeof json)));
+    }
+    HOLDS(needed == strlen(GREETING_JSON) && memcmp(json, GREETING_JSON, needed) == 0);
     for (long calls = 0;; calls++) {
         granted = calls;
         enum tera_status told = tera_fault(&source, buffer, sizeof buffer, &needed, &fault);
@@ -186,10 +247,12 @@ static void scarce_memory(void) {
 
 int main(void) {
     buffers_of_trees();
+    buffers_of_json();
     buffers_of_faults();
     notes();
     refusals();
     others();
+    long_chain();
     scarce_memory();
     return 0;
 }

@@ -1,4 +1,4 @@
-"""Prints the tree of each template, or its fault: answer.py [--markers TWELVE] FILE.."""
+"""Prints the tree of each template, with --json as JSON, or its fault: answer.py [--json] [--markers TWELVE] FILE.."""
 
 import os
 import sys
@@ -19,12 +19,12 @@ def fault_text(fault):
     return "".join(line + "\n" for line in lines)
 
 
-def answer(library, name, markers):
+def answer(library, name, markers, as_json):
     """The answer to one file: 0 for a tree, 1 for a fault, 2 where neither could be told."""
     try:
         with open(name, "rb") as file:
             source = file.read()
-        return 0, library.tree(source, markers)
+        return 0, library.json(source, markers) + "\n" if as_json else library.tree(source, markers)
     except tera.Fault as fault:
         return 1, fault_text(fault)
     except tera.Refused as refused:
@@ -36,12 +36,15 @@ def answer(library, name, markers):
 
 def main(words):
     markers = tera.USUAL_MARKERS
+    as_json = words[:1] == ["--json"]
+    if as_json:
+        words = words[1:]
     if len(words) > 1 and words[0] == "--markers":
         markers, words = os.fsencode(words[1]), words[2:]
     library = tera.Tera()
     worst = 0
     for name in words:
-        came, text = answer(library, name, markers)
+        came, text = answer(library, name, markers, as_json)
         sys.stdout.buffer.write(f"== {name}\n{text}".encode("utf-8", "surrogateescape"))
         worst = max(worst, came)
     return worst

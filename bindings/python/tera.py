@@ -1,4 +1,4 @@
-"""The tree of a Tera template as text, or its fault, by a shared object over the static library."""
+"""The tree of a Tera template as text or as JSON, or its fault, by a shared object over the static library."""
 
 import ctypes
 import os
@@ -69,15 +69,23 @@ class Tera:
         out = [ctypes.c_char_p, ctypes.c_size_t, ctypes.POINTER(ctypes.c_size_t)]
         asked = text + text + [ctypes.POINTER(Limits)]
         self.library.tera_c_tree.argtypes = asked + out
+        self.library.tera_c_json.argtypes = asked + out
         self.library.tera_c_fault.argtypes = asked + out + [ctypes.POINTER(_Fault)]
         self.library.tera_c_note.argtypes = asked + [ctypes.c_size_t] + out + [ctypes.POINTER(Place)]
-        for call in (self.library.tera_c_tree, self.library.tera_c_fault, self.library.tera_c_note):
-            call.restype = ctypes.c_uint32
+        for name in ("tree", "json", "fault", "note"):
+            getattr(self.library, f"tera_c_{name}").restype = ctypes.c_uint32
 
     def tree(self, source, markers=USUAL_MARKERS, limits=None):
         """The text of the tree of the source, which is bytes; raises Fault or Refused."""
+        return self._of_tree(self.library.tera_c_tree, source, markers, limits)
+
+    def json(self, source, markers=USUAL_MARKERS, limits=None):
+        """The JSON of the tree of the source, as a text; raises the same."""
+        return self._of_tree(self.library.tera_c_json, source, markers, limits)
+
+    def _of_tree(self, call, source, markers, limits):
         asked = self._asked(source, markers, limits)
-        status, text = _written(self.library.tera_c_tree, asked, ())
+        status, text = _written(call, asked, ())
         if status == FAULTY:
             raise self._fault(asked)
         if status != WRITTEN:

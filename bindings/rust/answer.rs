@@ -1,4 +1,4 @@
-//! Prints the tree of each template, or its fault: answer [--markers TWELVE] FILE..
+//! Prints the tree of each template, with --json as JSON, or its fault: answer [--json] [--markers TWELVE] FILE..
 mod tera;
 
 use std::io::Write;
@@ -22,15 +22,16 @@ fn fault_text(fault: &Fault) -> String {
 }
 
 // The answer to one file: 0 for a tree, 1 for a fault, 2 where neither could be told.
-fn answer(name: &str, markers: Option<&str>) -> (u8, String) {
+fn answer(name: &str, markers: Option<&str>, as_json: bool) -> (u8, String) {
     let Ok(bytes) = std::fs::read(name) else {
         eprintln!("{name}: cannot be read");
         return (2, String::new());
     };
     let mut source = Source::new(&bytes);
     source.markers = markers.unwrap_or(source.markers);
-    match source.tree() {
-        Ok(tree) => (0, tree),
+    let told = if as_json { source.json().map(|json| json + "\n") } else { source.tree() };
+    match told {
+        Ok(text) => (0, text),
         Err(Refusal::Fault(fault)) => (1, fault_text(&fault)),
         Err(refusal) => {
             eprintln!("{name}: {refusal}");
@@ -41,14 +42,15 @@ fn answer(name: &str, markers: Option<&str>) -> (u8, String) {
 
 fn main() -> ExitCode {
     let words: Vec<String> = std::env::args().skip(1).collect();
-    let (markers, files) = match words.as_slice() {
+    let as_json = words.first().is_some_and(|word| word == "--json");
+    let (markers, files) = match &words[usize::from(as_json)..] {
         [flag, markers, files @ ..] if flag == "--markers" => (Some(markers.as_str()), files),
         files => (None, files),
     };
     let mut worst = 0;
     let mut out = std::io::stdout().lock();
     for name in files {
-        let (came, text) = answer(name, markers);
+        let (came, text) = answer(name, markers, as_json);
         if write!(out, "== {name}\n{text}").is_err() {
             return ExitCode::from(2);
         }

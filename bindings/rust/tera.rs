@@ -1,4 +1,4 @@
-//! The tree of a Tera template as text, or its fault, by the static library.
+//! The tree of a Tera template as text or as JSON, or its fault, by the static library.
 
 use std::fmt;
 
@@ -40,6 +40,10 @@ struct RawFault {
 
 unsafe extern "C" {
     fn tera_c_tree(
+        source: *const u8, source_length: usize, markers: *const u8, markers_length: usize, limits: &Limits,
+        text: *mut u8, text_length: usize, needed: &mut usize,
+    ) -> u32;
+    fn tera_c_json(
         source: *const u8, source_length: usize, markers: *const u8, markers_length: usize, limits: &Limits,
         text: *mut u8, text_length: usize, needed: &mut usize,
     ) -> u32;
@@ -108,6 +112,22 @@ impl<'a> Source<'a> {
         let (bytes, markers) = (self.bytes, self.markers);
         let (status, text) = written(|text, needed| unsafe {
             tera_c_tree(
+                bytes.as_ptr(), bytes.len(), markers.as_ptr(), markers.len(), &self.limits,
+                text.as_mut_ptr(), text.len(), needed,
+            )
+        });
+        match status {
+            0 => Ok(text),
+            2 => Err(self.fault()),
+            _ => Err(refusal(status)),
+        }
+    }
+
+    /// The JSON of its tree.
+    pub fn json(&self) -> Result<String, Refusal> {
+        let (bytes, markers) = (self.bytes, self.markers);
+        let (status, text) = written(|text, needed| unsafe {
+            tera_c_json(
                 bytes.as_ptr(), bytes.len(), markers.as_ptr(), markers.len(), &self.limits,
                 text.as_mut_ptr(), text.len(), needed,
             )

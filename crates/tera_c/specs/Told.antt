@@ -10,6 +10,7 @@ use Rattle.tera_tree.specs.Tree.{Output}
 use Rattle.tera_grammar.specs.Limits.{Limits}
 use Rattle.tera_grammar.specs.statements.Top.{Derives}
 use Rattle.tera_expr_parts.specs.Rooms.{AreValid}
+use Rattle.tera_tree_json.specs.TreeJson.{json_text}
 use Rattle.tera_tree_text.specs.TreeText.{text_of}
 use Rattle.tera_c.specs.Asked.{marks_at, AreMarkers, IsReadable}
 use Rattle.tera_c.specs.Statuses.{IsPut, IsLeft}
@@ -77,13 +78,22 @@ IsUntold l markers source BadMarkers = AreMarkers markers → ⊥
 IsUntold l markers source BadLimits = AreValid l → ⊥
 IsUntold l markers source Memory = Unit {0}
 
--- what a buffer held and holds behind a call that asks for the tree, and what is needed: the text of the tree was put
+-- what a buffer held and holds behind a call that asks for a text of the tree, and what is needed: the text was put
 -- there, or left out for want of room; or the source has a fault; or nothing is told
-abbrev pub TellsTree : Limits → List ℕ → List ℕ → Status → List ℕ → List ℕ → ℕ → Type 0
-TellsTree l markers source status old new needed =
-    ((output : Output) × HasTree l markers source output × IsPut (text_of output) status old new needed)
+abbrev pub TellsText :
+    (Output → List ℕ) → Limits → List ℕ → List ℕ → Status → List ℕ → List ℕ → ℕ → Type 0
+TellsText text l markers source status old new needed =
+    ((output : Output) × HasTree l markers source output × IsPut (text output) status old new needed)
     ⊎ (((status ≡ Faulty) × ((report : ReportVal) × HasFault l markers source report) × IsLeft old new needed)
     ⊎ (IsUntold l markers source status × IsLeft old new needed))
+
+-- line by line
+abbrev pub TellsTree : Limits → List ℕ → List ℕ → Status → List ℕ → List ℕ → ℕ → Type 0
+TellsTree = TellsText text_of
+
+-- as JSON
+abbrev pub TellsJson : Limits → List ℕ → List ℕ → Status → List ℕ → List ℕ → ℕ → Type 0
+TellsJson = TellsText json_text
 
 -- the text of a report was put into a buffer, and its place was told
 abbrev pub PutsFault : ReportVal → Status → List ℕ → List ℕ → ℕ → Fault → Type 0

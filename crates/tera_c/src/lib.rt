@@ -1,9 +1,9 @@
-//! The parser for other languages: a static library that writes the text of a template's tree, or of its fault, into
-//! a buffer of the caller's.
+//! The parser for other languages: a static library that writes the text of a template's tree, its JSON, or the text of
+//! its fault, into a buffer of the caller's.
 //!
 //! Each call takes a source, six markers of two bytes, one behind the other, and limits; parses anew; and answers the
-//! number of a [`Status`]. `TellsTree`, `TellsFault` and `TellsNote` say what it leaves in the buffer and tells beside
-//! it, by the words of `tera_parser` and of `tera_show`, on which it stands.
+//! number of a [`Status`]. `TellsTree`, `TellsJson`, `TellsFault` and `TellsNote` say what it leaves in the buffer and
+//! tells beside it, by the words of `tera_parser`, `tera_show` and `tera_tree_json`, on which it stands.
 //!
 //! In the order of reading: `status` and `shapes`, the types; specs `Statuses`, what a buffer holds, `Asked`, what can
 //! be read, and `Told`. Then `buffer`; `markers`; `parsed`, with specs `Refusals`; `trees`; `faults`.
@@ -20,7 +20,7 @@ mod trees;
 ghost use Rattle.std.specs.Prelude.{◌≡◌};
 ghost use Rattle.tera_c.specs.Asked.{limits_at};
 ghost use Rattle.tera_c.specs.Statuses.{number_of};
-ghost use Rattle.tera_c.specs.Told.{TellsTree, TellsFault, TellsNote};
+ghost use Rattle.tera_c.specs.Told.{TellsTree, TellsJson, TellsFault, TellsNote};
 
 use buffer::put;
 use faults::{put_fault, put_note};
@@ -28,7 +28,7 @@ use parsed::{Refusal, parsed};
 pub use shapes::{AskedLimits, Fault, Place};
 pub use status::Status;
 use std::alloc::Global;
-use trees::tree_of;
+use trees::{json_of, tree_of};
 
 /// Writes the text of the tree of the source.
 ///
@@ -49,6 +49,29 @@ pub extern "C" fn tera_c_tree(
     *needed = 0;
     match tree_of(alloc, source, markers, limits) {
         Ok(tree) => put(tree.as_str(), text, needed).number(),
+        Err(status) => status.number(),
+    }
+}
+
+/// Writes the JSON of the tree of the source.
+///
+/// What is needed is told in any case, and 0 where nothing is to be written.
+#[unsafe(no_mangle)]
+pub extern "C" fn tera_c_json(
+    alloc: Global,
+    source: &[u8],
+    markers: &[u8],
+    limits: &AskedLimits,
+    text: &mut [u8],
+    needed: &mut usize,
+) -> u32
+    ensures { (status : Status) × (result ≡ number_of status)
+        × TellsJson (limits_at limits.now) markers.now source.now status
+        text.old text.new needed.new }
+{
+    *needed = 0;
+    match json_of(alloc, source, markers, limits) {
+        Ok(json) => put(json.as_str(), text, needed).number(),
         Err(status) => status.number(),
     }
 }

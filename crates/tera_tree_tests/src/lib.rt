@@ -8,6 +8,8 @@ mod components;
 #[cfg(test)]
 mod debugged;
 #[cfg(test)]
+mod json;
+#[cfg(test)]
 mod making;
 #[cfg(test)]
 mod printed;

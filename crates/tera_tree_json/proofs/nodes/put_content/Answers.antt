@@ -1,0 +1,5 @@
+use Rattle.tera_tree_json.proofs.Writing.{token, then_all}
+use Rattle.tera_tree_json.proofs.nodes.put_content.Goals as goal
+
+pub returns : goal.returns
+returns c = then_all _ c.in_ok-begin.ensures (then_all _ c.in_ok-put_text.ensures (token _ c.end_object.ensures))

@@ -1,0 +1,5 @@
+pub mod Written
+pub mod Constants
+pub mod Elifs
+pub mod Forms
+pub mod TreeJson
