@@ -38,6 +38,11 @@ struct RawFault {
     notes: usize,
 }
 
+// A call that writes a text of the tree.
+type TreeCall = unsafe extern "C" fn(
+    *const u8, usize, *const u8, usize, &Limits, *mut u8, usize, &mut usize,
+) -> u32;
+
 unsafe extern "C" {
     fn tera_c_tree(
         source: *const u8, source_length: usize, markers: *const u8, markers_length: usize, limits: &Limits,
@@ -109,25 +114,19 @@ impl<'a> Source<'a> {
 
     /// The text of its tree.
     pub fn tree(&self) -> Result<String, Refusal> {
-        let (bytes, markers) = (self.bytes, self.markers);
-        let (status, text) = written(|text, needed| unsafe {
-            tera_c_tree(
-                bytes.as_ptr(), bytes.len(), markers.as_ptr(), markers.len(), &self.limits,
-                text.as_mut_ptr(), text.len(), needed,
-            )
-        });
-        match status {
-            0 => Ok(text),
-            2 => Err(self.fault()),
-            _ => Err(refusal(status)),
-        }
+        self.of_tree(tera_c_tree)
     }
 
     /// The JSON of its tree.
     pub fn json(&self) -> Result<String, Refusal> {
+        self.of_tree(tera_c_json)
+    }
+
+    // What this call writes of the tree.
+    fn of_tree(&self, call: TreeCall) -> Result<String, Refusal> {
         let (bytes, markers) = (self.bytes, self.markers);
         let (status, text) = written(|text, needed| unsafe {
-            tera_c_json(
+            call(
                 bytes.as_ptr(), bytes.len(), markers.as_ptr(), markers.len(), &self.limits,
                 text.as_mut_ptr(), text.len(), needed,
             )
