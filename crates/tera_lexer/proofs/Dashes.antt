@@ -5,7 +5,7 @@ use Rattle.std.specs.Bool.{OnTrue}
 use Rattle.std.specs.Str.{IsCharBoundary}
 use Rattle.std.proofs.lemmas.Bool.{cases_Bool}
 use Rattle.std.proofs.lemmas.List.{drop-drop}
-use Rattle.std.proofs.lemmas.Str.{IsCharBoundary-from_rest, IsUtf8-append, IsUtf8-from_ascii}
+use Rattle.std.proofs.lemmas.Str.{IsCharBoundary-from_rest, IsUtf8-append, IsUtf8-drop, IsUtf8-from_ascii}
 use Rattle.std.proofs.lemmas.Str.Ascii.{IsAscii-cons}
 use Rattle.tera_lexer.specs.grammar.Marks.{begins, dash_bytes, TakesDash}
 use Rattle.tera_lexer.specs.reading.Front.{behind_dash}
@@ -14,9 +14,11 @@ use Rattle.tera_lexer.proofs.Markers.{begins_splits, marker_cut, dash_stands}
 use Rattle.tera_lexer.proofs.Cuts.{cut_behind_ascii, dash_ascii}
 
 -- a start marker is found with its dash
-pub start_found : (marker rest behind : List ℕ) (dash : Bool) → IsUtf8 rest → IsUtf8 behind → IsCharBoundary rest (length marker) → begins marker rest ≡ true → behind ≡ drop (length marker) rest → dash ≡ begins (45 ∷ []) behind
-    → IsStartOf marker rest (Some dash)
-start_found marker rest behind dash utf8 utf8' cut here is dash_is =
+pub start_found : (marker rest behind : List ℕ) (dash : Bool) → IsUtf8 rest → IsUtf8 marker → length marker ≡ 2 → begins marker rest ≡ true → behind ≡ drop 2 rest → dash ≡ begins (45 ∷ []) behind → IsStartOf marker rest (Some dash)
+start_found marker rest behind dash utf8 text two here behind_is dash_is =
+    let cut = marker_cut rest marker utf8 text here in
+    let is : behind ≡ drop (length marker) rest = behind_is ∙ ap (λ n. drop n rest) (sym two) in
+    let utf8' : IsUtf8 behind = subst IsUtf8 (sym is) (IsUtf8-drop rest (length marker) utf8 cut) in
     let (splits, takes) = dash_stands behind in
     let d = begins (45 ∷ []) behind in
     let at : drop (length (dash_bytes d)) behind ≡ drop (marker_len marker d) rest = ap (drop (length (dash_bytes d))) is ∙ drop-drop (length (dash_bytes d)) (length marker) rest in

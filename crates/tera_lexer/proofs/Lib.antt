@@ -1,4 +1,5 @@
 pub mod Runs
+pub mod Lanes
 pub mod Strings
 pub mod Markers
 pub mod Operators

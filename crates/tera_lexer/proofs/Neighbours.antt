@@ -1,6 +1,6 @@
 -- Whether what begins some bytes begins with a dash, so that it trims a text before them.
-use Rattle.std.proofs.Common.{◌≡◌, ◌≤◌, ℕ, Bool, true, false, ◌&&◌, ◌||◌, List, [], ◌∷◌, ◌++◌, length, drop, Option, Some, None, ap, sym, subst, ◌∙◌, refl, arith}
-use Rattle.std.proofs.lemmas.List.{drop_at, length-append}
+use Rattle.std.proofs.Common.{◌≡◌, ℕ, Bool, true, false, ◌&&◌, ◌||◌, List, [], ◌∷◌, ◌++◌, length, drop, Option, Some, None, ap, sym, subst, ◌∙◌, refl}
+use Rattle.std.proofs.lemmas.List.{drop_at}
 use Rattle.std.specs.Option.{is_some}
 use Rattle.tera_lexer.specs.grammar.Marks.{Marks, IsValid, end_marker, begins}
 use Rattle.tera_lexer.specs.grammar.Lexeme.{Item, Close, End, Open, Bad}

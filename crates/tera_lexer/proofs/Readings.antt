@@ -3,7 +3,7 @@ use Rattle.std.proofs.Common.{◌≡◌, ◌≢◌, ℕ, zero, suc, ◌+◌, ◌
 use Rattle.std.specs.Prelude.{slice_range}
 use Rattle.std.specs.Char.{is_ascii_whitespace}
 use Rattle.std.proofs.lemmas.List.{take-append-drop, length-append, take_at, drop_at}
-use Rattle.tera_lexer.specs.grammar.Marks.{Marks, IsValid, start_marker, end_marker, begins, NowhereIn, dash_bytes}
+use Rattle.tera_lexer.specs.grammar.Marks.{Marks, IsValid, start_marker, end_marker, NowhereIn, dash_bytes}
 use Rattle.tera_lexer.specs.grammar.Place.{span_of, IsWithin}
 use Rattle.tera_lexer.specs.grammar.Lexeme.{StopsAt, IsGap, Lexeme, Name, Number, Quoted, Operator, quoted, spelled, value_of, Fault, Unexpected, Unclosed, UnknownEscape, TooGreat, Float, told, IsFault, IsLexeme, is_at_end, IsEnd}
 use Rattle.tera_lexer.specs.grammar.Raw as raw

@@ -6,6 +6,8 @@ use Rattle.std.proofs.lemmas.List.{drop_more, drop_all, get_or-drop}
 use Rattle.memchr.specs.Find.{Nowhere, Passes, is_byte3}
 use Rattle.tera_lexer.specs.grammar.Marks.{Marks, IsValid, NowhereIn, begins}
 use Rattle.tera_lexer.specs.grammar.Division.{is_at_start, EndsText}
+use Rattle.tera_lexer.specs.code.Markers.{ArePairs}
+use Rattle.tera_lexer.specs.declared.lexer.markers.Pairs.{Pairs}
 use Rattle.tera_lexer.proofs.Markers.{first_bytes, or_true}
 
 -- what begins at no place begins nowhere before the rest
@@ -36,6 +38,9 @@ pub record FirstBytes (m : Marks) (v b c : ℕ) : Type 0 where
   pub variable : v ≡ get_or m.variable_start 0 0
   pub block : b ≡ get_or m.block_start 0 0
   pub comment : c ≡ get_or m.comment_start 0 0
+
+pub firsts : (m : Marks) (p : Pairs) → ArePairs m p → FirstBytes m p.variable.first p.block.first p.comment.first
+firsts m p pairs = record { variable = pairs.variable.first; block = pairs.block.first; comment = pairs.comment.first }
 
 module _ (m : Marks) (valid : IsValid m) (variable block comment : ℕ) (first : FirstBytes m variable block comment) (bytes : List ℕ) where
   -- where a start marker begins stands one of them

@@ -1,11 +1,15 @@
 -- How the program counts places.
-use Rattle.std.specs.Prelude.{ℕ, ◌+◌, ◌<◌, ◌≤◌, slice_index, if◌then◌else◌, List, [], ◌∷◌, length}
+use Rattle.std.specs.Prelude.{ℕ, Bool, false, nat_lt, ◌+◌, ◌<◌, ◌≤◌, slice_index, if◌then◌else◌, List, [], ◌∷◌, length}
 use Rattle.tera_lexer.specs.grammar.Place.{is_line_feed, begins_character}
 use Rattle.tera_lexer.specs.declared.lexer.place.Place.{Place}
 
 -- ASCII without control bytes
 abbrev pub ArePrintable : List ℕ → Type 0
 ArePrintable bytes = (k : ℕ) → k < length bytes → (32 ≤ slice_index bytes k) × (slice_index bytes k < 128)
+
+-- the same of one byte
+abbrev pub is_printable_byte : ℕ → Bool
+is_printable_byte b = if nat_lt b 32 then false else nat_lt b 128
 
 -- the place one byte further, and behind some bytes
 abbrev pub stepped : Place → ℕ → Place

@@ -1,6 +1,9 @@
 -- What the program finds at a place in a tag, against what stands there.
-use Rattle.std.specs.Prelude.{◌≡◌, true, false, ℕ, Bool, List, [], ◌∷◌, length, Option, Some, None}
+use Rattle.std.specs.Prelude.{◌≡◌, ◌==◌, if◌then◌else◌, true, false, not, ℕ, Bool, List, [], ◌∷◌, length, take, Option, Some, None}
+use Rattle.std.specs.List.{list_any}
+use Rattle.std.specs.Int.{w64, trailing_zeros}
 use Rattle.std.specs.Char.{is_ascii_digit, is_ascii_whitespace}
+use Rattle.tera_lexer.specs.grammar.Bytes.{backslash}
 use Rattle.tera_lexer.specs.grammar.Lexeme.{goes_on_name, spelled, told, quoted, Inner, IsQuoted, written, has_escape, has_unknown_escape}
 use Rattle.tera_lexer.specs.grammar.Lexeme as lexeme
 use Rattle.tera_lexer.specs.grammar.Tokens.{Tok, token_of, fault_text, Str, Symbol}
@@ -17,10 +20,23 @@ passes Space b = is_ascii_whitespace b
 passes Name b = goes_on_name b
 passes Digit b = is_ascii_digit b
 
+-- the place of the lowest bit of a mask that is set, or behind its bits where none is
+abbrev pub first_set : ℕ → ℕ → ℕ
+first_set bits mask = if mask == 0 then bits else trailing_zeros w64 mask
+
+-- the byte goes on a string without escapes
+abbrev pub goes_on_string : ℕ → ℕ → Bool
+goes_on_string quote b = if b == quote then false else not (b == backslash)
+
 -- the first byte passes the test
 abbrev pub BeginsBy : (ℕ → Bool) → List ℕ → Type 0
 BeginsBy p [] = ⊥
 BeginsBy p (b ∷ bs) = p b ≡ true
+
+-- where a string closes, and whether a backslash stands in it
+abbrev pub IsClosing : Option ℕ → List ℕ → Option (ℕ × Bool) → Type 0
+IsClosing closing bytes None = None ≡ closing
+IsClosing closing bytes (Some p) = (Some p.0 ≡ closing) × (list_any (λ b. b == backslash) (take p.0 bytes) ≡ p.1)
 
 -- the token of a lexeme that stands there, with its length
 abbrev pub IsTokenAt : Tok → ℕ → Front → Type 0

@@ -1,14 +1,16 @@
 -- What the program finds at a marker.
-use Rattle.std.specs.Prelude.{◌≡◌, ℕ, ◌+◌, Bool, true, false, List, length, drop, Option, Some, None, IfSome, IsUtf8}
+use Rattle.std.specs.Prelude.{◌≡◌, ℕ, ◌+◌, Bool, true, false, List, length, take, drop, get_or, Option, Some, None, IfSome, IsUtf8}
 use Rattle.std.specs.Option.{is_some}
 use Rattle.std.specs.Str.{IsCharBoundary}
-use Rattle.tera_lexer.specs.grammar.Marks.{Marks, begins, dash_bytes}
+use Rattle.tera_lexer.specs.grammar.Marks.{Marks, IsValid, begins, NowhereIn, dash_bytes}
 use Rattle.tera_lexer.specs.grammar.Lexeme.{is_at_end, IsEnd}
 use Rattle.tera_lexer.specs.grammar.Raw as raw
 use Rattle.tera_lexer.specs.grammar.Raw.{word_tag_bytes, raw_word, endraw_word}
-use Rattle.tera_lexer.specs.grammar.Division.{Starts, is_at_start}
+use Rattle.tera_lexer.specs.grammar.Division.{Starts, is_at_start, EndsText}
 use Rattle.tera_lexer.specs.reading.Front.{RawEnd, find_marker, word_tag_at, raw_end}
 use Rattle.tera_lexer.specs.declared.lexer.markers.WordTag.{WordTag}
+use Rattle.tera_lexer.specs.declared.lexer.markers.Pair.{Pair}
+use Rattle.tera_lexer.specs.declared.lexer.markers.Pairs.{Pairs}
 use Rattle.tera_lexer.specs.declared.lexer.markers.Start.{Start}
 use Rattle.tera_lexer.specs.declared.lexer.markers.Start.TheVariants.{Variable, Block, Comment, Text}
 use Rattle.tera_lexer.specs.declared.lexer.markers.Ahead.{Ahead}
@@ -19,6 +21,26 @@ pub record AreStartTexts (m : Marks) : Type 0 where
   pub block_start : IsUtf8 m.block_start
   pub variable_start : IsUtf8 m.variable_start
   pub comment_start : IsUtf8 m.comment_start
+
+-- the two bytes of a marker
+pub record IsPair (marker : List ℕ) (p : Pair) : Type 0 where
+  pub two : length marker ≡ 2
+  pub first : p.first ≡ get_or marker 0 0
+  pub second : p.second ≡ get_or marker 1 0
+
+-- those of the start markers
+pub record ArePairs (m : Marks) (p : Pairs) : Type 0 where
+  pub valid : IsValid m
+  pub texts : AreStartTexts m
+  pub variable : IsPair m.variable_start p.variable
+  pub block : IsPair m.block_start p.block
+  pub comment : IsPair m.comment_start p.comment
+
+-- so many bytes are a text, behind which a start marker begins or nothing stands
+pub record IsTextLen (m : Marks) (rest : List ℕ) (len : ℕ) : Type 0 where
+  pub cut : IsCharBoundary rest len
+  pub plain : NowhereIn (is_at_start m) (take len rest) (drop len rest)
+  pub stops : EndsText m (drop len rest)
 
 -- how many bytes a marker takes with its dash
 abbrev pub marker_len : List ℕ → Bool → ℕ
@@ -94,6 +116,7 @@ ClosesBy m dash opening end rest =
 abbrev pub IsAhead : Marks → List ℕ → Ahead → Type 0
 IsAhead m rest ahead.Nothing = Unit {0}
 IsAhead m rest (ahead.Comment len) =
-    IsStartOf m.comment_start rest (Some true) × (find_marker m.comment_end (drop (marker_len m.comment_start true) rest) ≡ Some len)
+    IsStartOf m.comment_start rest (Some true)
+    × (find_marker m.comment_end (drop (marker_len m.comment_start true) rest) ≡ Some len)
 IsAhead m rest (ahead.Raw opening closing) =
     IsStartOf m.block_start rest (Some true) × OpensBy m true opening rest × ClosesBy m true opening (Some closing) rest

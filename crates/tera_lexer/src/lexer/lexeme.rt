@@ -3,15 +3,19 @@
 ghost use Rattle.std.specs.Prelude.{◌≡◌, ◌^◌, ◌<◌, ◌≤◌, ◌∷◌, [], length, take, drop, get_or, true, false, pos, string_bytes, IfOk, MatchOption};
 ghost use Rattle.std.specs.List.{AllByRecursion, prefix_len};
 ghost use Rattle.std.specs.Char.{is_ascii_digit};
-ghost use Rattle.tera_lexer.specs.grammar.Lexeme.{begins_name, is_quote, is_known, escaped, long_operator_at, short_operator, operator_at, decimal};
+ghost use Rattle.tera_lexer.specs.grammar.Lexeme.{begins_name, goes_on_name, is_quote, is_known, escaped, long_operator_at, short_operator, operator_at, decimal};
 ghost use Rattle.tera_lexer.specs.grammar.Tokens.{name_token, unclosed};
+ghost use Rattle.std.specs.Bool.{OnTrue};
+ghost use Rattle.tera_lexer.specs.code.Counting.{ArePrintable, is_printable_byte};
 ghost use Rattle.tera_lexer.specs.code.Seen.{seen};
 ghost use Rattle.std.specs.Str.{IsCharBoundary};
 ghost use Rattle.tera_lexer.specs.reading.Front.{front_of, begins_long_operator, closing_at, is_plain, unescaped, unknown_in};
-ghost use Rattle.tera_lexer.specs.code.Found.{passes, BeginsBy, IsFound, IsOperatorOf, IsTokenOf};
+ghost use Rattle.tera_lexer.specs.code.Found.{passes, first_set, goes_on_string, BeginsBy, IsClosing, IsFound, IsOperatorOf, IsTokenOf};
 
 use crate::lexer::tokens::Token;
+use memchr::memchr2;
 use std::alloc::{AllocError, Global};
+use std::simd::prelude::*;
 
 /// What was found: a token that is no string, or the inside of a string without or with escapes, with how many bytes
 /// it takes; or a fault.
@@ -67,10 +71,66 @@ pub(crate) fn run_len(bytes: &[u8], class: Class) -> usize
     bytes.iter().take_while(|b| is_in(class, **b)).count()
 }
 
-fn begins_name(b: u8) -> bool
-    ensures { result ≡ begins_name b }
+// How many bytes at the front go on a name. So many are told at a time.
+fn name_len(bytes: &[u8]) -> usize
+    ensures { result ≡ prefix_len goes_on_name bytes.now }
 {
-    b.is_ascii_alphabetic() || b == b'_'
+    if bytes.len() >= LANES {
+        let len = name_lanes(bytes);
+        if len < LANES {
+            return len;
+        }
+    }
+    run_len(bytes, Class::Name)
+}
+
+const LANES: usize = 16;
+
+// The same of the first bytes.
+#[inline(always)]
+fn name_lanes(bytes: &[u8]) -> usize
+    requires { 16 ≤ length bytes.now }
+    ensures { result ≡ prefix_len goes_on_name (take 16 bytes.now) }
+{
+    let lanes = u8x16::from_slice(bytes);
+    let from_a = (lanes | u8x16::splat(0x20)) - u8x16::splat(b'a');
+    let from_0 = lanes - u8x16::splat(b'0');
+    let no_letter = from_a.simd_ge(u8x16::splat(26));
+    let no_digit = from_0.simd_ge(u8x16::splat(10));
+    let stops = no_letter & no_digit & lanes.simd_ne(u8x16::splat(b'_'));
+    first_set(stops.to_bitmask())
+}
+
+// The place of the lowest bit that is set, or behind the lanes where none is.
+#[inline(always)]
+fn first_set(mask: u64) -> usize
+    ensures { result ≡ first_set 16 mask }
+{
+    if mask == 0 {
+        LANES
+    } else {
+        mask.trailing_zeros() as usize
+    }
+}
+
+/// Whether so many bytes at the front are printable, where one look at the lanes tells it.
+#[inline(always)]
+pub(crate) fn begins_printable(bytes: &[u8], len: usize) -> bool
+    ensures { OnTrue result (ArePrintable (take len bytes.now)) }
+{
+    bytes.len() >= LANES && len <= printable_lanes(bytes)
+}
+
+// How many of the first bytes are printable.
+#[inline(always)]
+fn printable_lanes(bytes: &[u8]) -> usize
+    requires { 16 ≤ length bytes.now }
+    ensures { result ≡ prefix_len is_printable_byte (take 16 bytes.now) }
+{
+    let lanes = u8x16::from_slice(bytes);
+    let from_space = lanes - u8x16::splat(b' ');
+    let stops = from_space.simd_ge(u8x16::splat(0x60));
+    first_set(stops.to_bitmask())
 }
 
 fn is_quote(b: u8) -> bool
@@ -85,10 +145,12 @@ pub(crate) fn lexeme_at(rest: &str) -> Found<'_>
     ensures { IsFound result (front_of rest.now) }
 {
     let first = rest.as_bytes()[0];
-    if first.is_ascii_digit() {
-        number_at(rest)
-    } else if begins_name(first) {
-        name_at(rest)
+    if is_in(Class::Name, first) {
+        if first.is_ascii_digit() {
+            number_at(rest)
+        } else {
+            name_at(rest)
+        }
     } else if is_quote(first) {
         string_at(rest)
     } else {
@@ -139,7 +201,7 @@ fn name_at(rest: &str) -> Found<'_>
     requires { BeginsBy begins_name rest.now }
     ensures { IsFound result (front_of rest.now) }
 {
-    let len = run_len(rest.as_bytes(), Class::Name);
+    let len = name_len(rest.as_bytes());
     let (name, _) = rest.split_at(len);
     Found::Lexeme(word(name), len)
 }
@@ -148,12 +210,10 @@ fn name_at(rest: &str) -> Found<'_>
 fn word(name: &str) -> Token<'_>
     ensures { seen result ≡ name_token name.now }
 {
-    if name == "true" || name == "True" {
-        Token::Bool(true)
-    } else if name == "false" || name == "False" {
-        Token::Bool(false)
-    } else {
-        Token::Ident(name)
+    match name.as_bytes() {
+        b"true" | b"True" => Token::Bool(true),
+        b"false" | b"False" => Token::Bool(false),
+        _ => Token::Ident(name),
     }
 }
 
@@ -163,14 +223,14 @@ fn string_at(rest: &str) -> Found<'_>
 {
     let quote = rest.as_bytes()[0];
     let (_, behind) = rest.split_at(1);
-    let Some(len) = closing_at(behind.as_bytes(), quote) else {
+    let Some((len, escapes)) = string_end(behind.as_bytes(), quote) else {
         return Found::Fault(Fault {
             message: unclosed(quote),
             len: 0,
         });
     };
     let (inside, _) = behind.split_at(len);
-    if !inside.as_bytes().contains(&b'\\') {
+    if !escapes {
         return Found::Text(inside, len + 2);
     }
     if has_unknown_escape(inside.as_bytes()) {
@@ -180,6 +240,47 @@ fn string_at(rest: &str) -> Found<'_>
         });
     }
     Found::Escaped(inside, len + 2)
+}
+
+// Where the quote comes that closes a string, and whether a backslash stands before it.
+#[tactic(auto, using(crate::proofs::Closings::hidden_by_escape))]
+fn string_end(bytes: &[u8], quote: u8) -> Option<(usize, bool)>
+    requires { is_quote quote ≡ true }
+    ensures { IsClosing (closing_at quote false bytes.now) bytes.now result }
+{
+    let len = string_len(bytes, quote);
+    if len < bytes.len() && bytes[len] == quote {
+        return Some((len, false));
+    }
+    let len = closing_at(bytes, quote)?;
+    Some((len, true))
+}
+
+// How many bytes at the front go on a string without escapes. Most strings end within the lanes.
+fn string_len(bytes: &[u8], quote: u8) -> usize
+    ensures { result ≡ prefix_len (goes_on_string quote) bytes.now }
+{
+    if bytes.len() >= LANES {
+        let len = string_lanes(bytes, quote);
+        if len < LANES {
+            return len;
+        }
+    }
+    match memchr2(quote, b'\\', bytes) {
+        Some(at) => at,
+        None => bytes.len(),
+    }
+}
+
+// The same of the first bytes.
+#[inline(always)]
+fn string_lanes(bytes: &[u8], quote: u8) -> usize
+    requires { 16 ≤ length bytes.now }
+    ensures { result ≡ prefix_len (goes_on_string quote) (take 16 bytes.now) }
+{
+    let lanes = u8x16::from_slice(bytes);
+    let stops = lanes.simd_eq(u8x16::splat(quote)) | lanes.simd_eq(u8x16::splat(b'\\'));
+    first_set(stops.to_bitmask())
 }
 
 // Whether a backslash stands before a byte that makes no escape with it.
@@ -305,28 +406,18 @@ fn begins_long_operator(b: u8) -> bool
 fn long_operator_at(bytes: &[u8]) -> Option<(Token<'static>, usize)>
     ensures { IsOperatorOf result (long_operator_at bytes.now) }
 {
-    if bytes.starts_with(b"...") {
-        Some((Token::Spread, 3))
-    } else if bytes.starts_with(b"//") {
-        Some((Token::FloorDiv, 2))
-    } else if bytes.starts_with(b"**") {
-        Some((Token::Power, 2))
-    } else if bytes.starts_with(b"==") {
-        Some((Token::Equal, 2))
-    } else if bytes.starts_with(b"!=") {
-        Some((Token::NotEqual, 2))
-    } else if bytes.starts_with(b">=") {
-        Some((Token::GreaterThanOrEqual, 2))
-    } else if bytes.starts_with(b"<=") {
-        Some((Token::LessThanOrEqual, 2))
-    } else if bytes.starts_with(b"</") {
-        Some((Token::ClosingTagStart, 2))
-    } else if bytes.starts_with(b"?.") {
-        Some((Token::QuestionMarkDot, 2))
-    } else if bytes.starts_with(b"?[") {
-        Some((Token::QuestionMarkLeftBracket, 2))
-    } else {
-        None
+    match bytes {
+        [b'.', b'.', b'.', ..] => Some((Token::Spread, 3)),
+        [b'/', b'/', ..] => Some((Token::FloorDiv, 2)),
+        [b'*', b'*', ..] => Some((Token::Power, 2)),
+        [b'=', b'=', ..] => Some((Token::Equal, 2)),
+        [b'!', b'=', ..] => Some((Token::NotEqual, 2)),
+        [b'>', b'=', ..] => Some((Token::GreaterThanOrEqual, 2)),
+        [b'<', b'=', ..] => Some((Token::LessThanOrEqual, 2)),
+        [b'<', b'/', ..] => Some((Token::ClosingTagStart, 2)),
+        [b'?', b'.', ..] => Some((Token::QuestionMarkDot, 2)),
+        [b'?', b'[', ..] => Some((Token::QuestionMarkLeftBracket, 2)),
+        _ => None,
     }
 }
 

@@ -1,15 +1,15 @@
 //! Where markers stand.
 
-ghost use Rattle.std.specs.Prelude.{◌≡◌, ◌≤◌, ◌∷◌, ◌+◌, ◌||◌, true, false, Some, IfSome, MatchOption, length, take, drop, get_or};
+ghost use Rattle.std.specs.Prelude.{◌≡◌, ◌≤◌, ◌∷◌, ◌+◌, ◌||◌, true, false, List, ℕ, Some, IfSome, MatchOption, length, drop};
 ghost use Rattle.std.specs.Bool.{OnTrue};
 ghost use Rattle.std.specs.Str.{IsCharBoundary};
 ghost use Rattle.memchr.specs.Find.{IsFirstByte, FindsNeedle, Nowhere, OccursAt, Passes, is_byte3};
-ghost use Rattle.tera_lexer.specs.grammar.Marks.{marks_of, IsValid, begins, NowhereIn, dash_bytes};
+ghost use Rattle.tera_lexer.specs.grammar.Marks.{Marks, marks_of, IsValid, begins, dash_bytes};
 ghost use Rattle.tera_lexer.specs.grammar.Raw.{raw_word};
-ghost use Rattle.tera_lexer.specs.grammar.Division.{is_at_start, EndsText};
+ghost use Rattle.tera_lexer.specs.grammar.Division.{is_at_start};
 ghost use Rattle.tera_lexer.specs.reading.Front.{find_marker, gap_len, word_tag_at, raw_end};
 ghost use Rattle.tera_lexer.specs.reading.Left.{starts_dashed};
-ghost use Rattle.tera_lexer.specs.code.Markers.{AreStartTexts, IsStart, IsStartOf, IsEndOf, IsWordTagOf, IsRawEndOf, IsRawCut, IsAhead, further_end};
+ghost use Rattle.tera_lexer.specs.code.Markers.{ArePairs, IsPair, IsStart, IsStartOf, IsEndOf, IsTextLen, IsWordTagOf, IsRawEndOf, IsRawCut, IsAhead, further_end};
 
 use crate::lexer::delimiters::Delimiters;
 use crate::lexer::lexeme::{Class, run_len};
@@ -24,16 +24,96 @@ pub(crate) fn dash_len(dash: bool) -> usize
 
 /// What begins a text: a start marker, with a dash behind it or none, or no marker.
 #[derive(Clone, Copy)]
-pub enum Start {
+pub(crate) enum Start {
     Variable(bool),
     Block(bool),
     Comment(bool),
     Text,
 }
 
+/// The two bytes of a marker.
+#[derive(Clone, Copy)]
+pub(crate) struct Pair {
+    pub first: u8,
+    pub second: u8,
+}
+
+impl Pair {
+    // Those of this marker.
+    fn of(marker: &str) -> Pair
+        requires { length marker.now ≡ 2 }
+        ensures { IsPair marker.now result }
+    {
+        let bytes = marker.as_bytes();
+        Pair {
+            first: bytes[0],
+            second: bytes[1],
+        }
+    }
+
+    // Whether the marker begins the bytes.
+    fn begins(self, bytes: &[u8]) -> bool
+        ensures { (marker : List ℕ) → IsPair marker self → result ≡ begins marker bytes.now }
+    {
+        bytes.len() >= 2 && bytes[0] == self.first && bytes[1] == self.second
+    }
+}
+
+/// The start markers by their bytes.
+#[derive(Clone, Copy)]
+pub(crate) struct Pairs {
+    pub variable: Pair,
+    pub block: Pair,
+    pub comment: Pair,
+}
+
+impl Pairs {
+    /// Those of these markers.
+    pub(crate) fn of(delimiters: &Delimiters) -> Pairs
+        requires { IsValid (marks_of delimiters.now) }
+        ensures { ArePairs (marks_of delimiters.now) result }
+    {
+        Pairs {
+            variable: Pair::of(delimiters.variable_start.as_str()),
+            block: Pair::of(delimiters.block_start.as_str()),
+            comment: Pair::of(delimiters.comment_start.as_str()),
+        }
+    }
+
+    /// What begins the text.
+    #[inline(always)]
+    pub(crate) fn start_of(&self, rest: &str) -> Start
+        ensures { (m : Marks) → ArePairs m self.now → IsStart m rest.now result }
+    {
+        let bytes = rest.as_bytes();
+        if bytes.len() < 2 {
+            return Start::Text;
+        }
+        let (_, behind) = bytes.split_at(2);
+        let dash = behind.starts_with(b"-");
+        if self.variable.begins(bytes) {
+            return Start::Variable(dash);
+        }
+        if self.block.begins(bytes) {
+            return Start::Block(dash);
+        }
+        if self.comment.begins(bytes) {
+            return Start::Comment(dash);
+        }
+        Start::Text
+    }
+
+    // Whether one of them begins the bytes.
+    fn begin(&self, bytes: &[u8]) -> bool
+        ensures { (m : Marks) → ArePairs m self.now → result ≡ is_at_start m bytes.now }
+    {
+        self.variable.begins(bytes) || self.block.begins(bytes) || self.comment.begins(bytes)
+    }
+}
+
 /// What is known of the piece that comes next, where its end was sought to see whether it is one.
 #[derive(Clone, Copy)]
-pub enum Ahead {
+pub(crate) enum Ahead {
     /// Nothing.
     Nothing,
     /// It is a comment with a dash, whose end marker stands so many bytes behind that.
@@ -61,17 +141,6 @@ pub(crate) fn at_marker(rest: &str, marker: &str) -> bool
     begins(rest.as_bytes(), marker.as_bytes())
 }
 
-/// Whether a dash stands behind the start marker that begins the text, if it does.
-pub(crate) fn start_at(rest: &str, marker: &str) -> Option<bool>
-    ensures { IsStartOf marker.now rest.now result }
-{
-    if !at_marker(rest, marker) {
-        return None;
-    }
-    let (_, behind) = rest.split_at(marker.len());
-    Some(behind.as_bytes().starts_with(b"-"))
-}
-
 // Whether a dash and then the marker begin the text, which may then be cut behind them.
 fn at_dashed(rest: &str, marker: &str) -> bool
     ensures test { result ≡ begins (45 ∷ marker.now) rest.now }
@@ -95,42 +164,16 @@ pub(crate) fn end_at(rest: &str, marker: &str) -> Option<bool>
     }
 }
 
-// Whether a start marker begins the bytes.
-fn at_start(bytes: &[u8], delimiters: &Delimiters) -> bool
-    ensures test { result ≡ is_at_start (marks_of delimiters.now) bytes.now }
-    ensures texts { AreStartTexts (marks_of delimiters.now) }
-{
-    let variable = delimiters.variable_start.as_str().as_bytes();
-    let block = delimiters.block_start.as_str().as_bytes();
-    let comment = delimiters.comment_start.as_str().as_bytes();
-    begins(bytes, variable) || begins(bytes, block) || begins(bytes, comment)
-}
-
-// The first byte of a marker.
-fn first_byte(marker: &str) -> u8
-    requires { length marker.now ≡ 2 }
-    ensures { result ≡ get_or marker.now 0 0 }
-{
-    marker.as_bytes()[0]
-}
-
 /// How many bytes stand before the first start marker.
-#[tactic(auto, using(crate::proofs::Texts::text_ends_here, crate::proofs::Texts::text_ends_all))]
-pub(crate) fn text_len(rest: &str, delimiters: &Delimiters) -> usize
-    requires { IsValid (marks_of delimiters.now) }
-    ensures cut { IsCharBoundary rest.now result }
-    ensures plain { NowhereIn (is_at_start (marks_of delimiters.now)) (take result rest.now)
-        (drop result rest.now) }
-    ensures stops { EndsText (marks_of delimiters.now) (drop result rest.now) }
+pub(crate) fn text_len(rest: &str, pairs: &Pairs) -> usize
+    ensures { (m : Marks) → ArePairs m pairs.now → IsTextLen m rest.now result }
 {
     let bytes = rest.as_bytes();
-    let variable = first_byte(delimiters.variable_start.as_str());
-    let block = first_byte(delimiters.block_start.as_str());
-    let comment = first_byte(delimiters.comment_start.as_str());
+    let (variable, block, comment) = (pairs.variable.first, pairs.block.first, pairs.comment.first);
     let mut from = 0;
     while let Some(len) = next_of(variable, block, comment, &bytes[from..]) {
         let at = from + len;
-        if at_start(&bytes[at..], delimiters) {
+        if pairs.begin(&bytes[at..]) {
             return at;
         }
         from = at + 1;
@@ -208,34 +251,24 @@ fn near_marker(bytes: &[u8], near: usize, marker: &[u8]) -> Option<usize>
     None
 }
 
-/// What begins the text.
-pub(crate) fn start_of(rest: &str, delimiters: &Delimiters) -> Start
-    ensures { IsStart (marks_of delimiters.now) rest.now result }
-{
-    if let Some(dash) = start_at(rest, delimiters.variable_start.as_str()) {
-        return Start::Variable(dash);
-    }
-    if let Some(dash) = start_at(rest, delimiters.block_start.as_str()) {
-        return Start::Block(dash);
-    }
-    if let Some(dash) = start_at(rest, delimiters.comment_start.as_str()) {
-        return Start::Comment(dash);
-    }
-    Start::Text
-}
-
 /// Whether the text before this one loses the white space at its end, by its own end or by the dash with which the
 /// piece begins that begins this text; and what was found of that piece. A tag is one even where it never ends or a
 /// fault stands in it; a comment or a raw piece that never closes is none.
-pub(crate) fn look_ahead(trim: bool, rest: &str, delimiters: &Delimiters) -> (bool, Ahead)
-    requires { IsValid (marks_of delimiters.now) }
+#[inline(always)]
+pub(crate) fn look_ahead(
+    trim: bool,
+    rest: &str,
+    pairs: &Pairs,
+    delimiters: &Delimiters,
+) -> (bool, Ahead)
+    requires { ArePairs (marks_of delimiters.now) pairs.now }
     ensures trims { result.0 ≡ trim || starts_dashed (marks_of delimiters.now) rest.now }
     ensures ahead { IsAhead (marks_of delimiters.now) rest.now result.1 }
 {
     if trim {
         return (true, Ahead::Nothing);
     }
-    match start_of(rest, delimiters) {
+    match pairs.start_of(rest) {
         Start::Variable(dash) => (dash, Ahead::Nothing),
         Start::Block(dash) if dash => block_ahead(rest, delimiters),
         Start::Comment(dash) if dash => comment_ahead(rest, delimiters),

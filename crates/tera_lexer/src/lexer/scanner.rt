@@ -16,15 +16,15 @@ ghost use Rattle.tera_lexer.specs.reading.Front.{front_of};
 ghost use Rattle.tera_lexer.specs.code.Found.{IsEscapedAt};
 ghost use Rattle.tera_lexer.specs.grammar.Division.{is_at_start};
 ghost use Rattle.tera_lexer.specs.reading.Front.{find_marker};
-ghost use Rattle.tera_lexer.specs.code.Markers.{marker_len, IsStartOf, IsEndOf, OpensBy, ClosesBy};
+ghost use Rattle.tera_lexer.specs.code.Markers.{marker_len, IsStartOf, IsEndOf, OpensBy, ClosesBy, IsAhead};
 ghost use Rattle.tera_base.specs.Errors.{Tells};
 ghost use Rattle.tera_lexer.specs.code.Steps.{Steps, IsPart};
 
 use crate::lexer::delimiters::{Delimiters, Kind};
-use crate::lexer::lexeme::{Class, Fault, Found, lexeme_at, run_len, unescape};
+use crate::lexer::lexeme::{Class, Fault, Found, begins_printable, lexeme_at, run_len, unescape};
 use crate::lexer::markers::{
-    Ahead, Start, WordTag, dash_len, end_at, find_marker, look_ahead, raw_end, raw_tag_at,
-    start_of, text_len,
+    Ahead, Pairs, Start, WordTag, dash_len, end_at, find_marker, look_ahead, raw_end, raw_tag_at,
+    text_len,
 };
 use crate::lexer::place::Place;
 use crate::lexer::tokens::Token;
@@ -40,12 +40,14 @@ pub(crate) struct Scanner<'a> {
     rest: &'a str,
     alloc: Global,
     delimiters: Delimiters,
+    pairs: Pairs,
     place: Place,
     tag: Option<Kind>,
     trim: bool,
     failed: bool,
-    // What is known of what is left.
+    // What is known of a piece, and where it begins.
     ahead: Ahead,
+    ahead_at: usize,
 }
 
 impl<'a> Model for Scanner<'a> {
@@ -66,11 +68,13 @@ impl<'a> Scanner<'a> {
         requires { IsValid (marks_of delimiters) }
         ensures { result ≡ start_of (marks_of delimiters) source.now }
     {
+        let pairs = Pairs::of(&delimiters);
         Scanner {
             source,
             rest: source,
             alloc,
             delimiters,
+            pairs,
             place: Place {
                 line: 1,
                 column: 0,
@@ -80,6 +84,7 @@ impl<'a> Scanner<'a> {
             trim: false,
             failed: false,
             ahead: Ahead::Nothing,
+            ahead_at: 0,
         }
     }
 
@@ -144,43 +149,7 @@ impl<'a> Scanner<'a> {
         let span = self.place.to(end);
         self.place = end;
         self.rest = rest;
-        self.ahead = Ahead::Nothing;
         (text, span)
-    }
-
-    // The same for printable bytes, at which there is no need to look.
-    #[inline(always)]
-    fn advance_plain(&mut self, n: usize) -> Span
-        requires cut { IsCharBoundary self.old.rest n }
-        requires printable { ArePrintable (take n self.old.rest) }
-        ensures state { self.new ≡ record self.old {
-          front = self.old.front ++ take n self.old.rest;
-          rest = drop n self.old.rest;
-        } }
-        ensures span { result ≡ span_of self.old.front (take n self.old.rest) }
-        ensures within { IsWithin (whole_of self.old) result }
-    {
-        let (_, rest) = self.rest.split_at(n);
-        let end = self.place.along(n);
-        let span = self.place.to(end);
-        self.place = end;
-        self.rest = rest;
-        self.ahead = Ahead::Nothing;
-        span
-    }
-
-    // Passes over the next bytes, if there are any.
-    #[inline(always)]
-    fn pass(&mut self, n: usize)
-        requires { IsCharBoundary self.old.rest n }
-        ensures { self.new ≡ record self.old {
-          front = self.old.front ++ take n self.old.rest;
-          rest = drop n self.old.rest;
-        } }
-    {
-        if n > 0 {
-            let _ = self.advance(n);
-        }
     }
 
     // Tells a fault in the next bytes, after which nothing comes.
@@ -204,10 +173,11 @@ impl<'a> Scanner<'a> {
         requires outside { self.old.tag ≡ None }
         ensures { Steps (stream_of self.old) result (stream_of self.new) }
     {
+        let known = self.ahead_at == self.place.byte;
         match self.ahead {
-            Ahead::Nothing => self.unseen(),
-            Ahead::Comment(len) => Some(Ok(self.closed_comment(true, len))),
-            Ahead::Raw(opening, end) => Some(Ok(self.closed_raw(true, opening, end))),
+            Ahead::Comment(len) if known => Some(Ok(self.closed_comment(true, len))),
+            Ahead::Raw(opening, end) if known => Some(Ok(self.closed_raw(true, opening, end))),
+            _ => self.unseen(),
         }
     }
 
@@ -221,7 +191,7 @@ impl<'a> Scanner<'a> {
         if rest.is_empty() {
             return None;
         }
-        match start_of(rest, &self.delimiters) {
+        match self.pairs.start_of(rest) {
             Start::Variable(dash) => Some(Ok(self.variable(dash))),
             Start::Block(dash) => Some(self.block(dash)),
             Start::Comment(dash) => Some(self.comment(dash)),
@@ -238,14 +208,27 @@ impl<'a> Scanner<'a> {
         ensures { Steps (stream_of self.old) (Some (Ok result)) (stream_of self.new) }
     {
         let rest = self.rest();
-        let len = text_len(rest, &self.delimiters);
+        let len = text_len(rest, &self.pairs);
         let (text, behind) = rest.split_at(len);
-        let (trim_end, ahead) = look_ahead(false, behind, &self.delimiters);
+        let (trim_end, ahead) = look_ahead(false, behind, &self.pairs, &self.delimiters);
         let text = trimmed(text, self.trim, trim_end);
         let (_, span) = self.advance(len);
         self.trim = false;
-        self.ahead = ahead;
+        self.keep(ahead);
         (Token::Content(text), span)
+    }
+
+    // Keeps what is known of the piece that comes next.
+    #[inline(always)]
+    fn keep(&mut self, ahead: Ahead)
+        requires { IsAhead self.old.marks self.old.rest ahead }
+        ensures { self.new ≡ self.old }
+    {
+        if let Ahead::Nothing = ahead {
+            return;
+        }
+        self.ahead = ahead;
+        self.ahead_at = self.place.byte;
     }
 
     // The start of a variable tag.
@@ -280,6 +263,7 @@ impl<'a> Scanner<'a> {
     }
 
     // A raw piece, which this tag opens.
+    #[inline(never)]
     fn raw(&mut self, dash: bool, opening: WordTag) -> Result<(Token<'a>, Span), Error>
         requires going { self.old.failed ≡ false }
         requires outside { self.old.tag ≡ None }
@@ -297,6 +281,7 @@ impl<'a> Scanner<'a> {
     }
 
     // The same, which that tag closes.
+    #[inline(never)]
     fn closed_raw(
         &mut self,
         dash: bool,
@@ -317,11 +302,12 @@ impl<'a> Scanner<'a> {
         let (text, _) = body.split_at(len);
         let (_, behind) = self.rest().split_at(whole);
         let trim_start = opening.dash_out || self.trim;
-        let (trim_end, ahead) = look_ahead(closing.dash_in, behind, &self.delimiters);
+        let (pairs, delimiters) = (&self.pairs, &self.delimiters);
+        let (trim_end, ahead) = look_ahead(closing.dash_in, behind, pairs, delimiters);
         let text = trimmed(text, trim_start, trim_end);
         let (_, span) = self.advance(whole);
         self.trim = closing.dash_out;
-        self.ahead = ahead;
+        self.keep(ahead);
         (Token::Content(text), span)
     }
 
@@ -362,6 +348,64 @@ impl<'a> Scanner<'a> {
         (Token::Content(""), span)
     }
 
+    // Takes the next bytes, which are printable, so that there is no need to look at them, and says where they stand.
+    #[inline(always)]
+    fn advance_plain(&mut self, n: usize) -> Span
+        requires cut { IsCharBoundary self.old.rest n }
+        requires printable { ArePrintable (take n self.old.rest) }
+        ensures state { self.new ≡ record self.old {
+          front = self.old.front ++ take n self.old.rest;
+          rest = drop n self.old.rest;
+        } }
+        ensures span { result ≡ span_of self.old.front (take n self.old.rest) }
+        ensures within { IsWithin (whole_of self.old) result }
+    {
+        let (_, rest) = self.rest.split_at(n);
+        let end = self.place.along(n);
+        let span = self.place.to(end);
+        self.place = end;
+        self.rest = rest;
+        span
+    }
+
+    // Takes the next bytes, of which most are short and printable, and says where they stand.
+    #[inline(always)]
+    fn advance_string(&mut self, n: usize) -> Span
+        requires { IsCharBoundary self.old.rest n }
+        ensures state { self.new ≡ record self.old {
+          front = self.old.front ++ take n self.old.rest;
+          rest = drop n self.old.rest;
+        } }
+        ensures span { result ≡ span_of self.old.front (take n self.old.rest) }
+        ensures within { IsWithin (whole_of self.old) result }
+    {
+        let rest = self.rest();
+        if begins_printable(rest.as_bytes(), n) {
+            return self.advance_plain(n);
+        }
+        let (_, span) = self.advance(n);
+        span
+    }
+
+    // Passes over the next bytes, if there are any. Most often it is one space.
+    #[inline(always)]
+    fn pass(&mut self, n: usize)
+        requires { IsCharBoundary self.old.rest n }
+        ensures { self.new ≡ record self.old {
+          front = self.old.front ++ take n self.old.rest;
+          rest = drop n self.old.rest;
+        } }
+    {
+        if n == 0 {
+            return;
+        }
+        if n == 1 && self.rest.as_bytes()[0] == b' ' {
+            let _ = self.advance_plain(n);
+        } else {
+            let _ = self.advance(n);
+        }
+    }
+
     // The next token inside a tag.
     fn inside(&mut self, kind: Kind) -> Option<Result<(Token<'a>, Span), Error>>
         requires going { self.old.failed ≡ false }
@@ -395,7 +439,7 @@ impl<'a> Scanner<'a> {
                 Ok((token, span))
             }
             Found::Text(inside, len) => {
-                let (_, span) = self.advance(len);
+                let span = self.advance_string(len);
                 Ok((Token::Str(inside), span))
             }
             Found::Escaped(inside, len) => self.escaped(kind, inside, len),

@@ -1,5 +1,4 @@
 use Rattle.std.proofs.Common.{◌≡◌, ◌+◌, List, ℕ, Option, Some, None, true, false, ap, sym, subst, refl, ◌∙◌, drop, IsUtf8}
-use Rattle.std.specs.Str.{IsCharBoundary}
 use Rattle.std.proofs.lemmas.List.{drop-drop}
 use Rattle.tera_lexer.specs.grammar.Marks.{marks_of}
 use Rattle.tera_lexer.specs.grammar.Raw.{raw_word}

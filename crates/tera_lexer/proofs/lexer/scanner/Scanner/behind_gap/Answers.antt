@@ -37,9 +37,9 @@ advance_plain-span-requires-clause-printable c =
     let at = goal.at.advance_plain-span-requires-clause-printable c in
     plain_printable c.args.self.now.rest (seen c.in-Lexeme.token) c.in-Lexeme.len (front_of c.args.self.now.rest) (front_here c.args.self.now.rest c.requires.some) (rw c.in-Lexeme.is at (found_is at.After-lexeme_at))
 
-pub advance-requires : goal.advance-requires
-advance-requires c =
-    let at = goal.at.advance-requires c in
+pub advance_string-span-requires : goal.advance_string-span-requires
+advance_string-span-requires c =
+    let at = goal.at.advance_string-span-requires c in
     found_cut c.args.self.now.rest (Text c.in-Text.inside c.in-Text.len) (utf8 at.After-end_at) c.requires.some (rw c.in-Text.is at (found_is at.After-lexeme_at))
 
 pub escaped-requires-clause-cut : goal.escaped-requires-clause-cut
@@ -62,8 +62,8 @@ returns-in-Lexeme c =
 pub returns-in-Text : goal.returns-in-Text
 returns-in-Text c =
     let at = goal.at.returns-in-Text c in
-    lexeme_step c.args.self.now c.requires.going c.args.kind c.requires.inside c.rest-rest.ensures.valid c.requires.stops c.requires.some (rw c.in_default.is at (end_is at.After-end_at)) c.advance.new.self (Str c.in-Text.inside) c.advance.result.1 c.in-Text.len
-    (front_of c.args.self.now.rest) refl (front_here c.args.self.now.rest c.requires.some) (rw c.in-Text.is at (found_is at.After-lexeme_at)) c.advance.ensures.state c.advance.ensures.span c.advance.ensures.within
+    lexeme_step c.args.self.now c.requires.going c.args.kind c.requires.inside c.rest-rest.ensures.valid c.requires.stops c.requires.some (rw c.in_default.is at (end_is at.After-end_at)) c.advance_string-span.new.self (Str c.in-Text.inside) c.advance_string-span.result c.in-Text.len
+    (front_of c.args.self.now.rest) refl (front_here c.args.self.now.rest c.requires.some) (rw c.in-Text.is at (found_is at.After-lexeme_at)) c.advance_string-span.ensures.state c.advance_string-span.ensures.span c.advance_string-span.ensures.within
 
 pub returns-in-Fault : goal.returns-in-Fault
 returns-in-Fault c =

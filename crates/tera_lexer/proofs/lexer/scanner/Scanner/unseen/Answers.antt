@@ -1,4 +1,4 @@
-use Rattle.std.proofs.Common.{◌≡◌, ◌<◌, length, sym, subst, ap, ◌∙◌, arith, false, false-eqb, List, ℕ}
+use Rattle.std.proofs.Common.{◌≡◌, length, sym, subst, ap, ◌∙◌, arith, false-eqb, List, ℕ}
 use Rattle.std.proofs.lemmas.Bool.Decides.{Decides-eqb}
 use Rattle.tera_lexer.specs.grammar.Marks.{Marks, marks_of}
 use Rattle.tera_lexer.specs.reading.State.{Progress}
@@ -17,7 +17,7 @@ returns-then-is_empty c =
 start_is : (c : After-start_of) → (s : Start) → c.start_of.result ≡ s → IsStart c.args.self.now.marks c.args.self.now.rest s
 start_is c s is =
     subst (λ (m : Marks). IsStart m c.args.self.now.rest s) (ap (λ (r : Progress). r.marks) c.self.view_is)
-    (subst (λ (l : List ℕ). IsStart (marks_of c.self.inside.delimiters) l s) c.rest-rest.ensures.rest (rw is at c.start_of.ensures))
+    (subst (λ (l : List ℕ). IsStart (marks_of c.self.inside.delimiters) l s) c.rest-rest.ensures.rest (rw is at (c.start_of.ensures (marks_of c.self.inside.delimiters) c.self.invariant.pairs)))
 
 pub variable-requires-clause-starts : goal.variable-requires-clause-starts
 variable-requires-clause-starts c = start_is (goal.at.variable-requires-clause-starts c).After-start_of _ c.in-Variable.is
