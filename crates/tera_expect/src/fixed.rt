@@ -100,11 +100,11 @@ impl Fixed {
         ensures { result ≡ same_token (Ident word.now) (mark_token (mark_of self)) }
     {
         match self {
-            Fixed::For => word == "for",
-            Fixed::In => word == "in",
-            Fixed::If => word == "if",
-            Fixed::Else => word == "else",
-            Fixed::Not => word == "not",
+            Fixed::For => matches!(word.as_bytes(), b"for"),
+            Fixed::In => matches!(word.as_bytes(), b"in"),
+            Fixed::If => matches!(word.as_bytes(), b"if"),
+            Fixed::Else => matches!(word.as_bytes(), b"else"),
+            Fixed::Not => matches!(word.as_bytes(), b"not"),
             _ => false,
         }
     }

@@ -97,14 +97,14 @@ fn symbol_front(token: &Token<'_>) -> Front
 fn word_front(word: &str, before_in: bool) -> Front
     ensures { front_kind result ≡ word_kind word.now before_in }
 {
-    match word {
-        "or" => Front::Joins(Operator::Or, false),
-        "and" => Front::Joins(Operator::And, false),
-        "in" => Front::Joins(Operator::In, false),
-        "not" if before_in => Front::Joins(Operator::In, true),
-        "not" => Front::Misplaced,
-        "is" => Front::Closes(Ending::Test),
-        "if" => Front::Chooses,
+    match word.as_bytes() {
+        b"or" => Front::Joins(Operator::Or, false),
+        b"and" => Front::Joins(Operator::And, false),
+        b"in" => Front::Joins(Operator::In, false),
+        b"not" if before_in => Front::Joins(Operator::In, true),
+        b"not" => Front::Misplaced,
+        b"is" => Front::Closes(Ending::Test),
+        b"if" => Front::Chooses,
         _ => Front::Nothing,
     }
 }
@@ -115,7 +115,7 @@ fn in_is_second(cursor: &Cursor<'_>) -> bool
     ensures { result ≡ second_is_in cursor.now.left }
 {
     match cursor.second() {
-        Some(Token::Ident(word)) => *word == "in",
+        Some(Token::Ident(word)) => matches!(word.as_bytes(), b"in"),
         _ => false,
     }
 }

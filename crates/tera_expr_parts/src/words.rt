@@ -8,14 +8,14 @@ ghost use Rattle.tera_grammar.specs.Words.{is_none, is_not, is_reserved};
 pub fn is_none(name: &str) -> bool
     ensures { result ≡ is_none name.now }
 {
-    matches!(name, "none" | "None" | "null")
+    matches!(name.as_bytes(), b"none" | b"None" | b"null")
 }
 
 /// Whether the name is the negation.
 pub fn is_not(name: &str) -> bool
     ensures { result ≡ is_not name.now }
 {
-    name == "not"
+    matches!(name.as_bytes(), b"not")
 }
 
 /// Whether no variable has the name.
