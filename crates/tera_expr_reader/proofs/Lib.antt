@@ -1,3 +1,4 @@
+pub mod LoneLemmas
 pub mod StackLemmas
 pub mod RowsLemmas
 pub mod ArgumentsLemmas

@@ -5,3 +5,4 @@ pub mod Chains
 pub mod Calls
 pub mod Attributes
 pub mod Outermost
+pub mod Lone

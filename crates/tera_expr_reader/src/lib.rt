@@ -4,8 +4,9 @@
 //! gives (the clauses `gives`). It stands on `tera_expr_parts`. Its functions call one another and are proved together,
 //! as the cycle `reader`; the answers to their goals stand in `proofs/+reader`.
 //!
-//! In the order of reading: `outermost`, the calls for the crates above; `frames` and `stack`, the loop over what is
-//! open; `chains` and `subscripts`; `calls` and `arguments`; `rows`, `arrays` and `maps`; `component_calls`; `faults`.
+//! In the order of reading: `outermost`, the calls for the crates above; `lone`, expressions of one token; `frames` and
+//! `stack`, the loop over what is open; `chains` and `subscripts`; `calls` and `arguments`; `rows`, `arrays` and
+//! `maps`; `component_calls`; `faults`.
 #![tactic(auto)]
 
 mod arguments;
@@ -15,6 +16,7 @@ mod chains;
 mod component_calls;
 mod faults;
 mod frames;
+mod lone;
 mod maps;
 mod outermost;
 mod rows;

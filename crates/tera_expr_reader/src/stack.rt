@@ -19,6 +19,7 @@ use crate::calls::suffix;
 use crate::chains::chain;
 use crate::component_calls::component;
 use crate::frames::{Frame, Level, Operand, State};
+use crate::lone::lone;
 use crate::maps::map;
 use tera_base::{Error, Span};
 use tera_expect::{Fixed, expect, take};
@@ -32,6 +33,7 @@ use tera_tree::{Expression, UnaryOperator, build};
 
 /// Reads an expression, from a least power on, where so many may open.
 #[cycle(reader)]
+#[tactic(auto, using(tera_expect::proofs::TakingLemmas::memory_refused))]
 pub(crate) fn expression(
     cursor: &mut Cursor<'_>,
     links: &mut usize,
@@ -45,6 +47,9 @@ pub(crate) fn expression(
     ensures refusal { IfErr result (Refuses cursor.old) }
     ensures later { IfOk result (λ _. Took cursor.old cursor.new) }
 {
+    if let Some(expr) = lone(cursor, depth)? {
+        return Ok(expr);
+    }
     let mut frames = Vec::new(cursor.alloc());
     let mut state = State::Wants(depth, least);
     'steps: loop {

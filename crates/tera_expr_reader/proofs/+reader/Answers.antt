@@ -32,6 +32,9 @@ stack::expression-turn-requires t c = turns.stack::expression-turn-requires t c
 pub stack::expression-steps-init : goal.stack::expression-steps-init
 stack::expression-steps-init t c = turns.stack::expression-steps-init t c
 
+pub stack::expression-returns-in-Some-clause-gives : goal.stack::expression-returns-in-Some-clause-gives
+stack::expression-returns-in-Some-clause-gives t c = turns.stack::expression-returns-in-Some-clause-gives t c
+
 pub stack::expression-returns-in_err-next-in-Wants-clause-refusal : goal.stack::expression-returns-in_err-next-in-Wants-clause-refusal
 stack::expression-returns-in_err-next-in-Wants-clause-refusal t c = turns.stack::expression-returns-in_err-next-in-Wants-clause-refusal t c
 

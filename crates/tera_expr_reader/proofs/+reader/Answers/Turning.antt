@@ -1,6 +1,7 @@
 -- Of expressions that are taken turn by turn.
 use Rattle.std.proofs.Common.{◌≡◌, length, ap, sym, subst, ◌∙◌, inr, arith}
 use Rattle.std.proofs.lemmas.Result.{err_from_is_err_and}
+use Rattle.tera_lexer.specs.code.Cursors.{Position}
 use Rattle.tera_nodes.specs.View.{expression_view}
 use Rattle.tera_grammar.proofs.expressions.Stack.{unframed, pushed, unwind_none, keeps_as, refuses_all}
 use Rattle.tera_grammar.specs.expressions.Reading.Front.{at}
@@ -8,7 +9,9 @@ use Rattle.tera_grammar.specs.expressions.Stack.{comes_to, coming, unwind}
 use Rattle.tera_expr_reader.specs.Frames.{frame_view, state_view, Went, level_view, operand_view, HoldsNegatable}
 use Rattle.tera_expr_parts.specs.Fronts.{front_kind, keeps_off, operator_of}
 use Rattle.tera_expr_parts.specs.Rooms.{room_of}
+use Rattle.tera_expect.specs.Taking.{GoesOn}
 use Rattle.tera_expect.proofs.TakingLemmas.{stays, goes_took, took_further, refused_further, goes_size}
+use Rattle.tera_expr_reader.proofs.LoneLemmas.{lone_read}
 use Rattle.tera_expr_reader.proofs.StackLemmas.{went_goes, took_went, closes_up, joins_more, no_link_joins, no_link_closes, chooses_more, grows_by, grows_not, goes_no_further}
 use Rattle.tera_expr_reader.proofs.+reader.Goals as goal
 
@@ -21,11 +24,22 @@ stack::expression-turn-requires t c = (
 pub stack::expression-steps-init : goal.stack::expression-steps-init
 stack::expression-steps-init t c =
     let empty : length c.new-frames.result.items ≡ 0 = ap length c.new-frames.ensures.items in
-    record { same = sym (unframed frame_view _ _ _ empty); went = stays c.args.cursor.now; negatable = tt }
+    let unmoved : c.lone.new.cursor ≡ c.args.cursor.now = (rw c.in_default.is at c.in_ok-expr.ensures).1 in
+    record {
+      same = subst (λ (p : Position). unwind frame_view (room_of c.args.room) c.new-frames.result.items (coming c.args.depth (room_of c.args.room) c.args.least (at c.args.links.now p.left))
+          ≡ coming c.args.depth (room_of c.args.room) c.args.least (at c.args.links.now c.args.cursor.now.left)) (sym unmoved) (sym (unframed frame_view _ _ _ empty));
+      went = subst (GoesOn c.args.cursor.now) (sym unmoved) (stays c.args.cursor.now);
+      negatable = tt;
+    }
+
+pub stack::expression-returns-in-Some-clause-gives : goal.stack::expression-returns-in-Some-clause-gives
+stack::expression-returns-in-Some-clause-gives t c =
+    let lone = rw c.in-Some.is at c.in_ok-expr.ensures in
+    lone_read c.args.depth (room_of c.args.room) c.args.least c.args.links.now c.args.cursor.now.left c.lone.new.cursor.left (expression_view c.in-Some.expr) lone.0
 
 pub stack::expression-returns-in_err-next-in-Wants-clause-refusal : goal.stack::expression-returns-in_err-next-in-Wants-clause-refusal
 stack::expression-returns-in_err-next-in-Wants-clause-refusal t c =
-    let p = err_from_is_err_and c.from_residual.result c.from_residual.ensures.1 in
+    let p = err_from_is_err_and c.from_residual-in_err-next-in-Wants.result c.from_residual-in_err-next-in-Wants.ensures.1 in
     rw (p.1, p.2) (refused_further _ c.steps.cursor _ (went_goes c.steps.state _ _ c.steps.invariant.went) c.in_err-next-in-Wants.ensures.refusal)
 
 pub stack::expression-returns-in_err-next-in-Holds-clause-refusal : goal.stack::expression-returns-in_err-next-in-Holds-clause-refusal
