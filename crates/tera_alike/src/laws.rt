@@ -1,8 +1,8 @@
 //! Laws of tokens and of sources that are the same apart from places: each function has the law as
 //! its promise and does nothing.
 
-ghost use Rattle.std.specs.Prelude.{◌≡◌, ◌↔◌, ℕ, List};
-ghost use Rattle.tera_lexer.specs.grammar.Marks.{Marks, IsValid, default_marks};
+ghost use Rattle.std.specs.Prelude.{◌≡◌, ◌↔◌, ℕ, true, List};
+ghost use Rattle.tera_lexer.specs.grammar.Marks.{Marks, IsValid};
 ghost use Rattle.tera_lexer.specs.grammar.Tokens.{Items};
 ghost use Rattle.tera_tree.specs.Tree.{Output};
 ghost use Rattle.tera_grammar.specs.Limits.{Limits};
@@ -11,6 +11,7 @@ ghost use Rattle.tera_grammar.specs.statements.Top.{IsTemplate, Derives};
 ghost use Rattle.tera_layout.specs.Alike.{AreAlike, AreAlikeSources};
 ghost use Rattle.tera_layout.specs.Layout.{IsLaidOut};
 ghost use Rattle.tera_layout.specs.Respaced.{IsRespaced};
+ghost use Rattle.tera_layout.specs.Steady.{is_steady};
 ghost use Rattle.tera_alike.specs.Outputs.{placeless_output, IsAlike};
 
 /// Where tokens are the same apart from places, a template of the one within the limits gives one of
@@ -43,12 +44,14 @@ pub fn respaced()
         placeless_output x ≡ placeless_output y }
 {}
 
-/// So it is of a source and its layout.
+/// So it is of a source and its layout between steady markers.
 pub fn layout()
-    ensures derived { (limits : Limits) (one other : List ℕ) → IsLaidOut one other →
-        ((x : Output) × Derives limits default_marks one x)
-        ↔ ((y : Output) × Derives limits default_marks other y) }
-    ensures same { (limits : Limits) (one other : List ℕ) → IsLaidOut one other →
-        (x y : Output) → Derives limits default_marks one x →
-        Derives limits default_marks other y → placeless_output x ≡ placeless_output y }
+    ensures derived { (limits : Limits) (m : Marks) → IsValid m → is_steady m ≡ true →
+        (one other : List ℕ) → IsLaidOut m one other →
+        ((x : Output) × Derives limits m one x)
+        ↔ ((y : Output) × Derives limits m other y) }
+    ensures same { (limits : Limits) (m : Marks) → IsValid m → is_steady m ≡ true →
+        (one other : List ℕ) (x y : Output) → IsLaidOut m one other →
+        Derives limits m one x → Derives limits m other y →
+        placeless_output x ≡ placeless_output y }
 {}

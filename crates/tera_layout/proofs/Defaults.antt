@@ -1,7 +1,8 @@
--- The default markers.
-use Rattle.std.proofs.Common.{◌≡◌, ℕ, List, refl, sym, subst}
+-- The default markers, and tokens between markers that are the same.
+use Rattle.std.proofs.Common.{◌≡◌, ℕ, true, List, refl, sym, ap, ◌∙◌, subst}
 use Rattle.tera_lexer.specs.grammar.Marks.{Marks, IsValid, default_marks}
 use Rattle.tera_lexer.specs.grammar.Tokens.{Items, AreTokensOf}
+use Rattle.tera_layout.specs.Steady.{is_steady}
 
 pub default_valid : IsValid default_marks
 default_valid = record {
@@ -16,8 +17,10 @@ default_valid = record {
   variable_comment = λ e. cc;
 }
 
--- tokens between markers that are the default ones
-pub default_tokens : (m : Marks) (source : List ℕ) (one other : Items) → m ≡ default_marks → other ≡ one →
-    AreTokensOf m source one → AreTokensOf default_marks source other
-default_tokens m source one other default same are =
-    subst (AreTokensOf default_marks source) (sym same) (subst (λ n. AreTokensOf n source one) default are)
+pub default_steady : (m : Marks) → m ≡ default_marks → is_steady m ≡ true
+default_steady m same = ap is_steady same
+
+pub same_tokens : (n m : Marks) (source : List ℕ) (one other : Items) → n ≡ m → other ≡ one →
+    AreTokensOf n source one → AreTokensOf m source other
+same_tokens n m source one other marks same are =
+    subst (AreTokensOf m source) (sym same) (subst (λ k. AreTokensOf k source one) marks are)

@@ -1,6 +1,7 @@
 pub mod Defaults
 pub mod Respaced
 pub mod Likeness
+pub mod Steadies
 pub mod Openings
 pub mod RawPieces
 pub mod Narrowed

@@ -1,42 +1,44 @@
 -- A source whose tags have other white space, where what touches stays apart, is divided into the same pieces.
-use Rattle.std.proofs.Common.{◌≡◌, ◌<◌, ℕ, Bool, true, false, ◌&&◌, ◌||◌, List, [], ◌∷◌, ◌++◌, length, map, inl, inr, ⊎_elim, ap, ap₂, sym, ◌∙◌, refl, subst, codes, arith}
+use Rattle.std.proofs.Common.{◌≡◌, ◌<◌, ℕ, Bool, true, false, not, ◌&&◌, ◌||◌, List, [], ◌∷◌, ◌++◌, length, map, inl, inr, ⊎_elim, ap, ap₂, sym, ◌∙◌, refl, subst, arith}
 use Rattle.std.specs.Prelude.{nat_eq}
 use Rattle.std.specs.List.{AllByRecursion}
 use Rattle.std.proofs.lemmas.Bool.Decides.{nat_tests}
 use Rattle.std.specs.Char.{is_ascii_whitespace}
 use Rattle.tera_lexer.specs.declared.lexer.delimiters.Kind.{Kind}
 use Rattle.tera_lexer.specs.declared.lexer.delimiters.Kind.TheVariants.{Variable, Block}
-use Rattle.tera_lexer.specs.grammar.Marks.{default_marks, begins, dash_bytes, TakesDash}
+use Rattle.tera_lexer.specs.grammar.Marks.{Marks, IsValid, begins, dash_bytes, TakesDash}
 use Rattle.tera_lexer.specs.grammar.Lexeme.{StopsAt, IsGap, Item, Lexeme, spelled, IsLexeme, End, is_at_end, IsEnd, IsInside}
 use Rattle.tera_lexer.specs.grammar.Division.{is_at_start, EndsText, Piece, Text, Comment, Raw, Tag, Complete, IsPiece, IsDivision}
 use Rattle.tera_lexer.specs.grammar.Raw.{raw_word, endraw_word}
 use Rattle.tera_lexer.proofs.Insides.{spelled_some}
 use Rattle.tera_lexer.proofs.Markers.{or_false}
 use Rattle.tera_layout.specs.Respaced.{without_gap, without_gaps, IsRespaced}
-use Rattle.tera_layout.specs.Apart.{joins, last_from, may_touch, may_touch_first, stay_apart}
+use Rattle.tera_layout.specs.Apart.{last_from, first_from, in_end, may_touch_first, meet_in_end, stay_apart}
+use Rattle.tera_layout.specs.Steady.{is_steady}
 use Rattle.tera_layout.specs.Widened.{items_bytes, word_tag_front, piece_bytes, pieces_bytes, Widens, AreWidenedItems, IsWidened, AreWidened}
 use Rattle.tera_layout.specs.Narrowed.{Narrows, AreNarrowedBehind, AreNarrowedItems, IsNarrowed, AreNarrowed}
-use Rattle.tera_layout.proofs.Likeness.{Agree, agree_less, agree_behind, begins_agree, nowhere_agree, dash_agree, BeginAlike, begin_behind, begin_gap, Like, IsSolid, IsShort, front_not, Beside, beside_like, beside_front, lexeme_beside}
+use Rattle.tera_layout.proofs.Likeness.{joins, and_ok, not_true, Agree, agree_less, agree_behind, begins_agree, nowhere_agree, dash_agree, BeginAlike, begin_behind, begin_gap, Like, IsSolid, IsShort, front_not, Beside, beside_like, beside_front, lexeme_beside}
 use Rattle.tera_layout.proofs.Openings.{opens_no_raw}
 use Rattle.tera_layout.proofs.RawPieces.{word_tag_moved, raw_dash, body_moved}
+use Rattle.tera_layout.proofs.Steadies.{Two, Twelve, both, marks_by, twelve_of, Sign, SteadyEnd, Steady, steady_of, EndOf, variable_ends, block_ends}
 
 -- no white space begins what some bytes begin, if that was so
 stops_before : (p : ℕ → Bool) (front old new : List ℕ) → 0 < length front → StopsAt p (front ++ old) → StopsAt p (front ++ new)
 stops_before p [] old new some h = absurd (omega (arith, some))
 stops_before p (b ∷ bs) old new some h = h
 
--- The inside of a tag, before an end marker of two bytes
-module _ (x y : ℕ) (solid : IsSolid (x ∷ y ∷ [])) (no_dash : nat_eq 45 x ≡ false) (linked : joins x y ≡ true) (dashed : joins 45 x ≡ true) where
+-- The inside of a tag, before an end marker
+module _ (m : Marks) (t : Two) (steady : SteadyEnd t) (ends : EndOf m t) where
   abbrev marker : List ℕ
-  marker = x ∷ y ∷ []
+  marker = both t
 
-  at_end_like : (front old new : List ℕ) → 0 < length front → Like (last_from 0 front) 2 old new →
+  at_end_like : (front old new : List ℕ) → 0 < length front → Like m (last_from 0 front) 2 old new →
       is_at_end marker (front ++ old) ≡ false → is_at_end marker (front ++ new) ≡ false
   at_end_like front old new some h none =
       let (first, second) = or_false (begins (45 ∷ marker) (front ++ old)) (begins marker (front ++ old)) none in
       ap₂ (λ a b. a || b)
-      (front_not front (45 ∷ marker) old new some (refl, solid, (dashed, (linked, tt))) h first)
-      (front_not front marker old new some (refl, solid.1, (linked, tt)) h second)
+      (front_not m front (45 ∷ marker) old new some (refl, steady.solid, (ends.dashed, (ends.linked, tt))) h first)
+      (front_not m front marker old new some (refl, steady.solid.1, (ends.linked, tt)) h second)
 
   -- the end of the tag
   abbrev closed : Bool → List ℕ → List ℕ
@@ -44,46 +46,51 @@ module _ (x y : ℕ) (solid : IsSolid (x ∷ y ∷ [])) (no_dash : nat_eq 45 x �
 
   end_begins : (dash : Bool) (r s : List ℕ) → BeginAlike (closed dash r) (closed dash s)
   end_begins true r s = inr (marker ++ r, refl)
-  end_begins false r s = inr (y ∷ r, refl)
+  end_begins false r s = inr (t.two ∷ r, refl)
 
-  end_beside : (l : Lexeme) (dash : Bool) (r s : List ℕ) → Beside l (closed dash r) (closed dash s)
-  end_beside l true r s = inr (inr (marker ++ r, refl, inr (inr (y ∷ r, refl, tt))))
-  end_beside l false r s = inr (inr (y ∷ r, refl, inr (inr (r, refl, tt))))
+  end_beside : (l : Lexeme) (dash : Bool) (r s : List ℕ) → Beside m l (closed dash r) (closed dash s)
+  end_beside l true r s = inr (inr (marker ++ r, refl, inr (inr (t.two ∷ r, refl, tt))))
+  end_beside l false r s = inr (inr (t.two ∷ r, refl, inr (inr (r, refl, tt))))
 
   end_stands : (dash : Bool) (s : List ℕ) → IsEnd marker dash (closed dash s) s
   end_stands true s = refl
-  end_stands false s = (refl, ap (λ b. b && begins (x ∷ y ∷ []) (y ∷ s)) no_dash)
+  end_stands false s = (refl, ap (λ b. b && begins marker (t.two ∷ s)) steady.sign.no_dash)
 
   end_stops : (dash : Bool) (s : List ℕ) → StopsAt is_ascii_whitespace (closed dash s)
   end_stops true s = refl
-  end_stops false s = solid.0
+  end_stops false s = steady.solid.0
 
   end_is : (dash : Bool) (at r : List ℕ) → IsEnd marker dash at r → at ≡ closed dash r
   end_is true at r h = h
   end_is false at r h = h.0
 
   -- beside a lexeme: a gap in the place of another, before the same
-  beside_gap : (l : Lexeme) (gap new a b : List ℕ) → Widens gap new → Beside l a b → Beside l (gap ++ a) (new ++ b)
-  beside_gap l gap [] a b widens h = subst (λ g. Beside l (g ++ a) b) (sym (widens.1 refl)) h
+  beside_gap : (l : Lexeme) (gap new a b : List ℕ) → Widens gap new → Beside m l a b → Beside m l (gap ++ a) (new ++ b)
+  beside_gap l gap [] a b widens h = subst (λ g. Beside m l (g ++ a) b) (sym (widens.1 refl)) h
   beside_gap l gap (w ∷ new) a b widens h = inl widens.0.0
 
-  touching : (l : Lexeme) (text old new : List ℕ) (r : Lexeme) → text ≡ spelled r → 0 < length text → stay_apart l r ≡ true → Beside l old (text ++ new)
+  touching : (l : Lexeme) (text old new : List ℕ) (r : Lexeme) → text ≡ spelled r → 0 < length text → stay_apart m l r ≡ true → Beside m l old (text ++ new)
   touching l [] old new r is some apart = absurd (omega (arith, some))
-  touching l (c ∷ text) old new r is some apart = inr (inl (ap (may_touch_first l) is ∙ apart))
+  touching l (c ∷ text) old new r is some apart =
+      let (touch, no_end) = and_ok (may_touch_first l (spelled r)) (not (meet_in_end m (spelled l) (spelled r))) apart in
+      inr (inl (
+        ap (may_touch_first l) is ∙ touch,
+        ap (λ b. in_end m (last_from 0 (spelled l)) (first_from b)) is ∙ not_true (meet_in_end m (spelled l) (spelled r)) no_end,
+      ))
 
-  beside_narrow : (l r : Lexeme) (gap new a b : List ℕ) → 0 < length (spelled r) → Narrows l r gap new → Beside l (spelled r ++ a) (spelled r ++ b) →
-      Beside l (gap ++ (spelled r ++ a)) (new ++ (spelled r ++ b))
+  beside_narrow : (l r : Lexeme) (gap new a b : List ℕ) → 0 < length (spelled r) → Narrows m l r gap new → Beside m l (spelled r ++ a) (spelled r ++ b) →
+      Beside m l (gap ++ (spelled r ++ a)) (new ++ (spelled r ++ b))
   beside_narrow l r gap [] a b some narrows h =
       ⊎_elim
-      (λ (none : gap ≡ []). subst (λ g. Beside l (g ++ (spelled r ++ a)) (spelled r ++ b)) (sym none) h)
-      (λ (apart : stay_apart l r ≡ true). touching l (spelled r) (gap ++ (spelled r ++ a)) b r refl some apart)
+      (λ (none : gap ≡ []). subst (λ g. Beside m l (g ++ (spelled r ++ a)) (spelled r ++ b)) (sym none) h)
+      (λ (apart : stay_apart m l r ≡ true). touching l (spelled r) (gap ++ (spelled r ++ a)) b r refl some apart)
       (narrows.1 refl)
   beside_narrow l r gap (w ∷ new) a b some narrows h = inl narrows.0.0
 
   -- it has the same lexemes behind other white space, and behind a lexeme
   record Behind (l : Lexeme) (js : List Item) (new : List ℕ) (dash : Bool) (bytes s : List ℕ) : Type 0 where
     pub stands : IsInside marker js (End new dash s) (items_bytes js (new ++ closed dash s))
-    pub beside : Beside l bytes (items_bytes js (new ++ closed dash s))
+    pub beside : Beside m l bytes (items_bytes js (new ++ closed dash s))
 
   -- one lexeme, before those behind it
   item_stands : (i j : Item) (js : List Item) (new : List ℕ) (dash : Bool) (s rest : List ℕ) → j.lexeme ≡ i.lexeme →
@@ -94,23 +101,23 @@ module _ (x y : ℕ) (solid : IsSolid (x ∷ y ∷ [])) (no_dash : nat_eq 45 x �
       let behind : List ℕ = items_bytes js (new ++ closed dash s) in
       let some = spelled_some i.lexeme rest stands in
       let front : List ℕ = spelled i.lexeme in
-      let like = beside_like i.lexeme rest behind stands more.beside in
+      let like = beside_like m i.lexeme rest behind stands more.beside in
       let back : (P : Lexeme → Type 0) → P i.lexeme → P j.lexeme = λ P h. subst P (sym lexeme) h in (
         behind,
         refl,
         (white, back (λ l. StopsAt is_ascii_whitespace (spelled l ++ behind)) (stops_before is_ascii_whitespace front rest behind some is_gap.1)),
         back (λ l. is_at_end marker (spelled l ++ behind) ≡ false) (at_end_like front rest behind some like no_end),
-        back (λ l. IsLexeme l behind) (lexeme_beside i.lexeme rest behind more.beside stands),
+        back (λ l. IsLexeme l behind) (lexeme_beside m i.lexeme rest behind more.beside stands),
         more.stands,
       )
 
-  inside_behind : (l : Lexeme) (is js : List Item) → AreNarrowedBehind l is js → (gap new : List ℕ) → Widens gap new → (dash : Bool) (r s bytes : List ℕ) →
+  inside_behind : (l : Lexeme) (is js : List Item) → AreNarrowedBehind m l is js → (gap new : List ℕ) → Widens gap new → (dash : Bool) (r s bytes : List ℕ) →
       IsInside marker is (End gap dash r) bytes → Behind l js new dash bytes s
   inside_behind l [] [] same gap new widens dash r s bytes (at, splits, is_gap, ends) = record {
     stands = (closed dash s, refl, (widens.0, end_stops dash s), end_stands dash s);
     beside =
         let whole : bytes ≡ gap ++ closed dash r = splits ∙ ap (λ b. gap ++ b) (end_is dash at r ends) in
-        subst (λ b. Beside l b (new ++ closed dash s)) (sym whole) (beside_gap l gap new (closed dash r) (closed dash s) widens (end_beside l dash r s));
+        subst (λ b. Beside m l b (new ++ closed dash s)) (sym whole) (beside_gap l gap new (closed dash r) (closed dash s) widens (end_beside l dash r s));
   }
   inside_behind l [] (j ∷ js) same gap new widens dash r s bytes inside = absurd same
   inside_behind l (i ∷ is) [] same gap new widens dash r s bytes inside = absurd same
@@ -119,12 +126,12 @@ module _ (x y : ℕ) (solid : IsSolid (x ∷ y ∷ [])) (no_dash : nat_eq 45 x �
       let behind : List ℕ = items_bytes js (new ++ closed dash s) in
       let some = spelled_some i.lexeme rest stands in
       let front : List ℕ = spelled i.lexeme in
-      let like = beside_like i.lexeme rest behind stands more.beside in
+      let like = beside_like m i.lexeme rest behind stands more.beside in
       record {
         stands = item_stands i j js new dash s rest lexeme narrow.0 is_gap no_end stands more;
-        beside = subst (λ b. Beside l b (j.gap ++ (spelled j.lexeme ++ behind))) (sym splits)
-            (subst (λ k. Beside l (i.gap ++ (front ++ rest)) (j.gap ++ (spelled k ++ behind))) (sym lexeme)
-            (beside_narrow l i.lexeme i.gap j.gap rest behind some narrow (beside_front l front rest behind some like)));
+        beside = subst (λ b. Beside m l b (j.gap ++ (spelled j.lexeme ++ behind))) (sym splits)
+            (subst (λ k. Beside m l (i.gap ++ (front ++ rest)) (j.gap ++ (spelled k ++ behind))) (sym lexeme)
+            (beside_narrow l i.lexeme i.gap j.gap rest behind some narrow (beside_front m l front rest behind some like)));
       }
 
   -- the whole inside, which begins behind a marker
@@ -132,7 +139,7 @@ module _ (x y : ℕ) (solid : IsSolid (x ∷ y ∷ [])) (no_dash : nat_eq 45 x �
     pub stands : IsInside marker js (End new dash s) (items_bytes js (new ++ closed dash s))
     pub begins : BeginAlike bytes (items_bytes js (new ++ closed dash s))
 
-  inside_like : (is js : List Item) → AreNarrowedItems is js → (gap new : List ℕ) → Widens gap new → (dash : Bool) (r s bytes : List ℕ) →
+  inside_like : (is js : List Item) → AreNarrowedItems m is js → (gap new : List ℕ) → Widens gap new → (dash : Bool) (r s bytes : List ℕ) →
       IsInside marker is (End gap dash r) bytes → Inside js new dash bytes s
   inside_like [] [] same gap new widens dash r s bytes (at, splits, is_gap, ends) = record {
     stands = (closed dash s, refl, (widens.0, end_stops dash s), end_stands dash s);
@@ -167,136 +174,145 @@ takes_like false old (c ∷ new) h takes =
     h
 
 -- A piece, before other bytes that begin in the same way
-record Moved (q : Piece) (bytes rest : List ℕ) : Type 0 where
-  pub stands : IsPiece default_marks q (piece_bytes default_marks q rest) rest
-  pub agrees : Agree 2 bytes (piece_bytes default_marks q rest)
+module _ (t : Twelve) (steady : Steady t) where
+  abbrev m : Marks
+  m = marks_by t
 
-start_agree : (a b : List ℕ) → Agree 2 a b → is_at_start default_marks a ≡ is_at_start default_marks b
-start_agree a b h = ap₂ (λ x y. x || y) (begins_agree (codes "{{") a b h) (ap₂ (λ x y. x || y) (begins_agree (codes "{%") a b h) (begins_agree (codes "{#") a b h))
+  record Moved (q : Piece) (bytes rest : List ℕ) : Type 0 where
+    pub stands : IsPiece m q (piece_bytes m q rest) rest
+    pub agrees : Agree 2 bytes (piece_bytes m q rest)
 
-ends_agree : (a b : List ℕ) → Agree 2 a b → EndsText default_marks a → EndsText default_marks b
-ends_agree [] [] h ends = tt
-ends_agree [] (y ∷ b) h ends = absurd h
-ends_agree (x ∷ a) [] h ends = absurd h
-ends_agree (x ∷ a) (y ∷ b) h ends = sym (start_agree (x ∷ a) (y ∷ b) h) ∙ ends
+  start_agree : (a b : List ℕ) → Agree 2 a b → is_at_start m a ≡ is_at_start m b
+  start_agree a b h = ap₂ (λ x y. x || y) (begins_agree m.variable_start a b h) (ap₂ (λ x y. x || y) (begins_agree m.block_start a b h) (begins_agree m.comment_start a b h))
 
-tag_moved : (kind : Kind) (dash : Bool) (is : List Item) (gap : List ℕ) (end : Bool) (js : List Item) (new : List ℕ) →
-    AreNarrowedItems is js → Widens gap new → (bytes r s : List ℕ) →
-    IsPiece default_marks (Tag kind dash is gap end) bytes r → Moved (Tag kind dash js new end) bytes s
-tag_moved Variable dash is gap end js new same widens bytes r s (inside, (splits, takes), opens, stands) =
-    let moved = inside_like 125 125 (refl, (refl, tt)) refl refl refl is js same gap new widens end r s inside stands in record {
-      stands = (_, (refl, takes_like dash inside _ moved.begins takes), tt, moved.stands);
-      agrees = subst (λ b. Agree 2 b (piece_bytes default_marks (Tag Variable dash js new end) s)) (sym splits) (refl, (refl, tt));
-    }
-tag_moved Block dash is gap end js new same widens bytes r s (inside, (splits, takes), opens, stands) =
-    let moved = inside_like 37 125 (refl, (refl, tt)) refl refl refl is js same gap new widens end r s inside stands in record {
-      stands = (_, (refl, takes_like dash inside _ moved.begins takes), opens_no_raw gap new widens end r s is js same inside _ stands opens moved.stands, moved.stands);
-      agrees = subst (λ b. Agree 2 b (piece_bytes default_marks (Tag Block dash js new end) s)) (sym splits) (refl, (refl, tt));
-    }
+  ends_agree : (a b : List ℕ) → Agree 2 a b → EndsText m a → EndsText m b
+  ends_agree [] [] h ends = tt
+  ends_agree [] (y ∷ b) h ends = absurd h
+  ends_agree (x ∷ a) [] h ends = absurd h
+  ends_agree (x ∷ a) (y ∷ b) h ends = sym (start_agree (x ∷ a) (y ∷ b) h) ∙ ends
 
-piece_moved : (p q : Piece) → IsNarrowed p q → (bytes r s : List ℕ) → Agree 2 r s → IsPiece default_marks p bytes r → Moved q bytes s
-piece_moved (Text text) q w bytes r s h (splits, some, nowhere, ends) = subst (λ x. Moved x bytes s) (sym w) (record {
-  stands = (refl, some, nowhere_agree (is_at_start default_marks) start_agree text r s (agree_less 1 r s h) nowhere, ends_agree r s h ends);
-  agrees = subst (λ b. Agree 2 b (text ++ s)) (sym splits) (agree_behind 2 text r s h);
-})
-piece_moved (Comment dash inside) q w bytes r s h (behind, (splits, takes), is, nowhere) = subst (λ x. Moved x bytes s) (sym w) (record {
-  stands = (
-    inside ++ (codes "#}" ++ s),
-    (refl, dash_agree dash (inside ++ (codes "#}" ++ r)) (inside ++ (codes "#}" ++ s)) (agree_behind 1 inside (codes "#}" ++ r) (codes "#}" ++ s) (refl, tt)) (subst (TakesDash dash) is takes)),
-    refl,
-    nowhere_agree (begins (codes "#}")) (begins_agree (codes "#}")) inside (codes "#}" ++ r) (codes "#}" ++ s) (refl, tt) nowhere,
-  );
-  agrees = subst (λ b. Agree 2 b (piece_bytes default_marks (Comment dash inside) s)) (sym splits) (refl, (refl, tt));
-})
-piece_moved (Raw dash opening body closing) q w bytes r s h (behind, inside, (splits, takes), opens, body_is) = subst (λ x. Moved x bytes s) (sym w) (record {
-  stands =
-      let whole = body ++ (codes "{%" ++ word_tag_front endraw_word (codes "%}") closing s) in (
-        word_tag_front raw_word (codes "%}") opening whole,
-        whole,
-        (refl, raw_dash dash opening behind inside whole opens takes),
-        word_tag_moved 114 (codes "aw") refl opening behind inside whole opens,
-        body_moved body closing inside r s body_is,
-      );
-  agrees = subst (λ b. Agree 2 b (piece_bytes default_marks (Raw dash opening body closing) s)) (sym splits) (refl, (refl, tt));
-})
-piece_moved (Tag kind dash is gap end) q (js, new, same_piece, same, widens) bytes r s h piece =
-    subst (λ x. Moved x bytes s) (sym same_piece) (tag_moved kind dash is gap end js new same widens bytes r s piece)
+  tag_moved : (kind : Kind) (dash : Bool) (is : List Item) (gap : List ℕ) (end : Bool) (js : List Item) (new : List ℕ) →
+      AreNarrowedItems m is js → Widens gap new → (bytes r s : List ℕ) →
+      IsPiece m (Tag kind dash is gap end) bytes r → Moved (Tag kind dash js new end) bytes s
+  tag_moved Variable dash is gap end js new same widens bytes r s (inside, (splits, takes), opens, stands) =
+      let moved = inside_like m t.variable_end steady.variable (variable_ends t) is js same gap new widens end r s inside stands in record {
+        stands = (_, (refl, takes_like dash inside _ moved.begins takes), tt, moved.stands);
+        agrees = subst (λ b. Agree 2 b (piece_bytes m (Tag Variable dash js new end) s)) (sym splits) (refl, (refl, tt));
+      }
+  tag_moved Block dash is gap end js new same widens bytes r s (inside, (splits, takes), opens, stands) =
+      let moved = inside_like m t.block_end steady.block (block_ends t) is js same gap new widens end r s inside stands in record {
+        stands = (_, (refl, takes_like dash inside _ moved.begins takes), opens_no_raw t steady.block.sign gap new widens end r s is js same inside _ stands opens moved.stands, moved.stands);
+        agrees = subst (λ b. Agree 2 b (piece_bytes m (Tag Block dash js new end) s)) (sym splits) (refl, (refl, tt));
+      }
 
--- The pieces
-record Divided (qs : List Piece) (bytes : List ℕ) : Type 0 where
-  pub divides : IsDivision default_marks qs Complete (pieces_bytes default_marks qs)
-  pub agrees : Agree 2 bytes (pieces_bytes default_marks qs)
+  piece_moved : (p q : Piece) → IsNarrowed m p q → (bytes r s : List ℕ) → Agree 2 r s → IsPiece m p bytes r → Moved q bytes s
+  piece_moved (Text text) q w bytes r s h (splits, some, nowhere, ends) = subst (λ x. Moved x bytes s) (sym w) (record {
+    stands = (refl, some, nowhere_agree (is_at_start m) start_agree text r s (agree_less 1 r s h) nowhere, ends_agree r s h ends);
+    agrees = subst (λ b. Agree 2 b (text ++ s)) (sym splits) (agree_behind 2 text r s h);
+  })
+  piece_moved (Comment dash inside) q w bytes r s h (behind, (splits, takes), is, nowhere) = subst (λ x. Moved x bytes s) (sym w) (record {
+    stands = (
+      inside ++ (m.comment_end ++ s),
+      (refl, dash_agree dash (inside ++ (m.comment_end ++ r)) (inside ++ (m.comment_end ++ s)) (agree_behind 1 inside (m.comment_end ++ r) (m.comment_end ++ s) (refl, tt)) (subst (TakesDash dash) is takes)),
+      refl,
+      nowhere_agree (begins m.comment_end) (begins_agree m.comment_end) inside (m.comment_end ++ r) (m.comment_end ++ s) (refl, tt) nowhere,
+    );
+    agrees = subst (λ b. Agree 2 b (piece_bytes m (Comment dash inside) s)) (sym splits) (refl, (refl, tt));
+  })
+  piece_moved (Raw dash opening body closing) q w bytes r s h (behind, inside, (splits, takes), opens, body_is) = subst (λ x. Moved x bytes s) (sym w) (record {
+    stands =
+        let whole = body ++ (m.block_start ++ word_tag_front endraw_word m.block_end closing s) in (
+          word_tag_front raw_word m.block_end opening whole,
+          whole,
+          (refl, raw_dash t steady.start steady.block.sign dash opening behind inside whole opens takes),
+          word_tag_moved t steady.start steady.block.sign 114 (97 ∷ 119 ∷ []) refl opening behind inside whole opens,
+          body_moved t steady.start steady.block.sign body closing inside r s body_is,
+        );
+    agrees = subst (λ b. Agree 2 b (piece_bytes m (Raw dash opening body closing) s)) (sym splits) (refl, (refl, tt));
+  })
+  piece_moved (Tag kind dash is gap end) q (js, new, same_piece, same, widens) bytes r s h piece =
+      subst (λ x. Moved x bytes s) (sym same_piece) (tag_moved kind dash is gap end js new same widens bytes r s piece)
 
-divided : (ps qs : List Piece) → AreNarrowed ps qs → (bytes : List ℕ) → IsDivision default_marks ps Complete bytes → Divided qs bytes
-divided [] [] w bytes h = record { divides = refl; agrees = subst (λ b. Agree 2 b []) (sym h) tt }
-divided [] (q ∷ qs) w bytes h = absurd w
-divided (p ∷ ps) [] w bytes h = absurd w
-divided (p ∷ ps) (q ∷ qs) w bytes (rest, piece, more) =
-    let d = divided ps qs w.1 rest more in
-    let moved = piece_moved p q w.0 bytes rest (pieces_bytes default_marks qs) d.agrees piece in
-    record { divides = (pieces_bytes default_marks qs, moved.stands, d.divides); agrees = moved.agrees }
+  -- The pieces
+  record Divided (qs : List Piece) (bytes : List ℕ) : Type 0 where
+    pub divides : IsDivision m qs Complete (pieces_bytes m qs)
+    pub agrees : Agree 2 bytes (pieces_bytes m qs)
 
-behind_same : (l : Lexeme) (is js : List Item) → AreNarrowedBehind l is js → map without_gap is ≡ map without_gap js
-behind_same l [] [] w = refl
-behind_same l [] (j ∷ js) w = absurd w
-behind_same l (i ∷ is) [] w = absurd w
-behind_same l (i ∷ is) (j ∷ js) w = ap₂ (λ k ks. record { gap = []; lexeme = k } ∷ ks) (sym w.1) (behind_same i.lexeme is js w.2)
+  divided : (ps qs : List Piece) → AreNarrowed m ps qs → (bytes : List ℕ) → IsDivision m ps Complete bytes → Divided qs bytes
+  divided [] [] w bytes h = record { divides = refl; agrees = subst (λ b. Agree 2 b []) (sym h) tt }
+  divided [] (q ∷ qs) w bytes h = absurd w
+  divided (p ∷ ps) [] w bytes h = absurd w
+  divided (p ∷ ps) (q ∷ qs) w bytes (rest, piece, more) =
+      let d = divided ps qs w.1 rest more in
+      let moved = piece_moved p q w.0 bytes rest (pieces_bytes m qs) d.agrees piece in
+      record { divides = (pieces_bytes m qs, moved.stands, d.divides); agrees = moved.agrees }
 
-items_same : (is js : List Item) → AreNarrowedItems is js → map without_gap is ≡ map without_gap js
-items_same [] [] w = refl
-items_same [] (j ∷ js) w = absurd w
-items_same (i ∷ is) [] w = absurd w
-items_same (i ∷ is) (j ∷ js) w = ap₂ (λ k ks. record { gap = []; lexeme = k } ∷ ks) (sym w.1) (behind_same i.lexeme is js w.2)
+behind_same : (m : Marks) (l : Lexeme) (is js : List Item) → AreNarrowedBehind m l is js → map without_gap is ≡ map without_gap js
+behind_same m l [] [] w = refl
+behind_same m l [] (j ∷ js) w = absurd w
+behind_same m l (i ∷ is) [] w = absurd w
+behind_same m l (i ∷ is) (j ∷ js) w = ap₂ (λ k ks. record { gap = []; lexeme = k } ∷ ks) (sym w.1) (behind_same m i.lexeme is js w.2)
 
-piece_same : (p q : Piece) → IsNarrowed p q → without_gaps p ≡ without_gaps q
-piece_same (Text text) q w = ap without_gaps (sym w)
-piece_same (Comment dash inside) q w = ap without_gaps (sym w)
-piece_same (Raw dash opening body closing) q w = ap without_gaps (sym w)
-piece_same (Tag kind dash is gap end) q (js, new, same_piece, same, widens) =
-    ap (λ x. Tag kind dash x [] end) (items_same is js same) ∙ ap without_gaps (sym same_piece)
+items_same : (m : Marks) (is js : List Item) → AreNarrowedItems m is js → map without_gap is ≡ map without_gap js
+items_same m [] [] w = refl
+items_same m [] (j ∷ js) w = absurd w
+items_same m (i ∷ is) [] w = absurd w
+items_same m (i ∷ is) (j ∷ js) w = ap₂ (λ k ks. record { gap = []; lexeme = k } ∷ ks) (sym w.1) (behind_same m i.lexeme is js w.2)
 
-pieces_same : (ps qs : List Piece) → AreNarrowed ps qs → map without_gaps ps ≡ map without_gaps qs
-pieces_same [] [] w = refl
-pieces_same [] (q ∷ qs) w = absurd w
-pieces_same (p ∷ ps) [] w = absurd w
-pieces_same (p ∷ ps) (q ∷ qs) w = ap₂ (λ x xs. x ∷ xs) (piece_same p q w.0) (pieces_same ps qs w.1)
+piece_same : (m : Marks) (p q : Piece) → IsNarrowed m p q → without_gaps p ≡ without_gaps q
+piece_same m (Text text) q w = ap without_gaps (sym w)
+piece_same m (Comment dash inside) q w = ap without_gaps (sym w)
+piece_same m (Raw dash opening body closing) q w = ap without_gaps (sym w)
+piece_same m (Tag kind dash is gap end) q (js, new, same_piece, same, widens) =
+    ap (λ x. Tag kind dash x [] end) (items_same m is js same) ∙ ap without_gaps (sym same_piece)
 
-pub narrowed_respaced : (ps qs : List Piece) (one : List ℕ) → IsDivision default_marks ps Complete one → AreNarrowed ps qs →
-    IsRespaced default_marks one (pieces_bytes default_marks qs)
-narrowed_respaced ps qs one h w = (ps, qs, h, (divided ps qs w one h).divides, pieces_same ps qs w)
+pieces_same : (m : Marks) (ps qs : List Piece) → AreNarrowed m ps qs → map without_gaps ps ≡ map without_gaps qs
+pieces_same m [] [] w = refl
+pieces_same m [] (q ∷ qs) w = absurd w
+pieces_same m (p ∷ ps) [] w = absurd w
+pieces_same m (p ∷ ps) (q ∷ qs) w = ap₂ (λ x xs. x ∷ xs) (piece_same m p q w.0) (pieces_same m ps qs w.1)
 
-pub narrowed_divides : (ps qs : List Piece) (one : List ℕ) → IsDivision default_marks ps Complete one → AreNarrowed ps qs →
-    IsDivision default_marks qs Complete (pieces_bytes default_marks qs)
-narrowed_divides ps qs one h w = (divided ps qs w one h).divides
+-- So it is between all steady markers
+module _ (m : Marks) (valid : IsValid m) (steady : is_steady m ≡ true) where
+  pub narrowed_divides : (ps qs : List Piece) (one : List ℕ) → IsDivision m ps Complete one → AreNarrowed m ps qs →
+      IsDivision m qs Complete (pieces_bytes m qs)
+  narrowed_divides ps qs one h w =
+      let (t, is) = twelve_of m valid in
+      subst (λ n. is_steady n ≡ true → IsDivision n ps Complete one → AreNarrowed n ps qs → IsDivision n qs Complete (pieces_bytes n qs)) (sym is)
+      (λ known divides narrow. (divided t (steady_of t known) ps qs narrow one divides).divides) steady h w
+
+  pub narrowed_respaced : (ps qs : List Piece) (one : List ℕ) → IsDivision m ps Complete one → AreNarrowed m ps qs →
+      IsRespaced m one (pieces_bytes m qs)
+  narrowed_respaced ps qs one h w = (ps, qs, h, narrowed_divides ps qs one h w, pieces_same m ps qs w)
 
 -- What has other white space only where it had some is so
-pub widens_narrows : (l r : Lexeme) (gap new : List ℕ) → Widens gap new → Narrows l r gap new
-widens_narrows l r gap new widens = (widens.0, λ none. inl (widens.1 none))
+pub widens_narrows : (m : Marks) (l r : Lexeme) (gap new : List ℕ) → Widens gap new → Narrows m l r gap new
+widens_narrows m l r gap new widens = (widens.0, λ none. inl (widens.1 none))
 
-behind_narrowed : (l : Lexeme) (is js : List Item) → AreWidenedItems is js → AreNarrowedBehind l is js
-behind_narrowed l [] [] w = tt
-behind_narrowed l [] (j ∷ js) w = absurd w
-behind_narrowed l (i ∷ is) [] w = absurd w
-behind_narrowed l (i ∷ is) (j ∷ js) w = (widens_narrows l i.lexeme i.gap j.gap w.0, w.1, behind_narrowed i.lexeme is js w.2)
+behind_narrowed : (m : Marks) (l : Lexeme) (is js : List Item) → AreWidenedItems is js → AreNarrowedBehind m l is js
+behind_narrowed m l [] [] w = tt
+behind_narrowed m l [] (j ∷ js) w = absurd w
+behind_narrowed m l (i ∷ is) [] w = absurd w
+behind_narrowed m l (i ∷ is) (j ∷ js) w = (widens_narrows m l i.lexeme i.gap j.gap w.0, w.1, behind_narrowed m i.lexeme is js w.2)
 
-items_narrowed : (is js : List Item) → AreWidenedItems is js → AreNarrowedItems is js
-items_narrowed [] [] w = tt
-items_narrowed [] (j ∷ js) w = absurd w
-items_narrowed (i ∷ is) [] w = absurd w
-items_narrowed (i ∷ is) (j ∷ js) w = (w.0, w.1, behind_narrowed i.lexeme is js w.2)
+items_narrowed : (m : Marks) (is js : List Item) → AreWidenedItems is js → AreNarrowedItems m is js
+items_narrowed m [] [] w = tt
+items_narrowed m [] (j ∷ js) w = absurd w
+items_narrowed m (i ∷ is) [] w = absurd w
+items_narrowed m (i ∷ is) (j ∷ js) w = (w.0, w.1, behind_narrowed m i.lexeme is js w.2)
 
-piece_narrowed : (p q : Piece) → IsWidened p q → IsNarrowed p q
-piece_narrowed (Text text) q w = w
-piece_narrowed (Comment dash inside) q w = w
-piece_narrowed (Raw dash opening body closing) q w = w
-piece_narrowed (Tag kind dash is gap end) q (js, new, same_piece, same, widens) = (js, new, same_piece, items_narrowed is js same, widens)
+piece_narrowed : (m : Marks) (p q : Piece) → IsWidened p q → IsNarrowed m p q
+piece_narrowed m (Text text) q w = w
+piece_narrowed m (Comment dash inside) q w = w
+piece_narrowed m (Raw dash opening body closing) q w = w
+piece_narrowed m (Tag kind dash is gap end) q (js, new, same_piece, same, widens) = (js, new, same_piece, items_narrowed m is js same, widens)
 
-pieces_narrowed : (ps qs : List Piece) → AreWidened ps qs → AreNarrowed ps qs
-pieces_narrowed [] [] w = tt
-pieces_narrowed [] (q ∷ qs) w = absurd w
-pieces_narrowed (p ∷ ps) [] w = absurd w
-pieces_narrowed (p ∷ ps) (q ∷ qs) w = (piece_narrowed p q w.0, pieces_narrowed ps qs w.1)
+pieces_narrowed : (m : Marks) (ps qs : List Piece) → AreWidened ps qs → AreNarrowed m ps qs
+pieces_narrowed m [] [] w = tt
+pieces_narrowed m [] (q ∷ qs) w = absurd w
+pieces_narrowed m (p ∷ ps) [] w = absurd w
+pieces_narrowed m (p ∷ ps) (q ∷ qs) w = (piece_narrowed m p q w.0, pieces_narrowed m ps qs w.1)
 
-pub widened_respaced : (ps qs : List Piece) (one : List ℕ) → IsDivision default_marks ps Complete one → AreWidened ps qs →
-    IsRespaced default_marks one (pieces_bytes default_marks qs)
-widened_respaced ps qs one h w = narrowed_respaced ps qs one h (pieces_narrowed ps qs w)
+pub widened_respaced : (m : Marks) → IsValid m → is_steady m ≡ true → (ps qs : List Piece) (one : List ℕ) → IsDivision m ps Complete one →
+    AreWidened ps qs → IsRespaced m one (pieces_bytes m qs)
+widened_respaced m valid steady ps qs one h w = narrowed_respaced m valid steady ps qs one h (pieces_narrowed m ps qs w)

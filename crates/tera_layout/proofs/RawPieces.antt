@@ -1,128 +1,183 @@
 -- A raw piece, before other bytes.
-use Rattle.std.proofs.Common.{◌≡◌, ℕ, Bool, true, false, List, [], ◌∷◌, ◌++◌, append_assoc, ap, sym, ◌∙◌, refl, subst, codes, arith}
+use Rattle.std.proofs.Common.{◌≡◌, ℕ, Bool, true, false, List, [], ◌∷◌, ◌++◌, append_assoc, ap, sym, ◌∙◌, refl, subst, ⊎_elim, codes, arith}
 use Rattle.std.specs.List.{AllByRecursion}
 use Rattle.std.specs.Char.{is_ascii_whitespace}
-use Rattle.std.proofs.lemmas.Bool.{eq-eqb, false≢true}
-use Rattle.std.proofs.lemmas.Bool.Decides.{nat_tests}
+use Rattle.std.proofs.lemmas.Bool.{cases_Bool, eqb-true, eq-eqb, false≢true}
 use Rattle.std.specs.Prelude.{nat_eq}
-use Rattle.tera_lexer.specs.grammar.Marks.{default_marks, begins, dash_bytes, TakesDash}
-use Rattle.tera_lexer.specs.grammar.Lexeme.{StopsAt}
-use Rattle.tera_lexer.specs.grammar.Raw.{WordTag, word_tag_bytes, IsWordTag, raw_word, endraw_word, OpensRaw, ClosesRaw, ClosesNothing, body_of, AreParts, IsBody}
-use Rattle.tera_lexer.proofs.WordTags.{word_tag_splits}
+use Rattle.tera_lexer.specs.grammar.Marks.{Marks, begins, dash_bytes, TakesDash}
+use Rattle.tera_lexer.specs.grammar.Lexeme.{StopsAt, goes_on_name}
+use Rattle.tera_lexer.specs.grammar.Raw.{WordTag, IsWordTag, raw_word, endraw_word, OpensRaw, ClosesRaw, ClosesNothing, body_of, AreParts, IsBody}
 use Rattle.tera_layout.specs.Widened.{word_tag_front}
 use Rattle.tera_layout.proofs.Likeness.{agree_behind, begins_agree, nowhere_agree, dash_agree}
+use Rattle.tera_layout.proofs.Steadies.{Two, Twelve, both, marks_by, Sign}
 
--- a tag that holds a word, before other bytes
-gap_stops : (dash : Bool) (r s : List ℕ) → StopsAt is_ascii_whitespace (dash_bytes dash ++ (codes "%}" ++ r)) → StopsAt is_ascii_whitespace (dash_bytes dash ++ (codes "%}" ++ s))
-gap_stops true r s h = h
-gap_stops false r s h = h
+-- a byte that passes no test that another does is not that one
+other_byte : (p : ℕ → Bool) (a b : ℕ) → p a ≡ true → p b ≡ false → nat_eq a b ≡ false
+other_byte p a b passes fails =
+    ⊎_elim
+    (λ (same : nat_eq a b ≡ true). absurd (false≢true (sym fails ∙ ap p (sym (eqb-true a b same)) ∙ passes)))
+    (λ other. other) (cases_Bool (nat_eq a b))
 
-out_taken : (dash : Bool) (r s : List ℕ) → TakesDash dash (codes "%}" ++ r) → TakesDash dash (codes "%}" ++ s)
-out_taken true r s h = tt
-out_taken false r s h = refl
+-- what stands in front of the end of a tag that holds a word
+abbrev front_of : List ℕ → WordTag → List ℕ
+front_of word t = dash_bytes t.dash_in ++ (t.before ++ (word ++ (t.behind ++ dash_bytes t.dash_out)))
 
-module _ (w : ℕ) (ws : List ℕ) (solid : is_ascii_whitespace w ≡ false) where
-  pub word_tag_moved : (t : WordTag) (bytes r s : List ℕ) → IsWordTag (w ∷ ws) (codes "%}") t bytes r →
-      IsWordTag (w ∷ ws) (codes "%}") t (word_tag_front (w ∷ ws) (codes "%}") t s) s
-  word_tag_moved t bytes r s h =
-      let old = (w ∷ ws) ++ (t.behind ++ (dash_bytes t.dash_out ++ (codes "%}" ++ r))) in
-      let new = (w ∷ ws) ++ (t.behind ++ (dash_bytes t.dash_out ++ (codes "%}" ++ s))) in record {
-        splits = refl;
-        takes_in = dash_agree t.dash_in (t.before ++ old) (t.before ++ new) (agree_behind 1 t.before old new (refl, tt)) h.takes_in;
-        gap_before = (h.gap_before.0, solid);
-        gap_behind = (h.gap_behind.0, gap_stops t.dash_out r s h.gap_behind.1);
-        takes_out = out_taken t.dash_out r s h.takes_out;
-      }
+front_splits : (word : List ℕ) (t : WordTag) (z : List ℕ) →
+    front_of word t ++ z ≡ dash_bytes t.dash_in ++ (t.before ++ (word ++ (t.behind ++ (dash_bytes t.dash_out ++ z))))
+front_splits word t z =
+    append_assoc (dash_bytes t.dash_in) (t.before ++ (word ++ (t.behind ++ dash_bytes t.dash_out))) z
+    ∙ ap (λ l. dash_bytes t.dash_in ++ l) (append_assoc t.before (word ++ (t.behind ++ dash_bytes t.dash_out)) z
+    ∙ ap (λ l. t.before ++ l) (append_assoc word (t.behind ++ dash_bytes t.dash_out) z
+    ∙ ap (λ l. word ++ l) (append_assoc t.behind (dash_bytes t.dash_out) z)))
 
--- the dash before it
-pub raw_dash : (dash : Bool) (t : WordTag) (bytes r s : List ℕ) → OpensRaw default_marks t bytes r → TakesDash dash bytes →
-    TakesDash dash (word_tag_front raw_word (codes "%}") t s)
-raw_dash dash t bytes r s h takes =
-    let old = raw_word ++ (t.behind ++ (dash_bytes t.dash_out ++ (codes "%}" ++ r))) in
-    let new = raw_word ++ (t.behind ++ (dash_bytes t.dash_out ++ (codes "%}" ++ s))) in
-    dash_agree dash (dash_bytes t.dash_in ++ (t.before ++ old)) (dash_bytes t.dash_in ++ (t.before ++ new))
-    (agree_behind 1 (dash_bytes t.dash_in) (t.before ++ old) (t.before ++ new) (agree_behind 1 t.before old new (refl, tt))) (subst (TakesDash dash) h.splits takes)
+same_behind : (xs a b : List ℕ) → xs ++ a ≡ xs ++ b → a ≡ b
+same_behind [] a b e = e
+same_behind (x ∷ xs) a b e = let more : xs ++ a ≡ xs ++ b = cc in same_behind xs a b more
 
--- Bytes without a brace stand before the first one
-abbrev HasNoBrace : List ℕ → Type 0
-HasNoBrace bytes = AllByRecursion (λ b. nat_eq b 123 ≡ false) bytes
+-- Between markers of which the start of a statement's tag and its end begin with a sign
+module _ (t : Twelve) (start_sign : Sign t.block_start.one) (end_sign : Sign t.block_end.one) where
+  abbrev m : Marks
+  m = marks_by t
 
-braceless : (xs ys : List ℕ) → HasNoBrace xs → HasNoBrace ys → HasNoBrace (xs ++ ys)
-braceless [] ys h g = g
-braceless (x ∷ xs) ys h g = (h.0, braceless xs ys h.1 g)
+  abbrev start : List ℕ
+  start = both t.block_start
 
-dash_braceless : (dash : Bool) → HasNoBrace (dash_bytes dash)
-dash_braceless true = (refl, tt)
-dash_braceless false = tt
+  abbrev end : List ℕ
+  end = both t.block_end
 
-white_no_brace : (b : ℕ) → is_ascii_whitespace b ≡ true → nat_eq b 123 ≡ false
-white_no_brace b h = grind (arith, nat_tests)
+  -- a tag that holds a word, before other bytes
+  gap_stops : (dash : Bool) (r s : List ℕ) → StopsAt is_ascii_whitespace (dash_bytes dash ++ (end ++ r)) → StopsAt is_ascii_whitespace (dash_bytes dash ++ (end ++ s))
+  gap_stops true r s h = h
+  gap_stops false r s h = h
 
-gap_braceless : (gap : List ℕ) → AllByRecursion (λ b. is_ascii_whitespace b ≡ true) gap → HasNoBrace gap
-gap_braceless [] h = tt
-gap_braceless (b ∷ bs) h = (white_no_brace b h.0, gap_braceless bs h.1)
+  out_taken : (dash : Bool) (r s : List ℕ) → TakesDash dash (end ++ r) → TakesDash dash (end ++ s)
+  out_taken true r s h = tt
+  out_taken false r s h = h
 
-tag_braceless : (t : WordTag) (bytes r : List ℕ) → ClosesRaw default_marks t bytes r → HasNoBrace (word_tag_bytes endraw_word (codes "%}") t)
-tag_braceless t bytes r h =
-    braceless (dash_bytes t.dash_in) _ (dash_braceless t.dash_in)
-    (braceless t.before _ (gap_braceless t.before h.gap_before.0)
-    (braceless endraw_word _ (refl, (refl, (refl, (refl, (refl, (refl, tt))))))
-    (braceless t.behind _ (gap_braceless t.behind h.gap_behind.0)
-    (braceless (dash_bytes t.dash_out) _ (dash_braceless t.dash_out) (refl, (refl, tt))))))
+  module _ (w : ℕ) (ws : List ℕ) (solid : is_ascii_whitespace w ≡ false) where
+    pub word_tag_moved : (o : WordTag) (bytes r s : List ℕ) → IsWordTag (w ∷ ws) end o bytes r →
+        IsWordTag (w ∷ ws) end o (word_tag_front (w ∷ ws) end o s) s
+    word_tag_moved o bytes r s h =
+        let old = (w ∷ ws) ++ (o.behind ++ (dash_bytes o.dash_out ++ (end ++ r))) in
+        let new = (w ∷ ws) ++ (o.behind ++ (dash_bytes o.dash_out ++ (end ++ s))) in record {
+          splits = refl;
+          takes_in = dash_agree o.dash_in (o.before ++ old) (o.before ++ new) (agree_behind 1 o.before old new (refl, tt)) h.takes_in;
+          gap_before = (h.gap_before.0, solid);
+          gap_behind = (h.gap_behind.0, gap_stops o.dash_out r s h.gap_behind.1);
+          takes_out = out_taken o.dash_out r s h.takes_out;
+        }
 
-before_brace : (xs bytes rest more : List ℕ) → HasNoBrace xs → xs ++ rest ≡ bytes ++ 123 ∷ more → (between : List ℕ) × (bytes ≡ xs ++ between)
-before_brace [] bytes rest more none e = (bytes, refl)
-before_brace (x ∷ xs) [] rest more none e = let same : x ≡ 123 = cc in absurd (false≢true (sym none.0 ∙ eq-eqb x 123 same))
-before_brace (x ∷ xs) (b ∷ bytes) rest more none e =
-    let same : b ≡ x = cc in
-    let behind : xs ++ rest ≡ bytes ++ 123 ∷ more = cc in
-    let (between, is) = before_brace xs bytes rest more none.1 behind in (between, λ i. same i ∷ is i)
+  -- the dash before it
+  pub raw_dash : (dash : Bool) (o : WordTag) (bytes r s : List ℕ) → OpensRaw m o bytes r → TakesDash dash bytes →
+      TakesDash dash (word_tag_front raw_word end o s)
+  raw_dash dash o bytes r s h takes =
+      let old = raw_word ++ (o.behind ++ (dash_bytes o.dash_out ++ (end ++ r))) in
+      let new = raw_word ++ (o.behind ++ (dash_bytes o.dash_out ++ (end ++ s))) in
+      dash_agree dash (dash_bytes o.dash_in ++ (o.before ++ old)) (dash_bytes o.dash_in ++ (o.before ++ new))
+      (agree_behind 1 (dash_bytes o.dash_in) (o.before ++ old) (o.before ++ new) (agree_behind 1 o.before old new (refl, tt))) (subst (TakesDash dash) h.splits takes)
 
--- nothing closes there, whatever follows a brace
-closes_nothing : (bytes x y : List ℕ) → ClosesNothing default_marks (bytes ++ 123 ∷ x) → ClosesNothing default_marks (bytes ++ 123 ∷ y)
-closes_nothing bytes x y none = λ t rest closes.
-    let whole = word_tag_splits endraw_word (codes "%}") t (bytes ++ 123 ∷ y) rest closes in
-    let (between, is) = before_brace (word_tag_bytes endraw_word (codes "%}") t) bytes rest y (tag_braceless t (bytes ++ 123 ∷ y) rest closes) (sym whole) in
-    let moved = word_tag_moved 101 (codes "ndraw") refl t (bytes ++ 123 ∷ y) rest (between ++ 123 ∷ x) closes in
-    let same : word_tag_front endraw_word (codes "%}") t (between ++ 123 ∷ x) ≡ bytes ++ 123 ∷ x =
-    word_tag_splits endraw_word (codes "%}") t _ (between ++ 123 ∷ x) moved
-    ∙ sym (append_assoc (word_tag_bytes endraw_word (codes "%}") t) between (123 ∷ x)) ∙ ap (λ l. l ++ 123 ∷ x) (sym is) in
-    none t (between ++ 123 ∷ x) (subst (λ b. ClosesRaw default_marks t b (between ++ 123 ∷ x)) same moved)
+  -- Bytes without the first byte of a start stand before the first one
+  abbrev HasNoStart : List ℕ → Type 0
+  HasNoStart bytes = AllByRecursion (λ b. nat_eq b t.block_start.one ≡ false) bytes
 
--- The body, with its closing tag
-parts_are : (parts : List (List ℕ)) (last : List ℕ) (close : WordTag) (bytes r : List ℕ) → AreParts default_marks parts last close bytes r →
-    (more : List ℕ) × (bytes ≡ body_of default_marks parts last ++ (codes "{%" ++ more))
-parts_are [] last close bytes r (behind, (splits, nowhere), closes) = (behind, splits)
-parts_are (part ∷ parts) last close bytes r (behind, (splits, nowhere), none, are) =
-    let (more, is) = parts_are parts last close behind r are in
-    (more, splits ∙ ap (λ b. part ++ (codes "{%" ++ b)) is ∙ sym (append_assoc part (codes "{%" ++ body_of default_marks parts last) (codes "{%" ++ more)))
+  startless : (xs ys : List ℕ) → HasNoStart xs → HasNoStart ys → HasNoStart (xs ++ ys)
+  startless [] ys h g = g
+  startless (x ∷ xs) ys h g = (h.0, startless xs ys h.1 g)
 
-parts_moved : (parts : List (List ℕ)) (last : List ℕ) (close : WordTag) (bytes r s : List ℕ) → AreParts default_marks parts last close bytes r →
-    AreParts default_marks parts last close (body_of default_marks parts last ++ (codes "{%" ++ word_tag_front endraw_word (codes "%}") close s)) s
-parts_moved [] last close bytes r s (behind, (splits, nowhere), closes) = (
-  word_tag_front endraw_word (codes "%}") close s,
-  (refl, nowhere_agree (begins (codes "{%")) (begins_agree (codes "{%")) last (codes "{%" ++ behind) (codes "{%" ++ word_tag_front endraw_word (codes "%}") close s) (refl, tt) nowhere),
-  word_tag_moved 101 (codes "ndraw") refl close behind r s closes,
-)
-parts_moved (part ∷ parts) last close bytes r s (behind, (splits, nowhere), none, are) =
-    let body : List ℕ = body_of default_marks parts last in
-    let end : List ℕ = word_tag_front endraw_word (codes "%}") close s in
-    let (more, is) = parts_are parts last close behind r are in (
-      body ++ (codes "{%" ++ end),
-      (
-        append_assoc part (codes "{%" ++ body) (codes "{%" ++ end),
-        nowhere_agree (begins (codes "{%")) (begins_agree (codes "{%")) part (codes "{%" ++ behind) (codes "{%" ++ (body ++ (codes "{%" ++ end))) (refl, tt) nowhere,
-      ),
-      closes_nothing body (37 ∷ more) (37 ∷ end) (subst (ClosesNothing default_marks) is none),
-      parts_moved parts last close behind r s are,
-    )
+  dash_startless : (dash : Bool) → HasNoStart (dash_bytes dash)
+  dash_startless true = (start_sign.no_dash, tt)
+  dash_startless false = tt
 
-pub body_moved : (body : List ℕ) (close : WordTag) (bytes r s : List ℕ) → IsBody default_marks body close bytes r →
-    IsBody default_marks body close (body ++ (codes "{%" ++ word_tag_front endraw_word (codes "%}") close s)) s
-body_moved body close bytes r s (parts, last, is, are) = (
-  parts,
-  last,
-  is,
-  subst (λ b. AreParts default_marks parts last close (b ++ (codes "{%" ++ word_tag_front endraw_word (codes "%}") close s)) s) (sym is)
-      (parts_moved parts last close bytes r s are),
-)
+  gap_startless : (gap : List ℕ) → AllByRecursion (λ b. is_ascii_whitespace b ≡ true) gap → HasNoStart gap
+  gap_startless [] h = tt
+  gap_startless (b ∷ bs) h = (other_byte is_ascii_whitespace b t.block_start.one h.0 start_sign.solid, gap_startless bs h.1)
+
+  letter : (b : ℕ) → goes_on_name b ≡ true → nat_eq b t.block_start.one ≡ false
+  letter b h = other_byte goes_on_name b t.block_start.one h start_sign.no_name
+
+  front_startless : (o : WordTag) (bytes r : List ℕ) → ClosesRaw m o bytes r → HasNoStart (front_of endraw_word o)
+  front_startless o bytes r h =
+      startless (dash_bytes o.dash_in) _ (dash_startless o.dash_in)
+      (startless o.before _ (gap_startless o.before h.gap_before.0)
+      (startless endraw_word _
+      (letter 101 refl, (letter 110 refl, (letter 100 refl, (letter 114 refl, (letter 97 refl, (letter 119 refl, tt))))))
+      (startless o.behind _ (gap_startless o.behind h.gap_behind.0) (dash_startless o.dash_out))))
+
+  before_start : (xs bytes rest more : List ℕ) → HasNoStart xs → xs ++ rest ≡ bytes ++ (start ++ more) → (between : List ℕ) × (bytes ≡ xs ++ between)
+  before_start [] bytes rest more none e = (bytes, refl)
+  before_start (x ∷ xs) [] rest more none e =
+      let same : x ≡ t.block_start.one = cc in absurd (false≢true (sym none.0 ∙ eq-eqb x t.block_start.one same))
+  before_start (x ∷ xs) (b ∷ bytes) rest more none e =
+      let same : b ≡ x = cc in
+      let behind : xs ++ rest ≡ bytes ++ (start ++ more) = cc in
+      let (between, is) = before_start xs bytes rest more none.1 behind in (between, λ i. same i ∷ is i)
+
+  -- an end that begins before a start, or with it, ends with it at the latest
+  end_within : (between rest more : List ℕ) → end ++ rest ≡ between ++ (start ++ more) →
+      (last : List ℕ) × ((z : List ℕ) → end ++ (last ++ z) ≡ between ++ (start ++ z))
+  end_within [] rest more e =
+      let one : t.block_end.one ≡ t.block_start.one = cc in
+      let two : t.block_end.two ≡ t.block_start.two = cc in ([], λ z i. one i ∷ two i ∷ z)
+  end_within (b ∷ []) rest more e =
+      let one : t.block_end.one ≡ b = cc in
+      let two : t.block_end.two ≡ t.block_start.one = cc in (t.block_start.two ∷ [], λ z i. one i ∷ two i ∷ t.block_start.two ∷ z)
+  end_within (b ∷ c ∷ between) rest more e =
+      let one : t.block_end.one ≡ b = cc in
+      let two : t.block_end.two ≡ c = cc in (
+        between ++ start,
+        λ z. ap (λ l. t.block_end.one ∷ t.block_end.two ∷ l) (append_assoc between start z) ∙ (λ i. one i ∷ two i ∷ (between ++ (start ++ z))),
+      )
+
+  -- nothing closes there, whatever follows a start
+  closes_nothing : (bytes x y : List ℕ) → ClosesNothing m (bytes ++ (start ++ x)) → ClosesNothing m (bytes ++ (start ++ y))
+  closes_nothing bytes x y none = λ o rest closes.
+      let front : List ℕ = front_of endraw_word o in
+      let whole : front ++ (end ++ rest) ≡ bytes ++ (start ++ y) = front_splits endraw_word o (end ++ rest) ∙ sym closes.splits in
+      let (between, is) = before_start front bytes (end ++ rest) y (front_startless o (bytes ++ (start ++ y)) rest closes) whole in
+      let tail : end ++ rest ≡ between ++ (start ++ y) =
+      same_behind front (end ++ rest) (between ++ (start ++ y))
+      (whole ∙ ap (λ l. l ++ (start ++ y)) is ∙ append_assoc front between (start ++ y)) in
+      let (last, ends) = end_within between rest y tail in
+      let moved = word_tag_moved 101 (codes "ndraw") refl o (bytes ++ (start ++ y)) rest (last ++ x) closes in
+      let same : word_tag_front endraw_word end o (last ++ x) ≡ bytes ++ (start ++ x) =
+      sym (front_splits endraw_word o (end ++ (last ++ x))) ∙ ap (λ l. front ++ l) (ends x)
+      ∙ sym (append_assoc front between (start ++ x)) ∙ ap (λ l. l ++ (start ++ x)) (sym is) in
+      none o (last ++ x) (subst (λ b. ClosesRaw m o b (last ++ x)) same moved)
+
+  -- The body, with its closing tag
+  parts_are : (parts : List (List ℕ)) (last : List ℕ) (close : WordTag) (bytes r : List ℕ) → AreParts m parts last close bytes r →
+      (more : List ℕ) × (bytes ≡ body_of m parts last ++ (start ++ more))
+  parts_are [] last close bytes r (behind, (splits, nowhere), closes) = (behind, splits)
+  parts_are (part ∷ parts) last close bytes r (behind, (splits, nowhere), none, are) =
+      let (more, is) = parts_are parts last close behind r are in
+      (more, splits ∙ ap (λ b. part ++ (start ++ b)) is ∙ sym (append_assoc part (start ++ body_of m parts last) (start ++ more)))
+
+  parts_moved : (parts : List (List ℕ)) (last : List ℕ) (close : WordTag) (bytes r s : List ℕ) → AreParts m parts last close bytes r →
+      AreParts m parts last close (body_of m parts last ++ (start ++ word_tag_front endraw_word end close s)) s
+  parts_moved [] last close bytes r s (behind, (splits, nowhere), closes) = (
+    word_tag_front endraw_word end close s,
+    (refl, nowhere_agree (begins start) (begins_agree start) last (start ++ behind) (start ++ word_tag_front endraw_word end close s) (refl, tt) nowhere),
+    word_tag_moved 101 (codes "ndraw") refl close behind r s closes,
+  )
+  parts_moved (part ∷ parts) last close bytes r s (behind, (splits, nowhere), none, are) =
+      let body : List ℕ = body_of m parts last in
+      let tag : List ℕ = word_tag_front endraw_word end close s in
+      let (more, is) = parts_are parts last close behind r are in (
+        body ++ (start ++ tag),
+        (
+          append_assoc part (start ++ body) (start ++ tag),
+          nowhere_agree (begins start) (begins_agree start) part (start ++ behind) (start ++ (body ++ (start ++ tag))) (refl, tt) nowhere,
+        ),
+        closes_nothing body more tag (subst (ClosesNothing m) is none),
+        parts_moved parts last close behind r s are,
+      )
+
+  pub body_moved : (body : List ℕ) (close : WordTag) (bytes r s : List ℕ) → IsBody m body close bytes r →
+      IsBody m body close (body ++ (start ++ word_tag_front endraw_word end close s)) s
+  body_moved body close bytes r s (parts, last, is, are) = (
+    parts,
+    last,
+    is,
+    subst (λ b. AreParts m parts last close (b ++ (start ++ word_tag_front endraw_word end close s)) s) (sym is)
+        (parts_moved parts last close bytes r s are),
+  )

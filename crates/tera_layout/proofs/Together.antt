@@ -1,4 +1,4 @@
--- Lexemes that stand together stay apart by themselves.
+-- Lexemes that stand together stay two by themselves, and between the default markers no end of a tag comes of them.
 use Rattle.std.proofs.Common.{◌≡◌, ◌<◌, ℕ, Bool, true, false, not, ◌&&◌, ◌||◌, List, [], ◌∷◌, ◌++◌, length, inl, inr, ⊎_elim, ap, sym, ◌∙◌, refl, subst, codes, arith}
 use Rattle.std.specs.Prelude.{◌⊎◌, ◌==◌, nat_eq, if◌then◌else◌}
 use Rattle.std.specs.List.{AllByRecursion, list_any}
@@ -7,6 +7,7 @@ use Rattle.std.specs.Str.{bytes_eq}
 use Rattle.std.proofs.lemmas.Bool.{cases_Bool, eqb-true, false≢true}
 use Rattle.std.proofs.lemmas.Bool.Decides.{nat_tests}
 use Rattle.std.proofs.lemmas.Slice.Eq.{bytes_eq-Decides}
+use Rattle.tera_lexer.specs.grammar.Marks.{default_marks}
 use Rattle.tera_lexer.specs.grammar.Lexeme as lexeme
 use Rattle.tera_lexer.specs.grammar.Lexeme.{Lexeme, begins_name, goes_on_name, is_quote, has_escape, spelled, IsLexeme}
 use Rattle.tera_lexer.specs.grammar.Tokens as toks
@@ -17,7 +18,8 @@ use Rattle.tera_layout.specs.declared.sides.Side.TheVariants.{Start, Outside, Wo
 use Rattle.tera_layout.specs.declared.sides.Owner.{Owner}
 use Rattle.tera_layout.specs.declared.sides.Owner.TheVariants.{Argument, Target, Parameter}
 use Rattle.tera_layout.specs.declared.sides.Left.{Left}
-use Rattle.tera_layout.specs.Apart.{joins, last_from, may_touch, may_touch_first, stay_apart}
+use Rattle.tera_layout.specs.Apart.{in_operator, in_end, last_from, first_from, may_touch, may_touch_first, meet_in_end}
+use Rattle.tera_layout.proofs.Likeness.{not_true, loose_last}
 use Rattle.tera_layout.specs.Sides.{operators, side_among, words, is_among, word_side, side_of, ends_a_value, has_no_slice, equals_of, stand_together, placed}
 
 -- what follows for one of two sides follows for the one that is taken
@@ -58,6 +60,17 @@ side_any P name word number string rows other (lexeme.Number b bs) = number b bs
 side_any P name word number string rows other (lexeme.Quoted quote is) =
     ⊎_elim (λ escape. rw escape (string quote is)) (λ plain. rw plain (string quote is)) (cases_Bool (has_escape is))
 side_any P name word number string rows other (lexeme.Operator op) = operator_side (λ x s. P (lexeme.Operator x) s) operators op rows (other op)
+
+-- the two bytes stand side by side in an operator, or in the end of a tag between the default markers with its dash
+abbrev joins : ℕ → ℕ → Bool
+joins a c = in_operator a c || in_end default_marks a c
+
+-- the lexeme stays as it is where this byte stands behind it; and an operator ends no tag with it
+abbrev touches : Lexeme → ℕ → Bool
+touches (lexeme.Name b bs) c = may_touch (lexeme.Name b bs) c
+touches (lexeme.Number b bs) c = may_touch (lexeme.Number b bs) c
+touches (lexeme.Quoted quote is) c = true
+touches (lexeme.Operator op) c = not (joins (last_from 0 op) c)
 
 -- On the left: the bytes that may touch what is so
 abbrev plain : List ℕ
@@ -112,13 +125,13 @@ minus_joins : (a : ℕ) → follows_minus a ≡ true → not (joins 45 a) ≡ tr
 minus_joins a h = grind (arith, nat_tests)
 
 abbrev pub Allowed : Lexeme → Side → Type 0
-Allowed l s = (c : ℕ) → allows s c ≡ true → may_touch l c ≡ true
+Allowed l s = (c : ℕ) → allows s c ≡ true → touches l c ≡ true
 
 other_allowed : (l : Lexeme) → Allowed l Other
-other_allowed (lexeme.Name b bs) c h = one_of (λ x. may_touch (lexeme.Name b bs) x ≡ true) plain c (refl, (refl, (refl, (refl, tt)))) h
-other_allowed (lexeme.Number b bs) c h = one_of (λ x. may_touch (lexeme.Number b bs) x ≡ true) plain c (refl, (refl, (refl, (refl, tt)))) h
+other_allowed (lexeme.Name b bs) c h = one_of (λ x. touches (lexeme.Name b bs) x ≡ true) plain c (refl, (refl, (refl, (refl, tt)))) h
+other_allowed (lexeme.Number b bs) c h = one_of (λ x. touches (lexeme.Number b bs) x ≡ true) plain c (refl, (refl, (refl, (refl, tt)))) h
 other_allowed (lexeme.Quoted quote is) c h = refl
-other_allowed (lexeme.Operator op) c h = one_of (λ x. may_touch (lexeme.Operator op) x ≡ true) plain c (plain_joins (last_from 0 op)) h
+other_allowed (lexeme.Operator op) c h = one_of (λ x. touches (lexeme.Operator op) x ≡ true) plain c (plain_joins (last_from 0 op)) h
 
 -- a dot, or what stands before a name
 before_name : (a : ℕ) → ((c : ℕ) → begins_name c ≡ true → not (joins a c) ≡ true) → (c : ℕ) → (begins_name c || list_any (λ x. x == c) plain) ≡ true →
@@ -204,10 +217,6 @@ operator_fits : (c : ℕ) → Fits Operator c
 operator_fits c = fits Operator c (refl, (refl, (refl, (refl, (refl, (refl, (refl, (refl, (refl, (refl, (refl, (refl, (refl, (refl, (refl, (refl, (refl, (refl, (refl, (refl, tt))))))))))))))))))))
 
 -- the first byte of a lexeme
-abbrev pub first_from : List ℕ → ℕ
-first_from [] = 0
-first_from (b ∷ bs) = b
-
 abbrev Begins : Lexeme → Type 0
 Begins (lexeme.Name b bs) = begins_name b ≡ true
 Begins (lexeme.Number b bs) = is_ascii_digit b ≡ true
@@ -307,14 +316,36 @@ rows_fit = (λ u. λ left. at_paren_40, (λ u. λ left. at_bracket_91, (λ u. λ
 right_fits : (r : Lexeme) → RightFits r (side_of (token_of r))
 right_fits r = side_any RightFits name_fits word_fits number_fits quoted_fits rows_fit (λ op u. λ left. other_fits (first_from op)) r
 
+or_none : (a b : Bool) → not (a || b) ≡ true → (a ≡ false) × (b ≡ false)
+or_none true b h = cc
+or_none false b h = (refl, not_true b h)
+
+-- what stays as it is, and ends no tag between the default markers
+abbrev Stays : Lexeme → ℕ → Type 0
+Stays l c = (may_touch l c ≡ true) × (in_end default_marks (last_from 0 (spelled l)) c ≡ false)
+
+stays : (l : Lexeme) (more : List ℕ) (c : ℕ) → IsLexeme l more → touches l c ≡ true → Stays l c
+stays (lexeme.Name b bs) more c is h = (h, loose_last (lexeme.Name b bs) more c tt is)
+stays (lexeme.Number b bs) more c is h = (h, loose_last (lexeme.Number b bs) more c tt is)
+stays (lexeme.Quoted quote inner) more c is h = (refl, loose_last (lexeme.Quoted quote inner) more c tt is)
+stays (lexeme.Operator op) more c is h =
+    let (operator, end) = or_none (in_operator (last_from 0 op) c) (in_end default_marks (last_from 0 op) c) h in (ap not operator, end)
+
 first_is : (l : Lexeme) (bytes : List ℕ) → 0 < length bytes → may_touch l (first_from bytes) ≡ true → may_touch_first l bytes ≡ true
 first_is l [] some h = absurd (omega (arith, some))
 first_is l (c ∷ bytes) some h = h
 
 -- behind what stands on the left of each
-pub together_apart : (l r : Lexeme) (rest : List ℕ) → IsLexeme r rest → (before left : Left) → left.side ≡ placed before (side_of (token_of l)) →
-    stand_together left.side (placed left (side_of (token_of r))) ≡ true → stay_apart l r ≡ true
-together_apart l r rest is before left side h =
+pub record Apart (l r : Lexeme) : Type 0 where
+  pub touch : may_touch_first l (spelled r) ≡ true
+  pub no_end : meet_in_end default_marks (spelled l) (spelled r) ≡ false
+
+pub together_apart : (l r : Lexeme) (more rest : List ℕ) → IsLexeme l more → IsLexeme r rest → (before left : Left) →
+    left.side ≡ placed before (side_of (token_of l)) → stand_together left.side (placed left (side_of (token_of r))) ≡ true → Apart l r
+together_apart l r more rest is_left is before left side h =
     let allowed : Allowed l left.side = subst (Allowed l) (sym side) (left_allowed l before) in
     let here : Fits (placed left (side_of (token_of r))) (first_from (spelled r)) = right_fits r (begins r rest is) left in
-    first_is l (spelled r) (spelled_some r rest is) (allowed (first_from (spelled r)) (here left.side h))
+    let both = stays l more (first_from (spelled r)) is_left (allowed (first_from (spelled r)) (here left.side h)) in record {
+      touch = first_is l (spelled r) (spelled_some r rest is) both.0;
+      no_end = both.1;
+    }

@@ -1,8 +1,9 @@
 pub mod Sides
+pub mod Apart
 pub mod Layout
+pub mod Steady
 pub mod Refusal
 pub mod Widened
-pub mod Apart
 pub mod Narrowed
 pub mod Respaced
 pub mod Alike

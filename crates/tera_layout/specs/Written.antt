@@ -4,6 +4,7 @@ use Rattle.std.specs.Option.{option_map}
 use Rattle.tera_base.specs.Errors.{TellsBy}
 use Rattle.tera_base.specs.declared.utils.Span.{Span}
 use Rattle.tera_base.specs.declared.errors.Error.{Error}
+use Rattle.tera_lexer.specs.grammar.Marks.{Marks}
 use Rattle.tera_lexer.specs.grammar.Place.{IsWithin}
 use Rattle.tera_lexer.specs.grammar.Faults.{IsFaultOf, IsEndBehind, IsEndOf}
 use Rattle.tera_lexer.specs.grammar.Tiling.{in_tag_behind}
@@ -14,7 +15,8 @@ use Rattle.tera_layout.specs.declared.sides.Left.{Left}
 use Rattle.tera_layout.specs.declared.sides.Join.{Join}
 use Rattle.tera_layout.specs.declared.sides.Join.TheVariants.{Space, Nothing, Kept}
 use Rattle.tera_layout.specs.Sides.{outside, behind}
-use Rattle.tera_layout.specs.Layout.{laid_gap, join_inside}
+use Rattle.tera_layout.specs.Apart.{meet_in_end}
+use Rattle.tera_layout.specs.Layout.{laid_gap, join_inside, unless_end}
 
 -- the token is the end of a tag
 abbrev pub is_finish : Tok → Bool
@@ -37,17 +39,24 @@ nothing = record { end = 0; in_tag = false; left = outside }
 abbrev pub reached : Reached → Tok → ℕ → Reached
 reached r t end = record { end = end; in_tag = in_tag_behind r.in_tag t; left = behind r.left t }
 
+-- what joins it to what was reached
+abbrev pub join_at : Marks → List ℕ → Reached → Tok → Span → Join
+join_at m source r t span =
+    unless_end (join_of r.left t)
+    (meet_in_end m (slice_range source 0 r.end) (slice_range source span.range.start span.range.end))
+
 -- what is written of a token and the gap before it
-abbrev pub token_text : List ℕ → Reached → Tok → Span → List ℕ
-token_text source r t span =
-    laid_gap (join_of r.left t) (slice_range source r.end span.range.start)
+abbrev pub token_text : Marks → List ℕ → Reached → Tok → Span → List ℕ
+token_text m source r t span =
+    laid_gap (join_at m source r t span) (slice_range source r.end span.range.start)
     ++ slice_range source span.range.start span.range.end
 
 -- what is written of tokens that stand behind what was reached: nothing where they end in a fault, or in a tag
-abbrev pub written : List ℕ → Reached → Items → Option (List ℕ)
-written source r Ended = if r.in_tag then None else Some []
-written source r (Failed text span) = None
-written source r (Token t span items) = put (token_text source r t span) (written source (reached r t span.range.end) items)
+abbrev pub written : Marks → List ℕ → Reached → Items → Option (List ℕ)
+written m source r Ended = if r.in_tag then None else Some []
+written m source r (Failed text span) = None
+written m source r (Token t span items) =
+    put (token_text m source r t span) (written m source (reached r t span.range.end) items)
 
 -- each token begins where the one before it ends, or later
 abbrev pub Follow : ℕ → Items → Type 0
@@ -64,9 +73,9 @@ KeepsFaults items last left =
 
 -- a refusal of tokens: nothing is written of them, and what is told is the fault in which they end, or their end where a
 -- tag is open
-abbrev pub RefusesTokens : List ℕ → Items → Error → Type 0
-RefusesTokens source items e =
-    TellsBy (λ text span. IsWithin source span × (written source nothing items ≡ None)
+abbrev pub RefusesTokens : Marks → List ℕ → Items → Error → Type 0
+RefusesTokens m source items e =
+    TellsBy (λ text span. IsWithin source span × (written m source nothing items ≡ None)
     × (IsFaultOf items text span ⊎ IsEndOf items text span)) e
 
 -- one space stands in the place of a gap without a line feed

@@ -1,12 +1,17 @@
 //! Laws of white space in tags: each function has the law as its promise and does nothing.
 
-ghost use Rattle.std.specs.Prelude.{◌≡◌, ◌↔◌, ℕ, List, Some};
+ghost use Rattle.std.specs.Prelude.{◌≡◌, ◌↔◌, ℕ, true, List, Some};
 ghost use Rattle.tera_lexer.specs.grammar.Division.{Piece, Complete, IsDivision};
-ghost use Rattle.tera_lexer.specs.grammar.Marks.{Marks, default_marks};
+ghost use Rattle.tera_lexer.specs.grammar.Marks.{Marks, IsValid, default_marks};
+ghost use Rattle.tera_lexer.specs.grammar.Lexeme.{Lexeme, IsLexeme, spelled};
+ghost use Rattle.tera_lexer.specs.grammar.Tokens.{token_of};
+ghost use Rattle.tera_layout.specs.declared.sides.Left.{Left};
 ghost use Rattle.tera_layout.specs.Alike.{AreAlikeSources};
-ghost use Rattle.tera_layout.specs.Layout.{IsLaidOut, laid_out};
+ghost use Rattle.tera_layout.specs.Layout.{join_behind, join_inside, IsLaidOut, laid_out};
 ghost use Rattle.tera_layout.specs.Narrowed.{AreNarrowed};
 ghost use Rattle.tera_layout.specs.Respaced.{IsRespaced, without_white};
+ghost use Rattle.tera_layout.specs.Sides.{behind};
+ghost use Rattle.tera_layout.specs.Steady.{is_steady};
 ghost use Rattle.tera_layout.specs.Widened.{pieces_bytes, AreWidened};
 
 /// A source is the bytes of its pieces. So sources that differ in the white space inside tags alone
@@ -21,32 +26,45 @@ pub fn respaced()
         AreAlikeSources m one m other }
 {}
 
-/// Between the default markers other white space may be written in the tags of a source, as long as
-/// what stood apart stays apart: the source that comes of it differs in that white space alone.
+/// Between steady markers other white space may be written in the tags of a source, as long as what
+/// stood apart stays apart: the source that comes of it differs in that white space alone.
 pub fn widened()
-    ensures { (ps qs : List Piece) (one : List ℕ) → IsDivision default_marks ps Complete one →
-        AreWidened ps qs → IsRespaced default_marks one (pieces_bytes default_marks qs) }
+    ensures { (m : Marks) → IsValid m → is_steady m ≡ true →
+        (ps qs : List Piece) (one : List ℕ) → IsDivision m ps Complete one →
+        AreWidened ps qs → IsRespaced m one (pieces_bytes m qs) }
 {}
 
 /// White space may be taken out as well between lexemes that stay apart by themselves, as a name and a
 /// bracket do, and a number and a point do not.
 pub fn narrowed()
-    ensures { (ps qs : List Piece) (one : List ℕ) → IsDivision default_marks ps Complete one →
-        AreNarrowed ps qs → IsRespaced default_marks one (pieces_bytes default_marks qs) }
+    ensures { (m : Marks) → IsValid m → is_steady m ≡ true →
+        (ps qs : List Piece) (one : List ℕ) → IsDivision m ps Complete one →
+        AreNarrowed m ps qs → IsRespaced m one (pieces_bytes m qs) }
 {}
 
-/// Each source without a fault and without an open tag has a layout, between the default markers.
-/// The layout differs from it in white space inside tags alone, so it has the same tokens apart from
-/// places; and the layout of a layout is itself.
+/// Each source without a fault and without an open tag has a layout. Between steady markers the layout
+/// differs from it in white space inside tags alone, so it has the same tokens apart from places; and
+/// the layout of a layout is itself.
 pub fn layout()
-    ensures exists { (ps : List Piece) (one : List ℕ) → IsDivision default_marks ps Complete one →
-        (other : List ℕ) × IsLaidOut one other }
-    ensures read { (one other : List ℕ) → (laid_out one ≡ Some other) ↔ IsLaidOut one other }
-    ensures kept { (one other : List ℕ) → IsLaidOut one other →
-        IsRespaced default_marks one other }
-    ensures tokens { (one other : List ℕ) → IsLaidOut one other →
-        AreAlikeSources default_marks one default_marks other }
-    ensures settled { (one other : List ℕ) → IsLaidOut one other → IsLaidOut other other }
-    ensures twice { (one other third : List ℕ) →
-        IsLaidOut one other → IsLaidOut other third → third ≡ other }
+    ensures exists { (m : Marks) (ps : List Piece) (one : List ℕ) →
+        IsDivision m ps Complete one → (other : List ℕ) × IsLaidOut m one other }
+    ensures read { (m : Marks) → IsValid m → (one other : List ℕ) →
+        (laid_out m one ≡ Some other) ↔ IsLaidOut m one other }
+    ensures kept { (m : Marks) → IsValid m → is_steady m ≡ true →
+        (one other : List ℕ) → IsLaidOut m one other → IsRespaced m one other }
+    ensures tokens { (m : Marks) → IsValid m → is_steady m ≡ true →
+        (one other : List ℕ) → IsLaidOut m one other → AreAlikeSources m one m other }
+    ensures settled { (m : Marks) → IsValid m → is_steady m ≡ true →
+        (one other : List ℕ) → IsLaidOut m one other → IsLaidOut m other other }
+    ensures twice { (m : Marks) → IsValid m → is_steady m ≡ true → (one other third : List ℕ) →
+        IsLaidOut m one other → IsLaidOut m other third → third ≡ other }
+{}
+
+/// Between the default markers no white space stays for its loss to end a tag: what joins two lexemes
+/// says the table alone.
+pub fn defaults()
+    ensures { (l r : Lexeme) (more rest : List ℕ) (before : Left) →
+        IsLexeme l more → IsLexeme r rest →
+        join_behind default_marks (spelled l) (behind before (token_of l)) r
+        ≡ join_inside (behind before (token_of l)) (token_of r) }
 {}
