@@ -1,9 +1,13 @@
 //! Files that are laid out.
 
+ghost use Rattle.std.specs.Prelude.{◌≡◌, true};
+ghost use Rattle.tera_layout.specs.Steady.{is_steady};
+ghost use Rattle.tera_lexer.specs.grammar.Marks.{marks_of, IsValid};
+
 use std::io::{Read, Write};
 use std::{fs, io};
 use tera_base::{Error, ErrorKind, ReportError};
-use tera_layout::format;
+use tera_layout::format_between;
 use tera_parser::Parser;
 use tera_parser::lexer::Delimiters;
 
@@ -27,10 +31,18 @@ impl From<Error> for Refusal {
     }
 }
 
-/// Lays out the file where it holds a template, and names it on standard output where that changes it; under `check` it
-/// is left as it is. The layout of standard input, `-`, is written to standard output. The answer is whether the layout
-/// is another text.
-pub(crate) fn lay_out(rt: &HostRuntime, file: &str, check: bool) -> Result<bool, Refusal> {
+/// Lays out the file where it holds a template between the markers, and names it on standard output where that
+/// changes it; under `check` it is left as it is. The layout of standard input, `-`, is written to standard output.
+/// The answer is whether the layout is another text.
+pub(crate) fn lay_out(
+    rt: &HostRuntime,
+    file: &str,
+    markers: &Delimiters,
+    check: bool,
+) -> Result<bool, Refusal>
+    requires valid { IsValid (marks_of markers.now) }
+    requires steady { is_steady (marks_of markers.now) ≡ true }
+{
     let bytes = match bytes_of(rt, file) {
         Ok(bytes) => bytes,
         Err(error) => return Err(Refusal::Read(error)),
@@ -38,13 +50,30 @@ pub(crate) fn lay_out(rt: &HostRuntime, file: &str, check: bool) -> Result<bool,
     let Ok(source) = str::from_utf8(bytes.as_slice()) else {
         return Err(Refusal::NotUtf8);
     };
-    Parser::new(rt.alloc(), file, source, Delimiters::default()).parse()?;
-    let layout = format(rt.alloc(), source)?;
+    let layout = layout_of(rt, file, source, markers)?;
     let differs = layout.as_str() != source;
     match put(rt, file, check, differs, layout.as_str()) {
         Ok(()) => Ok(differs),
         Err(error) => Err(Refusal::Write(error)),
     }
+}
+
+// The layout of a source that is a template.
+fn layout_of(
+    rt: &HostRuntime,
+    file: &str,
+    source: &str,
+    markers: &Delimiters,
+) -> Result<String, Refusal>
+    requires valid { IsValid (marks_of markers.now) }
+    requires steady { is_steady (marks_of markers.now) ≡ true }
+{
+    let Ok(copy) = markers.clone() else {
+        return Err(Refusal::Memory);
+    };
+    Parser::new(rt.alloc(), file, source, copy).parse()?;
+    let layout = format_between(rt.alloc(), source, markers)?;
+    Ok(layout)
 }
 
 // Writes the layout where it belongs, and the name of a file that it changes.

@@ -1,0 +1,94 @@
+//! Markers between which files are laid out.
+
+ghost use Rattle.std.specs.Prelude.{◌≡◌, IfOk, true};
+ghost use Rattle.tera_layout.specs.Steady.{is_steady};
+ghost use Rattle.tera_lexer.specs.grammar.Marks.{marks_of, IsValid};
+
+use std::alloc::Global;
+use std::borrow::CowStr;
+use std::str::SplitWhitespace;
+use tera_base::{Error, ErrorKind};
+use tera_layout::are_steady;
+use tera_parser::lexer::Delimiters;
+
+/// Why nothing is laid out between some markers.
+#[derive(Drop)]
+pub(crate) enum Unfit {
+    Memory,
+    /// They are not six.
+    Number,
+    /// They break a rule, which is told.
+    Rule(Error),
+    /// A layout might put or take away the end of a tag.
+    Unsteady,
+}
+
+/// The six markers that these words are; the default ones without them.
+pub(crate) fn markers_of(alloc: Global, words: &Option<String>) -> Result<Delimiters, Unfit>
+    ensures { IfOk result (λ d. IsValid (marks_of d) × (is_steady (marks_of d) ≡ true)) }
+{
+    match words {
+        Some(words) => fit(alloc, six_of(alloc, words.as_str())?),
+        None => fit(alloc, Delimiters::default()),
+    }
+}
+
+// The markers, if files can be laid out between them.
+fn fit(alloc: Global, markers: Delimiters) -> Result<Delimiters, Unfit>
+    ensures { IfOk result (λ d. IsValid (marks_of d) × (is_steady (marks_of d) ≡ true)) }
+{
+    match markers.validate(alloc) {
+        Ok(()) => {
+            if are_steady(&markers) {
+                Ok(markers)
+            } else {
+                Err(Unfit::Unsteady)
+            }
+        }
+        Err(error) => Err(Unfit::Rule(error)),
+    }
+}
+
+// Six markers, in the order of the fields, with white space between them.
+fn six_of(alloc: Global, words: &str) -> Result<Delimiters, Unfit> {
+    let mut parts = words.split_whitespace();
+    let markers = Delimiters {
+        block_start: next_of(alloc, &mut parts)?,
+        block_end: next_of(alloc, &mut parts)?,
+        variable_start: next_of(alloc, &mut parts)?,
+        variable_end: next_of(alloc, &mut parts)?,
+        comment_start: next_of(alloc, &mut parts)?,
+        comment_end: next_of(alloc, &mut parts)?,
+    };
+    match parts.next() {
+        None => Ok(markers),
+        Some(_) => Err(Unfit::Number),
+    }
+}
+
+fn next_of(alloc: Global, parts: &mut SplitWhitespace<'_>) -> Result<CowStr<'static>, Unfit> {
+    let Some(marker) = parts.next() else {
+        return Err(Unfit::Number);
+    };
+    match String::from_str(alloc, marker) {
+        Ok(text) => Ok(CowStr::Owned(text)),
+        Err(_) => Err(Unfit::Memory),
+    }
+}
+
+/// Says on standard error why nothing is laid out.
+pub(crate) fn tell_unfit(rt: &HostRuntime, why: &Unfit) {
+    let _ = match why {
+        Unfit::Memory => eprintln!(rt; "tera_format: out of memory"),
+        Unfit::Number => eprintln!(rt;
+            "tera_format: --markers: six markers are wanted, with white space between them"
+        ),
+        Unfit::Rule(error) => match &error.kind {
+            ErrorKind::Message(text) => eprintln!(rt; "tera_format: --markers: {text}"),
+            _ => eprintln!(rt; "tera_format: out of memory"),
+        },
+        Unfit::Unsteady => eprintln!(rt;
+            "tera_format: --markers: `block_start` and ends of tags may begin with no dash, letter, digit or `_`"
+        ),
+    };
+}
