@@ -27,6 +27,8 @@ pub enum Shown {
     Context,
     /// What is told of the components that the source defines.
     Parameters,
+    /// The source, laid out.
+    Layout,
     /// What a cursor over the tokens shows ahead, place by place.
     Cursor,
     /// The expression behind the first token.
@@ -78,7 +80,7 @@ pub struct Options {
     pub expressions: bool,
     /// What is read behind the first token stands in a loop.
     pub in_loop: bool,
-    /// The sources are written with escapes.
+    /// The sources, and layouts, are written with escapes.
     pub escapes: bool,
     /// The sources are too long to try each of their beginnings.
     pub uncut: bool,
@@ -176,6 +178,7 @@ fn what_is_shown(line: usize, text: &str) -> Result<Shown, CaseError> {
         "names of tokens" => Shown::TokenNames,
         "context" => Shown::Context,
         "parameters" => Shown::Parameters,
+        "layout" => Shown::Layout,
         "cursor" => Shown::Cursor,
         "expression" => Shown::Expression,
         "filter" => Shown::Filter,

@@ -2,7 +2,7 @@
 
 use crate::case::{Case, CaseError, wrong};
 use crate::escapes::without_escapes;
-use crate::options::Options;
+use crate::options::{Options, Shown};
 use std::alloc::{AllocError, Global};
 
 /// A line of a file, with its number.
@@ -190,13 +190,21 @@ fn parts(text: &str) -> Option<(&str, &str)> {
     }
 }
 
-// Takes the escapes out of the source, puts it in a tag where it is an expression, and puts in what is repeated.
+// The text without its escapes.
+fn plain(alloc: Global, line: usize, text: &str) -> Result<String, CaseError> {
+    match without_escapes(alloc, text)? {
+        Some(plain) => Ok(plain),
+        None => wrong(line, "an escape that is unknown"),
+    }
+}
+
+// Takes the escapes out of the source, and of a layout, and puts in what is repeated.
 fn prepare(alloc: Global, options: &Options, case: &mut Case) -> Result<(), CaseError> {
     if options.escapes {
-        let Some(plain) = without_escapes(alloc, case.source.as_str())? else {
-            return wrong(case.line, "an escape that is unknown");
-        };
-        case.source = plain;
+        case.source = plain(alloc, case.line, case.source.as_str())?;
+        if options.shown == Shown::Layout {
+            case.wanted = plain(alloc, case.line, case.wanted.as_str())?;
+        }
     }
     for repeat in &options.repeats {
         let name = repeat.name.as_str();

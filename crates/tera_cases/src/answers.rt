@@ -5,6 +5,7 @@ use crate::contexts::context;
 use crate::cursors::trace;
 use crate::faults::{Detail, error_text};
 use crate::fronts::front;
+use crate::layouts::layout;
 use crate::parameters::parameters;
 use crate::settings::{Setting, limits_of, markers_of};
 use crate::shown::{is_shown, told_lines};
@@ -37,6 +38,7 @@ pub(crate) fn answer(
         | Shown::Name
         | Shown::Array
         | Shown::Map => { front(alloc, setting, source) }
+        Shown::Layout => layout(alloc, setting, source),
         Shown::Markers => are_markers(alloc, source),
         Shown::Limits => are_limits(alloc, setting.options, source),
         Shown::Tree if setting.options.markers.is_empty() => tree(alloc, setting, source),

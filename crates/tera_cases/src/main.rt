@@ -11,6 +11,7 @@ mod faces;
 mod faults;
 mod fronts;
 mod kept;
+mod layouts;
 mod parameters;
 mod parts;
 mod refusals;
