@@ -206,33 +206,32 @@ static void long_chain(void) {
     free(text);
 }
 
+/* A call that writes a tree. */
+typedef uint32_t writing(const struct tera_source *source, void *text, size_t length, size_t *needed);
+
+/* Refuses memory to the call, one grant later each time, until it is written with a grant left; the times that came
+ * before. Each of them is answered by the text, or by want of memory, and then nothing is written. */
+static long refusals_of(writing *call, const struct tera_source *source, char *text, size_t length, size_t *needed) {
+    for (long grants = 0;; grants++) {
+        memset(text, '*', length);
+        granted = grants;
+        uint32_t told = call(source, text, length, needed);
+        int left = granted != 0;
+        granted = -1;
+        if (told == TERA_WRITTEN && left) return grants;
+        HOLDS(told == TERA_WRITTEN || (told == TERA_NO_MEMORY && *needed == 0 && is_left(text, 0, length)));
+    }
+}
+
 /* Each call that may find no memory is answered so, or as ever, where the memory that is refused is not needed. */
 static void scarce_memory(void) {
     struct tera_source source = source_of(TWICE), whole = source_of(GREETING);
-    char buffer[64];
+    char buffer[64], json[512];
     size_t needed = 0;
     struct tera_fault fault = {{0, 0, 0, 0, 0, 0}, 0};
-    int turns = 0;
-    for (long calls = 0;; calls++, turns++) {
-        memset(buffer, '*', sizeof buffer);
-        granted = calls;
-        enum tera_status tree = tera_tree(&whole, buffer, sizeof buffer, &needed);
-        int left = granted != 0;
-        granted = -1;
-        if (tree == TERA_WRITTEN && left) break;
-        HOLDS(tree == TERA_WRITTEN || (tree == TERA_NO_MEMORY && needed == 0 && is_left(buffer, 0, sizeof buffer)));
-    }
-    HOLDS(turns > 6);
-    char json[512];
-    for (long calls = 0;; calls++) {
-        memset(json, '*', sizeof json);
-        granted = calls;
-        enum tera_status told = tera_json(&whole, json, sizeof json, &needed);
-        int left = granted != 0;
-        granted = -1;
-        if (told == TERA_WRITTEN && left) break;
-        HOLDS(told == TERA_WRITTEN || (told == TERA_NO_MEMORY && needed == 0 && is_left(json, 0, sizeof json)));
-    }
+    HOLDS(refusals_of(tera_tree, &whole, buffer, sizeof buffer, &needed) > 6);
+    HOLDS(needed == strlen(GREETING_TREE) && memcmp(buffer, GREETING_TREE, needed) == 0);
+    HOLDS(refusals_of(tera_json, &whole, json, sizeof json, &needed) > 6);
     HOLDS(needed == strlen(GREETING_JSON) && memcmp(json, GREETING_JSON, needed) == 0);
     for (long calls = 0;; calls++) {
         granted = calls;
