@@ -3,10 +3,10 @@
 mod bodies;
 
 ghost use Rattle.std.specs.Prelude.{◌≡◌, IfOk, map, string_bytes};
-ghost use Rattle.tera_nodes.specs.View.{expression_view, node_view, name_view, maybe_view, args_view, item_view, keyed_view, entries_view};
+ghost use Rattle.tera_nodes.specs.View.{expression_view, node_view, block_set_view, for_view, if_view, section_view, name_view, maybe_view, args_view, item_view, keyed_view, entries_view};
 ghost use Rattle.tera_base.specs.Spanned.{node_of, span_of};
 
-use crate::ast::{ArrayEntry, Expression, MapEntry, Node};
+use crate::ast::{ArrayEntry, BlockSet, Expression, FilterSection, ForLoop, If, MapEntry, Node};
 use crate::build;
 use std::alloc::{AllocError, Global};
 use std::collections::BTreeMap;
@@ -259,7 +259,7 @@ impl Clone for Node {
 }
 
 #[cycle(copy)]
-#[tactic(auto, using(crate::proofs::Views::view_shown, crate::proofs::Views::view_set, crate::proofs::Views::view_block, crate::proofs::Views::view_block_set, crate::proofs::Views::view_for, crate::proofs::Views::view_if, crate::proofs::Views::view_section, crate::proofs::Views::block_set_out, crate::proofs::Views::for_out, crate::proofs::Views::if_out, crate::proofs::Views::section_out))]
+#[tactic(auto, using(crate::proofs::Views::view_shown, crate::proofs::Views::view_set, crate::proofs::Views::view_block, crate::proofs::Views::view_block_set, crate::proofs::Views::view_for, crate::proofs::Views::view_if, crate::proofs::Views::view_section))]
 fn copy_node(node: &Node) -> Result<Node, AllocError>
     ensures { IfOk result (λ c. node_view c ≡ node_view node.now) }
 {
@@ -271,40 +271,79 @@ fn copy_node(node: &Node) -> Result<Node, AllocError>
             let value = copy(&set.value)?;
             Ok(build::set(name, value, set.global))
         }
-        Node::BlockSet(set) => {
-            let name = set.name.clone()?;
-            let filters = copy_filters(*set.filters.allocator(), &set.filters)?;
-            let body = copy_nodes(*set.body.allocator(), &set.body)?;
-            Ok(build::block_set(name, filters, body, set.global))
-        }
+        Node::BlockSet(set) => Ok(Node::BlockSet(copy_block_set(set)?)),
         Node::Include(include) => Ok(build::include(copy_named(&include.name)?)),
         Node::Block(block) => {
             let name = copy_named(&block.name)?;
             let body = copy_nodes(*block.body.allocator(), &block.body)?;
             Ok(build::block(name, body))
         }
-        Node::ForLoop(parts) => {
-            let key = copy_name(&parts.key)?;
-            let value = parts.value.clone()?;
-            let target = copy(&parts.target)?;
-            let body = copy_nodes(*parts.body.allocator(), &parts.body)?;
-            let else_body = copy_nodes(*parts.else_body.allocator(), &parts.else_body)?;
-            Ok(build::for_loop(key, value, target, body, else_body))
-        }
+        Node::ForLoop(turns) => Ok(Node::ForLoop(copy_loop(turns)?)),
         Node::Break => Ok(Node::Break),
         Node::Continue => Ok(Node::Continue),
-        Node::If(parts) => {
-            let expr = copy(&parts.expr)?;
-            let body = copy_nodes(*parts.body.allocator(), &parts.body)?;
-            let false_body = copy_nodes(*parts.false_body.allocator(), &parts.false_body)?;
-            Ok(build::when(expr, body, false_body))
-        }
-        Node::FilterSection(section) => {
-            let filters = copy_filters(*section.filters.allocator(), &section.filters)?;
-            let body = copy_nodes(*section.body.allocator(), &section.body)?;
-            Ok(build::filter_section(filters, body))
-        }
+        Node::If(choice) => Ok(Node::If(copy_choice(choice)?)),
+        Node::FilterSection(section) => Ok(Node::FilterSection(copy_section(section)?)),
     }
+}
+
+#[cycle(copy)]
+#[tactic(auto, using(crate::proofs::Views::block_set_out))]
+fn copy_block_set(set: &BlockSet) -> Result<BlockSet, AllocError>
+    ensures { IfOk result (λ c. block_set_view c ≡ block_set_view set.now) }
+{
+    let name = set.name.clone()?;
+    let filters = copy_filters(*set.filters.allocator(), &set.filters)?;
+    let body = copy_nodes(*set.body.allocator(), &set.body)?;
+    Ok(BlockSet {
+        name,
+        filters,
+        body,
+        global: set.global,
+    })
+}
+
+#[cycle(copy)]
+#[tactic(auto, using(crate::proofs::Views::for_out))]
+fn copy_loop(turns: &ForLoop) -> Result<ForLoop, AllocError>
+    ensures { IfOk result (λ c. for_view c ≡ for_view turns.now) }
+{
+    let key = copy_name(&turns.key)?;
+    let value = turns.value.clone()?;
+    let target = copy(&turns.target)?;
+    let body = copy_nodes(*turns.body.allocator(), &turns.body)?;
+    let else_body = copy_nodes(*turns.else_body.allocator(), &turns.else_body)?;
+    Ok(ForLoop {
+        key,
+        value,
+        target,
+        body,
+        else_body,
+    })
+}
+
+#[cycle(copy)]
+#[tactic(auto, using(crate::proofs::Views::if_out))]
+fn copy_choice(choice: &If) -> Result<If, AllocError>
+    ensures { IfOk result (λ c. if_view c ≡ if_view choice.now) }
+{
+    let expr = copy(&choice.expr)?;
+    let body = copy_nodes(*choice.body.allocator(), &choice.body)?;
+    let false_body = copy_nodes(*choice.false_body.allocator(), &choice.false_body)?;
+    Ok(If {
+        expr,
+        body,
+        false_body,
+    })
+}
+
+#[cycle(copy)]
+#[tactic(auto, using(crate::proofs::Views::section_out))]
+fn copy_section(section: &FilterSection) -> Result<FilterSection, AllocError>
+    ensures { IfOk result (λ c. section_view c ≡ section_view section.now) }
+{
+    let filters = copy_filters(*section.filters.allocator(), &section.filters)?;
+    let body = copy_nodes(*section.body.allocator(), &section.body)?;
+    Ok(FilterSection { filters, body })
 }
 
 fn copy_named(name: &Spanned<String>) -> Result<Spanned<String>, AllocError>

@@ -4,7 +4,7 @@ ghost use Rattle.std.specs.Prelude.{◌≡◌};
 ghost use Rattle.tera_nodes.specs.Spans.{nowhere};
 ghost use Rattle.tera_nodes.specs.View.{call_view, block_set_view, for_view, if_view, section_view};
 
-use super::{copy, copy_attributes, copy_filters, copy_name, copy_nodes};
+use super::{copy_attributes, copy_block_set, copy_choice, copy_loop, copy_nodes, copy_section};
 use crate::ast::{BlockSet, ComponentCall, FilterSection, ForLoop, If};
 use std::alloc::AllocError;
 
@@ -28,63 +28,31 @@ impl Clone for ComponentCall {
 impl Clone for BlockSet {
     ghost is_clone = { λ x y. block_set_view y ≡ block_set_view x };
 
-    #[tactic(auto, using(crate::proofs::Views::block_set_out))]
     fn clone(&self) -> Result<BlockSet, AllocError> {
-        let name = self.name.clone()?;
-        let filters = copy_filters(*self.filters.allocator(), &self.filters)?;
-        let body = copy_nodes(*self.body.allocator(), &self.body)?;
-        Ok(BlockSet {
-            name,
-            filters,
-            body,
-            global: self.global,
-        })
+        copy_block_set(self)
     }
 }
 
 impl Clone for ForLoop {
     ghost is_clone = { λ x y. for_view y ≡ for_view x };
 
-    #[tactic(auto, using(crate::proofs::Views::for_out))]
     fn clone(&self) -> Result<ForLoop, AllocError> {
-        let key = copy_name(&self.key)?;
-        let value = self.value.clone()?;
-        let target = copy(&self.target)?;
-        let body = copy_nodes(*self.body.allocator(), &self.body)?;
-        let else_body = copy_nodes(*self.else_body.allocator(), &self.else_body)?;
-        Ok(ForLoop {
-            key,
-            value,
-            target,
-            body,
-            else_body,
-        })
+        copy_loop(self)
     }
 }
 
 impl Clone for If {
     ghost is_clone = { λ x y. if_view y ≡ if_view x };
 
-    #[tactic(auto, using(crate::proofs::Views::if_out))]
     fn clone(&self) -> Result<If, AllocError> {
-        let expr = copy(&self.expr)?;
-        let body = copy_nodes(*self.body.allocator(), &self.body)?;
-        let false_body = copy_nodes(*self.false_body.allocator(), &self.false_body)?;
-        Ok(If {
-            expr,
-            body,
-            false_body,
-        })
+        copy_choice(self)
     }
 }
 
 impl Clone for FilterSection {
     ghost is_clone = { λ x y. section_view y ≡ section_view x };
 
-    #[tactic(auto, using(crate::proofs::Views::section_out))]
     fn clone(&self) -> Result<FilterSection, AllocError> {
-        let filters = copy_filters(*self.filters.allocator(), &self.filters)?;
-        let body = copy_nodes(*self.body.allocator(), &self.body)?;
-        Ok(FilterSection { filters, body })
+        copy_section(self)
     }
 }

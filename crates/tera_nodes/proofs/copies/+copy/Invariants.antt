@@ -45,3 +45,15 @@ decreases-copy_nodes l = 10 * goal.size-copy_nodes l + 2
 
 abbrev pub decreases-copy_attributes : goal.decreases-copy_attributes
 decreases-copy_attributes l = 10 * goal.size-copy_attributes l + 3
+
+abbrev pub decreases-copy_block_set : goal.decreases-copy_block_set
+decreases-copy_block_set l = 10 * goal.size-copy_block_set l + 1
+
+abbrev pub decreases-copy_loop : goal.decreases-copy_loop
+decreases-copy_loop l = 10 * goal.size-copy_loop l + 1
+
+abbrev pub decreases-copy_choice : goal.decreases-copy_choice
+decreases-copy_choice l = 10 * goal.size-copy_choice l + 1
+
+abbrev pub decreases-copy_section : goal.decreases-copy_section
+decreases-copy_section l = 10 * goal.size-copy_section l + 1
