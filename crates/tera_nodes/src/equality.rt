@@ -6,11 +6,14 @@ ghost use Rattle.std.specs.Prelude.{◌≡◌, string_bytes};
 ghost use Rattle.std.specs.Cmp.{on_equiv, on_per, partial_equiv_from_equiv};
 ghost use Rattle.std.specs.Str.{bytes_eq};
 ghost use Rattle.tera_base.specs.Spanned.{node_of, span_of};
-ghost use Rattle.tera_nodes.specs.View.{expression_view, node_view, name_view, maybe_view, filters_view, args_view, item_view, items_view, entry_view, entries_view, nodes_view};
+ghost use Rattle.tera_nodes.specs.View.{expression_view, node_view, block_set_view, for_view, if_view, section_view, name_view, maybe_view, filters_view, args_view, item_view, items_view, entry_view, entries_view, nodes_view};
 ghost use Rattle.tera_nodes.specs.Same.{span_eq, unary_eq, binary_eq, name_eq, expr_eq, maybe_eq, filters_eq, args_eq, entry_eq, entries_eq, item_eq, items_eq, stmt_eq, nodes_eq};
 ghost use Rattle.tera_nodes.specs.SameLaws.{expr_equivalence, stmt_equivalence};
 
-use crate::ast::{ArrayEntry, BinaryOperator, Expression, MapEntry, Node, UnaryOperator};
+use crate::ast::{
+    ArrayEntry, BinaryOperator, BlockSet, Expression, FilterSection, ForLoop, If, MapEntry, Node,
+    UnaryOperator,
+};
 use std::collections::BTreeMap;
 use tera_base::Span;
 
@@ -302,7 +305,7 @@ fn same_nodes(a: &Vec<Node>, b: &Vec<Node>) -> bool
 }
 
 #[cycle(same)]
-#[tactic(auto, using(crate::proofs::Views::view_shown, crate::proofs::Views::view_set, crate::proofs::Views::view_block, crate::proofs::Views::view_block_set, crate::proofs::Views::view_for, crate::proofs::Views::view_if, crate::proofs::Views::view_section, crate::proofs::Views::block_set_out, crate::proofs::Views::for_out, crate::proofs::Views::if_out, crate::proofs::Views::section_out))]
+#[tactic(auto, using(crate::proofs::Views::view_shown, crate::proofs::Views::view_set, crate::proofs::Views::view_block, crate::proofs::Views::view_block_set, crate::proofs::Views::view_for, crate::proofs::Views::view_if, crate::proofs::Views::view_section))]
 fn same_node(a: &Node, b: &Node) -> bool
     ensures { result ≡ stmt_eq (node_view a.now) (node_view b.now) }
 {
@@ -312,12 +315,7 @@ fn same_node(a: &Node, b: &Node) -> bool
         (Node::Set(x), Node::Set(y)) => {
             same_text(&x.name, &y.name) && same(&x.value, &y.value) && x.global == y.global
         }
-        (Node::BlockSet(x), Node::BlockSet(y)) => {
-            same_text(&x.name, &y.name)
-                && same_filters(&x.filters, &y.filters)
-                && same_nodes(&x.body, &y.body)
-                && x.global == y.global
-        }
+        (Node::BlockSet(x), Node::BlockSet(y)) => same_block_set(x, y),
         (Node::Include(x), Node::Include(y)) => {
             same_span(x.name.span(), y.name.span()) && same_text(x.name.node(), y.name.node())
         }
@@ -326,22 +324,51 @@ fn same_node(a: &Node, b: &Node) -> bool
                 && same_text(x.name.node(), y.name.node())
                 && same_nodes(&x.body, &y.body)
         }
-        (Node::ForLoop(x), Node::ForLoop(y)) => {
-            same_name(&x.key, &y.key)
-                && same_text(&x.value, &y.value)
-                && same(&x.target, &y.target)
-                && same_nodes(&x.body, &y.body)
-                && same_nodes(&x.else_body, &y.else_body)
-        }
+        (Node::ForLoop(x), Node::ForLoop(y)) => same_loop(x, y),
         (Node::Break, Node::Break) | (Node::Continue, Node::Continue) => true,
-        (Node::If(x), Node::If(y)) => {
-            same(&x.expr, &y.expr)
-                && same_nodes(&x.body, &y.body)
-                && same_nodes(&x.false_body, &y.false_body)
-        }
-        (Node::FilterSection(x), Node::FilterSection(y)) => {
-            same_filters(&x.filters, &y.filters) && same_nodes(&x.body, &y.body)
-        }
+        (Node::If(x), Node::If(y)) => same_choice(x, y),
+        (Node::FilterSection(x), Node::FilterSection(y)) => same_section(x, y),
         _ => false,
     }
+}
+
+#[cycle(same)]
+#[tactic(auto, using(crate::proofs::Views::block_set_out))]
+fn same_block_set(a: &BlockSet, b: &BlockSet) -> bool
+    ensures { result ≡ stmt_eq (block_set_view a.now) (block_set_view b.now) }
+{
+    same_text(&a.name, &b.name)
+        && same_filters(&a.filters, &b.filters)
+        && same_nodes(&a.body, &b.body)
+        && a.global == b.global
+}
+
+#[cycle(same)]
+#[tactic(auto, using(crate::proofs::Views::for_out))]
+fn same_loop(a: &ForLoop, b: &ForLoop) -> bool
+    ensures { result ≡ stmt_eq (for_view a.now) (for_view b.now) }
+{
+    same_name(&a.key, &b.key)
+        && same_text(&a.value, &b.value)
+        && same(&a.target, &b.target)
+        && same_nodes(&a.body, &b.body)
+        && same_nodes(&a.else_body, &b.else_body)
+}
+
+#[cycle(same)]
+#[tactic(auto, using(crate::proofs::Views::if_out))]
+fn same_choice(a: &If, b: &If) -> bool
+    ensures { result ≡ stmt_eq (if_view a.now) (if_view b.now) }
+{
+    same(&a.expr, &b.expr)
+        && same_nodes(&a.body, &b.body)
+        && same_nodes(&a.false_body, &b.false_body)
+}
+
+#[cycle(same)]
+#[tactic(auto, using(crate::proofs::Views::section_out))]
+fn same_section(a: &FilterSection, b: &FilterSection) -> bool
+    ensures { result ≡ stmt_eq (section_view a.now) (section_view b.now) }
+{
+    same_filters(&a.filters, &b.filters) && same_nodes(&a.body, &b.body)
 }

@@ -6,7 +6,9 @@ ghost use Rattle.tera_nodes.specs.Same.{expr_eq, stmt_eq};
 ghost use Rattle.tera_nodes.specs.SameLaws.{expr_equivalence, stmt_equivalence};
 ghost use Rattle.tera_nodes.specs.View.{call_view, block_set_view, for_view, if_view, section_view};
 
-use super::{same, same_entries, same_filters, same_name, same_nodes, same_text};
+use super::{
+    same_block_set, same_choice, same_entries, same_loop, same_nodes, same_section, same_text,
+};
 use crate::ast::{BlockSet, ComponentCall, FilterSection, ForLoop, If};
 
 impl PartialEq for ComponentCall {
@@ -32,12 +34,8 @@ impl PartialEq for BlockSet {
 
     ghost laws = { on_per block_set_view (partial_equiv_from_equiv stmt_equivalence) };
 
-    #[tactic(auto, using(crate::proofs::Views::block_set_out))]
     fn eq(&self, other: &BlockSet) -> bool {
-        same_text(&self.name, &other.name)
-            && same_filters(&self.filters, &other.filters)
-            && same_nodes(&self.body, &other.body)
-            && self.global == other.global
+        same_block_set(self, other)
     }
 }
 
@@ -50,13 +48,8 @@ impl PartialEq for ForLoop {
 
     ghost laws = { on_per for_view (partial_equiv_from_equiv stmt_equivalence) };
 
-    #[tactic(auto, using(crate::proofs::Views::for_out))]
     fn eq(&self, other: &ForLoop) -> bool {
-        same_name(&self.key, &other.key)
-            && same_text(&self.value, &other.value)
-            && same(&self.target, &other.target)
-            && same_nodes(&self.body, &other.body)
-            && same_nodes(&self.else_body, &other.else_body)
+        same_loop(self, other)
     }
 }
 
@@ -69,11 +62,8 @@ impl PartialEq for If {
 
     ghost laws = { on_per if_view (partial_equiv_from_equiv stmt_equivalence) };
 
-    #[tactic(auto, using(crate::proofs::Views::if_out))]
     fn eq(&self, other: &If) -> bool {
-        same(&self.expr, &other.expr)
-            && same_nodes(&self.body, &other.body)
-            && same_nodes(&self.false_body, &other.false_body)
+        same_choice(self, other)
     }
 }
 
@@ -86,9 +76,8 @@ impl PartialEq for FilterSection {
 
     ghost laws = { on_per section_view (partial_equiv_from_equiv stmt_equivalence) };
 
-    #[tactic(auto, using(crate::proofs::Views::section_out))]
     fn eq(&self, other: &FilterSection) -> bool {
-        same_filters(&self.filters, &other.filters) && same_nodes(&self.body, &other.body)
+        same_section(self, other)
     }
 }
 

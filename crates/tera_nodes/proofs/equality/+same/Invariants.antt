@@ -49,3 +49,15 @@ decreases-same_items l = 10 * goal.size-same_items l + 2
 
 abbrev pub decreases-same_nodes : goal.decreases-same_nodes
 decreases-same_nodes l = 10 * goal.size-same_nodes l + 2
+
+abbrev pub decreases-same_block_set : goal.decreases-same_block_set
+decreases-same_block_set l = 10 * goal.size-same_block_set l + 1
+
+abbrev pub decreases-same_loop : goal.decreases-same_loop
+decreases-same_loop l = 10 * goal.size-same_loop l + 1
+
+abbrev pub decreases-same_choice : goal.decreases-same_choice
+decreases-same_choice l = 10 * goal.size-same_choice l + 1
+
+abbrev pub decreases-same_section : goal.decreases-same_section
+decreases-same_section l = 10 * goal.size-same_section l + 1
