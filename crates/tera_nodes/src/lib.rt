@@ -5,13 +5,13 @@
 //! stands on `tera_base`, and `tera_tree` passes its public names on.
 //!
 //! In the order of reading: `ast`, the types; `build`, which makes them; `read`, what the form alone tells; `show` and
-//! `parts`, their texts; specs `Tree`, `View` and `Text`. Then `copies`, `equality` and `laws`.
+//! `parts`, their texts; specs `Tree`, `View` and `Text`. Then `comparison`, `copies` and `laws`.
 #![tactic(auto)]
 
 mod ast;
 pub mod build;
+mod comparison;
 mod copies;
-mod equality;
 pub mod laws;
 mod parts;
 mod read;

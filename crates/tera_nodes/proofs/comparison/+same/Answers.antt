@@ -1,5 +1,5 @@
 use Rattle.tera_nodes.proofs.Equals.{alike_entry, alike_entries, alike_item, alike_items, entries_first, items_first, differs, goes_on}
-use Rattle.tera_nodes.proofs.equality.+same.Goals as goal
+use Rattle.tera_nodes.proofs.comparison.+same.Goals as goal
 
 pub same_entries-returns-then-not-same_entry : goal.same_entries-returns-then-not-same_entry
 same_entries-returns-then-not-same_entry t c =

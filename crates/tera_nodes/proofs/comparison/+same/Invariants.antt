@@ -1,7 +1,7 @@
 use Rattle.std.proofs.Common.{◌≡◌, drop, ◌*◌, ◌+◌}
 use Rattle.tera_nodes.specs.View.{filters_view, args_view, entries_view, items_view, nodes_view}
 use Rattle.tera_nodes.specs.Same.{filters_eq, args_eq, entries_eq, items_eq, nodes_eq}
-use Rattle.tera_nodes.proofs.equality.+same.Given as goal
+use Rattle.tera_nodes.proofs.comparison.+same.Given as goal
 
 -- two lists are the same where what is left of them is
 abbrev pub invariant-same_filters-loop-x : goal.invariant-same_filters-loop-x
