@@ -1,6 +1,6 @@
 //! Places, nodes, notes and errors.
 
-use std::alloc::Global;
+use std::alloc::{AllocError, Global};
 use std::process::Abort;
 use std::test::Fail;
 use tera_base::{Error, ErrorKind, Note, ReportError, Span, Spanned, laws};
@@ -15,30 +15,37 @@ fn place() -> Span {
     }
 }
 
-// The text and the place that the error tells.
-fn told(rt: &impl Abort, error: Error) -> (String, Span) {
-    let ErrorKind::SyntaxError(report) = error.kind else {
-        panic!(rt; "memory is left");
-    };
-    let ReportError { message, span, .. } = Box::into_inner(report);
-    (message, span)
+// A report with this text and place.
+fn report(alloc: Global, text: &str, span: Span) -> Result<ReportError, AllocError> {
+    Ok(ReportError {
+        message: String::from_str(alloc, text)?,
+        span,
+        notes: Vec::new(alloc),
+    })
+}
+
+// The error of a report.
+fn fault(alloc: Global, report: ReportError) -> Result<Error, AllocError> {
+    let kind = ErrorKind::SyntaxError(Box::new(alloc, report)?);
+    Ok(Error { kind })
 }
 
 #[test]
 fn errors(rt: HostRuntime) -> Result<(), Fail> {
-    let ErrorKind::Message(message) = Error::message(rt.alloc(), "what").kind else {
-        panic!(rt; "memory is left");
+    let alloc = rt.alloc();
+    let kind = ErrorKind::Message(String::from_str(alloc, "what")?);
+    assert_eq!(rt; Error::message(alloc, "what"), Error { kind });
+    let why = fault(alloc, report(alloc, "why", place())?)?;
+    assert_eq!(rt; Error::syntax_error(alloc, "why", &place()), why);
+    let text = String::from_str(alloc, "why");
+    assert_eq!(rt; Error::reported(alloc, text, &place()), why);
+    let end = Span {
+        start_line: 3,
+        start_col: 4,
+        ..place()
     };
-    assert_eq!(rt; message.as_str(), "what");
-    let (message, span) = told(&rt, Error::syntax_error(rt.alloc(), "why", &place()));
-    assert_eq!(rt; (message.as_str(), span), ("why", place()));
-    let how = String::from_str(rt.alloc(), "how");
-    let (message, span) = told(&rt, Error::reported(rt.alloc(), how, &place()));
-    assert_eq!(rt; (message.as_str(), span), ("how", place()));
-    let end = ReportError::unexpected_end_of_input(rt.alloc(), &place());
-    let (message, span) = told(&rt, end);
-    assert_eq!(rt; message.as_str(), "Unexpected end of input");
-    assert_eq!(rt; (span.start_line, span.start_col, span.range), (3, 4, 5..6));
+    let end = fault(alloc, report(alloc, "Unexpected end of input", end)?)?;
+    assert_eq!(rt; ReportError::unexpected_end_of_input(alloc, &place()), end);
     Ok(())
 }
 
@@ -53,31 +60,25 @@ fn nodes_equal_with_their_places(rt: HostRuntime) -> Result<(), Fail> {
     for part in ["node: 7", "start_line: 1", "range: 5..6"] {
         assert!(rt; shown.as_str().contains(part), "{part} in {shown}");
     }
-    assert_eq!(rt; Span::default().range, 0..0);
     a.span_mut().expand(&Span::default());
     assert_ne!(rt; a, b);
     let (node, span) = a.into_parts();
     assert_eq!(rt; node, 7);
     assert_eq!(rt; (span.start_line, span.start_col), (1, 2));
-    assert_eq!(rt; (span.end_line, span.end_col), (0, 0));
-    assert_eq!(rt; span.range, 5..0);
+    assert_eq!(rt; (span.end_line, span.end_col, span.range), (0, 0, 5..0));
     Ok(())
 }
 
-// A report with this text and a note.
-fn noted(alloc: Global, text: &str, label: &str) -> Result<ReportError, Error> {
-    let mut report = ReportError {
-        message: String::from_str(alloc, text)?,
-        span: place(),
-        notes: Vec::new(alloc),
-    };
-    report.add_note(label, "page", &place())?;
+// A report with a note.
+fn noted(alloc: Global) -> Result<ReportError, Error> {
+    let mut report = report(alloc, "why", place())?;
+    report.add_note("here", "page", &place())?;
     Ok(report)
 }
 
 #[test]
 fn notes_stand_behind_a_report(rt: HostRuntime) -> Result<(), Fail> {
-    let mut report = noted(rt.alloc(), "why", "here")?;
+    let mut report = noted(rt.alloc())?;
     report.add_note("there", "base", &Span::default())?;
     assert_eq!(rt; report.notes.len(), 2);
     let wanted = Note {
@@ -85,11 +86,9 @@ fn notes_stand_behind_a_report(rt: HostRuntime) -> Result<(), Fail> {
         filename: String::from_str(rt.alloc(), "base")?,
         span: Span::default(),
     };
-    let Some(last) = report.notes.last() else {
-        panic!(rt; "there are two notes");
-    };
-    assert!(rt; laws::same_note(last, &wanted));
-    assert!(rt; !laws::same_report(&report, &noted(rt.alloc(), "why", "here")?));
+    assert_eq!(rt; report.notes.last(), Some(&wanted));
+    assert!(rt; laws::same_note(&wanted, &wanted));
+    assert!(rt; !laws::same_report(&report, &noted(rt.alloc())?));
     Ok(())
 }
 
@@ -99,9 +98,7 @@ fn errors_show_their_texts(rt: HostRuntime) -> Result<(), Fail> {
         kind: ErrorKind::Memory,
     };
     let message = Error::message(rt.alloc(), "how");
-    let fault = Error {
-        kind: ErrorKind::SyntaxError(Box::new(rt.alloc(), noted(rt.alloc(), "why", "here")?)?),
-    };
+    let fault = fault(rt.alloc(), noted(rt.alloc())?)?;
     assert_eq!(rt;
         format!(in rt.alloc(); "{memory}; {message}; {fault}")?.as_str(),
         "out of memory; how; why"

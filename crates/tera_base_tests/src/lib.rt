@@ -4,6 +4,4 @@
 #[cfg(test)]
 mod errors;
 #[cfg(test)]
-mod texts;
-#[cfg(test)]
 mod values;

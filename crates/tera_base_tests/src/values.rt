@@ -1,4 +1,4 @@
-//! Values, maps of them, and contexts.
+//! Values, keys, maps and contexts.
 
 use std::alloc::{AllocError, Global};
 use std::hash::{DefaultHasher, Hasher};
@@ -6,68 +6,123 @@ use std::process::Abort;
 use std::test::Fail;
 use tera_base::{Context, Error, Key, Map, Value, ValueKind, laws};
 
-pub(crate) fn key(alloc: Global, name: &str) -> Result<Key, AllocError> {
+fn key(alloc: Global, name: &str) -> Result<Key, AllocError> {
     Ok(Key::String(String::from_str(alloc, name)?))
-}
-
-pub(crate) fn text(alloc: Global, text: &str) -> Result<Value, AllocError> {
-    Ok(Value::String(String::from_str(alloc, text)?))
-}
-
-// A map whose key `a` took 1, whose key `b` took 2, and whose key `a` then took 3.
-fn taken_twice(alloc: Global) -> Result<Map, Error> {
-    let mut all = Map::new(alloc);
-    all.insert(key(alloc, "a")?, Value::I64(1))?;
-    all.insert(key(alloc, "b")?, Value::I64(2))?;
-    all.insert(key(alloc, "a")?, Value::I64(3))?;
-    Ok(all)
 }
 
 #[test]
 fn a_key_that_is_there_keeps_its_place(rt: HostRuntime) -> Result<(), Fail> {
-    let all = taken_twice(rt.alloc())?;
+    let text = key(rt.alloc(), "1")?;
+    let mut all = Map::new(rt.alloc());
+    assert!(rt; all.is_empty());
+    assert_eq!(rt; all.insert(key(rt.alloc(), "1")?, Value::None)?, None);
+    assert_eq!(rt; all.insert(Key::I64(1), Value::I64(2))?, None);
+    assert_eq!(rt;
+        all.insert(key(rt.alloc(), "1")?, Value::I64(3))?,
+        Some(Value::None)
+    );
     assert_eq!(rt; (all.len(), all.is_empty()), (2, false));
-    assert_eq!(rt; all.get(&key(rt.alloc(), "a")?), Some(&Value::I64(3)));
-    assert_eq!(rt; all.get(&key(rt.alloc(), "c")?), None);
+    assert_eq!(rt; all.get(&text), Some(&Value::I64(3)));
+    assert_eq!(rt; all.get(&Key::I64(1)), Some(&Value::I64(2)));
+    assert_eq!(rt; all.get(&Key::Bool(true)), None);
     let mut pairs = all.iter();
-    assert_eq!(rt;
-        pairs.next(),
-        Some((&key(rt.alloc(), "a")?, &Value::I64(3)))
-    );
-    assert_eq!(rt;
-        pairs.next(),
-        Some((&key(rt.alloc(), "b")?, &Value::I64(2)))
-    );
+    assert_eq!(rt; pairs.next(), Some((&text, &Value::I64(3))));
+    assert_eq!(rt; pairs.next(), Some((&Key::I64(1), &Value::I64(2))));
     assert_eq!(rt; pairs.next(), None);
     Ok(())
 }
 
 #[test]
-fn insert_answers_the_value_before(rt: HostRuntime) -> Result<(), Fail> {
-    let mut all = Map::new(rt.alloc());
-    assert!(rt; all.is_empty());
-    assert_eq!(rt; all.insert(Key::I64(1), Value::None)?, None);
-    assert_eq!(rt; all.insert(Key::Bool(true), Value::I64(2))?, None);
-    assert_eq!(rt; all.insert(Key::I64(1), Value::I64(3))?, Some(Value::None));
-    assert_eq!(rt; all.get(&Key::Bool(true)), Some(&Value::I64(2)));
-    assert_eq!(rt; all.get(&Key::Bool(false)), None);
+fn equal_keys_hash_alike(rt: HostRuntime) -> Result<(), Fail> {
+    let (one, same) = (key(rt.alloc(), "1")?, key(rt.alloc(), "1")?);
+    assert!(rt; laws::same_key(&one, &same));
+    assert!(rt; !laws::same_key(&one, &Key::I64(1)));
+    let (mut first, mut second) = (DefaultHasher::new(), DefaultHasher::new());
+    laws::hashes_agree(&one, &same, &mut first, &mut second);
+    assert_eq!(rt; first.finish(), second.finish());
+    laws::hashes_agree(&one, &Key::I64(1), &mut first, &mut second);
+    assert_ne!(rt; first.finish(), second.finish());
     Ok(())
 }
 
-// A value of each kind, in the order of the kinds.
-pub(crate) fn one_of_each(alloc: Global) -> Result<Vec<Value>, Error> {
+#[test]
+fn texts_of_keys(rt: HostRuntime) -> Result<(), Fail> {
+    for (key, text) in [
+        (key(rt.alloc(), "it's")?, "it's"),
+        (Key::I64(-1), "-1"),
+        (Key::Bool(true), "true"),
+        (Key::Bool(false), "false"),
+    ] {
+        assert_eq!(rt; format!(in rt.alloc(); "{key}")?.as_str(), text);
+    }
+    Ok(())
+}
+
+// A map of these keys and numbers.
+fn map(alloc: Global, pairs: [(&str, i64); 2]) -> Result<Map, Error> {
+    let mut all = Map::new(alloc);
+    for (name, number) in pairs {
+        all.insert(key(alloc, name)?, Value::I64(number))?;
+    }
+    Ok(all)
+}
+
+#[test]
+fn maps_equal_by_their_pairs_and_order(rt: HostRuntime) -> Result<(), Fail> {
+    let all = map(rt.alloc(), [("a", 3), ("b", 2)])?;
+    assert!(rt; laws::same_map(&all, &map(rt.alloc(), [("a", 3), ("b", 2)])?));
+    assert_ne!(rt; all, map(rt.alloc(), [("b", 2), ("a", 3)])?);
+    Ok(())
+}
+
+// Of each value below: the name of its kind, what it answers, and its text.
+const WANTED: [(&str, &str, &str); 19] = [
+    ("undefined", "u", "undefined"),
+    ("none", "0", "null"),
+    ("bool", "b", "true"),
+    ("bool", "b", "false"),
+    ("i64", "n", "1"),
+    ("i64", "n", "-9223372036854775808"),
+    ("u64", "n", "1"),
+    ("u64", "n", "18446744073709551615"),
+    ("i128", "n", "1"),
+    ("i128", "n", "-170141183460469231731687303715884105728"),
+    ("u128", "n", "1"),
+    ("u128", "n", "340282366920938463463374607431768211455"),
+    ("string", "s", "1"),
+    ("string", "s", ""),
+    ("bytes", "y", "<bytes>"),
+    ("array", "a", "[1]"),
+    ("array", "a", "[]"),
+    ("map", "mp", "{\"a\": 1, \"b\": 2}"),
+    ("map", "mp", "{}"),
+];
+
+fn values(alloc: Global) -> Result<Vec<Value>, Error> {
     let mut all = Vec::new(alloc);
-    all.push(Value::Undefined)?;
-    all.push(Value::None)?;
-    all.push(Value::Bool(true))?;
-    all.push(Value::I64(1))?;
-    all.push(Value::U64(1))?;
-    all.push(Value::I128(1))?;
-    all.push(Value::U128(1))?;
-    all.push(text(alloc, "1")?)?;
-    all.push(Value::Bytes(vec![in alloc; 49u8]?))?;
-    all.push(Value::Array(vec![in alloc; Value::I64(1)]?))?;
-    all.push(Value::Map(taken_twice(alloc)?))?;
+    for value in [
+        Value::Undefined,
+        Value::None,
+        Value::Bool(true),
+        Value::Bool(false),
+        Value::I64(1),
+        Value::I64(i64::MIN),
+        Value::U64(1),
+        Value::U64(u64::MAX),
+        Value::I128(1),
+        Value::I128(i128::MIN),
+        Value::U128(1),
+        Value::U128(u128::MAX),
+        Value::String(String::from_str(alloc, "1")?),
+        Value::String(String::new(alloc)),
+        Value::Bytes(vec![in alloc; 49u8]?),
+        Value::Array(vec![in alloc; Value::I64(1)]?),
+        Value::Array(Vec::new(alloc)),
+        Value::Map(map(alloc, [("a", 1), ("b", 2)])?),
+        Value::Map(Map::new(alloc)),
+    ] {
+        all.push(value)?;
+    }
     Ok(all)
 }
 
@@ -93,33 +148,43 @@ fn answers(alloc: Global, value: &Value) -> Result<String, AllocError> {
 }
 
 #[test]
-fn kinds_of_values(rt: HostRuntime) -> Result<(), Fail> {
-    let wanted = [
-        ("undefined", "u"),
-        ("none", "0"),
-        ("bool", "b"),
-        ("i64", "n"),
-        ("u64", "n"),
-        ("i128", "n"),
-        ("u128", "n"),
-        ("string", "s"),
-        ("bytes", "y"),
-        ("array", "a"),
-        ("map", "mp"),
-    ];
-    let all = one_of_each(rt.alloc())?;
-    assert_eq!(rt; all.len(), wanted.len());
-    for (value, (name, letters)) in all.iter().zip(wanted) {
+fn kinds_and_texts_of_values(rt: HostRuntime) -> Result<(), Fail> {
+    let all = values(rt.alloc())?;
+    assert_eq!(rt; all.len(), WANTED.len());
+    for (value, (name, letters, text)) in all.iter().zip(WANTED) {
         assert_eq!(rt; value.name(), name);
         assert_eq!(rt; value.kind().name(), name);
         assert_eq!(rt; answers(rt.alloc(), value)?.as_str(), letters);
+        assert_eq!(rt; format!(in rt.alloc(); "{value}")?.as_str(), text);
     }
     assert_eq!(rt; Value::U128(1).kind(), ValueKind::U128);
     Ok(())
 }
 
-// That each of these equals itself and its copy, and none of the others.
-fn expect_apart(rt: &impl Abort, all: &[Value]) -> Result<(), Fail> {
+#[test]
+fn values_show_their_kinds(rt: HostRuntime) -> Result<(), Fail> {
+    let shown = format!(in rt.alloc(); "{:?}", values(rt.alloc())?)?;
+    for part in [
+        "Undefined",
+        "None",
+        "Bool(true)",
+        "I64(1)",
+        "U64(1)",
+        "I128(1)",
+        "U128(1)",
+        "String(",
+        "Bytes(",
+        "Array(",
+        "Map(",
+    ] {
+        assert!(rt; shown.as_str().contains(part), "{part} in {shown}");
+    }
+    Ok(())
+}
+
+#[test]
+fn values_equal_their_copies_alone(rt: HostRuntime) -> Result<(), Fail> {
+    let all = values(rt.alloc())?;
     for (i, a) in all.iter().enumerate() {
         assert_eq!(rt; a.clone()?, *a);
         for (j, b) in all.iter().enumerate() {
@@ -127,41 +192,6 @@ fn expect_apart(rt: &impl Abort, all: &[Value]) -> Result<(), Fail> {
             assert_eq!(rt; laws::same_value(a, b), i == j);
         }
     }
-    Ok(())
-}
-
-#[test]
-fn values_equal_their_copies_alone(rt: HostRuntime) -> Result<(), Fail> {
-    let mut all = one_of_each(rt.alloc())?;
-    all.push(Value::Bool(false))?;
-    all.push(Value::I64(-1))?;
-    all.push(text(rt.alloc(), "")?)?;
-    all.push(Value::Array(Vec::new(rt.alloc())))?;
-    all.push(Value::Map(Map::new(rt.alloc())))?;
-    expect_apart(&rt, &all)
-}
-
-#[test]
-fn maps_equal_by_their_pairs_and_order(rt: HostRuntime) -> Result<(), Fail> {
-    let all = taken_twice(rt.alloc())?;
-    let mut turned = Map::new(rt.alloc());
-    turned.insert(key(rt.alloc(), "b")?, Value::I64(2))?;
-    turned.insert(key(rt.alloc(), "a")?, Value::I64(3))?;
-    assert_ne!(rt; all, turned);
-    assert!(rt; laws::same_map(&all, &taken_twice(rt.alloc())?));
-    assert!(rt; laws::same_key(&key(rt.alloc(), "a")?, &key(rt.alloc(), "a")?));
-    assert!(rt; !laws::same_key(&key(rt.alloc(), "1")?, &Key::I64(1)));
-    Ok(())
-}
-
-#[test]
-fn equal_keys_hash_alike(rt: HostRuntime) -> Result<(), Fail> {
-    let (one, same) = (key(rt.alloc(), "1")?, key(rt.alloc(), "1")?);
-    let (mut first, mut second) = (DefaultHasher::new(), DefaultHasher::new());
-    laws::hashes_agree(&one, &same, &mut first, &mut second);
-    assert_eq!(rt; first.finish(), second.finish());
-    laws::hashes_agree(&one, &Key::I64(1), &mut first, &mut second);
-    assert_ne!(rt; first.finish(), second.finish());
     Ok(())
 }
 
