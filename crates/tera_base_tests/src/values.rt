@@ -75,55 +75,45 @@ fn maps_equal_by_their_pairs_and_order(rt: HostRuntime) -> Result<(), Fail> {
     Ok(())
 }
 
-// Of each value below: the name of its kind, what it answers, and its text.
-const WANTED: [(&str, &str, &str); 19] = [
-    ("undefined", "u", "undefined"),
-    ("none", "0", "null"),
-    ("bool", "b", "true"),
-    ("bool", "b", "false"),
-    ("i64", "n", "1"),
-    ("i64", "n", "-9223372036854775808"),
-    ("u64", "n", "1"),
-    ("u64", "n", "18446744073709551615"),
-    ("i128", "n", "1"),
-    ("i128", "n", "-170141183460469231731687303715884105728"),
-    ("u128", "n", "1"),
-    ("u128", "n", "340282366920938463463374607431768211455"),
-    ("string", "s", "1"),
-    ("string", "s", ""),
-    ("bytes", "y", "<bytes>"),
-    ("array", "a", "[1]"),
-    ("array", "a", "[]"),
-    ("map", "mp", "{\"a\": 1, \"b\": 2}"),
-    ("map", "mp", "{}"),
-];
+// A value; and the name of its kind, what it answers, its text, and a part of what `Debug` shows of it.
+type Row = (Value, [&'static str; 4]);
 
-fn values(alloc: Global) -> Result<Vec<Value>, Error> {
-    let mut all = Vec::new(alloc);
-    for value in [
-        Value::Undefined,
-        Value::None,
-        Value::Bool(true),
-        Value::Bool(false),
-        Value::I64(1),
-        Value::I64(i64::MIN),
-        Value::U64(1),
-        Value::U64(u64::MAX),
-        Value::I128(1),
-        Value::I128(i128::MIN),
-        Value::U128(1),
-        Value::U128(u128::MAX),
-        Value::String(String::from_str(alloc, "1")?),
-        Value::String(String::new(alloc)),
-        Value::Bytes(vec![in alloc; 49u8]?),
-        Value::Array(vec![in alloc; Value::I64(1)]?),
-        Value::Array(Vec::new(alloc)),
-        Value::Map(map(alloc, [("a", 1), ("b", 2)])?),
-        Value::Map(Map::new(alloc)),
-    ] {
-        all.push(value)?;
-    }
-    Ok(all)
+fn rows(alloc: Global) -> Result<[Row; 19], Error> {
+    let one = String::from_str(alloc, "1")?;
+    let bytes = vec![in alloc; 49u8]?;
+    let items = vec![in alloc; Value::I64(1)]?;
+    let pairs = map(alloc, [("a", 1), ("b", 2)])?;
+    let least = "-170141183460469231731687303715884105728";
+    let most = "340282366920938463463374607431768211455";
+    let least_of_i64 = "-9223372036854775808";
+    let most_of_u64 = "18446744073709551615";
+    Ok([
+        (
+            Value::Undefined,
+            ["undefined", "u", "undefined", "Undefined"],
+        ),
+        (Value::None, ["none", "0", "null", "None"]),
+        (Value::Bool(true), ["bool", "b", "true", "Bool(true)"]),
+        (Value::Bool(false), ["bool", "b", "false", "Bool(false)"]),
+        (Value::I64(1), ["i64", "n", "1", "I64(1)"]),
+        (Value::I64(i64::MIN), ["i64", "n", least_of_i64, "I64(-"]),
+        (Value::U64(1), ["u64", "n", "1", "U64(1)"]),
+        (Value::U64(u64::MAX), ["u64", "n", most_of_u64, "U64("]),
+        (Value::I128(1), ["i128", "n", "1", "I128(1)"]),
+        (Value::I128(i128::MIN), ["i128", "n", least, "I128("]),
+        (Value::U128(1), ["u128", "n", "1", "U128(1)"]),
+        (Value::U128(u128::MAX), ["u128", "n", most, "U128("]),
+        (Value::String(one), ["string", "s", "1", "String("]),
+        (Value::String(String::new(alloc)), ["string", "s", "", ""]),
+        (Value::Bytes(bytes), ["bytes", "y", "<bytes>", "Bytes("]),
+        (Value::Array(items), ["array", "a", "[1]", "Array("]),
+        (Value::Array(Vec::new(alloc)), ["array", "a", "[]", ""]),
+        (
+            Value::Map(pairs),
+            ["map", "mp", r#"{"a": 1, "b": 2}"#, "Map("],
+        ),
+        (Value::Map(Map::new(alloc)), ["map", "mp", "{}", ""]),
+    ])
 }
 
 // What is asked of a value, one letter for each yes.
@@ -149,45 +139,23 @@ fn answers(alloc: Global, value: &Value) -> Result<String, AllocError> {
 
 #[test]
 fn kinds_and_texts_of_values(rt: HostRuntime) -> Result<(), Fail> {
-    let all = values(rt.alloc())?;
-    assert_eq!(rt; all.len(), WANTED.len());
-    for (value, (name, letters, text)) in all.iter().zip(WANTED) {
-        assert_eq!(rt; value.name(), name);
-        assert_eq!(rt; value.kind().name(), name);
-        assert_eq!(rt; answers(rt.alloc(), value)?.as_str(), letters);
-        assert_eq!(rt; format!(in rt.alloc(); "{value}")?.as_str(), text);
+    for (value, [name, letters, text, part]) in &rows(rt.alloc())? {
+        assert_eq!(rt; (value.name(), value.kind().name()), (*name, *name));
+        assert_eq!(rt; answers(rt.alloc(), value)?.as_str(), *letters);
+        assert_eq!(rt; format!(in rt.alloc(); "{value}")?.as_str(), *text);
+        let shown = format!(in rt.alloc(); "{value:?}")?;
+        assert!(rt; shown.as_str().contains(*part), "{part} in {shown}");
     }
     assert_eq!(rt; Value::U128(1).kind(), ValueKind::U128);
     Ok(())
 }
 
 #[test]
-fn values_show_their_kinds(rt: HostRuntime) -> Result<(), Fail> {
-    let shown = format!(in rt.alloc(); "{:?}", values(rt.alloc())?)?;
-    for part in [
-        "Undefined",
-        "None",
-        "Bool(true)",
-        "I64(1)",
-        "U64(1)",
-        "I128(1)",
-        "U128(1)",
-        "String(",
-        "Bytes(",
-        "Array(",
-        "Map(",
-    ] {
-        assert!(rt; shown.as_str().contains(part), "{part} in {shown}");
-    }
-    Ok(())
-}
-
-#[test]
 fn values_equal_their_copies_alone(rt: HostRuntime) -> Result<(), Fail> {
-    let all = values(rt.alloc())?;
-    for (i, a) in all.iter().enumerate() {
+    let all = rows(rt.alloc())?;
+    for (i, (a, _wanted)) in all.iter().enumerate() {
         assert_eq!(rt; a.clone()?, *a);
-        for (j, b) in all.iter().enumerate() {
+        for (j, (b, _wanted)) in all.iter().enumerate() {
             assert_eq!(rt; a == b, i == j);
             assert_eq!(rt; laws::same_value(a, b), i == j);
         }
