@@ -28,23 +28,18 @@ const WANTED: &str = r#"[
 ]
 "#;
 
-fn put(
-    alloc: Global,
-    definition: &mut ComponentDefinition,
-    name: &str,
-    value: Value,
-) -> Result<(), AllocError> {
-    let name = String::from_str(alloc, name)?;
-    definition.metadata.insert(name, value)?;
-    Ok(())
-}
-
 fn put_all(alloc: Global, definition: &mut ComponentDefinition) -> Result<(), AllocError> {
-    put(alloc, definition, "bytes", Value::Bytes(Vec::new(alloc)))?;
-    put(alloc, definition, "great", Value::U128(u128::MAX))?;
-    put(alloc, definition, "least", Value::I128(i128::MIN))?;
-    put(alloc, definition, "u64", Value::U64(u64::MAX))?;
-    put(alloc, definition, "undefined", Value::Undefined)
+    for (name, value) in [
+        ("bytes", Value::Bytes(Vec::new(alloc))),
+        ("great", Value::U128(u128::MAX)),
+        ("least", Value::I128(i128::MIN)),
+        ("u64", Value::U64(u64::MAX)),
+        ("undefined", Value::Undefined),
+    ] {
+        let name = String::from_str(alloc, name)?;
+        definition.metadata.insert(name, value)?;
+    }
+    Ok(())
 }
 
 fn info(alloc: Global) -> Result<ComponentInfo, Error> {
@@ -53,29 +48,24 @@ fn info(alloc: Global) -> Result<ComponentInfo, Error> {
     ComponentInfo::from_definition(alloc, &definition)
 }
 
-fn json_by_hand(alloc: Global, info: ComponentInfo) -> Result<Vec<u8>, AllocError> {
-    let call = offered(alloc, &info)?;
+#[test]
+fn a_value_that_is_no_constant_is_a_text(rt: HostRuntime) -> Result<(), Fail> {
+    let info = info(rt.alloc())?;
     let component = Component {
+        call: offered(rt.alloc(), &info)?,
         info,
         has_body: false,
         file: "by_hand.html",
         place: Place::first(),
-        call,
     };
-    json_of(alloc, &[component])
-}
-
-#[test]
-fn a_value_that_is_no_constant_is_a_text(rt: HostRuntime) -> Result<(), Fail> {
-    let json = json_by_hand(rt.alloc(), info(rt.alloc())?)?;
+    let json = json_of(rt.alloc(), &[component])?;
     assert_eq!(rt; json.as_slice(), WANTED.as_bytes());
     Ok(())
 }
 
 #[test]
 fn a_call_that_is_refused_is_not_offered(rt: HostRuntime) -> Result<(), Fail> {
-    let info = info(rt.alloc())?;
-    let call = call_of(rt.alloc(), &info)?;
+    let call = call_of(rt.alloc(), &info(rt.alloc())?)?;
     assert_eq!(rt; call.as_str(), "{{ </> }}");
     Ok(())
 }
