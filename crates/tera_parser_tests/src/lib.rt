@@ -1,4 +1,4 @@
-//! Tests of outputs that are made by hand.
+//! Tests of outputs: their copies, equality, and `Debug`.
 #![tactic(auto)]
 
 #[cfg(test)]

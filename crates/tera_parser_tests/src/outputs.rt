@@ -1,10 +1,12 @@
-//! Copies and equality of outputs.
+//! Copies and equality of outputs, and what is shown of them to who looks for a fault.
 
-use std::alloc::AllocError;
+use std::alloc::{AllocError, Global};
 use std::test::Fail;
-use tera_parser::ParserOutput;
-use tera_parser::ast::Node;
+use tera_parser::ast::{ComponentInfo, Node};
 use tera_parser::laws::same_output;
+use tera_parser::lexer::Delimiters;
+use tera_parser::value::Error;
+use tera_parser::{Parser, ParserOutput};
 
 // Whether the copy of this equals it.
 fn is_copied(output: &ParserOutput) -> Result<bool, AllocError> {
@@ -20,13 +22,46 @@ fn an_output_equals_its_copy(rt: HostRuntime) -> Result<(), Fail> {
     let mut output = ParserOutput::empty(rt.alloc());
     let was_put = output.nodes.push(Node::Continue).is_ok();
     let are_copied = (is_copied(&empty), is_copied(&output));
-    let shown = format!(in rt.alloc(); "{output:?}");
     let are_same = (same_output(&empty, &empty), same_output(&output, &empty));
     drop(output);
     drop(empty);
     assert!(rt; was_put);
     assert_eq!(rt; are_copied, (Ok(true), Ok(true)));
     assert_eq!(rt; are_same, (true, false));
-    assert!(rt; shown?.as_str().contains("nodes: [Continue]"));
+    Ok(())
+}
+
+// What is shown of the output, and of what is told of its components.
+fn shown(alloc: Global, output: &ParserOutput) -> Result<String, Error> {
+    let mut all = format!(in alloc; "{output:?}")?;
+    for definition in &output.component_definitions {
+        let info = ComponentInfo::from_definition(alloc, definition)?;
+        all.push_str(format!(in alloc; "{info:?}")?.as_str())?;
+    }
+    Ok(all)
+}
+
+fn shown_of(alloc: Global, source: &str) -> Result<String, Error> {
+    match Parser::new(alloc, "page.html", source, Delimiters::default()).parse() {
+        Ok(output) => shown(alloc, &output),
+        Err(error) => Err(error),
+    }
+}
+
+const SOURCE: &str = r#"{% component c(i: integer) %}{% endcomponent %}
+{% for v in [a, ...b] %}{% if a + -b ~ c %}{% break %}{% endif %}{% endfor %}"#;
+
+#[test]
+fn each_part_is_shown(rt: HostRuntime) -> Result<(), Fail> {
+    let shown = shown_of(rt.alloc(), SOURCE)?;
+    for part in [
+        "nodes: [", "Content", "ForLoop", "Array", "Spread", "Var", "If(", "Concat", "Plus",
+        "Minus", "Break", "Integer",
+    ] {
+        assert!(rt; shown.as_str().contains(part), "{part} in {shown}");
+    }
+    for part in ["implicit", "rest_param_name: None", "rest_param: None"] {
+        assert!(rt; shown.as_str().contains(part), "{part} in {shown}");
+    }
     Ok(())
 }
