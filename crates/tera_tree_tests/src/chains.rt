@@ -1,14 +1,22 @@
 //! A long chain of `elif`s, which is taken apart.
 
-use crate::making::{Made, Maker};
+use crate::making::{Made, both, one, variable};
+use std::alloc::Global;
 use std::test::Fail;
-use tera_tree::Node;
+use tera_base::Span;
+use tera_tree::{Node, build};
+
+// A choice with this behind it.
+fn choice(alloc: Global, behind: Made<Vec<Node>>) -> Made<Node> {
+    let (condition, behind) = both(variable(alloc, "a", Span::default()), behind)?;
+    Ok(build::when(condition, Vec::new(alloc), behind))
+}
 
 // A chain with so many conditions.
-fn chain(m: Maker, conditions: u32) -> Made<Vec<Node>> {
-    let mut nodes = m.none();
+fn chain(alloc: Global, conditions: u32) -> Made<Vec<Node>> {
+    let mut nodes = Ok(Vec::new(alloc));
     for _ in 0..conditions {
-        nodes = m.one(m.when("a", m.none(), nodes));
+        nodes = one(alloc, choice(alloc, nodes));
     }
     nodes
 }
@@ -29,7 +37,7 @@ fn taken_apart(mut nodes: Vec<Node>) -> usize {
 
 #[test]
 fn a_long_chain_is_taken_apart(rt: HostRuntime) -> Result<(), Fail> {
-    let nodes = chain(Maker { alloc: rt.alloc() }, 10001)?;
+    let nodes = chain(rt.alloc(), 10001)?;
     assert_eq!(rt; taken_apart(nodes), 10001);
     Ok(())
 }

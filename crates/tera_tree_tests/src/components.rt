@@ -3,23 +3,23 @@
 use std::alloc::{AllocError, Global};
 use std::process::Abort;
 use std::test::Fail;
-use tera_base::{Context, Error, Value};
+use tera_base::{Error, Value};
 use tera_tree::{ComponentArgument, ComponentDefinition};
 
 /// What a function answers at each name.
 #[derive(Clone, Copy)]
 enum Answer {
-    Text(&'static str),
+    Yes,
     Nothing,
-    Fault(&'static str),
+    Stop,
     NoMemory,
 }
 
 fn value(alloc: Global, answer: Answer) -> Result<Option<Value>, Error> {
     match answer {
-        Answer::Text(text) => Ok(Some(Value::String(String::from_str(alloc, text)?))),
+        Answer::Yes => Ok(Some(Value::Bool(true))),
         Answer::Nothing => Ok(None),
-        Answer::Fault(text) => Err(Error::message(alloc, text)),
+        Answer::Stop => Err(Error::message(alloc, "stop")),
         Answer::NoMemory => Err(Error::from(AllocError)),
     }
 }
@@ -28,8 +28,8 @@ fn found(alloc: Global, answer: Answer) -> Result<Value, Error> {
     Ok(value(alloc, answer)?.unwrap_or(Value::Undefined))
 }
 
-// The context of the component, or the text of the error: with these names, what is answered at names, and what at
-// implicit arguments.
+// The value of `user` in the context of the component, or the text of the error: with these names, what is answered at
+// names, and what at implicit arguments.
 fn shown(
     alloc: Global,
     definition: &ComponentDefinition,
@@ -41,18 +41,9 @@ fn shown(
     let get_implicit_value = |_: &str| -> Result<Value, Error> { found(alloc, implicit) };
     let names = names.iter().copied();
     match definition.build_context(alloc, names, get_value, get_implicit_value, None) {
-        Ok(context) => shown_context(alloc, &context),
+        Ok(context) => format!(in alloc; "{:?}", context.get("user")),
         Err(error) => format!(in alloc; "{error}"),
     }
-}
-
-fn shown_context(alloc: Global, context: &Context) -> Result<String, AllocError> {
-    let mut shown = String::new(alloc);
-    for (name, value) in context.iter() {
-        let name = name.as_str();
-        shown.push_str(format!(in alloc; "{name} = {value}; ")?.as_str())?;
-    }
-    Ok(shown)
 }
 
 // Adds an implicit argument `user`, if memory is found.
@@ -66,19 +57,18 @@ fn add_user(alloc: Global, definition: &mut ComponentDefinition) -> Result<(), A
     Ok(())
 }
 
-// That the component is shown as these texts, where the functions answer so.
+// That the component is shown so, where the functions answer so.
 fn expect_users(
     rt: &impl Abort,
     alloc: Global,
     definition: &ComponentDefinition,
 ) -> Result<(), AllocError> {
-    let stop = Answer::Fault("stop");
     for (given, implicit, text) in [
-        (Answer::Nothing, stop, "stop"),
+        (Answer::Nothing, Answer::Stop, "stop"),
         (Answer::Nothing, Answer::NoMemory, "out of memory"),
-        (stop, Answer::Nothing, "stop"),
+        (Answer::Stop, Answer::Nothing, "stop"),
         (Answer::NoMemory, Answer::Nothing, "out of memory"),
-        (Answer::Text("v"), stop, "user = v; "),
+        (Answer::Yes, Answer::Stop, "Some(Bool(true))"),
     ] {
         let told = shown(alloc, definition, &[], given, implicit)?;
         assert_eq!(rt; told.as_str(), text);
@@ -88,23 +78,16 @@ fn expect_users(
 
 #[test]
 fn an_error_of_a_function_is_passed_on(rt: HostRuntime) -> Result<(), Fail> {
-    let mut definition = ComponentDefinition::empty(rt.alloc());
-    let added = add_user(rt.alloc(), &mut definition);
-    let expected = expect_users(&rt, rt.alloc(), &definition);
-    drop(definition);
-    added?;
-    expected?;
-    Ok(())
-}
-
-#[test]
-fn an_error_of_a_rest_name_is_passed_on(rt: HostRuntime) -> Result<(), Fail> {
     let alloc = rt.alloc();
     let mut definition = ComponentDefinition::empty(alloc);
     definition.rest_param_name = String::from_str(alloc, "rest").ok();
-    let stop = Answer::Fault("stop");
-    let told = shown(alloc, &definition, &["z", "a"], stop, Answer::Nothing);
+    let (stop, nothing) = (Answer::Stop, Answer::Nothing);
+    let of_rest = shown(alloc, &definition, &["z", "a"], stop, nothing);
+    let added = add_user(alloc, &mut definition);
+    let expected = expect_users(&rt, alloc, &definition);
     drop(definition);
-    assert_eq!(rt; told?.as_str(), "stop");
+    assert_eq!(rt; of_rest?.as_str(), "stop");
+    added?;
+    expected?;
     Ok(())
 }

@@ -1,107 +1,60 @@
-//! The JSON of constants that no source says, and of a definition.
+//! The JSON of constants that no source says, beside that of a definition without parts.
 
-use crate::making::{Made, Maker};
+use crate::making::{Made, both, constant, one};
 use std::alloc::{AllocError, Global};
-use std::process::Abort;
 use std::test::Fail;
 use tera_base::Value;
 use tera_tree::{ComponentDefinition, Expression, Node};
 use tera_tree_json::tree_json;
 
-const HEAD: &str = "{\"parent\":null,\"component_definitions\":[],\"nodes\":[";
+const DEFINITION: &str =
+    r#"{"name":"","kwargs":{},"rest_param_name":null,"metadata":{},"body":[]}"#;
 
-const CONSTANT: &str = "{\"kind\":\"Expression\",\"expr\":{\"kind\":\"Const\",\"span\":";
-
-const LINES: &str = "{\"start_line\":0,\"start_col\":0,\"end_line\":0,\"end_col\":0,";
-
-const RANGE: &str = "\"start\":0,\"end\":0}";
-
-const NAMES: &str = "{\"name\":\"\",\"kwargs\":{},\"rest_param_name\":null,";
-
-const PARTS: &str = "\"metadata\":{},\"body\":[]}";
+const SPAN: &str = r#"{"start_line":0,"start_col":0,"end_line":0,"end_col":0,"start":0,"end":0}"#;
 
 fn shown(expression: Made<Expression>) -> Made<Node> {
     Ok(Node::Expression(expression?))
 }
 
-// The JSON of a tree of this constant alone.
-fn written(alloc: Global, value: Made<Value>) -> Result<String, AllocError> {
-    let m = Maker { alloc };
-    let nodes = m.one(shown(m.constant(value)))?;
-    let json = tree_json(alloc, &None, &Vec::new(alloc), &nodes);
+// The JSON of this constant alone, with a definition.
+fn written(alloc: Global, value: Value) -> Result<String, AllocError> {
+    let nodes = one(alloc, shown(constant(alloc, value)));
+    let definitions = one(alloc, Ok(ComponentDefinition::empty(alloc)));
+    let (nodes, definitions) = both(nodes, definitions)?;
+    let json = tree_json(alloc, &None, &definitions, &nodes);
     drop(nodes);
+    drop(definitions);
     json
 }
 
-// That the constant has this JSON in such a tree.
-fn expect(
-    rt: &impl Abort,
-    alloc: Global,
-    json: &str,
-    value: Made<Value>,
-) -> Result<(), AllocError> {
-    let written = written(alloc, value)?;
-    let whole = format!(in alloc; "{HEAD}{CONSTANT}{LINES}{RANGE},\"value\":{json}}}}}]}}")?;
-    assert_eq!(rt; written.as_str(), whole.as_str());
-    Ok(())
+// What has to be written where the constant has this JSON.
+fn wanted(alloc: Global, json: &str) -> Result<String, AllocError> {
+    let head = r#"{"parent":null,"component_definitions":["#;
+    let nodes = r#"],"nodes":[{"kind":"Expression","expr":{"kind":"Const","span":"#;
+    format!(in alloc; "{head}{DEFINITION}{nodes}{SPAN},\"value\":{json}}}}}]}}")
 }
 
 #[test]
-fn whole_numbers_of_each_kind(rt: HostRuntime) -> Result<(), Fail> {
+fn constants_of_each_kind(rt: HostRuntime) -> Result<(), Fail> {
+    let bytes = Value::Bytes(Vec::from_array(rt.alloc(), [0u8, 255])?);
+    let great = r#"{"integer":"9007199254740992"}"#;
+    let greatest = r#"{"integer":"18446744073709551615"}"#;
+    let low = r#"{"integer":"-9007199254740992"}"#;
     for (value, json) in [
         (Value::I64(9007199254740991), "9007199254740991"),
-        (
-            Value::I64(9007199254740992),
-            "{\"integer\":\"9007199254740992\"}",
-        ),
-        (
-            Value::I64(-9007199254740992),
-            "{\"integer\":\"-9007199254740992\"}",
-        ),
+        (Value::I64(9007199254740992), great),
+        (Value::I64(-9007199254740992), low),
         (Value::U64(7), "7"),
-        (
-            Value::U64(18446744073709551615),
-            "{\"integer\":\"18446744073709551615\"}",
-        ),
+        (Value::U64(u64::MAX), greatest),
         (Value::I128(-9007199254740991), "-9007199254740991"),
-        (
-            Value::I128(-9007199254740992),
-            "{\"integer\":\"-9007199254740992\"}",
-        ),
+        (Value::I128(-9007199254740992), low),
         (Value::U128(0), "0"),
-        (
-            Value::U128(9007199254740992),
-            "{\"integer\":\"9007199254740992\"}",
-        ),
+        (Value::U128(9007199254740992), great),
+        (bytes, r#"{"bytes":[0,255]}"#),
+        (Value::Undefined, r#"{"undefined":null}"#),
     ] {
-        expect(&rt, rt.alloc(), json, Ok(value))?;
+        let written = written(rt.alloc(), value)?;
+        assert_eq!(rt; written.as_str(), wanted(rt.alloc(), json)?.as_str());
     }
-    Ok(())
-}
-
-#[test]
-fn bytes_and_what_is_not_there(rt: HostRuntime) -> Result<(), Fail> {
-    let bytes = Value::Bytes(Vec::from_array(rt.alloc(), [0u8, 255])?);
-    expect(&rt, rt.alloc(), "{\"bytes\":[0,255]}", Ok(bytes))?;
-    expect(
-        &rt,
-        rt.alloc(),
-        "{\"undefined\":null}",
-        Ok(Value::Undefined),
-    )?;
-    Ok(())
-}
-
-#[test]
-fn a_definition_without_parts(rt: HostRuntime) -> Result<(), Fail> {
-    let definition = ComponentDefinition::empty(rt.alloc());
-    let mut definitions = Vec::new(rt.alloc());
-    definitions.push(definition)?;
-    let written = tree_json(rt.alloc(), &None, &definitions, &Vec::new(rt.alloc()));
-    drop(definitions);
-    let json = written?;
-    let known = "{\"parent\":null,\"component_definitions\":";
-    let whole = format!(in rt.alloc(); "{known}[{NAMES}{PARTS}],\"nodes\":[]}}")?;
-    assert_eq!(rt; json.as_str(), whole.as_str());
     Ok(())
 }

@@ -1,12 +1,10 @@
-//! Tests of trees and definitions that are made from their parts: printed texts, long chains, types, and contexts.
+//! Tests of trees and definitions that are made by hand: printed texts, JSON, long chains, types, and contexts.
 #![tactic(auto)]
 
 #[cfg(test)]
 mod chains;
 #[cfg(test)]
 mod components;
-#[cfg(test)]
-mod debugged;
 #[cfg(test)]
 mod json;
 #[cfg(test)]

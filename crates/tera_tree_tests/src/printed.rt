@@ -1,34 +1,29 @@
 //! Printed texts of expressions and of their parts that no source says.
 
-use crate::making::{Made, Maker, both};
+use crate::making::{Made, both, constant, one, variable};
 use std::alloc::{AllocError, Global};
-use std::fmt::Display;
 use std::process::Abort;
 use std::test::Fail;
-use tera_base::Value;
-use tera_tree::{BinaryOperator, ComponentArgument, ComponentDefinition, Expression, Node};
+use tera_base::{Span, Value};
+use tera_tree::{BinaryOperator, ComponentArgument, ComponentDefinition, Expression, Node, build};
 use tera_tree_text::push_definition;
 
-fn shown<T: Display>(alloc: Global, x: &T) -> Result<String, AllocError> {
-    format!(in alloc; "{x}")
+// An operation on the variables `a` and `b`.
+fn operation(alloc: Global, operator: BinaryOperator) -> Made<Expression> {
+    let (left, right) = both(
+        variable(alloc, "a", Span::default()),
+        variable(alloc, "b", Span::default()),
+    )?;
+    build::binary(alloc, operator, left, right, Span::default())
 }
 
-// The text of what stands in the expression; of a constant that of the expression.
-fn inside(alloc: Global, expression: &Expression) -> Result<String, AllocError> {
-    match expression {
-        Expression::Array(s) => shown(alloc, s.node()),
-        Expression::Map(s) => shown(alloc, s.node()),
-        Expression::ComponentCall(s) => shown(alloc, s.node()),
-        Expression::BinaryOperation(s) => shown(alloc, s.node()),
-        _ => shown(alloc, expression),
-    }
+// A call of a component with one node in its body.
+fn call(alloc: Global) -> Made<Expression> {
+    let (body, name) = both(one(alloc, Ok(Node::Break)), String::from_str(alloc, "box"))?;
+    build::component_call(alloc, name, Vec::new(alloc), body, false, Span::default())
 }
 
-fn texts(alloc: Global, expression: &Expression) -> Result<(String, String), AllocError> {
-    both(shown(alloc, expression), inside(alloc, expression))
-}
-
-// That the expression, and what stands in it, shows as this text.
+// That the expression shows as this text.
 fn expect(
     rt: &impl Abort,
     alloc: Global,
@@ -36,46 +31,30 @@ fn expect(
     made: Made<Expression>,
 ) -> Result<(), AllocError> {
     let expression = made?;
-    let shown = texts(alloc, &expression);
+    let shown = format!(in alloc; "{expression}");
     drop(expression);
-    let (whole, inside) = shown?;
-    assert_eq!(rt; whole.as_str(), text);
-    assert_eq!(rt; inside.as_str(), text);
+    assert_eq!(rt; shown?.as_str(), text);
     Ok(())
 }
 
 #[test]
-fn constants_arrays_and_maps_of_no_source(rt: HostRuntime) -> Result<(), Fail> {
-    let m = Maker { alloc: rt.alloc() };
-    let bytes = Value::Bytes(Vec::from_array(rt.alloc(), [97u8])?);
-    expect(&rt, rt.alloc(), "<bytes>", m.constant(Ok(bytes)))?;
-    let undefined = m.constant(Ok(Value::Undefined));
-    expect(&rt, rt.alloc(), "undefined", undefined)?;
-    expect(&rt, rt.alloc(), "[]", m.array(m.none()))?;
-    expect(&rt, rt.alloc(), "{}", m.map(m.none()))?;
-    Ok(())
-}
-
-#[test]
-fn a_component_call_with_a_body(rt: HostRuntime) -> Result<(), Fail> {
-    let m = Maker { alloc: rt.alloc() };
-    let body = m.two(m.content("c"), Ok(Node::Break));
-    let call = m.component_call(m.some_entries(), body, false);
-    let text = "<box{a: 1, ...b}>[nodes: 2]<box/>";
-    expect(&rt, rt.alloc(), text, call)?;
-    Ok(())
-}
-
-#[test]
-fn operations_that_are_tests_or_filters_elsewhere(rt: HostRuntime) -> Result<(), Fail> {
-    let m = Maker { alloc: rt.alloc() };
-    for (op, text) in [
-        (BinaryOperator::Is, "(is a b)"),
-        (BinaryOperator::Pipe, "(| a b)"),
-    ] {
-        let operation = m.binary(op, m.variable("a"), m.variable("b"));
-        expect(&rt, rt.alloc(), text, operation)?;
-    }
+fn expressions_of_no_source(rt: HostRuntime) -> Result<(), Fail> {
+    let alloc = rt.alloc();
+    let bytes = Value::Bytes(Vec::from_array(alloc, [97u8])?);
+    let array = build::array(alloc, Vec::new(alloc), Span::default());
+    expect(&rt, alloc, "[]", array)?;
+    let map = build::map(alloc, Vec::new(alloc), Span::default());
+    expect(&rt, alloc, "{}", map)?;
+    expect(&rt, alloc, "<bytes>", constant(alloc, bytes))?;
+    expect(&rt, alloc, "undefined", constant(alloc, Value::Undefined))?;
+    expect(&rt, alloc, "(is a b)", operation(alloc, BinaryOperator::Is))?;
+    expect(
+        &rt,
+        alloc,
+        "(| a b)",
+        operation(alloc, BinaryOperator::Pipe),
+    )?;
+    expect(&rt, alloc, "<box{}>[nodes: 1]<box/>", call(alloc))?;
     Ok(())
 }
 

@@ -1,5 +1,6 @@
 //! Types of arguments, and what is read, copied and compared of trees.
 
+use crate::making::{both, constant, variable};
 use std::alloc::{AllocError, Global};
 use std::process::Abort;
 use std::test::Fail;
@@ -9,39 +10,36 @@ use tera_tree::{
     build, laws,
 };
 
-const ALL: [Type; 7] = [
-    Type::String,
-    Type::Bool,
-    Type::Integer,
-    Type::Number,
-    Type::Array,
-    Type::Map,
-    Type::Bytes,
+const ALL: [(Type, &str); 7] = [
+    (Type::String, "string"),
+    (Type::Bool, "bool"),
+    (Type::Integer, "integer"),
+    (Type::Number, "number"),
+    (Type::Array, "array"),
+    (Type::Map, "map"),
+    (Type::Bytes, "bytes"),
 ];
-
-// The names of the types that the value matches.
-fn matched(alloc: Global, value: &Value) -> Result<String, AllocError> {
-    let mut names = String::new(alloc);
-    for typ in ALL {
-        if typ.matches_value(value) {
-            names.push_str(typ.as_str())?;
-            names.push_str(" ")?;
-        }
-    }
-    Ok(names)
-}
 
 #[test]
 fn types_by_name(rt: HostRuntime) -> Result<(), Fail> {
-    let names = [
-        "string", "bool", "integer", "number", "array", "map", "bytes",
-    ];
-    for (typ, name) in ALL.into_iter().zip(names) {
+    for (typ, name) in ALL {
         assert_eq!(rt; typ.as_str(), name);
         assert_eq!(rt; Type::from_str(rt.alloc(), name)?, typ);
         assert_eq!(rt; laws::type_of_its_name(rt.alloc(), typ)?, typ);
     }
     Ok(())
+}
+
+// The names of the types that the value matches.
+fn matched(alloc: Global, value: &Value) -> Result<String, AllocError> {
+    let mut names = String::new(alloc);
+    for (typ, name) in ALL {
+        if typ.matches_value(value) {
+            names.push_str(name)?;
+            names.push_str(" ")?;
+        }
+    }
+    Ok(names)
 }
 
 // That the value has this type, and matches these.
@@ -51,7 +49,7 @@ fn expect_type(
     value: &Value,
     typ: Option<Type>,
     names: &str,
-) -> Result<(), Fail> {
+) -> Result<(), AllocError> {
     assert_eq!(rt; Type::from_value(value), typ);
     assert_eq!(rt; matched(alloc, value)?.as_str(), names);
     let mut argument = ComponentArgument::default();
@@ -64,51 +62,53 @@ fn expect_type(
 #[test]
 fn types_of_values(rt: HostRuntime) -> Result<(), Fail> {
     let alloc = rt.alloc();
-    let whole = "integer number ";
-    expect_type(&rt, alloc, &Value::Undefined, None, "")?;
-    expect_type(&rt, alloc, &Value::None, None, "")?;
-    expect_type(&rt, alloc, &Value::Bool(true), Some(Type::Bool), "bool ")?;
-    expect_type(&rt, alloc, &Value::I64(1), Some(Type::Integer), whole)?;
-    expect_type(&rt, alloc, &Value::U64(1), Some(Type::Integer), whole)?;
-    expect_type(&rt, alloc, &Value::I128(1), Some(Type::Integer), whole)?;
-    expect_type(&rt, alloc, &Value::U128(1), Some(Type::Integer), whole)?;
     let text = Value::String(String::new(alloc));
-    expect_type(&rt, alloc, &text, Some(Type::String), "string ")?;
-    let bytes = Value::Bytes(Vec::new(alloc));
-    expect_type(&rt, alloc, &bytes, Some(Type::Bytes), "bytes ")?;
-    let array = Value::Array(Vec::new(alloc));
-    expect_type(&rt, alloc, &array, Some(Type::Array), "array ")?;
-    let map = Value::Map(Map::new(alloc));
-    expect_type(&rt, alloc, &map, Some(Type::Map), "map ")
+    let (array, map) = (Value::Array(Vec::new(alloc)), Value::Map(Map::new(alloc)));
+    let (integer, whole) = (Some(Type::Integer), "integer number ");
+    for (value, typ, names) in [
+        (Value::Undefined, None, ""),
+        (Value::None, None, ""),
+        (Value::Bool(true), Some(Type::Bool), "bool "),
+        (Value::I64(1), integer, whole),
+        (Value::U64(1), integer, whole),
+        (Value::I128(1), integer, whole),
+        (Value::U128(1), integer, whole),
+        (text, Some(Type::String), "string "),
+        (Value::Bytes(Vec::new(alloc)), Some(Type::Bytes), "bytes "),
+        (array, Some(Type::Array), "array "),
+        (map, Some(Type::Map), "map "),
+    ] {
+        expect_type(&rt, alloc, &value, typ, names)?;
+    }
+    Ok(())
 }
 
 fn place(start: usize, end: usize) -> Span {
     Span {
-        start_line: 1,
         start_col: start,
-        end_line: 1,
         end_col: end,
         range: start..end,
+        ..Span::default()
     }
-}
-
-// The variable `a` at this place.
-fn variable(alloc: Global, span: Span) -> Result<Expression, AllocError> {
-    let name = String::from_str(alloc, "a")?;
-    build::variable(alloc, name, span)
 }
 
 #[test]
 fn an_expression_is_expanded(rt: HostRuntime) -> Result<(), Fail> {
-    let mut e = variable(rt.alloc(), place(3, 4))?;
+    let mut e = variable(rt.alloc(), "a", place(3, 4))?;
     assert!(rt; !e.is_literal());
     e.expand_span(&place(6, 9));
     assert_eq!(rt; e.span().copied(), place(3, 9));
     drop(e);
-    let constant = build::constant(rt.alloc(), Value::I64(1), place(0, 1))?;
+    let constant = constant(rt.alloc(), Value::I64(1))?;
     assert!(rt; constant.is_literal());
     drop(constant);
     Ok(())
+}
+
+// The negation, at the same place, of a variable that begins here.
+fn negated(alloc: Global, start: usize) -> Result<Expression, AllocError> {
+    let operand = variable(alloc, "a", place(start, 3))?;
+    build::unary(alloc, UnaryOperator::Not, operand, place(0, 3))
 }
 
 // Whether the copy of this equals it.
@@ -119,19 +119,7 @@ fn is_copied<T: Clone + PartialEq + Drop>(x: &T) -> Result<bool, AllocError> {
 
 #[test]
 fn expressions_equal_with_their_places(rt: HostRuntime) -> Result<(), Fail> {
-    let alloc = rt.alloc();
-    let one = build::unary(
-        alloc,
-        UnaryOperator::Not,
-        variable(alloc, place(2, 3))?,
-        place(0, 3),
-    )?;
-    let other = build::unary(
-        alloc,
-        UnaryOperator::Not,
-        variable(alloc, place(1, 3))?,
-        place(0, 3),
-    )?;
+    let (one, other) = both(negated(rt.alloc(), 2), negated(rt.alloc(), 1))?;
     let are_same = laws::same_expression(&one, &other);
     let is_same = is_copied(&one);
     drop(one);
