@@ -56,11 +56,17 @@ fn each_part_is_shown(rt: HostRuntime) -> Result<(), Fail> {
     let shown = shown_of(rt.alloc(), SOURCE)?;
     for part in [
         "nodes: [", "Content", "ForLoop", "Array", "Spread", "Var", "If(", "Concat", "Plus",
-        "Minus", "Break", "Integer",
+        "Minus", "Break",
     ] {
         assert!(rt; shown.as_str().contains(part), "{part} in {shown}");
     }
-    for part in ["implicit", "rest_param_name: None", "rest_param: None"] {
+    for part in [
+        "typ: Some(Integer)",
+        "implicit: false",
+        "rest_param_name: None",
+        "arg_type: Some(Integer)",
+        "rest_param: None",
+    ] {
         assert!(rt; shown.as_str().contains(part), "{part} in {shown}");
     }
     Ok(())
