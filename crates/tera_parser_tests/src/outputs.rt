@@ -48,19 +48,20 @@ fn shown_of(alloc: Global, source: &str) -> Result<String, Error> {
     }
 }
 
-const SOURCE: &str = r#"{% component c(i: integer) %}{% endcomponent %}
-{% for v in [a, ...b] %}{% if a + -b ~ c %}{% break %}{% endif %}{% endfor %}"#;
+const SOURCE: &str = r#"{% component c(i: integer) %}{% endcomponent %}{% <c i="1"> %}x{% </c> %}
+{% for v in [a, ...b] %}{% if a + -b ~ {1: c, ...d} %}{% break %}{% endif %}{% endfor %}"#;
 
 #[test]
 fn each_part_is_shown(rt: HostRuntime) -> Result<(), Fail> {
     let shown = shown_of(rt.alloc(), SOURCE)?;
     for part in [
         "nodes: [", "Content", "ForLoop", "Array", "Spread", "Var", "If(", "Concat", "Plus",
-        "Minus", "Break",
+        "Minus", "Map", "KeyValue", "Break",
     ] {
         assert!(rt; shown.as_str().contains(part), "{part} in {shown}");
     }
     for part in [
+        "ComponentCall",
         "typ: Some(Integer)",
         "implicit: false",
         "rest_param_name: None",
