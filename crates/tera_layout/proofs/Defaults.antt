@@ -1,5 +1,5 @@
 -- The default markers, and tokens between markers that are the same.
-use Rattle.std.proofs.Common.{◌≡◌, ℕ, true, List, refl, sym, ap, ◌∙◌, subst}
+use Rattle.std.proofs.Common.{◌≡◌, ℕ, true, List, refl, ap, subst}
 use Rattle.tera_lexer.specs.grammar.Marks.{Marks, IsValid, default_marks}
 use Rattle.tera_lexer.specs.grammar.Tokens.{Items, AreTokensOf}
 use Rattle.tera_layout.specs.Steady.{is_steady}
@@ -20,7 +20,5 @@ default_valid = record {
 pub default_steady : (m : Marks) → m ≡ default_marks → is_steady m ≡ true
 default_steady m same = ap is_steady same
 
-pub same_tokens : (n m : Marks) (source : List ℕ) (one other : Items) → n ≡ m → other ≡ one →
-    AreTokensOf n source one → AreTokensOf m source other
-same_tokens n m source one other marks same are =
-    subst (AreTokensOf m source) (sym same) (subst (λ k. AreTokensOf k source one) marks are)
+pub same_tokens : (n m : Marks) (source : List ℕ) (items : Items) → n ≡ m → AreTokensOf n source items → AreTokensOf m source items
+same_tokens n m source items = subst (λ k. AreTokensOf k source items)

@@ -1,16 +1,22 @@
 -- What is written of the tokens of a source is its layout.
-use Rattle.std.proofs.Common.{◌≡◌, ◌<◌, ℕ, suc, ◌-◌, Bool, true, false, ◌||◌, List, [], ◌∷◌, ◌++◌, length, map, take, drop, Option, Some, None, inl, inr, ⊎_elim, sym, ap, ap₂, ◌∙◌, refl, subst, arith, append_assoc}
-use Rattle.std.specs.Prelude.{◌⊎◌, codes, slice_range, if◌then◌else◌, string_bytes}
-use Rattle.std.specs.Str.{bytes_eq}
+use Rattle.std.proofs.Common.{◌≡◌, ◌<◌, ◌≤◌, ℕ, suc, ◌+◌, ◌-◌, Bool, true, false, ◌||◌, ◌&&◌, List, [], ◌∷◌, ◌++◌, length, take, drop, Option, Some, None, inl, inr, ⊎_elim, sym, ap, ap₂, ◌∙◌, refl, subst, arith, append_assoc, append-nil, take-add, drop-drop}
+use Rattle.std.specs.Prelude.{◌⊎◌, Ok, slice_range, if◌then◌else◌, string_bytes}
+use Rattle.std.specs.Str.{bytes_eq, IsCharBoundary, IsUtf8}
 use Rattle.std.specs.Option.{option_map}
 use Rattle.std.proofs.lemmas.Bool.{cases_Bool}
 use Rattle.std.proofs.lemmas.List.{length-append}
+use Rattle.std.proofs.lemmas.Slice.Eq.{bytes_eq-Decides}
+use Rattle.std.proofs.lemmas.Str.{IsCharBoundary-start}
 use Rattle.tera_base.specs.Errors.{IsMemoryKind, IsMemory, KindTells}
 use Rattle.tera_base.specs.declared.errors.Error.{Error}
 use Rattle.tera_base.specs.declared.errors.ErrorKind.{ErrorKind}
 use Rattle.tera_base.specs.declared.errors.ErrorKind.TheVariants.{Memory, Message, SyntaxError}
 use Rattle.tera_base.specs.declared.utils.Span.{Span}
 use Rattle.tera_base.proofs.Tellings.{tells_weaker}
+use Rattle.tera_lexer.specs.code.Seen.{seen}
+use Rattle.tera_lexer.specs.code.Steps.{Steps}
+use Rattle.tera_lexer.specs.declared.lexer.tokens.Token as rust
+use Rattle.tera_lexer.specs.reading.Stream.{Stream}
 use Rattle.tera_lexer.specs.declared.lexer.delimiters.Kind.{Kind}
 use Rattle.tera_lexer.specs.declared.lexer.delimiters.Kind.TheVariants.{Variable, Block}
 use Rattle.tera_lexer.specs.grammar.Marks.{Marks, IsValid, start_marker, end_marker, dash_bytes}
@@ -29,15 +35,16 @@ use Rattle.tera_lexer.proofs.Slices.{span_slice}
 use Rattle.tera_lexer.proofs.Tilings.{lexeme_inside, end_splits, comment_splits, raw_splits, tokens_tile}
 use Rattle.tera_layout.proofs.Together.{name_any}
 use Rattle.tera_layout.specs.declared.formatting.Reached.{Reached}
+use Rattle.tera_layout.specs.declared.formatting.Cut.{Cut}
 use Rattle.tera_layout.specs.Widened.{items_bytes, word_tag_front, piece_bytes}
 use Rattle.tera_layout.specs.declared.sides.Left.{Left}
 use Rattle.tera_layout.specs.declared.sides.Join.{Join}
-use Rattle.tera_layout.specs.declared.sides.Join.TheVariants.{Space, Kept}
+use Rattle.tera_layout.specs.declared.sides.Join.TheVariants.{Space, Nothing, Kept}
 use Rattle.tera_layout.specs.Sides.{outside, at_start, behind}
 use Rattle.tera_layout.specs.Apart.{first_from, in_end, last_from, meet_in_end}
 use Rattle.tera_layout.specs.Layout.{laid_edge, laid_gap, join_inside, unless_end, join_behind, laid_items, laid_piece, laid_out_by, laid_out}
 use Rattle.tera_layout.specs.Refusal.{Refuses}
-use Rattle.tera_layout.specs.Written.{is_finish, join_of, put, nothing, reached, token_text, written, Follow, KeepsFaults, RefusesTokens}
+use Rattle.tera_layout.specs.Written.{AreWritten, gap_text, has_bytes, is_finish, join_of, put, nothing, reached, token_text, written, Follow, KeepsFaults, RefusesTokens}
 
 -- Texts, one behind the other
 same_put : (f g : List ℕ → List ℕ) → ((r : List ℕ) → f r ≡ g r) → (o : Option (List ℕ)) → option_map f o ≡ option_map g o
@@ -314,21 +321,112 @@ laid_refused m source layout e is told =
     e.kind (λ text span (within, none, fault). some_none (sym none ∙ is)) told
 
 -- One token further
-pub first_kept : (items : Items) (last : Span) → KeepsFaults items last items
+first_kept : (items : Items) (last : Span) → KeepsFaults items last items
 first_kept Ended last text span = (λ h. h, λ ends. inr refl)
 first_kept (Failed told here) last text span = (λ h. h, λ ends. absurd ends)
 first_kept (Token t here items) last text span = (λ h. h, λ ends. inl ends)
 
-pub token_kept : (items : Items) (last : Span) (t : Tok) (here : Span) (left : Items) → KeepsFaults items last (Token t here left) → KeepsFaults items here left
+token_kept : (items : Items) (last : Span) (t : Tok) (here : Span) (left : Items) → KeepsFaults items last (Token t here left) → KeepsFaults items here left
 token_kept items last t here left h text span = h text span
 
 put_append : (a b : List ℕ) (o : Option (List ℕ)) → put (a ++ b) o ≡ put a (put b o)
 put_append a b None = refl
 put_append a b (Some r) = ap Some (append_assoc a b r)
 
-pub text_kept : (m : Marks) (source out new : List ℕ) (r next : Reached) (t : Tok) (span : Span) (left : Items) →
+text_kept : (m : Marks) (source out new : List ℕ) (r next : Reached) (t : Tok) (span : Span) (left : Items) →
     new ≡ out ++ token_text m source r t span → next ≡ reached r t span.range.end →
     put new (written m source next left) ≡ put out (written m source r (Token t span left))
 text_kept m source out new r next t span left is is_next =
     ap₂ (λ n k. put n (written m source k left)) is is_next
     ∙ put_append out (token_text m source r t span) (written m source (reached r t span.range.end) left)
+
+-- The run that is not pushed yet
+range_split : (s : List ℕ) (i j k : ℕ) → i ≤ j → j ≤ k → slice_range s i k ≡ slice_range s i j ++ slice_range s j k
+range_split s i j k before behind =
+    let len : k - i ≡ (j - i) + (k - j) = omega arith in
+    let at : i + (j - i) ≡ j = omega arith in
+    ap (λ n. take n (drop i s)) len ∙ take-add (j - i) (k - j) (drop i s)
+    ∙ ap (λ l. slice_range s i j ++ take (k - j) l) (drop-drop (j - i) i s ∙ ap (λ n. drop n s) at)
+
+-- where no gap is, the same stands whatever the texts beside it would end
+gap_kept : (join : Join) (gap : List ℕ) (ends : Bool) → laid_gap (unless_end join (has_bytes gap && ends)) gap ≡ laid_gap (unless_end join ends) gap
+gap_kept Space [] ends = refl
+gap_kept Nothing [] true = refl
+gap_kept Nothing [] false = refl
+gap_kept Kept [] ends = refl
+gap_kept join (b ∷ bs) ends = refl
+
+-- a gap that stays goes on with the run
+pub run_goes_on : (m : Marks) (source out : List ℕ) (c : Cut) (join joined : Join) → c.run ≤ c.gap → c.gap ≤ c.token →
+    joined ≡ unless_end join (has_bytes (slice_range source c.gap c.token) && meet_in_end m (slice_range source 0 c.gap) (slice_range source c.token c.end)) →
+    bytes_eq (laid_gap joined (slice_range source c.gap c.token)) (slice_range source c.gap c.token) ≡ true →
+    out ++ slice_range source c.run c.token ≡ (out ++ slice_range source c.run c.gap) ++ gap_text m source c join
+run_goes_on m source out c join joined before behind is stays =
+    let gap : List ℕ = slice_range source c.gap c.token in
+    let ends : Bool = meet_in_end m (slice_range source 0 c.gap) (slice_range source c.token c.end) in
+    let same : gap ≡ gap_text m source c join =
+    sym ((bytes_eq-Decides (laid_gap joined gap) gap).0 stays) ∙ ap (λ j. laid_gap j gap) is ∙ gap_kept join gap ends in
+    ap (λ l. out ++ l) (range_split source c.run c.gap c.token before behind ∙ ap (λ l. slice_range source c.run c.gap ++ l) same)
+    ∙ sym (append_assoc out (slice_range source c.run c.gap) (gap_text m source c join))
+
+-- a token goes on with the run
+token_goes_on : (m : Marks) (source out new : List ℕ) (c : Cut) (run : ℕ) (join : Join) → run ≤ c.token → c.token ≤ c.end →
+    new ++ slice_range source run c.token ≡ (out ++ slice_range source c.run c.gap) ++ gap_text m source c join →
+    new ++ slice_range source run c.end
+    ≡ (out ++ slice_range source c.run c.gap) ++ (gap_text m source c join ++ slice_range source c.token c.end)
+token_goes_on m source out new c run join before behind is =
+    ap (λ l. new ++ l) (range_split source run c.token c.end before behind)
+    ∙ sym (append_assoc new (slice_range source run c.token) (slice_range source c.token c.end))
+    ∙ ap (λ l. l ++ slice_range source c.token c.end) is
+    ∙ append_assoc (out ++ slice_range source c.run c.gap) (gap_text m source c join) (slice_range source c.token c.end)
+
+-- before the first token
+pub first_written : (m : Marks) (source out : List ℕ) (r : Reached) (last : Span) (items : Items) → IsUtf8 source →
+    r ≡ nothing → last.range.start ≡ 0 → last.range.end ≡ 0 → Follow 0 items →
+    AreWritten m source items (put out (written m source nothing items)) out 0 r last items
+first_written m source out r last items utf8 is start end follow =
+    let begins : IsCharBoundary source 0 = IsCharBoundary-start source utf8 in
+    subst
+    (λ r. AreWritten m source items (put out (written m source nothing items)) out 0 r last items)
+    (sym is)
+    (record {
+      begins = begins;
+      ends = begins;
+      order = omega arith;
+      follow = follow;
+      text = ap (λ o. put o (written m source nothing items)) (append-nil out);
+      faults = first_kept items last;
+      within = (omega (arith, start), subst (IsCharBoundary source) (sym start) begins, subst (IsCharBoundary source) (sym end) begins);
+    })
+
+-- .. and behind the next
+pub further_written : {m : Marks} {source : List ℕ} {all : Items} {whole : Option (List ℕ)} {out : List ℕ} {run : ℕ} {r : Reached} {last : Span}
+    (old new : Stream) (p : rust.Token × Span) (next : Reached) (pushed : List ℕ) (next_run : ℕ) (join : Join) →
+    AreWritten m source all whole out run r last old.left → old.source ≡ source → Steps old (Some (Ok p)) new →
+    next ≡ reached r (seen p.0) p.1.range.end → join ≡ join_of r.left (seen p.0) →
+    IsCharBoundary source next_run × (next_run ≤ p.1.range.start) →
+    pushed ++ slice_range source next_run p.1.range.start
+    ≡ (out ++ slice_range source run r.end)
+    ++ gap_text m source (record { run = run; gap = r.end; token = p.1.range.start; end = p.1.range.end }) join →
+    AreWritten m source all whole pushed next_run next p.1 new.left
+further_written {m} {source} {all} {whole} {out} {run} {r} {last} old new (token, span) next pushed next_run join
+    so_far same (left, is_new, stands) is_next is_join (cut, before) is =
+    let t : Tok = seen token in
+    let at : Cut = record { run = run; gap = r.end; token = span.range.start; end = span.range.end } in
+    let within : IsWithin source span = subst (λ s. IsWithin s span) same stands.0 in
+    let end : next.end ≡ span.range.end = ap (λ (r : Reached). r.end) is_next in
+    let text : pushed ++ slice_range source next_run next.end ≡ (out ++ slice_range source run r.end) ++ token_text m source r t span =
+    ap (λ n. pushed ++ slice_range source next_run n) end
+    ∙ token_goes_on m source out pushed at next_run join before within.0 is
+    ∙ ap (λ j. (out ++ slice_range source run r.end) ++ (gap_text m source at j ++ slice_range source span.range.start span.range.end)) is_join in
+    record {
+      begins = cut;
+      ends = subst (IsCharBoundary source) (sym end) within.2;
+      order = omega (arith, end, before, within.0);
+      follow = subst (λ n. Follow n new.left) (sym end) (subst (Follow r.end) left so_far.follow).1;
+      text =
+          text_kept m source (out ++ slice_range source run r.end) (pushed ++ slice_range source next_run next.end) r next t span new.left text is_next
+          ∙ ap (λ items. put (out ++ slice_range source run r.end) (written m source r items)) (sym left) ∙ so_far.text;
+      faults = token_kept all last t span new.left (subst (KeepsFaults all last) left so_far.faults);
+      within = within;
+    }

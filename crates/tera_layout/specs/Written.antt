@@ -1,6 +1,7 @@
 -- The layout as it is written: token by token, each with what stands in the place of the gap before it.
 use Rattle.std.specs.Prelude.{◌≡◌, ◌⊎◌, ◌≤◌, ℕ, Bool, true, false, if◌then◌else◌, List, [], ◌∷◌, ◌++◌, Option, Some, None, slice_range}
 use Rattle.std.specs.Option.{option_map}
+use Rattle.std.specs.Str.{IsCharBoundary}
 use Rattle.tera_base.specs.Errors.{TellsBy}
 use Rattle.tera_base.specs.declared.utils.Span.{Span}
 use Rattle.tera_base.specs.declared.errors.Error.{Error}
@@ -11,6 +12,7 @@ use Rattle.tera_lexer.specs.grammar.Tiling.{in_tag_behind}
 use Rattle.tera_lexer.specs.grammar.Tokens as toks
 use Rattle.tera_lexer.specs.grammar.Tokens.{Tok, Items, Ended, Failed, Token}
 use Rattle.tera_layout.specs.declared.formatting.Reached.{Reached}
+use Rattle.tera_layout.specs.declared.formatting.Cut.{Cut}
 use Rattle.tera_layout.specs.declared.sides.Left.{Left}
 use Rattle.tera_layout.specs.declared.sides.Join.{Join}
 use Rattle.tera_layout.specs.declared.sides.Join.TheVariants.{Space, Nothing, Kept}
@@ -84,3 +86,38 @@ is_one_space Space gap = true
 is_one_space Nothing gap = false
 is_one_space Kept [] = false
 is_one_space Kept (b ∷ bs) = true
+
+-- the gap holds a byte
+abbrev pub has_bytes : List ℕ → Bool
+has_bytes [] = false
+has_bytes (b ∷ bs) = true
+
+-- a source is cut between characters, and in this order
+pub record IsCut (source : List ℕ) (c : Cut) : Type 0 where
+  pub run : IsCharBoundary source c.run
+  pub gap : IsCharBoundary source c.gap
+  pub token : IsCharBoundary source c.token
+  pub end : IsCharBoundary source c.end
+  pub behind_run : c.run ≤ c.gap
+  pub behind_gap : c.gap ≤ c.token
+  pub behind_token : c.token ≤ c.end
+
+-- what stands in the place of the gap, where this is what joins the token to what stands on its left
+abbrev pub gap_text : Marks → List ℕ → Cut → Join → List ℕ
+gap_text m source c join =
+    laid_gap
+    (unless_end join (meet_in_end m (slice_range source 0 c.gap) (slice_range source c.token c.end)))
+    (slice_range source c.gap c.token)
+
+-- tokens are written up to those that are left: what was pushed, the run behind it and what is written of those are the
+-- whole; the run may be cut out of the source; and a fault of those, or their end behind the last that was written, is
+-- one of all
+pub record AreWritten (m : Marks) (source : List ℕ) (all : Items) (whole : Option (List ℕ))
+    (out : List ℕ) (run : ℕ) (r : Reached) (last : Span) (left : Items) : Type 0 where
+  pub begins : IsCharBoundary source run
+  pub ends : IsCharBoundary source r.end
+  pub order : run ≤ r.end
+  pub follow : Follow r.end left
+  pub text : put (out ++ slice_range source run r.end) (written m source r left) ≡ whole
+  pub faults : KeepsFaults all last left
+  pub within : IsWithin source last

@@ -1,23 +1,22 @@
 //! Writes a source in its layout.
 
-ghost use Rattle.std.specs.Prelude.{◌≡◌, ◌++◌, ◌||◌, ◌≤◌, IfOk, IfErr, OnOk, MatchResult, ℕ, List, ◌∷◌, length, Some, true, string_bytes};
-ghost use Rattle.std.specs.Str.{IsCharBoundary};
+ghost use Rattle.std.specs.Prelude.{◌≡◌, ◌++◌, ◌||◌, ◌&&◌, ◌≤◌, if◌then◌else◌, IfOk, IfErr, OnOk, MatchResult, ℕ, List, [], ◌∷◌, length, Some, true, slice_range, string_bytes};
+ghost use Rattle.std.specs.Str.{bytes_eq, IsCharBoundary};
 ghost use Rattle.tera_base.specs.Errors.{IsMemory};
-ghost use Rattle.tera_lexer.specs.grammar.Bytes.{dash_byte};
+ghost use Rattle.tera_lexer.specs.grammar.Bytes.{dash_byte, space as space_byte};
 ghost use Rattle.tera_lexer.specs.grammar.Marks.{marks_of, default_marks, IsValid};
-ghost use Rattle.tera_lexer.specs.grammar.Place.{IsWithin};
 ghost use Rattle.tera_lexer.specs.code.Seen.{seen};
 ghost use Rattle.tera_lexer.specs.grammar.Tiling.{in_tag_behind};
 ghost use Rattle.tera_layout.specs.Apart.{has_pair, first_from, last_from, meet_in_end};
 ghost use Rattle.tera_layout.specs.Layout.{laid_gap, laid_out, unless_end};
 ghost use Rattle.tera_layout.specs.Refusal.{Refuses};
 ghost use Rattle.tera_layout.specs.Steady.{is_steady};
-ghost use Rattle.tera_layout.specs.Written.{is_one_space, nothing, reached as behind_token, put, token_text, written, Follow, RefusesTokens};
+ghost use Rattle.tera_layout.specs.Written.{gap_text, has_bytes, is_one_space, nothing, reached as behind_token, put, written, Follow, IsCut, RefusesTokens};
 
 use crate::sides::{Join, Left};
 use std::alloc::{AllocError, Global};
-use tera_base::{Error, Span};
-use tera_lexer::{Cursor, Delimiters, Token, tokenize};
+use tera_base::{Error, ReportError, Span};
+use tera_lexer::{Delimiters, Token, Tokens, tokenize};
 
 /// The source in its layout, between the default markers: in each tag one space behind the start and
 /// before the end, nothing between what stands together, as `a.b` and `f(x=1)`, one space between
@@ -48,9 +47,9 @@ pub fn format_between(alloc: Global, source: &str, delimiters: &Delimiters) -> R
         MatchResult result (λ text. string_bytes text ≡ layout) IsMemory }
     ensures refusal { IfErr result (Refuses (marks_of delimiters.now) source.now) }
 {
-    let mut cursor = Cursor::new(tokenize(alloc, source, delimiters.clone()?));
+    let mut tokens = tokenize(alloc, source, delimiters.clone()?);
     let mut out = String::new(alloc);
-    match push_tokens(&mut out, source, delimiters, &mut cursor) {
+    match push_tokens(alloc, &mut out, source, delimiters, &mut tokens) {
         Ok(()) => Ok(out),
         Err(error) => {
             drop(out);
@@ -59,36 +58,46 @@ pub fn format_between(alloc: Global, source: &str, delimiters: &Delimiters) -> R
     }
 }
 
-// Writes the tokens, each behind what stands in the place of the gap before it.
+// Writes the tokens, each behind what stands in the place of the gap before it. A run of the source in which each gap
+// stays as it is, is pushed as one.
 fn push_tokens(
+    alloc: Global,
     out: &mut String,
     source: &str,
     delimiters: &Delimiters,
-    cursor: &mut Cursor<'_>,
+    tokens: &mut Tokens<'_>,
 ) -> Result<(), Error>
     requires valid { IsValid (marks_of delimiters.now) }
-    requires source { cursor.old.source ≡ source.now }
-    requires follow { Follow 0 cursor.old.left }
+    requires source { tokens.old.source ≡ source.now }
+    requires follow { Follow 0 tokens.old.left }
     ensures text { OnOk result (
         put (string_bytes out.old)
-        (written (marks_of delimiters.now) source.now nothing cursor.old.left)
+        (written (marks_of delimiters.now) source.now nothing tokens.old.left)
         ≡ Some (string_bytes out.new)) }
     ensures refusal { IfErr result (
-        RefusesTokens (marks_of delimiters.now) source.now cursor.old.left) }
+        RefusesTokens (marks_of delimiters.now) source.now tokens.old.left) }
 {
-    let mut reached = Reached {
-        end: 0,
-        in_tag: false,
-        left: Left::outside(),
-    };
-    'tokens: while let Some((token, span)) = cursor.next()? {
-        reached = push_token(out, source, delimiters, reached, token, &span)?;
+    let mut reached = before_all();
+    let mut run = 0;
+    let mut last = Span::default();
+    'tokens: while let Some(item) = tokens.next() {
+        let (token, span) = item?;
+        let next = behind(reached, &token, span.range.end);
+        let join = reached.left.join(&token, next.left);
+        let cut = Cut {
+            run,
+            gap: reached.end,
+            token: span.range.start,
+            end: span.range.end,
+        };
+        run = push_gap(out, source, delimiters, cut, join)?;
+        reached = next;
+        last = span;
     }
     if reached.in_tag {
-        Err(cursor.eoi())
-    } else {
-        Ok(())
+        return Err(ReportError::unexpected_end_of_input(alloc, &last));
     }
+    Ok(out.push_str(&source[run..reached.end])?)
 }
 
 // How far a source is written.
@@ -100,6 +109,17 @@ struct Reached {
     in_tag: bool,
     // What the token before is to those beside it.
     left: Left,
+}
+
+// Before the first token.
+fn before_all() -> Reached
+    ensures { result ≡ nothing }
+{
+    Reached {
+        end: 0,
+        in_tag: false,
+        left: Left::outside(),
+    }
 }
 
 // Behind a token that ends there.
@@ -124,41 +144,64 @@ fn goes_on_inside(in_tag: bool, token: &Token<'_>) -> bool
     }
 }
 
-// Writes a token behind what was reached, and answers what is reached then.
-fn push_token(
+// Where a source is cut at a token.
+#[derive(Clone, Copy)]
+struct Cut {
+    // Where the run before the gap begins, which is not pushed yet.
+    run: usize,
+    // Where the gap before the token begins.
+    gap: usize,
+    // Where the token begins.
+    token: usize,
+    // Where the token ends.
+    end: usize,
+}
+
+// Writes what stands in the place of the gap, and answers where the run before the token begins: a gap that stays as it
+// is belongs to the run, and behind another a new run begins.
+fn push_gap(
     out: &mut String,
     source: &str,
     delimiters: &Delimiters,
-    reached: Reached,
-    token: Token<'_>,
-    span: &Span,
-) -> Result<Reached, AllocError>
+    cut: Cut,
+    join: Join,
+) -> Result<usize, AllocError>
     requires valid { IsValid (marks_of delimiters.now) }
-    requires within { IsWithin source.now span.now }
-    requires cut { IsCharBoundary source.now reached.end }
-    requires follow { reached.end ≤ span.now.range.start }
-    ensures reached { IfOk result (λ r.
-        r ≡ behind_token reached (seen token.entry) span.now.range.end) }
-    ensures text { OnOk result (string_bytes out.new
-        ≡ string_bytes out.old
-        ++ token_text (marks_of delimiters.now) source.now reached (seen token.entry) span.now) }
+    requires cut { IsCut source.now cut }
+    ensures cut { IfOk result (λ run. IsCharBoundary source.now run × (run ≤ cut.token)) }
+    ensures text { IfOk result (λ run.
+        string_bytes out.new ++ slice_range source.now run cut.token
+        ≡ (string_bytes out.old ++ slice_range source.now cut.run cut.gap)
+        ++ gap_text (marks_of delimiters.now) source.now cut join) }
 {
-    let gap = &source[reached.end..span.range.start];
-    let text = &source[span.range.start..span.range.end];
-    let before = &source[0..reached.end];
-    let join = unless_end(reached.left.join(&token), delimiters, before, text);
-    push_gap(out, gap, join)?;
-    out.push_str(text)?;
-    Ok(behind(reached, &token, span.range.end))
+    let gap = &source[cut.gap..cut.token];
+    let text = &source[cut.token..cut.end];
+    let join = unless_end(join, delimiters, &source[0..cut.gap], gap, text);
+    if stays(join, gap) {
+        Ok(cut.run)
+    } else {
+        push_changed(out, &source[cut.run..cut.gap], is_space(join, gap))?;
+        Ok(cut.token)
+    }
 }
 
-// What joins the texts: what was there, where nothing between them would let them end a tag.
-fn unless_end(join: Join, delimiters: &Delimiters, before: &str, text: &str) -> Join
+// Writes a run and the space behind it, if one stands there.
+fn push_changed(out: &mut String, run: &str, space: bool) -> Result<(), AllocError>
+    ensures { OnOk result (string_bytes out.new
+        ≡ (string_bytes out.old ++ run.now) ++ (if space then space_byte ∷ [] else [])) }
+{
+    out.push_str(run)?;
+    if space { out.push(' ') } else { Ok(()) }
+}
+
+// What joins the texts on both sides of a gap: what was there, where nothing in its place would let them end a tag.
+fn unless_end(join: Join, delimiters: &Delimiters, before: &str, gap: &str, text: &str) -> Join
     requires { IsValid (marks_of delimiters.now) }
-    ensures { result ≡ unless_end join (meet_in_end (marks_of delimiters.now) before.now text.now) }
+    ensures { result ≡ unless_end join (has_bytes gap.now
+        && meet_in_end (marks_of delimiters.now) before.now text.now) }
 {
     match join {
-        Join::Nothing if meet_in_end(delimiters, before, text) => Join::Kept,
+        Join::Nothing if !gap.is_empty() && meet_in_end(delimiters, before, text) => Join::Kept,
         join => join,
     }
 }
@@ -203,17 +246,14 @@ fn first_of(bytes: &[u8]) -> u8
     }
 }
 
-// What stands in the place of a gap.
-fn push_gap(out: &mut String, gap: &str, join: Join) -> Result<(), AllocError>
-    ensures { OnOk result (string_bytes out.new
-        ≡ string_bytes out.old ++ laid_gap join gap.now) }
+// Whether the gap itself stands in its place.
+fn stays(join: Join, gap: &str) -> bool
+    ensures { result ≡ bytes_eq (laid_gap join gap.now) gap.now }
 {
-    if gap.as_bytes().contains(&b'\n') {
-        out.push_str(gap)
-    } else if is_space(join, gap) {
-        out.push(' ')
-    } else {
-        Ok(())
+    match gap.as_bytes() {
+        [] => !matches!(join, Join::Space),
+        [b' '] => !matches!(join, Join::Nothing),
+        bytes => bytes.contains(&b'\n'),
     }
 }
 

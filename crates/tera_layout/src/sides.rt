@@ -101,14 +101,15 @@ impl Left {
         }
     }
 
-    /// What stands in the place of the gap before the token.
-    pub(crate) fn join(self, token: &Token<'_>) -> Join
+    /// What stands in the place of the gap before the token. The next is what stands on the left behind the token.
+    pub(crate) fn join(self, token: &Token<'_>, next: Left) -> Join
+        requires { next ≡ sides.behind self (seen token.now) }
         ensures { result ≡ join_of self (seen token.now) }
     {
         if matches!(self.side, Side::Start) || is_end(token) {
             Join::Space
         } else {
-            join_between(self.side, self.placed(side_of(token)))
+            join_between(self.side, next.side)
         }
     }
 
