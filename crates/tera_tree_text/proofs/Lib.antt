@@ -1,2 +1,3 @@
 pub mod Elifs
 pub mod Calls
+pub mod Escapes

@@ -4,7 +4,7 @@
 //! template. It stands on `tera_tree`, and needs no parser.
 //!
 //! In the order of reading: specs `TreeText` and `Quoted`, what is written; `lines`, of nodes; `definitions`, of
-//! components; `quoted`, of texts.
+//! components; `quoted`, of texts, by their bytes (specs `QuotedBytes`).
 #![tactic(auto)]
 
 mod definitions;

@@ -1,31 +1,137 @@
 //! Texts between quotes.
 
-ghost use Rattle.std.specs.Prelude.{◌≡◌, ◌++◌, string_bytes, OnOk};
+ghost use Rattle.std.specs.Prelude.{◌≡◌, ◌++◌, ◌≤◌, length, take, chars, false, string_bytes, OnOk};
+ghost use Rattle.std.specs.Bool.{OnTrue};
+ghost use Rattle.std.specs.List.{flat_map, prefix_len};
 ghost use Rattle.tera_tree_text.specs.Quoted.{quoted, escaped};
+ghost use Rattle.tera_tree_text.specs.QuotedBytes.{is_plain, escaped_byte, first_set};
 
 use std::alloc::AllocError;
+use std::simd::prelude::*;
 
 /// The text between quotes with its escapes, at the end.
 pub fn push_quoted(text: &mut String, content: &str) -> Result<(), AllocError>
     ensures { OnOk result (string_bytes text.new ≡ string_bytes text.old ++ quoted content.now) }
 {
     text.push('"')?;
-    for c in content.chars() {
-        push_escaped(text, c)?;
-    }
+    push_escaped(text, content)?;
     text.push('"')
 }
 
-// A character of a text between quotes, at the end.
-fn push_escaped(text: &mut String, c: char) -> Result<(), AllocError>
-    ensures { OnOk result (string_bytes text.new ≡ string_bytes text.old ++ escaped c) }
+// The text with its escapes, at the end. What stands between two escapes goes over as one piece.
+fn push_escaped(text: &mut String, content: &str) -> Result<(), AllocError>
+    ensures { OnOk result (string_bytes text.new
+        ≡ string_bytes text.old ++ flat_map escaped (chars content.now)) }
 {
-    match c {
-        '\\' => text.push_str("\\\\"),
-        '"' => text.push_str("\\\""),
-        '\n' => text.push_str("\\n"),
-        '\r' => text.push_str("\\r"),
-        '\t' => text.push_str("\\t"),
-        _ => text.push(c),
+    let mut rest = content;
+    loop {
+        let (plain, behind) = rest.split_at(plain_len(rest.as_bytes()));
+        push_run(text, plain)?;
+        if behind.is_empty() {
+            return Ok(());
+        }
+        text.push_str(escaped_byte(behind.as_bytes()[0]))?;
+        let (_, behind) = behind.split_at(1);
+        rest = behind;
+    }
+}
+
+// A run of bytes that are written as they are, at the end. Between two escapes there is often none.
+#[inline(always)]
+fn push_run(text: &mut String, run: &str) -> Result<(), AllocError>
+    ensures bytes { OnOk result (string_bytes text.new ≡ string_bytes text.old ++ run.now) }
+{
+    if run.is_empty() {
+        return Ok(());
+    }
+    text.push_str(run)
+}
+
+// How many bytes are told at a time.
+const LANES: usize = 16;
+
+// How many bytes at the front are written as they are.
+fn plain_len(bytes: &[u8]) -> usize
+    ensures run { result ≡ prefix_len is_plain bytes.now }
+    ensures within { result ≤ length bytes.now }
+{
+    if begins_escaped(bytes) {
+        return 0;
+    }
+    let mut at = 0;
+    while bytes.len() - at >= LANES {
+        let len = plain_lanes(&bytes[at..]);
+        at += len;
+        if len < LANES {
+            return at;
+        }
+    }
+    at + plain_bytes(&bytes[at..])
+}
+
+// Whether none is. Escapes often follow one another.
+#[inline(always)]
+fn begins_escaped(bytes: &[u8]) -> bool
+    ensures { OnTrue result (prefix_len is_plain bytes.now ≡ 0) }
+{
+    match bytes.first() {
+        Some(byte) => !is_plain(*byte),
+        None => false,
+    }
+}
+
+// The same, told one byte after another.
+fn plain_bytes(bytes: &[u8]) -> usize
+    ensures run { result ≡ prefix_len is_plain bytes.now }
+    ensures within { result ≤ length bytes.now }
+{
+    bytes.iter().take_while(|b| is_plain(**b)).count()
+}
+
+// The same of the first sixteen.
+#[inline(always)]
+fn plain_lanes(bytes: &[u8]) -> usize
+    requires { 16 ≤ length bytes.now }
+    ensures run { result ≡ prefix_len is_plain (take 16 bytes.now) }
+    ensures within { result ≤ 16 }
+{
+    let lanes = u8x16::from_slice(bytes);
+    let stops = lanes.simd_eq(u8x16::splat(b'\\'))
+        | lanes.simd_eq(u8x16::splat(b'"'))
+        | lanes.simd_eq(u8x16::splat(b'\n'))
+        | lanes.simd_eq(u8x16::splat(b'\r'))
+        | lanes.simd_eq(u8x16::splat(b'\t'));
+    first_set(stops.to_bitmask())
+}
+
+// The place of the lowest bit that is set, or behind the lanes where none is.
+#[inline(always)]
+fn first_set(mask: u64) -> usize
+    ensures { result ≡ first_set 16 mask }
+{
+    if mask == 0 {
+        LANES
+    } else {
+        mask.trailing_zeros() as usize
+    }
+}
+
+// Most bytes are greater than each that is escaped but the backslash.
+fn is_plain(b: u8) -> bool
+    ensures { result ≡ is_plain b }
+{
+    b != b'\\' && (b > b'"' || !matches!(b, b'"' | b'\n' | b'\r' | b'\t'))
+}
+
+fn escaped_byte(b: u8) -> &'static str
+    requires { is_plain b ≡ false }
+    ensures { result.now ≡ escaped_byte b }
+{
+    match b {
+        b'\\' => "\\\\",
+        b'"' => "\\\"",
+        b'\n' => "\\n",
+        b'\r' => "\\r",
+        _ => "\\t",
     }
 }
