@@ -5,4 +5,6 @@ pub mod Named
 pub mod Objects
 pub mod Parts
 pub mod Passed
+pub mod Reached
 pub mod Rules
+pub mod Tags

@@ -2,11 +2,12 @@
 //!
 //! It takes templates that were read. What it finds are the fault of each (`IsOfError`), or what is found in its tree
 //! (`tree_findings`); and it writes findings as lines (`lines_of`) or objects of JSON (`object_of`). It stands on
-//! `tera_parser`, and names nothing below that in its code; of the kit on `json`.
+//! `tera_parser`, and names nothing below that in its code; of the kit on `json` and on `memchr`, which searches.
 //!
 //! In the order of reading: specs `Findings`, `Calls`, `Passed`, `Judged`, `Named`, `Rules`, `Objects`; `templates` and
-//! `definitions`, which read; `catalogue`; `calls`, over a stack of parts (specs `Parts`); `passed`, `arguments` and
-//! `messages`, of one call; `checked`, of a template; `finding`, `faults`, `lines` and `objects`.
+//! `definitions`, which read, by `tags` and `reached` (specs `Tags` and `Reached`); `catalogue`; `calls`, over a stack
+//! of parts (specs `Parts`); `passed`, `arguments` and `messages`, of one call; `checked`, of a template; `finding`,
+//! `faults`, `lines` and `objects`.
 #![tactic(auto)]
 
 mod arguments;
@@ -20,6 +21,8 @@ mod lines;
 mod messages;
 mod objects;
 mod passed;
+mod reached;
+mod tags;
 mod templates;
 
 pub use calls::calls_of;

@@ -9,6 +9,7 @@ ghost use Rattle.tera_parser.specs.Notes.{NotesName};
 ghost use Rattle.tera_parser.specs.Refusal.{Refuses};
 ghost use Rattle.tera_statements.specs.Outputs.{output_view};
 ghost use Rattle.tera_tree.specs.Tree.{Output};
+ghost use Rattle.tera_check.specs.Reached.{definition_count};
 
 use crate::definitions::definition_places;
 use crate::finding::Place;
@@ -39,13 +40,23 @@ pub fn read_template(alloc: Global, file: &str, source: &str) -> Result<Template
     ensures notes { IfOk result (λ t. IfErr t.parsed (NotesName file.now)) }
 {
     let name = String::from_str(alloc, file)?;
-    let defined_at = definition_places(alloc, source)?;
     let parsed = parsed(alloc, file, source);
+    let defined_at = definition_places(alloc, source, definition_count(&parsed))?;
     Ok(Template {
         file: name,
         parsed,
         defined_at,
     })
+}
+
+// How many components the tree defines, if there is one.
+fn definition_count(parsed: &Result<ParserOutput, Error>) -> Option<usize>
+    ensures { result ≡ definition_count parsed.now }
+{
+    match parsed {
+        Ok(output) => Some(output.component_definitions.len()),
+        Err(_) => None,
+    }
 }
 
 fn parsed(alloc: Global, file: &str, source: &str) -> Result<ParserOutput, Error>
