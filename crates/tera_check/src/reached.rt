@@ -82,7 +82,26 @@ fn line_feeds(bytes: &[u8]) -> usize
     ensures count { result ≡ count_by is_line_feed bytes.now }
     ensures within { result ≤ length bytes.now }
 {
-    bytes.iter().filter(|b| **b == b'\n').count()
+    let mut count = 0;
+    let mut rest = bytes;
+    while !rest.is_empty() {
+        let (chunk, behind) = rest.split_at(rest.len().min(128));
+        count += usize::from(few_line_feeds(chunk));
+        rest = behind;
+    }
+    count
+}
+
+// The same of so few bytes that a byte counts them.
+fn few_line_feeds(bytes: &[u8]) -> u8
+    requires { length bytes.now ≤ 128 }
+    ensures { result ≡ count_by is_line_feed bytes.now }
+{
+    let mut count = 0;
+    for b in bytes {
+        count += u8::from(*b == b'\n');
+    }
+    count
 }
 
 // How many characters begin in the bytes.
@@ -90,5 +109,24 @@ fn characters(bytes: &[u8]) -> usize
     ensures count { result ≡ count_by begins_character bytes.now }
     ensures within { result ≤ length bytes.now }
 {
-    bytes.iter().filter(|b| **b < 0x80 || **b >= 0xC0).count()
+    let mut count = 0;
+    let mut rest = bytes;
+    while !rest.is_empty() {
+        let (chunk, behind) = rest.split_at(rest.len().min(128));
+        count += usize::from(few_characters(chunk));
+        rest = behind;
+    }
+    count
+}
+
+// The same of so few bytes that a byte counts them.
+fn few_characters(bytes: &[u8]) -> u8
+    requires { length bytes.now ≤ 128 }
+    ensures { result ≡ count_by begins_character bytes.now }
+{
+    let mut count = 0;
+    for b in bytes {
+        count += u8::from(*b < 0x80 || *b >= 0xC0);
+    }
+    count
 }

@@ -1,13 +1,15 @@
 //! Where tags stand that may define a component, by a search of the bytes.
 
-ghost use Rattle.std.specs.Prelude.{◌≡◌, ◌≤◌, ◌++◌, ℕ, Bool, true, List, Some, length, IfOk, OnOk};
+ghost use Rattle.std.specs.Prelude.{◌≡◌, ◌+◌, ◌≤◌, ◌++◌, ℕ, Bool, true, false, List, length, drop, codes, IfOk, OnOk};
 ghost use Rattle.std.specs.Char.{is_ascii_whitespace};
 ghost use Rattle.std.specs.List.{AllByRecursion};
 ghost use Rattle.tera_lexer.specs.grammar.Marks.{default_marks, dash_bytes};
-ghost use Rattle.tera_check.specs.Tags.{without_dash, marker_at_end, start_before, goes_on_at, those, start_of, tag_starts};
+ghost use Rattle.tera_check.specs.Tags.{without_dash, begins_with_word, is_word, goes_on_at, those, start_of, tag_starts};
 
 use memchr::memmem;
 use std::alloc::{AllocError, Global};
+
+const BLOCK_START: &str = "{%";
 
 const WORD: &str = "component";
 
@@ -17,37 +19,61 @@ pub(crate) fn tag_starts(alloc: Global, text: &[u8]) -> Result<Vec<usize>, Alloc
     ensures { IfOk result (λ v. v.items ≡ tag_starts text.now) }
 {
     let mut starts = Vec::new(alloc);
-    for word in memmem::find_iter(text, WORD.as_bytes()) {
-        push_start(&mut starts, text, word)?;
+    for start in memmem::find_iter(text, BLOCK_START.as_bytes()) {
+        push_start(&mut starts, text, start)?;
     }
     Ok(starts)
 }
 
-// Adds where the tag begins whose first word is the `component` that stands here, if it is one.
-fn push_start(starts: &mut Vec<usize>, text: &[u8], word: usize) -> Result<(), AllocError>
-    requires { word ≤ length text.now }
+// Adds where the start marker stands, if `component` is the first word behind it.
+fn push_start(starts: &mut Vec<usize>, text: &[u8], start: usize) -> Result<(), AllocError>
+    requires { start + 2 ≤ length text.now }
     ensures { OnOk result (starts.new.items
-        ≡ starts.old.items ++ those (start_of text.now word)) }
+        ≡ starts.old.items ++ those (start_of text.now start)) }
 {
-    match start_of(text, word) {
-        Some(start) => {
-            starts.push(start)?;
-            Ok(())
-        }
-        None => Ok(()),
+    if defines(text, start) {
+        starts.push(start)?;
+    }
+    Ok(())
+}
+
+// Whether `component` is the first word of the tag whose start marker stands here.
+fn defines(text: &[u8], start: usize) -> bool
+    requires { start + 2 ≤ length text.now }
+    ensures word { result ≡ begins_with_word (drop (start + 2) text.now) }
+    ensures found { (front gap rest : List ℕ) (dash : Bool) →
+        AllByRecursion (λ b. is_ascii_whitespace b ≡ true) gap →
+        goes_on_at (codes "component" ++ rest) 9 ≡ false → start ≡ length front →
+        text.now ≡ front ++ (default_marks.block_start
+        ++ (dash_bytes dash ++ (gap ++ (codes "component" ++ rest)))) → result ≡ true }
+{
+    let (_, inside) = text.split_at(start + BLOCK_START.len());
+    begins_with_word(inside)
+}
+
+// Whether the word `component` comes first in a tag, perhaps behind a dash and white space.
+fn begins_with_word(inside: &[u8]) -> bool
+    ensures { result ≡ begins_with_word inside.now }
+{
+    is_word(without_dash(inside).trim_ascii_start())
+}
+
+fn without_dash(inside: &[u8]) -> &[u8]
+    ensures { result.now ≡ without_dash inside.now }
+{
+    if inside.starts_with(b"-") {
+        let (_, behind) = inside.split_at(1);
+        behind
+    } else {
+        inside
     }
 }
 
-fn start_of(text: &[u8], word: usize) -> Option<usize>
-    requires { word ≤ length text.now }
-    ensures { result ≡ start_of text.now word }
+// Whether `component` comes first, and no name goes on behind it.
+fn is_word(rest: &[u8]) -> bool
+    ensures { result ≡ is_word rest.now }
 {
-    let (front, rest) = text.split_at(word);
-    if goes_on_at(rest, WORD.len()) {
-        None
-    } else {
-        start_before(front)
-    }
+    rest.starts_with(WORD.as_bytes()) && !goes_on_at(rest, WORD.len())
 }
 
 // Whether a name has a byte at this place.
@@ -55,36 +81,4 @@ fn goes_on_at(text: &[u8], at: usize) -> bool
     ensures { result ≡ goes_on_at text.now at }
 {
     at < text.len() && (text[at].is_ascii_alphanumeric() || text[at] == b'_')
-}
-
-// Where the start marker stands with which the text ends, but for a dash and white space.
-fn start_before(text: &[u8]) -> Option<usize>
-    ensures start { result ≡ start_before text.now }
-    ensures found { (front gap : List ℕ) (dash : Bool) →
-        AllByRecursion (λ b. is_ascii_whitespace b ≡ true) gap →
-        text.now ≡ front ++ (default_marks.block_start ++ (dash_bytes dash ++ gap)) →
-        result ≡ Some (length front) }
-{
-    marker_at_end(without_dash(text.trim_ascii_end()))
-}
-
-fn without_dash(text: &[u8]) -> &[u8]
-    ensures { result.now ≡ without_dash text.now }
-{
-    if text.ends_with(b"-") {
-        let (front, _) = text.split_at(text.len() - 1);
-        front
-    } else {
-        text
-    }
-}
-
-fn marker_at_end(text: &[u8]) -> Option<usize>
-    ensures { result ≡ marker_at_end text.now }
-{
-    if text.ends_with(b"{%") {
-        Some(text.len() - 2)
-    } else {
-        None
-    }
 }

@@ -1,0 +1,14 @@
+use Rattle.std.proofs.Common.{◌≡◌, ◌+◌, ◌≤◌, length}
+use Rattle.std.specs.Prelude.{count_by}
+use Rattle.tera_lexer.specs.grammar.Place.{begins_character}
+use Rattle.tera_check.proofs.reached.characters.Given as goal
+
+-- what is counted, and what is left
+abbrev pub invariant-loop-rest : goal.invariant-loop-rest
+invariant-loop-rest l = record {
+  count : l.count + count_by begins_character l.rest ≡ count_by begins_character l.bytes;
+  within : l.count + length l.rest ≤ length l.bytes;
+}
+
+abbrev pub decreases-loop-rest : goal.decreases-loop-rest
+decreases-loop-rest l = length l.rest
