@@ -1,6 +1,6 @@
 //! Texts between quotes.
 
-ghost use Rattle.std.specs.Prelude.{◌≡◌, ◌++◌, ◌≤◌, length, take, chars, false, string_bytes, OnOk};
+ghost use Rattle.std.specs.Prelude.{◌≡◌, ◌++◌, ◌∷◌, ◌≤◌, length, take, chars, false, encode_utf8, string_bytes, OnOk};
 ghost use Rattle.std.specs.Bool.{OnTrue};
 ghost use Rattle.std.specs.List.{flat_map, prefix_len};
 ghost use Rattle.tera_tree_text.specs.Quoted.{quoted, escaped};
@@ -30,21 +30,22 @@ fn push_escaped(text: &mut String, content: &str) -> Result<(), AllocError>
         if behind.is_empty() {
             return Ok(());
         }
-        text.push_str(escaped_byte(behind.as_bytes()[0]))?;
+        push_escape(text, behind.as_bytes()[0])?;
         let (_, behind) = behind.split_at(1);
         rest = behind;
     }
 }
 
-// A run of bytes that are written as they are, at the end. Between two escapes there is often none.
+// A run of bytes that are written as they are, at the end. Between two escapes there is often none, or one.
 #[inline(always)]
 fn push_run(text: &mut String, run: &str) -> Result<(), AllocError>
     ensures bytes { OnOk result (string_bytes text.new ≡ string_bytes text.old ++ run.now) }
 {
-    if run.is_empty() {
-        return Ok(());
+    match run.as_bytes() {
+        [] => Ok(()),
+        [byte] if *byte < 0x80 => text.push(char::from(*byte)),
+        _ => text.push_str(run),
     }
-    text.push_str(run)
 }
 
 // How many bytes are told at a time.
@@ -123,15 +124,25 @@ fn is_plain(b: u8) -> bool
     b != b'\\' && (b > b'"' || !matches!(b, b'"' | b'\n' | b'\r' | b'\t'))
 }
 
-fn escaped_byte(b: u8) -> &'static str
-    requires { is_plain b ≡ false }
-    ensures { result.now ≡ escaped_byte b }
+// The escape of a byte, at the end.
+fn push_escape(text: &mut String, byte: u8) -> Result<(), AllocError>
+    requires { is_plain byte ≡ false }
+    ensures { OnOk result (string_bytes text.new ≡ string_bytes text.old ++ escaped_byte byte) }
 {
-    match b {
-        b'\\' => "\\\\",
-        b'"' => "\\\"",
-        b'\n' => "\\n",
-        b'\r' => "\\r",
-        _ => "\\t",
+    text.push('\\')?;
+    text.push(letter(byte))
+}
+
+// What stands behind the backslash of an escape.
+fn letter(byte: u8) -> char
+    requires { is_plain byte ≡ false }
+    ensures { escaped_byte byte ≡ 92 ∷ encode_utf8 result }
+{
+    match byte {
+        b'\\' => '\\',
+        b'"' => '"',
+        b'\n' => 'n',
+        b'\r' => 'r',
+        _ => 't',
     }
 }

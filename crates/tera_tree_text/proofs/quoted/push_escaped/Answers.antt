@@ -50,9 +50,9 @@ returns-then-is_empty c =
     c.in_ok-push_run.ensures.bytes ∙ ap (λ l. string_bytes c.loop-text.text ++ l) done ∙ c.loop-text.invariant.text
     ∙ ap (λ l. string_bytes c.args.text.now ++ l) (sym (text_escaped c.args.content.now c.utf8.content))
 
-pub escaped_byte-requires : goal.escaped_byte-requires
-escaped_byte-requires c =
-    let at = (goal.at.escaped_byte-requires c).After-split_at in
+pub push_escape-requires : goal.push_escape-requires
+push_escape-requires c =
+    let at = (goal.at.push_escape-requires c).After-split_at in
     ap (λ l. is_plain (get_or l 0 0)) c.as_bytes-in-loop-text.ensures.value ∙ stops at (some_left _ c.if-is_empty.ensures)
 
 pub split_at-requires-in-loop-text : goal.split_at-requires-in-loop-text
@@ -68,13 +68,14 @@ loop-text-preserved c =
     let some : 0 < length behind = some_left _ c.if-is_empty.ensures in
     let left : List ℕ = c.split_at-in-loop-text.result.1.now in
     let rest : left ≡ drop 1 behind = c.split_at-in-loop-text.ensures.back in
-    let value : c.escaped_byte.result.now ++ flat_map escaped_byte left ≡ flat_map escaped_byte behind
-    = (λ i. (c.escaped_byte.ensures ∙ ap (λ l. escaped_byte (get_or l 0 0)) c.as_bytes-in-loop-text.ensures.value) i ++ flat_map escaped_byte (rest i))
-    ∙ sym (first_escaped behind some) in
-    let text : string_bytes c.push_str.new.self ++ flat_map escaped_byte left ≡ string_bytes c.args.text.now ++ flat_map escaped_byte c.args.content.now
-    = ap (λ l. l ++ flat_map escaped_byte left) (c.in_ok-push_str.ensures.bytes ∙ ap (λ l. l ++ c.escaped_byte.result.now) c.in_ok-push_run.ensures.bytes)
-    ∙ append_assoc (string_bytes c.loop-text.text ++ c.split_at.result.0.now) c.escaped_byte.result.now (flat_map escaped_byte left)
-    ∙ append_assoc (string_bytes c.loop-text.text) c.split_at.result.0.now (c.escaped_byte.result.now ++ flat_map escaped_byte left)
+    let first : List ℕ = escaped_byte (get_or behind 0 0) in
+    let value : first ++ flat_map escaped_byte left ≡ flat_map escaped_byte behind
+    = ap (λ l. first ++ flat_map escaped_byte l) rest ∙ sym (first_escaped behind some) in
+    let text : string_bytes c.push_escape.new.text ++ flat_map escaped_byte left ≡ string_bytes c.args.text.now ++ flat_map escaped_byte c.args.content.now
+    = ap (λ l. l ++ flat_map escaped_byte left) (c.in_ok-push_escape.ensures ∙ ap (λ l. string_bytes c.push_run.new.text ++ escaped_byte (get_or l 0 0)) c.as_bytes-in-loop-text.ensures.value
+    ∙ ap (λ l. l ++ first) c.in_ok-push_run.ensures.bytes)
+    ∙ append_assoc (string_bytes c.loop-text.text ++ c.split_at.result.0.now) first (flat_map escaped_byte left)
+    ∙ append_assoc (string_bytes c.loop-text.text) c.split_at.result.0.now (first ++ flat_map escaped_byte left)
     ∙ ap (λ l. string_bytes c.loop-text.text ++ (c.split_at.result.0.now ++ l)) value
     ∙ ap (λ l. string_bytes c.loop-text.text ++ l) (sym (text_is at.After-split_at)) ∙ c.loop-text.invariant.text in
     let utf8 = behind_utf8 at.After-split_at (cut at.After-plain_len) in
