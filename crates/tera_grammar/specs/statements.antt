@@ -5,6 +5,7 @@ pub mod Types
 pub mod Components
 pub mod Heads
 pub mod Grammar
+pub mod Places
 pub mod Output
 pub mod Top
 pub mod Reading

@@ -1,6 +1,6 @@
 //! Laws of the grammar: each function has the law as its promise and does nothing.
 
-ghost use Rattle.std.specs.Prelude.{◌≡◌, ◌↔◌, ℕ, List, Bool, Some};
+ghost use Rattle.std.specs.Prelude.{◌≡◌, ◌↔◌, ℕ, List, Bool, Some, map};
 ghost use Rattle.tera_lexer.specs.grammar.Marks.{Marks, IsValid};
 ghost use Rattle.tera_lexer.specs.grammar.Tokens.{Items, Ended};
 ghost use Rattle.tera_base.specs.Values.{Vals, Pairs};
@@ -35,13 +35,15 @@ ghost use Rattle.tera_grammar.specs.expressions.Reading.Whole.{
   literal_array_of,
   literal_map_of,
 };
+ghost use Rattle.tera_nodes.specs.View.{nodes_of};
 ghost use Rattle.tera_tree.specs.Tree.{Output};
 ghost use Rattle.tera_grammar.specs.statements.Constants.{EachOfOutput};
 ghost use Rattle.tera_grammar.specs.statements.Grammar.{Body};
 ghost use Rattle.tera_grammar.specs.statements.Output.{output_of};
+ghost use Rattle.tera_grammar.specs.statements.Places.{Places, texts};
 ghost use Rattle.tera_grammar.specs.statements.Reading.{template};
-ghost use Rattle.tera_grammar.specs.statements.Top.{IsTemplate, Derives};
-ghost use Rattle.tera_grammar.specs.statements.Trees.{IsRight};
+ghost use Rattle.tera_grammar.specs.statements.Top.{IsTemplate, Derives, DerivesNames};
+ghost use Rattle.tera_grammar.specs.statements.Trees.{IsRight, blocks};
 
 /// What is read as an expression is one, within the limits, and its tokens are those that were taken. Each
 /// expression within the limits is read before a token that ends it. So no other has the same tokens.
@@ -165,6 +167,20 @@ pub fn one_template()
 pub fn one_output()
     ensures { (l : Limits) (m : Marks) → IsValid m → (source : List ℕ) (one other : Output) →
         Derives l m source one → Derives l m source other → one ≡ other }
+{}
+
+/// Each derivation of a source defines names at places, and no source has derivations with two lists of them. They are
+/// the names of the blocks of its tree, and those of the definitions of its components, in order.
+pub fn placed_names()
+    ensures some { (l : Limits) (m : Marks) (source : List ℕ) (output : Output) →
+        Derives l m source output ↔ ((names : Places) × DerivesNames l m source output names) }
+    ensures one { (l : Limits) (m : Marks) → IsValid m → (source : List ℕ)
+        (one other : Output) (ones others : Places) → DerivesNames l m source one ones →
+        DerivesNames l m source other others → (one ≡ other) × (ones ≡ others) }
+    ensures told { (l : Limits) (m : Marks) (source : List ℕ) (output : Output) (names : Places) →
+        DerivesNames l m source output names →
+        (texts names.blocks ≡ blocks (nodes_of output.nodes))
+        × (texts names.components ≡ map (λ d. d.name) output.definitions) }
 {}
 
 /// The tree of a source has no two blocks and no two components of one name, each `break` and `continue` in a

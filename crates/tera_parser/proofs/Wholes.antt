@@ -17,9 +17,10 @@ use Rattle.tera_lexer.proofs.Lefts.{tokens_one}
 use Rattle.tera_grammar.specs.Limits.{Limits}
 use Rattle.tera_grammar.specs.statements.Grammar.{Body}
 use Rattle.tera_grammar.specs.statements.Output.{output_of}
-use Rattle.tera_grammar.specs.statements.Top.{Derives, IsTemplate}
+use Rattle.tera_grammar.specs.statements.Places.{places}
+use Rattle.tera_grammar.specs.statements.Top.{Derives, DerivesNames, IsTemplate}
 use Rattle.tera_grammar.proofs.statements.Tops.{template_complete, template_sound}
-use Rattle.tera_grammar.proofs.statements.Wholes.{derives_read, read_derives}
+use Rattle.tera_grammar.proofs.statements.Wholes.{derives_read, read_names}
 use Rattle.tera_statements.specs.Items.{AreEmptyTexts}
 use Rattle.tera_expect.specs.Taking.{RefusesIn}
 use Rattle.tera_tree.specs.Tree.{Output}
@@ -28,10 +29,10 @@ use Rattle.tera_parser.proofs.About.{tells_about}
 use Rattle.tera_parser.specs.Comments.{IsComment, IsCommentsAlone}
 
 module _ (m : Marks) (valid : IsValid m) (source : List ℕ) (items : Items) (are : AreTokensOf m source items) where
-  -- the output of a template of the tokens is derived
-  pub derives : (l : Limits) (b : Body) → IsTemplate l items b → (output : Output) → output ≡ output_of b → Derives l m source output
+  -- the output of a template of the tokens is derived, with its names
+  pub derives : (l : Limits) (b : Body) → IsTemplate l items b → (output : Output) → output ≡ output_of b → DerivesNames l m source output (places b)
   derives l b is output same =
-      subst (Derives l m source) (sym same) (read_derives l m valid source items are b (template_complete l items b is))
+      subst (λ o. DerivesNames l m source o (places b)) (sym same) (read_names l m valid source items are b (template_complete l items b is))
 
   -- a refusal is want of memory, where there is a derivation
   pub refused : (l : Limits) (e : Error) → IsMemory e ⊎ ((b : Body) → IsTemplate l items b → ⊥) → (output : Output) → Derives l m source output → IsMemory e

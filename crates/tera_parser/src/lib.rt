@@ -14,7 +14,7 @@ mod parsing;
 
 pub use parsing::Parser;
 pub use tera_expr::Limits;
-pub use tera_statements::ParserOutput;
+pub use tera_statements::{Names, ParserOutput};
 
 /// Spans, errors and values.
 pub mod value {

@@ -4,7 +4,7 @@ ghost use Rattle.std.specs.Prelude.{◌≡◌, IfOk, IfErr, IsOk, MatchResult};
 ghost use Rattle.tera_lexer.specs.grammar.Marks.{marks_of, IsValid};
 ghost use Rattle.tera_base.specs.Errors.{IsMemory};
 ghost use Rattle.tera_expr_parts.specs.Rooms.{AreValid, limits_of};
-ghost use Rattle.tera_grammar.specs.statements.Top.{Derives};
+ghost use Rattle.tera_grammar.specs.statements.Top.{Derives, DerivesNames};
 ghost use Rattle.tera_parser.specs.Comments.{IsCommentsAlone};
 ghost use Rattle.tera_parser.specs.Notes.{NotesName};
 ghost use Rattle.tera_parser.specs.Refusal.{Refuses};
@@ -15,7 +15,7 @@ use std::marker::Model;
 use tera_base::Error;
 use tera_expr::Limits;
 use tera_lexer::{Cursor, Delimiters, tokenize};
-use tera_statements::{ParserOutput, read_template};
+use tera_statements::{Names, ParserOutput, read_template};
 
 /// A template that is to be parsed.
 #[derive(Drop)]
@@ -40,7 +40,9 @@ impl<'a> Model for Parser<'a> {
 }
 
 impl<'a> Parser<'a> {
+    ghost use Rattle.tera_statements.specs.Known.{AreNames};
     ghost use Rattle.tera_statements.specs.Outputs.{output_view};
+    ghost use Rattle.tera_grammar.specs.statements.Places.{Places};
     ghost use Rattle.tera_tree.specs.Tree.{Output};
     ghost use Rattle.tera_grammar.specs.Limits.{usual};
 
@@ -103,10 +105,26 @@ impl<'a> Parser<'a> {
         ensures notes { IfErr result (NotesName self.entry.filename) }
         ensures empty { IsCommentsAlone self.entry.marks self.entry.source → IsOk result }
     {
+        let (output, _names) = self.parse_with_names()?;
+        Ok(output)
+    }
+
+    /// The tree of the source as [`Parser::parse`] gives it, and where the names stand of the blocks and of the
+    /// components that it defines.
+    pub fn parse_with_names(self) -> Result<(ParserOutput, Names), Error>
+        ensures sound { IfOk result (λ p. (names : Places) × DerivesNames self.entry.limits
+            self.entry.marks self.entry.source (output_view p.0) names × AreNames p.1 names) }
+        ensures complete { (output : Output) (names : Places) → DerivesNames self.entry.limits
+            self.entry.marks self.entry.source output names →
+            MatchResult result (λ p. (output_view p.0 ≡ output) × AreNames p.1 names) IsMemory }
+        ensures refusal { IfErr result (Refuses self.entry.marks self.entry.source) }
+        ensures notes { IfErr result (NotesName self.entry.filename) }
+        ensures empty { IsCommentsAlone self.entry.marks self.entry.source → IsOk result }
+    {
         let tokens = tokenize(self.alloc, self.source, self.delimiters);
         let cursor = Cursor::new(tokens);
         match read_template(cursor, self.limits) {
-            Ok(output) => Ok(output),
+            Ok(read) => Ok(read),
             Err(error) => Err(in_file(self.alloc, error, self.filename)),
         }
     }

@@ -5,45 +5,46 @@ use Rattle.tera_lexer.specs.grammar.Tokens.{Items}
 use Rattle.tera_grammar.specs.Options.{◌>>=◌}
 use Rattle.tera_grammar.specs.expressions.Reading.Front.{taken_name}
 use Rattle.tera_grammar.specs.statements.Components.{Head}
-use Rattle.tera_grammar.specs.statements.Expressions.{Limits, component_text}
+use Rattle.tera_grammar.specs.statements.Expressions.{ComponentName, Limits}
 use Rattle.tera_grammar.specs.statements.Grammar.{Body, Item, Block, Define, InBlock, InComponent, Path, is_outermost, may_block, text_if_any}
-use Rattle.tera_grammar.specs.statements.Names.{agrees, block_named, component_named}
+use Rattle.tera_grammar.specs.statements.Names.{agrees}
 use Rattle.tera_grammar.specs.statements.Parts.{AtEndBlock, Edge, Name, Tag}
+use Rattle.tera_grammar.specs.statements.Places.{block_placed, component_placed, placed_name}
 use Rattle.tera_grammar.specs.statements.Reading.{Place, Reader, Reads, at, block_end, block_of, component_def_of}
 use Rattle.tera_grammar.specs.statements.Reading.Components.{Opened, ending_of, opened_of}
-use Rattle.tera_grammar.specs.statements.Reading.Meeting.{Met, Seen, meet, ◌having◌}
+use Rattle.tera_grammar.specs.statements.Reading.Meeting.{Located, Seen, locate, met, ◌having◌}
 use Rattle.tera_grammar.specs.statements.Reading.Parts.{closed, finish_of, name_if_any, tag}
 use Rattle.tera_statements.specs.Blocks.{new_block_of}
 use Rattle.tera_expect.proofs.Steps.{kept_by}
 
 -- the names with one more
-pub block_kept : (b c more : Met) (text : List ℕ) → more ≡ meet text b
-    → record { blocks = more; components = c } ≡ (record { blocks = b; components = c } having block_named text)
-block_kept b c more text h = λ i. record { blocks = h i; components = c }
+pub block_kept : (b c more : Located) (n : Name) → more ≡ locate n b
+    → record { blocks = more; components = c } ≡ (record { blocks = b; components = c } having block_placed n)
+block_kept b c more n h = λ i. record { blocks = h i; components = c }
 
-pub component_kept : (b c more : Met) (text : List ℕ) → more ≡ meet text c
-    → record { blocks = b; components = more } ≡ (record { blocks = b; components = c } having component_named text)
-component_kept b c more text h = λ i. record { blocks = b; components = h i }
+pub component_kept : (b c more : Located) (n : ComponentName) → more ≡ locate (placed_name n) c
+    → record { blocks = b; components = more } ≡ (record { blocks = b; components = c } having component_placed n)
+component_kept b c more n h = λ i. record { blocks = b; components = h i }
 
 module _ (self : Reader) (path : Path) (start : Edge) (first : Span) (seen : Seen) (ts : Items) where
   abbrev behind_name : Name × Items → Reads Item
   behind_name n =
-      finish_of n.1 >>= λ f. self (InBlock ∷ path) (at (seen having block_named n.0.text) f.1) >>= λ b. block_end n.0 b.1.tokens >>= λ e.
+      finish_of n.1 >>= λ f. self (InBlock ∷ path) (at (seen having block_placed n.0) f.1) >>= λ b. block_end n.0 b.1.tokens >>= λ e.
       Some (Block (tag start first f.0) n.0 b.0 e.0.0 e.0.1, at b.1.seen e.1)
 
   pub barred : may_block path ≡ false → block_of self path start first seen ts ≡ None
   unfolding block_of
   barred h = rw h refl
 
-  block_is : may_block path ≡ true → block_of self path start first seen ts ≡ (new_block_of seen.blocks ts >>= behind_name)
+  block_is : may_block path ≡ true → block_of self path start first seen ts ≡ (new_block_of (met seen.blocks) ts >>= behind_name)
   unfolding block_of
-  block_is h = rw h (kept_by (taken_name ts) (λ n. not (seen.blocks n.0.text)) behind_name)
+  block_is h = rw h (kept_by (taken_name ts) (λ n. not (met seen.blocks n.0.text)) behind_name)
 
   module _ (may : may_block path ≡ true) where
-    pub block_unnamed : new_block_of seen.blocks ts ≡ None → block_of self path start first seen ts ≡ None
+    pub block_unnamed : new_block_of (met seen.blocks) ts ≡ None → block_of self path start first seen ts ≡ None
     block_unnamed h = block_is may ∙ ap (λ o. o >>= behind_name) h
 
-    module _ (n : Name) (us : Items) (named : new_block_of seen.blocks ts ≡ Some (n, us)) where
+    module _ (n : Name) (us : Items) (named : new_block_of (met seen.blocks) ts ≡ Some (n, us)) where
       block_named_so : block_of self path start first seen ts ≡ behind_name (n, us)
       block_named_so = block_is may ∙ ap (λ o. o >>= behind_name) named
 
@@ -51,10 +52,10 @@ module _ (self : Reader) (path : Path) (start : Edge) (first : Span) (seen : See
       block_unfinished h = block_named_so ∙ rw h refl
 
       module _ (f : Edge) (vs : Items) (ended : finish_of us ≡ Some (f, vs)) where
-        pub block_empty : self (InBlock ∷ path) (at (seen having block_named n.text) vs) ≡ None → block_of self path start first seen ts ≡ None
+        pub block_empty : self (InBlock ∷ path) (at (seen having block_placed n) vs) ≡ None → block_of self path start first seen ts ≡ None
         block_empty h = block_named_so ∙ rw (ended, h) refl
 
-        module _ (b : Body) (p : Place) (inside : self (InBlock ∷ path) (at (seen having block_named n.text) vs) ≡ Some (b, p)) where
+        module _ (b : Body) (p : Place) (inside : self (InBlock ∷ path) (at (seen having block_placed n) vs) ≡ Some (b, p)) where
           pub block_unclosed : block_end n p.tokens ≡ None → block_of self path start first seen ts ≡ None
           block_unclosed h = block_named_so ∙ rw (ended, inside, h) refl
 
@@ -68,16 +69,16 @@ module _ (l : Limits) (self : Reader) (path : Path) (start : Edge) (first : Span
   nested h = rw h refl
 
   module _ (may : is_outermost path ≡ true) where
-    pub unopened : opened_of l seen.components ts ≡ None → component_def_of l self path start first seen ts ≡ None
+    pub unopened : opened_of l (met seen.components) ts ≡ None → component_def_of l self path start first seen ts ≡ None
     unfolding component_def_of
     unopened h = rw (may, h) refl
 
-    module _ (o : Opened) (us : Items) (open_tag : opened_of l seen.components ts ≡ Some (o, us)) where
-      pub definition_empty : self (InComponent ∷ path) (at (seen having component_named (component_text o.name)) us) ≡ None → component_def_of l self path start first seen ts ≡ None
+    module _ (o : Opened) (us : Items) (open_tag : opened_of l (met seen.components) ts ≡ Some (o, us)) where
+      pub definition_empty : self (InComponent ∷ path) (at (seen having component_placed o.name) us) ≡ None → component_def_of l self path start first seen ts ≡ None
       unfolding component_def_of
       definition_empty h = rw (may, open_tag, h) refl
 
-      module _ (b : Body) (p : Place) (inside : self (InComponent ∷ path) (at (seen having component_named (component_text o.name)) us) ≡ Some (b, p)) where
+      module _ (b : Body) (p : Place) (inside : self (InComponent ∷ path) (at (seen having component_placed o.name) us) ≡ Some (b, p)) where
         pub definition_unclosed : ending_of start first o p.tokens ≡ None → component_def_of l self path start first seen ts ≡ None
         unfolding component_def_of
         definition_unclosed h = rw (may, open_tag, inside, h) refl

@@ -1,18 +1,21 @@
 -- Reading the tags of a component's definition.
-use Rattle.std.proofs.Common.{◌≡◌, ℕ, true, false, not, List, [], Option, Some, None, refl, ap, subst, ◌∙◌}
+use Rattle.std.proofs.Common.{◌≡◌, ◌+◌, ◌≤◌, ℕ, zero, suc, le_refl, arith, true, false, not, List, [], Option, Some, None, refl, ap, subst, ◌∙◌}
 use Rattle.std.proofs.lemmas.Option.{same_Some}
 use Rattle.std.specs.Str.{bytes_eq}
 use Rattle.tera_base.specs.Values.{Val}
 use Rattle.tera_base.specs.declared.utils.Span.{Span}
-use Rattle.tera_lexer.specs.grammar.Tokens.{Items}
+use Rattle.tera_lexer.specs.code.Cursors.{Passes, Position, size}
+use Rattle.tera_lexer.specs.grammar.Tokens.{Items, Ended, Failed, Token}
 use Rattle.tera_nodes.specs.Tree.{Stmt}
 use Rattle.tera_tree.specs.Tree.{Argument, Definition}
 use Rattle.tera_grammar.specs.Options.{◌>>=◌, guard}
 use Rattle.tera_grammar.proofs.Options.{bound}
+use Rattle.tera_grammar.specs.expressions.Concrete.{Dotted, dots, dotted_yield, no_dots}
 use Rattle.tera_grammar.specs.expressions.Marks.{LeftBrace, LeftParen}
+use Rattle.tera_grammar.specs.expressions.Spans.{dotted_end}
 use Rattle.tera_grammar.specs.expressions.Reading.Front.{Takes, begins, takes}
 use Rattle.tera_grammar.specs.statements.Components.{Head, Parameters, component_texts, definition_of, metadata_output, put_arguments, rest_of}
-use Rattle.tera_grammar.specs.statements.Expressions.{Limits, ComponentName, LiteralMap, component_text}
+use Rattle.tera_grammar.specs.statements.Expressions.{Limits, ComponentName, LiteralMap, component_span, component_text, component_yield}
 use Rattle.tera_grammar.specs.statements.Reading.Expressions.{component_of, map_of}
 use Rattle.tera_grammar.specs.statements.Names.{agrees}
 use Rattle.tera_grammar.specs.statements.Parts.{AtEndComponent, Edge}
@@ -21,7 +24,9 @@ use Rattle.tera_grammar.specs.statements.Reading.Parts.{closed, finish_of}
 use Rattle.tera_grammar.specs.statements.Reading.Meeting.{Met, nothing_met}
 use Rattle.tera_grammar.specs.statements.Types.{Sorted}
 use Rattle.tera_statements.specs.Components.{agreeing_name, new_component_of}
+use Rattle.tera_expect.specs.Taking.{Took}
 use Rattle.tera_expect.proofs.Steps.{kept_by}
+use Rattle.tera_grammar.proofs.statements.Expressions.{component_stands}
 
 module _ (l : Limits) (seen : Met) (ts : Items) where
   abbrev behind_name : ComponentName × Items → Takes Opened
@@ -126,3 +131,34 @@ metadata_refused l ts there read = ap (metadata_in l ts) there ∙ ap (λ o. o >
 pub no_metadata_there : (l : Limits) (ts : Items) → begins LeftBrace ts ≡ false → metadata_in l ts (begins LeftBrace ts) ≡ Some (None, ts)
 unfolding metadata_in
 no_metadata_there l ts none = ap (metadata_in l ts) none
+
+-- So many tokens were taken.
+passes_size : (n : ℕ) (items : Items) (last : Span) (left : Items) (here : Span) → Passes n items last left here → size left + n ≡ size items
+passes_size zero items last left here p = omega (arith, ap size p.0)
+passes_size (suc n) Ended last left here p = absurd p
+passes_size (suc n) (Failed text at) last left here p = absurd p
+passes_size (suc n) (Token t at items) last left here p = omega (arith, passes_size n items at left here p)
+
+dotted_size : (d : Dotted) (r : Items) → size r ≤ size (dotted_yield d r)
+dotted_size no_dots r = le_refl _
+dotted_size (dots s n ds) r = omega (arith, dotted_size ds r)
+
+-- where the further names were taken, the token taken last is the last of them
+dotted_ends : (k : ℕ) (d : Dotted) (last : Span) (r : Items) (here : Span) → Passes k (dotted_yield d r) last r here → here ≡ dotted_end last d
+dotted_ends zero no_dots last r here p = p.1
+dotted_ends (suc k) no_dots last r here p = absurd (omega (arith, passes_size (suc k) r last r here p))
+dotted_ends zero (dots s n ds) last r here p = absurd (omega (arith, ap size p.0, dotted_size ds r))
+dotted_ends (suc zero) (dots s n ds) last r here p = absurd (omega (arith, ap size p.0, dotted_size ds r))
+dotted_ends (suc (suc k)) (dots s n ds) last r here p = dotted_ends k ds n.span r here p
+
+name_ends : (k : ℕ) (n : ComponentName) (last : Span) (r : Items) (here : Span) → Passes k (component_yield n r) last r here → here ≡ component_span n
+unfolding component_span component_yield
+name_ends zero n last r here p = absurd (omega (arith, ap size p.0, dotted_size n.further r))
+name_ends (suc k) n last r here p = dotted_ends k n.further n.name.span r here p
+
+-- behind the name of a component the token taken last is its last part
+pub component_ends : (old new : Position) (n : ComponentName) → component_of old.left ≡ Some (n, new.left) → Took old new → new.span ≡ component_span n
+unfolding Took
+component_ends old new n read took =
+    name_ends took.0.count n old.span new.left new.span
+    (subst (λ ts. Passes took.0.count ts old.span new.left new.span) (component_stands old.left (n, new.left) read) took.0.passes)

@@ -32,6 +32,7 @@ use Rattle.tera_statements.specs.Templates.{Excludes, GivesPhase, GivesTemplate,
 use Rattle.tera_statements.specs.declared.fronts.Front.TheVariants as fronts
 use Rattle.tera_statements.specs.declared.fronts.Opener.TheVariants as openers
 use Rattle.tera_statements.specs.declared.templates.Phase.{Phase}
+use Rattle.tera_statements.specs.declared.names.Names.{Names}
 use Rattle.tera_statements.specs.declared.outputs.ParserOutput.{ParserOutput}
 use Rattle.tera_statements.proofs.ItemsLemmas.{opens_tag, step_holds}
 
@@ -104,8 +105,8 @@ fails_excluded l here ph e valid (inl memory) = inl memory
 fails_excluded l here ph e valid (inr h) = inr (step_excluded l valid here ph h)
 
 -- what is read of the tokens is what they are
-pub template_given : (l : Limits) (r : Result ParserOutput Error) (ts : Items) → ReadsTemplate l r ts → GivesTemplate l r ts
-template_given l (Ok t) ts (b, read, shows) = (b, template_sound l ts b read, shows)
+pub template_given : (l : Limits) (r : Result (ParserOutput × Names) Error) (ts : Items) → ReadsTemplate l r ts → GivesTemplate l r ts
+template_given l (Ok t) ts (b, read, shows, named) = (b, template_sound l ts b read, shows, named)
 template_given l (Err e) ts (inl memory) = inl memory
 template_given l (Err e) ts (inr none) = inr (λ b is. not_read b (sym (template_complete l ts b is) ∙ none))
   where

@@ -11,11 +11,11 @@ use Rattle.tera_grammar.specs.statements.Parts.{Edge}
 use Rattle.tera_grammar.specs.statements.Reading.{Place, at, Reads}
 use Rattle.tera_grammar.specs.statements.Reading.Meeting.{Seen}
 use Rattle.tera_statements.specs.Around.{Stands}
-use Rattle.tera_statements.specs.Known.{met_of}
+pub use Rattle.tera_statements.specs.Known.{seen_of}
 use Rattle.tera_expect.specs.Taking.{Fails, GivesBy}
 use Rattle.tera_statements.specs.declared.added.Added.{Added}
 use Rattle.tera_statements.specs.declared.added.Added.TheVariants as added
-use Rattle.tera_statements.specs.declared.added.Names.{Names}
+use Rattle.tera_statements.specs.declared.names.Names.{Names}
 use Rattle.tera_statements.specs.declared.around.Around.{Around}
 
 abbrev pub added_view : Added → Adds
@@ -38,9 +38,6 @@ abbrev pub IsElse : Bool → List Node → Else → Type 0
 IsElse in_loop ns o = map node_view ns ≡ else_output in_loop o
 
 -- the names so far, and the place where a reading stands
-abbrev pub seen_of : Names → Seen
-seen_of n = record { blocks = met_of n.blocks; components = met_of n.components }
-
 abbrev pub here : Names → Position → Place
 here n p = at (seen_of n) p.left
 

@@ -10,6 +10,7 @@ use Rattle.tera_tree.specs.Tree.{Output}
 use Rattle.tera_grammar.specs.statements.Expressions.{Limits}
 use Rattle.tera_grammar.specs.statements.Grammar.{Body, Item}
 use Rattle.tera_grammar.specs.statements.Reading.Meeting.{nothing_seen}
+use Rattle.tera_grammar.specs.statements.Places.{places}
 use Rattle.tera_grammar.specs.statements.Output.{added_by, output_of, text_adds}
 use Rattle.tera_grammar.specs.statements.Reading as reading
 use Rattle.tera_grammar.specs.statements.Reading.{Place, at, body, step, template}
@@ -19,7 +20,9 @@ use Rattle.tera_grammar.specs.statements.Reading.Parts.{front}
 use Rattle.tera_grammar.specs.statements.Top.{IsTemplate}
 use Rattle.tera_statements.specs.Adding.{IsAdded}
 use Rattle.tera_expect.specs.Taking.{Fails}
+use Rattle.tera_statements.specs.Known.{AreNames}
 use Rattle.tera_statements.specs.declared.added.Added.{Added}
+use Rattle.tera_statements.specs.declared.names.Names.{Names}
 use Rattle.tera_statements.specs.Outputs.{output_view}
 use Rattle.tera_statements.specs.declared.outputs.ParserOutput.{ParserOutput}
 use Rattle.tera_statements.specs.declared.templates.Phase.{Phase}
@@ -78,14 +81,14 @@ GivesTextPhase text ph (Ok (Some q)) out before =
     (out ≡ with_added before (text_adds text)) × (turn (phase_of ph) (weight (text_adds text)) ≡ Some (phase_of q))
 GivesTextPhase text ph (Err e) out before = IsMemory e ⊎ (turn (phase_of ph) (weight (text_adds text)) ≡ None)
 
--- the template that the tokens are read as
-abbrev pub ReadsTemplate : Limits → Result ParserOutput Error → Items → Type 0
-ReadsTemplate l (Ok t) items = (b : Body) × (template l items ≡ Some b) × (output_view t ≡ output_of b)
+-- the template that the tokens are read as, with its names
+abbrev pub ReadsTemplate : Limits → Result (ParserOutput × Names) Error → Items → Type 0
+ReadsTemplate l (Ok t) items = (b : Body) × (template l items ≡ Some b) × (output_view t.0 ≡ output_of b) × AreNames t.1 (places b)
 ReadsTemplate l (Err e) items = Fails (template l items) e
 
--- the template that the tokens are, within the limits; or no memory was found, or they are none
-abbrev pub GivesTemplate : Limits → Result ParserOutput Error → Items → Type 0
-GivesTemplate l (Ok t) items = (b : Body) × IsTemplate l items b × (output_view t ≡ output_of b)
+-- the template that the tokens are, within the limits, with its names; or no memory was found, or they are none
+abbrev pub GivesTemplate : Limits → Result (ParserOutput × Names) Error → Items → Type 0
+GivesTemplate l (Ok t) items = (b : Body) × IsTemplate l items b × (output_view t.0 ≡ output_of b) × AreNames t.1 (places b)
 GivesTemplate l (Err e) items = IsMemory e ⊎ ((b : Body) → IsTemplate l items b → ⊥)
 
 -- where the next token stands, if it is shown

@@ -1,14 +1,12 @@
-//! What the items of a body add to a template, and the names that it defines.
+//! What the items of a body add to a template.
 
 ghost use Rattle.std.specs.Prelude.{◌≡◌, ◌++◌, ◌∷◌, IfErr, OnOk, [], map};
 ghost use Rattle.tera_base.specs.Errors.{IsMemory};
-ghost use Rattle.tera_grammar.specs.statements.Reading.Meeting.{nothing_seen};
 ghost use Rattle.tera_grammar.specs.statements.Output.{added_nodes, text_adds};
 ghost use Rattle.tera_grammar.specs.statements.Top.{is_blank};
-ghost use Rattle.tera_statements.specs.Adding.{added_view, seen_of};
+ghost use Rattle.tera_statements.specs.Adding.{added_view};
 ghost use Rattle.tera_nodes.specs.View.{node_view};
 
-use crate::names::Known;
 use std::alloc::Global;
 use tera_base::Error;
 use tera_tree::{ComponentDefinition, Node};
@@ -38,25 +36,6 @@ pub(crate) fn is_blank(text: &str) -> bool
     ensures { result ≡ is_blank text.now }
 {
     text.trim_start().is_empty()
-}
-
-/// The names of the blocks and of the components so far, each with where it stands.
-#[derive(Drop)]
-pub(crate) struct Names {
-    pub blocks: Known,
-    pub components: Known,
-}
-
-impl Names {
-    /// No names.
-    pub fn new(alloc: Global) -> Names
-        ensures { seen_of result ≡ nothing_seen }
-    {
-        Names {
-            blocks: Known::new(alloc),
-            components: Known::new(alloc),
-        }
-    }
 }
 
 /// Puts a text behind the others, unless it is empty.

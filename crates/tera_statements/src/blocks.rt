@@ -5,20 +5,20 @@ ghost use Rattle.std.specs.Str.{bytes_eq};
 ghost use Rattle.tera_base.specs.Errors.{IsMemory};
 ghost use Rattle.tera_grammar.specs.statements.Reading.{block_end, block_of, component_def_of};
 ghost use Rattle.tera_grammar.specs.statements.Parts.{Name};
-ghost use Rattle.tera_grammar.specs.statements.Reading.Meeting.{meet};
+ghost use Rattle.tera_grammar.specs.statements.Reading.Meeting.{locate};
 ghost use Rattle.tera_statements.specs.Adding.{AddsBy, here, seen_of};
 ghost use Rattle.tera_statements.specs.Blocks.{IsName, new_block_of};
-ghost use Rattle.tera_statements.specs.Known.{met_of};
+ghost use Rattle.tera_statements.specs.Known.{located_of, met_of};
 ghost use Rattle.tera_statements.specs.Settings.{bodies_under, limits_under};
-ghost use Rattle.tera_expect.specs.Taking.{GivesBy, Passes, Refuses, Took};
+ghost use Rattle.tera_expect.specs.Taking.{GivesBy, Passes, Refuses, Took, name_in};
 
-use crate::added::{Added, Names};
+use crate::added::Added;
 use crate::around::{Around, Context, Opening};
 use crate::bodies::body;
 use crate::components::{closing_tag, opening_tag};
 use crate::faults::{nested_definition, renamed, repeated_block};
 use crate::fronts::Closer;
-use crate::names::{Known, keep_name, place_of};
+use crate::names::{Known, Names, keep_name, place_of};
 use crate::parts::{closed, finish};
 use crate::settings::Setting;
 use crate::simple::check_block;
@@ -63,7 +63,8 @@ pub(crate) fn block(
 fn new_block<'a>(cursor: &mut Cursor<'a>, blocks: &mut Known) -> Result<(&'a str, Span), Error>
     ensures gives { GivesBy IsName result cursor.new.left
         (new_block_of (met_of blocks.old) cursor.old.left) }
-    ensures kept { IfOk result (λ n. met_of blocks.new ≡ meet n.0.now (met_of blocks.old)) }
+    ensures kept { IfOk result (λ n.
+        located_of blocks.new ≡ locate (name_in n.0.now n.1) (located_of blocks.old)) }
     ensures refusal { IfErr result (Refuses cursor.old) }
     ensures later { IfOk result (λ _. Took cursor.old cursor.new) }
 {

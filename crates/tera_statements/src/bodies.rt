@@ -9,10 +9,11 @@ ghost use Rattle.tera_statements.specs.Settings.{bodies_under, limits_under};
 ghost use Rattle.tera_expect.specs.Taking.{GivesBy, GoesOn, Refuses, RefusesIn};
 ghost use Rattle.tera_nodes.specs.View.{node_view};
 
-use crate::added::{Names, push_node, push_text};
+use crate::added::{push_node, push_text};
 use crate::around::{Around, Opening};
 use crate::faults::too_deep;
 use crate::items::{eat_text, item};
+use crate::names::Names;
 use crate::settings::Setting;
 use crate::simple::Extension;
 use tera_base::Error;

@@ -14,12 +14,13 @@ ghost use Rattle.tera_expect.specs.Taking.{GivesBy, Refuses, Took};
 ghost use Rattle.tera_nodes.specs.Tree as tree;
 ghost use Rattle.tera_nodes.specs.View.{expression_view, node_view};
 
-use crate::added::{Added, Names};
+use crate::added::Added;
 use crate::around::{Around, Context, Opening};
 use crate::bodies::body;
 use crate::faults::{no_called_name, nothing_to_set, other_call, unclosed_call};
 use crate::fronts::Closer;
 use crate::heads::{attributes_to_end, expression_to_end, filters_to_end, section_to_end};
+use crate::names::Names;
 use crate::parts::{closed, closed_tag, finish};
 use crate::settings::Setting;
 use tera_base::{Error, Span};

@@ -11,8 +11,7 @@ ghost use Rattle.tera_grammar.specs.statements.Expressions.{component_text};
 ghost use Rattle.tera_grammar.specs.statements.Parts.{Edge};
 ghost use Rattle.tera_grammar.specs.statements.Reading.Components as reading;
 ghost use Rattle.tera_grammar.specs.statements.Reading.Components.{ending_of, metadata_in, opened_of};
-ghost use Rattle.tera_grammar.specs.statements.Reading.Meeting.{meet};
-ghost use Rattle.tera_statements.specs.Components.{IsOpened, agreeing_name, new_component_of};
+ghost use Rattle.tera_statements.specs.Components.{IsOpened, Keeps, agreeing_name, new_component_of};
 ghost use Rattle.tera_statements.specs.Known.{met_of};
 ghost use Rattle.tera_statements.specs.Parameters.{IsMetadata};
 ghost use Rattle.tera_statements.specs.Reading.{IsComponent};
@@ -48,10 +47,9 @@ pub(crate) fn opening_tag(
     cursor: &mut Cursor<'_>,
     seen: &mut Known,
 ) -> Result<Opened, Error>
-    ensures gives { GivesBy IsOpened result cursor.new.left
+    ensures gives { GivesBy (λ o x. IsOpened o x × Keeps seen.old seen.new x.name)
+        result cursor.new.left
         (opened_of (limits_under setting.now) (met_of seen.old) cursor.old.left) }
-    ensures kept { IfOk result (λ o.
-        met_of seen.new ≡ meet (string_bytes o.name) (met_of seen.old)) }
     ensures refusal { IfErr result (Refuses cursor.old) }
     ensures later { IfOk result (λ _. Took cursor.old cursor.new) }
 {
@@ -70,9 +68,8 @@ pub(crate) fn opening_tag(
 // The name of a component that the template did not define before. It is kept.
 #[tactic(auto, using(tera_expect::proofs::TakingLemmas::behind_tokens))]
 fn new_component(cursor: &mut Cursor<'_>, seen: &mut Known) -> Result<String, Error>
-    ensures gives { GivesBy IsComponent result cursor.new.left
-        (new_component_of (met_of seen.old) cursor.old.left) }
-    ensures kept { IfOk result (λ s. met_of seen.new ≡ meet (string_bytes s) (met_of seen.old)) }
+    ensures gives { GivesBy (λ s n. IsComponent s n × Keeps seen.old seen.new n)
+        result cursor.new.left (new_component_of (met_of seen.old) cursor.old.left) }
     ensures refusal { IfErr result (Refuses cursor.old) }
     ensures later { IfOk result (λ _. Took cursor.old cursor.new) }
 {

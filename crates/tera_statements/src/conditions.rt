@@ -12,12 +12,13 @@ ghost use Rattle.tera_statements.specs.Settings.{bodies_under, limits_under};
 ghost use Rattle.tera_expect.specs.Taking.{GivesBy, GoesOn, Refuses, Took};
 ghost use Rattle.tera_nodes.specs.View.{node_view};
 
-use crate::added::{Added, Names};
+use crate::added::Added;
 use crate::around::{Around, Context, Opening};
 use crate::bodies::body;
 use crate::fronts::Closer;
 use crate::heads::expression_to_end;
 use crate::loops::else_body;
+use crate::names::Names;
 use crate::parts::{closed_tag, closes, take_closer};
 use crate::settings::Setting;
 use std::alloc::Global;

@@ -14,13 +14,14 @@ ghost use Rattle.tera_statements.specs.Settings.{bodies_under, limits_under};
 ghost use Rattle.tera_expect.specs.Taking.{Refuses, RefusesIn, Took};
 ghost use Rattle.tera_statements.specs.declared.fronts.Front.TheVariants as fronts;
 
-use crate::added::{Added, Names};
+use crate::added::Added;
 use crate::around::Around;
 use crate::blocks::{block, definition};
 use crate::captures::{call, section, set, shown_node};
 use crate::conditions::condition;
 use crate::fronts::{Front, Opener};
 use crate::loops::for_loop;
+use crate::names::Names;
 use crate::parts::{pass, tag_expression, unknown_tag, variable_end};
 use crate::settings::Setting;
 use crate::simple::{Extension, Jump, extends, include, read_jump};

@@ -1,7 +1,7 @@
 //! The statements of the template engine Tera, and whole templates.
 //!
-//! It takes a cursor and limits, and gives a `ParserOutput` (`output_view`), as `template` of `tera_grammar` reads it.
-//! It stands on `tera_expr_reader`. Items and bodies hold one another: their functions are proved together, as the
+//! It takes a cursor and limits, and gives a `ParserOutput` (`output_view`) with its `Names` (`seen_of`), as `template` of
+//! `tera_grammar` reads it. It stands on `tera_expr_reader`. Items and bodies hold one another: their functions are proved together, as the
 //! cycle `bodies`, and the answers to their goals stand in `proofs/+bodies`.
 //!
 //! In the order of reading: `templates`, the top level; `bodies`; `items`, which `fronts` tells apart; the tags:
@@ -29,5 +29,6 @@ mod settings;
 mod simple;
 mod templates;
 
+pub use names::Names;
 pub use outputs::ParserOutput;
 pub use templates::read_template;

@@ -8,11 +8,12 @@ ghost use Rattle.tera_statements.specs.Around.{Stands, context_of};
 ghost use Rattle.tera_statements.specs.Settings.{bodies_under, limits_under};
 ghost use Rattle.tera_expect.specs.Taking.{GivesBy, GoesOn, Refuses, Took};
 
-use crate::added::{Added, Names};
+use crate::added::Added;
 use crate::around::{Around, Context, Opening};
 use crate::bodies::body;
 use crate::fronts::Closer;
 use crate::heads::loop_to_end;
+use crate::names::Names;
 use crate::parts::{closed_tag, closes, finish, take_closer};
 use crate::settings::Setting;
 use tera_base::Error;

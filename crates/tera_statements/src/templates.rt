@@ -20,11 +20,12 @@ ghost use Rattle.tera_statements.specs.declared.fronts.Front.TheVariants as fron
 ghost use Rattle.tera_statements.specs.declared.fronts.Opener.TheVariants as openers;
 ghost use Rattle.tera_nodes.specs.View.{node_view};
 
-use crate::added::{Added, Names, is_blank, push_text};
+use crate::added::{Added, is_blank, push_text};
 use crate::around::Around;
 use crate::faults::{again_extended, ignored, late_extended};
 use crate::fronts::{Front, Opener};
 use crate::items::{eat_text, enter, item};
+use crate::names::Names;
 use crate::outputs::ParserOutput;
 use crate::parts::{quote, unknown_tag};
 use crate::settings::Setting;
@@ -163,12 +164,12 @@ fn text_weight(text: &str) -> Weight
     }
 }
 
-/// Reads the tokens that are left as a whole template, within limits that
+/// Reads the tokens that are left as a whole template, with the names that it defines, within limits that
 /// [`Limits::valid`](tera_expr_parts::Limits::valid) accepts.
 ///
 /// An error is the first fault that is met from left to right: the lexical fault, the end of the input, or a syntax
 /// error, whose notes name no file; or it is `Memory`. Empty texts, as comments are, take no memory.
-pub fn read_template(mut cursor: Cursor<'_>, limits: Limits) -> Result<ParserOutput, Error>
+pub fn read_template(mut cursor: Cursor<'_>, limits: Limits) -> Result<(ParserOutput, Names), Error>
     requires { AreValid (limits_of limits) }
     ensures gives { GivesTemplate (limits_of limits) result cursor.entry.left }
     ensures refusal { IfErr result (RefusesIn cursor.entry) }
@@ -183,7 +184,7 @@ pub fn read_template(mut cursor: Cursor<'_>, limits: Limits) -> Result<ParserOut
 
 // Reads a whole template.
 #[tactic(auto, using(crate::proofs::RefusalLemmas::goes_inside, crate::proofs::RefusalLemmas::memory_inside))]
-fn whole(setting: &Setting<'_>, cursor: &mut Cursor<'_>) -> Result<ParserOutput, Error>
+fn whole(setting: &Setting<'_>, cursor: &mut Cursor<'_>) -> Result<(ParserOutput, Names), Error>
     ensures gives { ReadsTemplate (limits_under setting.now) result cursor.old.left }
     ensures refusal { IfErr result (RefusesIn cursor.old) }
     ensures empty { IfErr result (λ _. AreEmptyTexts cursor.old.left → ⊥) }
@@ -198,7 +199,7 @@ fn whole(setting: &Setting<'_>, cursor: &mut Cursor<'_>) -> Result<ParserOutput,
     if !cursor.at_end() {
         return Err(unknown_tag(cursor));
     }
-    Ok(output)
+    Ok((output, names))
 }
 
 // Takes the next item of the top level, where one stands there, and tells the phase behind it.

@@ -8,13 +8,14 @@ use Rattle.tera_grammar.specs.expressions.Operators.{GreaterThan}
 use Rattle.tera_grammar.specs.expressions.Concrete.{Simple, Escaped, quote_token}
 use Rattle.tera_grammar.specs.expressions.Marks.{mark, Assign, Operation}
 use Rattle.tera_grammar.specs.Options.{◌>>=◌}
-use Rattle.tera_grammar.specs.statements.Names.{agrees, block_named, component_named}
-use Rattle.tera_grammar.specs.statements.Reading.Meeting.{Seen, ◌having◌}
+use Rattle.tera_grammar.specs.statements.Names.{agrees}
+use Rattle.tera_grammar.specs.statements.Places.{block_placed, component_placed, places, item_places, branch_places, else_places}
+use Rattle.tera_grammar.specs.statements.Reading.Meeting.{Seen, met, ◌having◌}
 use Rattle.tera_grammar.specs.statements.Parts.{Name, name_yield, name_if_any_yield, Tag, Opener, OpensSet, OpensInclude, OpensExtends, OpensBlock, OpensFor, OpensIf, OpensFilter, OpensComponent, OpensBreak, OpensContinue, OpensCall, Closer, AtElif, AtElse, AtEndSet, AtEndBlock, AtEndFor, AtEndIf, AtEndFilter, AtEndComponent, AtEndCall, opening, closing, finish}
 use Rattle.tera_grammar.specs.statements.Expressions.{Limits, Expression, IsExpression, expression_yield, attributes_yield, component_text}
 use Rattle.tera_grammar.specs.statements.Components.{Head, ending_yield, FitsHead}
 use Rattle.tera_grammar.specs.statements.Heads.{Loop, loop_yield, FitsLoop, Filters, NoFilters, Piped, filters_yield, Capture, SetBody, Section, CallBody, capture_end, FitsCapture}
-use Rattle.tera_grammar.specs.statements.Grammar.{Plain, Text, Shown, Set, Include, Extends, Break, Continue, plain_yield, FitsPlain, Body, Done, Then, Item, Single, Block, Define, Capturing, For, If, Branches, Elif, Last, Else, NoElse, Otherwise, yield, item_yield, branches_yield, else_yield, InFor, InForElse, InBlock, InIf, InComponent, InCapture, Path, may_block, in_loop, is_outermost, text_if_any, Fits, FitsItem, FitsBranches, FitsElse, names, item_names, branch_names, else_names, height, item_height, branch_height, else_height}
+use Rattle.tera_grammar.specs.statements.Grammar.{Plain, Text, Shown, Set, Include, Extends, Break, Continue, plain_yield, FitsPlain, Body, Done, Then, Item, Single, Block, Define, Capturing, For, If, Branches, Elif, Last, Else, NoElse, Otherwise, yield, item_yield, branches_yield, else_yield, InFor, InForElse, InBlock, InIf, InComponent, InCapture, Path, may_block, in_loop, is_outermost, text_if_any, Fits, FitsItem, FitsBranches, FitsElse, height, item_height, branch_height, else_height}
 use Rattle.tera_grammar.specs.statements.Reading.{Place, at, Reads, Reader, else_in, branch_in, branches, set_behind, set_of, include_of, extends_of, break_of, block_end, block_of, component_def_of, section_of, call_end, call_of, for_of, if_of, tag_of, shown_of, step, go_on, body}
 use Rattle.tera_grammar.specs.statements.Reading.Parts.{Front, Ends, Closes, Opens, front, closed_tag}
 use Rattle.tera_grammar.proofs.statements.Names.{NamesAreNew, first_names, having_both, then_names}
@@ -112,18 +113,18 @@ module _ (l : Limits) (f : Reader) (path : Path) (seen : Seen) where
   block_end_found n None e r agreed = refl
   block_end_found n (Some m) e r agreed = rw agreed refl
 
-  block_found : (new : Seen) (t : Tag) (n : Name) (b : Body) (e : Tag) (m : Option Name) (r : Items) → may_block path ≡ true → seen.blocks n.text ≡ false → agrees n.text (text_if_any m) ≡ true →
-      f (InBlock ∷ path) (at (seen having block_named n.text) (yield b (closing AtEndBlock e (name_if_any_yield m (finish e r))))) ≡ Some (b, at new (closing AtEndBlock e (name_if_any_yield m (finish e r)))) →
+  block_found : (new : Seen) (t : Tag) (n : Name) (b : Body) (e : Tag) (m : Option Name) (r : Items) → may_block path ≡ true → met seen.blocks n.text ≡ false → agrees n.text (text_if_any m) ≡ true →
+      f (InBlock ∷ path) (at (seen having block_placed n) (yield b (closing AtEndBlock e (name_if_any_yield m (finish e r))))) ≡ Some (b, at new (closing AtEndBlock e (name_if_any_yield m (finish e r)))) →
       step l f path seen (front (item_yield (Block t n b e m) r)) ≡ Some (Some (Block t n b e m, at new r))
   unfolding block_of
   block_found new t n b e m r may fresh agreed read = step_opens OpensBlock t _ _ (rw (may, fresh, read, block_end_found n m e r agreed) refl)
 
-  define_found : (new : Seen) (h : Head) (b : Body) (r : Items) → is_outermost path ≡ true → seen.components (component_text h.name) ≡ false → FitsHead l h →
-      f (InComponent ∷ path) (at (seen having component_named (component_text h.name)) (yield b (ending_yield h r))) ≡ Some (b, at new (ending_yield h r)) →
+  define_found : (new : Seen) (h : Head) (b : Body) (r : Items) → is_outermost path ≡ true → met seen.components (component_text h.name) ≡ false → FitsHead l h →
+      f (InComponent ∷ path) (at (seen having component_placed h.name) (yield b (ending_yield h r))) ≡ Some (b, at new (ending_yield h r)) →
       step l f path seen (front (item_yield (Define h b) r)) ≡ Some (Some (Define h b, at new r))
   unfolding component_def_of
   define_found new h b r may fresh fits read =
-      step_opens OpensComponent h.tag _ _ (rw (may, opened_found l seen.components (opened_part h) (yield b (ending_yield h r)) fresh fits.0 fits.1, read, ending_found l h r fits.2) refl)
+      step_opens OpensComponent h.tag _ _ (rw (may, opened_found l (met seen.components) (opened_part h) (yield b (ending_yield h r)) fresh fits.0 fits.1, read, ending_found l h r fits.2) refl)
 
   no_sign : (fs : Filters) (t : Tag) (r : Items) → takes Assign (filters_yield fs (finish t r)) ≡ None
   no_sign NoFilters t r = refl
@@ -201,8 +202,8 @@ capture_ends (Section t g fs e) r = tt
 capture_ends (CallBody t n a last e m end) r = tt
 
 mutual
-  pub whole : (b : Body) (l : Limits) (d : ℕ) (path : Path) (seen : Seen) (r : Items) → Fits l path b → height b ≤ d → NamesAreNew seen (names b) → EndsBefore r →
-      body d l path (at seen (yield b r)) ≡ Some (b, at (seen having names b) r)
+  pub whole : (b : Body) (l : Limits) (d : ℕ) (path : Path) (seen : Seen) (r : Items) → Fits l path b → height b ≤ d → NamesAreNew seen (places b) → EndsBefore r →
+      body d l path (at seen (yield b r)) ≡ Some (b, at (seen having places b) r)
   whole Done l zero path seen r fits low apart stop = absurd (omega arith)
   whole Done l (suc d) path seen r fits low apart stop =
       body_steps l d path (at seen r) ∙ ap (λ o. o >>= go_on (body (suc d) l path) (at seen r)) (step_ends l (body d l) path seen (front r) stop)
@@ -210,52 +211,52 @@ mutual
   whole (Then i b) l (suc d) path seen r fits low apart stop =
       body_steps l d path (at seen (item_yield i (yield b r)))
       ∙ ap (λ o. o >>= go_on (body (suc d) l path) (at seen (item_yield i (yield b r))))
-      (item_found i l d path seen (yield b r) fits.0 (omega arith) (first_names seen (item_names i) (names b) apart))
-      ∙ ap (λ o. o >>= λ x. Some (Then i x.0, x.1)) (whole b l (suc d) path (seen having item_names i) r fits.1 (omega arith) (then_names seen (item_names i) (names b) apart) stop)
-      ∙ ap (λ s. Some (Then i b, at s r)) (having_both seen (item_names i) (names b))
+      (item_found i l d path seen (yield b r) fits.0 (omega arith) (first_names seen (item_places i) (places b) apart))
+      ∙ ap (λ o. o >>= λ x. Some (Then i x.0, x.1)) (whole b l (suc d) path (seen having item_places i) r fits.1 (omega arith) (then_names seen (item_places i) (places b) apart) stop)
+      ∙ ap (λ s. Some (Then i b, at s r)) (having_both seen (item_places i) (places b))
 
-  pub item_found : (i : Item) (l : Limits) (d : ℕ) (path : Path) (seen : Seen) (r : Items) → FitsItem l path i → item_height i ≤ d → NamesAreNew seen (item_names i) →
-      step l (body d l) path seen (front (item_yield i r)) ≡ Some (Some (i, at (seen having item_names i) r))
+  pub item_found : (i : Item) (l : Limits) (d : ℕ) (path : Path) (seen : Seen) (r : Items) → FitsItem l path i → item_height i ≤ d → NamesAreNew seen (item_places i) →
+      step l (body d l) path seen (front (item_yield i r)) ≡ Some (Some (i, at (seen having item_places i) r))
   item_found (Single p) l d path seen r fits low apart =
       plain_found l (body d l) path seen p r fits
   item_found (Block t n b e m) l d path seen r fits low apart =
-      block_found l (body d l) path seen ((seen having block_named n.text) having names b) t n b e m r fits.0 apart.0.0 fits.1
-      (whole b l d (InBlock ∷ path) (seen having block_named n.text) (closing AtEndBlock e (name_if_any_yield m (finish e r))) fits.2 low (then_names seen (block_named n.text) (names b) apart) tt)
-      ∙ ap (λ s. Some (Some (Block t n b e m, at s r))) (having_both seen (block_named n.text) (names b))
+      block_found l (body d l) path seen ((seen having block_placed n) having places b) t n b e m r fits.0 apart.0.0 fits.1
+      (whole b l d (InBlock ∷ path) (seen having block_placed n) (closing AtEndBlock e (name_if_any_yield m (finish e r))) fits.2 low (then_names seen (block_placed n) (places b) apart) tt)
+      ∙ ap (λ s. Some (Some (Block t n b e m, at s r))) (having_both seen (block_placed n) (places b))
   item_found (Define h b) l d path seen r fits low apart =
-      define_found l (body d l) path seen ((seen having component_named (component_text h.name)) having names b) h b r fits.0 apart.1.0 fits.1
-      (whole b l d (InComponent ∷ path) (seen having component_named (component_text h.name)) (ending_yield h r) fits.2 low (then_names seen (component_named (component_text h.name)) (names b) apart) tt)
-      ∙ ap (λ s. Some (Some (Define h b, at s r))) (having_both seen (component_named (component_text h.name)) (names b))
+      define_found l (body d l) path seen ((seen having component_placed h.name) having places b) h b r fits.0 apart.1.0 fits.1
+      (whole b l d (InComponent ∷ path) (seen having component_placed h.name) (ending_yield h r) fits.2 low (then_names seen (component_placed h.name) (places b) apart) tt)
+      ∙ ap (λ s. Some (Some (Define h b, at s r))) (having_both seen (component_placed h.name) (places b))
   item_found (Capturing c b) l d path seen r fits low apart =
-      capture_found l (body d l) path seen (seen having names b) c b r fits.0 (whole b l d (InCapture ∷ path) seen (capture_end c r) fits.1 low apart (capture_ends c r))
+      capture_found l (body d l) path seen (seen having places b) c b r fits.0 (whole b l d (InCapture ∷ path) seen (capture_end c r) fits.1 low apart (capture_ends c r))
   item_found (For t lp b o e) l d path seen r fits low apart =
       let end = closing AtEndFor e (finish e r) in
-      for_found l (body d l) path seen (seen having names b) ((seen having names b) having else_names o) t lp b o e r (else_yield o end) fits.0
-      (whole b l d (InFor ∷ path) seen (else_yield o end) fits.1 (omega arith) (first_names seen (names b) (else_names o) apart) (else_ends o end tt))
-      (else_found o l d (InForElse ∷ path) (seen having names b) end (lacks_endfor e (finish e r)) tt fits.2 (omega arith) (then_names seen (names b) (else_names o) apart))
-      ∙ ap (λ s. Some (Some (For t lp b o e, at s r))) (having_both seen (names b) (else_names o))
+      for_found l (body d l) path seen (seen having places b) ((seen having places b) having else_places o) t lp b o e r (else_yield o end) fits.0
+      (whole b l d (InFor ∷ path) seen (else_yield o end) fits.1 (omega arith) (first_names seen (places b) (else_places o) apart) (else_ends o end tt))
+      (else_found o l d (InForElse ∷ path) (seen having places b) end (lacks_endfor e (finish e r)) tt fits.2 (omega arith) (then_names seen (places b) (else_places o) apart))
+      ∙ ap (λ s. Some (Some (For t lp b o e, at s r))) (having_both seen (places b) (else_places o))
   item_found (If t c b bs e) l d path seen r fits low apart =
       let end = closing AtEndIf e (finish e r) in
-      if_found l (body d l) path seen (seen having names b) ((seen having names b) having branch_names bs) t c b bs e r (branches_yield bs end) fits.0
-      (whole b l d (InIf ∷ path) seen (branches_yield bs end) fits.1 (omega arith) (first_names seen (names b) (branch_names bs) apart) (branches_end bs end tt))
-      (branches_found bs l d (InIf ∷ path) (seen having names b) e (finish e r) fits.2 (omega arith) (then_names seen (names b) (branch_names bs) apart))
-      ∙ ap (λ s. Some (Some (If t c b bs e, at s r))) (having_both seen (names b) (branch_names bs))
+      if_found l (body d l) path seen (seen having places b) ((seen having places b) having branch_places bs) t c b bs e r (branches_yield bs end) fits.0
+      (whole b l d (InIf ∷ path) seen (branches_yield bs end) fits.1 (omega arith) (first_names seen (places b) (branch_places bs) apart) (branches_end bs end tt))
+      (branches_found bs l d (InIf ∷ path) (seen having places b) e (finish e r) fits.2 (omega arith) (then_names seen (places b) (branch_places bs) apart))
+      ∙ ap (λ s. Some (Some (If t c b bs e, at s r))) (having_both seen (places b) (branch_places bs))
 
-  branches_found : (bs : Branches) (l : Limits) (d : ℕ) (path : Path) (seen : Seen) (e : Tag) (r : Items) → FitsBranches l path bs → branch_height bs ≤ d → NamesAreNew seen (branch_names bs) →
-      branches l (body d l) path (at seen (branches_yield bs (closing AtEndIf e r))) ≡ Some (bs, at (seen having branch_names bs) (closing AtEndIf e r))
+  branches_found : (bs : Branches) (l : Limits) (d : ℕ) (path : Path) (seen : Seen) (e : Tag) (r : Items) → FitsBranches l path bs → branch_height bs ≤ d → NamesAreNew seen (branch_places bs) →
+      branches l (body d l) path (at seen (branches_yield bs (closing AtEndIf e r))) ≡ Some (bs, at (seen having branch_places bs) (closing AtEndIf e r))
   branches_found (Elif t c b bs) l d path seen e r fits low apart =
       let end = closing AtEndIf e r in
       branches_steps l d (body d l) (body_sound l d) path (at seen (branches_yield (Elif t c b bs) end))
-      ∙ elif_found l (body d l) path seen (branches l (body d l) path) (seen having names b) ((seen having names b) having branch_names bs) t c b bs (branches_yield bs end) end fits.0
-      (whole b l d path seen (branches_yield bs end) fits.1 (omega arith) (first_names seen (names b) (branch_names bs) apart) (branches_end bs end tt))
-      (branches_found bs l d path (seen having names b) e r fits.2 (omega arith) (then_names seen (names b) (branch_names bs) apart))
-      ∙ ap (λ s. Some (Elif t c b bs, at s end)) (having_both seen (names b) (branch_names bs))
+      ∙ elif_found l (body d l) path seen (branches l (body d l) path) (seen having places b) ((seen having places b) having branch_places bs) t c b bs (branches_yield bs end) end fits.0
+      (whole b l d path seen (branches_yield bs end) fits.1 (omega arith) (first_names seen (places b) (branch_places bs) apart) (branches_end bs end tt))
+      (branches_found bs l d path (seen having places b) e r fits.2 (omega arith) (then_names seen (places b) (branch_places bs) apart))
+      ∙ ap (λ s. Some (Elif t c b bs, at s end)) (having_both seen (places b) (branch_places bs))
   branches_found (Last o) l d path seen e r fits low apart =
       branches_steps l d (body d l) (body_sound l d) path (at seen (else_yield o (closing AtEndIf e r)))
-      ∙ last_found l (body d l) path seen (branches l (body d l) path) (seen having else_names o) o e r (else_found o l d path seen (closing AtEndIf e r) (lacks_endif e r) tt fits low apart)
+      ∙ last_found l (body d l) path seen (branches l (body d l) path) (seen having else_places o) o e r (else_found o l d path seen (closing AtEndIf e r) (lacks_endif e r) tt fits low apart)
 
-  else_found : (o : Else) (l : Limits) (d : ℕ) (path : Path) (seen : Seen) (r : Items) → Lacks r → EndsBefore r → FitsElse l path o → else_height o ≤ d → NamesAreNew seen (else_names o) →
-      else_in (body d l) path seen (else_yield o r) (front (else_yield o r)) ≡ Some (o, at (seen having else_names o) r)
+  else_found : (o : Else) (l : Limits) (d : ℕ) (path : Path) (seen : Seen) (r : Items) → Lacks r → EndsBefore r → FitsElse l path o → else_height o ≤ d → NamesAreNew seen (else_places o) →
+      else_in (body d l) path seen (else_yield o r) (front (else_yield o r)) ≡ Some (o, at (seen having else_places o) r)
   else_found NoElse l d path seen r lacks stop fits low apart = lacks (body d l) path seen
   else_found (Otherwise t b) l d path seen r lacks stop fits low apart =
-      otherwise_found l (body d l) path seen (seen having names b) t b r (whole b l d path seen r fits low apart stop)
+      otherwise_found l (body d l) path seen (seen having places b) t b r (whole b l d path seen r fits low apart stop)

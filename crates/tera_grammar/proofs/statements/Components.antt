@@ -407,7 +407,7 @@ module _ (l : Limits) where
     pub tokens : ts ≡ ending_yield x.0 x.1
     pub opened : (items : Items) → start_yield start (Token (opener_token OpensComponent) first (opened_yield o items)) ≡ head_yield x.0 items
     pub fits : FitParameters l o.parameters → FitsMetadata l o.metadata → FitsHead l x.0
-    pub name : component_text x.0.name ≡ component_text o.name
+    pub name : x.0.name ≡ o.name
 
   pub ending_stands : (start : Edge) (first : Span) (o : Opened) (ts : Items) (x : Head × Items) → ending_of start first o ts ≡ Some x → EndingStands start first o ts x
   unfolding ending_of

@@ -14,12 +14,13 @@ use Rattle.tera_grammar.specs.expressions.Concrete.{quote_token}
 use Rattle.tera_grammar.specs.expressions.Marks.{mark, Assign, Operation}
 use Rattle.tera_grammar.specs.Options.{◌>>=◌}
 use Rattle.tera_grammar.specs.Words.{is_reserved}
-use Rattle.tera_grammar.specs.statements.Names.{agrees, block_named, component_named, ◌and_then◌}
-use Rattle.tera_grammar.specs.statements.Reading.Meeting.{Seen, ◌having◌}
+use Rattle.tera_grammar.specs.statements.Names.{agrees}
+use Rattle.tera_grammar.specs.statements.Places.{block_placed, component_placed, ◌followed_by◌, places, item_places, branch_places, else_places}
+use Rattle.tera_grammar.specs.statements.Reading.Meeting.{Seen, met, ◌having◌}
 use Rattle.tera_grammar.specs.statements.Parts.{Edge, Name, name_yield, name_if_any_yield, Tag, Opener, OpensSet, OpensInclude, OpensExtends, OpensBlock, OpensFor, OpensIf, OpensFilter, OpensComponent, OpensBreak, OpensContinue, OpensCall, opener_token, AtElif, AtElse, AtEndSet, AtEndBlock, AtEndFor, AtEndIf, AtEndFilter, AtEndCall, closer_token, start_yield, opening, closing, finish}
 use Rattle.tera_grammar.specs.statements.Expressions.{Limits, expression_yield, filter_yield, attributes_yield, ComponentName, component_yield, component_text}
 use Rattle.tera_grammar.specs.statements.Heads.{loop_yield, filters_yield, Capture, SetBody, Section, CallBody, capture_yield, capture_end, FitsCapture}
-use Rattle.tera_grammar.specs.statements.Grammar.{Plain, Text, Shown, Set, Include, Extends, Break, Continue, plain_yield, FitsPlain, Body, Then, Item, Single, Block, Define, Capturing, For, If, Branches, Elif, Last, Else, NoElse, Otherwise, yield, item_yield, branches_yield, else_yield, InFor, InForElse, InBlock, InIf, InComponent, InCapture, Path, may_break, in_loop, text_if_any, Fits, FitsItem, FitsBranches, FitsElse, names, item_names, branch_names, else_names, height, item_height, branch_height, else_height}
+use Rattle.tera_grammar.specs.statements.Grammar.{Plain, Text, Shown, Set, Include, Extends, Break, Continue, plain_yield, FitsPlain, Body, Then, Item, Single, Block, Define, Capturing, For, If, Branches, Elif, Last, Else, NoElse, Otherwise, yield, item_yield, branches_yield, else_yield, InFor, InForElse, InBlock, InIf, InComponent, InCapture, Path, may_break, in_loop, text_if_any, Fits, FitsItem, FitsBranches, FitsElse, height, item_height, branch_height, else_height}
 use Rattle.tera_grammar.specs.statements.Reading.{Place, at, Reads, Reader, else_in, branch_in, branches_by, branches, set_behind, set_of, include_of, extends_of, break_of, block_end, block_of, component_def_of, section_of, call_end, call_of, for_of, if_of, tag_of, shown_of, step, go_on, items_by, items, body}
 use Rattle.tera_grammar.specs.statements.Reading.Parts.{Front, Ends, Closes, Holds, Shows, Opens, Wrong, front, name_if_any, tag}
 use Rattle.tera_grammar.proofs.Options.{bound, guard_ok, guard_not}
@@ -31,25 +32,25 @@ use Rattle.tera_grammar.proofs.statements.Components.{opened_yield, opened_stand
 
 pub record FoundBody (l : Limits) (d : ℕ) (path : Path) (p : Place) (b : Body) (q : Place) : Type 0 where
   pub tokens : p.tokens ≡ yield b q.tokens
-  pub named : Named (names b) p.seen q.seen
+  pub named : Named (places b) p.seen q.seen
   pub fits : Fits l path b
   pub height : height b ≤ d
 
 pub record FoundItem (l : Limits) (d : ℕ) (path : Path) (p : Place) (i : Item) (q : Place) : Type 0 where
   pub tokens : p.tokens ≡ item_yield i q.tokens
-  pub named : Named (item_names i) p.seen q.seen
+  pub named : Named (item_places i) p.seen q.seen
   pub fits : FitsItem l path i
   pub height : item_height i ≤ d
 
 pub record FoundBranches (l : Limits) (d : ℕ) (path : Path) (p : Place) (bs : Branches) (q : Place) : Type 0 where
   pub tokens : p.tokens ≡ branches_yield bs q.tokens
-  pub named : Named (branch_names bs) p.seen q.seen
+  pub named : Named (branch_places bs) p.seen q.seen
   pub fits : FitsBranches l path bs
   pub height : branch_height bs ≤ d
 
 pub record FoundElse (l : Limits) (d : ℕ) (path : Path) (p : Place) (o : Else) (q : Place) : Type 0 where
   pub tokens : p.tokens ≡ else_yield o q.tokens
-  pub named : Named (else_names o) p.seen q.seen
+  pub named : Named (else_places o) p.seen q.seen
   pub fits : FitsElse l path o
   pub height : else_height o ≤ d
 
@@ -196,12 +197,12 @@ module _ (l : Limits) (d : ℕ) (f : Reader) (sound : Sound l d f) where
   unfolding block_of
   block_found path start first seen ts us x is h =
       bound _ _ _ h (λ u may rest1. bound _ _ _ rest1 (λ n named rest2. bound _ _ _ rest2 (λ v fresh rest3. bound _ _ _ rest3 (λ g ended rest4. bound _ _ _ rest4 (λ b read more. bound _ _ _ more (λ e closed made.
-      let found = sound (InBlock ∷ path) (at (seen having block_named n.0.text) g.1) b read in
+      let found = sound (InBlock ∷ path) (at (seen having block_placed n.0) g.1) b read in
       let end = block_end_stands n.0 b.1.tokens e closed in
       subst (Finds path seen ts) (same_Some (Block (tag start first g.0) n.0 b.0 e.0.0 e.0.1, at b.1.seen e.1) x made) (record {
         tokens = is ∙ ap (begun start OpensBlock first) (taken_name_ok us n named ∙ ap (name_yield n.0) (finish_stands n.1 g ended
             ∙ ap (finish (tag start first g.0)) (found.tokens ∙ ap (yield b.0) end.1)));
-        named = named_block n.0.text (names b.0) (guard_not _ v fresh) found.named;
+        named = named_block n.0 (places b.0) (guard_not _ v fresh) found.named;
         fits = (guard_ok _ u may, end.0, found.fits);
         height = found.height;
       })))))))
@@ -211,12 +212,12 @@ module _ (l : Limits) (d : ℕ) (f : Reader) (sound : Sound l d f) where
   unfolding component_def_of
   define_found path start first seen ts us x is h =
       bound _ _ _ h (λ u may rest1. bound _ _ _ rest1 (λ o opened rest2. bound _ _ _ rest2 (λ b read more. bound _ _ _ more (λ e closed made.
-      let head = opened_stands l seen.components us o opened in
-      let found = sound (InComponent ∷ path) (at (seen having component_named (component_text o.0.name)) o.1) b read in
+      let head = opened_stands l (met seen.components) us o opened in
+      let found = sound (InComponent ∷ path) (at (seen having component_placed o.0.name) o.1) b read in
       let end = ending_stands l start first o.0 b.1.tokens e closed in
       subst (Finds path seen ts) (same_Some (Define e.0 b.0, at b.1.seen e.1) x made) (record {
         tokens = is ∙ ap (begun start OpensComponent first) (head.tokens ∙ ap (opened_yield o.0) (found.tokens ∙ ap (yield b.0) end.tokens)) ∙ end.opened _;
-        named = subst (λ n. Named (component_named n and_then names b.0) seen b.1.seen) (sym end.name) (named_component (component_text o.0.name) (names b.0) head.fresh found.named);
+        named = subst (λ n. Named (component_placed n followed_by places b.0) seen b.1.seen) (sym end.name) (named_component o.0.name (places b.0) head.fresh found.named);
         fits = (guard_ok _ u may, end.fits head.parameters head.metadata, found.fits);
         height = found.height;
       })))))

@@ -13,7 +13,8 @@ use Rattle.tera_grammar.specs.expressions.Concrete.{Quote}
 use Rattle.tera_grammar.specs.expressions.Marks.{RightParen, Comma, Spread, Bar}
 use Rattle.tera_grammar.specs.statements.Types.{Sorted, put_name}
 use Rattle.tera_grammar.specs.Options.{◌>>=◌, guard}
-use Rattle.tera_grammar.specs.statements.Reading.Meeting.{Met, Seen, meet, nothing_met, nothing_seen}
+use Rattle.tera_grammar.specs.statements.Places.{places}
+use Rattle.tera_grammar.specs.statements.Reading.Meeting.{Met, Seen, meet, nothing_met, nothing_seen, ◌having◌}
 use Rattle.tera_grammar.specs.statements.Parts.{Edge, AtElif, OpensExtends}
 use Rattle.tera_grammar.specs.statements.Expressions.{Limits, Expression, expression_output, Filtering, filter_output}
 use Rattle.tera_grammar.specs.statements.Reading.Expressions.{expression_of, filter_of}
@@ -406,11 +407,13 @@ module _ (l : Limits) (d : ℕ) (opens : l.bodies ≡ suc d) (ts : Items) (here 
   ended g h = (going_ends l d [] false First here out.nodes g.going h).1
 
   -- the end of the tokens
-  pub topping_ends : TopOn here out ph → step l (body d l) [] here.seen (front here.tokens) ≡ Some None → is_end here.tokens ≡ true → (b : Body) × (template l ts ≡ Some b) × (out ≡ output_of b)
+  pub topping_ends : TopOn here out ph → step l (body d l) [] here.seen (front here.tokens) ≡ Some None → is_end here.tokens ≡ true
+      → (b : Body) × (template l ts ≡ Some b) × (out ≡ output_of b) × (here.seen ≡ nothing_seen having places b)
   topping_ends g h left = (
     g.going.before,
     template_is ∙ ap (λ o. o >>= last_steps) (ended g h) ∙ rw (left, g.phased) refl,
     λ i. record { parent = g.parent i; nodes = g.going.shows i; definitions = g.definitions i },
+    (body_sound l (suc d) [] First (g.going.before, here) (ended g h)).named.grown,
   )
 
   -- a tag that ends a body, where none is open

@@ -1,9 +1,15 @@
 -- Names with no two equal, as names that are met one after another.
-use Rattle.std.proofs.Common.{◌≡◌, ◌≢◌, ℕ, false, List, [], ◌∷◌, ◌++◌, refl, ap, subst, ◌∙◌}
+use Rattle.std.proofs.Common.{◌≡◌, ◌≢◌, ℕ, Bool, true, false, ◌||◌, cond, List, [], ◌∷◌, ◌++◌, Option, Some, is_some, refl, sym, ap, subst, ◌∙◌}
+use Rattle.std.proofs.lemmas.List.{map-append}
 use Rattle.std.specs.List.{AllByRecursion}
 use Rattle.tera_grammar.specs.Words.{AreDistinct}
-use Rattle.tera_grammar.specs.statements.Names.{Names, no_names, block_named, component_named, ◌and_then◌, NamesAreDistinct}
-use Rattle.tera_grammar.specs.statements.Reading.Meeting.{Met, Seen, meet, meet_all, nothing_met, nothing_seen, ◌having◌}
+use Rattle.tera_base.specs.declared.utils.Span.{Span}
+use Rattle.tera_grammar.specs.statements.Expressions.{ComponentName, component_text}
+use Rattle.tera_grammar.specs.statements.Grammar.{Body, Done, Then, Item, Single, Block, Define, Capturing, For, If, Branches, Elif, Last, Else, NoElse, Otherwise, names, item_names, branch_names, else_names}
+use Rattle.tera_grammar.specs.statements.Names.{Names, NamesAreDistinct, ◌and_then◌}
+use Rattle.tera_grammar.specs.statements.Parts.{Name}
+use Rattle.tera_grammar.specs.statements.Places.{Places, no_places, block_placed, component_placed, ◌followed_by◌, texts, texts_of, places, item_places, branch_places, else_places}
+use Rattle.tera_grammar.specs.statements.Reading.Meeting.{Met, Seen, Located, locate, locate_all, nothing_located, meet, met, nothing_met, nothing_seen, ◌having◌}
 use Rattle.tera_grammar.proofs.Options.{or_false, bytes_apart, bytes_differ}
 
 -- no name was met before
@@ -47,67 +53,126 @@ nothing_unmet (n ∷ ns) = (refl, nothing_unmet ns)
 pub all_new : (ns : List (List ℕ)) → AreDistinct ns → AreNew nothing_met ns
 all_new ns distinct = distinct_new nothing_met ns (nothing_unmet ns) distinct
 
+-- and so for names that are met at their places
+abbrev AreUnmet : Located → List Name → Type 0
+AreUnmet located [] = Unit {0}
+AreUnmet located (n ∷ ns) = (met located n.text ≡ false) × AreUnmet (locate n located) ns
+
+either : (b : Bool) (span : Span) (r : Option Span) → is_some (cond b (Some span) r) ≡ (b || is_some r)
+either true span r = refl
+either false span r = refl
+
+pub met_located : (n : Name) (located : Located) → met (locate n located) ≡ meet n.text (met located)
+met_located n located =
+    let is : (name : List ℕ) → met (locate n located) name ≡ meet n.text (met located) name = λ name. either _ n.span (located name) in
+    λ i name. is name i
+
+texts_new : (located : Located) (ns : List Name) → AreUnmet located ns → AreNew (met located) (texts ns)
+texts_new located [] h = tt
+texts_new located (n ∷ ns) h = (h.0, subst (λ m. AreNew m (texts ns)) (met_located n located) (texts_new (locate n located) ns h.1))
+
+texts_unmet : (located : Located) (ns : List Name) → AreNew (met located) (texts ns) → AreUnmet located ns
+texts_unmet located [] h = tt
+texts_unmet located (n ∷ ns) h = (h.0, texts_unmet (locate n located) ns (subst (λ m. AreNew m (texts ns)) (sym (met_located n located)) h.1))
+
 -- the names of what comes first, and of what comes then
-meet_append : (xs ys : List (List ℕ)) (met : Met) → meet_all ys (meet_all xs met) ≡ meet_all (xs ++ ys) met
-meet_append [] ys met = refl
-meet_append (x ∷ xs) ys met = meet_append xs ys (meet x met)
+locate_append : (xs ys : List Name) (located : Located) → locate_all ys (locate_all xs located) ≡ locate_all (xs ++ ys) located
+locate_append [] ys located = refl
+locate_append (x ∷ xs) ys located = locate_append xs ys (locate x located)
 
-new_first : (met : Met) (xs ys : List (List ℕ)) → AreNew met (xs ++ ys) → AreNew met xs
-new_first met [] ys new = tt
-new_first met (x ∷ xs) ys new = (new.0, new_first (meet x met) xs ys new.1)
+unmet_first : (located : Located) (xs ys : List Name) → AreUnmet located (xs ++ ys) → AreUnmet located xs
+unmet_first located [] ys new = tt
+unmet_first located (x ∷ xs) ys new = (new.0, unmet_first (locate x located) xs ys new.1)
 
-new_then : (met : Met) (xs ys : List (List ℕ)) → AreNew met (xs ++ ys) → AreNew (meet_all xs met) ys
-new_then met [] ys new = new
-new_then met (x ∷ xs) ys new = new_then (meet x met) xs ys new.1
+unmet_then : (located : Located) (xs ys : List Name) → AreUnmet located (xs ++ ys) → AreUnmet (locate_all xs located) ys
+unmet_then located [] ys new = new
+unmet_then located (x ∷ xs) ys new = unmet_then (locate x located) xs ys new.1
 
-new_both : (met : Met) (xs ys : List (List ℕ)) → AreNew met xs → AreNew (meet_all xs met) ys → AreNew met (xs ++ ys)
-new_both met [] ys first then = then
-new_both met (x ∷ xs) ys first then = (first.0, new_both (meet x met) xs ys first.1 then)
+unmet_both : (located : Located) (xs ys : List Name) → AreUnmet located xs → AreUnmet (locate_all xs located) ys → AreUnmet located (xs ++ ys)
+unmet_both located [] ys first then = then
+unmet_both located (x ∷ xs) ys first then = (first.0, unmet_both (locate x located) xs ys first.1 then)
 
 -- and so for the two kinds of names
-abbrev pub NamesAreNew : Seen → Names → Type 0
-NamesAreNew seen n = AreNew seen.blocks n.blocks × AreNew seen.components n.components
+abbrev pub NamesAreNew : Seen → Places → Type 0
+NamesAreNew seen n = AreUnmet seen.blocks n.blocks × AreUnmet seen.components n.components
 
-pub names_distinct : (n : Names) → NamesAreNew nothing_seen n → NamesAreDistinct n
-names_distinct n new = (new_distinct nothing_met n.blocks new.0, new_distinct nothing_met n.components new.1)
+pub names_distinct : (n : Places) → NamesAreNew nothing_seen n → NamesAreDistinct (texts_of n)
+names_distinct n new = (
+  new_distinct nothing_met (texts n.blocks) (texts_new nothing_located n.blocks new.0),
+  new_distinct nothing_met (texts n.components) (texts_new nothing_located n.components new.1),
+)
 
-pub names_new : (n : Names) → NamesAreDistinct n → NamesAreNew nothing_seen n
-names_new n distinct = (all_new n.blocks distinct.0, all_new n.components distinct.1)
+pub names_new : (n : Places) → NamesAreDistinct (texts_of n) → NamesAreNew nothing_seen n
+names_new n distinct = (
+  texts_unmet nothing_located n.blocks (all_new (texts n.blocks) distinct.0),
+  texts_unmet nothing_located n.components (all_new (texts n.components) distinct.1),
+)
 
-pub having_both : (seen : Seen) (a b : Names) → (seen having a) having b ≡ seen having (a and_then b)
-having_both seen a b = λ i. record { blocks = meet_append a.blocks b.blocks seen.blocks i; components = meet_append a.components b.components seen.components i }
+pub having_both : (seen : Seen) (a b : Places) → (seen having a) having b ≡ seen having (a followed_by b)
+having_both seen a b = λ i. record { blocks = locate_append a.blocks b.blocks seen.blocks i; components = locate_append a.components b.components seen.components i }
 
-pub first_names : (seen : Seen) (a b : Names) → NamesAreNew seen (a and_then b) → NamesAreNew seen a
-first_names seen a b new = (new_first seen.blocks a.blocks b.blocks new.0, new_first seen.components a.components b.components new.1)
+pub first_names : (seen : Seen) (a b : Places) → NamesAreNew seen (a followed_by b) → NamesAreNew seen a
+first_names seen a b new = (unmet_first seen.blocks a.blocks b.blocks new.0, unmet_first seen.components a.components b.components new.1)
 
-pub then_names : (seen : Seen) (a b : Names) → NamesAreNew seen (a and_then b) → NamesAreNew (seen having a) b
-then_names seen a b new = (new_then seen.blocks a.blocks b.blocks new.0, new_then seen.components a.components b.components new.1)
+pub then_names : (seen : Seen) (a b : Places) → NamesAreNew seen (a followed_by b) → NamesAreNew (seen having a) b
+then_names seen a b new = (unmet_then seen.blocks a.blocks b.blocks new.0, unmet_then seen.components a.components b.components new.1)
 
-both_names : (seen : Seen) (a b : Names) → NamesAreNew seen a → NamesAreNew (seen having a) b → NamesAreNew seen (a and_then b)
-both_names seen a b first then = (new_both seen.blocks a.blocks b.blocks first.0 then.0, new_both seen.components a.components b.components first.1 then.1)
+both_names : (seen : Seen) (a b : Places) → NamesAreNew seen a → NamesAreNew (seen having a) b → NamesAreNew seen (a followed_by b)
+both_names seen a b first then = (unmet_both seen.blocks a.blocks b.blocks first.0 then.0, unmet_both seen.components a.components b.components first.1 then.1)
 
 -- These names were met, each of them for the first time.
-pub record Named (ns : Names) (old new : Seen) : Type 0 where
+pub record Named (ns : Places) (old new : Seen) : Type 0 where
   pub grown : new ≡ old having ns
   pub fresh : NamesAreNew old ns
 
-pub named_nothing : (old : Seen) → Named no_names old old
+pub named_nothing : (old : Seen) → Named no_places old old
 named_nothing old = record { grown = refl; fresh = (tt, tt) }
 
-pub named_both : (ns ms : Names) {old mid new : Seen} → Named ns old mid → Named ms mid new → Named (ns and_then ms) old new
+pub named_both : (ns ms : Places) {old mid new : Seen} → Named ns old mid → Named ms mid new → Named (ns followed_by ms) old new
 named_both ns ms {old = old} a b = record {
   grown = b.grown ∙ ap (λ k. k having ms) a.grown ∙ having_both old ns ms;
   fresh = both_names old ns ms a.fresh (subst (λ seen. NamesAreNew seen ms) a.grown b.fresh);
 }
 
-pub named_block : (n : List ℕ) (ns : Names) {old new : Seen} → old.blocks n ≡ false → Named ns (old having block_named n) new → Named (block_named n and_then ns) old new
+pub named_block : (n : Name) (ns : Places) {old new : Seen} → met old.blocks n.text ≡ false → Named ns (old having block_placed n) new → Named (block_placed n followed_by ns) old new
 named_block n ns {old = old} unmet a = record {
-  grown = a.grown ∙ having_both old (block_named n) ns;
-  fresh = both_names old (block_named n) ns ((unmet, tt), tt) a.fresh;
+  grown = a.grown ∙ having_both old (block_placed n) ns;
+  fresh = both_names old (block_placed n) ns ((unmet, tt), tt) a.fresh;
 }
 
-pub named_component : (n : List ℕ) (ns : Names) {old new : Seen} → old.components n ≡ false → Named ns (old having component_named n) new → Named (component_named n and_then ns) old new
+pub named_component : (n : ComponentName) (ns : Places) {old new : Seen} → met old.components (component_text n) ≡ false → Named ns (old having component_placed n) new
+    → Named (component_placed n followed_by ns) old new
 named_component n ns {old = old} unmet a = record {
-  grown = a.grown ∙ having_both old (component_named n) ns;
-  fresh = both_names old (component_named n) ns (tt, (unmet, tt)) a.fresh;
+  grown = a.grown ∙ having_both old (component_placed n) ns;
+  fresh = both_names old (component_placed n) ns (tt, (unmet, tt)) a.fresh;
 }
+
+-- The names with their places are the names.
+both_texts : (a b : Places) (x y : Names) → texts_of a ≡ x → texts_of b ≡ y → texts_of (a followed_by b) ≡ x and_then y
+both_texts a b x y first then =
+    let apart : texts_of (a followed_by b) ≡ texts_of a and_then texts_of b = λ i. record {
+      blocks = map-append (λ n. n.text) a.blocks b.blocks i;
+      components = map-append (λ n. n.text) a.components b.components i;
+    } in
+    apart ∙ ap (λ n. n and_then texts_of b) first ∙ ap (λ n. x and_then n) then
+
+mutual
+  pub same_names : (b : Body) → texts_of (places b) ≡ names b
+  same_names Done = refl
+  same_names (Then i b) = both_texts (item_places i) (places b) _ _ (same_item_names i) (same_names b)
+
+  same_item_names : (i : Item) → texts_of (item_places i) ≡ item_names i
+  same_item_names (Single p) = refl
+  same_item_names (Block t n b e m) = both_texts (block_placed n) (places b) _ _ refl (same_names b)
+  same_item_names (Define h b) = both_texts (component_placed h.name) (places b) _ _ refl (same_names b)
+  same_item_names (Capturing c b) = same_names b
+  same_item_names (For t lp b o e) = both_texts (places b) (else_places o) _ _ (same_names b) (same_else_names o)
+  same_item_names (If t c b bs e) = both_texts (places b) (branch_places bs) _ _ (same_names b) (same_branch_names bs)
+
+  same_branch_names : (bs : Branches) → texts_of (branch_places bs) ≡ branch_names bs
+  same_branch_names (Elif t c b bs) = both_texts (places b) (branch_places bs) _ _ (same_names b) (same_branch_names bs)
+  same_branch_names (Last o) = same_else_names o
+
+  same_else_names : (o : Else) → texts_of (else_places o) ≡ else_names o
+  same_else_names NoElse = refl
+  same_else_names (Otherwise t b) = same_names b

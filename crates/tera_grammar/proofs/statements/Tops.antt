@@ -9,9 +9,11 @@ use Rattle.tera_grammar.specs.Options.{◌>>=◌}
 use Rattle.tera_grammar.specs.statements.Reading.Meeting.{nothing_seen}
 use Rattle.tera_grammar.specs.statements.Parts.{Tag}
 use Rattle.tera_grammar.specs.statements.Expressions.{Limits}
-use Rattle.tera_grammar.specs.statements.Grammar.{Text, Shown, Set, Include, Extends, Break, Continue, Body, Done, Then, Item, Single, Block, Define, Capturing, For, If, yield, names}
+use Rattle.tera_grammar.specs.statements.Names.{NamesAreDistinct}
+use Rattle.tera_grammar.specs.statements.Places.{places}
+use Rattle.tera_grammar.specs.statements.Grammar.{Text, Shown, Set, Include, Extends, Break, Continue, Body, Done, Then, Item, Single, Block, Define, Capturing, For, If, yield}
 use Rattle.tera_grammar.specs.statements.Reading.{at, Phase, Starting, Standing, Extending, behind_text, from_start, next_phase, phases, template}
-use Rattle.tera_grammar.proofs.statements.Names.{names_distinct, names_new}
+use Rattle.tera_grammar.proofs.statements.Names.{names_distinct, names_new, same_names}
 use Rattle.tera_grammar.specs.statements.Top.{is_blank, is_silent, is_kept, IsExtends, Each, join, Child, TopLevel, IsTemplate}
 use Rattle.tera_grammar.proofs.Options.{bound, guard_ok}
 use Rattle.tera_grammar.proofs.statements.Found.{body_sound}
@@ -133,7 +135,7 @@ template_sound l ts b h =
     subst (IsTemplate l ts) same (record {
       tokens = found.tokens ∙ ap (yield x.0) (end_is x.1.tokens (guard_ok _ u left));
       fits = found.fits;
-      distinct = names_distinct (names x.0) found.named.fresh;
+      distinct = subst NamesAreDistinct (same_names x.0) (names_distinct (places x.0) found.named.fresh);
       top = top_found x.0 ph phased;
       low = found.height;
     }))))
@@ -143,7 +145,7 @@ pub template_complete : (l : Limits) (ts : Items) (b : Body) → IsTemplate l ts
 unfolding template
 template_complete l ts b h =
     let (ph, phased) = top_read b h.top in
-    rw (h.tokens, whole b l l.bodies [] nothing_seen Ended h.fits h.low (names_new (names b) h.distinct) tt, phased) refl
+    rw (h.tokens, whole b l l.bodies [] nothing_seen Ended h.fits h.low (names_new (places b) (subst NamesAreDistinct (sym (same_names b)) h.distinct)) tt, phased) refl
 
 -- no list of tokens has two
 pub one_template : (l : Limits) (ts : Items) (b c : Body) → IsTemplate l ts b → IsTemplate l ts c → b ≡ c

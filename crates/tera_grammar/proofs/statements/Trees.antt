@@ -86,7 +86,7 @@ both_same e k = λ i. e i ++ k i
 
 -- the blocks of the tree are those of the template
 mutual
-  same_blocks : (b : Body) (l : Limits) (path : Path) (f : Bool) → Fits l path b → blocks (nodes_of (output f b)) ≡ (names b).blocks
+  pub same_blocks : (b : Body) (l : Limits) (path : Path) (f : Bool) → Fits l path b → blocks (nodes_of (output f b)) ≡ (names b).blocks
   same_blocks Done l path f fits = refl
   same_blocks (Then i b) l path f fits =
       blocks-append (added_nodes (added_by f i)) (output f b) ∙ both_same (same_item_blocks i l path f fits.0) (same_blocks b l path f fits.1)
@@ -188,7 +188,7 @@ item_components (For t lp b o e) l fits =
 item_components (If t c b bs e) l fits =
     sym (both_empty (names b).components (branch_names bs).components (no_components b l (InIf ∷ []) refl fits.1) (no_branch_components bs l (InIf ∷ []) refl fits.2))
 
-same_components : (b : Body) (l : Limits) → Fits l [] b → map definition_name (definitions_of b) ≡ (names b).components
+pub same_components : (b : Body) (l : Limits) → Fits l [] b → map definition_name (definitions_of b) ≡ (names b).components
 same_components Done l fits = refl
 same_components (Then i b) l fits =
     map-append definition_name (definitions_by (added_by false i)) (definitions_of b) ∙ both_same (item_components i l fits.0) (same_components b l fits.1)

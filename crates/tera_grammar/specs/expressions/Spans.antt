@@ -1,6 +1,6 @@
 -- Where an expression begins and ends: the spans of its first and of its last token.
 use Rattle.tera_base.specs.declared.utils.Span.{Span}
-use Rattle.tera_grammar.specs.expressions.Concrete.{Name, Sign, Negative, Negates, Tree, Atomic, Prefix, Suffixed, Infix, Atom, Literal, Null, Chain, Call, Paren, Array, Comprehension, Map, Component, Links, no_links, field, item, Sub, index, slice, Row, ended, only, then, Suffix, Test, Filter, Subscript, Args, no_args, args}
+use Rattle.tera_grammar.specs.expressions.Concrete.{Name, Sign, Negative, Negates, Tree, Atomic, Prefix, Suffixed, Infix, Atom, Literal, Null, Chain, Call, Paren, Array, Comprehension, Map, Component, Dotted, no_dots, dots, Links, no_links, field, item, Sub, index, slice, Row, ended, only, then, Suffix, Test, Filter, Subscript, Args, no_args, args}
 
 -- from the start of one to the end of another
 abbrev pub spanning : Span → Span → Span
@@ -35,6 +35,11 @@ abbrev pub links_end : Name → Links → Span
 links_end n no_links = n.span
 links_end n (field d m ls) = links_end m ls
 links_end n (item b s ls) = links_end (record { text = n.text; span = sub_end s }) ls
+
+-- the last of the further names of a component, and this one where there are none
+abbrev pub dotted_end : Span → Dotted → Span
+dotted_end s no_dots = s
+dotted_end s (dots d n ds) = dotted_end n.span ds
 
 abbrev pub suffix_end : Suffix → Span
 suffix_end (Test s n w g) = args_end w g

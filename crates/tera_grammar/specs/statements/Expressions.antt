@@ -11,6 +11,7 @@ use Rattle.tera_grammar.specs.expressions.Concrete.{Tree}
 use Rattle.tera_grammar.specs.expressions.Measures.{Within, EachRow, EachAttribute}
 use Rattle.tera_grammar.specs.expressions.Output as outputs
 use Rattle.tera_grammar.specs.expressions.Conditions as conditions
+use Rattle.tera_grammar.specs.expressions.Spans.{dotted_end}
 use Rattle.tera_grammar.specs.expressions.Companions as companions
 use Rattle.tera_grammar.specs.expressions.Companions.{Opened, Path, EachArgs, ArrayWithin}
 pub use Rattle.tera_grammar.specs.Limits.{Limits}
@@ -78,6 +79,10 @@ attributes_output in_loop a = outputs.attributes_output in_loop a
 
 unfoldable pub component_text : ComponentName → List ℕ
 component_text n = companions.path_output n
+
+-- where its last part stands
+unfoldable pub component_span : ComponentName → Span
+component_span n = dotted_end n.name.span n.further
 
 unfoldable pub array_output : LiteralArray → Vals
 array_output a = a.1

@@ -8,7 +8,8 @@ use Rattle.tera_grammar.specs.expressions.Reading.Front.{takes, taken_name, Take
 use Rattle.tera_grammar.specs.expressions.Operators.{GreaterThan}
 use Rattle.tera_grammar.specs.expressions.Marks.{Assign, Operation}
 use Rattle.tera_grammar.specs.Options.{◌>>=◌, guard}
-use Rattle.tera_grammar.specs.statements.Names.{agrees, block_named, component_named}
+use Rattle.tera_grammar.specs.statements.Names.{agrees}
+use Rattle.tera_grammar.specs.statements.Places.{block_placed, component_placed}
 use Rattle.tera_grammar.specs.statements.Parts.{Edge, Name, Tag, Opener, OpensSet, OpensInclude, OpensExtends, OpensBlock, OpensFor, OpensIf, OpensFilter, OpensComponent, OpensBreak, OpensContinue, OpensCall, AtElif, AtElse, AtEndSet, AtEndBlock, AtEndFor, AtEndIf, AtEndFilter, AtEndCall}
 use Rattle.tera_grammar.specs.statements.Expressions.{Limits, Filtering, Attributes, ComponentName, component_text}
 use Rattle.tera_grammar.specs.statements.Reading.Expressions.{expression_of, filter_of, attributes_of, component_of}
@@ -16,7 +17,7 @@ use Rattle.tera_grammar.specs.statements.Heads.{Filters, Capture, SetBody, Secti
 use Rattle.tera_grammar.specs.statements.Grammar.{Plain, Text, Shown, Set, Include, Extends, Break, Continue, Body, Done, Then, Item, Single, Block, Define, Capturing, For, If, Branches, Elif, Last, Else, NoElse, Otherwise, InFor, InForElse, InBlock, InIf, InComponent, InCapture, Path, may_block, may_break, in_loop, is_outermost, text_if_any}
 use Rattle.tera_grammar.specs.statements.Top.{is_blank, is_kept}
 use Rattle.tera_grammar.specs.statements.Reading.Parts.{Front, Ends, Closes, Holds, Shows, Opens, Wrong, front, name_if_any, finish_of, variable_end_of, tag, closed, closed_tag}
-use Rattle.tera_grammar.specs.statements.Reading.Meeting.{Seen, nothing_seen, ◌having◌}
+use Rattle.tera_grammar.specs.statements.Reading.Meeting.{Seen, met, nothing_seen, ◌having◌}
 use Rattle.tera_grammar.specs.statements.Reading.Heads.{free_name, loop_of, filters_of}
 use Rattle.tera_grammar.specs.statements.Reading.Components.{opened_of, ending_of}
 pub mod Expressions
@@ -101,15 +102,15 @@ block_end n items =
 
 unfoldable pub block_of : Reader → Path → Edge → Span → Seen → Items → Reads Item
 block_of self path start first seen items =
-    guard (may_block path) >>= λ u. taken_name items >>= λ n. guard (not (seen.blocks n.0.text)) >>= λ v.
-    finish_of n.1 >>= λ f. self (InBlock ∷ path) (at (seen having block_named n.0.text) f.1) >>= λ b.
+    guard (may_block path) >>= λ u. taken_name items >>= λ n. guard (not (met seen.blocks n.0.text)) >>= λ v.
+    finish_of n.1 >>= λ f. self (InBlock ∷ path) (at (seen having block_placed n.0) f.1) >>= λ b.
     block_end n.0 b.1.tokens >>= λ e.
     Some (Block (tag start first f.0) n.0 b.0 e.0.0 e.0.1, at b.1.seen e.1)
 
 unfoldable pub component_def_of : Limits → Reader → Path → Edge → Span → Seen → Items → Reads Item
 component_def_of l self path start first seen items =
-    guard (is_outermost path) >>= λ u. opened_of l seen.components items >>= λ o.
-    self (InComponent ∷ path) (at (seen having component_named (component_text o.0.name)) o.1) >>= λ b.
+    guard (is_outermost path) >>= λ u. opened_of l (met seen.components) items >>= λ o.
+    self (InComponent ∷ path) (at (seen having component_placed o.0.name) o.1) >>= λ b.
     ending_of start first o.0 b.1.tokens >>= λ h.
     Some (Define h.0 b.0, at b.1.seen h.1)
 

@@ -12,6 +12,7 @@ use Rattle.tera_grammar.specs.statements.Parts.{Tag}
 use Rattle.tera_grammar.specs.statements.Expressions.{Limits}
 use Rattle.tera_grammar.specs.statements.Grammar.{Text, Extends, Body, Done, Then, Item, Single, Block, Define, yield, Fits, names, height}
 use Rattle.tera_grammar.specs.statements.Output.{output_of}
+use Rattle.tera_grammar.specs.statements.Places.{Places, places}
 
 abbrev pub is_empty : List ℕ → Bool
 is_empty [] = true
@@ -75,3 +76,8 @@ pub record IsTemplate (l : Limits) (items : Items) (b : Body) : Type 0 where
 abbrev pub Derives : Limits → Marks → List ℕ → Output → Type 0
 Derives l m source output = (pieces : List Piece) × IsDivision m pieces Complete source
     × ((b : Body) × IsTemplate l (tokens_of m [] [] pieces Complete) b × (output ≡ output_of b))
+
+-- The source has a derivation with this output, whose template defines these names at these places.
+abbrev pub DerivesNames : Limits → Marks → List ℕ → Output → Places → Type 0
+DerivesNames l m source output names = (pieces : List Piece) × IsDivision m pieces Complete source
+    × ((b : Body) × IsTemplate l (tokens_of m [] [] pieces Complete) b × (output ≡ output_of b) × (names ≡ places b))

@@ -1,7 +1,10 @@
--- The names that a reading has met. It asks of a name only whether it was met.
-use Rattle.std.specs.Prelude.{ℕ, Bool, false, ◌||◌, List, [], ◌∷◌}
+-- The names that a reading has met. Of a parameter it asks only whether its name was met; of blocks and of components it
+-- keeps where each stands.
+use Rattle.std.specs.Prelude.{ℕ, Bool, false, ◌||◌, cond, List, [], ◌∷◌, Option, Some, None, is_some}
 use Rattle.std.specs.Str.{bytes_eq}
-use Rattle.tera_grammar.specs.statements.Names.{Names}
+use Rattle.tera_base.specs.declared.utils.Span.{Span}
+use Rattle.tera_grammar.specs.statements.Parts.{Name}
+use Rattle.tera_grammar.specs.statements.Places.{Places}
 
 -- whether a name was met
 abbrev pub Met : Type 0
@@ -14,19 +17,33 @@ nothing_met = λ name. false
 abbrev pub meet : List ℕ → Met → Met
 meet new met = λ name. bytes_eq new name || met name
 
+-- where a name was met, if it was
+abbrev pub Located : Type 0
+Located = List ℕ → Option Span
+
+abbrev pub nothing_located : Located
+nothing_located = λ name. None
+
+-- one name more is met, at its place
+abbrev pub locate : Name → Located → Located
+locate new located = λ name. cond (bytes_eq new.text name) (Some new.span) (located name)
+
 -- more are met, one after another
-abbrev pub meet_all : List (List ℕ) → Met → Met
-meet_all [] met = met
-meet_all (name ∷ names) met = meet_all names (meet name met)
+abbrev pub locate_all : List Name → Located → Located
+locate_all [] located = located
+locate_all (name ∷ names) located = locate_all names (locate name located)
+
+abbrev pub met : Located → Met
+met located = λ name. is_some (located name)
 
 -- of blocks, and of components
 pub record Seen : Type 0 where
-  pub blocks : Met
-  pub components : Met
+  pub blocks : Located
+  pub components : Located
 
 abbrev pub nothing_seen : Seen
-nothing_seen = record { blocks = nothing_met; components = nothing_met }
+nothing_seen = record { blocks = nothing_located; components = nothing_located }
 
 infixl 50 ◌having◌
-abbrev pub ◌having◌ : Seen → Names → Seen
-seen having names = record { blocks = meet_all names.blocks seen.blocks; components = meet_all names.components seen.components }
+abbrev pub ◌having◌ : Seen → Places → Seen
+seen having places = record { blocks = locate_all places.blocks seen.blocks; components = locate_all places.components seen.components }

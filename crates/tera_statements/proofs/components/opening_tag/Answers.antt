@@ -43,5 +43,5 @@ returns-clause-gives c =
     let (f, ended) = c.in_ok-finish.ensures.gives in (
       record { name = n; paren = c.expect.new.cursor.span; parameters = ps; metadata = m; finish = f },
       opened_given _ _ _ n _ named _ _ c.in_ok-expect.ensures.gives ps _ listed m _ given f _ ended,
-      (is, are, holds),
+      ((is.0, are, holds), is.1),
     )

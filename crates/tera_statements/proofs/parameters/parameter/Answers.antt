@@ -5,9 +5,10 @@ use Rattle.tera_grammar.specs.statements.Reading.Meeting.{meet}
 use Rattle.tera_statements.specs.Known.{met_of}
 use Rattle.tera_statements.specs.Parameters.{has_default}
 use Rattle.tera_expr_parts.specs.Rooms.{limits_of}
-use Rattle.tera_expect.specs.Taking.{name_at}
+use Rattle.tera_expect.specs.Taking.{name_at, name_in}
 use Rattle.tera_statements.proofs.ParametersLemmas.{annotation_known, argument_is, at_behind, at_read, mistyped, no_annotation, no_assigned, no_fresh_name, parameter_given}
 use Rattle.tera_expect.proofs.Steps.{failed_as, fails_by}
+use Rattle.tera_statements.proofs.KnownLemmas.{kept_met}
 use Rattle.tera_statements.proofs.parameters.parameter.Goals as goal
 
 pub returns-in_err-name-clause-gives : goal.returns-in_err-name-clause-gives
@@ -69,4 +70,4 @@ returns-clause-gives c =
     )
 
 pub returns-clause-kept : goal.returns-clause-kept
-returns-clause-kept c = c.in_ok-keep_name.ensures.kept ∙ ap (λ t. meet t (met_of c.args.seen.now)) (sym c.in_ok-from_str.ensures.ok)
+returns-clause-kept c = kept_met c.args.seen.now c.keep_name.new.names (name_in c.in_ok-name.name.now c.current_span.result.now) c.in_ok-keep_name.ensures.kept ∙ ap (λ t. meet t (met_of c.args.seen.now)) (sym c.in_ok-from_str.ensures.ok)

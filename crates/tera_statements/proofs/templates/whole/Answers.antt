@@ -49,9 +49,10 @@ returns-clause-gives c =
     let l = limits_of c.args.setting.now.limits in
     let none = rw c.in_default.is at c.in_ok-next.ensures.gives in
     let left = ap (λ (p : Place). is_end p.tokens) (sym none.1) ∙ sym c.at_end.ensures ∙ c.if-not-at_end.false in
-    let (b, read, shows) = topping_ends l (below_top l) (opens l c.args.setting.now.valid) c.args.cursor.now.left (here c.items.names c.items.cursor) (output_view c.items.output)
+    let (b, read, shows, named) = topping_ends l (below_top l) (opens l c.args.setting.now.valid) c.args.cursor.now.left (here c.items.names c.items.cursor) (output_view c.items.output)
     (phase_of c.items.phase) c.items.invariant.top none.0 left in
-    (b, read, none.2 ∙ shows)
+    let stays = ap (λ (p : Place). p.seen) none.1 in
+    (b, read, none.2 ∙ shows, stays ∙ named)
 
 pub returns-then-not-at_end-clause-gives : goal.returns-then-not-at_end-clause-gives
 returns-then-not-at_end-clause-gives c =

@@ -1,74 +1,19 @@
-use Rattle.std.proofs.Common.{◌≡◌, refl, sym, ap, ◌∙◌, subst}
-use Rattle.std.specs.Prelude.{◌⊎◌}
-use Rattle.tera_base.specs.ErrorView.{error_view}
-use Rattle.tera_base.specs.Errors.{IsMemory}
-use Rattle.tera_grammar.specs.statements.Grammar.{Body}
-use Rattle.tera_grammar.specs.statements.Output.{output_of}
-use Rattle.tera_grammar.specs.statements.Top.{Derives, IsTemplate}
-use Rattle.tera_grammar.proofs.statements.Wholes.{derives_unique}
-use Rattle.tera_lexer.specs.code.Cursors.{RefusesFrom}
-use Rattle.tera_lexer.specs.grammar.Marks.{IsValid}
-use Rattle.tera_lexer.specs.grammar.Tokens.{AreTokensOf}
-use Rattle.tera_statements.specs.Outputs.{output_view}
-use Rattle.tera_statements.specs.Templates.{GivesTemplate}
-use Rattle.tera_parser.specs.Job.{Job}
-use Rattle.tera_parser.specs.Notes.{error_about}
-use Rattle.tera_parser.specs.Refusal.{Refuses}
-use Rattle.tera_parser.proofs.About.{memory_about, notes_name}
-use Rattle.tera_parser.proofs.Wholes.{comments_tokens, derives, refused, refuses, refuses_about}
+use Rattle.std.proofs.lemmas.Result.{err_from_is_err_and}
+use Rattle.tera_grammar.proofs.statements.Wholes.{derived, names_derived}
 use Rattle.tera_parser.proofs.parsing.Parser.parse.Goals as goal
-use Rattle.tera_parser.proofs.parsing.Parser.parse.Goals.{After-in_file, After-new-cursor, In-Ok}
 
-valid : (c : After-new-cursor) → IsValid c.args.self.marks
-valid c = subst (λ (j : Job). IsValid j.marks) c.self.view_is c.self.invariant.0
+pub returns-clause-sound : goal.returns-clause-sound
+returns-clause-sound c =
+    let (ns, read, named) = c.in_ok-output.ensures.sound in
+    derived _ _ _ _ ns read
 
--- the tokens that the cursor has left are those of the source
-are : (c : After-new-cursor) → AreTokensOf c.args.self.marks c.args.self.source c.new-cursor.result.left
-are c =
-    let given = subst (λ (j : Job). AreTokensOf j.marks j.source c.tokenize-tokens.result.left) c.self.view_is c.tokenize-tokens.ensures.tokens in
-    subst (AreTokensOf c.args.self.marks c.args.self.source) (sym c.new-cursor.ensures.left) given
+pub returns-clause-complete : goal.returns-clause-complete
+returns-clause-complete c = λ output d.
+    let (ns, read) = names_derived _ _ _ output d in
+    (c.in_ok-output.ensures.complete output ns read).0
 
--- what was read is derived
-derived : (c : In-Ok) → IsValid c.args.self.marks → AreTokensOf c.args.self.marks c.args.self.source c.new-cursor.result.left
-    → Derives c.args.self.limits c.args.self.marks c.args.self.source (output_view c.in-Ok.output)
-derived c valid are =
-    let (b, is, same) = subst (λ (j : Job). (b : Body) × IsTemplate j.limits c.new-cursor.result.left b × (output_view c.in-Ok.output ≡ output_of b)) c.self.view_is c.in-Ok.ensures.gives in
-    derives _ valid _ _ are c.args.self.limits b is _ same
-
-pub returns-in-Ok-clause-sound : goal.returns-in-Ok-clause-sound
-returns-in-Ok-clause-sound c =
-    let at = goal.at.returns-in-Ok-clause-sound c in
-    derived at.In-Ok (valid at.After-new-cursor) (are at.After-new-cursor)
-
-pub returns-in-Ok-clause-complete : goal.returns-in-Ok-clause-complete
-returns-in-Ok-clause-complete c = λ output d.
-    let at = goal.at.returns-in-Ok-clause-complete c in
-    derives_unique c.args.self.limits _ (valid at.After-new-cursor) _ _ output (derived at.In-Ok (valid at.After-new-cursor) (are at.After-new-cursor)) d
-
--- what is answered is the error that was met, whose notes are about the parser's file
-named : (c : After-in_file) → IsMemory c.in_file.result ⊎ (error_view c.in_file.result ≡ error_about c.args.self.filename (error_view c.in-Err.error))
-named c =
-    subst (λ (j : Job). IsMemory c.in_file.result ⊎ (error_view c.in_file.result ≡ error_about j.filename (error_view c.in-Err.error))) c.self.view_is c.in_file.ensures
-
-pub returns-in-Err-clause-complete : goal.returns-in-Err-clause-complete
-returns-in-Err-clause-complete c = λ output d.
-    let at = (goal.at.returns-in-Err-clause-complete c).After-new-cursor in
-    let why = subst (λ (j : Job). IsMemory c.in-Err.error ⊎ ((b : Body) → IsTemplate j.limits c.new-cursor.result.left b → ⊥)) c.self.view_is c.in-Err.ensures.gives in
-    memory_about c.args.self.filename c.in-Err.error c.in_file.result (named (goal.at.returns-in-Err-clause-complete c).After-in_file)
-    (refused _ (valid at) _ _ (are at) c.args.self.limits c.in-Err.error why output d)
-
-pub returns-in-Err-clause-refusal : goal.returns-in-Err-clause-refusal
-returns-in-Err-clause-refusal c =
-    let at = (goal.at.returns-in-Err-clause-refusal c).After-new-cursor in
-    let whole = c.new-cursor.ensures.source ∙ c.tokenize-tokens.ensures.source ∙ ap (λ (j : Job). j.source) c.self.view_is in
-    refuses_about _ _ c.args.self.filename c.in-Err.error c.in_file.result (named (goal.at.returns-in-Err-clause-refusal c).After-in_file)
-    (refuses c.args.self.marks (valid at) c.args.self.source c.new-cursor.result.left (are at) c.new-cursor.result refl whole c.in-Err.error c.in-Err.ensures.refusal)
-
-pub returns-in-Err-clause-notes : goal.returns-in-Err-clause-notes
-returns-in-Err-clause-notes c =
-    notes_name c.args.self.filename c.in-Err.error c.in_file.result (named (goal.at.returns-in-Err-clause-notes c).After-in_file)
-
-pub returns-in-Err-clause-empty : goal.returns-in-Err-clause-empty
-returns-in-Err-clause-empty c = λ empty.
-    let at = (goal.at.returns-in-Err-clause-empty c).After-new-cursor in
-    absurd (c.in-Err.ensures.empty (comments_tokens _ (valid at) _ _ (are at) empty))
+pub returns-in_err-output-clause-complete : goal.returns-in_err-output-clause-complete
+returns-in_err-output-clause-complete c = λ output d.
+    let p = err_from_is_err_and c.from_residual.result c.from_residual.ensures.1 in
+    let (ns, read) = names_derived _ _ _ output d in
+    rw (p.1, p.2) (c.in_err-output.ensures.complete output ns read)
