@@ -5,6 +5,4 @@ pub mod Named
 pub mod Objects
 pub mod Parts
 pub mod Passed
-pub mod Reached
 pub mod Rules
-pub mod Tags

@@ -5,12 +5,13 @@ use Rattle.std.specs.BTreeMap.{BTreeMap, get_by_text}
 use Rattle.std.specs.Option.{option_map}
 use Rattle.std.specs.Str.{bytes_eq}
 use Rattle.tera_base.specs.declared.errors.Error.{Error}
+use Rattle.tera_base.specs.declared.utils.Span.{Span}
 use Rattle.tera_statements.specs.declared.outputs.ParserOutput.{ParserOutput}
 use Rattle.std.specs.List.{flat_map}
 use Rattle.tera_tree.specs.Tree.{Definition, Output}
 use Rattle.tera_tree.specs.View.{definition_view}
 use Rattle.tera_check.specs.Calls.{calls_of}
-use Rattle.tera_check.specs.Findings.{FindingVal}
+use Rattle.tera_check.specs.Findings.{FindingVal, place_of}
 use Rattle.tera_check.specs.Judged.{KnownVal, known_view, call_findings, again_findings}
 use Rattle.tera_check.specs.declared.catalogue.Known.{Known}
 use Rattle.tera_check.specs.declared.finding.Place.{Place}
@@ -19,6 +20,11 @@ use Rattle.tera_check.specs.declared.templates.Template.{Template}
 -- what a catalogue has under a name
 abbrev pub known_in : BTreeMap (String Global) Known → List ℕ → Option KnownVal
 known_in catalogue n = option_map known_view (get_by_text catalogue n)
+
+-- where a component stands; the beginning of the file where that is not known
+abbrev pub place_if_any : Option Span → Place
+place_if_any None = record { line = 1; column = 1 }
+place_if_any (Some span) = place_of span
 
 -- where a template defines its component of a number, from 0; the beginning of the file where that is not known
 abbrev pub place_at : Template → ℕ → Place

@@ -2,27 +2,24 @@
 //!
 //! It takes templates that were read. What it finds are the fault of each (`IsOfError`), or what is found in its tree
 //! (`tree_findings`); and it writes findings as lines (`lines_of`) or objects of JSON (`object_of`). It stands on
-//! `tera_parser`, and names nothing below that in its code; of the kit on `json` and on `memchr`, which searches.
+//! `tera_parser`, and names nothing below that in its code; of the kit on `json`.
 //!
-//! In the order of reading: specs `Findings`, `Calls`, `Passed`, `Judged`, `Named`, `Rules`, `Objects`; `templates` and
-//! `definitions`, which read, by `tags` and `reached` (specs `Tags` and `Reached`); `catalogue`; `calls`, over a stack
-//! of parts (specs `Parts`); `passed`, `arguments` and `messages`, of one call; `checked`, of a template; `finding`,
-//! `faults`, `lines` and `objects`.
+//! In the order of reading: specs `Findings`, `Calls`, `Passed`, `Judged`, `Named`, `Rules`, `Objects`; `templates`,
+//! which reads, and `places`; `catalogue`; `calls`, over a stack of parts (specs `Parts`); `passed`, `arguments` and
+//! `messages`, of one call; `checked`, of a template; `finding`, `faults`, `lines` and `objects`.
 #![tactic(auto)]
 
 mod arguments;
 mod calls;
 mod catalogue;
 mod checked;
-mod definitions;
 mod faults;
 mod finding;
 mod lines;
 mod messages;
 mod objects;
 mod passed;
-mod reached;
-mod tags;
+mod places;
 mod templates;
 
 pub use calls::calls_of;

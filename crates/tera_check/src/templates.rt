@@ -1,22 +1,24 @@
 //! Templates that are read.
 
-ghost use Rattle.std.specs.Prelude.{◌≡◌, IfOk, IfErr, MatchResult, string_bytes};
+ghost use Rattle.std.specs.Prelude.{◌≡◌, [], IfOk, IfErr, MatchResult, map, string_bytes};
 ghost use Rattle.tera_base.specs.Errors.{IsMemory};
 ghost use Rattle.tera_lexer.specs.grammar.Marks.{default_marks};
 ghost use Rattle.tera_grammar.specs.Limits.{usual};
-ghost use Rattle.tera_grammar.specs.statements.Top.{Derives};
+ghost use Rattle.tera_grammar.specs.statements.Places.{Places};
+ghost use Rattle.tera_grammar.specs.statements.Top.{Derives, DerivesNames};
 ghost use Rattle.tera_parser.specs.Notes.{NotesName};
 ghost use Rattle.tera_parser.specs.Refusal.{Refuses};
+ghost use Rattle.tera_statements.specs.Known.{AreNames};
 ghost use Rattle.tera_statements.specs.Outputs.{output_view};
 ghost use Rattle.tera_tree.specs.Tree.{Output};
-ghost use Rattle.tera_check.specs.Reached.{definition_count};
+ghost use Rattle.tera_check.specs.Findings.{place_of};
 
-use crate::definitions::definition_places;
 use crate::finding::Place;
+use crate::places::places_of;
 use std::alloc::{AllocError, Global};
 use tera_parser::lexer::Delimiters;
 use tera_parser::value::Error;
-use tera_parser::{Parser, ParserOutput};
+use tera_parser::{Names, Parser, ParserOutput};
 
 /// A template that was read, between the usual markers and within the usual limits.
 #[derive(Drop)]
@@ -25,7 +27,7 @@ pub struct Template {
     pub file: String,
     /// Its tree, or its fault.
     pub parsed: Result<ParserOutput, Error>,
-    /// Where each of its components is defined.
+    /// Where each of its components is defined: the last part of its name. A template with a fault defines none.
     pub defined_at: Vec<Place>,
 }
 
@@ -38,34 +40,41 @@ pub fn read_template(alloc: Global, file: &str, source: &str) -> Result<Template
         IfOk result (λ t. MatchResult t.parsed (λ o. output_view o ≡ output) IsMemory) }
     ensures refusal { IfOk result (λ t. IfErr t.parsed (Refuses default_marks source.now)) }
     ensures notes { IfOk result (λ t. IfErr t.parsed (NotesName file.now)) }
+    ensures places { IfOk result (λ t. MatchResult t.parsed
+        (λ o. (names : Places) × DerivesNames usual default_marks source.now (output_view o) names
+        × (t.defined_at.items ≡ map (λ n. place_of n.span) names.components))
+        (λ _. t.defined_at.items ≡ [])) }
 {
     let name = String::from_str(alloc, file)?;
-    let parsed = parsed(alloc, file, source);
-    let defined_at = definition_places(alloc, source, definition_count(&parsed))?;
-    Ok(Template {
-        file: name,
-        parsed,
-        defined_at,
-    })
-}
-
-// How many components the tree defines, if there is one.
-fn definition_count(parsed: &Result<ParserOutput, Error>) -> Option<usize>
-    ensures { result ≡ definition_count parsed.now }
-{
-    match parsed {
-        Ok(output) => Some(output.component_definitions.len()),
-        Err(_) => None,
+    match parsed(alloc, file, source) {
+        Ok((output, names)) => {
+            let defined_at = places_of(alloc, &names, &output.component_definitions)?;
+            Ok(Template {
+                file: name,
+                parsed: Ok(output),
+                defined_at,
+            })
+        }
+        Err(error) => {
+            Ok(Template {
+                file: name,
+                parsed: Err(error),
+                defined_at: Vec::new(alloc),
+            })
+        }
     }
 }
 
-fn parsed(alloc: Global, file: &str, source: &str) -> Result<ParserOutput, Error>
-    ensures sound { IfOk result (λ o. Derives usual default_marks source.now (output_view o)) }
-    ensures complete { (output : Output) → Derives usual default_marks source.now output →
-        MatchResult result (λ o. output_view o ≡ output) IsMemory }
+fn parsed(alloc: Global, file: &str, source: &str) -> Result<(ParserOutput, Names), Error>
+    ensures sound { IfOk result (λ p. (names : Places)
+        × DerivesNames usual default_marks source.now (output_view p.0) names
+        × AreNames p.1 names) }
+    ensures complete { (output : Output) (names : Places) →
+        DerivesNames usual default_marks source.now output names →
+        MatchResult result (λ p. (output_view p.0 ≡ output) × AreNames p.1 names) IsMemory }
     ensures refusal { IfErr result (Refuses default_marks source.now) }
     ensures notes { IfErr result (NotesName file.now) }
 {
     let parser = Parser::new(alloc, file, source, Delimiters::default());
-    parser.parse()
+    parser.parse_with_names()
 }

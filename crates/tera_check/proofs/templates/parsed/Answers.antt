@@ -2,10 +2,12 @@ use Rattle.std.proofs.Common.{◌≡◌, ◌∙◌, ℕ, List, IfOk, IfErr, Matc
 use Rattle.tera_base.specs.Errors.{IsMemory}
 use Rattle.tera_lexer.specs.grammar.Marks.{Marks, default_marks}
 use Rattle.tera_grammar.specs.Limits.{Limits, usual}
-use Rattle.tera_grammar.specs.statements.Top.{Derives}
+use Rattle.tera_grammar.specs.statements.Places.{Places}
+use Rattle.tera_grammar.specs.statements.Top.{DerivesNames}
 use Rattle.tera_parser.specs.Job.{Job}
 use Rattle.tera_parser.specs.Notes.{NotesName}
 use Rattle.tera_parser.specs.Refusal.{Refuses}
+use Rattle.tera_statements.specs.Known.{AreNames}
 use Rattle.tera_statements.specs.Outputs.{output_view}
 use Rattle.tera_tree.specs.Tree.{Output}
 use Rattle.tera_check.proofs.templates.parsed.Goals as goal
@@ -19,16 +21,17 @@ job l name a b s j is marks P p =
 
 pub returns-clause-sound : goal.returns-clause-sound
 returns-clause-sound c =
-    job usual _ _ default_marks c.args.source.now c.new-parser.result c.new-parser.ensures c.default.ensures.0 (λ l m s. IfOk c.parse.result (λ o. Derives l m s (output_view o))) c.parse.ensures.sound
+    job usual _ _ default_marks c.args.source.now c.new-parser.result c.new-parser.ensures c.default.ensures.0
+    (λ l m s. IfOk c.parse_with_names.result (λ p. (names : Places) × DerivesNames l m s (output_view p.0) names × AreNames p.1 names)) c.parse_with_names.ensures.sound
 
 pub returns-clause-refusal : goal.returns-clause-refusal
 returns-clause-refusal c =
-    job usual _ _ default_marks c.args.source.now c.new-parser.result c.new-parser.ensures c.default.ensures.0 (λ l m s. IfErr c.parse.result (Refuses m s)) c.parse.ensures.refusal
+    job usual _ _ default_marks c.args.source.now c.new-parser.result c.new-parser.ensures c.default.ensures.0 (λ l m s. IfErr c.parse_with_names.result (Refuses m s)) c.parse_with_names.ensures.refusal
 
 pub returns-clause-complete : goal.returns-clause-complete
 returns-clause-complete c =
     job usual _ _ default_marks c.args.source.now c.new-parser.result c.new-parser.ensures c.default.ensures.0
-    (λ l m s. (output : Output) → Derives l m s output → MatchResult c.parse.result (λ o. output_view o ≡ output) IsMemory) c.parse.ensures.complete
+    (λ l m s. (output : Output) (names : Places) → DerivesNames l m s output names → MatchResult c.parse_with_names.result (λ p. (output_view p.0 ≡ output) × AreNames p.1 names) IsMemory) c.parse_with_names.ensures.complete
 
 pub returns-clause-notes : goal.returns-clause-notes
-returns-clause-notes c = subst (λ f. IfErr c.parse.result (NotesName f)) (ap (λ (k : Job). k.filename) c.new-parser.ensures) c.parse.ensures.notes
+returns-clause-notes c = subst (λ f. IfErr c.parse_with_names.result (NotesName f)) (ap (λ (k : Job). k.filename) c.new-parser.ensures) c.parse_with_names.ensures.notes

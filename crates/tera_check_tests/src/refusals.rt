@@ -1,0 +1,53 @@
+//! Templates that are read where memory is refused.
+
+use scarce_memory::{Attempt, Seen, Verdict, refuse};
+use std::alloc::Global;
+use std::test::Fail;
+use tera_check::{Template, read_template};
+use tera_parser::value::ErrorKind;
+
+// Definitions, blocks, calls, and a fault.
+const SOURCES: [&str; 4] = [
+    "",
+    "{% component ui.button(label: string, size: integer = 1) %}{{ label }}{% endcomponent %}{% component b() %}{% endcomponent %}",
+    "{% block a %}{% block b %}{{<ui.button label=\"x\"/>}}{% endblock %}{% endblock a %}",
+    "{% component a() %}{% endcomponent %}\n{% component a() %}{% endcomponent %}",
+];
+
+// A source, and what is read with ample memory.
+#[derive(Drop)]
+struct Reading<'a> {
+    source: &'a str,
+    wanted: &'a Template,
+}
+
+impl Attempt for Reading<'_> {
+    fn attempt(&self, alloc: Global) -> Seen {
+        match read_template(alloc, "t", self.source) {
+            Ok(read) => seen(&read, self.wanted),
+            Err(_) => Seen::Memory,
+        }
+    }
+}
+
+fn seen(read: &Template, wanted: &Template) -> Seen {
+    match &read.parsed {
+        Err(error) if error.kind == ErrorKind::Memory => Seen::Memory,
+        _ => Seen::answer(read.parsed == wanted.parsed && read.defined_at == wanted.defined_at),
+    }
+}
+
+#[test]
+fn each_request_of_memory_may_be_refused(rt: HostRuntime) -> Result<(), Fail> {
+    for source in SOURCES {
+        let wanted = read_template(rt.alloc(), "t", source)?;
+        let reading = Reading {
+            source,
+            wanted: &wanted,
+        };
+        let verdict = refuse(rt.alloc(), &reading)?;
+        let is_refused = matches!(verdict, Verdict::Refused(n) if n > 0);
+        assert!(rt; is_refused, "{source}");
+    }
+    Ok(())
+}
