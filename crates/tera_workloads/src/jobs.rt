@@ -23,6 +23,8 @@ use tera_tree_json::tree_json;
 pub(crate) enum Job {
     /// Reads the templates of a site.
     Read,
+    /// Reads them, with the whole tree of one in forty alone in the digest.
+    ReadTops,
     /// Reads them, and lays them out.
     Format,
     /// Checks libraries of components, and the templates that call them.
@@ -55,7 +57,8 @@ fn do_once(
     number: u64,
 ) -> Result<(), AllocError> {
     match job {
-        Job::Read => read(alloc, digest, draws, number),
+        Job::Read => read(alloc, digest, draws, number, true),
+        Job::ReadTops => read(alloc, digest, draws, number, number % 40 == 0),
         Job::Format => laid_out(alloc, digest, draws, number),
         Job::Check => checked(alloc, digest, draws, number),
         Job::HandOn => handed_on(alloc, digest, draws, number),
@@ -71,7 +74,7 @@ fn do_all(
     draws: &mut Draws,
     number: u64,
 ) -> Result<(), AllocError> {
-    read(alloc, digest, draws, number)?;
+    read(alloc, digest, draws, number, true)?;
     laid_out(alloc, digest, draws, number)?;
     checked(alloc, digest, draws, number)?;
     handed_on(alloc, digest, draws, number)?;
@@ -92,18 +95,19 @@ fn parsed(alloc: Global, source: &str) -> Result<ParserOutput, Error> {
     Parser::new(alloc, "page.html", source, Delimiters::default()).parse()
 }
 
-// Reads a source. Of one in forty the whole tree is in the digest, of the others its top.
+// Reads a source. The top of its tree is in the digest, and where that is wanted the whole.
 fn read(
     alloc: Global,
     digest: &mut Digest,
     draws: &mut Draws,
     number: u64,
+    is_whole: bool,
 ) -> Result<(), AllocError> {
     let source = next_source(alloc, draws, number)?;
     match parsed(alloc, source.as_str()) {
         Ok(output) => {
             put_output(digest, &output);
-            if number % 40 == 0 {
+            if is_whole {
                 put_text(alloc, digest, &output);
             }
         }

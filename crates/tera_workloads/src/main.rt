@@ -30,6 +30,7 @@ struct Asked {
 fn job_of(word: &str) -> Option<Job> {
     match word {
         "read" => Some(Job::Read),
+        "read_tops" => Some(Job::ReadTops),
         "format" => Some(Job::Format),
         "check" => Some(Job::Check),
         "hand_on" => Some(Job::HandOn),
@@ -57,7 +58,7 @@ fn asked_of(rt: &HostRuntime) -> Option<Asked> {
 fn run(rt: &HostRuntime) -> u8 {
     let Some(Asked { job, count, seed }) = asked_of(rt) else {
         let _ = eprintln!(rt;
-            "usage: tera_workloads read|format|check|hand_on|list|awkward|all COUNT SEED"
+            "usage: tera_workloads read|read_tops|format|check|hand_on|list|awkward|all COUNT SEED"
         );
         return 2;
     };
