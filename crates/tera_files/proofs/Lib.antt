@@ -1,0 +1,5 @@
+pub mod BelowLemmas
+pub mod FindingLemmas
+pub mod ListingLemmas
+pub mod NameLemmas
+pub mod TextLemmas

@@ -1,0 +1,6 @@
+pub mod Below
+pub mod Finding
+pub mod Listing
+pub mod Names
+pub mod Paths
+pub mod Reading

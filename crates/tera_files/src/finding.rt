@@ -1,0 +1,128 @@
+//! Which files the paths of a command line mean.
+
+ghost use Rattle.std.specs.Prelude.{◌≡◌, ◌⊎◌, ◌<◌, [], Contains, IfOk, OnOk, length, vec_len};
+ghost use Rattle.tera_files.specs.Below.{Tells};
+ghost use Rattle.tera_files.specs.Finding.{AddsAll, IsFound, input};
+ghost use Rattle.tera_files.specs.Listing.{files_in, IsAdded, IsStarted};
+ghost use Rattle.tera_files.specs.Names.{texts};
+
+use crate::below::{fault, templates_below};
+use crate::listing::Listing;
+use std::alloc::AllocError;
+use std::rt::Files;
+use std::{fs, io};
+
+/// How paths are understood.
+#[derive(Clone, Copy, Debug)]
+pub struct Sought<'a> {
+    /// How the names of templates end in a folder, without the point.
+    pub extensions: &'a [&'a str],
+    /// The file that standard input stands for, or `-`.
+    pub stdin: &'a str,
+}
+
+/// The files that some paths mean.
+#[derive(Debug, Drop)]
+pub struct Found {
+    /// Each once, in the order of the paths, those below a folder by the bytes of their paths.
+    pub files: Vec<String>,
+    /// What could not be listed.
+    pub unlisted: Vec<Unlisted>,
+}
+
+/// A folder of which not all could be listed, and why. Without an error it holds no template.
+#[derive(Debug, Drop)]
+pub struct Unlisted {
+    pub folder: String,
+    pub error: Option<io::Error>,
+}
+
+/// The files that the paths mean.
+///
+/// A path of a folder means the templates below it, by their names: hidden names, `node_modules` and links to folders are
+/// left out, and links to files are taken. `-` means standard input; the file that it stands for is left out, whatever
+/// path leads to it. Any other path means itself. A file that is met again is left out, by whatever path.
+pub fn files_of<R: Files + AllocGlobal + Clone + Drop>(
+    rt: &R,
+    sought: Sought<'_>,
+    paths: &[&str],
+) -> Result<Found, AllocError>
+    ensures { IfOk result (IsFound (texts sought.entry.extensions.now) (texts paths.now)) }
+{
+    let mut listing = begun(rt, sought.stdin, paths)?;
+    let mut unlisted = Vec::new(rt.alloc());
+    for path in paths {
+        add(rt, sought.extensions, path, &mut listing, &mut unlisted)?;
+    }
+    let files = listing.into_files(rt.alloc())?;
+    Ok(Found { files, unlisted })
+}
+
+// No file yet. Where standard input is among the paths, the file that it stands for is left out.
+fn begun<R: Files + AllocGlobal>(rt: &R, stdin: &str, paths: &[&str]) -> Result<Listing, AllocError>
+    ensures none { IfOk result (λ listing. files_in listing ≡ []) }
+    ensures started { IfOk result (λ listing. IsStarted listing ⊎ Contains (texts paths.now) input) }
+{
+    let mut listing = Listing::new(rt.alloc());
+    if stdin == "-" || !paths.contains(&"-") {
+        return Ok(listing);
+    }
+    listing.leave_out(itself_of(rt, stdin)?)?;
+    Ok(listing)
+}
+
+// Adds the files that a path means.
+fn add<R: Files + AllocGlobal + Clone + Drop>(
+    rt: &R,
+    extensions: &[&str],
+    path: &str,
+    listing: &mut Listing,
+    unlisted: &mut Vec<Unlisted>,
+) -> Result<(), AllocError>
+    ensures added { OnOk result (AddsAll (texts extensions.now) path.now (files_in listing.old) (files_in listing.new)) }
+    ensures input_read { OnOk result (path.now ≡ input → Contains (files_in listing.new) input) }
+    ensures answered { OnOk result (IsStarted listing.old → IsStarted listing.new
+        × ((0 < length (files_in listing.new)) ⊎ (vec_len unlisted.old < vec_len unlisted.new))) }
+    ensures unlisted { OnOk result (Tells path.now unlisted.old.items unlisted.new.items) }
+{
+    let alloc = rt.alloc();
+    if path == "-" {
+        return listing.add_path(String::from_str(alloc, path)?);
+    }
+    if !is_folder(rt, path) {
+        return add_file(rt, path, listing);
+    }
+    let templates = templates_below(rt, extensions, path, unlisted)?;
+    for template in &templates {
+        add_file(rt, template.as_str(), listing)?;
+    }
+    Ok(())
+}
+
+// Adds a file, unless it was met or is left out.
+fn add_file<R: Files + AllocGlobal>(
+    rt: &R,
+    path: &str,
+    listing: &mut Listing,
+) -> Result<(), AllocError>
+    ensures added { OnOk result (IsAdded path.now (files_in listing.old) (files_in listing.new)) }
+    ensures started { OnOk result (IsStarted listing.old → 0 < length (files_in listing.new)) }
+{
+    let itself = itself_of(rt, path)?;
+    listing.add(String::from_str(rt.alloc(), path)?, itself)
+}
+
+fn is_folder(rt: &impl Files, path: &str) -> bool {
+    fs::metadata(rt, path).is_ok_and(|data| data.is_dir())
+}
+
+// The path by which the system knows a file, or the one that is given where it knows none.
+fn itself_of<R: Files + AllocGlobal>(rt: &R, path: &str) -> Result<String, AllocError> {
+    match fs::canonicalize(rt, path) {
+        Ok(itself) => Ok(itself.into_string()),
+        Err(error) => {
+            fault(error)?;
+            String::from_str(rt.alloc(), path)
+        }
+    }
+}

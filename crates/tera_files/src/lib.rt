@@ -1,0 +1,22 @@
+//! The files that a program is asked to work on: which they are, what stands in them, and how one is replaced.
+//!
+//! It takes paths from a command line, and gives the files that they mean (`files_of`) or the text of one
+//! (`read_source`), or puts a text in the place of one (`replace`). It stands on `indexmap` of the kit,
+//! and knows nothing of templates but how their names end.
+//!
+//! In the order of reading: specs `Names` and `Paths`, what names say and the paths that they have in folders, and `names`;
+//! `listing`, files that were met; specs `Below` and `below`, of one folder; specs `Finding` and `finding`, of paths;
+//! `reading`; `replacing`.
+#![tactic(auto)]
+
+mod below;
+mod finding;
+mod listing;
+mod names;
+mod reading;
+mod replacing;
+
+pub use finding::{Found, Sought, Unlisted, files_of};
+pub use names::{ends_in, is_left_out};
+pub use reading::{Source, Unread, read_source, source_of};
+pub use replacing::replace;

@@ -1,0 +1,46 @@
+//! What the name of a file says, and the path that it has in a folder.
+
+ghost use Rattle.std.specs.Prelude.{◌↔◌, IfOk, IsTrue, string_bytes};
+ghost use Rattle.tera_files.specs.Names.{EndsIn, IsLeftOut, texts};
+ghost use Rattle.tera_files.specs.Paths.{IsBase, IsPathIn};
+
+use std::alloc::{AllocError, Global};
+use std::path::Path;
+
+/// Whether the name ends in one of the extensions, behind a point. An extension has no point itself.
+pub fn ends_in(name: &str, extensions: &[&str]) -> bool
+    ensures { IsTrue result ↔ EndsIn name.now (texts extensions.now) }
+{
+    match name.rsplit_once('.') {
+        Some((_, extension)) => extensions.contains(&extension),
+        None => false,
+    }
+}
+
+/// Whether a name is left out in a folder: one that is hidden, and the folder of packages that others wrote.
+pub fn is_left_out(name: &str) -> bool
+    ensures { IsTrue result ↔ IsLeftOut name.now }
+{
+    name.starts_with('.') || name == "node_modules"
+}
+
+// How paths in a folder begin.
+fn base_of(folder: &str) -> &str
+    ensures { IsBase folder.now result.now }
+{
+    if folder == "." {
+        return "";
+    }
+    match folder.strip_prefix("./") {
+        Some(base) => base,
+        None => folder,
+    }
+}
+
+/// The path of what has this name in a folder.
+pub(crate) fn path_in(alloc: Global, folder: &str, name: &str) -> Result<String, AllocError>
+    ensures { IfOk result (λ path. IsPathIn folder.now name.now (string_bytes path)) }
+{
+    let path = Path::new(base_of(folder)).join(alloc, name)?;
+    Ok(path.into_string())
+}
