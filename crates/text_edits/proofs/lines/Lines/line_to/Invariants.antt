@@ -1,0 +1,13 @@
+use Rattle.std.proofs.Common.{◌<◌, ◌≤◌, ◌-◌, length, get_or}
+use Rattle.text_edits.proofs.lines.Lines.line_to.Given as goal
+
+-- the line sought stands between these
+abbrev pub invariant-halves : goal.invariant-halves
+invariant-halves l = record {
+  some : l.line < l.beyond;
+  within : l.beyond ≤ length l.self;
+  before : get_or l.self l.line 0 ≤ l.byte;
+}
+
+abbrev pub decreases-halves : goal.decreases-halves
+decreases-halves l = l.beyond - l.line

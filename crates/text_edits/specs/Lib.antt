@@ -1,0 +1,5 @@
+pub mod Edits
+pub mod Laws
+pub mod Lines
+pub mod Positions
+pub mod Walks
