@@ -1,0 +1,10 @@
+pub mod Cuts
+pub mod LineEnds
+pub mod Numbers
+pub mod FieldLaws
+pub mod ToldLaws
+pub mod Heads
+pub mod StandingLaws
+pub mod Splitting
+pub mod Taking
+pub mod ReadBack

@@ -1,0 +1,225 @@
+-- What is held stands for what has come, step by step.
+use Rattle.std.proofs.Common.{◌≡◌, ℕ, ◌+◌, ◌-◌, ◌<◌, ◌≤◌, true, false, leb, List, [], ◌∷◌, ◌++◌, length, take, drop, min, Some, None, refl, sym, ap, subst, ◌∙◌, append_assoc, arith, inl, inr}
+use Rattle.std.specs.List.{AllByRecursion, flat_map}
+use Rattle.std.proofs.lemmas.Bool.{le-leb, cases_lt}
+use Rattle.std.proofs.lemmas.Bool.Decides.{leb_tells}
+use Rattle.std.proofs.lemmas.List.{length-append, length-take, length-drop, take-append-drop, drop-drop, nil_from_length}
+use Rattle.message_frames.specs.declared.field.Told.{Told}
+use Rattle.message_frames.specs.declared.field.Told.TheVariants as told
+use Rattle.message_frames.specs.declared.framing.Stage.{Stage}
+use Rattle.message_frames.specs.declared.framing.Stage.TheVariants as stages
+use Rattle.message_frames.specs.Header.{NoneEndsBefore, IsLine, ended, line_end, head_text, IsHeader}
+use Rattle.message_frames.specs.Stream.{Whole, Headless, IsPartial}
+use Rattle.message_frames.specs.Reading.{told_after, told_with, field_of}
+use Rattle.message_frames.specs.declared.lines.Lines.TheVariants as lines
+use Rattle.message_frames.specs.Lines.{LinesBefore, AreRead}
+use Rattle.message_frames.specs.Held.{Held, IsStage}
+use Rattle.message_frames.specs.Shown.{Message, TooLong, Wait, frame_of}
+use Rattle.message_frames.specs.Standing.{LinesStand, IsWholeNext, StandsAt, Stands, Takes, IsNext}
+use Rattle.message_frames.specs.Steps.{passed_of, stage_behind}
+use Rattle.message_frames.proofs.LineEnds.{none_yet}
+use Rattle.message_frames.proofs.ToldLaws.{told_is, is_told}
+use Rattle.message_frames.proofs.Heads.{heads_alike, no_head, header_head, header_told, told_header}
+
+-- ---- what lines tell, and what they are read to tell
+
+pub read_from : (pending bytes : List ℕ) (t : Told) → LinesStand pending bytes t
+    → LinesBefore pending told.Nothing bytes t
+read_from pending bytes t a =
+    record { lines = a.lines; whole = a.whole; each = a.each; tell = is_told t a.lines a.tell }
+
+stand_on : (pending bytes : List ℕ) (t : Told) → LinesBefore pending told.Nothing bytes t → LinesStand pending bytes t
+stand_on pending bytes t a = record { lines = a.lines; whole = a.whole; each = a.each; tell = told_is t a.lines a.tell }
+
+-- ---- lines and then more lines
+
+all_append : {X : Type 0} (P : X → Type 0) (xs ys : List X) → AllByRecursion P xs → AllByRecursion P ys
+    → AllByRecursion P (xs ++ ys)
+all_append P [] ys h k = k
+all_append P (x ∷ xs) ys h k = (h.0, all_append P xs ys h.1 k)
+
+told_append : (xs ys : List (List ℕ)) (t : Told) → told_after t (xs ++ ys) ≡ told_after (told_after t xs) ys
+told_append [] ys t = refl
+told_append (x ∷ xs) ys t = told_append xs ys (told_with t (field_of x))
+
+text_append : (xs ys : List (List ℕ)) (rest : List ℕ)
+    → flat_map ended xs ++ (flat_map ended ys ++ rest) ≡ flat_map ended (xs ++ ys) ++ rest
+text_append [] ys rest = refl
+text_append (x ∷ xs) ys rest =
+    append_assoc (ended x) (flat_map ended xs) (flat_map ended ys ++ rest) ∙ ap (λ (t : List ℕ). ended x ++ t) (text_append xs ys rest)
+    ∙ sym (append_assoc (ended x) (flat_map ended (xs ++ ys)) rest)
+
+pub lines_on : (pending bytes rest : List ℕ) (t u : Told) → LinesBefore pending told.Nothing bytes t
+    → LinesBefore bytes t rest u → LinesBefore pending told.Nothing rest u
+lines_on pending bytes rest t u a b = record {
+  lines = a.lines ++ b.lines;
+  whole = a.whole ∙ ap (λ (x : List ℕ). flat_map ended a.lines ++ x) b.whole ∙ text_append a.lines b.lines rest;
+  each = all_append IsLine a.lines b.lines a.each b.each;
+  tell = told_append a.lines b.lines told.Nothing ∙ ap (λ v. told_after v b.lines) a.tell ∙ b.tell;
+}
+
+-- ---- what is partial
+
+pub open_partial : (pending bytes : List ℕ) (t : Told) → LinesBefore pending told.Nothing bytes t
+    → NoneEndsBefore bytes (length bytes) → IsPartial pending
+open_partial pending bytes t a none head more is e =
+    absurd (no_head a.lines is.0 bytes more a.each is.2 none (sym a.whole ∙ e ∙ ap (λ (x : List ℕ). x ++ more) is.1))
+
+pub short_partial : (pending header bytes : List ℕ) (n : ℕ) → pending ≡ header ++ bytes → IsHeader header n
+    → length bytes < n → IsPartial pending
+short_partial pending header bytes n e h short head more is f =
+    let r = heads_alike header head bytes more (header_head header n h) is (sym e ∙ f) in
+    (n, subst (λ (x : List ℕ). IsHeader x n) r.0 h, subst (λ (x : List ℕ). length x < n) r.1 short)
+
+-- ---- a head has come whole
+
+pub record HeadBefore (pending : List ℕ) (t : Told) (rest : List ℕ) : Type 0 where
+  pub lines : List (List ℕ)
+  pub whole : pending ≡ head_text lines ++ rest
+  pub each : AllByRecursion IsLine lines
+  pub tell : told_after told.Nothing lines ≡ t
+
+pub head_comes : (pending bytes rest : List ℕ) (t u : Told) (lines : List (List ℕ))
+    → LinesBefore pending told.Nothing bytes t → bytes ≡ head_text lines ++ rest → AllByRecursion IsLine lines
+    → told_after t lines ≡ u → HeadBefore pending u rest
+head_comes pending bytes rest t u lines a e each tell = record {
+  lines = a.lines ++ lines;
+  whole =
+      a.whole ∙ ap (λ (x : List ℕ). flat_map ended a.lines ++ x) (e ∙ append_assoc (flat_map ended lines) line_end rest)
+      ∙ text_append a.lines lines (line_end ++ rest)
+      ∙ sym (append_assoc (flat_map ended (a.lines ++ lines)) line_end rest);
+  each = all_append IsLine a.lines lines a.each each;
+  tell = told_append a.lines lines told.Nothing ∙ ap (λ v. told_after v lines) a.tell ∙ tell;
+}
+
+pub header_comes : (pending bytes : List ℕ) (t u : Told) (len : ℕ) → LinesStand pending bytes t
+    → AreRead bytes t (lines.Ended len u) → HeadBefore pending u (drop len bytes)
+header_comes pending bytes t u len a (le, (ls, e, each, tell)) =
+    head_comes pending bytes (drop len bytes) t u ls (read_from pending bytes t a) e each tell
+
+pub is_header : (pending rest : List ℕ) (n : ℕ) (h : HeadBefore pending (told.Length n) rest)
+    → IsHeader (head_text h.lines) n
+is_header pending rest n h = told_header h.lines n h.each h.tell
+
+no_header : (pending rest : List ℕ) (t : Told) (h : HeadBefore pending t rest) → ((n : ℕ) → t ≡ told.Length n → ⊥)
+    → (n : ℕ) → IsHeader (head_text h.lines) n → ⊥
+no_header pending rest t h none n is = none n (sym h.tell ∙ header_told h.lines n h.each is)
+
+pub takes_headless : (pending rest : List ℕ) (t : Told) (new : Held) → HeadBefore pending t rest
+    → ((n : ℕ) → t ≡ told.Length n → ⊥) → Stands new rest → Takes (Some Headless) pending new
+takes_headless pending rest t new h none stands =
+    (head_text h.lines, rest, h.whole, ((h.lines, refl, h.each), no_header pending rest t h none), stands)
+
+-- ---- what stands behind the lines that were read
+
+pub message_stands : (limit : ℕ) (pending bytes : List ℕ) (t : Told) (len n : ℕ) → LinesStand pending bytes t
+    → AreRead bytes t (lines.Ended len (told.Length n)) → n ≤ limit
+    → StandsAt limit (stages.Message n) (drop len bytes) pending
+message_stands limit pending bytes t len n a read le =
+    let h = header_comes pending bytes t (told.Length n) len a read in
+    (head_text h.lines, h.whole, is_header pending (drop len bytes) n h, le)
+
+pub beyond_stands : (limit : ℕ) (pending bytes : List ℕ) (t : Told) (len n k : ℕ) → LinesStand pending bytes t
+    → AreRead bytes t (lines.Ended len (told.Length n)) → limit < n → k ≤ n → k ≤ length bytes - len
+    → StandsAt limit (stages.TooLong n (n - k)) (drop (len + k) bytes) pending
+beyond_stands limit pending bytes t len n k a read lt le room =
+    let h = header_comes pending bytes t (told.Length n) len a read in
+    let rest = drop len bytes in
+    let text : pending ≡ head_text h.lines ++ (take k rest ++ drop (len + k) bytes) =
+    h.whole ∙ ap (λ (x : List ℕ). head_text h.lines ++ x) (sym (take-append-drop k rest) ∙ ap (λ (x : List ℕ). take k rest ++ x) (drop-drop k len bytes)) in
+    (head_text h.lines, take k rest, text, is_header pending rest n h, lt, omega (arith, length-take k rest, length-drop len bytes))
+
+pub open_stands : (pending bytes : List ℕ) (t u : Told) (len searched : ℕ) → LinesStand pending bytes t
+    → AreRead bytes t (lines.Open len u searched)
+    → IsPartial pending × LinesStand pending (drop len bytes) u
+open_stands pending bytes t u len searched a (le, read, none, is) =
+    let all = lines_on pending bytes (drop len bytes) t u (read_from pending bytes t a) read in
+    (open_partial pending (drop len bytes) u all none, stand_on pending (drop len bytes) u all)
+
+-- ---- frames
+
+frame_within : (limit : ℕ) (message : List ℕ) → length message ≤ limit
+    → frame_of limit (Whole message) ≡ Message message
+frame_within limit message le = let test : leb (length message) limit ≡ true = le-leb (length message) limit le in rw test refl
+
+frame_beyond : (limit : ℕ) (message : List ℕ) → limit < length message
+    → frame_of limit (Whole message) ≡ TooLong (length message)
+frame_beyond limit message lt = let test : leb (length message) limit ≡ false = elim (leb_tells (length message) limit) [ inl t ↦ absurd (omega (arith, t.1)) | inr t ↦ t.0 ] in
+    rw test refl
+
+pub starts : (limit : ℕ) (rest : List ℕ) → StandsAt limit (stages.Lines told.Nothing 0) rest rest
+starts limit rest = stand_on rest rest told.Nothing (none_yet rest told.Nothing)
+
+pub whole_next : (limit : ℕ) (pending bytes : List ℕ) (n : ℕ) (new : Held)
+    → StandsAt limit (stages.Message n) bytes pending → n ≤ length bytes → Stands new (drop n bytes)
+    → IsNext limit pending (Message (take n bytes)) new
+whole_next limit pending bytes n new (header, e, h, le) room stands =
+    let len : length (take n bytes) ≡ n = omega (arith, length-take n bytes) in
+    let text : pending ≡ (header ++ take n bytes) ++ drop n bytes =
+    e ∙ ap (λ (x : List ℕ). header ++ x) (sym (take-append-drop n bytes))
+    ∙ sym (append_assoc header (take n bytes) (drop n bytes)) in
+    let is : IsHeader header (length (take n bytes)) = subst (λ k. IsHeader header k) (sym len) h in
+    (Some (Whole (take n bytes)), sym (frame_within limit (take n bytes) (omega arith)), (header ++ take n bytes, drop n bytes, text, (header, refl, is), stands))
+
+pub waits_next : (limit : ℕ) (pending : List ℕ) (new : Held) → IsPartial pending → Stands new pending
+    → IsNext limit pending Wait new
+waits_next limit pending new partial stands = (None, refl, (partial, stands))
+
+pub passed_next : (limit : ℕ) (pending bytes : List ℕ) (n : ℕ) (new : Held)
+    → StandsAt limit (stages.TooLong n 0) bytes pending → Stands new bytes → IsNext limit pending (TooLong n) new
+passed_next limit pending bytes n new (header, passed, e, h, lt, len) stands =
+    let is : length passed ≡ n = omega (arith, len) in
+    let text : pending ≡ (header ++ passed) ++ bytes = e ∙ sym (append_assoc header passed bytes) in
+    let frame : TooLong n ≡ frame_of limit (Whole passed) =
+    ap TooLong (sym is) ∙ sym (frame_beyond limit passed (omega arith)) in
+    (Some (Whole passed), frame, (header ++ passed, bytes, text, (header, refl, subst (λ k. IsHeader header k) (sym is) h), stands))
+
+pub passing_partial : (limit : ℕ) (pending bytes : List ℕ) (n left : ℕ)
+    → StandsAt limit (stages.TooLong n left) bytes pending → 0 < left → length bytes ≡ 0 → IsPartial pending
+passing_partial limit pending bytes n left (header, passed, e, h, lt, len) some none =
+    short_partial pending header (passed ++ bytes) n e h (omega (arith, len, length-append passed bytes))
+
+-- ---- bytes come
+
+pub lines_grow : (pending bytes more : List ℕ) (t : Told) → LinesStand pending bytes t
+    → LinesStand (pending ++ more) (bytes ++ more) t
+lines_grow pending bytes more t a = record {
+  lines = a.lines;
+  whole = ap (λ (x : List ℕ). x ++ more) a.whole ∙ append_assoc (flat_map ended a.lines) bytes more;
+  each = a.each;
+  tell = a.tell;
+}
+
+pub stands_grow : (limit : ℕ) (stage : Stage) (bytes pending more : List ℕ) → IsStage limit stage bytes
+    → StandsAt limit stage bytes pending
+    → StandsAt limit (stage_behind stage (passed_of stage (length more))) (bytes ++ drop (passed_of stage (length more)) more) (pending ++ more)
+stands_grow limit (stages.Lines t searched) bytes pending more is a = lines_grow pending bytes more t a
+stands_grow limit (stages.Message len) bytes pending more is (header, e, h, le) =
+    (header, ap (λ (x : List ℕ). x ++ more) e ∙ append_assoc header bytes more, h, le)
+stands_grow limit (stages.TooLong len left) bytes pending more is (header, passed, e, h, lt, total) =
+    let k = min left (length more) in
+    let here : bytes ++ more ≡ take k more ++ (bytes ++ drop k more) = passing is in
+    let text : pending ++ more ≡ header ++ ((passed ++ take k more) ++ (bytes ++ drop k more)) =
+    ap (λ (x : List ℕ). x ++ more) e ∙ append_assoc header (passed ++ bytes) more
+    ∙ ap (λ (x : List ℕ). header ++ x) (append_assoc passed bytes more ∙ ap (λ (x : List ℕ). passed ++ x) here ∙ sym (append_assoc passed (take k more) (bytes ++ drop k more))) in
+    (header, passed ++ take k more, text, h, lt, omega (arith, total, length-append passed (take k more), length-take k more))
+  where
+    passing : (0 < left → length bytes ≡ 0) → bytes ++ more ≡ take (min left (length more)) more ++ (bytes ++ drop (min left (length more)) more)
+    passing h =
+        elim (cases_lt 0 left) [
+          | inl some ↦
+              let none : bytes ≡ [] = nil_from_length bytes (h some) in
+              subst (λ (x : List ℕ). x ++ more ≡ take (min left (length more)) more ++ (x ++ drop (min left (length more)) more)) (sym none) (sym (take-append-drop (min left (length more)) more))
+          | inr none ↦ let k : min left (length more) ≡ 0 = omega arith in rw k refl
+        ]
+
+-- ---- want of memory
+
+pub whole_waits : (limit : ℕ) (pending bytes : List ℕ) (n : ℕ) → StandsAt limit (stages.Message n) bytes pending
+    → n ≤ length bytes → IsWholeNext limit pending
+whole_waits limit pending bytes n (header, e, h, le) room =
+    let len : length (take n bytes) ≡ n = omega (arith, length-take n bytes) in
+    let text : pending ≡ (header ++ take n bytes) ++ drop n bytes =
+    e ∙ ap (λ (x : List ℕ). header ++ x) (sym (take-append-drop n bytes))
+    ∙ sym (append_assoc header (take n bytes) (drop n bytes)) in
+    (take n bytes, header ++ take n bytes, drop n bytes, text, (header, refl, subst (λ k. IsHeader header k) (sym len) h), omega arith)

@@ -1,0 +1,62 @@
+use Rattle.std.proofs.Common.{◌≡◌, ◌≤◌, ◌+◌, ◌-◌, length, drop, ap, subst, ◌∙◌, arith}
+use Rattle.std.proofs.lemmas.List.{drop-drop}
+use Rattle.message_frames.specs.declared.field.Told.TheVariants as told
+use Rattle.message_frames.specs.declared.framing.Stage.TheVariants as stages
+use Rattle.message_frames.specs.declared.lines.Lines.TheVariants as lines
+use Rattle.message_frames.specs.Lines.{AreRead}
+use Rattle.message_frames.specs.Standing.{StandsAt}
+use Rattle.message_frames.proofs.StandingLaws.{message_stands, beyond_stands, open_stands, header_comes, takes_headless, starts}
+use Rattle.message_frames.proofs.framing.Frames.read_header.Goals as goal
+
+pub returns-in-Open-clause-read : goal.returns-in-Open-clause-read
+returns-in-Open-clause-read c =
+    let f = c.self.inside in
+    let len = c.in-Open.len in
+    let bytes = drop f.taken f.held.items in
+    let rest : c.split_at.result.1.now ≡ bytes = c.split_at.ensures.back ∙ ap (drop f.taken) c.as_slice.ensures.value in
+    let read : AreRead bytes c.in-Lines.told (lines.Open len c.in-Open.told c.in-Open.searched) =
+    rw rest at c.in-Open.ensures in
+    let left : drop len bytes ≡ drop (f.taken + len) f.held.items = drop-drop len f.taken f.held.items in
+    rw (← c.self.view_is, ← left) (λ pending h.
+    open_stands pending bytes c.in-Lines.told c.in-Open.told len c.in-Open.searched (subst (λ s. StandsAt f.limit s bytes pending) c.in-Lines.is h) read)
+
+pub returns-then-length-self-clause-read : goal.returns-then-length-self-clause-read
+returns-then-length-self-clause-read c =
+    let f = c.self.inside in
+    let len = c.in-Ended.len in
+    let bytes = drop f.taken f.held.items in
+    let rest : c.split_at.result.1.now ≡ bytes = c.split_at.ensures.back ∙ ap (drop f.taken) c.as_slice.ensures.value in
+    let read : AreRead bytes c.in-Lines.told (lines.Ended len (told.Length c.in-Length.length)) =
+    rw (rest, c.in-Length.is) at c.in-Ended.ensures in
+    let left : drop len bytes ≡ drop (f.taken + len) f.held.items = drop-drop len f.taken f.held.items in
+    rw (← c.self.view_is, ← left) (λ pending h.
+    message_stands f.limit pending bytes c.in-Lines.told len c.in-Length.length (subst (λ s. StandsAt f.limit s bytes pending) c.in-Lines.is h) read c.if-length-self.true)
+
+pub returns-else-length-self-clause-read : goal.returns-else-length-self-clause-read
+returns-else-length-self-clause-read c =
+    let f = c.self.inside in
+    let len = c.in-Ended.len in
+    let n = c.in-Length.length in
+    let k = c.min-passed.result in
+    let bytes = drop f.taken f.held.items in
+    let rest : c.split_at.result.1.now ≡ bytes = c.split_at.ensures.back ∙ ap (drop f.taken) c.as_slice.ensures.value in
+    let read : AreRead bytes c.in-Lines.told (lines.Ended len (told.Length n)) =
+    rw (rest, c.in-Length.is) at c.in-Ended.ensures in
+    let left : drop (len + k) bytes ≡ drop (f.taken + (len + k)) f.held.items =
+    drop-drop (len + k) f.taken f.held.items in
+    let room : k ≤ length bytes - len = omega (arith, ap length rest) in
+    rw (← c.self.view_is, ← left) (λ pending h.
+    beyond_stands f.limit pending bytes c.in-Lines.told len n k (subst (λ s. StandsAt f.limit s bytes pending) c.in-Lines.is h) read (omega arith) (omega arith) room)
+
+pub returns-in_default-clause-read : goal.returns-in_default-clause-read
+returns-in_default-clause-read c =
+    let f = c.self.inside in
+    let len = c.in-Ended.len in
+    let t = c.in-Ended.told in
+    let bytes = drop f.taken f.held.items in
+    let rest : c.split_at.result.1.now ≡ bytes = c.split_at.ensures.back ∙ ap (drop f.taken) c.as_slice.ensures.value in
+    let read : AreRead bytes c.in-Lines.told (lines.Ended len t) = rw rest at c.in-Ended.ensures in
+    let left : drop len bytes ≡ drop (f.taken + len) f.held.items = drop-drop len f.taken f.held.items in
+    rw (← c.self.view_is, ← left) (λ pending h.
+    takes_headless pending (drop len bytes) t (record { limit = f.limit; stage = stages.Lines told.Nothing 0; bytes = drop len bytes })
+    (header_comes pending bytes c.in-Lines.told t len (subst (λ s. StandsAt f.limit s bytes pending) c.in-Lines.is h) read) c.in_default.not-Length (starts f.limit (drop len bytes)))

@@ -1,0 +1,10 @@
+pub mod Header
+pub mod Stream
+pub mod Shown
+pub mod Held
+pub mod Standing
+pub mod Reading
+pub mod Lines
+pub mod Steps
+pub mod Pieces
+pub mod Writing

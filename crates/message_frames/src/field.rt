@@ -1,0 +1,132 @@
+//! What a line of a header tells.
+
+ghost use Rattle.std.specs.Prelude.{◌≡◌, Option, None, Some};
+ghost use Rattle.std.specs.Option.{option_map};
+ghost use Rattle.message_frames.specs.Header.{names_length};
+ghost use Rattle.message_frames.specs.Reading.{behind_digit, behind, number_of, reads, cut, field_of, told_with};
+ghost use Rattle.message_frames.specs.declared.field.Number.TheVariants.{Before as before_digits};
+
+use memchr::memchr;
+
+/// What has been read of a number that may stand between blanks.
+#[derive(Clone, Copy)]
+pub(crate) enum Number {
+    Before,
+    Within(usize),
+    Behind(usize),
+}
+
+/// What a line tells.
+#[derive(Clone, Copy)]
+pub(crate) enum Field {
+    Length(usize),
+    Other,
+    Malformed,
+}
+
+/// What the lines so far tell together.
+#[derive(Clone, Copy, Debug)]
+pub(crate) enum Told {
+    Nothing,
+    Length(usize),
+    Malformed,
+}
+
+impl Told {
+    /// With one line more.
+    pub(crate) fn with(self, field: Field) -> Told
+        ensures { result ≡ told_with self field }
+    {
+        match (self, field) {
+            (Told::Nothing, Field::Length(length)) => Told::Length(length),
+            (Told::Nothing, Field::Other) => Told::Nothing,
+            (Told::Length(length), Field::Other) => Told::Length(length),
+            _ => Told::Malformed,
+        }
+    }
+}
+
+// The number with one digit more, as long as it fits.
+fn with_digit(number: usize, byte: u8) -> Option<Number>
+    ensures { result ≡ behind_digit number byte }
+{
+    if !byte.is_ascii_digit() {
+        return None;
+    }
+    let number = number
+        .checked_mul(10)?
+        .checked_add(usize::from(byte - b'0'))?;
+    Some(Number::Within(number))
+}
+
+impl Number {
+    fn with(self, byte: u8) -> Option<Number>
+        ensures { result ≡ behind self byte }
+    {
+        let blank = byte == b' ' || byte == b'\t';
+        match self {
+            Number::Before if blank => Some(Number::Before),
+            Number::Within(number) | Number::Behind(number) if blank => {
+                Some(Number::Behind(number))
+            }
+            Number::Before => with_digit(0, byte),
+            Number::Within(number) => with_digit(number, byte),
+            Number::Behind(_) => None,
+        }
+    }
+
+    fn value(self) -> Option<usize>
+        ensures { result ≡ number_of self }
+    {
+        match self {
+            Number::Before => None,
+            Number::Within(number) | Number::Behind(number) => Some(number),
+        }
+    }
+}
+
+fn read_number(value: &[u8]) -> Option<usize>
+    ensures { result ≡ reads before_digits value.now }
+{
+    let mut number = Number::Before;
+    'bytes: for byte in value {
+        number = number.with(*byte)?;
+    }
+    number.value()
+}
+
+// What stands before the first colon, and what behind it.
+fn cut(line: &[u8]) -> Option<(&[u8], &[u8])>
+    ensures { option_map (λ parts. (parts.0.now, parts.1.now)) result ≡ cut line.now }
+{
+    let colon = memchr(b':', line)?;
+    let (name, rest) = line.split_at(colon);
+    let (_, value) = rest.split_at(1);
+    Some((name, value))
+}
+
+fn names_length(name: &[u8]) -> bool
+    ensures { result ≡ names_length name.now }
+{
+    name.eq_ignore_ascii_case(b"Content-Length")
+}
+
+/// Reads a line, without its end.
+#[tactic(auto, unfolding(crate::specs::Reading::field_of))]
+pub(crate) fn read_field(line: &[u8]) -> Field
+    ensures { result ≡ field_of line.now }
+{
+    let Some((name, value)) = cut(line) else {
+        return Field::Malformed;
+    };
+    if name.is_empty() {
+        return Field::Malformed;
+    }
+    if !names_length(name) {
+        return Field::Other;
+    }
+    match read_number(value) {
+        Some(length) => Field::Length(length),
+        None => Field::Malformed,
+    }
+}
