@@ -5,9 +5,10 @@ use std::test::Fail;
 use tera_check::{Place, read_template};
 use tera_parser::expr::component_name;
 use tera_parser::lexer::{Cursor, Delimiters, Token, tokenize};
-use tera_parser::value::{Error, ErrorKind};
+use tera_parser::value::Error;
 
-// Definitions; what looks like one in a comment, a raw piece, a string or a text; other words; lines; and faults.
+// Definitions; what looks like one in a comment, a raw piece, a string or a text; other words; lines; and faults, by
+// which nothing is defined.
 const PIECES: [&str; 17] = [
     "",
     "é ü",
@@ -66,27 +67,18 @@ fn has_places_of_tokens(alloc: Global, source: &str) -> Result<bool, AllocError>
     }
 }
 
-// The model: the places by all tokens of the source.
+// The model, for a source with a tree: the places by all its tokens.
 fn definition_places(alloc: Global, source: &str) -> Result<Vec<Place>, AllocError> {
     let mut places = Vec::new(alloc);
     let mut cursor = Cursor::new(tokenize(alloc, source, Delimiters::default()));
     for _tag in 0..u64::MAX {
-        match place_before_fault(alloc, &mut cursor)? {
-            Some(place) => places.push(place)?,
-            None => return Ok(places),
+        match next_definition(alloc, &mut cursor) {
+            Ok(Some(place)) => places.push(place)?,
+            Ok(None) => return Ok(places),
+            Err(_) => return Err(AllocError),
         }
     }
     Ok(places)
-}
-
-fn place_before_fault(alloc: Global, cursor: &mut Cursor<'_>) -> Result<Option<Place>, AllocError> {
-    match next_definition(alloc, cursor) {
-        Ok(place) => Ok(place),
-        Err(error) => match error.kind {
-            ErrorKind::Memory => Err(AllocError),
-            _ => Ok(None),
-        },
-    }
 }
 
 fn next_definition(alloc: Global, cursor: &mut Cursor<'_>) -> Result<Option<Place>, Error> {

@@ -7,9 +7,10 @@ use tera_check::{Template, read_template};
 use tera_parser::value::ErrorKind;
 
 // Definitions, blocks, calls, and a fault.
-const SOURCES: [&str; 4] = [
+const SOURCES: [&str; 5] = [
     "",
-    "{% component ui.button(label: string, size: integer = 1) %}{{ label }}{% endcomponent %}{% component b() %}{% endcomponent %}",
+    "{% component ui.button(label: string, size: integer = 1) %}{{ label }}{% endcomponent %}",
+    "{% component a.b() %}{% endcomponent %}{% component b() %}{% block c %}{% endblock %}{% endcomponent %}",
     "{% block a %}{% block b %}{{<ui.button label=\"x\"/>}}{% endblock %}{% endblock a %}",
     "{% component a() %}{% endcomponent %}\n{% component a() %}{% endcomponent %}",
 ];
