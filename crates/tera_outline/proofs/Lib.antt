@@ -1,0 +1,3 @@
+mod EditSteps
+mod Sides
+mod Stopping

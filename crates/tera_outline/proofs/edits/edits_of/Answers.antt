@@ -1,0 +1,22 @@
+use Rattle.std.proofs.Common.{◌+◌, arith}
+use Rattle.tera_outline.proofs.EditSteps.{word_passed, word_before, word_stands, all_edited}
+use Rattle.tera_outline.proofs.edits.edits_of.Goals as goal
+
+pub push_run-requires-in-words-clause-edits : goal.push_run-requires-in-words-clause-edits
+push_run-requires-in-words-clause-edits c =
+    let stands = word_stands c.args.old.now c.args.new.now c.words.at c.words.invariant.edits.alike c.words.invariant.behind (omega arith) in
+    word_passed c.args.old.now c.args.new.now c.words.edits.items c.words.at c.min-word.result c.words.invariant.edits
+    (omega (arith, stands.0, stands.1, c.word_len.ensures.count, c.word_len-in-words.ensures.count))
+    (omega arith) (omega arith)
+    (omega (arith, c.word_len.ensures.count)) (omega (arith, c.word_len-in-words.ensures.count))
+
+pub push_run-requires-in-words-clause-before : goal.push_run-requires-in-words-clause-before
+push_run-requires-in-words-clause-before c = λ some.
+    let stands = word_stands c.args.old.now c.args.new.now c.words.at c.words.invariant.edits.alike c.words.invariant.behind (omega arith) in
+    word_before c.args.old.now c.words.at.old c.min-word.result
+    (omega (arith, stands.0, stands.1, c.word_len.ensures.count, c.word_len-in-words.ensures.count))
+    (omega (arith, c.word_len.ensures.count))
+
+pub returns-clause-applied : goal.returns-clause-applied
+returns-clause-applied c =
+    all_edited c.args.old.now c.args.new.now c.words.edits.items (c.words.at.old + 1) c.words.at c.words.invariant.edits c.words.invariant.behind (omega arith)
