@@ -4,6 +4,7 @@ use Rattle.std.specs.Cmp.Lexicographic.{slice_cmp}
 use Rattle.std.specs.List.Sorted.{IsSortedByKey}
 use Rattle.std.specs.Ordering.{nat_cmp, ordering_then}
 use Rattle.std.specs.declared.cmp.Ordering.{Ordering}
+use Rattle.tera_check.specs.Findings.{place_of}
 use Rattle.tera_check.specs.Judged.{KnownVal}
 use Rattle.tera_check.specs.declared.finding.Place.{Place}
 use Rattle.tera_tree.specs.Infos.{Info, info_of, info_view}
@@ -21,7 +22,7 @@ has_some [] = false
 has_some (x ∷ xs) = true
 
 abbrev pub listed : KnownVal → ListedVal
-listed k = record { info = info_of k.definition; has_body = has_some k.definition.body; file = k.file; place = k.place }
+listed k = record { info = info_of k.definition; has_body = has_some k.definition.body; file = k.file; place = place_of k.span }
 
 abbrev pub listed_view : Component → ListedVal
 listed_view c = record { info = info_view c.info; has_body = c.has_body; file = c.file.now; place = c.place }

@@ -4,7 +4,7 @@ ghost use Rattle.std.specs.Prelude.{◌≡◌, ◌++◌, map, IfOk, OnOk};
 ghost use Rattle.std.specs.List.{All};
 ghost use Rattle.std.specs.List.Sorted.{IsPermutation};
 ghost use Rattle.tera_check.specs.Judged.{known_view};
-ghost use Rattle.tera_check.specs.Named.{known_at, defined_from, defined_in, defined_by};
+ghost use Rattle.tera_check.specs.Named.{defined_from, defined_in, defined_by};
 ghost use Rattle.tera_tree.specs.Infos.{info_of, info_view};
 ghost use Rattle.tera_tree.specs.View.{definition_view};
 ghost use Rattle.tera_catalogue.specs.Listed.{listed, listed_view, rank_of, rank_cmp, IsInOrder};
@@ -13,7 +13,7 @@ ghost use Rattle.tera_catalogue.specs.Offered.{IsOffered};
 use crate::offers::offered;
 use std::alloc::{AllocError, Global};
 use std::cmp::Ordering;
-use tera_check::{Known, Place, Template};
+use tera_check::{Known, Place, Template, known_at};
 use tera_parser::ParserOutput;
 use tera_parser::ast::{ComponentDefinition, ComponentInfo};
 
@@ -72,7 +72,7 @@ fn component_of<'a>(alloc: Global, known: &Known<'a>) -> Result<Component<'a>, A
         info,
         has_body: !known.definition.body.is_empty(),
         file: known.file,
-        place: known.place,
+        place: Place::of(&known.span),
         call,
     })
 }
@@ -106,8 +106,9 @@ fn order(one: &Known<'_>, other: &Known<'_>) -> Ordering
         .as_str()
         .cmp(&other.definition.name.as_str());
     let files = one.file.cmp(&other.file);
-    let lines = one.place.line.cmp(&other.place.line);
-    let columns = one.place.column.cmp(&other.place.column);
+    let (place, other) = (Place::of(&one.span), Place::of(&other.span));
+    let lines = place.line.cmp(&other.line);
+    let columns = place.column.cmp(&other.column);
     names.then(files).then(lines).then(columns)
 }
 
@@ -151,24 +152,4 @@ fn push_all<'a>(
         known.push(known_at(number, template, at, definition))?;
     }
     Ok(())
-}
-
-fn known_at<'a>(
-    number: usize,
-    template: &'a Template,
-    at: usize,
-    definition: &'a ComponentDefinition,
-) -> Known<'a>
-    ensures { known_view result ≡ known_at number template.now at (definition_view definition.now) }
-{
-    let place = match template.defined_at.get(at) {
-        Some(place) => *place,
-        None => Place::first(),
-    };
-    Known {
-        definition,
-        template: number,
-        file: template.file.as_str(),
-        place,
-    }
 }

@@ -5,11 +5,9 @@ use Rattle.tera_tree.specs.View.{definition_view}
 use Rattle.tera_tree.specs.declared.ast.ComponentDefinition.{ComponentDefinition}
 use Rattle.tera_check.specs.Findings.{FindingVal}
 use Rattle.tera_check.specs.declared.catalogue.Known.{Known}
-use Rattle.tera_check.specs.declared.finding.Place.{Place}
-use Rattle.std.specs.Bool.{Decides}
+use Rattle.tera_base.specs.declared.utils.Span.{Span}
 use Rattle.std.specs.Str.{bytes_eq}
 use Rattle.std.proofs.lemmas.Slice.Eq.{bytes_eq-Decides}
-use Rattle.tera_tree.specs.Tree.{Definition}
 use Rattle.tera_check.specs.Judged.{KnownVal, known_view, defined_again, again_findings}
 use Rattle.tera_check.specs.Named.{known_at, defined_from, defined_in, defined_by, first_named, or_else}
 use Rattle.tera_check.specs.declared.templates.Template.{Template}
@@ -115,19 +113,19 @@ module _ (number : ℕ) (t : Template) where
       sym (held ∙ ap (λ es. or_else now (first_named n (defined_from number t i (map definition_view es)))) (drop_end ds i h) ∙ or_none now)
 
 -- components that are defined again
-module _ (known : List ℕ → Option KnownVal) (number : ℕ) (places : ℕ → Place) where
+module _ (known : List ℕ → Option KnownVal) (number : ℕ) (spans : ℕ → Span) where
   pub again_next : (ds : List ComponentDefinition) (i : ℕ) (d : ComponentDefinition) (before now all : List FindingVal) → i < length ds → d ≡ get_or ds i d
-      → all ≡ before ++ again_findings known number places i (map definition_view (drop i ds))
-      → now ≡ before ++ defined_again number (places i) (known (definition_view d).name)
-      → all ≡ now ++ again_findings known number places (i + 1) (map definition_view (drop (i + 1) ds))
+      → all ≡ before ++ again_findings known number spans i (map definition_view (drop i ds))
+      → now ≡ before ++ defined_again number (spans i) (known (definition_view d).name)
+      → all ≡ now ++ again_findings known number spans (i + 1) (map definition_view (drop (i + 1) ds))
   again_next ds i d before now all h is held step =
       let next : i + 1 ≡ suc i = omega arith in
-      let rest = again_findings known number places (suc i) (map definition_view (drop (suc i) ds)) in
-      let here : all ≡ before ++ again_findings known number places i (map definition_view (d ∷ drop (suc i) ds)) =
-      held ∙ ap (λ es. before ++ again_findings known number places i (map definition_view es)) (drop_next ds i d h is) in
-      rw next (here ∙ sym (append_assoc before (defined_again number (places i) (known (definition_view d).name)) rest) ∙ ap (λ fs. fs ++ rest) (sym step))
+      let rest = again_findings known number spans (suc i) (map definition_view (drop (suc i) ds)) in
+      let here : all ≡ before ++ again_findings known number spans i (map definition_view (d ∷ drop (suc i) ds)) =
+      held ∙ ap (λ es. before ++ again_findings known number spans i (map definition_view es)) (drop_next ds i d h is) in
+      rw next (here ∙ sym (append_assoc before (defined_again number (spans i) (known (definition_view d).name)) rest) ∙ ap (λ fs. fs ++ rest) (sym step))
 
   pub again_done : (ds : List ComponentDefinition) (i : ℕ) (now all : List FindingVal) → length ds ≤ i
-      → all ≡ now ++ again_findings known number places i (map definition_view (drop i ds)) → now ≡ all
+      → all ≡ now ++ again_findings known number spans i (map definition_view (drop i ds)) → now ≡ all
   again_done ds i now all h held =
-      sym (held ∙ ap (λ es. now ++ again_findings known number places i (map definition_view es)) (drop_end ds i h) ∙ append-nil now)
+      sym (held ∙ ap (λ es. now ++ again_findings known number spans i (map definition_view es)) (drop_end ds i h) ∙ append-nil now)

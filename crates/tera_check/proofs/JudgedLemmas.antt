@@ -1,5 +1,5 @@
 -- What is found of calls, one by one.
-use Rattle.std.proofs.Common.{◌≡◌, ◌∙◌, ℕ, List, [], ◌∷◌, ◌++◌, length, Bool, true, false, cond, Option, None, Some, String, string_bytes, Global, Bor, map, refl, sym, ap, subst, append_assoc, append-nil, nat_cmp}
+use Rattle.std.proofs.Common.{◌≡◌, ◌∙◌, ℕ, List, [], ◌∷◌, ◌++◌, Bool, true, false, cond, Option, None, Some, String, string_bytes, Global, Bor, map, refl, sym, ap, subst, append_assoc, nat_cmp}
 use Rattle.std.specs.BTreeMap.{is_at}
 use Rattle.std.specs.BTreeSet.{contains_text}
 use Rattle.std.specs.Cmp.Lexicographic.{slice_cmp}
@@ -13,18 +13,18 @@ use Rattle.std.specs.List.Sorted.{IsPermutation}
 use Rattle.std.proofs.lemmas.Map.Text.{is_eq-slice_cmp}
 use Rattle.tera_base.specs.Contexts.{found}
 use Rattle.tera_base.specs.Spanned.{node_of, span_of}
+use Rattle.tera_base.specs.declared.utils.Span.{Span}
 use Rattle.tera_base.specs.declared.utils.Spanned.{Spanned}
 use Rattle.tera_nodes.specs.View.{call_view, entries_view}
 use Rattle.tera_nodes.specs.declared.ast.ComponentCall.{ComponentCall, out-ComponentCall}
 use Rattle.tera_nodes.proofs.Views.{call_out}
 use Rattle.tera_tree.specs.View.{argument_view}
 use Rattle.tera_tree.specs.declared.ast.ComponentArgument.{ComponentArgument}
-use Rattle.tera_check.specs.Findings.{FindingVal, place_of, finding_view}
+use Rattle.tera_check.specs.Findings.{FindingVal, finding_view}
 use Rattle.tera_check.specs.Judged.{KnownVal, known_view, judged, call_findings, refused_one, refused_findings, is_again, missing_findings, missing_in}
-use Rattle.tera_check.specs.Passed.{PassedVal, OneNamed, Whatever, passed_view, passed_by, is_under, is_whatever, is_passed, has_whatever, is_in, AreNamesOf}
+use Rattle.tera_check.specs.Passed.{PassedVal, OneNamed, Whatever, passed_view, passed_by, is_under, is_whatever, has_whatever, is_in, AreNamesOf}
 use Rattle.tera_check.specs.declared.catalogue.Known.{Known}
 use Rattle.tera_check.specs.declared.finding.Finding.{Finding}
-use Rattle.tera_check.specs.declared.finding.Place.{Place}
 use Rattle.tera_check.specs.declared.passed.Names.{Names}
 use Rattle.tera_check.specs.declared.passed.Passed.{Passed}
 use Rattle.tera_check.proofs.PassedLemmas.{passed_more}
@@ -95,21 +95,21 @@ refused_done k ps done all later start now held none is names =
 
 -- ---- a call
 
-missing_same : (k : KnownVal) (names : Names) (ps : List PassedVal) (place : Place) → AreNamesOf names ps
-    → (if names.more then [] else missing_findings k (contains_text names.under) place) ≡ missing_in k place ps
-missing_same k names ps place h = λ i. if h.more i then [] else missing_findings k (λ n. h.under n i) place
+missing_same : (k : KnownVal) (names : Names) (ps : List PassedVal) (span : Span) → AreNamesOf names ps
+    → (if names.more then [] else missing_findings k (contains_text names.under) span) ≡ missing_in k span ps
+missing_same k names ps span h = λ i. if h.more i then [] else missing_findings k (λ n. h.under n i) span
 
-pub judged_known : (k : KnownVal) (place : Place) (ps qs : List PassedVal) (names : Names) (old mid new : List FindingVal)
-    → qs ≡ ps → mid ≡ old ++ refused_findings k qs → AreNamesOf names qs → new ≡ mid ++ (if names.more then [] else missing_findings k (contains_text names.under) place)
-    → new ≡ old ++ (refused_findings k ps ++ missing_in k place ps)
-judged_known k place ps qs names old mid new same refused are missing =
-    let rest = missing_in k place qs in
-    missing ∙ ap (λ fs. mid ++ fs) (missing_same k names qs place are) ∙ ap (λ fs. fs ++ rest) refused ∙ append_assoc old (refused_findings k qs) rest
-    ∙ ap (λ rs. old ++ (refused_findings k rs ++ missing_in k place rs)) same
+pub judged_known : (k : KnownVal) (span : Span) (ps qs : List PassedVal) (names : Names) (old mid new : List FindingVal)
+    → qs ≡ ps → mid ≡ old ++ refused_findings k qs → AreNamesOf names qs → new ≡ mid ++ (if names.more then [] else missing_findings k (contains_text names.under) span)
+    → new ≡ old ++ (refused_findings k ps ++ missing_in k span ps)
+judged_known k span ps qs names old mid new same refused are missing =
+    let rest = missing_in k span qs in
+    missing ∙ ap (λ fs. mid ++ fs) (missing_same k names qs span are) ∙ ap (λ fs. fs ++ rest) refused ∙ append_assoc old (refused_findings k qs) rest
+    ∙ ap (λ rs. old ++ (refused_findings k rs ++ missing_in k span rs)) same
 
 pub judged_call : (known : List ℕ → Option KnownVal) (s : Spanned ComponentCall)
     → call_findings known (call_view (node_of s) (span_of s))
-    ≡ judged (known (string_bytes (out-ComponentCall (node_of s)).name)) (string_bytes (out-ComponentCall (node_of s)).name) (place_of (span_of s)) (passed_by (entries_view (out-ComponentCall (node_of s)).kwargs.items))
+    ≡ judged (known (string_bytes (out-ComponentCall (node_of s)).name)) (string_bytes (out-ComponentCall (node_of s)).name) (span_of s) (passed_by (entries_view (out-ComponentCall (node_of s)).kwargs.items))
 judged_call known s = rw (call_out (node_of s) (span_of s)) refl
 
 -- ---- a template

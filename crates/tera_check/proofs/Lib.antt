@@ -1,6 +1,8 @@
+pub mod AlikeLemmas
 pub mod CatalogueLemmas
+pub mod FaultLemmas
 pub mod JudgedLemmas
 pub mod Parts
 pub mod PassedLemmas
-pub mod PlacesLemmas
+pub mod SpansLemmas
 pub mod Unknown

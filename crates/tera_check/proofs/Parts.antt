@@ -1,7 +1,6 @@
 -- Parts of a tree that are to come, one by one.
 use Rattle.std.proofs.Common.{◌≡◌, ◌∙◌, List, [], ◌∷◌, ◌++◌, map, reverse, refl, sym, ap, append_assoc, ℕ, ◌-◌, take, Bor}
-use Rattle.std.specs.List.{flat_map}
-use Rattle.std.proofs.lemmas.List.{flat_map_more, reverse-append, reverse-reverse, map-append}
+use Rattle.std.proofs.lemmas.List.{flat_map_more, reverse-append, map-append}
 use Rattle.tera_base.specs.declared.utils.Spanned.{Spanned}
 use Rattle.tera_nodes.specs.Tree.{Expr}
 use Rattle.tera_nodes.specs.View.{items_of, entries_of}

@@ -5,6 +5,8 @@ use Rattle.std.specs.List.{flat_map}
 use Rattle.tera_base.specs.ErrorView.{ErrorVal, NoMemory, Saying, Reporting, ReportVal, ReportOf}
 use Rattle.tera_base.specs.ErrorView as errors
 use Rattle.tera_base.specs.declared.utils.Span.{Span}
+use Rattle.tera_check.specs.declared.finding.Kind.{Kind}
+use Rattle.tera_check.specs.declared.finding.Kind.TheVariants as kinds
 use Rattle.tera_check.specs.declared.finding.Place.{Place}
 use Rattle.tera_check.specs.declared.finding.Note.{Note}
 use Rattle.tera_check.specs.declared.finding.Finding.{Finding}
@@ -13,31 +15,44 @@ use Rattle.tera_check.specs.declared.finding.Finding.{Finding}
 abbrev pub place_of : Span → Place
 place_of s = record { line = s.start_line; column = min (s.start_col + 1) (2 ^ 64 - 1) }
 
--- a note: its file, its place there, and its text
-pub data NoteVal : Type 0 where
-  NoteOf : List ℕ → Place → List ℕ → NoteVal
+-- the span of nothing, where a file begins
+abbrev pub first_span : Span
+first_span = record { start_line = 1; start_col = 0; end_line = 1; end_col = 0; range = record { start = 0; end = 0 } }
 
--- a finding: its place, its text, and its notes in order
+-- the word for a kind
+abbrev pub kind_name : Kind → List ℕ
+kind_name kinds.Fault = codes "fault"
+kind_name kinds.UndefinedComponent = codes "undefined-component"
+kind_name kinds.MissingArgument = codes "missing-argument"
+kind_name kinds.UnknownArgument = codes "unknown-argument"
+kind_name kinds.WrongType = codes "wrong-type"
+kind_name kinds.DefinedAgain = codes "defined-again"
+
+-- a note: its file, the span there that it is about, and its text
+pub data NoteVal : Type 0 where
+  NoteOf : List ℕ → Span → List ℕ → NoteVal
+
+-- a finding: its kind, the span that it is about, its text, and its notes in order
 pub data FindingVal : Type 0 where
-  FindingOf : Place → List ℕ → List NoteVal → FindingVal
+  FindingOf : Kind → Span → List ℕ → List NoteVal → FindingVal
 
 abbrev pub note_view : Note → NoteVal
-note_view n = NoteOf (string_bytes n.file) n.place (string_bytes n.message)
+note_view n = NoteOf (string_bytes n.file) n.span (string_bytes n.message)
 
 abbrev pub finding_view : Finding → FindingVal
-finding_view f = FindingOf f.place (string_bytes f.message) (map note_view f.notes.items)
+finding_view f = FindingOf f.kind f.span (string_bytes f.message) (map note_view f.notes.items)
 
 -- what is found of a note of a fault, and of a fault
 abbrev pub note_of : errors.NoteVal → NoteVal
-note_of (errors.NoteOf label file span) = NoteOf file (place_of span) label
+note_of (errors.NoteOf label file span) = NoteOf file span label
 
 abbrev pub finding_of : ReportVal → FindingVal
-finding_of (ReportOf text span notes) = FindingOf (place_of span) text (map note_of notes)
+finding_of (ReportOf text span notes) = FindingOf kinds.Fault span text (map note_of notes)
 
 -- the finding is that of the error; there is none of want of memory
 abbrev pub IsOfError : ErrorVal → FindingVal → Type 0
 IsOfError NoMemory f = ⊥
-IsOfError (Saying text) f = f ≡ FindingOf (record { line = 1; column = 1 }) text []
+IsOfError (Saying text) f = f ≡ FindingOf kinds.Fault first_span text []
 IsOfError (Reporting r) f = f ≡ finding_of r
 
 -- a byte of a text that stands on one line: a line feed and a carriage return are a backslash and a letter
@@ -53,8 +68,8 @@ line_of file place kind text =
     shown file ++ ((codes ":" ++ (decimal place.line ++ (codes ":" ++ (decimal place.column ++ (codes ": " ++ (kind ++ codes ": ")))))) ++ (shown text ++ 10 ∷ []))
 
 abbrev pub note_line : NoteVal → List ℕ
-note_line (NoteOf file place text) = line_of file place (codes "note") text
+note_line (NoteOf file span text) = line_of file (place_of span) (codes "note") text
 
 -- the lines of a finding in a file: its own, and one for each of its notes
 abbrev pub lines_of : List ℕ → FindingVal → List ℕ
-lines_of file (FindingOf place text notes) = line_of file place (codes "error") text ++ flat_map note_line notes
+lines_of file (FindingOf kind span text notes) = line_of file (place_of span) (codes "error") text ++ flat_map note_line notes

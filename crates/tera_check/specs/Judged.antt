@@ -1,67 +1,83 @@
 -- What is found of a call of a component.
-use Rattle.std.specs.Prelude.{◌≡◌, ℕ, List, [], ◌∷◌, ◌++◌, ◌+◌, Bool, true, false, not, ◌&&◌, if◌then◌else◌, nat_eq, Option, None, Some, codes, suc, string_bytes}
+use Rattle.std.specs.Prelude.{ℕ, List, [], ◌∷◌, ◌++◌, Bool, false, not, ◌&&◌, if◌then◌else◌, nat_eq, Option, None, Some, codes, suc, string_bytes}
 use Rattle.std.specs.List.{flat_map}
 use Rattle.std.specs.Option.{is_some}
-use Rattle.std.specs.Borrow.{Bor}
 use Rattle.tera_base.specs.Contexts.{found}
 use Rattle.tera_base.specs.Kinds.{kind_of}
 use Rattle.tera_base.specs.Values.{Val}
+use Rattle.tera_base.specs.declared.utils.Span.{Span}
 use Rattle.tera_nodes.specs.Tree.{Expr, ComponentCall}
 use Rattle.tera_tree.specs.Calls.{wrong_type_text, missing_text, unknown_text}
 use Rattle.tera_tree.specs.Tree.{Argument, Definition}
 use Rattle.tera_tree.specs.Types.{is_of_type}
 use Rattle.tera_tree.specs.View.{definition_view}
 use Rattle.tera_tree.specs.declared.ast.ArgType.{ArgType}
-use Rattle.tera_check.specs.Findings.{place_of, NoteVal, NoteOf, FindingVal, FindingOf}
+use Rattle.tera_check.specs.Findings.{NoteVal, NoteOf, FindingVal, FindingOf}
 use Rattle.tera_check.specs.Passed.{NamedVal, PassedVal, OneNamed, Whatever, is_passed, has_whatever, passed_by}
+use Rattle.tera_check.specs.declared.arguments.Remark.{Remark}
 use Rattle.tera_check.specs.declared.catalogue.Known.{Known}
-use Rattle.tera_check.specs.declared.finding.Place.{Place}
+use Rattle.tera_check.specs.declared.finding.Kind.{Kind}
+use Rattle.tera_check.specs.declared.finding.Kind.TheVariants as kinds
 
--- a component that is known: its definition, the number and the file of its template, and its place there
+-- a component that is known: its definition, the number and the file of its template, and the span of its name there
 pub record KnownVal : Type 0 where
   pub definition : Definition
   pub template : ℕ
   pub file : List ℕ
-  pub place : Place
+  pub span : Span
 
 abbrev pub known_view : Known → KnownVal
 known_view k = record {
   definition = definition_view k.definition.now;
   template = k.template;
   file = k.file.now;
-  place = k.place;
+  span = k.span;
 }
 
 -- a finding about a call of it, with a note that says where it is defined
 abbrev pub defined_here : KnownVal → NoteVal
-defined_here k = NoteOf k.file k.place (codes "`" ++ (k.definition.name ++ codes "` is defined here"))
+defined_here k = NoteOf k.file k.span (codes "`" ++ (k.definition.name ++ codes "` is defined here"))
 
-abbrev pub about : KnownVal → Place → List ℕ → FindingVal
-about k place text = FindingOf place text (defined_here k ∷ [])
+-- of what kind a finding is, and its text
+pub record RemarkVal : Type 0 where
+  pub kind : Kind
+  pub text : List ℕ
 
-abbrev pub told : KnownVal → Place → Option (List ℕ) → List FindingVal
-told k place None = []
-told k place (Some text) = about k place text ∷ []
+abbrev pub remark_view : Remark → RemarkVal
+remark_view r = record { kind = r.kind; text = string_bytes r.message }
+
+abbrev pub about : KnownVal → Span → RemarkVal → FindingVal
+about k span r = FindingOf r.kind span r.text (defined_here k ∷ [])
+
+abbrev pub told : KnownVal → Span → Option RemarkVal → List FindingVal
+told k span None = []
+told k span (Some r) = about k span r ∷ []
 
 -- ---- why a value is refused under a name, if it is; of what is no constant the type is not known
 
-abbrev pub refused_type : Option ArgType → List ℕ → Option Val → Option (List ℕ)
-refused_type (Some t) n (Some v) = if is_of_type t (kind_of v) then None else Some (wrong_type_text n v t)
+abbrev pub wrong_type : List ℕ → Val → ArgType → RemarkVal
+wrong_type n v t = record { kind = kinds.WrongType; text = wrong_type_text n v t }
+
+abbrev pub refused_type : Option ArgType → List ℕ → Option Val → Option RemarkVal
+refused_type (Some t) n (Some v) = if is_of_type t (kind_of v) then None else Some (wrong_type n v t)
 refused_type (Some t) n None = None
 refused_type None n v = None
 
-abbrev pub unless_rest : Option (List ℕ) → List ℕ → Option (List ℕ)
-unless_rest (Some rest) text = None
-unless_rest None text = Some text
+abbrev pub unless_rest : Option (List ℕ) → RemarkVal → Option RemarkVal
+unless_rest (Some rest) r = None
+unless_rest None r = Some r
 
-abbrev pub refused_name : Definition → List ℕ → Option (List ℕ)
-refused_name d n = unless_rest d.rest (unknown_text (n ∷ []) d.arguments)
+abbrev pub unknown : Definition → List ℕ → RemarkVal
+unknown d n = record { kind = kinds.UnknownArgument; text = unknown_text (n ∷ []) d.arguments }
 
-abbrev pub refused_for : Option Argument → Definition → List ℕ → Option Val → Option (List ℕ)
+abbrev pub refused_name : Definition → List ℕ → Option RemarkVal
+refused_name d n = unless_rest d.rest (unknown d n)
+
+abbrev pub refused_for : Option Argument → Definition → List ℕ → Option Val → Option RemarkVal
 refused_for (Some a) d n v = refused_type a.typ n v
 refused_for None d n v = refused_name d n
 
-abbrev pub refusal : Definition → List ℕ → Option Val → Option (List ℕ)
+abbrev pub refusal : Definition → List ℕ → Option Val → Option RemarkVal
 refusal d n v = refused_for (found n d.arguments) d n v
 
 -- ---- what is passed and refused: under a name that comes again the last counts, and where more may be passed behind
@@ -71,7 +87,7 @@ abbrev pub counted : Bool → Option Val → Option Val
 counted more v = if more then None else v
 
 abbrev pub refused : KnownVal → Bool → NamedVal → List FindingVal
-refused k more p = told k (place_of p.span) (refusal k.definition p.name (counted more p.constant))
+refused k more p = told k p.span (refusal k.definition p.name (counted more p.constant))
 
 abbrev pub refused_one : KnownVal → Bool → Bool → PassedVal → List FindingVal
 refused_one k again more (OneNamed p) = if again then [] else refused k more p
@@ -90,40 +106,45 @@ refused_findings k (p ∷ ps) = refused_findings k ps ++ refused_one k (is_again
 abbrev pub is_required : Argument → Bool
 is_required a = not a.implicit && not (is_some a.default)
 
-abbrev pub missing_message : (List ℕ → Bool) → List ℕ × Argument → Option (List ℕ)
-missing_message passed a = if is_required a.1 && not (passed a.0) then Some (missing_text a.0 a.1.typ false) else None
+abbrev pub missing : List ℕ × Argument → RemarkVal
+missing a = record { kind = kinds.MissingArgument; text = missing_text a.0 a.1.typ false }
 
-abbrev pub missing_findings : KnownVal → (List ℕ → Bool) → Place → List FindingVal
-missing_findings k passed place = flat_map (λ a. told k place (missing_message passed a)) k.definition.arguments
+abbrev pub missed : (List ℕ → Bool) → List ℕ × Argument → Option RemarkVal
+missed passed a = if is_required a.1 && not (passed a.0) then Some (missing a) else None
 
-abbrev pub missing_in : KnownVal → Place → List PassedVal → List FindingVal
-missing_in k place ps = if has_whatever ps then [] else missing_findings k (λ n. is_passed n ps) place
+abbrev pub missing_findings : KnownVal → (List ℕ → Bool) → Span → List FindingVal
+missing_findings k passed span = flat_map (λ a. told k span (missed passed a)) k.definition.arguments
 
--- ---- a call at a place, with what it passes: of a component that is known, or not
+abbrev pub missing_in : KnownVal → Span → List PassedVal → List FindingVal
+missing_in k span ps = if has_whatever ps then [] else missing_findings k (λ n. is_passed n ps) span
 
-abbrev pub undefined : Place → List ℕ → FindingVal
-undefined place name = FindingOf place (codes "No template defines a component named `" ++ (name ++ codes "`")) []
+-- ---- a call at a span, with what it passes: of a component that is known, or not
 
-abbrev pub judged : Option KnownVal → List ℕ → Place → List PassedVal → List FindingVal
-judged None name place ps = undefined place name ∷ []
-judged (Some k) name place ps = refused_findings k ps ++ missing_in k place ps
+abbrev pub undefined : Span → List ℕ → FindingVal
+undefined span name =
+    FindingOf kinds.UndefinedComponent span (codes "No template defines a component named `" ++ (name ++ codes "`")) []
+
+abbrev pub judged : Option KnownVal → List ℕ → Span → List PassedVal → List FindingVal
+judged None name span ps = undefined span name ∷ []
+judged (Some k) name span ps = refused_findings k ps ++ missing_in k span ps
 
 abbrev pub call_findings : (List ℕ → Option KnownVal) → Expr → List FindingVal
-call_findings known (ComponentCall name es body closed span) = judged (known name) name (place_of span) (passed_by es)
+call_findings known (ComponentCall name es body closed span) = judged (known name) name span (passed_by es)
 call_findings known _ = []
 
--- ---- a definition at a place, of a component that another template defines first
+-- ---- a definition whose name stands at a span, of a component that another template defines first
 
-abbrev pub again : KnownVal → Place → FindingVal
-again k place =
-    FindingOf place (codes "Another template already contains a component named `" ++ (k.definition.name ++ codes "`"))
-    (NoteOf k.file k.place (codes "first defined here") ∷ [])
+abbrev pub again : KnownVal → Span → FindingVal
+again k span =
+    FindingOf kinds.DefinedAgain span
+    (codes "Another template already contains a component named `" ++ (k.definition.name ++ codes "`"))
+    (NoteOf k.file k.span (codes "first defined here") ∷ [])
 
-abbrev pub defined_again : ℕ → Place → Option KnownVal → List FindingVal
-defined_again number place None = []
-defined_again number place (Some k) = if nat_eq k.template number then [] else again k place ∷ []
+abbrev pub defined_again : ℕ → Span → Option KnownVal → List FindingVal
+defined_again number span None = []
+defined_again number span (Some k) = if nat_eq k.template number then [] else again k span ∷ []
 
-abbrev pub again_findings : (List ℕ → Option KnownVal) → ℕ → (ℕ → Place) → ℕ → List Definition → List FindingVal
-again_findings known number places at [] = []
-again_findings known number places at (d ∷ ds) =
-    defined_again number (places at) (known d.name) ++ again_findings known number places (suc at) ds
+abbrev pub again_findings : (List ℕ → Option KnownVal) → ℕ → (ℕ → Span) → ℕ → List Definition → List FindingVal
+again_findings known number spans at [] = []
+again_findings known number spans at (d ∷ ds) =
+    defined_again number (spans at) (known d.name) ++ again_findings known number spans (suc at) ds

@@ -1,4 +1,6 @@
+pub mod Alike
 pub mod Calls
+pub mod Faults
 pub mod Findings
 pub mod Judged
 pub mod Named

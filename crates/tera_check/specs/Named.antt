@@ -11,27 +11,26 @@ use Rattle.std.specs.List.{flat_map}
 use Rattle.tera_tree.specs.Tree.{Definition, Output}
 use Rattle.tera_tree.specs.View.{definition_view}
 use Rattle.tera_check.specs.Calls.{calls_of}
-use Rattle.tera_check.specs.Findings.{FindingVal, place_of}
+use Rattle.tera_check.specs.Findings.{FindingVal, first_span}
 use Rattle.tera_check.specs.Judged.{KnownVal, known_view, call_findings, again_findings}
 use Rattle.tera_check.specs.declared.catalogue.Known.{Known}
-use Rattle.tera_check.specs.declared.finding.Place.{Place}
 use Rattle.tera_check.specs.declared.templates.Template.{Template}
 
 -- what a catalogue has under a name
 abbrev pub known_in : BTreeMap (String Global) Known → List ℕ → Option KnownVal
 known_in catalogue n = option_map known_view (get_by_text catalogue n)
 
--- where a component stands; the beginning of the file where that is not known
-abbrev pub place_if_any : Option Span → Place
-place_if_any None = record { line = 1; column = 1 }
-place_if_any (Some span) = place_of span
+-- the span of a name; the beginning of the file where that is not known
+abbrev pub span_if_any : Option Span → Span
+span_if_any None = first_span
+span_if_any (Some span) = span
 
--- where a template defines its component of a number, from 0; the beginning of the file where that is not known
-abbrev pub place_at : Template → ℕ → Place
-place_at t at = slice_index_or t.defined_at.items at (record { line = 1; column = 1 })
+-- the span of the name of a template's component of a number, from 0; the beginning of the file where that is not known
+abbrev pub span_at : Template → ℕ → Span
+span_at t at = slice_index_or t.defined_at.items at first_span
 
 abbrev pub known_at : ℕ → Template → ℕ → Definition → KnownVal
-known_at number t at d = record { definition = d; template = number; file = string_bytes t.file; place = place_at t at }
+known_at number t at d = record { definition = d; template = number; file = string_bytes t.file; span = span_at t at }
 
 -- the components of a template: these definitions, from that of a number on
 abbrev pub defined_from : ℕ → Template → ℕ → List Definition → List KnownVal
@@ -65,4 +64,4 @@ or_else (Some k) other = Some k
 -- calls
 abbrev pub tree_findings : (List ℕ → Option KnownVal) → ℕ → Template → Output → List FindingVal
 tree_findings known number t o =
-    again_findings known number (place_at t) 0 o.definitions ++ flat_map (call_findings known) (calls_of o)
+    again_findings known number (span_at t) 0 o.definitions ++ flat_map (call_findings known) (calls_of o)

@@ -4,7 +4,7 @@ use Rattle.std.specs.Fmt.{decimal}
 use Rattle.std.specs.List.{flat_map}
 use Rattle.json.specs.Token.{Token, begin_object, end_object, begin_array, end_array, key, string, number}
 use Rattle.tera_check.specs.declared.finding.Place.{Place}
-use Rattle.tera_check.specs.Findings.{NoteVal, NoteOf, FindingVal, FindingOf}
+use Rattle.tera_check.specs.Findings.{place_of, NoteVal, NoteOf, FindingVal, FindingOf}
 
 -- a member with a text, and one with a number
 abbrev pub text_member : List ℕ → List ℕ → List Token
@@ -21,12 +21,12 @@ members file place text =
     ++ (number_member (codes "column") place.column ++ text_member (codes "message") text))
 
 abbrev pub note_object : NoteVal → List Token
-note_object (NoteOf file place text) = (begin_object ∷ []) ++ (members file place text ++ (end_object ∷ []))
+note_object (NoteOf file span text) = (begin_object ∷ []) ++ (members file (place_of span) text ++ (end_object ∷ []))
 
 abbrev pub notes_member : List NoteVal → List Token
 notes_member notes = key (codes "notes") ∷ begin_array ∷ (flat_map note_object notes ++ end_array ∷ [])
 
 -- the tokens of the object of a finding in a file
 abbrev pub object_of : List ℕ → FindingVal → List Token
-object_of file (FindingOf place text notes) =
-    (begin_object ∷ []) ++ (members file place text ++ (notes_member notes ++ (end_object ∷ [])))
+object_of file (FindingOf kind span text notes) =
+    (begin_object ∷ []) ++ (members file (place_of span) text ++ (notes_member notes ++ (end_object ∷ [])))

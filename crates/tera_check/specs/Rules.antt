@@ -3,6 +3,7 @@ use Rattle.std.specs.Prelude.{ℕ, List, Bool, true, false}
 use Rattle.std.specs.List.Sorted.{IsSortedByKey}
 use Rattle.std.specs.Ordering.{nat_cmp, ordering_then}
 use Rattle.std.specs.declared.cmp.Ordering.{Ordering}
+use Rattle.tera_check.specs.Findings.{place_of}
 use Rattle.tera_check.specs.declared.finding.Finding.{Finding}
 use Rattle.tera_check.specs.declared.finding.Place.{Place}
 
@@ -11,7 +12,7 @@ abbrev pub place_cmp : Place → Place → Ordering
 place_cmp p q = ordering_then (nat_cmp p.line q.line) (nat_cmp p.column q.column)
 
 abbrev pub IsInOrder : List Finding → Type 0
-IsInOrder fs = IsSortedByKey (λ f. f.place) place_cmp fs
+IsInOrder fs = IsSortedByKey (λ f. place_of f.span) place_cmp fs
 
 -- the status: 2 where a template could not be read, or else 1 where something was found
 abbrev pub status_of : Bool → Bool → ℕ

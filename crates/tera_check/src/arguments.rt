@@ -7,16 +7,16 @@ ghost use Rattle.tera_base.specs.Contexts.{found};
 ghost use Rattle.tera_base.specs.ValueView.{value_view};
 ghost use Rattle.tera_tree.specs.View.{argument_view, definition_view};
 ghost use Rattle.tera_check.specs.Findings.{finding_view, note_view};
-ghost use Rattle.tera_check.specs.Judged.{known_view, defined_here, about, told, is_required, missing_message, refused_type, refused_name, refusal, counted, refused, refused_one, refused_findings, missing_findings};
+ghost use Rattle.tera_check.specs.Judged.{known_view, remark_view, defined_here, about, told, is_required, missed, refused_type, refused_name, refusal, counted, refused, refused_one, refused_findings, missing_findings};
 ghost use Rattle.tera_check.specs.Passed.{passed_view, named_view, is_in, AreNamesOf};
 
 use crate::catalogue::Known;
-use crate::finding::{Finding, Note, Place};
+use crate::finding::{Finding, Kind, Note};
 use crate::messages::{missing, unknown, wrong_type};
 use crate::passed::{Named, Names, Passed};
 use std::alloc::{AllocError, Global};
 use tera_parser::ast::ComponentArgument;
-use tera_parser::value::Value;
+use tera_parser::value::{Span, Value};
 
 /// Adds a finding for each argument that is passed and refused, at the place of its value, from the last to the first.
 /// Under a name that comes again the last counts. The answer is the names of all that is passed.
@@ -83,8 +83,8 @@ fn push_named(
     ensures { OnOk result (map finding_view findings.new.items ≡ map finding_view findings.old.items
         ++ refused (known_view known.now) more (named_view named.now)) }
 {
-    let message = refusal(alloc, known, named.name.as_str(), counted(more, named))?;
-    push_told(alloc, findings, known, Place::of(named.span), message)
+    let remark = refusal(alloc, known, named.name.as_str(), counted(more, named))?;
+    push_told(alloc, findings, known, named.span, remark)
 }
 
 // The constant, unless more is passed behind, so that it may not be the value that counts.
@@ -95,19 +95,26 @@ fn counted<'a>(more: bool, named: &Named<'a>) -> Option<&'a Value>
     if more { None } else { named.constant }
 }
 
-// Adds a finding with the message, if there is one.
+// Of what kind a finding about a call is, and what it says.
+#[derive(Drop)]
+struct Remark {
+    kind: Kind,
+    message: String,
+}
+
+// Adds a finding with the remark, if there is one.
 fn push_told(
     alloc: Global,
     findings: &mut Vec<Finding>,
     known: &Known<'_>,
-    place: Place,
-    message: Option<String>,
+    span: &Span,
+    remark: Option<Remark>,
 ) -> Result<(), AllocError>
     ensures { OnOk result (map finding_view findings.new.items ≡ map finding_view findings.old.items
-        ++ told (known_view known.now) place (option_map string_bytes message)) }
+        ++ told (known_view known.now) span.now (option_map remark_view remark)) }
 {
-    match message {
-        Some(message) => push_about(alloc, findings, known, place, message),
+    match remark {
+        Some(remark) => push_about(alloc, findings, known, span, remark),
         None => Ok(()),
     }
 }
@@ -117,13 +124,13 @@ fn push_about(
     alloc: Global,
     findings: &mut Vec<Finding>,
     known: &Known<'_>,
-    place: Place,
-    message: String,
+    span: &Span,
+    remark: Remark,
 ) -> Result<(), AllocError>
     ensures { OnOk result (map finding_view findings.new.items ≡ map finding_view findings.old.items
-        ++ (about (known_view known.now) place (string_bytes message) ∷ [])) }
+        ++ (about (known_view known.now) span.now (remark_view remark) ∷ [])) }
 {
-    let finding = about(alloc, known, place, message)?;
+    let finding = about(alloc, known, span, remark)?;
     findings.push(finding)?;
     Ok(())
 }
@@ -132,14 +139,14 @@ fn push_about(
 fn about(
     alloc: Global,
     known: &Known<'_>,
-    place: Place,
-    message: String,
+    span: &Span,
+    remark: Remark,
 ) -> Result<Finding, AllocError>
     ensures { IfOk result (λ f. finding_view f
-        ≡ about (known_view known.now) place (string_bytes message)) }
+        ≡ about (known_view known.now) span.now (remark_view remark)) }
 {
     let note = defined_here(alloc, known)?;
-    Finding::with_note(alloc, place, message, note)
+    Finding::with_note(alloc, remark.kind, span, remark.message, note)
 }
 
 fn defined_here(alloc: Global, known: &Known<'_>) -> Result<Note, AllocError>
@@ -148,7 +155,7 @@ fn defined_here(alloc: Global, known: &Known<'_>) -> Result<Note, AllocError>
     let name = known.definition.name.as_str();
     Ok(Note {
         file: String::from_str(alloc, known.file)?,
-        place: known.place,
+        span: known.span.copied(),
         message: format!(in alloc; "`{name}` is defined here")?,
     })
 }
@@ -159,8 +166,8 @@ fn refusal(
     known: &Known<'_>,
     name: &str,
     constant: Option<&Value>,
-) -> Result<Option<String>, AllocError>
-    ensures { IfOk result (λ message. option_map string_bytes message
+) -> Result<Option<Remark>, AllocError>
+    ensures { IfOk result (λ r. option_map remark_view r
         ≡ refusal (definition_view known.now.definition.now) name.now
         (option_map (λ v. value_view v.now) constant.entry)) }
 {
@@ -183,8 +190,8 @@ fn refused_type(
     name: &str,
     argument: &ComponentArgument,
     constant: Option<&Value>,
-) -> Result<Option<String>, AllocError>
-    ensures { IfOk result (λ message. option_map string_bytes message
+) -> Result<Option<Remark>, AllocError>
+    ensures { IfOk result (λ r. option_map remark_view r
         ≡ refused_type argument.now.typ name.now
         (option_map (λ v. value_view v.now) constant.entry)) }
 {
@@ -199,27 +206,33 @@ fn wrong_value(
     name: &str,
     argument: &ComponentArgument,
     value: &Value,
-) -> Result<Option<String>, AllocError>
-    ensures { IfOk result (λ message. option_map string_bytes message
+) -> Result<Option<Remark>, AllocError>
+    ensures { IfOk result (λ r. option_map remark_view r
         ≡ refused_type argument.now.typ name.now (Some (value_view value.now))) }
 {
     if argument.type_matches(value) {
         return Ok(None);
     }
     match argument.typ {
-        Some(typ) => Ok(Some(wrong_type(alloc, name, value, typ)?)),
+        Some(typ) => Ok(Some(Remark {
+            kind: Kind::WrongType,
+            message: wrong_type(alloc, name, value, typ)?,
+        })),
         None => Ok(None),
     }
 }
 
 // That the component has no argument of this name and takes no others.
-fn refused_name(alloc: Global, known: &Known<'_>, name: &str) -> Result<Option<String>, AllocError>
-    ensures { IfOk result (λ message. option_map string_bytes message
+fn refused_name(alloc: Global, known: &Known<'_>, name: &str) -> Result<Option<Remark>, AllocError>
+    ensures { IfOk result (λ r. option_map remark_view r
         ≡ refused_name (definition_view known.now.definition.now) name.now) }
 {
     match &known.definition.rest_param_name {
         Some(_) => Ok(None),
-        None => Ok(Some(unknown(alloc, known.definition, name)?)),
+        None => Ok(Some(Remark {
+            kind: Kind::UnknownArgument,
+            message: unknown(alloc, known.definition, name)?,
+        })),
     }
 }
 
@@ -229,16 +242,16 @@ pub(crate) fn push_missing(
     findings: &mut Vec<Finding>,
     known: &Known<'_>,
     passed: &Names,
-    place: Place,
+    span: &Span,
 ) -> Result<(), AllocError>
     ensures { OnOk result (map finding_view findings.new.items ≡ map finding_view findings.old.items
         ++ (if passed.now.more then [] else missing_findings (known_view known.now) (contains_text
-        passed.now.under) place)) }
+        passed.now.under) span.now)) }
 {
     if passed.more {
         return Ok(());
     }
-    push_all_missing(alloc, findings, known, passed, place)
+    push_all_missing(alloc, findings, known, passed, span)
 }
 
 fn push_all_missing(
@@ -246,30 +259,33 @@ fn push_all_missing(
     findings: &mut Vec<Finding>,
     known: &Known<'_>,
     passed: &Names,
-    place: Place,
+    span: &Span,
 ) -> Result<(), AllocError>
     ensures { OnOk result (map finding_view findings.new.items ≡ map finding_view findings.old.items
-        ++ missing_findings (known_view known.now) (contains_text passed.now.under) place) }
+        ++ missing_findings (known_view known.now) (contains_text passed.now.under) span.now) }
 {
     for (name, argument) in known.definition.kwargs.iter() {
-        let message = missing_message(alloc, passed, name.as_str(), argument)?;
-        push_told(alloc, findings, known, place, message)?;
+        let remark = missed(alloc, passed, name.as_str(), argument)?;
+        push_told(alloc, findings, known, span, remark)?;
     }
     Ok(())
 }
 
 // That nothing is passed for the argument, where something has to be.
-fn missing_message(
+fn missed(
     alloc: Global,
     passed: &Names,
     name: &str,
     argument: &ComponentArgument,
-) -> Result<Option<String>, AllocError>
-    ensures { IfOk result (λ message. option_map string_bytes message
-        ≡ missing_message (contains_text passed.now.under) (name.now, argument_view argument.now)) }
+) -> Result<Option<Remark>, AllocError>
+    ensures { IfOk result (λ r. option_map remark_view r
+        ≡ missed (contains_text passed.now.under) (name.now, argument_view argument.now)) }
 {
     if is_missing(passed, name, argument) {
-        Ok(Some(missing(alloc, name, argument.typ)?))
+        Ok(Some(Remark {
+            kind: Kind::MissingArgument,
+            message: missing(alloc, name, argument.typ)?,
+        }))
     } else {
         Ok(None)
     }

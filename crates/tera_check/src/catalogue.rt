@@ -3,23 +3,25 @@
 ghost use Rattle.std.specs.Prelude.{◌≡◌, ◌∷◌, [], ℕ, List, map, IfOk, OnOk};
 ghost use Rattle.tera_tree.specs.View.{definition_view};
 ghost use Rattle.tera_check.specs.Judged.{known_view};
-ghost use Rattle.tera_check.specs.Named.{known_in, place_at, known_at, defined_from, defined_in, defined_by, first_named, or_else};
+ghost use Rattle.tera_check.specs.Named.{known_in, span_at, known_at, defined_from, defined_in, defined_by, first_named, or_else};
 
-use crate::finding::Place;
+use crate::spans::first_span;
 use crate::templates::Template;
 use std::alloc::{AllocError, Global};
 use std::collections::BTreeMap;
 use tera_parser::ParserOutput;
 use tera_parser::ast::ComponentDefinition;
+use tera_parser::value::Span;
 
 /// A component, and where it is defined.
-#[derive(Clone, Copy)]
+#[derive(Drop)]
 pub struct Known<'a> {
     pub definition: &'a ComponentDefinition,
     /// The number of its template among all.
     pub template: usize,
     pub file: &'a str,
-    pub place: Place,
+    /// Where its name stands there: the last part.
+    pub span: Span,
 }
 
 /// The components that some templates define, by their names. Of components with one name the first counts.
@@ -69,12 +71,13 @@ fn add_all<'a>(
 {
     for (at, definition) in output.component_definitions.iter().enumerate() {
         let known = known_at(number, template, at, definition);
-        add(alloc, catalogue, &known)?;
+        add(alloc, catalogue, known)?;
     }
     Ok(())
 }
 
-fn known_at<'a>(
+/// What is known of the template's component of a number, which has this definition; the template has a number too.
+pub fn known_at<'a>(
     number: usize,
     template: &'a Template,
     at: usize,
@@ -86,33 +89,29 @@ fn known_at<'a>(
         definition,
         template: number,
         file: template.file.as_str(),
-        place: defined_at(template, at),
+        span: defined_at(template, at),
     }
 }
 
 // Adds the component, unless there is one of its name.
-fn add<'a>(
-    alloc: Global,
-    catalogue: &mut Catalogue<'a>,
-    known: &Known<'a>,
-) -> Result<(), AllocError>
+fn add<'a>(alloc: Global, catalogue: &mut Catalogue<'a>, known: Known<'a>) -> Result<(), AllocError>
     ensures { OnOk result ((n : List ℕ) → known_in catalogue.new n
-        ≡ or_else (known_in catalogue.old n) (first_named n (known_view known.now ∷ []))) }
+        ≡ or_else (known_in catalogue.old n) (first_named n (known_view known.entry ∷ []))) }
 {
     let name = known.definition.name.as_str();
     if catalogue.contains_key(name) {
         return Ok(());
     }
-    catalogue.insert(String::from_str(alloc, name)?, *known)?;
+    catalogue.insert(String::from_str(alloc, name)?, known)?;
     Ok(())
 }
 
 /// Where the template defines the component of this number.
-pub(crate) fn defined_at(template: &Template, at: usize) -> Place
-    ensures { result ≡ place_at template.now at }
+pub(crate) fn defined_at(template: &Template, at: usize) -> Span
+    ensures { result ≡ span_at template.now at }
 {
     match template.defined_at.get(at) {
-        Some(place) => *place,
-        None => Place::first(),
+        Some(span) => span.copied(),
+        None => first_span(),
     }
 }

@@ -15,7 +15,7 @@ ghost use Rattle.tera_tree.specs.View.{definition_view};
 ghost use Rattle.tera_check.specs.Calls.{calls_of};
 ghost use Rattle.tera_check.specs.Findings.{NoteOf, place_of};
 ghost use Rattle.tera_check.specs.Judged.{known_view, undefined, judged, call_findings, again, defined_again, again_findings, refused_findings, missing_in};
-ghost use Rattle.tera_check.specs.Named.{known_in, place_at, tree_findings};
+ghost use Rattle.tera_check.specs.Named.{known_in, span_at, tree_findings};
 ghost use Rattle.tera_check.specs.Parts.{seen};
 ghost use Rattle.tera_check.specs.Passed.{passed_view, passed_by};
 ghost use Rattle.tera_check.specs.Rules.{IsInOrder, status_of};
@@ -24,13 +24,13 @@ use crate::arguments::{push_missing, push_refused};
 use crate::calls::calls_of;
 use crate::catalogue::{Catalogue, Known, defined_at};
 use crate::faults::finding_of_fault;
-use crate::finding::{Finding, Note, Place};
+use crate::finding::{Finding, Kind, Note};
 use crate::passed::passed_by;
 use crate::templates::Template;
 use std::alloc::{AllocError, Global};
 use tera_parser::ParserOutput;
 use tera_parser::ast::{ComponentCall, MapEntry};
-use tera_parser::value::{Error, Spanned};
+use tera_parser::value::{Error, Span, Spanned};
 
 /// What is found in the template of this number, in the order of the places: its fault; or the components that a
 /// template before it defines too, and the calls that no component takes.
@@ -86,8 +86,15 @@ fn put_in_order(findings: &mut Vec<Finding>) -> Result<(), AllocError>
     ensures ordered { OnOk result (IsInOrder findings.new.items) }
     ensures same { IsPermutation findings.old.items findings.new.items }
 {
-    findings.sort_by_key(|finding| (finding.place.line, finding.place.column))?;
+    findings.sort_by_key(|finding| order_of(finding))?;
     Ok(())
+}
+
+fn order_of(finding: &Finding) -> (usize, usize)
+    ensures { let place = place_of finding.now.span in result ≡ (place.line, place.column) }
+{
+    let place = finding.place();
+    (place.line, place.column)
 }
 
 /// The status of a program that checked some templates: 2 where one of them could not be read, or else 1 where
@@ -114,12 +121,12 @@ fn push_all_again(
     output: &ParserOutput,
 ) -> Result<(), AllocError>
     ensures { OnOk result (map finding_view findings.new.items ≡ map finding_view findings.old.items
-        ++ again_findings (known_in catalogue.now) number (place_at template.now) 0
+        ++ again_findings (known_in catalogue.now) number (span_at template.now) 0
         (map definition_view output.now.component_definitions.items)) }
 {
     for (at, definition) in output.component_definitions.iter().enumerate() {
         let known = known_as(catalogue, definition.name.as_str());
-        push_again(alloc, findings, known, number, defined_at(template, at))?;
+        push_again(alloc, findings, known, number, &defined_at(template, at))?;
     }
     Ok(())
 }
@@ -136,13 +143,13 @@ fn push_again(
     findings: &mut Vec<Finding>,
     known: Option<&Known<'_>>,
     number: usize,
-    place: Place,
+    span: &Span,
 ) -> Result<(), AllocError>
     ensures { OnOk result (map finding_view findings.new.items ≡ map finding_view findings.old.items
-        ++ defined_again number place (option_map (λ k. known_view k.now) known.entry)) }
+        ++ defined_again number span.now (option_map (λ k. known_view k.now) known.entry)) }
 {
     match known {
-        Some(known) => push_other(alloc, findings, known, number, place),
+        Some(known) => push_other(alloc, findings, known, number, span),
         None => Ok(()),
     }
 }
@@ -153,36 +160,36 @@ fn push_other(
     findings: &mut Vec<Finding>,
     known: &Known<'_>,
     number: usize,
-    place: Place,
+    span: &Span,
 ) -> Result<(), AllocError>
     ensures { OnOk result (map finding_view findings.new.items ≡ map finding_view findings.old.items
-        ++ defined_again number place (Some (known_view known.now))) }
+        ++ defined_again number span.now (Some (known_view known.now))) }
 {
     if known.template == number {
         return Ok(());
     }
-    findings.push(again(alloc, known, place)?)?;
+    findings.push(again(alloc, known, span)?)?;
     Ok(())
 }
 
-fn again(alloc: Global, known: &Known<'_>, place: Place) -> Result<Finding, AllocError>
-    ensures { IfOk result (λ f. finding_view f ≡ again (known_view known.now) place) }
+fn again(alloc: Global, known: &Known<'_>, span: &Span) -> Result<Finding, AllocError>
+    ensures { IfOk result (λ f. finding_view f ≡ again (known_view known.now) span.now) }
 {
     let name = known.definition.name.as_str();
     let note = first_defined(alloc, known)?;
     let message = format!(in alloc;
         "Another template already contains a component named `{name}`"
     )?;
-    Finding::with_note(alloc, place, message, note)
+    Finding::with_note(alloc, Kind::DefinedAgain, span, message, note)
 }
 
 fn first_defined(alloc: Global, known: &Known<'_>) -> Result<Note, AllocError>
     ensures { IfOk result (λ n. note_view n
-        ≡ NoteOf known.now.file.now known.now.place (codes "first defined here")) }
+        ≡ NoteOf known.now.file.now known.now.span (codes "first defined here")) }
 {
     Ok(Note {
         file: String::from_str(alloc, known.file)?,
-        place: known.place,
+        span: known.span.copied(),
         message: String::from_str(alloc, "first defined here")?,
     })
 }
@@ -239,13 +246,13 @@ fn push_judged(
     ensures { let c = out-ComponentCall (node_of call.now) in
         OnOk result (map finding_view findings.new.items ≡ map finding_view findings.old.items
         ++ judged (option_map
-        (λ k. known_view k.now) known.entry) (string_bytes c.name) (place_of (span_of call.now))
+        (λ k. known_view k.now) known.entry) (string_bytes c.name) (span_of call.now)
         (passed_by (entries_view c.kwargs.items))) }
 {
-    let place = Place::of(call.span());
+    let span = call.span();
     match known {
-        Some(known) => push_arguments(alloc, findings, known, place, &call.node().kwargs),
-        None => push_undefined(alloc, findings, place, call.node().name.as_str()),
+        Some(known) => push_arguments(alloc, findings, known, span, &call.node().kwargs),
+        None => push_undefined(alloc, findings, span, call.node().name.as_str()),
     }
 }
 
@@ -254,17 +261,17 @@ fn push_arguments(
     alloc: Global,
     findings: &mut Vec<Finding>,
     known: &Known<'_>,
-    place: Place,
+    span: &Span,
     attributes: &Vec<MapEntry>,
 ) -> Result<(), AllocError>
     ensures { let ps = passed_by (entries_view attributes.now.items) in
         OnOk result (map finding_view findings.new.items ≡ map finding_view findings.old.items
         ++ (refused_findings (known_view known.now) ps
-        ++ missing_in (known_view known.now) place ps)) }
+        ++ missing_in (known_view known.now) span.now ps)) }
 {
     let passed = passed_by(alloc, attributes)?;
     let names = push_refused(alloc, findings, known, passed)?;
-    push_missing(alloc, findings, known, &names, place)?;
+    push_missing(alloc, findings, known, &names, span)?;
     Ok(())
 }
 
@@ -272,17 +279,25 @@ fn push_arguments(
 fn push_undefined(
     alloc: Global,
     findings: &mut Vec<Finding>,
-    place: Place,
+    span: &Span,
     name: &str,
 ) -> Result<(), AllocError>
     ensures { OnOk result (map finding_view findings.new.items ≡ map finding_view findings.old.items
-        ++ (undefined place name.now ∷ [])) }
+        ++ (undefined span.now name.now ∷ [])) }
+{
+    let finding = undefined(alloc, span, name)?;
+    findings.push(finding)?;
+    Ok(())
+}
+
+fn undefined(alloc: Global, span: &Span, name: &str) -> Result<Finding, AllocError>
+    ensures { IfOk result (λ f. finding_view f ≡ undefined span.now name.now) }
 {
     let message = format!(in alloc; "No template defines a component named `{name}`")?;
-    findings.push(Finding {
-        place,
+    Ok(Finding {
+        kind: Kind::UndefinedComponent,
+        span: span.copied(),
         message,
         notes: Vec::new(alloc),
-    })?;
-    Ok(())
+    })
 }

@@ -3,14 +3,17 @@
 ghost use Rattle.std.specs.Prelude.{◌≡◌, IfOk, map, []};
 ghost use Rattle.tera_base.specs.ErrorView.{error_view, report_view};
 ghost use Rattle.tera_base.specs.ErrorView as errors;
-ghost use Rattle.tera_check.specs.Findings.{finding_view, note_view, note_of, finding_of, FindingOf, IsOfError};
+ghost use Rattle.tera_check.specs.Findings.{finding_view, note_view, first_span, note_of, finding_of, FindingOf, IsOfError};
+ghost use Rattle.tera_check.specs.declared.finding.Kind.TheVariants as kinds;
 
-use crate::finding::{Finding, Note, Place};
+use crate::finding::{Finding, Kind, Note};
+use crate::spans::first_span;
 use std::alloc::{AllocError, Global};
 use tera_parser::value;
 use tera_parser::value::{Error, ErrorKind, ReportError};
 
-/// The finding of a fault: its text and its notes, each where it begins. That no memory was found is no finding.
+/// The finding of a fault: its text and its notes, each with its span; a text without a place stands where the file
+/// begins. That no memory was found is no finding.
 pub fn finding_of_fault(alloc: Global, error: &Error) -> Result<Finding, AllocError>
     ensures { IfOk result (λ f. IsOfError (error_view error.now) (finding_view f)) }
 {
@@ -26,7 +29,8 @@ fn finding_of_report(alloc: Global, report: &ReportError) -> Result<Finding, All
 {
     let notes = notes_of(alloc, &report.notes)?;
     Ok(Finding {
-        place: Place::of(&report.span),
+        kind: Kind::Fault,
+        span: report.span.copied(),
         message: report.message.clone()?,
         notes,
     })
@@ -48,17 +52,18 @@ fn found_note(note: &value::Note) -> Result<Note, AllocError>
 {
     Ok(Note {
         file: note.filename.clone()?,
-        place: Place::of(&note.span),
+        span: note.span.copied(),
         message: note.label.clone()?,
     })
 }
 
 fn placeless(alloc: Global, message: &str) -> Result<Finding, AllocError>
     ensures { IfOk result (λ f. finding_view f
-        ≡ FindingOf (record { line = 1; column = 1 }) message.now []) }
+        ≡ FindingOf kinds.Fault first_span message.now []) }
 {
     Ok(Finding {
-        place: Place::first(),
+        kind: Kind::Fault,
+        span: first_span(),
         message: String::from_str(alloc, message)?,
         notes: Vec::new(alloc),
     })

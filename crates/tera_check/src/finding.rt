@@ -10,19 +10,47 @@ pub struct Place {
     pub column: usize,
 }
 
-/// What is found in a template, where it stands there, and what explains it.
+/// Of what kind a finding is.
+#[derive(Clone, Copy, Debug, PartialEq, Eq)]
+pub enum Kind {
+    /// The fault of a template.
+    Fault,
+    /// A call of a component that no template defines.
+    UndefinedComponent,
+    /// An argument that has to be given is not.
+    MissingArgument,
+    /// An argument that the component does not have.
+    UnknownArgument,
+    /// A constant of another type than its argument.
+    WrongType,
+    /// A component that another template defines first.
+    DefinedAgain,
+}
+
+/// All kinds of findings.
+pub const KINDS: [Kind; 6] = [
+    Kind::Fault,
+    Kind::UndefinedComponent,
+    Kind::MissingArgument,
+    Kind::UnknownArgument,
+    Kind::WrongType,
+    Kind::DefinedAgain,
+];
+
+/// What is found in a template, the span there that it is about, and what explains it.
 #[derive(Debug, Drop)]
 pub struct Finding {
-    pub place: Place,
+    pub kind: Kind,
+    pub span: Span,
     pub message: String,
     pub notes: Vec<Note>,
 }
 
-/// What explains a finding, at a place of whatever file.
+/// What explains a finding, by a span of whatever file.
 #[derive(Debug, Drop)]
 pub struct Note {
     pub file: String,
-    pub place: Place,
+    pub span: Span,
     pub message: String,
 }
 
@@ -48,26 +76,66 @@ impl Place {
     }
 }
 
+impl Kind {
+    ghost use Rattle.std.specs.Prelude.{◌≡◌};
+    ghost use Rattle.tera_check.specs.Findings.{kind_name};
+
+    /// The word for the kind, which stays the same from version to version.
+    pub fn name(self) -> &'static str
+        ensures { result.now ≡ kind_name self }
+    {
+        match self {
+            Kind::Fault => "fault",
+            Kind::UndefinedComponent => "undefined-component",
+            Kind::MissingArgument => "missing-argument",
+            Kind::UnknownArgument => "unknown-argument",
+            Kind::WrongType => "wrong-type",
+            Kind::DefinedAgain => "defined-again",
+        }
+    }
+}
+
 impl Finding {
     ghost use Rattle.std.specs.Prelude.{◌≡◌, ◌∷◌, [], IfOk, string_bytes};
-    ghost use Rattle.tera_check.specs.Findings.{FindingOf, finding_view, note_view};
+    ghost use Rattle.tera_check.specs.Findings.{place_of, FindingOf, finding_view, note_view};
+
+    /// Where what it is about begins.
+    pub fn place(&self) -> Place
+        ensures { result ≡ place_of self.now.span }
+    {
+        Place::of(&self.span)
+    }
 
     // A finding with one note.
     pub(crate) fn with_note(
         alloc: Global,
-        place: Place,
+        kind: Kind,
+        span: &Span,
         message: String,
         note: Note,
     ) -> Result<Finding, AllocError>
         ensures { IfOk result (λ f. finding_view f
-            ≡ FindingOf place (string_bytes message) (note_view note ∷ [])) }
+            ≡ FindingOf kind span.now (string_bytes message) (note_view note ∷ [])) }
     {
         let mut notes = Vec::new(alloc);
         notes.push(note)?;
         Ok(Finding {
-            place,
+            kind,
+            span: span.copied(),
             message,
             notes,
         })
+    }
+}
+
+impl Note {
+    ghost use Rattle.std.specs.Prelude.{◌≡◌};
+    ghost use Rattle.tera_check.specs.Findings.{place_of};
+
+    /// Where what it is about begins.
+    pub fn place(&self) -> Place
+        ensures { result ≡ place_of self.now.span }
+    {
+        Place::of(&self.span)
     }
 }

@@ -4,9 +4,10 @@
 //! (`tree_findings`); and it writes findings as lines (`lines_of`) or objects of JSON (`object_of`). It stands on
 //! `tera_parser`, and names nothing below that in its code; of the kit on `json`.
 //!
-//! In the order of reading: specs `Findings`, `Calls`, `Passed`, `Judged`, `Named`, `Rules`, `Objects`; `templates`,
-//! which reads, and `places`; `catalogue`; `calls`, over a stack of parts (specs `Parts`); `passed`, `arguments` and
-//! `messages`, of one call; `checked`, of a template; `finding`, `faults`, `lines` and `objects`.
+//! In the order of reading: specs `Findings`, `Calls`, `Passed`, `Judged`, `Named`, `Rules`, `Objects`, `Faults`,
+//! `Alike`; `templates`, which reads, and `spans`; `catalogue`; `calls`, over a stack of parts (specs `Parts`);
+//! `passed`, `arguments` and `messages`, of one call; `checked`, of a template; `finding`, `faults`, `lines` and
+//! `objects`; `laws`.
 #![tactic(auto)]
 
 mod arguments;
@@ -15,18 +16,19 @@ mod catalogue;
 mod checked;
 mod faults;
 mod finding;
+pub mod laws;
 mod lines;
 mod messages;
 mod objects;
 mod passed;
-mod places;
+mod spans;
 mod templates;
 
 pub use calls::calls_of;
-pub use catalogue::{Catalogue, Known, catalogue_of};
+pub use catalogue::{Catalogue, Known, catalogue_of, known_at};
 pub use checked::{findings_of, status};
 pub use faults::finding_of_fault;
-pub use finding::{Finding, Note, Place};
+pub use finding::{Finding, KINDS, Kind, Note, Place};
 pub use lines::lines_of;
 pub use objects::object_of;
 pub use templates::{Template, read_template};

@@ -15,7 +15,7 @@ pub fn lines_of(alloc: Global, file: &str, finding: &Finding) -> Result<Vec<u8>,
 {
     let mut lines = Vec::new(alloc);
     let message = finding.message.as_str();
-    push_line(alloc, &mut lines, file, finding.place, "error", message)?;
+    push_line(alloc, &mut lines, file, finding.place(), "error", message)?;
     push_notes(alloc, &mut lines, &finding.notes)?;
     Ok(lines)
 }
@@ -34,7 +34,7 @@ fn push_note(alloc: Global, lines: &mut Vec<u8>, note: &Note) -> Result<(), Allo
     ensures { OnOk result (lines.new.items ≡ lines.old.items ++ note_line (note_view note.now)) }
 {
     let (file, message) = (note.file.as_str(), note.message.as_str());
-    push_line(alloc, lines, file, note.place, "note", message)
+    push_line(alloc, lines, file, note.place(), "note", message)
 }
 
 fn push_line(

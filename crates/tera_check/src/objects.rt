@@ -18,7 +18,7 @@ pub fn object_of(alloc: Global, file: &str, finding: &Finding) -> Result<Vec<u8>
 {
     let mut writer = Writer::new(Vec::new(alloc));
     writer.begin_object()?;
-    write_members(&mut writer, file, finding.place, finding.message.as_str())?;
+    write_members(&mut writer, file, finding.place(), finding.message.as_str())?;
     write_notes(&mut writer, &finding.notes)?;
     writer.end_object()?;
     let mut object = writer.into_inner();
@@ -48,7 +48,7 @@ fn write_note(writer: &mut Writer, note: &Note) -> Result<(), AllocError>
     write_members(
         writer,
         note.file.as_str(),
-        note.place,
+        note.place(),
         note.message.as_str(),
     )?;
     writer.end_object()

@@ -11,13 +11,12 @@ ghost use Rattle.tera_parser.specs.Refusal.{Refuses};
 ghost use Rattle.tera_statements.specs.Known.{AreNames};
 ghost use Rattle.tera_statements.specs.Outputs.{output_view};
 ghost use Rattle.tera_tree.specs.Tree.{Output};
-ghost use Rattle.tera_check.specs.Findings.{place_of};
+ghost use Rattle.tera_check.specs.Faults.{IsSyntaxError, is_memory};
 
-use crate::finding::Place;
-use crate::places::places_of;
+use crate::spans::spans_of;
 use std::alloc::{AllocError, Global};
 use tera_parser::lexer::Delimiters;
-use tera_parser::value::Error;
+use tera_parser::value::{Error, ErrorKind, Span};
 use tera_parser::{Names, Parser, ParserOutput};
 
 /// A template that was read, between the usual markers and within the usual limits.
@@ -25,30 +24,32 @@ use tera_parser::{Names, Parser, ParserOutput};
 pub struct Template {
     /// The name of its file.
     pub file: String,
-    /// Its tree, or its fault.
+    /// Its tree, or its fault, which is a syntax error.
     pub parsed: Result<ParserOutput, Error>,
-    /// Where each of its components is defined: the last part of its name. A template with a fault defines none.
-    pub defined_at: Vec<Place>,
+    /// Where each of its components is defined: the last part of its name, for `ui.button` that is `button`. A template
+    /// with a fault defines none.
+    pub defined_at: Vec<Span>,
 }
 
-/// Reads the template in the file of this name. Its fault, also that no memory was found, stands in the answer.
+/// Reads the template in the file of this name. Its fault stands in the answer; that no memory was found is the error.
 pub fn read_template(alloc: Global, file: &str, source: &str) -> Result<Template, AllocError>
     ensures file { IfOk result (λ t. string_bytes t.file ≡ file.now) }
     ensures sound { IfOk result (λ t. IfOk t.parsed
         (λ o. Derives usual default_marks source.now (output_view o))) }
     ensures complete { (output : Output) → Derives usual default_marks source.now output →
-        IfOk result (λ t. MatchResult t.parsed (λ o. output_view o ≡ output) IsMemory) }
+        IfOk result (λ t. MatchResult t.parsed (λ o. output_view o ≡ output) (λ _. ⊥)) }
+    ensures fault { IfOk result (λ t. IfErr t.parsed IsSyntaxError) }
     ensures refusal { IfOk result (λ t. IfErr t.parsed (Refuses default_marks source.now)) }
     ensures notes { IfOk result (λ t. IfErr t.parsed (NotesName file.now)) }
     ensures places { IfOk result (λ t. MatchResult t.parsed
         (λ o. (names : Places) × DerivesNames usual default_marks source.now (output_view o) names
-        × (t.defined_at.items ≡ map (λ n. place_of n.span) names.components))
+        × (t.defined_at.items ≡ map (λ n. n.span) names.components))
         (λ _. t.defined_at.items ≡ [])) }
 {
     let name = String::from_str(alloc, file)?;
     match parsed(alloc, file, source) {
         Ok((output, names)) => {
-            let defined_at = places_of(alloc, &names, &output.component_definitions)?;
+            let defined_at = spans_of(alloc, &names, &output.component_definitions)?;
             Ok(Template {
                 file: name,
                 parsed: Ok(output),
@@ -56,12 +57,26 @@ pub fn read_template(alloc: Global, file: &str, source: &str) -> Result<Template
             })
         }
         Err(error) => {
+            if is_memory(&error) {
+                return Err(AllocError);
+            }
             Ok(Template {
                 file: name,
                 parsed: Err(error),
                 defined_at: Vec::new(alloc),
             })
         }
+    }
+}
+
+// Whether no memory was found.
+fn is_memory(error: &Error) -> bool
+    ensures { result ≡ is_memory error.now }
+{
+    match error.kind {
+        ErrorKind::Memory => true,
+        ErrorKind::Message(_) => false,
+        ErrorKind::SyntaxError(_) => false,
     }
 }
 

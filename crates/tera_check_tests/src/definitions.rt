@@ -5,7 +5,7 @@ use std::test::Fail;
 use tera_check::{Place, read_template};
 use tera_parser::expr::component_name;
 use tera_parser::lexer::{Cursor, Delimiters, Token, tokenize};
-use tera_parser::value::Error;
+use tera_parser::value::{Error, Span};
 
 // Definitions; what looks like one in a comment, a raw piece, a string or a text; other words; lines; and faults, by
 // which nothing is defined.
@@ -30,12 +30,12 @@ const PIECES: [&str; 17] = [
 ];
 
 #[test]
-fn places_are_those_of_the_tokens(rt: HostRuntime) -> Result<(), Fail> {
+fn spans_are_those_of_the_tokens(rt: HostRuntime) -> Result<(), Fail> {
     for first in PIECES {
         for second in PIECES {
             for third in PIECES {
                 let source = format!(in rt.alloc(); "{first}{second}{third}")?;
-                let same = has_places_of_tokens(rt.alloc(), source.as_str())?;
+                let same = has_spans_of_tokens(rt.alloc(), source.as_str())?;
                 assert!(rt; same, "{source}");
             }
         }
@@ -44,7 +44,7 @@ fn places_are_those_of_the_tokens(rt: HostRuntime) -> Result<(), Fail> {
 }
 
 #[test]
-fn a_place_is_that_of_the_last_part_of_the_name(rt: HostRuntime) -> Result<(), Fail> {
+fn a_span_is_that_of_the_last_part_of_the_name(rt: HostRuntime) -> Result<(), Fail> {
     let place = Place {
         line: 2,
         column: 19,
@@ -54,37 +54,49 @@ fn a_place_is_that_of_the_last_part_of_the_name(rt: HostRuntime) -> Result<(), F
         "é{#{% component a#}\n€ {%- component b.c() %}{% endcomponent %}",
     ] {
         let template = read_template(rt.alloc(), "t", source)?;
-        assert_eq!(rt; template.defined_at.as_slice(), [place].as_slice());
+        assert_eq!(rt; template.defined_at.len(), 1);
+        for span in &template.defined_at {
+            assert_eq!(rt; Place::of(span), place);
+            assert!(rt; begins_with_c(source, span.range.start));
+            assert_eq!(rt; span.range.end, span.range.start.saturating_add(1));
+        }
     }
     Ok(())
 }
 
-fn has_places_of_tokens(alloc: Global, source: &str) -> Result<bool, AllocError> {
+fn begins_with_c(source: &str, byte: usize) -> bool {
+    match source.split_at_checked(byte) {
+        Some((_, behind)) => behind.starts_with("c"),
+        None => false,
+    }
+}
+
+fn has_spans_of_tokens(alloc: Global, source: &str) -> Result<bool, AllocError> {
     let template = read_template(alloc, "t", source)?;
     match &template.parsed {
-        Ok(_) => Ok(template.defined_at == definition_places(alloc, source)?),
+        Ok(_) => Ok(template.defined_at == definition_spans(alloc, source)?),
         Err(_) => Ok(template.defined_at.is_empty()),
     }
 }
 
-// The model, for a source with a tree: the places by all its tokens.
-fn definition_places(alloc: Global, source: &str) -> Result<Vec<Place>, AllocError> {
-    let mut places = Vec::new(alloc);
+// The model, for a source with a tree: the spans by all its tokens.
+fn definition_spans(alloc: Global, source: &str) -> Result<Vec<Span>, AllocError> {
+    let mut spans = Vec::new(alloc);
     let mut cursor = Cursor::new(tokenize(alloc, source, Delimiters::default()));
     for _tag in 0..u64::MAX {
         match next_definition(alloc, &mut cursor) {
-            Ok(Some(place)) => places.push(place)?,
-            Ok(None) => return Ok(places),
+            Ok(Some(span)) => spans.push(span)?,
+            Ok(None) => return Ok(spans),
             Err(_) => return Err(AllocError),
         }
     }
-    Ok(places)
+    Ok(spans)
 }
 
-fn next_definition(alloc: Global, cursor: &mut Cursor<'_>) -> Result<Option<Place>, Error> {
+fn next_definition(alloc: Global, cursor: &mut Cursor<'_>) -> Result<Option<Span>, Error> {
     for _token in 0..u64::MAX {
         if is_definition(cursor) {
-            return Ok(Some(named_place(alloc, cursor)?));
+            return Ok(Some(named_span(alloc, cursor)?));
         }
         if !cursor.skip() {
             return end(cursor);
@@ -100,14 +112,14 @@ fn is_definition(cursor: &Cursor<'_>) -> bool {
     }
 }
 
-fn named_place(alloc: Global, cursor: &mut Cursor<'_>) -> Result<Place, Error> {
+fn named_span(alloc: Global, cursor: &mut Cursor<'_>) -> Result<Span, Error> {
     cursor.skip();
     cursor.skip();
     let _name = component_name(alloc, cursor)?;
-    Ok(Place::of(cursor.current_span()))
+    Ok(cursor.current_span().copied())
 }
 
-fn end(cursor: &mut Cursor<'_>) -> Result<Option<Place>, Error> {
+fn end(cursor: &mut Cursor<'_>) -> Result<Option<Span>, Error> {
     match cursor.next() {
         Ok(_none) => Ok(None),
         Err(error) => Err(error),

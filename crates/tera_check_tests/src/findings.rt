@@ -2,21 +2,30 @@
 
 use std::alloc::{AllocError, Global};
 use std::test::Fail;
-use tera_check::{Finding, Note, Place, finding_of_fault, object_of};
-use tera_parser::value::Error;
+use tera_check::{Finding, KINDS, Kind, Note, Place, finding_of_fault, object_of};
+use tera_parser::value::{Error, Span};
 
 const OBJECT: &str =
     r#"{"file":"a","line":3,"column":4,"message":"\"x\"\n","notes":[{"file":"b","line":1,"column":2,"message":"h"}]}"#;
+
+fn span(line: usize, column: usize) -> Span {
+    Span {
+        start_line: line,
+        start_col: column,
+        ..Span::default()
+    }
+}
 
 fn finding(alloc: Global) -> Result<Finding, AllocError> {
     let mut notes = Vec::new(alloc);
     notes.push(Note {
         file: String::from_str(alloc, "b")?,
-        place: Place { line: 1, column: 2 },
+        span: span(1, 1),
         message: String::from_str(alloc, "h")?,
     })?;
     Ok(Finding {
-        place: Place { line: 3, column: 4 },
+        kind: Kind::WrongType,
+        span: span(3, 3),
         message: String::from_str(alloc, "\"x\"\n")?,
         notes,
     })
@@ -34,8 +43,19 @@ fn a_finding_is_an_object(rt: HostRuntime) -> Result<(), Fail> {
 fn a_message_stands_where_a_file_begins(rt: HostRuntime) -> Result<(), Fail> {
     let error = Error::message(rt.alloc(), "refused");
     let finding = finding_of_fault(rt.alloc(), &error)?;
-    assert_eq!(rt; finding.place, Place::first());
+    assert_eq!(rt; finding.kind, Kind::Fault);
+    assert_eq!(rt; finding.place(), Place::first());
     assert_eq!(rt; finding.message.as_str(), "refused");
     assert!(rt; finding.notes.is_empty());
+    Ok(())
+}
+
+#[test]
+fn each_kind_has_a_word_of_its_own(rt: HostRuntime) -> Result<(), Fail> {
+    for (number, kind) in KINDS.iter().enumerate() {
+        for other in &KINDS[..number] {
+            assert!(rt; kind.name() != other.name(), "{kind:?}");
+        }
+    }
     Ok(())
 }

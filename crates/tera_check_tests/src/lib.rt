@@ -1,4 +1,4 @@
-//! Tests of findings that are made by hand, of the places of definitions, and of templates that are read where each
+//! Tests of findings that are made by hand, of the spans of definitions, and of templates that are read where each
 //! request of memory is refused in turn. The last take all memory that the process can get, and so are run as they are
 //! proved, by `rt test` or `rt ci`, and not by `rt try`.
 #![tactic(auto)]

@@ -4,7 +4,6 @@ use scarce_memory::{Attempt, Seen, Verdict, refuse};
 use std::alloc::Global;
 use std::test::Fail;
 use tera_check::{Template, read_template};
-use tera_parser::value::ErrorKind;
 
 // Definitions, blocks, calls, and a fault.
 const SOURCES: [&str; 5] = [
@@ -25,17 +24,14 @@ struct Reading<'a> {
 impl Attempt for Reading<'_> {
     fn attempt(&self, alloc: Global) -> Seen {
         match read_template(alloc, "t", self.source) {
-            Ok(read) => seen(&read, self.wanted),
+            Ok(read) => Seen::answer(are_same(&read, self.wanted)),
             Err(_) => Seen::Memory,
         }
     }
 }
 
-fn seen(read: &Template, wanted: &Template) -> Seen {
-    match &read.parsed {
-        Err(error) if error.kind == ErrorKind::Memory => Seen::Memory,
-        _ => Seen::answer(read.parsed == wanted.parsed && read.defined_at == wanted.defined_at),
-    }
+fn are_same(one: &Template, other: &Template) -> bool {
+    one.parsed == other.parsed && one.defined_at == other.defined_at
 }
 
 #[test]

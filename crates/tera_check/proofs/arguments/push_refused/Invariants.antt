@@ -1,4 +1,4 @@
-use Rattle.std.proofs.Common.{◌≡◌, ◌++◌, List, ℕ, length, map}
+use Rattle.std.proofs.Common.{◌≡◌, ◌++◌, List, length, map}
 use Rattle.tera_check.specs.Findings.{finding_view}
 use Rattle.tera_check.specs.Judged.{known_view, refused_findings}
 use Rattle.tera_check.specs.Passed.{PassedVal, passed_view, AreNamesOf}

@@ -9,13 +9,13 @@ use Rattle.tera_check.proofs.catalogue.add.Goals as goal
 
 pub returns-then-contains_key : goal.returns-then-contains_key
 returns-then-contains_key c = λ n.
-    kept (known_in c.args.catalogue.now) (known_view c.args.known.now) n c.as_str-name.result.now c.as_str-name.ensures.value
+    kept (known_in c.args.catalogue.now) (known_view c.args.known) n c.as_str-name.result.now c.as_str-name.ensures.value
     (some_known _ ∙ sym c.if-contains_key.ensures)
 
 pub returns : goal.returns
 returns c = λ n.
     let map = c.args.catalogue.now in
-    let known = c.args.known.now in
+    let known = c.args.known in
     let name = c.as_str-name.result.now in
     let key = string_bytes c.in_ok-from_str.field-0 in
     let same : key ≡ name = c.in_ok-from_str.ensures.ok in

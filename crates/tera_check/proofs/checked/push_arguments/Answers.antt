@@ -4,4 +4,4 @@ use Rattle.tera_check.proofs.checked.push_arguments.Goals as goal
 
 pub returns : goal.returns
 returns c =
-    judged_known (known_view c.args.known.now) c.args.place _ _ _ _ _ _ c.in_ok-passed.ensures c.in_ok-names.ensures.findings c.in_ok-names.ensures.names c.in_ok-push_missing.ensures
+    judged_known (known_view c.args.known.now) c.args.span.now _ _ _ _ _ _ c.in_ok-passed.ensures c.in_ok-names.ensures.findings c.in_ok-names.ensures.names c.in_ok-push_missing.ensures

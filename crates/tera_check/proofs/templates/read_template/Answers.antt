@@ -1,6 +1,7 @@
 use Rattle.std.proofs.Common.{◌∙◌}
 use Rattle.tera_grammar.proofs.statements.Wholes.{names_derived}
-use Rattle.tera_check.proofs.PlacesLemmas.{places_are}
+use Rattle.tera_check.proofs.FaultLemmas.{apart}
+use Rattle.tera_check.proofs.SpansLemmas.{spans_are}
 use Rattle.tera_check.proofs.templates.read_template.Goals as goal
 
 pub returns-in_ok-defined_at-in-Ok-clause-complete : goal.returns-in_ok-defined_at-in-Ok-clause-complete
@@ -8,12 +9,12 @@ returns-in_ok-defined_at-in-Ok-clause-complete c = λ output d.
     let (ns, read) = names_derived _ _ _ output d in
     (c.in-Ok.ensures.complete output ns read).0
 
-pub returns-in-Err-clause-complete : goal.returns-in-Err-clause-complete
-returns-in-Err-clause-complete c = λ output d.
+pub returns-else-is_memory-clause-complete : goal.returns-else-is_memory-clause-complete
+returns-else-is_memory-clause-complete c = λ output d.
     let (ns, read) = names_derived _ _ _ output d in
-    c.in-Err.ensures.complete output ns read
+    apart c.in-Err.error (c.in-Err.ensures.complete output ns read) c.if-is_memory.ensures
 
 pub returns-in_ok-defined_at-in-Ok-clause-places : goal.returns-in_ok-defined_at-in-Ok-clause-places
 returns-in_ok-defined_at-in-Ok-clause-places c =
     let (ns, read, named) = c.in-Ok.ensures.sound in
-    (ns, read, c.in_ok-defined_at-in-Ok.ensures ∙ places_are _ _ _ _ ns c.in-Ok.names read named)
+    (ns, read, c.in_ok-defined_at-in-Ok.ensures ∙ spans_are _ _ _ _ ns c.in-Ok.names read named)

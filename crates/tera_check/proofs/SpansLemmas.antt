@@ -1,7 +1,6 @@
--- The places of names that a template defines, and those of the names of its components.
-use Rattle.std.proofs.Common.{◌≡◌, ◌≢◌, ℕ, List, [], ◌∷◌, map, cond, Option, Some, refl, sym, ap, subst, ◌∙◌}
+-- The spans of names that a template defines, and those of the names of its components.
+use Rattle.std.proofs.Common.{◌≡◌, ◌≢◌, ℕ, List, [], ◌∷◌, map, Some, refl, sym, ap, subst, ◌∙◌}
 use Rattle.std.specs.List.{AllByRecursion}
-use Rattle.std.specs.Str.{bytes_eq}
 use Rattle.std.proofs.lemmas.Simd.{map-map}
 use Rattle.std.proofs.lemmas.Slice.Eq.{bytes_eq-Decides}
 use Rattle.tera_base.specs.declared.utils.Span.{Span}
@@ -18,10 +17,8 @@ use Rattle.tera_grammar.specs.statements.Top.{DerivesNames}
 use Rattle.tera_grammar.specs.statements.Trees.{IsRight}
 use Rattle.tera_statements.specs.Known.{AreNames, located_of}
 use Rattle.tera_statements.specs.declared.names.Names.{Names}
-use Rattle.tera_tree.specs.Tree.{Definition, Output}
-use Rattle.tera_check.specs.Findings.{place_of}
-use Rattle.tera_check.specs.Named.{place_if_any}
-use Rattle.tera_check.specs.declared.finding.Place.{Place}
+use Rattle.tera_tree.specs.Tree.{Output}
+use Rattle.tera_check.specs.Named.{span_if_any}
 
 -- a name that is none of these stands where it stood
 untouched : (text : List ℕ) (ns : List Name) (f : Located) → AllByRecursion (λ t. text ≢ t) (texts ns) → locate_all ns f text ≡ f text
@@ -30,22 +27,22 @@ untouched text (n ∷ ns) f apart =
     untouched text ns (locate n f) apart.1 ∙ rw (bytes_apart n.text text (λ same. apart.0 (sym same))) refl
 
 -- each of distinct names is met where it stands
-places_met : (ns : List Name) (f : Located) → AreDistinct (texts ns) → map (λ t. place_if_any (locate_all ns f t)) (texts ns) ≡ map (λ n. place_of n.span) ns
-places_met [] f distinct = refl
-places_met (n ∷ ns) f distinct =
+spans_met : (ns : List Name) (f : Located) → AreDistinct (texts ns) → map (λ t. span_if_any (locate_all ns f t)) (texts ns) ≡ map (λ n. n.span) ns
+spans_met [] f distinct = refl
+spans_met (n ∷ ns) f distinct =
     let there : locate_all ns (locate n f) n.text ≡ Some n.span =
     untouched n.text ns (locate n f) distinct.0 ∙ rw ((bytes_eq-Decides n.text n.text).1 refl) refl in
-    λ i. place_if_any (there i) ∷ places_met ns (locate n f) distinct.1 i
+    λ i. span_if_any (there i) ∷ spans_met ns (locate n f) distinct.1 i
 
--- so the places of the definitions, by their names, are those of the names
-pub places_are : (l : Limits) (m : Marks) (source : List ℕ) (output : Output) (ns : Places) (names : Names) → DerivesNames l m source output ns → AreNames names ns
-    → map (λ d. place_if_any (located_of names.components d.name)) output.definitions ≡ map (λ n. place_of n.span) ns.components
-places_are l m source output ns names d are =
+-- so the spans of the definitions, by their names, are those of the names
+pub spans_are : (l : Limits) (m : Marks) (source : List ℕ) (output : Output) (ns : Places) (names : Names) → DerivesNames l m source output ns → AreNames names ns
+    → map (λ d. span_if_any (located_of names.components d.name)) output.definitions ≡ map (λ n. n.span) ns.components
+spans_are l m source output ns names d are =
     let told = (names_told l m source output ns d).1 in
     let right : IsRight output = subst IsRight (sym d.2.2) (template_right l _ d.2.0 d.2.1) in
     let distinct : AreDistinct (texts ns.components) = subst AreDistinct (sym told) right.component_names in
-    let by : Located → List ℕ → Place = λ f t. place_if_any (f t) in
+    let by : Located → List ℕ → Span = λ f t. span_if_any (f t) in
     sym (map-map (by (located_of names.components)) (λ d. d.name) output.definitions)
     ∙ ap (map (by (located_of names.components))) (sym told)
     ∙ ap (λ (s : Seen). map (by s.components) (texts ns.components)) are
-    ∙ places_met ns.components nothing_located distinct
+    ∙ spans_met ns.components nothing_located distinct

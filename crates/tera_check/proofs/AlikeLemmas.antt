@@ -1,0 +1,113 @@
+-- What is found by components that are alike.
+use Rattle.std.proofs.Common.{◌≡◌, ◌∙◌, ℕ, suc, List, [], ◌∷◌, ◌++◌, Bool, Option, None, Some, map, refl, ap}
+use Rattle.std.proofs.Common.{if◌then◌else◌}
+use Rattle.std.specs.List.{flat_map, AllByRecursion}
+use Rattle.tera_base.specs.Contexts.{found}
+use Rattle.tera_base.specs.Values.{Val}
+use Rattle.tera_base.specs.declared.utils.Span.{Span}
+use Rattle.tera_nodes.specs.Tree.{Expr, Const, Array, Map, Var, GetAttr, GetItem, Slice, Filter, Test, Ternary, ListComprehension, ComponentCall, FunctionCall, UnaryOperation, BinaryOperation}
+use Rattle.tera_tree.specs.Tree.{Argument, Definition, Output}
+use Rattle.tera_check.specs.Alike.{name_called, names_in, AreAlike, AreAlikeIfAny, AgreeOn}
+use Rattle.tera_check.specs.Calls.{calls_of}
+use Rattle.tera_check.specs.Findings.{FindingVal}
+use Rattle.tera_check.specs.Judged.{KnownVal, RemarkVal, about, told, refused_for, unless_rest, unknown, refusal, counted, refused, refused_one, is_again, refused_findings, missed, missing_findings, missing_in, judged, call_findings, again, defined_again, again_findings}
+use Rattle.tera_check.specs.Named.{span_at, tree_findings}
+use Rattle.tera_check.specs.Passed.{NamedVal, PassedVal, OneNamed, Whatever, has_whatever, is_passed, passed_by}
+use Rattle.tera_check.specs.declared.templates.Template.{Template}
+
+-- ---- one component, and one that is told alike
+
+module _ (number other : ℕ) (k j : KnownVal) (h : AreAlike number other k j) where
+  about_alike : (span : Span) (r : RemarkVal) → about k span r ≡ about j span r
+  about_alike span r = λ i. about (record k { definition = record k.definition { name = h.name i }; file = h.file i; span = h.span i }) span r
+
+  told_alike : (span : Span) (r : Option RemarkVal) → told k span r ≡ told j span r
+  told_alike span None = refl
+  told_alike span (Some r) = ap (λ f. f ∷ []) (about_alike span r)
+
+  refused_for_alike : (a : Option Argument) (n : List ℕ) (v : Option Val) → refused_for a k.definition n v ≡ refused_for a j.definition n v
+  refused_for_alike (Some a) n v = refl
+  refused_for_alike None n v = λ i. unless_rest (h.rest i) (unknown (record k.definition { arguments = h.arguments i }) n)
+
+  refusal_alike : (n : List ℕ) (v : Option Val) → refusal k.definition n v ≡ refusal j.definition n v
+  refusal_alike n v = ap (λ as_given. refused_for (found n as_given) k.definition n v) h.arguments ∙ refused_for_alike (found n j.definition.arguments) n v
+
+  refused_alike : (more : Bool) (p : NamedVal) → refused k more p ≡ refused j more p
+  refused_alike more p = ap (told k p.span) (refusal_alike p.name (counted more p.constant)) ∙ told_alike p.span (refusal j.definition p.name (counted more p.constant))
+
+  one_alike : (later more : Bool) (p : PassedVal) → refused_one k later more p ≡ refused_one j later more p
+  one_alike later more (OneNamed p) = ap (λ (fs : List FindingVal). if later then [] else fs) (refused_alike more p)
+  one_alike later more Whatever = refl
+
+  all_refused_alike : (ps : List PassedVal) → refused_findings k ps ≡ refused_findings j ps
+  all_refused_alike [] = refl
+  all_refused_alike (p ∷ ps) = λ i. all_refused_alike ps i ++ one_alike (is_again p ps) (has_whatever ps) p i
+
+  missing_alike : (passed : List ℕ → Bool) (span : Span) → missing_findings k passed span ≡ missing_findings j passed span
+  missing_alike passed span = λ i. flat_map (λ a. told_alike span (missed passed a) i) (h.arguments i)
+
+  missing_in_alike : (span : Span) (ps : List PassedVal) → missing_in k span ps ≡ missing_in j span ps
+  missing_in_alike span ps = ap (λ (fs : List FindingVal). if has_whatever ps then [] else fs) (missing_alike (λ n. is_passed n ps) span)
+
+  judged_some : (name : List ℕ) (span : Span) (ps : List PassedVal) → judged (Some k) name span ps ≡ judged (Some j) name span ps
+  judged_some name span ps = λ i. all_refused_alike ps i ++ missing_in_alike span ps i
+
+  again_alike : (span : Span) → again k span ≡ again j span
+  again_alike span = λ i. again (record k { definition = record k.definition { name = h.name i }; file = h.file i; span = h.span i }) span
+
+  defined_some : (span : Span) → defined_again number span (Some k) ≡ defined_again other span (Some j)
+  defined_some span = λ i. if h.own i then [] else again_alike span i ∷ []
+
+-- ---- a tree
+
+all_append : {X : Type 0} (P : X → Type 0) (xs ys : List X) → AllByRecursion P (xs ++ ys) → AllByRecursion P xs × AllByRecursion P ys
+all_append P [] ys h = (tt, h)
+all_append P (x ∷ xs) ys h = let (first, second) = all_append P xs ys h.1 in ((h.0, first), second)
+
+module _ (number other : ℕ) where
+  judged_alike : (o p : Option KnownVal) → AreAlikeIfAny number other o p → (name : List ℕ) (span : Span) (ps : List PassedVal) → judged o name span ps ≡ judged p name span ps
+  judged_alike None None h name span ps = refl
+  judged_alike None (Some j) h name span ps = absurd h
+  judged_alike (Some k) None h name span ps = absurd h
+  judged_alike (Some k) (Some j) h name span ps = judged_some number other k j h name span ps
+
+  defined_alike : (o p : Option KnownVal) → AreAlikeIfAny number other o p → (span : Span) → defined_again number span o ≡ defined_again other span p
+  defined_alike None None h span = refl
+  defined_alike None (Some j) h span = absurd h
+  defined_alike (Some k) None h span = absurd h
+  defined_alike (Some k) (Some j) h span = defined_some number other k j h span
+
+module _ (number other : ℕ) (known others : List ℕ → Option KnownVal) where
+  call_alike : (e : Expr) → AgreeOn (name_called e) number other known others → call_findings known e ≡ call_findings others e
+  call_alike (ComponentCall name es body closed span) h = judged_alike number other (known name) (others name) h.0 name span (passed_by es)
+  call_alike (Const v span) h = refl
+  call_alike (Array es span) h = refl
+  call_alike (Map es span) h = refl
+  call_alike (Var name span) h = refl
+  call_alike (GetAttr e name optional span) h = refl
+  call_alike (GetItem e sub optional span) h = refl
+  call_alike (Slice e start end step optional span) h = refl
+  call_alike (Filter e name args span) h = refl
+  call_alike (Test e name args span) h = refl
+  call_alike (Ternary e given otherwise span) h = refl
+  call_alike (ListComprehension e key value target condition span) h = refl
+  call_alike (FunctionCall name args span) h = refl
+  call_alike (UnaryOperation op e span) h = refl
+  call_alike (BinaryOperation op l r span) h = refl
+
+  calls_alike : (es : List Expr) → AgreeOn (flat_map name_called es) number other known others → flat_map (call_findings known) es ≡ flat_map (call_findings others) es
+  calls_alike [] h = refl
+  calls_alike (e ∷ es) h =
+      let (first, more) = all_append (λ n. AreAlikeIfAny number other (known n) (others n)) (name_called e) (flat_map name_called es) h in
+      λ i. call_alike e first i ++ calls_alike es more i
+
+  definitions_alike : (spans : ℕ → Span) (at : ℕ) (ds : List Definition) → AgreeOn (map (λ d. d.name) ds) number other known others
+      → again_findings known number spans at ds ≡ again_findings others other spans at ds
+  definitions_alike spans at [] h = refl
+  definitions_alike spans at (d ∷ ds) h =
+      λ i. defined_alike number other (known d.name) (others d.name) h.0 (spans at) i ++ definitions_alike spans (suc at) ds h.1 i
+
+  pub tree_alike : (t : Template) (o : Output) → AgreeOn (names_in o) number other known others → tree_findings known number t o ≡ tree_findings others other t o
+  tree_alike t o h =
+      let (defined, called) = all_append (λ n. AreAlikeIfAny number other (known n) (others n)) (map (λ d. d.name) o.definitions) (flat_map name_called (calls_of o)) h in
+      λ i. definitions_alike (span_at t) 0 o.definitions defined i ++ calls_alike (calls_of o) called i
