@@ -1,0 +1,15 @@
+pub mod Controls
+pub mod Ends
+pub mod Hunked
+pub mod LineEnds
+pub mod Marks
+pub mod Numbered
+pub mod Offsets
+pub mod Pieces
+pub mod Placing
+pub mod ShownEdits
+pub mod SideBySide
+pub mod Sides
+pub mod SplitLines
+pub mod Steps
+pub mod Windows

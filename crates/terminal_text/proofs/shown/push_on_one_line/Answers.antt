@@ -1,0 +1,16 @@
+use Rattle.std.proofs.Common.{sym, ◌∙◌}
+use Rattle.std.proofs.lemmas.Str.{IsUtf8-past_char}
+use Rattle.terminal_text.specs.Shown.{told_as}
+use Rattle.terminal_text.proofs.Steps.{text_step, text_end}
+use Rattle.terminal_text.proofs.shown.push_on_one_line.Goals as goal
+
+pub loop-character-preserved : goal.loop-character-preserved
+loop-character-preserved c =
+    let held = c.loop-character.invariant in
+    let parts = c.in-Some.ensures.steps.0 in record {
+      utf8 = IsUtf8-past_char _ _ c.in-Some.character held.utf8 parts;
+      text = text_step told_as _ _ _ _ c.in-Some.character held.utf8 parts c.in_ok-push_told.ensures ∙ held.text;
+    }
+
+pub returns : goal.returns
+returns c = sym (text_end told_as _ _ c.in-None.ensures.steps.0.0) ∙ c.loop-character.invariant.text

@@ -1,0 +1,28 @@
+use Rattle.std.proofs.Common.{length, sym, ap, ◌∙◌, arith, zero-add}
+use Rattle.std.proofs.lemmas.Str.{IsUtf8-past_char, chars_past_char}
+use Rattle.terminal_text.specs.Shown.{shown_as}
+use Rattle.terminal_text.proofs.Steps.{text_step, text_end, columns_step, columns_end}
+use Rattle.terminal_text.proofs.shown.push_shown.Goals as goal
+
+pub overflow_add-columns : goal.overflow_add-columns
+overflow_add-columns c =
+    let held = c.loop-character.invariant in
+    let long = ap length (chars_past_char _ _ c.in-Some.character held.utf8 c.in-Some.ensures.steps.0) in
+    omega (arith, held.few, long, c.in_ok-columns.ensures.few)
+
+pub loop-character-preserved : goal.loop-character-preserved
+loop-character-preserved c =
+    let held = c.loop-character.invariant in
+    let parts = c.in-Some.ensures.steps.0 in
+    let long = ap length (chars_past_char _ _ c.in-Some.character held.utf8 parts) in record {
+      utf8 = IsUtf8-past_char _ _ c.in-Some.character held.utf8 parts;
+      text = text_step shown_as _ _ _ _ c.in-Some.character held.utf8 parts c.in_ok-columns.ensures.text ∙ held.text;
+      columns = columns_step shown_as _ _ _ _ c.in-Some.character held.utf8 parts c.in_ok-columns.ensures.columns ∙ held.columns;
+      few = omega (arith, held.few, long, c.in_ok-columns.ensures.few);
+    }
+
+pub returns-clause-text : goal.returns-clause-text
+returns-clause-text c = sym (text_end shown_as _ _ c.in-None.ensures.steps.0.0) ∙ c.loop-character.invariant.text
+
+pub returns-clause-columns : goal.returns-clause-columns
+returns-clause-columns c = sym (columns_end shown_as _ _ c.in-None.ensures.steps.0.0) ∙ c.loop-character.invariant.columns ∙ zero-add _

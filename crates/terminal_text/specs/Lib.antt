@@ -1,0 +1,11 @@
+pub mod Counted
+pub mod Differences
+pub mod Edits
+pub mod Excerpt
+pub mod Files
+pub mod Hunks
+pub mod Laws
+pub mod Lines
+pub mod Shown
+pub mod Styled
+pub mod Texts

@@ -1,0 +1,215 @@
+//! The line of a source that a place names, with a mark below it.
+
+ghost use Rattle.std.specs.Prelude.{◌≡◌, ◌++◌, ◌∷◌, [], ◌<◌, ◌≤◌, ℕ, List, length, take, drop, replicate, chars, decimal, encode_utf8_all, string_bytes, Some, IsCharBoundary, IfOk, OnOk};
+ghost use Rattle.terminal_text.specs.Excerpt.{window_of, ellipsis as ellipsis_of, shown_before, shown_line, frame, mark_line, excerpt};
+ghost use Rattle.terminal_text.specs.Texts.{window_view};
+ghost use Rattle.terminal_text.specs.Shown.{shown, columns};
+ghost use Rattle.terminal_text.specs.Files.{source_of};
+ghost use Rattle.terminal_text.specs.Lines.{line_at};
+ghost use Rattle.terminal_text.specs.Styled.{styled};
+ghost use Rattle.terminal_text.specs.declared.style.Part.TheVariants as parts;
+
+use crate::shown::{push_character, push_shown};
+use crate::source::Sources;
+use crate::style::{Part, Style};
+use std::alloc::{AllocError, Global};
+
+// So many characters of a line are shown, and at most so many of them before the mark, if more stand behind it.
+const SHOWN: usize = 120;
+
+const BEFORE: usize = 60;
+
+// The number of the line takes so many columns at least.
+const DIGITS: usize = 5;
+
+/// What a mark stands below: characters of a line.
+#[derive(Clone, Copy, Debug)]
+pub struct Marked {
+    /// The line, from 1.
+    pub line: usize,
+    /// The first of them, from 0. Beyond the end of the line the mark stands behind its last character.
+    pub start: usize,
+    /// The first character behind them, from 0, or none, if they go to the end of the line.
+    pub end: Option<usize>,
+}
+
+/// Adds the line of the source, with its number, and below it a mark of one column at least, in the colour of the part. A
+/// tab is shown as four spaces, and what a terminal would obey as `�`. Of a line longer than 120 characters 120 are shown,
+/// from 60 before the mark on, and `…` for the others. Where the source or its line is not there, nothing is added.
+pub fn push_excerpt(
+    alloc: Global,
+    to: &mut String,
+    style: Style,
+    part: Part,
+    sources: &mut Sources<'_>,
+    file: &str,
+    marked: Marked,
+) -> Result<(), AllocError>
+    ensures text { OnOk result (string_bytes to.new ≡ string_bytes to.old
+        ++ excerpt style part marked (line_at (source_of sources.old file.now) marked.line)) }
+    ensures same { (other : List ℕ) → source_of sources.new other ≡ source_of sources.old other }
+{
+    match sources.line(alloc, file, marked.line)? {
+        Some(line) => push_marked(alloc, to, style, part, line, marked),
+        None => Ok(()),
+    }
+}
+
+// Adds both lines.
+fn push_marked(
+    alloc: Global,
+    to: &mut String,
+    style: Style,
+    part: Part,
+    line: &str,
+    marked: Marked,
+) -> Result<(), AllocError>
+    ensures { OnOk result (string_bytes to.new
+        ≡ string_bytes to.old ++ excerpt style part marked (Some line.now)) }
+{
+    let number = marked.line.to_string(alloc)?;
+    let text = number.as_str();
+    let digits = text.len().max(DIGITS);
+    push_frame(alloc, to, style, digits, text)?;
+    let (before, above) = push_window(to, &Window::of(line, marked))?;
+    to.push('\n')?;
+    push_mark(alloc, to, style, part, digits, before, above)
+}
+
+// Adds the line of the mark, behind so many columns and below so many.
+fn push_mark(
+    alloc: Global,
+    to: &mut String,
+    style: Style,
+    part: Part,
+    digits: usize,
+    before: usize,
+    above: usize,
+) -> Result<(), AllocError>
+    ensures { OnOk result (string_bytes to.new
+        ≡ string_bytes to.old ++ mark_line style part digits before above) }
+{
+    let mut mark = String::new(alloc);
+    push_repeated(&mut mark, '^', above.max(1))?;
+    push_frame(alloc, to, style, digits, "")?;
+    push_repeated(to, ' ', before)?;
+    style.push(to, part, mark.as_str())?;
+    to.push('\n')
+}
+
+// Adds what stands before a line and before its mark: the number, or nothing, in so many columns, and a bar.
+fn push_frame(
+    alloc: Global,
+    to: &mut String,
+    style: Style,
+    digits: usize,
+    number: &str,
+) -> Result<(), AllocError>
+    ensures { OnOk result (string_bytes to.new
+        ≡ string_bytes to.old ++ styled style parts.Frame (frame digits number.now)) }
+{
+    let mut text = String::new(alloc);
+    push_repeated(&mut text, ' ', digits.saturating_sub(number.len()))?;
+    text.push_str(number)?;
+    text.push_str(" | ")?;
+    style.push(to, Part::Frame, text.as_str())
+}
+
+// Adds the character so many times.
+fn push_repeated(to: &mut String, character: char, count: usize) -> Result<(), AllocError>
+    requires { character < 128 }
+    ensures { OnOk result (string_bytes to.new
+        ≡ string_bytes to.old ++ replicate count character) }
+{
+    for _time in 0..count {
+        to.push(character)?;
+    }
+    Ok(())
+}
+
+// The characters of a line: those left out at its start, those shown before the mark, above it and behind it, and those
+// left out at its end.
+#[derive(Drop)]
+struct Window<'a> {
+    left_out: &'a str,
+    before: &'a str,
+    marked: &'a str,
+    behind: &'a str,
+    beyond: &'a str,
+}
+
+impl<'a> Window<'a> {
+    fn of(line: &'a str, mark: Marked) -> Window<'a>
+        ensures { window_view result ≡ window_of (chars line.now) mark }
+    {
+        let length = line.chars().count();
+        let start = mark.start.min(length);
+        let end = mark.end.unwrap_or(length);
+        let first = start
+            .saturating_sub(BEFORE)
+            .min(length.saturating_sub(SHOWN));
+        let (left_out, rest) = split_characters(line, first);
+        let (shown, beyond) = split_characters(rest, SHOWN);
+        let (before, from) = split_characters(shown, start - first);
+        let (marked, behind) = split_characters(from, end.saturating_sub(start));
+        Window {
+            left_out,
+            before,
+            marked,
+            behind,
+            beyond,
+        }
+    }
+}
+
+// Adds the line as it is shown, and answers how many columns stand before the mark, and how many above it.
+fn push_window(to: &mut String, window: &Window<'_>) -> Result<(usize, usize), AllocError>
+    requires before { length (window_view window.now).before ≤ 120 }
+    requires marked { length (window_view window.now).marked ≤ 120 }
+    requires behind { length (window_view window.now).behind ≤ 120 }
+    ensures text { OnOk result (string_bytes to.new
+        ≡ string_bytes to.old ++ encode_utf8_all (shown_line (window_view window.now))) }
+    ensures columns { IfOk result (λ n. n ≡ (
+      columns (shown_before (window_view window.now)),
+      columns (shown (window_view window.now).marked),
+    )) }
+{
+    let left_out = push_ellipsis(to, window.left_out)?;
+    let before = left_out + push_shown(to, window.before)?;
+    let above = push_shown(to, window.marked)?;
+    push_shown(to, window.behind)?;
+    push_ellipsis(to, window.beyond)?;
+    Ok((before, above))
+}
+
+// Adds what stands for characters that are left out, and answers how many columns it takes.
+fn push_ellipsis(to: &mut String, left_out: &str) -> Result<usize, AllocError>
+    ensures text { OnOk result (string_bytes to.new
+        ≡ string_bytes to.old ++ encode_utf8_all (ellipsis_of (chars left_out.now))) }
+    ensures columns { IfOk result (λ n. n ≡ columns (ellipsis_of (chars left_out.now))) }
+    ensures few { IfOk result (λ n. n ≤ 4) }
+{
+    if left_out.is_empty() {
+        return Ok(0);
+    }
+    push_character(to, '…')
+}
+
+// The text before the character of this number, from 0, and from it on.
+fn split_characters(text: &str, count: usize) -> (&str, &str)
+    ensures before { chars result.0.now ≡ take count (chars text.now) }
+    ensures behind { chars result.1.now ≡ drop count (chars text.now) }
+{
+    text.split_at(offset_of(text, count))
+}
+
+// The byte at which the character of this number begins, from 0, or the end of the text.
+fn offset_of(text: &str, count: usize) -> usize
+    ensures value { result ≡ length (encode_utf8_all (take count (chars text.now))) }
+    ensures boundary { IsCharBoundary text.now result }
+{
+    match text.char_indices().nth(count) {
+        Some((offset, _)) => offset,
+        None => text.len(),
+    }
+}
