@@ -10,4 +10,5 @@ pub mod Solids
 pub mod Together
 pub mod Layouts
 pub mod Written
+pub mod LineFeeds
 mod Examples

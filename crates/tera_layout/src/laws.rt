@@ -1,6 +1,7 @@
 //! Laws of white space in tags: each function has the law as its promise and does nothing.
 
-ghost use Rattle.std.specs.Prelude.{◌≡◌, ◌↔◌, ℕ, true, List, Some};
+ghost use Rattle.std.specs.Prelude.{◌≡◌, ◌==◌, ◌↔◌, ℕ, true, List, Some, count_by};
+ghost use Rattle.tera_lexer.specs.grammar.Bytes.{line_feed};
 ghost use Rattle.tera_lexer.specs.grammar.Division.{Piece, Complete, IsDivision};
 ghost use Rattle.tera_lexer.specs.grammar.Marks.{Marks, IsValid, default_marks};
 ghost use Rattle.tera_lexer.specs.grammar.Lexeme.{Lexeme, IsLexeme, spelled};
@@ -58,6 +59,13 @@ pub fn layout()
         (one other : List ℕ) → IsLaidOut m one other → IsLaidOut m other other }
     ensures twice { (m : Marks) → IsValid m → is_steady m ≡ true → (one other third : List ℕ) →
         IsLaidOut m one other → IsLaidOut m other third → third ≡ other }
+{}
+
+/// A layout has as many line feeds as its source: white space with a line feed stays as it is, and other white space
+/// comes and goes without one. So the lines of the two stand side by side.
+pub fn lines_kept()
+    ensures { (m : Marks) (one other : List ℕ) → IsLaidOut m one other →
+        count_by (λ b. b == line_feed) one ≡ count_by (λ b. b == line_feed) other }
 {}
 
 /// Between the default markers no white space stays for its loss to end a tag: what joins two lexemes
