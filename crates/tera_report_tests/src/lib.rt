@@ -1,0 +1,5 @@
+//! Tests of findings as people read them.
+#![tactic(auto)]
+
+#[cfg(test)]
+mod told;
