@@ -1,2 +1,4 @@
+pub mod OneLine
 pub mod Pieces
 pub mod Plain
+pub mod Texts

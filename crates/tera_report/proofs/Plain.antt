@@ -79,5 +79,6 @@ plain_notes (NoteOf file span text ∷ notes) is =
     λ i. plain_message Note file span text is.0 is.1.0 i ++ plain_notes notes is.1.1 i
 
 pub plain_is : (file : List ℕ) (finding : FindingVal) → FindingIsOrdinary file finding → told Plain (λ _. None) file finding ≡ lines_of file finding
+unfolding told
 plain_is file (FindingOf kind span text notes) is =
     λ i. plain_message Error file span text is.0 is.1.0 i ++ plain_notes notes is.1.1 i

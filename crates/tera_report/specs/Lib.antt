@@ -1,2 +1,5 @@
+pub mod Annotations
 pub mod Laws
+pub mod Logs
 pub mod Told
+pub mod Uris

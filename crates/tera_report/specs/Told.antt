@@ -53,6 +53,6 @@ abbrev pub note_told : Style → (List ℕ → Option (List ℕ)) → NoteVal �
 note_told style known (NoteOf file span text) = message style known Note file span text
 
 -- the finding in a file, and its notes
-abbrev pub told : Style → (List ℕ → Option (List ℕ)) → List ℕ → FindingVal → List ℕ
+unfoldable pub told : Style → (List ℕ → Option (List ℕ)) → List ℕ → FindingVal → List ℕ
 told style known file (FindingOf kind span text notes) =
     message style known (severity_of kind) file span text ++ flat_map (note_told style known) notes

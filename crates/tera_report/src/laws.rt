@@ -1,7 +1,10 @@
-//! What findings as people read them are, in other words: each function has the law as its promise and does nothing.
+//! What findings as text are, in other words: each function has the law as its promise and does nothing.
 
-ghost use Rattle.std.specs.Prelude.{◌≡◌, ℕ, List, None};
-ghost use Rattle.tera_check.specs.Findings.{FindingVal, lines_of};
+ghost use Rattle.std.specs.Prelude.{◌≡◌, ◌<◌, ◌^◌, ℕ, List, None};
+ghost use Rattle.tera_base.specs.declared.utils.Span.{Span};
+ghost use Rattle.tera_check.specs.Findings.{FindingVal, NoteVal, FindingOf, lines_of};
+ghost use Rattle.tera_check.specs.declared.finding.Kind.{Kind};
+ghost use Rattle.tera_report.specs.Annotations.{annotation as annotation_text, IsOneLine};
 ghost use Rattle.tera_report.specs.Laws.{FindingIsOrdinary};
 ghost use Rattle.tera_report.specs.Told.{told};
 ghost use Rattle.terminal_text.specs.declared.style.Style.TheVariants.{Plain};
@@ -11,4 +14,11 @@ ghost use Rattle.terminal_text.specs.declared.style.Style.TheVariants.{Plain};
 pub fn plain()
     ensures { (file : List ℕ) (finding : FindingVal) → FindingIsOrdinary file finding →
         told Plain (λ _. None) file finding ≡ lines_of file finding }
+{}
+
+/// Whatever the name of the file and the message are, an annotation is one line.
+pub fn annotation()
+    ensures { (file : List ℕ) (kind : Kind) (s : Span) (text : List ℕ) (notes : List NoteVal) →
+        s.start_line < 2 ^ 64 → s.end_line < 2 ^ 64 →
+        IsOneLine (annotation_text file (FindingOf kind s text notes)) }
 {}

@@ -1,14 +1,20 @@
-//! Findings as text: as people read them.
+//! Findings as text: for people, for workflows of GitHub and for services that read SARIF.
 //!
-//! It takes findings of `tera_check`, and puts them at the end of a text (`told`). It stands on `tera_check` and
-//! `terminal_text`.
+//! It takes findings of `tera_check`, and puts them at the end of a text (`told`, `github`) or into a log (`sarif`). It
+//! stands on `tera_check` and `terminal_text`; of the kit on `json`.
 //!
-//! In the order of reading: spec `Told`; `severity`; `told`; `laws`.
+//! In the order of reading: spec `Told`, `severity` and `told`; specs `Annotations` and `github`; `Uris` and `uris`; `Logs`
+//! and `sarif`; `laws`.
 #![tactic(auto)]
 
+mod github;
 pub mod laws;
+mod sarif;
 mod severity;
 mod told;
+mod uris;
 
+pub use github::push_annotation;
+pub use sarif::{begin_log, end_log, put_result};
 pub use severity::Severity;
 pub use told::push_told;

@@ -2,11 +2,12 @@ use Rattle.std.proofs.Common.{◌≡◌, ◌++◌, List, ℕ, map, string_bytes,
 use Rattle.std.specs.List.{flat_map}
 use Rattle.std.proofs.lemmas.Result.{IfOk-equal}
 use Rattle.tera_check.specs.Findings.{note_view}
-use Rattle.tera_report.specs.Told.{severity_of, message, note_told}
+use Rattle.tera_report.specs.Told.{told, severity_of, message, note_told}
 use Rattle.terminal_text.specs.Files.{source_of}
 use Rattle.tera_report.proofs.told.push_told.Goals as goal
 
 pub returns-clause-text : goal.returns-clause-text
+unfolding told
 returns-clause-text c =
     let f = c.args.finding.now in
     let before : List ℕ = string_bytes c.args.to.now in

@@ -1,0 +1,25 @@
+-- Texts that grow.
+use Rattle.std.proofs.Common.{◌≡◌, ◌<◌, ℕ, List, [], ◌∷◌, ◌++◌, encode_utf8, ap, ◌∙◌}
+use Rattle.std.proofs.lemmas.Grind.{flat_map-append}
+use Rattle.std.proofs.lemmas.List.{append_assoc, append-nil}
+use Rattle.std.proofs.lemmas.Str.{encode_ascii}
+use Rattle.std.specs.List.{flat_map}
+
+pub one_more : {A : Type 0} (f : A → List ℕ) (xs : List A) (x : A) → flat_map f (xs ++ x ∷ []) ≡ flat_map f xs ++ f x
+one_more f xs x = flat_map-append f xs (x ∷ []) ∙ ap (λ l. flat_map f xs ++ l) (append-nil (f x))
+
+-- a list that grew, and grew again
+pub behind : {A : Type 0} (a b c x y : List A) → b ≡ a ++ x → c ≡ b ++ y → c ≡ a ++ (x ++ y)
+behind a b c x y e f = f ∙ ap (λ l. l ++ y) e ∙ append_assoc a x y
+
+-- .. three times and four times
+pub three : {A : Type 0} (start now next last a b c : List A) → now ≡ start ++ a → next ≡ now ++ b → last ≡ next ++ c → last ≡ start ++ (a ++ (b ++ c))
+three start now next last a b c first second third = behind start now last a (b ++ c) first (behind now next last b c second third)
+
+pub four : {A : Type 0} (start now next more last a b c d : List A) → now ≡ start ++ a → next ≡ now ++ b → more ≡ next ++ c → last ≡ more ++ d → last ≡ start ++ (a ++ (b ++ (c ++ d)))
+four start now next more last a b c d first second third fourth =
+    behind start now last a (b ++ (c ++ d)) first (three now next more last b c d second third fourth)
+
+-- a character of one byte
+pub ascii : (c : ℕ) → c < 128 → encode_utf8 c ≡ c ∷ []
+ascii c low = encode_ascii c low

@@ -1,0 +1,90 @@
+//! Findings as workflow commands, which GitHub shows beside the lines of a change.
+
+ghost use Rattle.std.specs.Prelude.{◌≡◌, ◌++◌, string_bytes, IfOk, OnOk};
+ghost use Rattle.tera_check.specs.Findings.{finding_view};
+ghost use Rattle.tera_report.specs.Annotations.{annotation, escaped_character, escaped, property_character, property, span_text, column_of};
+
+use std::alloc::{AllocError, Global};
+use tera_base::Span;
+use tera_check::Finding;
+
+/// Adds the line `::error file=..,line=..,col=..,endLine=..,endColumn=..,title=..::MESSAGE`, whose title is the name of the
+/// kind. Lines and columns count from 1, columns in characters, and `endColumn` is the one behind the last. Notes are
+/// left out: a command has one place.
+pub fn push_annotation(
+    alloc: Global,
+    to: &mut String,
+    file: &str,
+    finding: &Finding,
+) -> Result<(), AllocError>
+    ensures { OnOk result (string_bytes to.new
+        ≡ string_bytes to.old ++ annotation file.now (finding_view finding.now)) }
+{
+    let place = span_of(alloc, &finding.span)?;
+    to.push_str("::error file=")?;
+    push_property(to, file)?;
+    to.push_str(place.as_str())?;
+    to.push_str(",title=")?;
+    to.push_str(finding.kind.name())?;
+    to.push_str("::")?;
+    push_escaped(to, finding.message.as_str())?;
+    to.push_str("\n")?;
+    Ok(())
+}
+
+fn span_of(alloc: Global, span: &Span) -> Result<String, AllocError>
+    ensures { IfOk result (λ t. string_bytes t ≡ span_text span.now) }
+{
+    let (line, end) = (span.start_line, span.end_line);
+    let (col, end_col) = (column(span.start_col), column(span.end_col));
+    format!(in alloc; ",line={line},col={col},endLine={end},endColumn={end_col}")
+}
+
+// The column from 1, of one from 0.
+pub(crate) fn column(col: usize) -> usize
+    ensures { result ≡ column_of col }
+{
+    col.saturating_add(1)
+}
+
+fn push_escaped(to: &mut String, text: &str) -> Result<(), AllocError>
+    ensures { OnOk result (string_bytes to.new ≡ string_bytes to.old ++ escaped text.now) }
+{
+    'characters: for character in text.chars() {
+        push_character(to, character)?;
+    }
+    Ok(())
+}
+
+fn push_character(to: &mut String, character: char) -> Result<(), AllocError>
+    ensures { OnOk result (string_bytes to.new
+        ≡ string_bytes to.old ++ escaped_character character) }
+{
+    match character {
+        '%' => to.push_str("%25"),
+        '\r' => to.push_str("%0D"),
+        '\n' => to.push_str("%0A"),
+        _ => to.push(character),
+    }
+}
+
+fn push_property(to: &mut String, text: &str) -> Result<(), AllocError>
+    ensures { OnOk result (string_bytes to.new ≡ string_bytes to.old ++ property text.now) }
+{
+    'characters: for character in text.chars() {
+        push_property_character(to, character)?;
+    }
+    Ok(())
+}
+
+// A property ends at a colon or a comma.
+fn push_property_character(to: &mut String, character: char) -> Result<(), AllocError>
+    ensures { OnOk result (string_bytes to.new
+        ≡ string_bytes to.old ++ property_character character) }
+{
+    match character {
+        ':' => to.push_str("%3A"),
+        ',' => to.push_str("%2C"),
+        _ => push_character(to, character),
+    }
+}
