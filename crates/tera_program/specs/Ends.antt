@@ -1,0 +1,8 @@
+-- How the program ends.
+use Rattle.std.specs.Prelude.{ℕ}
+use Rattle.tera_check.specs.Rules.{status_of}
+use Rattle.tera_program.specs.declared.status.Ended.{Ended}
+
+-- 2 where not all could be done or told, or else 1 where something was found
+abbrev pub status_at : Ended → ℕ
+status_at e = status_of e.found e.failed

@@ -1,0 +1,43 @@
+-- Findings as text, in each form.
+use Rattle.std.specs.Prelude.{ℕ, List, [], ◌∷◌, ◌++◌, codes}
+use Rattle.std.specs.List.{flat_map}
+use Rattle.json.specs.Token.{Token}
+use Rattle.json.specs.Print.{print}
+use Rattle.tera_check.specs.Findings.{FindingVal, lines_of}
+use Rattle.tera_check.specs.Objects.{object_of}
+use Rattle.tera_report.specs.Annotations.{annotation}
+use Rattle.tera_report.specs.Logs.{log_begin, log_end, result_object}
+use Rattle.tera_report.specs.Told.{told}
+use Rattle.terminal_text.specs.declared.style.Style.{Style}
+use Rattle.tera_program.specs.Found.{FoundVal}
+use Rattle.tera_program.specs.Sources.{Known}
+use Rattle.tera_program.specs.declared.job.Form.{Form}
+use Rattle.tera_program.specs.declared.job.Form.TheVariants as forms
+
+-- the version that the program tells
+abbrev pub version : List ℕ
+version = codes "0.1.0"
+
+-- what is written of the findings in a file, one behind another
+abbrev pub of_each : {A : Type 0} → (List ℕ → FindingVal → List A) → FoundVal → List A
+of_each of_one found = flat_map (of_one found.0) found.1
+
+-- the text of a finding in a file; a log has none of single findings
+abbrev pub finding_text : Form → Style → Known → List ℕ → FindingVal → List ℕ
+finding_text forms.Full style known file finding = told style known file finding
+finding_text forms.Concise style known file finding = lines_of file finding
+finding_text forms.Json style known file finding = print (object_of file finding) ++ 10 ∷ []
+finding_text forms.Github style known file finding = annotation file finding
+finding_text forms.Sarif style known file finding = []
+
+-- the tokens of a log
+abbrev pub log_of : List FoundVal → List Token
+log_of all = log_begin version ++ (flat_map (of_each result_object) all ++ log_end)
+
+-- what is written of the findings in all files
+abbrev pub text_of : Form → Style → Known → List FoundVal → List ℕ
+text_of forms.Sarif style known all = print (log_of all) ++ 10 ∷ []
+text_of forms.Full style known all = flat_map (of_each (finding_text forms.Full style known)) all
+text_of forms.Concise style known all = flat_map (of_each (finding_text forms.Concise style known)) all
+text_of forms.Json style known all = flat_map (of_each (finding_text forms.Json style known)) all
+text_of forms.Github style known all = flat_map (of_each (finding_text forms.Github style known)) all

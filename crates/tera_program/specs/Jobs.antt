@@ -1,0 +1,116 @@
+-- What the words of the command line ask.
+use Rattle.std.specs.Prelude.{ℕ, List, Bool, false, Option, None, Some, option_map, option_and_then, unwrap_or, if◌then◌else◌, bytes_eq, codes}
+use denote.Ref.{Bor}
+use Rattle.clap.specs.Words.{Row, first_of, all_of}
+use Rattle.tera_files.specs.Names.{texts}
+use Rattle.tera_program.specs.declared.colours.Colours.{Colours}
+use Rattle.tera_program.specs.declared.colours.Colours.TheVariants.{Auto, Always, Never}
+use Rattle.tera_program.specs.declared.job.Check.{Check}
+use Rattle.tera_program.specs.declared.job.Common.{Common}
+use Rattle.tera_program.specs.declared.job.Components.{Components}
+use Rattle.tera_program.specs.declared.job.Form.{Form}
+use Rattle.tera_program.specs.declared.job.Form.TheVariants as forms
+use Rattle.tera_program.specs.declared.job.Format.{Format}
+use Rattle.tera_program.specs.declared.job.Job.{Job}
+use Rattle.tera_program.specs.declared.job.Job.TheVariants as jobs
+use Rattle.tera_program.specs.declared.job.Mode.{Mode}
+use Rattle.tera_program.specs.declared.job.Mode.TheVariants as modes
+use Rattle.tera_program.specs.declared.job.Tree.{Tree}
+
+-- ---- what is seen of a job
+
+-- some texts, if they are given
+abbrev pub lists_view : Option (Bor (List (Bor (List ℕ)))) → Option (List (List ℕ))
+lists_view = option_map (λ t. texts t.now)
+
+pub record CommonVal : Type 0 where
+  pub extensions : Option (List (List ℕ))
+  pub stdin : List ℕ
+  pub colours : Colours
+  pub quiet : Bool
+
+abbrev pub common_view : Common → CommonVal
+common_view c = record { extensions = lists_view c.extensions; stdin = c.stdin.now; colours = c.colours; quiet = c.quiet }
+
+pub data JobVal : Type 0 where
+  Checks : Form → Option (List (List ℕ)) → Option (List (List ℕ)) → CommonVal → JobVal
+  Shows : Bool → List ℕ → CommonVal → JobVal
+  Lists : Bool → Option (List (List ℕ)) → CommonVal → JobVal
+  LaysOut : Mode → Option (List ℕ) → Option (List (List ℕ)) → CommonVal → JobVal
+
+abbrev pub check_view : Check → JobVal
+check_view j = Checks j.form (lists_view j.library) (lists_view j.files) (common_view j.common)
+
+abbrev pub tree_view : Tree → JobVal
+tree_view j = Shows j.json j.file.now (common_view j.common)
+
+abbrev pub components_view : Components → JobVal
+components_view j = Lists j.html (lists_view j.files) (common_view j.common)
+
+abbrev pub format_view : Format → JobVal
+format_view j = LaysOut j.mode (option_map (λ m. m.now) j.markers) (lists_view j.files) (common_view j.common)
+
+abbrev pub job_view : Job → JobVal
+job_view (jobs.Check j) = check_view j
+job_view (jobs.Tree j) = tree_view j
+job_view (jobs.Components j) = components_view j
+job_view (jobs.Format j) = format_view j
+
+-- ---- what is read of the rows of a subcommand
+
+-- whether there is a text, and it is this one
+abbrev pub is_text : List ℕ → Option (List ℕ) → Bool
+is_text word None = false
+is_text word (Some text) = bytes_eq text word
+
+-- whether a flag is given
+abbrev pub is_set : List ℕ → List Row → Bool
+is_set id rows = is_text (codes "true") (first_of id rows)
+
+abbrev pub text_or : List ℕ → List ℕ → List Row → List ℕ
+text_or default id rows = unwrap_or (first_of id rows) default
+
+abbrev pub colours_of : Option (List ℕ) → Colours
+colours_of word = if is_text (codes "always") word then Always else (if is_text (codes "never") word then Never else Auto)
+
+abbrev pub form_of : Option (List ℕ) → Form
+form_of word =
+    if is_text (codes "concise") word then forms.Concise
+    else (if is_text (codes "json") word then forms.Json
+    else (if is_text (codes "github") word then forms.Github
+    else (if is_text (codes "sarif") word then forms.Sarif else forms.Full)))
+
+-- where both are asked, the difference is shown
+abbrev pub mode_of : List Row → Mode
+mode_of rows =
+    if is_set (codes "diff") rows then modes.Diff else (if is_set (codes "check") rows then modes.Check else modes.Write)
+
+abbrev pub common_of : List Row → CommonVal
+common_of rows = record {
+  extensions = all_of (codes "extension") rows;
+  stdin = text_or (codes "-") (codes "stdin-filename") rows;
+  colours = colours_of (first_of (codes "color") rows);
+  quiet = is_set (codes "quiet") rows;
+}
+
+abbrev pub check_of : List Row → JobVal
+check_of rows =
+    Checks (form_of (first_of (codes "output-format") rows)) (all_of (codes "library") rows) (all_of (codes "files") rows) (common_of rows)
+
+abbrev pub tree_of : List Row → JobVal
+tree_of rows = Shows (is_set (codes "json") rows) (text_or (codes "-") (codes "file") rows) (common_of rows)
+
+abbrev pub components_of : List Row → JobVal
+components_of rows =
+    Lists (is_text (codes "html") (first_of (codes "output-format") rows)) (all_of (codes "files") rows) (common_of rows)
+
+abbrev pub format_of : List Row → JobVal
+format_of rows = LaysOut (mode_of rows) (first_of (codes "markers") rows) (all_of (codes "files") rows) (common_of rows)
+
+-- what a subcommand with these rows asks
+abbrev pub job_of : List ℕ × List Row → Option JobVal
+job_of (name, rows) =
+    if bytes_eq name (codes "check") then Some (check_of rows)
+    else (if bytes_eq name (codes "tree") then Some (tree_of rows)
+    else (if bytes_eq name (codes "components") then Some (components_of rows)
+    else (if bytes_eq name (codes "format") then Some (format_of rows) else None)))

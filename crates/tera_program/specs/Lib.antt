@@ -1,0 +1,9 @@
+pub mod Counting
+pub mod Ends
+pub mod Forms
+pub mod Found
+pub mod Jobs
+pub mod Lines
+pub mod Plans
+pub mod Sources
+pub mod Told

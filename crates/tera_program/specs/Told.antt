@@ -1,0 +1,44 @@
+-- What is told of templates, and how the program ends.
+use Rattle.std.specs.Prelude.{◌≡◌, ◌<◌, ◌||◌, ℕ, List, true, false, nat_lt, map, length, take, Option, None, Some, is_some, Result, Ok, Err, MatchResult}
+use Rattle.std.specs.declared.alloc.AllocError.{AllocError}
+use Rattle.std.specs.Io.KnownBytes.{Appends, Keeps}
+use Rattle.std.specs.List.{list_any}
+use Rattle.std.specs.declared.io.Error.{Error}
+use Rattle.tera_check.specs.declared.templates.Template.{Template}
+use Rattle.terminal_text.specs.declared.style.Style.{Style}
+use Rattle.tera_program.specs.Forms.{text_of}
+use Rattle.tera_program.specs.Found.{AreFound, defined_in, count_in, faulty_in, found_view, is_faulty}
+use Rattle.tera_program.specs.Sources.{Known, nothing, with_sources}
+use Rattle.tera_program.specs.declared.found.Found.{Found}
+use Rattle.tera_program.specs.declared.job.Form.{Form}
+use Rattle.tera_program.specs.declared.reading.Templates.{Templates}
+use Rattle.tera_program.specs.declared.status.Ended.{Ended}
+use Rattle.tera_program.specs.declared.telling.Told.{Told}
+
+-- a writer took all of the text, or a beginning of it where it stopped
+abbrev pub Takes : Option (List ℕ) → Option (List ℕ) → List ℕ → Option Error → Type 0
+Takes old new text None = Appends old new text
+Takes old new text (Some error) = (n : ℕ) × (n < length text) × Appends old new (take n text)
+
+-- what was found in the templates was written whole, or a beginning of it, and counted
+pub record IsTold (form : Form) (style : Style) (known : Known) (templates : List Template) (checked : ℕ) (old new : Option (List ℕ)) (told : Told) : Type 0 where
+  pub all : List Found
+  pub are : AreFound (defined_in templates) checked 0 templates all
+  pub written : Takes old new (text_of form style known (map found_view all)) told.stopped
+  pub found : told.found ≡ list_any is_faulty all
+  pub findings : told.findings ≡ count_in all
+  pub faulty : told.faulty ≡ faulty_in all
+
+-- how the program ends where so many files could not be read
+abbrev pub ended_of : Result Told AllocError → ℕ → Ended
+ended_of (Ok told) unread = record { found = told.found; failed = nat_lt 0 unread || is_some told.stopped }
+ended_of (Err error) unread = record { found = false; failed = true }
+
+-- what was found in the templates was told, and the program ends as that and the files that could not be read say; or
+-- no memory was found, and nothing was written
+pub record IsChecked (form : Form) (style : Style) (all : Templates) (old new : Option (List ℕ)) (ended : Ended) : Type 0 where
+  pub told : Result Told AllocError
+  pub written : MatchResult told
+      (IsTold form style (with_sources nothing all.sources.items) all.templates.items all.checked old new)
+      (λ _. Keeps old new)
+  pub ends : ended ≡ ended_of told all.unread

@@ -1,0 +1,121 @@
+//! `tera check`.
+
+ghost use Rattle.std.specs.Prelude.{◌≡◌, IfOk, OnErr};
+ghost use Rattle.std.specs.Io.KnownBytes.{Keeps};
+ghost use Rattle.tera_program.specs.Sources.{nothing, with_sources};
+ghost use Rattle.tera_program.specs.Told.{IsChecked, IsTold, ended_of};
+
+use crate::colours::{Terminals, style};
+use crate::counting::{Checked, checked_line};
+use crate::job::{Check, Form};
+use crate::output::{tell, tell_stopped};
+use crate::reading::{Templates, read_all};
+use crate::status::Ended;
+use crate::telling::{Told, tell_findings};
+use std::alloc::{AllocError, Global};
+use std::io;
+use std::io::Write;
+use std::rt::{Env, Files};
+use terminal_text::Style;
+
+/// Checks the files, beside those of the library.
+///
+/// The templates that are checked stand before those of the library, so that of two components of one name theirs counts.
+pub(crate) fn run<R: Files + Env + Input + Print + Eprint + AllocGlobal + Clone + Drop>(
+    rt: &R,
+    terminals: Terminals,
+    job: &Check<'_, '_>,
+) -> Ended {
+    let style = style(rt, job.common.colours, terminals.out);
+    let Some(files) = job.files else {
+        return Ended::failed();
+    };
+    match read_all(rt, job.common, files, job.library) {
+        Ok(all) => run_on(rt, style, job, &all, &mut io::writer(rt)),
+        Err(_) => {
+            tell(rt, "tera", "out of memory");
+            Ended::failed()
+        }
+    }
+}
+
+// Tells what is found in the templates.
+fn run_on<R: Eprint + AllocGlobal, W: Write>(
+    rt: &R,
+    style: Style,
+    job: &Check<'_, '_>,
+    all: &Templates,
+    writer: &mut W,
+) -> Ended
+    ensures { IsChecked job.now.form style all.now (W.contents writer.old) (W.contents writer.new)
+        result }
+{
+    let told = tell_all(rt.alloc(), style, job.form, all, writer);
+    match &told {
+        Ok(told) => tell_end(rt, job, all, told),
+        Err(_) => tell(rt, "tera", "out of memory"),
+    }
+    ended(&told, all.unread)
+}
+
+fn tell_all<W: Write>(
+    alloc: Global,
+    style: Style,
+    form: Form,
+    all: &Templates,
+    writer: &mut W,
+) -> Result<Told, AllocError>
+    ensures told { IfOk result (IsTold form style (with_sources nothing all.now.sources.items)
+        all.now.templates.items all.now.checked (W.contents writer.old) (W.contents writer.new)) }
+    ensures memory { OnErr result (Keeps (W.contents writer.old) (W.contents writer.new)) }
+{
+    let mut sources = all.texts(alloc)?;
+    tell_findings(
+        alloc,
+        writer,
+        form,
+        style,
+        &mut sources,
+        &all.templates,
+        all.checked,
+    )
+}
+
+// How the program ends where so many files could not be read.
+fn ended(told: &Result<Told, AllocError>, unread: usize) -> Ended
+    ensures { result ≡ ended_of told.now unread }
+{
+    match told {
+        Ok(told) => Ended {
+            found: told.found,
+            failed: unread > 0 || told.stopped.is_some(),
+        },
+        Err(_) => Ended::failed(),
+    }
+}
+
+// Says on standard error why not all was written, or else the last line.
+fn tell_end<R: Eprint + AllocGlobal>(rt: &R, job: &Check<'_, '_>, all: &Templates, told: &Told) {
+    match told.stopped {
+        Some(error) => tell_stopped(rt, error),
+        None if is_counted(job) => tell_counts(rt, all, told),
+        None => {}
+    }
+}
+
+// The forms that other programs read have no last line.
+fn is_counted(job: &Check<'_, '_>) -> bool {
+    !job.common.quiet && matches!(job.form, Form::Full | Form::Concise)
+}
+
+fn tell_counts<R: Eprint + AllocGlobal>(rt: &R, all: &Templates, told: &Told) {
+    let counts = Checked {
+        files: all.checked,
+        findings: told.findings,
+        faulty: told.faulty,
+        unread: all.unread,
+    };
+    if let Ok(line) = checked_line(rt.alloc(), counts) {
+        let _ = eprintln!(rt; "{line}");
+    }
+}

@@ -1,0 +1,96 @@
+//! `tera components`.
+
+use crate::colours::{Terminals, style};
+use crate::counting::{Listed, listed_line};
+use crate::job::Components;
+use crate::output::{put, tell};
+use crate::reading::{Templates, read_all};
+use crate::status::Ended;
+use std::alloc::{AllocError, Global};
+use std::rt::{Env, Files};
+use tera_catalogue::{Component, components_of, html_of, json_of};
+use tera_check::finding_of_fault;
+use tera_report::push_told;
+use terminal_text::Style;
+
+/// Lists the components of the files.
+pub(crate) fn run<R: Files + Env + Input + Print + Eprint + AllocGlobal + Clone + Drop>(
+    rt: &R,
+    terminals: Terminals,
+    job: &Components<'_, '_>,
+) -> Ended {
+    match listed(rt, terminals, job) {
+        Ok(ended) => ended,
+        Err(_) => {
+            tell(rt, "tera", "out of memory");
+            Ended::failed()
+        }
+    }
+}
+
+// The catalogue is written also where a file could not be read, or has a fault.
+fn listed<R: Files + Env + Input + Print + Eprint + AllocGlobal + Clone + Drop>(
+    rt: &R,
+    terminals: Terminals,
+    job: &Components<'_, '_>,
+) -> Result<Ended, AllocError> {
+    let alloc = rt.alloc();
+    let style = style(rt, job.common.colours, terminals.err);
+    let Some(files) = job.files else {
+        return Ok(Ended::failed());
+    };
+    let all = read_all(rt, job.common, files, None)?;
+    let faults = faults_of(alloc, style, &all)?;
+    let _ = eprint!(rt; "{}", faults.text);
+    let components = components_of(alloc, &all.templates)?;
+    let text = catalogue(alloc, job.html, components.as_slice())?;
+    let written = put(rt, text.as_slice());
+    if written && !job.common.quiet {
+        let counts = Listed {
+            components: components.len(),
+            files: all.templates.len(),
+            faulty: faults.count,
+            unread: all.unread,
+        };
+        let line = listed_line(alloc, counts)?;
+        let _ = eprintln!(rt; "{line}");
+    }
+    Ok(Ended {
+        found: faults.count > 0,
+        failed: all.unread > 0 || !written,
+    })
+}
+
+fn catalogue(
+    alloc: Global,
+    html: bool,
+    components: &[Component<'_>],
+) -> Result<Vec<u8>, AllocError> {
+    if html {
+        html_of(alloc, components)
+    } else {
+        json_of(alloc, components)
+    }
+}
+
+// The faults of templates, as text, and how many there are.
+#[derive(Drop)]
+struct Faults {
+    text: String,
+    count: usize,
+}
+
+fn faults_of(alloc: Global, style: Style, all: &Templates) -> Result<Faults, AllocError> {
+    let mut sources = all.texts(alloc)?;
+    let mut text = String::new(alloc);
+    let mut count = 0usize;
+    for template in &all.templates {
+        if let Err(error) = &template.parsed {
+            let finding = finding_of_fault(alloc, error)?;
+            let file = template.file.as_str();
+            push_told(alloc, &mut text, style, file, &mut sources, &finding)?;
+            count = count.saturating_add(1);
+        }
+    }
+    Ok(Faults { text, count })
+}

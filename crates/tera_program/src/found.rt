@@ -1,0 +1,90 @@
+//! What is found in templates.
+
+ghost use Rattle.std.specs.Prelude.{◌≡◌, IfOk, List, ℕ};
+ghost use Rattle.std.specs.List.{list_any};
+ghost use Rattle.tera_check.specs.Named.{known_in};
+ghost use Rattle.tera_program.specs.Found.{AreFound, IsFoundOf, defined_in, is_faulty, count_in, faulty_in};
+
+use std::alloc::{AllocError, Global};
+use tera_check::{Catalogue, Finding, Template, catalogue_of, findings_of};
+
+/// What is found in one template.
+#[derive(Drop)]
+pub(crate) struct Found<'a> {
+    pub(crate) file: &'a str,
+    pub(crate) findings: Vec<Finding>,
+}
+
+/// What is found in each of the templates. Of those behind the first `checked`, which are the library, their faults alone
+/// are found.
+pub(crate) fn all_found<'a>(
+    alloc: Global,
+    templates: &'a Vec<Template>,
+    checked: usize,
+) -> Result<Vec<Found<'a>>, AllocError>
+    ensures { IfOk result (λ all.
+        AreFound (defined_in templates.now.items) checked 0 templates.now.items all.items) }
+{
+    let catalogue = catalogue_of(alloc, templates)?;
+    let mut all = Vec::new(alloc);
+    for (number, template) in templates.iter().enumerate() {
+        all.push(Found {
+            file: template.file.as_str(),
+            findings: found_in(alloc, &catalogue, checked, number, template)?,
+        })?;
+    }
+    Ok(all)
+}
+
+fn found_in(
+    alloc: Global,
+    catalogue: &Catalogue<'_>,
+    checked: usize,
+    number: usize,
+    template: &Template,
+) -> Result<Vec<Finding>, AllocError>
+    ensures { IfOk result (λ findings.
+        IsFoundOf (known_in catalogue.now) checked number template.now findings.items) }
+{
+    if number < checked {
+        return findings_of(alloc, catalogue, number, template);
+    }
+    match &template.parsed {
+        Ok(_) => Ok(Vec::new(alloc)),
+        Err(_) => findings_of(alloc, catalogue, number, template),
+    }
+}
+
+/// Whether something is found.
+pub(crate) fn is_any(all: &[Found<'_>]) -> bool
+    ensures { result ≡ list_any is_faulty all.now }
+{
+    for found in all {
+        if !found.findings.is_empty() {
+            return true;
+        }
+    }
+    false
+}
+
+/// How many findings there are, as far as a number goes.
+pub(crate) fn count_of(all: &[Found<'_>]) -> usize
+    ensures { result ≡ count_in all.now }
+{
+    let mut count = 0usize;
+    for found in all {
+        count = count.saturating_add(found.findings.len());
+    }
+    count
+}
+
+/// In how many templates something is found.
+pub(crate) fn faulty_of(all: &[Found<'_>]) -> usize
+    ensures { result ≡ faulty_in all.now }
+{
+    let mut count = 0usize;
+    for found in all {
+        count = count.saturating_add(usize::from(!found.findings.is_empty()));
+    }
+    count
+}

@@ -1,0 +1,229 @@
+//! What the words of the command line ask.
+
+ghost use Rattle.std.specs.Prelude.{◌≡◌, option_map, option_and_then, unwrap_or, codes};
+ghost use Rattle.clap.specs.Words.{found_of, rows_of, first_of, all_of, subcommand_rows_of};
+ghost use Rattle.tera_files.specs.Names.{texts};
+ghost use Rattle.tera_program.specs.Jobs.{check_of, check_view, colours_of, common_of, common_view, components_of, components_view, form_of, format_of, format_view, is_set, is_text, job_of, job_view, mode_of, tree_of, tree_view};
+
+use crate::colours::Colours;
+use clap::ArgMatches;
+
+/// What is to be done.
+#[derive(Clone, Copy, Debug)]
+pub(crate) enum Job<'b, 'a> {
+    Check(Check<'b, 'a>),
+    Tree(Tree<'b, 'a>),
+    Components(Components<'b, 'a>),
+    Format(Format<'b, 'a>),
+}
+
+/// What each job is told.
+#[derive(Clone, Copy, Debug)]
+pub(crate) struct Common<'b, 'a> {
+    /// How the names of templates end in a folder, where that is not as usual.
+    pub(crate) extensions: Option<&'b [&'a str]>,
+    /// The name of standard input.
+    pub(crate) stdin: &'a str,
+    pub(crate) colours: Colours,
+    pub(crate) quiet: bool,
+}
+
+#[derive(Clone, Copy, Debug)]
+pub(crate) struct Check<'b, 'a> {
+    pub(crate) form: Form,
+    /// Where the components stand that may be called, beside those of the files.
+    pub(crate) library: Option<&'b [&'a str]>,
+    pub(crate) files: Option<&'b [&'a str]>,
+    pub(crate) common: Common<'b, 'a>,
+}
+
+/// How findings are told.
+#[derive(Clone, Copy, Debug, PartialEq, Eq)]
+pub(crate) enum Form {
+    Full,
+    Concise,
+    Json,
+    Github,
+    Sarif,
+}
+
+#[derive(Clone, Copy, Debug)]
+pub(crate) struct Tree<'b, 'a> {
+    pub(crate) json: bool,
+    pub(crate) file: &'a str,
+    pub(crate) common: Common<'b, 'a>,
+}
+
+#[derive(Clone, Copy, Debug)]
+pub(crate) struct Components<'b, 'a> {
+    pub(crate) html: bool,
+    pub(crate) files: Option<&'b [&'a str]>,
+    pub(crate) common: Common<'b, 'a>,
+}
+
+#[derive(Clone, Copy, Debug)]
+pub(crate) struct Format<'b, 'a> {
+    pub(crate) mode: Mode,
+    /// Six markers in one word, where they are not the usual ones.
+    pub(crate) markers: Option<&'a str>,
+    pub(crate) files: Option<&'b [&'a str]>,
+    pub(crate) common: Common<'b, 'a>,
+}
+
+/// What is done with a layout.
+#[derive(Clone, Copy, Debug, PartialEq, Eq)]
+pub(crate) enum Mode {
+    Write,
+    Check,
+    Diff,
+}
+
+impl<'b, 'a> Job<'b, 'a> {
+    /// What the matches of `options::command` ask.
+    pub(crate) fn of(matches: &'b ArgMatches<'a>) -> Option<Job<'b, 'a>>
+        ensures { option_map job_view result
+            ≡ option_and_then job_of (subcommand_rows_of matches.now) }
+    {
+        let (name, found) = matches.subcommand()?;
+        match name {
+            "check" => Some(Job::Check(check_in(found))),
+            "tree" => Some(Job::Tree(tree_in(found))),
+            "components" => Some(Job::Components(components_in(found))),
+            "format" => Some(Job::Format(format_in(found))),
+            _ => None,
+        }
+    }
+}
+
+fn check_in<'b, 'a>(found: &'b ArgMatches<'a>) -> Check<'b, 'a>
+    ensures { check_view result ≡ check_of (rows_of (found_of found.now)) }
+{
+    Check {
+        form: form_named(text(found, "output-format")),
+        library: texts_in(found, "library"),
+        files: texts_in(found, "files"),
+        common: common_in(found),
+    }
+}
+
+fn tree_in<'b, 'a>(found: &'b ArgMatches<'a>) -> Tree<'b, 'a>
+    ensures { tree_view result ≡ tree_of (rows_of (found_of found.now)) }
+{
+    Tree {
+        json: is_set(found, "json"),
+        file: text_or(found, "file", "-"),
+        common: common_in(found),
+    }
+}
+
+fn components_in<'b, 'a>(found: &'b ArgMatches<'a>) -> Components<'b, 'a>
+    ensures { components_view result ≡ components_of (rows_of (found_of found.now)) }
+{
+    Components {
+        html: is_word(text(found, "output-format"), "html"),
+        files: texts_in(found, "files"),
+        common: common_in(found),
+    }
+}
+
+fn format_in<'b, 'a>(found: &'b ArgMatches<'a>) -> Format<'b, 'a>
+    ensures { format_view result ≡ format_of (rows_of (found_of found.now)) }
+{
+    Format {
+        mode: mode_in(found),
+        markers: text(found, "markers"),
+        files: texts_in(found, "files"),
+        common: common_in(found),
+    }
+}
+
+fn common_in<'b, 'a>(found: &'b ArgMatches<'a>) -> Common<'b, 'a>
+    ensures { common_view result ≡ common_of (rows_of (found_of found.now)) }
+{
+    Common {
+        extensions: texts_in(found, "extension"),
+        stdin: text_or(found, "stdin-filename", "-"),
+        colours: colours_named(text(found, "color")),
+        quiet: is_set(found, "quiet"),
+    }
+}
+
+fn form_named(word: Option<&str>) -> Form
+    ensures { result ≡ form_of (option_map (λ t. t.now) word.entry) }
+{
+    if is_word(word, "concise") {
+        Form::Concise
+    } else if is_word(word, "json") {
+        Form::Json
+    } else if is_word(word, "github") {
+        Form::Github
+    } else if is_word(word, "sarif") {
+        Form::Sarif
+    } else {
+        Form::Full
+    }
+}
+
+fn colours_named(word: Option<&str>) -> Colours
+    ensures { result ≡ colours_of (option_map (λ t. t.now) word.entry) }
+{
+    if is_word(word, "always") {
+        Colours::Always
+    } else if is_word(word, "never") {
+        Colours::Never
+    } else {
+        Colours::Auto
+    }
+}
+
+// Where both are asked, the difference is shown.
+fn mode_in(found: &ArgMatches<'_>) -> Mode
+    ensures { result ≡ mode_of (rows_of (found_of found.now)) }
+{
+    if is_set(found, "diff") {
+        Mode::Diff
+    } else if is_set(found, "check") {
+        Mode::Check
+    } else {
+        Mode::Write
+    }
+}
+
+// The value of an option.
+fn text<'a>(found: &ArgMatches<'a>, id: &str) -> Option<&'a str>
+    ensures { option_map (λ t. t.now) result ≡ first_of id.now (rows_of (found_of found.now)) }
+{
+    found.get_str(id)
+}
+
+fn text_or<'a>(found: &ArgMatches<'a>, id: &str, default: &'a str) -> &'a str
+    ensures { result.now
+        ≡ unwrap_or (first_of id.now (rows_of (found_of found.now))) default.entry.now }
+{
+    text(found, id).unwrap_or(default)
+}
+
+// The values of an option that may be given again.
+fn texts_in<'b, 'a>(found: &'b ArgMatches<'a>, id: &str) -> Option<&'b [&'a str]>
+    ensures { option_map (λ t. texts t.now) result
+        ≡ all_of id.now (rows_of (found_of found.now)) }
+{
+    found.get_strs(id)
+}
+
+// Whether a flag is given.
+fn is_set(found: &ArgMatches<'_>, id: &str) -> bool
+    ensures { result ≡ is_set id.now (rows_of (found_of found.now)) }
+{
+    is_word(text(found, id), "true")
+}
+
+// Whether there is a text, and it is this word.
+fn is_word(text: Option<&str>, word: &str) -> bool
+    ensures { result ≡ is_text word.now (option_map (λ t. t.now) text.entry) }
+{
+    match text {
+        Some(text) => text == word,
+        None => false,
+    }
+}

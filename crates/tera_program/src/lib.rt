@@ -1,0 +1,121 @@
+//! The program `tera`: its command line, and what each subcommand does.
+//!
+//! It takes a runtime and answers the status that the process ends with (`run`), so that a program is no more than that
+//! call. It stands on `clap` for the command line, on `tera_files` for files, and on `tera_report` and `terminal_text` for
+//! what is told.
+//!
+//! In the order of reading: `options`, the words; `job`, what they ask; `status`, how it ends; `colours` and `output`;
+//! `reading`, the templates; `found`, `forms`, `writing` and `telling`, what is found in them as text; `counting`, the last line;
+//! `plan` and `markers`, what a file becomes; then a module for each subcommand.
+#![tactic(auto)]
+
+mod check;
+mod colours;
+mod components;
+mod counting;
+mod format;
+mod forms;
+mod found;
+mod job;
+mod markers;
+mod options;
+mod output;
+mod plan;
+mod reading;
+mod status;
+mod telling;
+mod tree;
+mod writing;
+
+ghost use Rattle.std.specs.Prelude.{◌≤◌};
+
+use crate::job::Job;
+use crate::options::command;
+use crate::output::{tell, tell_stopped};
+use crate::status::{Ended, status_of};
+use clap::Error;
+pub use colours::Terminals;
+pub use plan::{Plan, plan_of};
+use std::rt::{Env, Files};
+use std::{env, io};
+
+/// Does what the arguments of the process ask, and answers the status that it ends with: 0 where nothing was found and all
+/// was done, 1 where something was found, and 2 where not all could be done or told.
+pub fn run<R: Files + Env + Input + Print + Eprint + AllocGlobal + Clone + Drop>(
+    rt: &R,
+    terminals: Terminals,
+) -> u8
+    ensures { result ≤ 2 }
+{
+    match words_of(rt) {
+        Ok(words) => run_words(rt, terminals, words.as_slice()),
+        Err(error) => {
+            tell(rt, "tera", why(&error));
+            2
+        }
+    }
+}
+
+// The words of the command line.
+fn words_of<R: Env + AllocGlobal>(rt: &R) -> io::Result<Vec<String>> {
+    let mut words = Vec::new(rt.alloc());
+    for word in env::args(rt)? {
+        words.push(word)?;
+    }
+    Ok(words)
+}
+
+fn why(error: &io::Error) -> &'static str {
+    if error.kind() == io::ErrorKind::InvalidData {
+        "an argument is not UTF-8"
+    } else {
+        "out of memory"
+    }
+}
+
+fn run_words<R: Files + Env + Input + Print + Eprint + AllocGlobal + Clone + Drop>(
+    rt: &R,
+    terminals: Terminals,
+    words: &[String],
+) -> u8
+    ensures { result ≤ 2 }
+{
+    match done(rt, terminals, words) {
+        Ok(ended) => status_of(ended),
+        Err(error) => told(rt, &error),
+    }
+}
+
+// Tells the error of the words, or the text that they ask for, and answers the status.
+fn told<R: Print + Eprint + AllocGlobal>(rt: &R, error: &Error) -> u8
+    ensures { result ≤ 2 }
+{
+    let printed = error.print(rt);
+    if error.use_stderr() {
+        return 2;
+    }
+    match printed {
+        Ok(()) => 0,
+        Err(error) => {
+            tell_stopped(rt, error);
+            2
+        }
+    }
+}
+
+// What the words ask, done. An error is that of the words, or a text that they ask for.
+fn done<R: Files + Env + Input + Print + Eprint + AllocGlobal + Clone + Drop>(
+    rt: &R,
+    terminals: Terminals,
+    words: &[String],
+) -> Result<Ended, Error> {
+    let matches = command(rt.alloc())?.try_get_matches_from(words)?;
+    let ended = match Job::of(&matches) {
+        Some(Job::Check(job)) => check::run(rt, terminals, &job),
+        Some(Job::Tree(job)) => tree::run(rt, terminals, &job),
+        Some(Job::Components(job)) => components::run(rt, terminals, &job),
+        Some(Job::Format(job)) => format::run(rt, terminals, &job),
+        None => Ended::failed(),
+    };
+    Ok(ended)
+}

@@ -1,0 +1,105 @@
+//! Markers between which files are laid out.
+
+ghost use Rattle.std.specs.Prelude.{◌≡◌, IfOk, true};
+ghost use Rattle.tera_layout.specs.Steady.{is_steady};
+ghost use Rattle.tera_lexer.specs.grammar.Marks.{marks_of, IsValid};
+
+use crate::output::tell;
+use std::alloc::Global;
+use std::borrow::CowStr;
+use std::str::SplitWhitespace;
+use tera_layout::are_steady;
+use tera_parser::lexer::Delimiters;
+use tera_parser::value::{Error, ErrorKind};
+
+/// Why nothing is laid out between some markers.
+#[derive(Drop)]
+pub(crate) enum Unfit {
+    Memory,
+    /// They are not six.
+    Number,
+    /// They break a rule, which is told.
+    Rule(Error),
+    /// A layout might put or take away the end of a tag.
+    Unsteady,
+}
+
+/// The six markers that these words are; the default ones without them.
+pub(crate) fn markers_of(alloc: Global, words: Option<&str>) -> Result<Delimiters, Unfit>
+    ensures { IfOk result (λ d. IsValid (marks_of d) × (is_steady (marks_of d) ≡ true)) }
+{
+    match words {
+        Some(words) => fit(alloc, six_of(alloc, words)?),
+        None => fit(alloc, Delimiters::default()),
+    }
+}
+
+// The markers, if files can be laid out between them.
+fn fit(alloc: Global, markers: Delimiters) -> Result<Delimiters, Unfit>
+    ensures { IfOk result (λ d. IsValid (marks_of d) × (is_steady (marks_of d) ≡ true)) }
+{
+    match markers.validate(alloc) {
+        Ok(()) => {
+            if are_steady(&markers) {
+                Ok(markers)
+            } else {
+                Err(Unfit::Unsteady)
+            }
+        }
+        Err(error) => Err(Unfit::Rule(error)),
+    }
+}
+
+// Six markers, in the order of the fields, with white space between them.
+fn six_of(alloc: Global, words: &str) -> Result<Delimiters, Unfit> {
+    let mut parts = words.split_whitespace();
+    let markers = Delimiters {
+        block_start: next_of(alloc, &mut parts)?,
+        block_end: next_of(alloc, &mut parts)?,
+        variable_start: next_of(alloc, &mut parts)?,
+        variable_end: next_of(alloc, &mut parts)?,
+        comment_start: next_of(alloc, &mut parts)?,
+        comment_end: next_of(alloc, &mut parts)?,
+    };
+    match parts.next() {
+        None => Ok(markers),
+        Some(_) => Err(Unfit::Number),
+    }
+}
+
+fn next_of(alloc: Global, parts: &mut SplitWhitespace<'_>) -> Result<CowStr<'static>, Unfit> {
+    let Some(marker) = parts.next() else {
+        return Err(Unfit::Number);
+    };
+    match String::from_str(alloc, marker) {
+        Ok(text) => Ok(CowStr::Owned(text)),
+        Err(_) => Err(Unfit::Memory),
+    }
+}
+
+/// Says on standard error why nothing is laid out.
+pub(crate) fn tell_unfit<R: Eprint + AllocGlobal>(rt: &R, why: &Unfit) {
+    match why {
+        Unfit::Memory => tell(rt, "tera", "out of memory"),
+        Unfit::Number => tell(
+            rt,
+            "tera",
+            "--markers: six markers are wanted, with white space between them",
+        ),
+        Unfit::Rule(error) => tell_rule(rt, error),
+        Unfit::Unsteady => tell(
+            rt,
+            "tera",
+            "--markers: `block_start` and ends of tags may begin with no dash, letter, digit or `_`",
+        ),
+    }
+}
+
+fn tell_rule<R: Eprint + AllocGlobal>(rt: &R, error: &Error) {
+    if let ErrorKind::Message(rule) = &error.kind {
+        if let Ok(why) = format!(in rt.alloc(); "--markers: {rule}") {
+            return tell(rt, "tera", why.as_str());
+        }
+    }
+    tell(rt, "tera", "out of memory");
+}

@@ -1,0 +1,243 @@
+//! The command line: which words there are, and what help says of them.
+
+use clap::{Arg, ArgAction, Command};
+use std::alloc::{AllocError, Global};
+
+/// The version that `--version` tells.
+pub(crate) const VERSION: &str = "0.1.0";
+
+/// How the names of templates end in a folder.
+pub(crate) static EXTENSIONS: [&str; 4] = ["html", "htm", "xml", "tera"];
+
+static FORMATS: [&str; 5] = ["full", "concise", "json", "github", "sarif"];
+
+static CATALOGUES: [&str; 2] = ["json", "html"];
+
+static COLOURS: [&str; 3] = ["auto", "always", "never"];
+
+const OF_ALL: &str = "\
+Examples:
+  tera check templates                   what is wrong in the templates of a folder
+  tera format --diff templates           what their layout would change
+  tera components templates > ui.json    which components they define
+
+Exit status:
+  0  nothing was found, and all was done
+  1  something was found
+  2  not all could be done: a file could not be read or written, or the arguments are wrong
+
+`tera help COMMAND` tells more of a command.";
+
+const OF_CHECK: &str = "\
+A folder stands for the templates below it: files that end in .html, .htm, .xml or .tera, but for those that are hidden
+or in `node_modules`. A file that is met again is checked once.
+
+Examples:
+  tera check templates
+  tera check templates/page.html --library templates/components
+  tera check --output-format github templates
+  tera check --stdin-filename page.html --library templates - < page.html
+
+Exit status: 0 where nothing was found, 1 where something was, 2 where a file could not be read.";
+
+const OF_FORMAT: &str = "\
+A file is rewritten in its layout, and its name is told where that changed it. A file with a fault stays as it is. The
+layout of standard input is written to standard output.
+
+Examples:
+  tera format templates
+  tera format --check templates
+  tera format --diff templates | less -R
+  tera format --markers '[% %] [[ ]] [# #]' page.html
+
+Exit status: 0 where all is laid out, 1 where a template has a fault, or a file would change under --check or --diff,
+2 where a file could not be read or written.";
+
+const OF_COMPONENTS: &str = "\
+Examples:
+  tera components templates > components.json
+  tera components --output-format html templates > components.html
+
+Exit status: 0 where each template was read, 1 where one has a fault, 2 where a file could not be read.";
+
+const OF_TREE: &str = "\
+Examples:
+  tera tree page.html
+  tera tree --json < page.html
+
+Exit status: 0 where a tree was shown, 1 where the template has a fault, 2 where it could not be read.";
+
+/// The program, with its subcommands.
+pub(crate) fn command<'a>(alloc: Global) -> Result<Command<'a>, AllocError> {
+    Command::new(alloc, "tera")
+        .bin_name("tera")?
+        .version(VERSION)
+        .about("Checks, lays out and lists templates of Tera 2")
+        .after_help(OF_ALL)
+        .subcommand_required(true)
+        .arg_required_else_help(true)
+        .subcommand(check(alloc)?)?
+        .subcommand(format(alloc)?)?
+        .subcommand(components(alloc)?)?
+        .subcommand(tree(alloc)?)
+}
+
+fn check<'a>(alloc: Global) -> Result<Command<'a>, AllocError> {
+    Command::new(alloc, "check")
+        .about("Finds faults of templates, and components that are wrongly defined or called")
+        .after_help(OF_CHECK)
+        .arg(choice(
+            alloc,
+            "output-format",
+            "FORMAT",
+            FORMATS.as_slice(),
+            "full",
+            "How findings are told",
+        ))?
+        .arg(several(
+            alloc,
+            "library",
+            "PATH",
+            "A file or folder whose components may be called, and which is not checked itself",
+        ))?
+        .arg(stdin_filename(alloc))?
+        .arg(colour(alloc))?
+        .arg(quiet(alloc))?
+        .arg(extension(alloc))?
+        .arg(files(alloc))
+}
+
+fn format<'a>(alloc: Global) -> Result<Command<'a>, AllocError> {
+    Command::new(alloc, "format")
+        .about("Lays out the white space in tags, and changes nothing else")
+        .after_help(OF_FORMAT)
+        .arg(flag(
+            alloc,
+            "check",
+            "Write no file, and name those that would change",
+        ))?
+        .arg(flag(alloc, "diff", "Write no file, and show what would change"))?
+        .arg(option(
+            alloc,
+            "markers",
+            "WORDS",
+            "Six other markers in one word, as '[% %] [[ ]] [# #]'",
+        ))?
+        .arg(stdin_filename(alloc))?
+        .arg(colour(alloc))?
+        .arg(quiet(alloc))?
+        .arg(extension(alloc))?
+        .arg(files(alloc))
+}
+
+fn components<'a>(alloc: Global) -> Result<Command<'a>, AllocError> {
+    Command::new(alloc, "components")
+        .about("Lists components with their parameters and a call to copy")
+        .after_help(OF_COMPONENTS)
+        .arg(choice(
+            alloc,
+            "output-format",
+            "FORMAT",
+            CATALOGUES.as_slice(),
+            "json",
+            "How they are listed",
+        ))?
+        .arg(stdin_filename(alloc))?
+        .arg(colour(alloc))?
+        .arg(quiet(alloc))?
+        .arg(extension(alloc))?
+        .arg(files(alloc))
+}
+
+fn tree<'a>(alloc: Global) -> Result<Command<'a>, AllocError> {
+    Command::new(alloc, "tree")
+        .about("Shows the tree of a template")
+        .after_help(OF_TREE)
+        .arg(flag(
+            alloc,
+            "json",
+            "Show it as JSON, with the places of its expressions",
+        ))?
+        .arg(stdin_filename(alloc))?
+        .arg(colour(alloc))?
+        .arg(
+            Arg::new(alloc, "file")
+                .value_name("FILE")
+                .default_value("-")
+                .help("A file, or - for standard input"),
+        )
+}
+
+fn flag<'a>(alloc: Global, name: &'a str, help: &'a str) -> Arg<'a> {
+    Arg::new(alloc, name)
+        .long(name)
+        .action(ArgAction::SetTrue)
+        .help(help)
+}
+
+fn option<'a>(alloc: Global, name: &'a str, value: &'a str, help: &'a str) -> Arg<'a> {
+    Arg::new(alloc, name)
+        .long(name)
+        .value_name(value)
+        .action(ArgAction::Set)
+        .help(help)
+}
+
+fn several<'a>(alloc: Global, name: &'a str, value: &'a str, help: &'a str) -> Arg<'a> {
+    option(alloc, name, value, help).action(ArgAction::Append)
+}
+
+fn choice<'a>(
+    alloc: Global,
+    name: &'a str,
+    value: &'a str,
+    among: &'static [&'static str],
+    default: &'a str,
+    help: &'a str,
+) -> Arg<'a> {
+    option(alloc, name, value, help)
+        .value_parser(&*among)
+        .default_value(default)
+}
+
+fn stdin_filename<'a>(alloc: Global) -> Arg<'a> {
+    option(
+        alloc,
+        "stdin-filename",
+        "NAME",
+        "The file that standard input stands for",
+    )
+}
+
+fn colour<'a>(alloc: Global) -> Arg<'a> {
+    choice(
+        alloc,
+        "color",
+        "WHEN",
+        COLOURS.as_slice(),
+        "auto",
+        "Whether messages have colours",
+    )
+}
+
+fn quiet<'a>(alloc: Global) -> Arg<'a> {
+    flag(alloc, "quiet", "Leave out the last line, which counts").short('q')
+}
+
+fn extension<'a>(alloc: Global) -> Arg<'a> {
+    several(
+        alloc,
+        "extension",
+        "NAME",
+        "How the names of templates end in a folder, in place of html, htm, xml and tera",
+    )
+}
+
+fn files<'a>(alloc: Global) -> Arg<'a> {
+    Arg::new(alloc, "files")
+        .value_name("FILE")
+        .required(true)
+        .num_args(1..)
+        .action(ArgAction::Append)
+        .help("Files, folders, or - for standard input")
+}

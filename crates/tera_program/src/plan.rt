@@ -1,0 +1,61 @@
+//! What is to be done with a file that is laid out.
+
+ghost use Rattle.std.specs.Prelude.{◌≡◌, ⊤, IfOk, IfErr, OnOk, MatchResult, true};
+ghost use Rattle.tera_base.specs.Errors.{IsMemory};
+ghost use Rattle.tera_grammar.specs.Limits.{usual};
+ghost use Rattle.tera_grammar.specs.statements.Top.{Derives};
+ghost use Rattle.tera_layout.specs.Steady.{is_steady};
+ghost use Rattle.tera_lexer.specs.grammar.Marks.{marks_of, IsValid};
+ghost use Rattle.tera_parser.specs.Notes.{NotesName};
+ghost use Rattle.tera_parser.specs.Refusal.{Refuses};
+ghost use Rattle.tera_tree.specs.Tree.{Output};
+ghost use Rattle.tera_program.specs.Plans.{IsPlan, IsTemplate};
+
+use std::alloc::Global;
+use tera_layout::format_between;
+use tera_parser::Parser;
+use tera_parser::lexer::Delimiters;
+use tera_parser::value::Error;
+
+/// What is to be done with a file.
+#[derive(Debug, Drop)]
+pub enum Plan {
+    /// Nothing: it is laid out.
+    Same,
+    /// This text is to be written in its place.
+    Layout(String),
+}
+
+/// What is to be done with the file of this name and source, a template between the markers. What is no template is
+/// refused, as [`Parser::parse`] does it, and stays as it is.
+pub fn plan_of(alloc: Global, file: &str, source: &str, markers: &Delimiters) -> Result<Plan, Error>
+    requires valid { IsValid (marks_of markers.now) }
+    requires steady { is_steady (marks_of markers.now) ≡ true }
+    ensures sound { IfOk result (IsPlan (marks_of markers.now) source.now) }
+    ensures complete { (tree : Output) → Derives usual (marks_of markers.now) source.now tree →
+        MatchResult result (IsPlan (marks_of markers.now) source.now) IsMemory }
+    ensures refusal { IfErr result (Refuses (marks_of markers.now) source.now) }
+    ensures notes { IfErr result (NotesName file.now) }
+{
+    read(alloc, file, source, markers)?;
+    let layout = format_between(alloc, source, markers)?;
+    if layout.as_str() == source {
+        Ok(Plan::Same)
+    } else {
+        Ok(Plan::Layout(layout))
+    }
+}
+
+// Reads the source, of which only that it is a template is kept.
+fn read(alloc: Global, file: &str, source: &str, markers: &Delimiters) -> Result<(), Error>
+    requires valid { IsValid (marks_of markers.now) }
+    ensures sound { OnOk result (IsTemplate (marks_of markers.now) source.now) }
+    ensures complete { (tree : Output) → Derives usual (marks_of markers.now) source.now tree →
+        MatchResult result (λ _. ⊤) IsMemory }
+    ensures refusal { IfErr result (Refuses (marks_of markers.now) source.now) }
+    ensures notes { IfErr result (NotesName file.now) }
+{
+    let parser = Parser::new(alloc, file, source, markers.clone()?);
+    parser.parse()?;
+    Ok(())
+}

@@ -1,0 +1,34 @@
+//! How the program ends.
+
+ghost use Rattle.std.specs.Prelude.{◌≡◌, true, false};
+ghost use Rattle.tera_program.specs.Ends.{status_at};
+
+use tera_check::status;
+
+/// What was met while the job was done.
+#[derive(Clone, Copy, Debug, PartialEq, Eq)]
+pub(crate) struct Ended {
+    /// Whether something was found.
+    pub(crate) found: bool,
+    /// Whether not all could be done or told.
+    pub(crate) failed: bool,
+}
+
+impl Ended {
+    /// Nothing could be done.
+    pub(crate) fn failed() -> Ended
+        ensures { result ≡ record { found = false; failed = true } }
+    {
+        Ended {
+            found: false,
+            failed: true,
+        }
+    }
+}
+
+/// The status of the program: 2 where not all could be done or told, or else 1 where something was found.
+pub(crate) fn status_of(ended: Ended) -> u8
+    ensures { result ≡ status_at ended }
+{
+    status(ended.found, ended.failed)
+}

@@ -1,0 +1,54 @@
+//! What is found in templates, written.
+
+ghost use Rattle.std.specs.Prelude.{IfOk, OnErr};
+ghost use Rattle.std.specs.Io.KnownBytes.{Keeps};
+ghost use Rattle.terminal_text.specs.Files.{source_of};
+ghost use Rattle.tera_program.specs.Told.{IsTold};
+
+use crate::forms::text_of;
+use crate::found::{all_found, count_of, faulty_of, is_any};
+use crate::job::Form;
+use crate::writing::write_all;
+use std::alloc::{AllocError, Global};
+use std::io;
+use std::io::Write;
+use tera_check::Template;
+use terminal_text::{Sources, Style};
+
+/// What was told.
+#[derive(Clone, Copy, Debug)]
+pub(crate) struct Told {
+    /// Whether something was found.
+    pub(crate) found: bool,
+    /// How many findings there are.
+    pub(crate) findings: usize,
+    /// In how many templates.
+    pub(crate) faulty: usize,
+    /// Why not all was written.
+    pub(crate) stopped: Option<io::Error>,
+}
+
+/// Writes the text of all that is found in the templates. Of those behind the first `checked` faults alone are told.
+/// Nothing is written before the whole text is ready.
+pub(crate) fn tell_findings<W: Write>(
+    alloc: Global,
+    writer: &mut W,
+    form: Form,
+    style: Style,
+    sources: &mut Sources<'_>,
+    templates: &Vec<Template>,
+    checked: usize,
+) -> Result<Told, AllocError>
+    ensures told { IfOk result (IsTold form style (source_of sources.old) templates.now.items checked
+        (W.contents writer.old) (W.contents writer.new)) }
+    ensures memory { OnErr result (Keeps (W.contents writer.old) (W.contents writer.new)) }
+{
+    let all = all_found(alloc, templates, checked)?;
+    let text = text_of(alloc, form, style, sources, all.as_slice())?;
+    Ok(Told {
+        found: is_any(all.as_slice()),
+        findings: count_of(all.as_slice()),
+        faulty: faulty_of(all.as_slice()),
+        stopped: write_all(writer, text.as_slice()).err(),
+    })
+}

@@ -1,0 +1,102 @@
+//! `tera tree`.
+
+use crate::colours::{Terminals, style};
+use crate::job::Tree;
+use crate::output::{put, tell, tell_unread};
+use crate::reading::{name_of, text_of};
+use crate::status::Ended;
+use std::alloc::{AllocError, Global};
+use std::rt::{Env, Files};
+use tera_check::finding_of_fault;
+use tera_files::{Source, read_source};
+use tera_parser::lexer::Delimiters;
+use tera_parser::value::Error;
+use tera_parser::{Parser, ParserOutput};
+use tera_report::push_told;
+use tera_show::tree_text;
+use tera_tree_json::tree_json;
+use terminal_text::Style;
+
+/// Shows the tree of the file.
+pub(crate) fn run<R: Files + Env + Input + Print + Eprint + AllocGlobal>(
+    rt: &R,
+    terminals: Terminals,
+    job: &Tree<'_, '_>,
+) -> Ended {
+    let name = name_of(job.file, job.common.stdin);
+    let source = match read_source(rt, job.file, name) {
+        Ok(source) => source,
+        Err(why) => {
+            tell_unread(rt, name, why);
+            return Ended::failed();
+        }
+    };
+    let style = style(rt, job.common.colours, terminals.err);
+    match shown(rt, style, job.json, &source) {
+        Ok(ended) => ended,
+        Err(_) => {
+            tell(rt, name, "out of memory");
+            Ended::failed()
+        }
+    }
+}
+
+fn shown<R: Print + Eprint + AllocGlobal>(
+    rt: &R,
+    style: Style,
+    json: bool,
+    source: &Source,
+) -> Result<Ended, AllocError> {
+    let alloc = rt.alloc();
+    let (file, text) = (source.file.as_str(), source.text.as_str());
+    match Parser::new(alloc, file, text, Delimiters::default()).parse() {
+        Ok(output) => {
+            let text = tree_of(alloc, json, &output)?;
+            Ok(Ended {
+                found: false,
+                failed: !put(rt, text.as_bytes()),
+            })
+        }
+        Err(error) => {
+            let text = fault_text(alloc, style, source, &error)?;
+            let _ = eprint!(rt; "{text}");
+            Ok(Ended {
+                found: true,
+                failed: false,
+            })
+        }
+    }
+}
+
+fn tree_of(alloc: Global, json: bool, output: &ParserOutput) -> Result<String, AllocError> {
+    if !json {
+        return match tree_text(alloc, output) {
+            Ok(text) => Ok(text),
+            Err(_) => Err(AllocError),
+        };
+    }
+    let ParserOutput {
+        parent,
+        component_definitions,
+        nodes,
+        ..
+    } = output;
+    let mut text = tree_json(alloc, parent, component_definitions, nodes)?;
+    text.push('\n')?;
+    Ok(text)
+}
+
+/// The text of the fault of a source.
+pub(crate) fn fault_text(
+    alloc: Global,
+    style: Style,
+    source: &Source,
+    error: &Error,
+) -> Result<String, AllocError> {
+    let finding = finding_of_fault(alloc, error)?;
+    let mut sources = text_of(alloc, source)?;
+    let mut text = String::new(alloc);
+    let file = source.file.as_str();
+    push_told(alloc, &mut text, style, file, &mut sources, &finding)?;
+    Ok(text)
+}
