@@ -30,12 +30,24 @@ pub(crate) fn run<R: Files + Env + Input + Print + Eprint + AllocGlobal + Clone 
     let Some(files) = job.files else {
         return Ended::failed();
     };
+    if has_input(job.library) {
+        tell(rt, "tera", "--library: a file or a folder is wanted");
+        return Ended::failed();
+    }
     match read_all(rt, job.common, files, job.library) {
         Ok(all) => run_on(rt, style, job, &all, &mut io::writer(rt)),
         Err(_) => {
             tell(rt, "tera", "out of memory");
             Ended::failed()
         }
+    }
+}
+
+// Whether standard input is among the paths of the library.
+fn has_input(library: Option<&[&str]>) -> bool {
+    match library {
+        Some(paths) => paths.contains(&"-"),
+        None => false,
     }
 }
 

@@ -27,6 +27,8 @@ enum Became {
     // It is no template.
     Faulty,
     Failed,
+    // Its name, layout or difference could not be written to standard output.
+    Untold,
 }
 
 // How messages are written.
@@ -83,8 +85,10 @@ fn lay_out_all<R: Files + Input + Print + Eprint + AllocGlobal + Clone + Drop>(
         failed: files.unlisted.len(),
     };
     for file in &files.files {
-        let became = lay_out(rt, styles, job, file.as_str(), markers)?;
-        counts = counted_with(counts, became);
+        match lay_out(rt, styles, job, file.as_str(), markers)? {
+            Became::Untold => return Ok(Ended::failed()),
+            became => counts = counted_with(counts, became),
+        }
     }
     if !job.common.quiet && paths != ["-"].as_slice() {
         let line = laid_out_line(rt.alloc(), job.mode, counts)?;
@@ -107,7 +111,7 @@ fn counted_with(counts: LaidOut, became: Became) -> LaidOut {
         Became::Changed => &mut counts.changed,
         Became::Same => &mut counts.same,
         Became::Faulty => &mut counts.faulty,
-        Became::Failed => &mut counts.failed,
+        Became::Failed | Became::Untold => &mut counts.failed,
     };
     *count = count.saturating_add(1);
     counts
@@ -151,7 +155,7 @@ fn put_same<R: Print + Eprint + AllocGlobal>(
     source: &Source,
 ) -> Result<Became, AllocError> {
     if file == "-" && job.mode == Mode::Write && !put(rt, source.text.as_bytes()) {
-        Ok(Became::Failed)
+        Ok(Became::Untold)
     } else {
         Ok(Became::Same)
     }
@@ -177,14 +181,14 @@ fn put_layout<R: Files + Print + Eprint + AllocGlobal>(
             Ok(()) => put_name(rt, name)?,
             Err(error) => {
                 tell_unwritten(rt, file, error);
-                false
+                return Ok(Became::Failed);
             }
         },
     };
     Ok(if written {
         Became::Changed
     } else {
-        Became::Failed
+        Became::Untold
     })
 }
 
