@@ -1,3 +1,10 @@
 mod EditSteps
+mod Finding
+mod NameParts
+mod NamePlaces
+mod Nesting
+mod OutlineSteps
+mod Outlines
+mod Rising
 mod Sides
 mod Stopping

@@ -1,10 +1,24 @@
-//! What the pieces of a text are: each function has the law as its promise and does nothing.
+//! What the pieces and the symbols of a text are: each function has the law as its promise and does nothing.
 
-ghost use Rattle.std.specs.Prelude.{ℕ, List, length};
+ghost use Rattle.std.specs.Prelude.{ℕ, List, length, All};
 ghost use Rattle.tera_outline.specs.Pieces.{Part, ArePartsOf, StandBetween};
+ghost use Rattle.tera_outline.specs.Symbols.{outline_of, AreNested, IsWithin};
 
 /// The pieces of a text stand in it one behind the other, and none is empty.
 pub fn pieces_stand()
     ensures { (text : List ℕ) (parts : List Part) → ArePartsOf text parts →
         StandBetween 0 (length text) parts }
+{}
+
+/// Of two symbols of a text the later begins behind the start of the earlier, and either at or behind its end, or ends
+/// no later.
+pub fn symbols_nest()
+    ensures { (text : List ℕ) (parts : List Part) → ArePartsOf text parts →
+        AreNested (outline_of (length text) parts) }
+{}
+
+/// The name of a symbol stands within the symbol, behind its start, and the symbol within the text.
+pub fn symbols_stand()
+    ensures { (text : List ℕ) (parts : List Part) → ArePartsOf text parts →
+        All (IsWithin (length text)) (outline_of (length text) parts) }
 {}

@@ -1,16 +1,25 @@
-//! What the bytes and the tokens of a template say by themselves, for an editor: the edits of a layout,
-//! and the tokens up to a fault.
+//! What the bytes and the tokens of a template say by themselves, for an editor: the edits of a layout, the tokens up
+//! to a fault, the outline, the names of components and templates, and what may be typed at a place.
 //!
 //! It takes a text, with a fault or without one, and needs no tree. It stands on `tera_lexer`, and on `tera_layout`
 //! for the layout.
 //!
 //! In the order of reading: specs `Edits`; `edits`, a layout as edits of white space; specs `Pieces`;
-//! `pieces`, the tokens with their bytes; `laws`.
+//! `pieces`, the tokens with their bytes; specs `Dotted` and `Symbols`; `symbols`, the outline; specs `Names`; `names`,
+//! what is called, defined, extended and included; specs `Completions`; `completions`, what may be typed; `dotted`,
+//! which reads names with dots; `laws`.
 #![tactic(auto)]
 
+mod completions;
+mod dotted;
 mod edits;
 pub mod laws;
+mod names;
 mod pieces;
+mod symbols;
 
+pub use completions::{Completion, CompletionKind, wanted};
 pub use edits::{Edit, edits_of};
+pub use names::{Name, NameKind, names_of, under};
 pub use pieces::{Piece, pieces_of};
+pub use symbols::{Symbol, SymbolKind, symbols_of};

@@ -1,7 +1,11 @@
-//! The edits of a layout, and the pieces of a text with a fault.
+//! The edits of a layout, the pieces of a text with a fault, and the outline and the names of a text, and what
+//! may be typed in it.
 
 use std::test::Fail;
-use tera_outline::{edits_of, pieces_of};
+use tera_outline::{
+    Completion, CompletionKind, NameKind, SymbolKind, edits_of, names_of, pieces_of, symbols_of,
+    under, wanted,
+};
 
 #[test]
 fn edits_of_a_layout(rt: HostRuntime) -> Result<(), Fail> {
@@ -25,4 +29,107 @@ fn pieces_before_a_fault(rt: HostRuntime) -> Result<(), Fail> {
     }
     assert_eq!(rt; shown.as_str(), "0..2, 3..7, ");
     Ok(())
+}
+
+#[test]
+fn outline_of_a_text(rt: HostRuntime) -> Result<(), Fail> {
+    let text = "{% block a %}{% component ui . box() %}x{% endblock %}{% block b %}";
+    let symbols = symbols_of(rt.alloc(), text)?;
+    let mut shown = String::new(rt.alloc());
+    for symbol in &symbols {
+        let kind = symbol_word(symbol.kind);
+        let name = symbol.name.as_str();
+        let told = format!(in rt.alloc(); "{kind} {name} {}..{}, ", symbol.start, symbol.end)?;
+        shown.push_str(told.as_str())?;
+        let at = format!(in rt.alloc(); "at {}..{}; ", symbol.name_start, symbol.name_end)?;
+        shown.push_str(at.as_str())?;
+    }
+    assert_eq!(rt;
+        shown.as_str(),
+        "block a 0..54, at 9..10; component ui.box 13..40, at 26..34; block b 54..67, at 63..64; "
+    );
+    Ok(())
+}
+
+fn symbol_word(kind: SymbolKind) -> &'static str {
+    match kind {
+        SymbolKind::Block => "block",
+        SymbolKind::Component => "component",
+    }
+}
+
+#[test]
+fn names_in_a_text(rt: HostRuntime) -> Result<(), Fail> {
+    let text = "{% extends \"base\" %}{{ <ui.box a={b < c}/> < d }}{% </ ui . card> %}";
+    let pieces = pieces_of(rt.alloc(), text)?;
+    let names = names_of(rt.alloc(), pieces.as_slice())?;
+    let mut shown = String::new(rt.alloc());
+    for name in &names {
+        let kind = name_word(name.kind);
+        let text = name.text.as_str();
+        let told = format!(in rt.alloc(); "{kind} {text} {}..{}; ", name.start, name.end)?;
+        shown.push_str(told.as_str())?;
+    }
+    assert_eq!(rt;
+        shown.as_str(),
+        "extended base 11..17; called ui.box 24..30; closed ui.card 55..64; "
+    );
+    Ok(())
+}
+
+fn name_word(kind: NameKind) -> &'static str {
+    match kind {
+        NameKind::Called => "called",
+        NameKind::Closed => "closed",
+        NameKind::Defined => "defined",
+        NameKind::Extended => "extended",
+        NameKind::Included => "included",
+    }
+}
+
+#[test]
+fn name_at_a_byte(rt: HostRuntime) -> Result<(), Fail> {
+    let pieces = pieces_of(rt.alloc(), "{% include 'a.html' %}{{ <box/> }}")?;
+    let name = under(rt.alloc(), pieces.as_slice(), 29)?;
+    let text = match &name {
+        Some(name) => name.text.as_str(),
+        None => "",
+    };
+    assert_eq!(rt; text, "box");
+    let none = under(rt.alloc(), pieces.as_slice(), 25)?;
+    assert!(rt; none.is_none());
+    Ok(())
+}
+
+#[test]
+fn what_may_be_typed(rt: HostRuntime) -> Result<(), Fail> {
+    let text = "{% bl %}{{ <ui. }}{% include \"pa\" %}{{ <box a={1} on /> }}";
+    let pieces = pieces_of(rt.alloc(), text)?;
+    let mut shown = String::new(rt.alloc());
+    for byte in [5, 15, 32, 9, 51] {
+        let (kind, start) = told(wanted(pieces.as_slice(), text.len(), byte));
+        let told = format!(in rt.alloc(); "{kind} from {start}; ")?;
+        shown.push_str(told.as_str())?;
+    }
+    assert_eq!(rt;
+        shown.as_str(),
+        "statement from 3; component from 12; template from 30; nothing from 0; argument from 50; "
+    );
+    Ok(())
+}
+
+fn told(found: Option<Completion>) -> (&'static str, usize) {
+    match found {
+        Some(found) => (completion_word(found.kind), found.start),
+        None => ("nothing", 0),
+    }
+}
+
+fn completion_word(kind: CompletionKind) -> &'static str {
+    match kind {
+        CompletionKind::Statement => "statement",
+        CompletionKind::Component => "component",
+        CompletionKind::Template => "template",
+        CompletionKind::Argument(_) => "argument",
+    }
 }

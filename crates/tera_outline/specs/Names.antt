@@ -1,0 +1,119 @@
+-- The names in a text that stand for components and templates.
+use Rattle.std.specs.Prelude.{ℕ, Bool, true, false, not, ◌&&◌, if◌then◌else◌, Option, Some, None, List, [], ◌∷◌, ◌++◌, codes, nat_lt, string_bytes, map}
+use Rattle.std.specs.Str.{bytes_eq}
+use Rattle.std.specs.Option.{option_to_list}
+use Rattle.std.specs.List.{list_any}
+use Rattle.tera_lexer.specs.grammar.Tokens.{Tok, Start, Ident, Str, Escaped, Integer, Truth, Symbol}
+use Rattle.tera_lexer.specs.declared.lexer.delimiters.Kind.TheVariants.{Block}
+use Rattle.tera_outline.specs.declared.names.NameKind.{NameKind}
+use Rattle.tera_outline.specs.declared.names.NameKind.TheVariants.{Called, Closed, Defined, Extended, Included}
+use Rattle.tera_outline.specs.declared.names.Name.{Name}
+use Rattle.tera_outline.specs.declared.names.Before.{Before}
+use Rattle.tera_outline.specs.declared.names.Before.TheVariants.{Tag, Operand, Slash, Other}
+use Rattle.tera_outline.specs.declared.names.Found.{Found}
+use Rattle.tera_outline.specs.Pieces.{Part, part_of}
+use Rattle.tera_outline.specs.Dotted.{dotted, text_of, start_of, end_of}
+
+-- a name of a component or a template, and the bytes between which it stands
+pub record Named : Type 0 where
+  pub kind : NameKind
+  pub text : List ℕ
+  pub start : ℕ
+  pub end : ℕ
+
+abbrev pub name_view : Name → Named
+name_view n = record { kind = n.kind; text = string_bytes n.text; start = n.start; end = n.end }
+
+-- that of these parts
+abbrev pub of_parts : NameKind → List Part → Named
+of_parts kind ps = record { kind = kind; text = text_of ps; start = start_of ps; end = end_of ps }
+
+abbrev pub found_view : Found → Named
+found_view f = of_parts f.kind (map part_of f.parts.now)
+
+abbrev pub named : NameKind → List Part → Option Named
+named kind [] = None
+named kind (p ∷ ps) = Some (of_parts kind (p ∷ ps))
+
+abbrev pub is_among : List (List ℕ) → List ℕ → Bool
+is_among words name = list_any (λ w. bytes_eq name w) words
+
+-- the words with which no operand ends
+abbrev pub no_operands : List (List ℕ)
+no_operands =
+    codes "and" ∷ codes "or" ∷ codes "not" ∷ codes "in" ∷ codes "is" ∷ codes "if" ∷ codes "else" ∷ codes "elif"
+    ∷ codes "filter" ∷ []
+
+abbrev pub behind_word : List ℕ → Before
+behind_word word = if is_among no_operands word then Other else Operand
+
+-- behind a slash a `>` ends the call of a component
+abbrev pub behind_greater : Before → Before
+behind_greater Slash = Operand
+behind_greater before = Other
+
+abbrev pub behind_operator : Before → List ℕ → Before
+behind_operator before op =
+    if is_among (codes ")" ∷ codes "]" ∷ codes "}" ∷ []) op then Operand
+    else (if bytes_eq op (codes "/") then Slash
+    else (if bytes_eq op (codes ">") then behind_greater before
+    else Other))
+
+-- what a token is to the one behind it: the start of a statement's tag, what may be the end of an operand, a slash, or
+-- something else
+abbrev pub behind_token : Before → Tok → Before
+behind_token before (Start Block dash) = Tag
+behind_token before (Ident word) = behind_word word
+behind_token before (Str text) = Operand
+behind_token before (Escaped text) = Operand
+behind_token before (Integer n) = Operand
+behind_token before (Truth b) = Operand
+behind_token before (Symbol op) = behind_operator before op
+behind_token before t = Other
+
+abbrev pub is_string : Tok → Bool
+is_string (Str text) = true
+is_string (Escaped text) = true
+is_string t = false
+
+-- the string with which the parts begin; none where no string comes first
+abbrev pub string : List Part → List Part
+string [] = []
+string (p ∷ ps) = if is_string p.token then p ∷ [] else []
+
+abbrev pub is_operand : Before → Bool
+is_operand Operand = true
+is_operand before = false
+
+-- the name that the first word of a tag makes of what stands behind it
+abbrev pub word_name : List ℕ → List Part → Option Named
+word_name word ps =
+    if is_among (codes "component" ∷ codes "endcomponent" ∷ []) word then named Defined (dotted ps)
+    else (if bytes_eq word (codes "extends") then named Extended (string ps)
+    else (if bytes_eq word (codes "include") then named Included (string ps)
+    else None))
+
+abbrev pub first_name : Before → List ℕ → List Part → Option Named
+first_name Tag word ps = word_name word ps
+first_name before word ps = None
+
+-- the name that a token makes of what stands behind it: a `<` where no operand may end before it, a `</`, and the
+-- first word of a tag
+abbrev pub name_behind : Before → Tok → List Part → Option Named
+name_behind before (Symbol op) ps =
+    if bytes_eq op (codes "<") then (if is_operand before then None else named Called (dotted ps))
+    else (if bytes_eq op (codes "</") then named Closed (dotted ps) else None)
+name_behind before (Ident word) ps = first_name before word ps
+name_behind before t ps = None
+
+-- those of these parts, in order, behind what stands before them
+abbrev pub names_in : Before → List Part → List Named
+names_in before [] = []
+names_in before (p ∷ ps) = option_to_list (name_behind before p.token ps) ++ names_in (behind_token before p.token) ps
+
+abbrev pub names_of : List Part → List Named
+names_of ps = names_in Other ps
+
+-- the byte stands in the name, or right behind it
+abbrev pub holds : ℕ → Named → Bool
+holds byte n = not (nat_lt byte n.start) && not (nat_lt n.end byte)

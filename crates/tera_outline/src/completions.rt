@@ -1,0 +1,358 @@
+//! What may be typed at a place of a text.
+
+ghost use Rattle.std.specs.Prelude.{◌≡◌, ◌<◌, ◌≤◌, length, map, option_map};
+ghost use Rattle.std.specs.List.{find};
+ghost use Rattle.tera_lexer.specs.code.Seen.{seen};
+ghost use Rattle.tera_outline.specs.Pieces.{part_of};
+ghost use Rattle.tera_outline.specs.Completions as specs;
+
+use crate::dotted::{dotted, end_of, is_dot};
+use crate::names::{Before, behind_token, is_string};
+use crate::pieces::Piece;
+use tera_lexer::Token;
+
+/// What may be typed somewhere.
+#[derive(Clone, Copy, Debug, PartialEq, Eq)]
+pub enum CompletionKind {
+    /// The word with which a statement begins.
+    Statement,
+    /// The name of a component.
+    Component,
+    /// The name of a template.
+    Template,
+    /// The name of an argument in the call of the component whose name begins with this byte, and is told by `under`.
+    Argument(usize),
+}
+
+/// What may be typed at a place, and where what is typed of it begins.
+#[derive(Clone, Copy, Debug, PartialEq, Eq)]
+pub struct Completion {
+    pub kind: CompletionKind,
+    /// The byte with which it begins; the place itself, where nothing is typed before it.
+    pub start: usize,
+}
+
+/// What may be typed at a byte of a text that stands in these pieces and ends at `last`: behind the start of a tag the
+/// word of a statement, behind a `</` and a `<` that is no comparison the name of a component, in the string behind
+/// `extends` and `include` that of a template, and behind the name of a component that is called that of an argument,
+/// where no value is to come.
+pub fn wanted(pieces: &[Piece<'_>], last: usize, byte: usize) -> Option<Completion>
+    ensures { result ≡ option_map (specs.completion_at byte)
+        (specs.slot_of last byte (map part_of pieces.now)) }
+{
+    let slot = match word_at(pieces, last, byte) {
+        Some(slot) => slot,
+        None => argument_at(pieces, last, byte)?,
+    };
+    Some(Completion {
+        kind: slot.kind,
+        start: byte.min(slot.start),
+    })
+}
+
+// The place at the byte for a word of a statement or a name of a component or a template.
+fn word_at(pieces: &[Piece<'_>], last: usize, byte: usize) -> Option<Slot>
+    ensures { result
+        ≡ find (specs.holds byte) (specs.slots_of last (map part_of pieces.now)) }
+{
+    let mut before = Before::Other;
+    let mut rest = pieces;
+    'pieces: while let [piece, behind @ ..] = rest {
+        if let Some(slot) = slot_behind(last, before, piece, behind) {
+            if slot.holds(byte) {
+                return Some(slot);
+            }
+        }
+        before = behind_token(before, &piece.token);
+        rest = behind;
+    }
+    None
+}
+
+// The place at the byte for an argument.
+fn argument_at(pieces: &[Piece<'_>], last: usize, byte: usize) -> Option<Slot>
+    ensures { result ≡ specs.argument_of last byte (map part_of pieces.now) }
+{
+    let mut before = Before::Other;
+    let mut rest = pieces;
+    'pieces: while let [piece, behind @ ..] = rest {
+        if begins_call(before, &piece.token) {
+            if let Some(slot) = called_at(last, behind, byte) {
+                return Some(slot);
+            }
+        }
+        before = behind_token(before, &piece.token);
+        rest = behind;
+    }
+    None
+}
+
+fn begins_call(before: Before, token: &Token<'_>) -> bool
+    ensures { result ≡ specs.begins_call before (seen token.now) }
+{
+    matches!(token, Token::LessThan) && !matches!(before, Before::Operand)
+}
+
+// The place at the byte for an argument of the call whose component's name comes first.
+fn called_at(last: usize, behind: &[Piece<'_>], byte: usize) -> Option<Slot>
+    ensures { result ≡ find (specs.holds byte) (specs.called last (map part_of behind.now)) }
+{
+    named_at(last, dotted(behind), behind, byte)
+}
+
+fn named_at(last: usize, name: &[Piece<'_>], behind: &[Piece<'_>], byte: usize) -> Option<Slot>
+    requires { length name.now ≤ length behind.now }
+    ensures { result ≡ find (specs.holds byte)
+        (specs.named last (map part_of name.now) (map part_of behind.now)) }
+{
+    match name {
+        [] => None,
+        [first, ..] => { inside_at(last, first.start, end_of(name), &behind[name.len()..], byte) }
+    }
+}
+
+// Where in a call a token stands: the byte behind the one before it, whether a value is to come, and how many brackets
+// are open.
+#[derive(Clone, Copy)]
+struct Inside {
+    from: usize,
+    valued: bool,
+    depth: usize,
+}
+
+// What a token is in a call.
+#[derive(Clone, Copy)]
+enum Role {
+    Word,
+    Equals,
+    Opening,
+    Closing,
+    // What ends a call.
+    Ending,
+    // A text, or the start or the end of a tag.
+    Outer,
+    Value,
+}
+
+// The place at the byte for an argument of the call whose name begins and ends with these bytes.
+fn inside_at(
+    last: usize,
+    call: usize,
+    from: usize,
+    behind: &[Piece<'_>],
+    byte: usize,
+) -> Option<Slot>
+    ensures { result ≡ find (specs.holds byte)
+        (specs.inside last call (specs.first_inside from) (map part_of behind.now)) }
+{
+    let mut inside = Inside {
+        from,
+        valued: false,
+        depth: 0,
+    };
+    let mut rest = behind;
+    'pieces: while let [piece, behind @ ..] = rest {
+        let role = role_of(&piece.token);
+        if let Some(slot) = argument_before(call, inside, role, piece.start, piece.end) {
+            if slot.holds(byte) {
+                return Some(slot);
+            }
+        }
+        match inside_behind(inside, role, piece.end) {
+            Some(next) => inside = next,
+            None => return None,
+        }
+        rest = behind;
+    }
+    match argument_before(call, inside, Role::Outer, last, last) {
+        Some(slot) if slot.holds(byte) => Some(slot),
+        _ => None,
+    }
+}
+
+// The place for an argument before a token that begins and ends with these bytes, or that of its name.
+fn argument_before(
+    call: usize,
+    inside: Inside,
+    role: Role,
+    start: usize,
+    end: usize,
+) -> Option<Slot>
+    ensures { result ≡ specs.argument_before call inside role start end }
+{
+    if inside.valued || inside.depth != 0 {
+        return None;
+    }
+    match role {
+        Role::Equals => None,
+        Role::Word => Some(Slot {
+            kind: CompletionKind::Argument(call),
+            from: inside.from,
+            start,
+            end,
+        }),
+        _ => Some(Slot {
+            kind: CompletionKind::Argument(call),
+            from: inside.from,
+            start,
+            end: start,
+        }),
+    }
+}
+
+// Where the next token stands behind one that ends with the byte; nowhere, if the call ends.
+fn inside_behind(inside: Inside, role: Role, end: usize) -> Option<Inside>
+    requires { inside.depth < usize.MAX }
+    ensures { result ≡ specs.inside_behind inside role end }
+{
+    let next = Inside {
+        from: end,
+        valued: false,
+        depth: inside.depth,
+    };
+    match role {
+        Role::Outer => None,
+        Role::Ending | Role::Closing if inside.depth == 0 => None,
+        Role::Opening => Some(Inside {
+            depth: inside.depth + 1,
+            ..next
+        }),
+        Role::Closing => Some(Inside {
+            depth: inside.depth - 1,
+            ..next
+        }),
+        Role::Equals => Some(Inside {
+            valued: true,
+            ..next
+        }),
+        _ => Some(next),
+    }
+}
+
+fn role_of(token: &Token<'_>) -> Role
+    ensures { result ≡ specs.role_of (seen token.now) }
+{
+    match token {
+        Token::Ident(_) => Role::Word,
+        Token::Assign => Role::Equals,
+        Token::LeftBrace | Token::LeftParen | Token::LeftBracket => Role::Opening,
+        Token::RightBrace | Token::RightParen | Token::RightBracket => Role::Closing,
+        Token::GreaterThan | Token::Div => Role::Ending,
+        Token::VariableStart(_) | Token::TagStart(_) => Role::Outer,
+        Token::VariableEnd(_) | Token::TagEnd(_) => Role::Outer,
+        Token::Content(_) | Token::RawContent(..) | Token::Comment(..) => Role::Outer,
+        _ => Role::Value,
+    }
+}
+
+// A place where something may be typed: the cursor stands between two bytes, and what is typed begins at one.
+#[derive(Clone, Copy)]
+struct Slot {
+    kind: CompletionKind,
+    from: usize,
+    start: usize,
+    end: usize,
+}
+
+impl Slot {
+    // Whether the cursor stands there.
+    fn holds(self, byte: usize) -> bool
+        ensures { result ≡ specs.holds byte self }
+    {
+        self.from <= byte && byte <= self.end
+    }
+}
+
+// What may be typed behind the piece.
+fn slot_behind(last: usize, before: Before, piece: &Piece<'_>, behind: &[Piece<'_>]) -> Option<Slot>
+    ensures { result ≡ specs.slot_behind last before (seen piece.now.token) piece.now.end
+        (map part_of behind.now) }
+{
+    match &piece.token {
+        Token::TagStart(_) => Some(name_slot(CompletionKind::Statement, last, piece.end, behind)),
+        Token::LessThan if matches!(before, Before::Operand) => None,
+        Token::LessThan | Token::ClosingTagStart => {
+            Some(name_slot(CompletionKind::Component, last, piece.end, behind))
+        }
+        Token::Ident(word) if matches!(before, Before::Tag) => word_slot(word, behind),
+        _ => None,
+    }
+}
+
+// The place of a template's name behind the first word of a tag.
+fn word_slot(word: &str, behind: &[Piece<'_>]) -> Option<Slot>
+    ensures { result ≡ specs.word_slot word.now (map part_of behind.now) }
+{
+    match word {
+        "extends" | "include" => string_slot(behind),
+        _ => None,
+    }
+}
+
+// The place of a name behind the byte, with a dot behind it or none; or the gap, where no name stands.
+fn name_slot(kind: CompletionKind, last: usize, from: usize, behind: &[Piece<'_>]) -> Slot
+    ensures { result ≡ specs.name_slot kind last from (map part_of behind.now) }
+{
+    place_of(kind, last, from, dotted(behind), behind)
+}
+
+fn place_of(
+    kind: CompletionKind,
+    last: usize,
+    from: usize,
+    name: &[Piece<'_>],
+    behind: &[Piece<'_>],
+) -> Slot
+    requires { length name.now ≤ length behind.now }
+    ensures { result
+        ≡ specs.place_of kind last from (map part_of name.now) (map part_of behind.now) }
+{
+    match name {
+        [] => Slot {
+            kind,
+            from,
+            start: gap_end(last, behind),
+            end: gap_end(last, behind),
+        },
+        [first, ..] => Slot {
+            kind,
+            from,
+            start: first.start,
+            end: dot_end(end_of(name), &behind[name.len()..]),
+        },
+    }
+}
+
+fn gap_end(last: usize, behind: &[Piece<'_>]) -> usize
+    ensures { result ≡ specs.gap_end last (map part_of behind.now) }
+{
+    match behind {
+        [next, ..] => next.start,
+        [] => last,
+    }
+}
+
+// The end of a name with the dot behind it, if one stands there.
+fn dot_end(end: usize, behind: &[Piece<'_>]) -> usize
+    ensures { result ≡ specs.dot_end end (map part_of behind.now) }
+{
+    match behind {
+        [next, ..] if is_dot(&next.token) => next.end,
+        _ => end,
+    }
+}
+
+// The place between the quotes of a string.
+fn string_slot(behind: &[Piece<'_>]) -> Option<Slot>
+    ensures { result ≡ specs.string_slot (map part_of behind.now) }
+{
+    match behind {
+        [text, ..] if is_string(&text.token) && text.start < text.end => Some(Slot {
+            kind: CompletionKind::Template,
+            from: text.start + 1,
+            start: text.start + 1,
+            end: text.end - 1,
+        }),
+        _ => None,
+    }
+}
