@@ -1,0 +1,8 @@
+pub mod Documents
+pub mod Adding
+pub mod Escapes
+pub mod Refusals
+pub mod Reserve
+pub mod OneValue
+pub mod ReadBack
+pub mod Outlines

@@ -1,0 +1,12 @@
+pub mod Ids
+pub mod Messages
+pub mod Shown
+pub mod Read
+pub mod Codes
+pub mod Writing
+pub mod Room
+pub mod Outgoing
+pub mod Laws
+pub mod Outline
+pub mod OutlineRead
+pub mod Outlined

@@ -1,0 +1,118 @@
+//! Values that are written.
+
+ghost use Rattle.std.specs.Prelude.{◌≡◌, ◌++◌, OnOk};
+ghost use Rattle.json.specs.Json.{string, boolean};
+ghost use Rattle.json.specs.Tree.{json_tokens};
+ghost use Rattle.protocol_values.specs.Writing.{member_tokens, number_json, position_json, range_json, location_json, edit_json, encoding_name};
+
+use json::Writer;
+use std::alloc::AllocError;
+use text_edits::{Encoding, Position};
+
+/// Writes a member that is a text.
+pub fn put_text(out: &mut Writer, name: &str, text: &str) -> Result<(), AllocError>
+    ensures tokens { OnOk result (out.new.tokens
+        ≡ out.old.tokens ++ member_tokens name.now (string text.now)) }
+    ensures before { out.new.before ≡ out.old.before }
+{
+    out.key(name)?;
+    out.string(text)
+}
+
+/// Writes a member that is a number.
+pub fn put_number(out: &mut Writer, name: &str, number: usize) -> Result<(), AllocError>
+    ensures tokens { OnOk result (out.new.tokens
+        ≡ out.old.tokens ++ member_tokens name.now (number_json number)) }
+    ensures before { out.new.before ≡ out.old.before }
+{
+    out.key(name)?;
+    out.u64(number as u64)
+}
+
+/// Writes a member that is `true` or `false`.
+pub fn put_truth(out: &mut Writer, name: &str, truth: bool) -> Result<(), AllocError>
+    ensures tokens { OnOk result (out.new.tokens
+        ≡ out.old.tokens ++ member_tokens name.now (boolean truth)) }
+    ensures before { out.new.before ≡ out.old.before }
+{
+    out.key(name)?;
+    out.boolean(truth)
+}
+
+/// Writes a member that is a position.
+pub fn put_position(out: &mut Writer, name: &str, position: Position) -> Result<(), AllocError>
+    ensures tokens { OnOk result (out.new.tokens
+        ≡ out.old.tokens ++ member_tokens name.now (position_json position)) }
+    ensures before { out.new.before ≡ out.old.before }
+{
+    out.key(name)?;
+    out.begin_object()?;
+    put_number(out, "line", position.line)?;
+    put_number(out, "character", position.character)?;
+    out.end_object()?;
+    Ok(())
+}
+
+/// Writes a member that is a range.
+pub fn put_range(
+    out: &mut Writer,
+    name: &str,
+    start: Position,
+    end: Position,
+) -> Result<(), AllocError>
+    ensures tokens { OnOk result (out.new.tokens
+        ≡ out.old.tokens ++ member_tokens name.now (range_json start end)) }
+    ensures before { out.new.before ≡ out.old.before }
+{
+    out.key(name)?;
+    out.begin_object()?;
+    put_position(out, "start", start)?;
+    put_position(out, "end", end)?;
+    out.end_object()
+}
+
+/// Writes a part of the text of the document with this URI.
+pub fn put_location(
+    out: &mut Writer,
+    uri: &str,
+    start: Position,
+    end: Position,
+) -> Result<(), AllocError>
+    ensures tokens { OnOk result (out.new.tokens
+        ≡ out.old.tokens ++ json_tokens (location_json uri.now start end)) }
+    ensures before { out.new.before ≡ out.old.before }
+{
+    out.begin_object()?;
+    put_text(out, "uri", uri)?;
+    put_range(out, "range", start, end)?;
+    out.end_object()
+}
+
+/// Writes the edit that puts the text in the place of a part.
+pub fn put_edit(
+    out: &mut Writer,
+    start: Position,
+    end: Position,
+    text: &str,
+) -> Result<(), AllocError>
+    ensures tokens { OnOk result (out.new.tokens
+        ≡ out.old.tokens ++ json_tokens (edit_json start end text.now)) }
+    ensures before { out.new.before ≡ out.old.before }
+{
+    out.begin_object()?;
+    put_range(out, "range", start, end)?;
+    put_text(out, "newText", text)?;
+    out.end_object()?;
+    Ok(())
+}
+
+/// The name of the encoding.
+pub fn encoding_name(encoding: Encoding) -> &'static str
+    ensures { result.now ≡ encoding_name encoding }
+{
+    match encoding {
+        Encoding::Utf8 => "utf-8",
+        Encoding::Utf16 => "utf-16",
+        Encoding::Utf32 => "utf-32",
+    }
+}
