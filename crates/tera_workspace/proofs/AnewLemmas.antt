@@ -1,0 +1,45 @@
+-- A document that was read.
+use Rattle.std.proofs.Common.{◌≡◌, ◌∙◌, ℕ, List, map, string_bytes, IfOk, IfErr, MatchResult, [], true, sym, subst}
+use Rattle.tera_grammar.specs.Limits.{usual}
+use Rattle.tera_grammar.specs.statements.Places.{Places}
+use Rattle.tera_grammar.specs.statements.Top.{Derives, DerivesNames}
+use Rattle.tera_lexer.specs.grammar.Marks.{default_marks}
+use Rattle.tera_parser.specs.Notes.{NotesName}
+use Rattle.tera_parser.specs.Refusal.{Refuses}
+use Rattle.tera_statements.specs.Outputs.{output_view}
+use Rattle.tera_tree.specs.Tree.{Output}
+use Rattle.tera_check.specs.Faults.{IsSyntaxError}
+use Rattle.tera_check.specs.declared.templates.Template.{Template}
+use Rattle.tera_workspace.specs.Fresh.{IsRead}
+use Rattle.tera_workspace.specs.Kept.{told_of, HasNames, IsWhole, IsAnew}
+use Rattle.tera_workspace.specs.Sources.{Source}
+use Rattle.tera_workspace.specs.declared.judged.Judged.{Judged}
+
+-- what `read_template` promises of the text and the name
+pub is_read : (name text : List ℕ) (t : Template) → string_bytes t.file ≡ name
+    → IfOk t.parsed (λ o. Derives usual default_marks text (output_view o))
+    → ((output : Output) → Derives usual default_marks text output → MatchResult t.parsed (λ o. output_view o ≡ output) (λ _. ⊥))
+    → IfErr t.parsed IsSyntaxError → IfErr t.parsed (Refuses default_marks text) → IfErr t.parsed (NotesName name)
+    → MatchResult t.parsed
+    (λ o. (names : Places) × DerivesNames usual default_marks text (output_view o) names × (t.defined_at.items ≡ map (λ n. n.span) names.components))
+    (λ _. t.defined_at.items ≡ [])
+    → IsRead (record { name = name; text = text }) t
+is_read name text t file sound complete fault refusal notes places =
+    record { file = file; sound = sound; complete = complete; fault = fault; refusal = refusal; notes = notes; places = places }
+
+pub is_anew : (name text : List ℕ) (j : Judged) → j.text ≡ text → IsRead (record { name = name; text = text }) j.template
+    → HasNames j.names.items j.template → j.stale ≡ true → told_of j ≡ [] → IsAnew name text j
+is_anew name text j same read names stale untold =
+    record {
+      named = read.file;
+      texted = same;
+      whole =
+          let s : Source = record { name = string_bytes j.template.file; text = j.text } in
+          let is : record { name = name; text = text } ≡ s = λ i. record { name = sym read.file i; text = sym same i } in
+          record {
+            read = subst (λ (x : Source). IsRead x j.template) is read;
+            names = names;
+          };
+      stale = stale;
+      untold = untold;
+    }

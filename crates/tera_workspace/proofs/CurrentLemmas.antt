@@ -1,0 +1,188 @@
+-- What was told stays as it would be found, where another text of one file is read and those are marked that name what it
+-- changes, or were told a place in it.
+use Rattle.std.proofs.Common.{◌≡◌, ◌≢◌, ◌∙◌, ◌<◌, ℕ, zero, suc, List, [], ◌∷◌, ◌||◌, length, get_or, set, map, Bool, true, false, Result, Ok, Err, MatchResult, string_bytes, refl, sym, ap, subst, inl, inr, arith}
+use Rattle.std.proofs.lemmas.Bool.{cases_eq}
+use Rattle.std.proofs.Common.{if◌then◌else◌}
+use Rattle.std.specs.List.{AllByRecursion, list_any}
+use Rattle.std.specs.List.Sorted.{IsPermutation}
+use Rattle.std.specs.Str.{bytes_eq}
+use Rattle.std.proofs.lemmas.List.Sorted.{list_any-IsPermutation}
+use Rattle.std.proofs.lemmas.Slice.Eq.{bytes_eq-Decides}
+use Rattle.tera_base.specs.ErrorView.{error_view}
+use Rattle.tera_base.specs.declared.errors.Error.{Error}
+use Rattle.tera_statements.specs.Outputs.{output_view}
+use Rattle.tera_statements.specs.declared.outputs.ParserOutput.{ParserOutput}
+use Rattle.tera_check.specs.Alike.{names_in}
+use Rattle.tera_check.specs.Findings.{finding_view, IsOfError}
+use Rattle.tera_check.specs.Judged.{KnownVal}
+use Rattle.tera_check.specs.Named.{tree_findings, first_named, defined_in, defined_by, definitions_of}
+use Rattle.tera_check.specs.Rules.{IsInOrder}
+use Rattle.tera_check.specs.declared.finding.Finding.{Finding}
+use Rattle.tera_check.specs.declared.templates.Template.{Template}
+use Rattle.text_edits.specs.declared.positions.Encoding.{Encoding}
+use Rattle.tera_workspace.specs.Beside.{AreAlikeButIfAny, AgreeBut}
+use Rattle.tera_workspace.specs.Diagnostics.{diagnostic_view, diagnostic_of}
+use Rattle.tera_workspace.specs.Fresh.{IsRead, IsFound, IsTold}
+use Rattle.tera_workspace.specs.Heads.{definition_named, HaveOneHeadIfAny}
+use Rattle.tera_workspace.specs.Kept.{name_of, source_of, sources_of, templates_of, told_of, HasNames, IsWhole, IsCurrent, AreCurrent, is_about, is_told_in, marked}
+use Rattle.tera_workspace.specs.Names.{is_among}
+use Rattle.tera_workspace.specs.Sources.{Source, text_named}
+use Rattle.tera_workspace.specs.declared.judged.Judged.{Judged}
+use Rattle.tera_workspace.proofs.BesideLemmas.{tree_but}
+use Rattle.tera_workspace.proofs.KnownLemmas.{template_alike, all_alike}
+use Rattle.tera_workspace.proofs.NameSets.{all_among}
+use Rattle.tera_workspace.proofs.PlaceLemmas.{first_false, second_false, differ, other_text, findings_same, tells, all_beside, none_told}
+
+-- ---- a document that was not marked
+
+false_true : false ≡ true → ⊥
+false_true e = cc
+
+-- a name that the document has is not among those that are touched
+not_among : (names : List (List ℕ)) (n : List ℕ) → is_among n names ≡ true → (touched : List (List ℕ)) → list_any (λ m. is_among m names) touched ≡ false → is_among n touched ≡ false
+not_among names n has [] none = refl
+not_among names n has (m ∷ ms) none =
+    let here = first_false (is_among m names) (list_any (λ x. is_among x names) ms) none in
+    let apart = differ m n (λ same. false_true (sym here ∙ ap (λ x. is_among x names) same ∙ has)) in
+    ap (λ (b : Bool). if b then true else is_among n ms) apart ∙ not_among names n has ms (second_false (is_among m names) (list_any (λ x. is_among x names) ms) none)
+
+module _ (file : List ℕ) (k : ℕ) (ts us : List Template) where
+  agree_by : (names : List (List ℕ)) (touched : List (List ℕ)) → list_any (λ m. is_among m names) touched ≡ false
+      → ((n : List ℕ) → is_among n touched ≡ false → AreAlikeButIfAny file k (first_named n (defined_by 0 ts)) (first_named n (defined_by 0 us)))
+      → (r : Result ParserOutput Error) → MatchResult r (λ o. names ≡ names_in (output_view o)) (λ _. Unit {0})
+      → MatchResult r (λ o. AgreeBut (names_in (output_view o)) file k (λ n. first_named n (defined_by 0 ts)) (λ n. first_named n (defined_by 0 us))) (λ _. Unit {0})
+  agree_by names touched none alike (Ok o) has =
+      all_among (λ n. AreAlikeButIfAny file k (first_named n (defined_by 0 ts)) (first_named n (defined_by 0 us))) (names_in (output_view o))
+      (λ n among. alike n (not_among names n (ap (is_among n) has ∙ among) touched none))
+  agree_by names touched none alike (Err e) has = tt
+
+  found_by : (t : Template) (fs : List Finding) → list_any (tells file) (map finding_view fs) ≡ false
+      → (r : Result ParserOutput Error)
+      → MatchResult r (λ o. AgreeBut (names_in (output_view o)) file k (λ n. first_named n (defined_by 0 ts)) (λ n. first_named n (defined_by 0 us))) (λ _. Unit {0})
+      → MatchResult r
+      (λ o. IsPermutation (tree_findings (λ n. first_named n (defined_by 0 ts)) k t (output_view o)) (map finding_view fs) × IsInOrder fs)
+      (λ e. (f : Finding) × (fs ≡ f ∷ []) × IsOfError (error_view e) (finding_view f))
+      → MatchResult r
+      (λ o. IsPermutation (tree_findings (λ n. first_named n (defined_by 0 us)) k t (output_view o)) (map finding_view fs) × IsInOrder fs)
+      (λ e. (f : Finding) × (fs ≡ f ∷ []) × IsOfError (error_view e) (finding_view f))
+  found_by t fs none (Ok o) agree found =
+      let before = tree_findings (λ n. first_named n (defined_by 0 ts)) k t (output_view o) in
+      let beside = all_beside file before (list_any-IsPermutation (tells file) before (map finding_view fs) found.0 ∙ none) in
+      (subst (λ x. IsPermutation x (map finding_view fs)) (tree_but file k (λ n. first_named n (defined_by 0 ts)) (λ n. first_named n (defined_by 0 us)) t (output_view o) agree beside) found.0, found.1)
+  found_by t fs none (Err e) agree found = found
+
+  pub still_told : (e : Encoding) (ss rs : List Source) (j : Judged) (touched : List (List ℕ))
+      → HasNames j.names.items j.template → list_any (λ n. is_among n (map string_bytes j.names.items)) touched ≡ false → is_told_in file j ≡ false
+      → ((n : List ℕ) → is_among n touched ≡ false → AreAlikeButIfAny file k (first_named n (defined_by 0 ts)) (first_named n (defined_by 0 us)))
+      → ((name : List ℕ) → (name ≡ file → ⊥) → text_named name rs ≡ text_named name ss)
+      → IsTold e ss ts k j.text j.template (told_of j) → IsTold e rs us k j.text j.template (told_of j)
+  still_told e ss rs j touched has none untold alike same (fs, found, told) =
+      let quiet = none_told e file ss j.text j.told.items (map finding_view fs) told untold in (
+        fs,
+        found_by j.template fs quiet j.template.parsed (agree_by (map string_bytes j.names.items) touched none alike j.template.parsed has) found,
+        told ∙ sym (findings_same e file ss rs same j.text (map finding_view fs) (all_beside file (map finding_view fs) quiet)),
+      )
+
+-- ---- lists of documents
+
+get_map : {X Y : Type 0} (f : X → Y) (xs : List X) (k : ℕ) (d : X) (e : Y) → k < length xs → get_or (map f xs) k e ≡ f (get_or xs k d)
+get_map f [] k d e h = absurd (omega arith)
+get_map f (x ∷ xs) zero d e h = refl
+get_map f (x ∷ xs) (suc k) d e h = get_map f xs k d e (omega arith)
+
+map_set : {X Y : Type 0} (f : X → Y) (xs : List X) (i : ℕ) (x : X) → map f (set xs i x) ≡ set (map f xs) i (f x)
+map_set f [] i x = refl
+map_set f (y ∷ xs) zero x = refl
+map_set f (y ∷ xs) (suc i) x = ap (λ ys. f y ∷ ys) (map_set f xs i x)
+
+set_other : {X : Type 0} (xs : List X) (i k : ℕ) (x d : X) → (k ≡ i → ⊥) → get_or (set xs i x) k d ≡ get_or xs k d
+set_other [] i k x d h = refl
+set_other (y ∷ xs) zero zero x d h = absurd (h refl)
+set_other (y ∷ xs) zero (suc k) x d h = refl
+set_other (y ∷ xs) (suc i) zero x d h = refl
+set_other (y ∷ xs) (suc i) (suc k) x d h = set_other xs i k x d (λ e. h (ap suc e))
+
+set_here : {X : Type 0} (xs : List X) (i : ℕ) (x d : X) → i < length xs → get_or (set xs i x) i d ≡ x
+set_here [] i x d h = absurd (omega arith)
+set_here (y ∷ xs) zero x d h = refl
+set_here (y ∷ xs) (suc i) x d h = set_here xs i x d (omega arith)
+
+set_length : {X : Type 0} (xs : List X) (i : ℕ) (x : X) → length (set xs i x) ≡ length xs
+set_length [] i x = refl
+set_length (y ∷ xs) zero x = refl
+set_length (y ∷ xs) (suc i) x = ap suc (set_length xs i x)
+
+map_length : {X Y : Type 0} (f : X → Y) (xs : List X) → length (map f xs) ≡ length xs
+map_length f [] = refl
+map_length f (x ∷ xs) = ap suc (map_length f xs)
+
+pub marked_sources : (touched : List (List ℕ)) (file : List ℕ) (js : List Judged) → sources_of (map (marked touched file) js) ≡ sources_of js
+marked_sources touched file [] = refl
+marked_sources touched file (j ∷ js) = ap (λ ss. source_of j ∷ ss) (marked_sources touched file js)
+
+marked_templates : (touched : List (List ℕ)) (file : List ℕ) (js : List Judged) → templates_of (map (marked touched file) js) ≡ templates_of js
+marked_templates touched file [] = refl
+marked_templates touched file (j ∷ js) = ap (λ ts. j.template ∷ ts) (marked_templates touched file js)
+
+pub all_at : {X : Type 0} (P : X → Type 0) (xs : List X) (k : ℕ) (d : X) → AllByRecursion P xs → k < length xs → P (get_or xs k d)
+all_at P [] k d h within = absurd (omega arith)
+all_at P (x ∷ xs) zero d h within = h.0
+all_at P (x ∷ xs) (suc k) d h within = all_at P xs k d h.1 (omega arith)
+
+pub sources_set : (js : List Judged) (i : ℕ) (j : Judged) → sources_of (set js i j) ≡ set (sources_of js) i (source_of j)
+sources_set js i j = map_set source_of js i j
+
+-- what a mark that was not set says
+unmarked : (b c s : Bool) → (if b || c then true else s) ≡ false → (b ≡ false) × (c ≡ false) × (s ≡ false)
+unmarked true c s h = absurd (false_true (sym h))
+unmarked false true s h = absurd (false_true (sym h))
+unmarked false false s h = (refl, refl, h)
+
+-- ---- another text of one document, and marks on the others
+
+module _ (e : Encoding) (touched : List (List ℕ)) (js : List Judged) (i : ℕ) (j d : Judged) (within : i < length js)
+    (old : name_of (get_or js i d) ≡ name_of j) (stale : j.stale ≡ true) (whole : AllByRecursion IsWhole js)
+    (heads : (n : List ℕ) → is_among n touched ≡ false → HaveOneHeadIfAny (definition_named n (definitions_of (get_or js i d).template.parsed)) (definition_named n (definitions_of j.template.parsed))) where
+  abbrev after : List Judged
+  after = set (map (marked touched (name_of j)) js) i j
+
+  sources_after : sources_of after ≡ set (sources_of js) i (source_of j)
+  sources_after = map_set source_of (map (marked touched (name_of j)) js) i j ∙ ap (λ ss. set ss i (source_of j)) (marked_sources touched (name_of j) js)
+
+  templates_after : templates_of after ≡ set (templates_of js) i j.template
+  templates_after = map_set (λ x. x.template) (map (marked touched (name_of j)) js) i j ∙ ap (λ ts. set ts i j.template) (marked_templates touched (name_of j) js)
+
+  alike : (k : ℕ) (n : List ℕ) → is_among n touched ≡ false
+      → AreAlikeButIfAny (name_of j) k (first_named n (defined_by 0 (templates_of js))) (first_named n (defined_by 0 (set (templates_of js) i j.template)))
+  alike k n free =
+      all_alike (name_of j) k n j.template d.template 0 (templates_of js) i (omega (arith, map_length (λ (x : Judged). x.template) js))
+      (λ m. subst (λ t. AreAlikeButIfAny (name_of j) k (first_named n (defined_in m t)) (first_named n (defined_in m j.template)))
+      (sym (get_map (λ (x : Judged). x.template) js i d d.template within))
+      (template_alike (name_of j) k (get_or js i d).template j.template old refl n (heads n free) m))
+
+  same : (name : List ℕ) → (name ≡ name_of j → ⊥) → text_named name (set (sources_of js) i (source_of j)) ≡ text_named name (sources_of js)
+  same name other =
+      other_text (name_of j) name (sources_of js) i (source_of j) (source_of d) (omega (arith, map_length source_of js))
+      (ap (λ s. s.name) (get_map source_of js i d (source_of d) within) ∙ old) refl other
+
+  others_current : (k : ℕ) (x : Judged) → k < length js → IsCurrent e js k (get_or js k x) → IsWhole (get_or js k x)
+      → IsCurrent e after k (marked touched (name_of j) (get_or js k x))
+  others_current k x in_it current is_whole fresh =
+      let one = get_or js k x in
+      let (none, untold, was) = unmarked (list_any (λ n. is_among n (map string_bytes one.names.items)) touched) (is_told_in (name_of j) one) one.stale fresh in
+      let told : IsTold e (set (sources_of js) i (source_of j)) (set (templates_of js) i j.template) k one.text one.template (told_of one) =
+      still_told (name_of j) k (templates_of js) (set (templates_of js) i j.template) e (sources_of js) (set (sources_of js) i (source_of j)) one touched
+      is_whole.names none untold (alike k) same (current was) in
+      subst (λ ss. IsTold e ss (templates_of after) k one.text one.template (told_of one)) (sym sources_after)
+      (subst (λ ts. IsTold e (set (sources_of js) i (source_of j)) ts k one.text one.template (told_of one)) (sym templates_after) told)
+
+  pub replaced_current : AreCurrent e js → AreCurrent e after
+  replaced_current current k x in_it =
+      let in_js : k < length js = omega (arith, set_length (map (marked touched (name_of j)) js) i j, map_length (marked touched (name_of j)) js) in
+      elim (cases_eq k i) [
+        | inl is ↦ subst (λ y. IsCurrent e after k y) (sym (ap (λ m. get_or after m x) is ∙ set_here (map (marked touched (name_of j)) js) i j x (omega (arith, map_length (marked touched (name_of j)) js))))
+            (λ fresh. absurd (false_true (sym fresh ∙ stale)))
+        | inr not ↦ subst (λ y. IsCurrent e after k y)
+            (sym (set_other (map (marked touched (name_of j)) js) i k j x not ∙ get_map (marked touched (name_of j)) js k x x in_js))
+            (others_current k x in_js (current k x in_js) (all_at IsWhole js k x whole in_js))
+      ]

@@ -1,0 +1,47 @@
+-- The document of a number that was found by a name.
+use Rattle.std.proofs.Common.{◌≡◌, ◌∙◌, ◌<◌, ℕ, zero, suc, List, [], ◌∷◌, ◌||◌, length, get_or, map, Bool, true, false, cond, string_bytes, refl, ap, arith, rules, tests}
+use Rattle.std.specs.Str.{bytes_eq}
+use Rattle.text_edits.specs.Lines.{lines_of}
+use Rattle.text_edits.specs.Positions.{is_boundary, boundary_to, position_of}
+use Rattle.text_edits.specs.declared.positions.Encoding.{Encoding}
+use Rattle.text_edits.specs.declared.positions.Position.{Position}
+use Rattle.tera_workspace.specs.Diagnostics.{DiagnosticVal, position_in}
+use Rattle.tera_workspace.specs.Kept.{sources_of, told_of, told_named, has_name, NoneBefore, IsNumbered}
+use Rattle.tera_workspace.specs.Sources.{text_named}
+use Rattle.tera_workspace.specs.declared.judged.Judged.{Judged}
+
+pub text_numbered : (name : List ℕ) (js : List Judged) (k : ℕ) (d : Judged) → IsNumbered name js k → text_named name (sources_of js) ≡ (get_or js k d).text
+text_numbered name [] k d h = absurd (omega (arith, h.within))
+text_numbered name (j ∷ js) zero d h = ap (λ b. cond b j.text (text_named name (sources_of js))) (h.is d)
+text_numbered name (j ∷ js) (suc k) d h =
+    ap (λ b. cond b j.text (text_named name (sources_of js))) (h.first 0 d (omega arith))
+    ∙ text_numbered name js k d (record { within = omega (arith, h.within); is = h.is; first = λ m e below. h.first (suc m) e (omega arith) })
+
+pub told_numbered : (name : List ℕ) (js : List Judged) (k : ℕ) (d : Judged) → IsNumbered name js k → told_named name js ≡ told_of (get_or js k d)
+told_numbered name [] k d h = absurd (omega (arith, h.within))
+told_numbered name (j ∷ js) zero d h = ap (λ b. cond b (told_of j) (told_named name js)) (h.is d)
+told_numbered name (j ∷ js) (suc k) d h =
+    ap (λ b. cond b (told_of j) (told_named name js)) (h.first 0 d (omega arith))
+    ∙ told_numbered name js k d (record { within = omega (arith, h.within); is = h.is; first = λ m e below. h.first (suc m) e (omega arith) })
+
+pub text_nowhere : (name : List ℕ) (js : List Judged) → NoneBefore name js (length js) → text_named name (sources_of js) ≡ []
+text_nowhere name [] h = refl
+text_nowhere name (j ∷ js) h =
+    ap (λ b. cond b j.text (text_named name (sources_of js))) (h 0 j (omega arith)) ∙ text_nowhere name js (λ m e below. h (suc m) e (omega arith))
+
+pub told_nowhere : (name : List ℕ) (js : List Judged) → NoneBefore name js (length js) → told_named name js ≡ []
+told_nowhere name [] h = refl
+told_nowhere name (j ∷ js) h =
+    ap (λ b. cond b (told_of j) (told_named name js)) (h 0 j (omega arith)) ∙ told_nowhere name js (λ m e below. h (suc m) e (omega arith))
+
+-- in no text each byte stands at the beginning
+no_boundary : (byte : ℕ) → is_boundary [] (suc byte) ≡ false
+no_boundary byte = search (rules, tests)
+
+none_to : (byte : ℕ) → boundary_to [] byte ≡ 0
+none_to zero = refl
+none_to (suc byte) = ap (λ b. cond b (suc byte) (boundary_to [] byte)) (no_boundary byte) ∙ none_to byte
+
+pub nowhere : (e : Encoding) (byte : ℕ) → position_in e [] byte ≡ record { line = 0; character = 0 }
+unfolding lines_of
+nowhere e byte = ap (position_of e (lines_of [])) (none_to byte)

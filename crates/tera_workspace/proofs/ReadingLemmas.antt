@@ -1,0 +1,302 @@
+-- What stays so where a document is put in the place of another, or among others.
+use Rattle.std.proofs.Common.{◌≡◌, ◌∙◌, ◌<◌, ◌≤◌, ℕ, zero, suc, List, [], ◌∷◌, ◌++◌, length, get_or, set, map, take, drop, Bool, true, false, cond, Vec, string_bytes, refl, sym, ap, subst, arith}
+use Rattle.std.specs.Cmp.Lexicographic.{slice_cmp, nat_list_cmp_total}
+use Rattle.std.specs.List.{AllByRecursion, insert}
+use Rattle.std.specs.Ordering.{nat_cmp, is_gt, is_eq, ordering_reverse}
+use Rattle.std.specs.declared.alloc.Global.{Global}
+use Rattle.std.specs.declared.cmp.Ordering.{Ordering}
+use Rattle.std.specs.declared.cmp.Ordering.TheVariants.{Less, Equal, Greater}
+use Rattle.std.proofs.lemmas.Map.Text.{is_eq-slice_cmp}
+use Rattle.std.specs.Str.{bytes_eq}
+use Rattle.std.proofs.lemmas.Slice.Eq.{bytes_eq-Decides}
+use Rattle.text_edits.specs.declared.positions.Encoding.{Encoding}
+use Rattle.tera_check.specs.Named.{definitions_of}
+use Rattle.tera_workspace.specs.Diagnostics.{DiagnosticVal}
+use Rattle.tera_workspace.specs.Heads.{definition_named, HaveOneHeadIfAny}
+use Rattle.tera_workspace.specs.Kept.{source_of, sources_of, told_of, told_named, has_name, NoneBefore, IsNumbered, IsPlaceOf, IsWhole, IsAnew, AllWhole, AreCurrent, StayKept, IsTextAt, marked, unsettled}
+use Rattle.tera_workspace.specs.Names.{is_among}
+use Rattle.tera_workspace.specs.Sources.{Source, AreInOrder, AreAscending, text_named}
+use Rattle.tera_workspace.specs.declared.diagnostics.Diagnostic.{Diagnostic}
+use Rattle.tera_workspace.specs.declared.judged.Judged.{Judged}
+use Rattle.tera_workspace.proofs.NumberLemmas.{text_numbered}
+use Rattle.tera_workspace.proofs.CurrentLemmas.{replaced_current, marked_sources, sources_set}
+use Rattle.tera_workspace.proofs.PlaceLemmas.{differ}
+
+false_true : false ≡ true → ⊥
+false_true e = cc
+
+pub stay_same : (js : List Judged) → StayKept js js
+stay_same js = record { whole = λ w. w; current = λ e w c. c; ordered = λ o. o; told = λ n. refl }
+
+pub stay_behind : (a b c : List Judged) → StayKept a b → StayKept b c → StayKept a c
+stay_behind a b c h g = record {
+  whole = λ w. g.whole (h.whole w);
+  current = λ e w current. g.current e (h.whole w) (h.current e w current);
+  ordered = λ o. g.ordered (h.ordered o);
+  told = λ n. g.told n ∙ h.told n;
+}
+
+-- ---- values by tests
+
+again_same : {X : Type 0} (b : Bool) (x y z : X) → cond b x z ≡ cond b x (cond b y z)
+again_same true x y z = refl
+again_same false x y z = refl
+
+-- two tests of which one fails
+swapped : {X : Type 0} (a b : Bool) (x y z : X) → (a ≡ true → b ≡ true → ⊥) → cond a x (cond b y z) ≡ cond b y (cond a x z)
+swapped true true x y z h = absurd (h refl refl)
+swapped true false x y z h = refl
+swapped false true x y z h = refl
+swapped false false x y z h = refl
+
+both : (a name n : List ℕ) → bytes_eq a name ≡ false → bytes_eq a n ≡ true → bytes_eq name n ≡ true → ⊥
+both a name n apart e g =
+    let same : a ≡ name = (bytes_eq-Decides a n).0 e ∙ sym ((bytes_eq-Decides name n).0 g) in
+    false_true (sym apart ∙ (bytes_eq-Decides a name).1 same)
+
+equal : (a n : List ℕ) → bytes_eq a n ≡ true → a ≡ n
+equal a n e = (bytes_eq-Decides a n).0 e
+
+-- ---- the text and what was told of each name, where one of a name is put in the place of the first
+
+module _ (name : List ℕ) (j : Judged) (named : string_bytes j.template.file ≡ name) where
+  pub text_set : (js : List Judged) (i : ℕ) → i < length js → has_name name (get_or js i j) ≡ true → ((m : ℕ) → m < i → has_name name (get_or js m j) ≡ false)
+      → (n : List ℕ) → text_named n (set (sources_of js) i (source_of j)) ≡ cond (bytes_eq name n) j.text (text_named n (sources_of js))
+  text_set [] i within is first n = absurd (omega arith)
+  text_set (x ∷ js) zero within is first n =
+      ap (λ m. cond (bytes_eq m n) j.text (text_named n (sources_of js))) named
+      ∙ again_same (bytes_eq name n) j.text x.text (text_named n (sources_of js))
+      ∙ ap (λ m. cond (bytes_eq name n) j.text (cond (bytes_eq m n) x.text (text_named n (sources_of js)))) (sym (equal (string_bytes x.template.file) name is))
+  text_set (x ∷ js) (suc i) within is first n =
+      ap (cond (bytes_eq (string_bytes x.template.file) n) x.text) (text_set js i (omega arith) is (λ m h. first (suc m) (omega arith)) n)
+      ∙ swapped (bytes_eq (string_bytes x.template.file) n) (bytes_eq name n) x.text j.text (text_named n (sources_of js)) (both (string_bytes x.template.file) name n (first 0 (omega arith)))
+
+  pub told_set : (js : List Judged) (i : ℕ) → i < length js → has_name name (get_or js i j) ≡ true → told_of j ≡ told_of (get_or js i j)
+      → (n : List ℕ) → told_named n (set js i j) ≡ told_named n js
+  told_set [] i within is same n = refl
+  told_set (x ∷ js) zero within is same n =
+      ap (λ m. cond (bytes_eq m n) (told_of j) (told_named n js)) (named ∙ sym (equal (string_bytes x.template.file) name is))
+      ∙ ap (λ ds. cond (bytes_eq (string_bytes x.template.file) n) ds (told_named n js)) same
+  told_set (x ∷ js) (suc i) within is same n =
+      ap (cond (bytes_eq (string_bytes x.template.file) n) (told_of x)) (told_set js i (omega arith) is same n)
+
+  -- where it is put among others, of which none has the name
+  pub text_insert : (js : List Judged) (i : ℕ) → i ≤ length js → ((m : ℕ) → m < length js → has_name name (get_or js m j) ≡ false)
+      → (n : List ℕ) → text_named n (sources_of (insert js i j)) ≡ cond (bytes_eq name n) j.text (text_named n (sources_of js))
+  text_insert js zero within none n = ap (λ m. cond (bytes_eq m n) j.text (text_named n (sources_of js))) named
+  text_insert [] (suc i) within none n = absurd (omega arith)
+  text_insert (x ∷ js) (suc i) within none n =
+      ap (cond (bytes_eq (string_bytes x.template.file) n) x.text) (text_insert js i (omega arith) (λ m h. none (suc m) (omega arith)) n)
+      ∙ swapped (bytes_eq (string_bytes x.template.file) n) (bytes_eq name n) x.text j.text (text_named n (sources_of js)) (both (string_bytes x.template.file) name n (none 0 (omega arith)))
+
+  none_told : (js : List Judged) → ((m : ℕ) → m < length js → has_name name (get_or js m j) ≡ false) → told_named name js ≡ []
+  none_told [] none = refl
+  none_told (x ∷ js) none =
+      ap (λ b. cond b (told_of x) (told_named name js)) (none 0 (omega arith)) ∙ none_told js (λ m h. none (suc m) (omega arith))
+
+  told_insert_at : (js : List Judged) (i : ℕ) → i ≤ length js → told_of j ≡ [] → ((m : ℕ) → m < length js → has_name name (get_or js m j) ≡ false)
+      → (n : List ℕ) → told_named n (insert js i j) ≡ cond (bytes_eq name n) [] (told_named n js)
+  told_insert_at js zero within untold none n =
+      ap (λ m. cond (bytes_eq m n) (told_of j) (told_named n js)) named ∙ ap (λ ds. cond (bytes_eq name n) ds (told_named n js)) untold
+  told_insert_at [] (suc i) within untold none n = absurd (omega arith)
+  told_insert_at (x ∷ js) (suc i) within untold none n =
+      ap (cond (bytes_eq (string_bytes x.template.file) n) (told_of x)) (told_insert_at js i (omega arith) untold (λ m h. none (suc m) (omega arith)) n)
+      ∙ swapped (bytes_eq (string_bytes x.template.file) n) (bytes_eq name n) (told_of x) [] (told_named n js) (both (string_bytes x.template.file) name n (none 0 (omega arith)))
+
+  if_nothing : (b : Bool) (ds : List DiagnosticVal) → (b ≡ true → ds ≡ []) → cond b [] ds ≡ ds
+  if_nothing true ds h = sym (h refl)
+  if_nothing false ds h = refl
+
+  pub told_insert : (js : List Judged) (i : ℕ) → i ≤ length js → told_of j ≡ [] → ((m : ℕ) → m < length js → has_name name (get_or js m j) ≡ false)
+      → (n : List ℕ) → told_named n (insert js i j) ≡ told_named n js
+  told_insert js i within untold none n =
+      told_insert_at js i within untold none n
+      ∙ if_nothing (bytes_eq name n) (told_named n js) (λ e. ap (λ m. told_named m js) (sym (equal name n e)) ∙ none_told js none)
+
+-- ---- all of them whole
+
+whole_with : (j : Judged) (touched : List (List ℕ)) (file : List ℕ) → IsWhole j → IsWhole (marked touched file j)
+whole_with j touched file w = record { read = w.read; names = w.names }
+
+marked_whole : (touched : List (List ℕ)) (file : List ℕ) (js : List Judged) → AllWhole js → AllWhole (map (marked touched file) js)
+marked_whole touched file [] w = tt
+marked_whole touched file (j ∷ js) w = (whole_with j touched file w.0, marked_whole touched file js w.1)
+
+set_whole : (js : List Judged) (i : ℕ) (j : Judged) → IsWhole j → AllWhole js → AllWhole (set js i j)
+set_whole [] i j one w = tt
+set_whole (x ∷ js) zero j one w = (one, w.1)
+set_whole (x ∷ js) (suc i) j one w = (w.0, set_whole js i j one w.1)
+
+insert_whole : (js : List Judged) (i : ℕ) (j : Judged) → i ≤ length js → IsWhole j → AllWhole js → AllWhole (insert js i j)
+insert_whole js zero j within one w = (one, w)
+insert_whole [] (suc i) j within one w = absurd (omega arith)
+insert_whole (x ∷ js) (suc i) j within one w = (w.0, insert_whole js i j (omega arith) one w.1)
+
+unsettled_whole : (js : List Judged) → AllWhole js → AllWhole (map unsettled js)
+unsettled_whole [] w = tt
+unsettled_whole (j ∷ js) w = (record { read = w.0.read; names = w.0.names }, unsettled_whole js w.1)
+
+unsettled_sources : (js : List Judged) → sources_of (map unsettled js) ≡ sources_of js
+unsettled_sources [] = refl
+unsettled_sources (j ∷ js) = ap (λ ss. source_of j ∷ ss) (unsettled_sources js)
+
+unsettled_told : (n : List ℕ) (js : List Judged) → told_named n (map unsettled js) ≡ told_named n js
+unsettled_told n [] = refl
+unsettled_told n (j ∷ js) = ap (cond (bytes_eq (string_bytes j.template.file) n) (told_of j)) (unsettled_told n js)
+
+unsettled_stale : (js : List Judged) (k : ℕ) (d : Judged) → k < length js → (get_or (map unsettled js) k d).stale ≡ true
+unsettled_stale [] k d h = absurd (omega arith)
+unsettled_stale (j ∷ js) zero d h = refl
+unsettled_stale (j ∷ js) (suc k) d h = unsettled_stale js k d (omega arith)
+
+unsettled_length : (js : List Judged) → length (map unsettled js) ≡ length js
+unsettled_length [] = refl
+unsettled_length (j ∷ js) = ap suc (unsettled_length js)
+
+marked_told : (n : List ℕ) (touched : List (List ℕ)) (file : List ℕ) (js : List Judged) → told_named n (map (marked touched file) js) ≡ told_named n js
+marked_told n touched file [] = refl
+marked_told n touched file (j ∷ js) = ap (cond (bytes_eq (string_bytes j.template.file) n) (told_of j)) (marked_told n touched file js)
+
+marked_at : (touched : List (List ℕ)) (file : List ℕ) (js : List Judged) (k : ℕ) (d : Judged) → k < length js → get_or (map (marked touched file) js) k d ≡ marked touched file (get_or js k d)
+marked_at touched file [] k d h = absurd (omega arith)
+marked_at touched file (j ∷ js) zero d h = refl
+marked_at touched file (j ∷ js) (suc k) d h = marked_at touched file js k d (omega arith)
+
+marked_length : (touched : List (List ℕ)) (file : List ℕ) (js : List Judged) → length (map (marked touched file) js) ≡ length js
+marked_length touched file [] = refl
+marked_length touched file (j ∷ js) = ap suc (marked_length touched file js)
+
+pub default_same : (js : List Judged) (k : ℕ) (d e : Judged) → k < length js → get_or js k d ≡ get_or js k e
+default_same [] k d e h = absurd (omega arith)
+default_same (j ∷ js) zero d e h = refl
+default_same (j ∷ js) (suc k) d e h = default_same js k d e (omega arith)
+
+set_again : {X : Type 0} (xs : List X) (i : ℕ) (x y : X) → set (set xs i x) i y ≡ set xs i y
+set_again [] i x y = refl
+set_again (z ∷ xs) zero x y = refl
+set_again (z ∷ xs) (suc i) x y = ap (λ ys. z ∷ ys) (set_again xs i x y)
+
+-- ---- the order of the names
+
+names_set : (js : List Judged) (i : ℕ) (j : Judged) → string_bytes (get_or js i j).template.file ≡ string_bytes j.template.file
+    → map (λ (s : Source). s.name) (sources_of (set js i j)) ≡ map (λ (s : Source). s.name) (sources_of js)
+names_set [] i j h = refl
+names_set (x ∷ js) zero j h = ap (λ n. n ∷ map (λ (s : Source). s.name) (sources_of js)) (sym h)
+names_set (x ∷ js) (suc i) j h = ap (λ ns. string_bytes x.template.file ∷ ns) (names_set js i j h)
+
+less_if : (r : Ordering) → is_gt r ≡ false → is_eq r ≡ false → r ≡ Less
+less_if Less g e = refl
+less_if Equal g e = absurd (false_true (sym e))
+less_if Greater g e = absurd (false_true (sym g))
+
+turned : (r : Ordering) → is_gt r ≡ true → ordering_reverse r ≡ Less
+turned Less g = absurd (false_true g)
+turned Equal g = absurd (false_true g)
+turned Greater g = refl
+
+all_above : (a b : List ℕ) → slice_cmp nat_cmp a b ≡ Less → (ns : List (List ℕ)) → AllByRecursion (λ n. slice_cmp nat_cmp b n ≡ Less) ns → AllByRecursion (λ n. slice_cmp nat_cmp a n ≡ Less) ns
+all_above a b h [] all = tt
+all_above a b h (n ∷ ns) all = (nat_list_cmp_total.trans a b n h all.0, all_above a b h ns all.1)
+
+all_insert : (a : List ℕ) (js : List Judged) (i : ℕ) (j : Judged) → AllByRecursion (λ n. slice_cmp nat_cmp a n ≡ Less) (map (λ (s : Source). s.name) (sources_of js)) → slice_cmp nat_cmp a (string_bytes j.template.file) ≡ Less
+    → i ≤ length js → AllByRecursion (λ n. slice_cmp nat_cmp a n ≡ Less) (map (λ (s : Source). s.name) (sources_of (insert js i j)))
+all_insert a js zero j all h within = (h, all)
+all_insert a [] (suc i) j all h within = absurd (omega arith)
+all_insert a (x ∷ js) (suc i) j all h within = (all.0, all_insert a js i j all.1 h (omega arith))
+
+module _ (name : List ℕ) (j : Judged) (named : string_bytes j.template.file ≡ name) where
+  less_named : (x : Judged) → is_gt (slice_cmp nat_cmp (string_bytes x.template.file) name) ≡ false → has_name name x ≡ false → slice_cmp nat_cmp (string_bytes x.template.file) (string_bytes j.template.file) ≡ Less
+  less_named x g e =
+      ap (slice_cmp nat_cmp (string_bytes x.template.file)) named
+      ∙ less_if (slice_cmp nat_cmp (string_bytes x.template.file) name) g (is_eq-slice_cmp (string_bytes x.template.file) name ∙ e)
+
+  insert_ordered : (js : List Judged) (i : ℕ) → i ≤ length js
+      → ((m : ℕ) → m < i → is_gt (slice_cmp nat_cmp (string_bytes (get_or js m j).template.file) name) ≡ false)
+      → (i < length js → is_gt (slice_cmp nat_cmp (string_bytes (get_or js i j).template.file) name) ≡ true)
+      → ((m : ℕ) → m < length js → has_name name (get_or js m j) ≡ false)
+      → AreInOrder (map (λ (s : Source). s.name) (sources_of js)) → AreInOrder (map (λ (s : Source). s.name) (sources_of (insert js i j)))
+  insert_ordered [] zero within before behind none o = (tt, tt)
+  insert_ordered (x ∷ js) zero within before behind none o =
+      let below : slice_cmp nat_cmp (string_bytes j.template.file) (string_bytes x.template.file) ≡ Less =
+      ap (λ n. slice_cmp nat_cmp n (string_bytes x.template.file)) named
+      ∙ nat_list_cmp_total.antisymm name (string_bytes x.template.file)
+      ∙ turned (slice_cmp nat_cmp (string_bytes x.template.file) name) (behind (omega arith)) in
+      ((below, all_above (string_bytes j.template.file) (string_bytes x.template.file) below (map (λ (s : Source). s.name) (sources_of js)) o.0), o)
+  insert_ordered [] (suc i) within before behind none o = absurd (omega arith)
+  insert_ordered (x ∷ js) (suc i) within before behind none o = (
+    all_insert (string_bytes x.template.file) js i j o.0 (less_named x (before 0 (omega arith)) (none 0 (omega arith))) (omega arith),
+    insert_ordered js i (omega arith) (λ m h. before (suc m) (omega arith)) (λ h. behind (omega arith)) (λ m h. none (suc m) (omega arith)) o.1,
+  )
+
+  insert_sorted : (js : List Judged) (i : ℕ) → IsPlaceOf name js i → ((m : ℕ) → m < length js → has_name name (get_or js m j) ≡ false) → AreAscending (sources_of js) → AreAscending (sources_of (insert js i j))
+  insert_sorted js i place none o = insert_ordered js i place.within (λ m h. place.before m j h) (λ h. place.behind j h) none o
+
+-- ---- another text of one that is among them
+
+module _ (name : List ℕ) (touched : List (List ℕ)) (js : List Judged) (i : ℕ) (j d : Judged) (number : IsNumbered name js i) (anew : IsAnew name j.text j)
+    (heads : (n : List ℕ) → is_among n touched ≡ false → HaveOneHeadIfAny (definition_named n (definitions_of (get_or js i d).template.parsed)) (definition_named n (definitions_of j.template.parsed))) where
+  -- it keeps what was told
+  abbrev pub with_told : Judged
+  with_told = record j { told = (get_or js i d).told }
+
+  abbrev pub put_there : List Judged
+  put_there = set (map (marked touched name) js) i with_told
+
+  whole_told : IsWhole with_told
+  whole_told = record { read = anew.whole.read; names = anew.whole.names }
+
+  told_same : told_of with_told ≡ told_of (get_or (map (marked touched name) js) i with_told)
+  told_same = ap told_of (default_same js i d with_told number.within) ∙ sym (ap told_of (marked_at touched name js i with_told number.within))
+
+  pub put_kept : StayKept js put_there
+  put_kept = record {
+    whole = λ w. set_whole (map (marked touched name) js) i with_told whole_told (marked_whole touched name js w);
+    current = λ e w current.
+        subst (λ file. AreCurrent e (set (map (marked touched file) js) i with_told)) anew.named
+        (replaced_current e touched js i with_told d number.within (equal (string_bytes (get_or js i d).template.file) name (number.is d) ∙ sym anew.named) anew.stale w heads current);
+    ordered = λ o. subst AreInOrder (sym (names_set (map (marked touched name) js) i with_told
+        (ap (λ x. string_bytes x.template.file) (marked_at touched name js i with_told number.within) ∙ equal (string_bytes (get_or js i with_told).template.file) name (number.is with_told) ∙ sym anew.named)
+        ∙ ap (map (λ (s : Source). s.name)) (marked_sources touched name js))) o;
+    told = λ n.
+        told_set name with_told anew.named (map (marked touched name) js) i (omega (arith, number.within, marked_length touched name js))
+        (ap (has_name name) (marked_at touched name js i with_told number.within) ∙ number.is with_told)
+        told_same n
+        ∙ marked_told n touched name js;
+  }
+
+  pub put_text : IsTextAt name j.text js put_there
+  put_text n =
+      ap (text_named n) (sources_set (map (marked touched name) js) i with_told ∙ ap (λ ss. set ss i (source_of j)) (marked_sources touched name js))
+      ∙ text_set name j anew.named js i number.within (number.is j) (λ m h. number.first m j h) n
+
+  -- as the code puts it there: the mark, and then the other text
+  pub put_is : (items : List Judged) (m n : Judged) (told : Vec Diagnostic Global) → items ≡ map (marked touched name) js → m ≡ get_or items i m → told ≡ m.told
+      → set (set items i n) i (record j { told = told }) ≡ put_there
+  put_is items m n told are is same =
+      let one : told ≡ (get_or js i d).told =
+      same ∙ ap (λ x. x.told) (is ∙ ap (λ xs. get_or xs i m) are ∙ marked_at touched name js i m number.within) ∙ ap (λ x. x.told) (default_same js i m d number.within) in
+      set_again items i n (record j { told = told }) ∙ λ k. set (are k) i (record j { told = one k })
+
+-- ---- the same text again
+
+stays_if : {X : Type 0} (b : Bool) (x y : X) → (b ≡ true → y ≡ x) → y ≡ cond b x y
+stays_if true x y h = h refl
+stays_if false x y h = refl
+
+pub text_stays : (name text : List ℕ) (js : List Judged) (i : ℕ) (d : Judged) → IsNumbered name js i → (get_or js i d).text ≡ text → IsTextAt name text js js
+text_stays name text js i d number same n =
+    stays_if (bytes_eq name n) text (text_named n (sources_of js)) (λ e. ap (λ m. text_named m (sources_of js)) (sym (equal name n e)) ∙ text_numbered name js i d number ∙ same)
+
+-- ---- one more
+
+module _ (name : List ℕ) (js : List Judged) (i : ℕ) (j : Judged) (place : IsPlaceOf name js i) (none : NoneBefore name js (length js)) (anew : IsAnew name j.text j) where
+  pub insert_kept : StayKept js (map unsettled (insert js i j))
+  insert_kept = record {
+    whole = λ w. unsettled_whole (insert js i j) (insert_whole js i j place.within anew.whole w);
+    current = λ e w current k d h fresh. absurd (false_true (sym fresh ∙ unsettled_stale (insert js i j) k d (omega (arith, h, unsettled_length (insert js i j)))));
+    ordered = λ o. subst AreAscending (sym (unsettled_sources (insert js i j))) (insert_sorted name j anew.named js i place (λ m h. none m j h) o);
+    told = λ n. unsettled_told n (insert js i j) ∙ told_insert name j anew.named js i place.within anew.untold (λ m h. none m j h) n;
+  }
+
+  pub insert_text : IsTextAt name j.text js (map unsettled (insert js i j))
+  insert_text n = ap (text_named n) (unsettled_sources (insert js i j)) ∙ text_insert name j anew.named js i place.within (λ m h. none m j h) n

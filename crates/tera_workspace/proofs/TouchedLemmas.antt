@@ -1,0 +1,95 @@
+-- Which components have the same heads.
+use Rattle.std.proofs.Common.{◌≡◌, ◌≢◌, ◌∙◌, ◌<◌, ◌≤◌, ◌+◌, ◌⊎◌, ℕ, suc, List, [], ◌∷◌, ◌++◌, ◌||◌, length, drop, get_or, map, Bool, true, false, cond, Option, None, Some, String, string_bytes, refl, sym, ap, subst, inl, inr, arith}
+use Rattle.std.proofs.Common.{if◌then◌else◌}
+use Rattle.std.specs.Str.{bytes_eq}
+use Rattle.std.specs.declared.alloc.Global.{Global}
+use Rattle.std.proofs.lemmas.List.{map-append}
+use Rattle.std.proofs.lemmas.Slice.Eq.{bytes_eq-Decides}
+use Rattle.tera_tree.specs.Tree.{Definition}
+use Rattle.tera_tree.specs.View.{definition_view}
+use Rattle.tera_tree.specs.declared.ast.ComponentDefinition.{ComponentDefinition}
+use Rattle.tera_workspace.specs.Heads.{definition_named, HaveOneHead, HaveOneHeadIfAny, AgreeOn}
+use Rattle.tera_workspace.specs.Names.{is_among}
+use Rattle.tera_workspace.proofs.NameSets.{among_append, drop_end, drop_next}
+use Rattle.tera_workspace.proofs.PlaceLemmas.{first_false, second_false, differ}
+
+false_true : false ≡ true → ⊥
+false_true e = cc
+
+-- ---- a pair of definitions more
+
+by_tests : (d e : Definition) (b c : Bool) (o p : Option Definition) → b ≡ c → HaveOneHead d e → HaveOneHeadIfAny o p → HaveOneHeadIfAny (cond b (Some d) o) (cond c (Some e) p)
+by_tests d e true true o p same head h = head
+by_tests d e false false o p same head h = h
+by_tests d e true false o p same head h = absurd (false_true (sym same))
+by_tests d e false true o p same head h = absurd (false_true same)
+
+pair_more : (n : List ℕ) (d e : Definition) (ds es : List Definition) → AgreeOn n d e → HaveOneHeadIfAny (definition_named n ds) (definition_named n es)
+    → HaveOneHeadIfAny (definition_named n (d ∷ ds)) (definition_named n (e ∷ es))
+pair_more n d e ds es (inl head) h =
+    by_tests d e (bytes_eq d.name n) (bytes_eq e.name n) (definition_named n ds) (definition_named n es) (ap (λ m. bytes_eq m n) head.name) head h
+pair_more n d e ds es (inr other) h =
+    subst (λ b. HaveOneHeadIfAny (cond b (Some d) (definition_named n ds)) (definition_named n (e ∷ es))) (sym (differ d.name n other.0))
+    (subst (λ b. HaveOneHeadIfAny (definition_named n ds) (cond b (Some e) (definition_named n es))) (sym (differ e.name n other.1)) h)
+
+pub pair_next : (n : List ℕ) (before after : List ComponentDefinition) (i : ℕ) (one other : ComponentDefinition) → i < length before → one ≡ get_or before i one → i < length after → other ≡ get_or after i other
+    → AgreeOn n (definition_view one) (definition_view other)
+    → HaveOneHeadIfAny (definition_named n (map definition_view (drop (i + 1) before))) (definition_named n (map definition_view (drop (i + 1) after)))
+    → HaveOneHeadIfAny (definition_named n (map definition_view (drop i before))) (definition_named n (map definition_view (drop i after)))
+pair_next n before after i one other h is g js agree rest =
+    let next : i + 1 ≡ suc i = omega arith in
+    let more : HaveOneHeadIfAny (definition_named n (map definition_view (drop (suc i) before))) (definition_named n (map definition_view (drop (suc i) after))) =
+    subst (λ m. HaveOneHeadIfAny (definition_named n (map definition_view (drop m before))) (definition_named n (map definition_view (drop m after)))) next rest in
+    subst (λ xs. HaveOneHeadIfAny (definition_named n (map definition_view xs)) (definition_named n (map definition_view (drop i after)))) (sym (drop_next before i one h is))
+    (subst (λ ys. HaveOneHeadIfAny (definition_named n (map definition_view (one ∷ drop (suc i) before))) (definition_named n (map definition_view ys))) (sym (drop_next after i other g js))
+    (pair_more n (definition_view one) (definition_view other) (map definition_view (drop (suc i) before)) (map definition_view (drop (suc i) after)) agree more))
+
+pub pairs_done : (n : List ℕ) (before after : List ComponentDefinition) (i : ℕ) → length before ≤ i → length after ≤ i
+    → HaveOneHeadIfAny (definition_named n (map definition_view (drop i before))) (definition_named n (map definition_view (drop i after)))
+pairs_done n before after i h g =
+    subst (λ xs. HaveOneHeadIfAny (definition_named n (map definition_view xs)) (definition_named n (map definition_view (drop i after)))) (sym (drop_end before i h))
+    (subst (λ ys. HaveOneHeadIfAny None (definition_named n (map definition_view ys))) (sym (drop_end after i g)) tt)
+
+-- ---- names that were added
+
+if_true : (b : Bool) → (if b then true else false) ≡ false → b ≡ false
+if_true true h = h
+if_true false h = refl
+
+unequal : (a n : List ℕ) → bytes_eq a n ≡ false → a ≢ n
+unequal a n e same = false_true (sym e ∙ (bytes_eq-Decides a n).1 same)
+
+pub one_pushed : (old now : List (String Global)) (key : String Global) (name n : List ℕ) → now ≡ old ++ key ∷ [] → string_bytes key ≡ name → is_among n (map string_bytes now) ≡ false
+    → (is_among n (map string_bytes old) ≡ false) × (name ≢ n)
+one_pushed old now key name n is same free =
+    let both : (is_among n (map string_bytes old) || is_among n (string_bytes key ∷ [])) ≡ false =
+    sym (among_append n (map string_bytes old) (string_bytes key ∷ [])) ∙ ap (is_among n) (sym (ap (map string_bytes) is ∙ map-append string_bytes old (key ∷ []))) ∙ free in (
+      first_false (is_among n (map string_bytes old)) (is_among n (string_bytes key ∷ [])) both,
+      unequal name n (ap (λ m. bytes_eq m n) (sym same) ∙ if_true (bytes_eq (string_bytes key) n) (second_false (is_among n (map string_bytes old)) (is_among n (string_bytes key ∷ [])) both)),
+    )
+
+pub two_pushed : (old mid now : List (String Global)) (key other : String Global) (name last n : List ℕ) → mid ≡ old ++ key ∷ [] → string_bytes key ≡ name → now ≡ mid ++ other ∷ [] → string_bytes other ≡ last
+    → is_among n (map string_bytes now) ≡ false → (is_among n (map string_bytes old) ≡ false) × ((name ≢ n) × (last ≢ n))
+two_pushed old mid now key other name last n is same js alike free =
+    let (before, apart) = one_pushed mid now other last n js alike free in
+    let (first, differs) = one_pushed old mid key name n is same before in
+    (first, (differs, apart))
+
+-- a name that is not among those of definitions is that of none
+if_else : (b r : Bool) → (if b then true else r) ≡ false → (b ≡ false) × (r ≡ false)
+if_else true r h = absurd (false_true (sym h))
+if_else false r h = (refl, h)
+
+none_named : (n : List ℕ) (ds : List Definition) → is_among n (map (λ d. d.name) ds) ≡ false → definition_named n ds ≡ None
+none_named n [] h = refl
+none_named n (d ∷ ds) h =
+    let (here, more) = if_else (bytes_eq d.name n) (is_among n (map (λ e. e.name) ds)) h in
+    ap (λ b. cond b (Some d) (definition_named n ds)) here ∙ none_named n ds more
+
+pub all_pushed : (n : List ℕ) (ds es : List Definition) (start first now : List (List ℕ)) → start ≡ [] → first ≡ start ++ map (λ d. d.name) ds → now ≡ first ++ map (λ d. d.name) es → is_among n now ≡ false
+    → HaveOneHeadIfAny (definition_named n ds) (definition_named n es)
+all_pushed n ds es start first now none is js free =
+    let both : (is_among n first || is_among n (map (λ d. d.name) es)) ≡ false = sym (among_append n first (map (λ d. d.name) es)) ∙ ap (is_among n) (sym js) ∙ free in
+    let before : is_among n (map (λ d. d.name) ds) ≡ false = ap (is_among n) (sym (is ∙ ap (λ ns. ns ++ map (λ d. d.name) ds) none)) ∙ first_false (is_among n first) (is_among n (map (λ d. d.name) es)) both in
+    subst (λ o. HaveOneHeadIfAny o (definition_named n es)) (sym (none_named n ds before))
+    (subst (λ p. HaveOneHeadIfAny None p) (sym (none_named n es (second_false (is_among n first) (is_among n (map (λ d. d.name) es)) both))) tt)

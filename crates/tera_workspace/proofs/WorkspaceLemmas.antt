@@ -1,0 +1,131 @@
+-- Workspaces of which some documents changed.
+use Rattle.std.proofs.Common.{◌≡◌, ◌∙◌, ℕ, List, [], ◌∷◌, ◌++◌, ◌||◌, map, Bool, true, false, cond, String, Vec, string_bytes, unwrap_or, Result, Ok, Err, OnOk, OnErr, refl, sym, ap, subst}
+use Rattle.std.proofs.Common.{if◌then◌else◌}
+use Rattle.std.specs.Str.{bytes_eq}
+use Rattle.std.specs.declared.alloc.Global.{Global}
+use Rattle.std.proofs.lemmas.List.{map-append}
+use Rattle.text_documents.specs.Documents.{DocumentVal, text_of}
+use Rattle.text_documents.specs.Stored.{document_of, IsChangedAt, AreSame}
+use Rattle.text_documents.specs.declared.documents.Documents.{Documents}
+use Rattle.tera_workspace.specs.Fresh.{AreFresh}
+use Rattle.tera_workspace.specs.Kept.{sources_of, told_named, AllWhole, AreCurrent, StayKept}
+use Rattle.tera_workspace.specs.Names.{is_among}
+use Rattle.tera_workspace.specs.Sources.{Source, AreAscending, text_named}
+use Rattle.tera_workspace.specs.Told.{AreNews, told_each}
+use Rattle.tera_workspace.specs.Workspaces.{IsKept, IsSettled}
+use Rattle.tera_workspace.specs.declared.judged.Judged.{Judged}
+use Rattle.tera_workspace.specs.declared.workspace.Workspace.{Workspace}
+use Rattle.tera_workspace.proofs.NameSets.{among_append}
+use Rattle.tera_workspace.proofs.PlaceLemmas.{first_false, second_false}
+use Rattle.tera_workspace.proofs.SettleLemmas.{News, told_sources, told_whole, all_told, now_current, all_fresh}
+
+-- those that are not among the names that changed are what they were
+kept_by : (w : Workspace) (ds : Documents) (changed : Vec (String Global) Global) → IsKept w
+    → ((n : List ℕ) → is_among n (map string_bytes changed.items) ≡ false → (is_among n (map string_bytes w.changed.items) ≡ false) × (document_of ds n ≡ document_of w.documents n))
+    → IsKept (record w { documents = ds; changed = changed })
+kept_by w ds changed k h = record {
+  whole = k.whole;
+  ordered = k.ordered;
+  current = k.current;
+  texts = λ n free. let (was, same) = h n free in k.texts n was ∙ sym (ap (λ d. unwrap_or (text_of d) []) same);
+}
+
+-- one more name that changed
+if_true : (b : Bool) → (if b then true else false) ≡ false → b ≡ false
+if_true true h = h
+if_true false h = refl
+
+one_more : (changed now : List (String Global)) (key : String Global) (name n : List ℕ) → now ≡ changed ++ key ∷ [] → string_bytes key ≡ name → is_among n (map string_bytes now) ≡ false
+    → (is_among n (map string_bytes changed) ≡ false) × (bytes_eq name n ≡ false)
+one_more changed now key name n is same free =
+    let both : (is_among n (map string_bytes changed) || is_among n (string_bytes key ∷ [])) ≡ false =
+    sym (among_append n (map string_bytes changed) (string_bytes key ∷ [])) ∙ ap (is_among n) (sym (ap (map string_bytes) is ∙ map-append string_bytes changed (key ∷ []))) ∙ free in (
+      first_false (is_among n (map string_bytes changed)) (is_among n (string_bytes key ∷ [])) both,
+      ap (λ m. bytes_eq m n) (sym same) ∙ if_true (bytes_eq (string_bytes key) n) (second_false (is_among n (map string_bytes changed)) (is_among n (string_bytes key ∷ [])) both),
+    )
+
+-- a document that changed, and all that are what they were
+pub kept_changed : (w : Workspace) (ds : Documents) (changed : Vec (String Global) Global) (key : String Global) (name : List ℕ) (change : DocumentVal → DocumentVal)
+    → changed.items ≡ w.changed.items ++ key ∷ [] → string_bytes key ≡ name → IsChangedAt name change w.documents ds → IsKept w → IsKept (record w { documents = ds; changed = changed })
+kept_changed w ds changed key name change is same h k =
+    kept_by w ds changed k (λ n free.
+    let (was, other) = one_more w.changed.items changed.items key name n is same free in
+    (was, h n ∙ ap (λ (b : Bool). cond b (change (document_of w.documents n)) (document_of w.documents n)) other))
+
+pub kept_same : (w : Workspace) (ds : Documents) (changed : Vec (String Global) Global) (key : String Global) (name : List ℕ)
+    → changed.items ≡ w.changed.items ++ key ∷ [] → string_bytes key ≡ name → AreSame w.documents ds → IsKept w → IsKept (record w { documents = ds; changed = changed })
+kept_same w ds changed key name is same h k =
+    kept_by w ds changed k (λ n free. let (was, other) = one_more w.changed.items changed.items key name n is same free in (was, h n))
+
+pub kept_names : (w : Workspace) (changed : Vec (String Global) Global) → changed.items ≡ w.changed.items → IsKept w → IsKept (record w { changed = changed })
+kept_names w changed is k = kept_by w w.documents changed k (λ n free. (ap (λ names. is_among n (map string_bytes names)) (sym is) ∙ free, refl))
+
+-- ---- documents that were read
+
+pub kept_read : (w u : Workspace) → IsKept w → u.encoding ≡ w.encoding → StayKept w.judged.items u.judged.items
+    → ((n : List ℕ) → is_among n (map string_bytes u.changed.items) ≡ false → text_named n (sources_of u.judged.items) ≡ unwrap_or (text_of (document_of u.documents n)) [])
+    → IsKept u
+kept_read w u k same stay texts = record {
+  whole = stay.whole k.whole;
+  ordered = stay.ordered k.ordered;
+  current = stay.current u.encoding k.whole (subst (λ e. AreCurrent e w.judged.items) (sym same) k.current);
+  texts = texts;
+}
+
+-- the text of each name, among those that changed or not
+pub each_text : (changed : List (List ℕ)) (text before now : List ℕ → List ℕ)
+    → ((n : List ℕ) → is_among n changed ≡ false → before n ≡ text n) → ((n : List ℕ) → is_among n changed ≡ false → now n ≡ before n) → ((n : List ℕ) → is_among n changed ≡ true → now n ≡ text n)
+    → (n : List ℕ) → now n ≡ text n
+each_text changed text before now kept stays read n = by_test (is_among n changed) refl
+  where
+    by_test : (b : Bool) → is_among n changed ≡ b → now n ≡ text n
+    by_test true e = read n e
+    by_test false e = stays n e ∙ kept n e
+
+-- ---- all was told
+
+pub is_settled : (w : Workspace) (js : List Judged) (news : List News) → w.judged.items ≡ told_each js news → AllWhole js → AreAscending (sources_of js) → AreCurrent w.encoding js → AreNews w.encoding js news
+    → ((n : List ℕ) → text_named n (sources_of js) ≡ unwrap_or (text_of (document_of w.documents n)) []) → IsSettled w
+is_settled w js news is whole ordered current are texts = record {
+  sources = sources_of js;
+  are = record { ascending = ordered; texts = texts };
+  fresh =
+      subst (λ (xs : List Judged). AreFresh w.encoding (sources_of js) (λ n. told_named n xs)) (sym is)
+      (subst (λ (ss : List Source). AreFresh w.encoding ss (λ n. told_named n (told_each js news))) (told_sources js news)
+      (all_fresh w.encoding (told_each js news) (told_whole js news whole) (subst AreAscending (sym (told_sources js news)) ordered) (all_told w.encoding js news current are)));
+}
+
+pub kept_settled : (w : Workspace) (js : List Judged) (news : List News) → w.judged.items ≡ told_each js news → AllWhole js → AreAscending (sources_of js) → AreCurrent w.encoding js → AreNews w.encoding js news
+    → ((n : List ℕ) → text_named n (sources_of js) ≡ unwrap_or (text_of (document_of w.documents n)) []) → IsKept w
+kept_settled w js news is whole ordered current are texts = record {
+  whole = subst AllWhole (sym is) (told_whole js news whole);
+  ordered = subst (λ (xs : List Judged). AreAscending (sources_of xs)) (sym is) (subst AreAscending (sym (told_sources js news)) ordered);
+  current = subst (AreCurrent w.encoding) (sym is) (now_current w.encoding js news current are);
+  texts = λ n free. ap (λ (xs : List Judged). text_named n (sources_of xs)) is ∙ ap (text_named n) (told_sources js news) ∙ texts n;
+}
+
+-- as a call answered that changes a document, or leaves all on want of memory
+pub kept_either : {X E : Type 0} (r : Result X E) (w : Workspace) (ds : Documents) (changed : Vec (String Global) Global) (key : String Global) (name : List ℕ) (change : DocumentVal → DocumentVal)
+    → changed.items ≡ w.changed.items ++ key ∷ [] → string_bytes key ≡ name → OnOk r (IsChangedAt name change w.documents ds) → OnErr r (AreSame w.documents ds) → IsKept w → IsKept (record w { documents = ds; changed = changed })
+kept_either (Ok x) w ds changed key name change is same ok err k = kept_changed w ds changed key name change is same ok k
+kept_either (Err e) w ds changed key name change is same ok err k = kept_same w ds changed key name is same err k
+
+-- ---- documents that were read, and told of
+
+module _ (w : Workspace) (changed : Vec (String Global) Global) (now : Vec Judged Global) (js : List Judged) (news : List News) (k : IsKept w) (stay : StayKept w.judged.items js)
+    (others : (n : List ℕ) → is_among n (map string_bytes w.changed.items) ≡ false → text_named n (sources_of js) ≡ text_named n (sources_of w.judged.items))
+    (read : (n : List ℕ) → is_among n (map string_bytes w.changed.items) ≡ true → text_named n (sources_of js) ≡ unwrap_or (text_of (document_of w.documents n)) [])
+    (are : AllWhole js → AreNews w.encoding js news) (is : now.items ≡ told_each js news) where
+  abbrev settled : Workspace
+  settled = record w { changed = changed; judged = now }
+
+  texts : (n : List ℕ) → text_named n (sources_of js) ≡ unwrap_or (text_of (document_of w.documents n)) []
+  texts =
+      each_text (map string_bytes w.changed.items) (λ n. unwrap_or (text_of (document_of w.documents n)) []) (λ n. text_named n (sources_of w.judged.items)) (λ n. text_named n (sources_of js))
+      k.texts others read
+
+  pub read_settled : IsSettled settled
+  read_settled = is_settled settled js news is (stay.whole k.whole) (stay.ordered k.ordered) (stay.current w.encoding k.whole k.current) (are (stay.whole k.whole)) texts
+
+  pub read_kept : IsKept settled
+  read_kept = kept_settled settled js news is (stay.whole k.whole) (stay.ordered k.ordered) (stay.current w.encoding k.whole k.current) (are (stay.whole k.whole)) texts

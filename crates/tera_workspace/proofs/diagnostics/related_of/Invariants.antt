@@ -1,0 +1,9 @@
+use Rattle.std.proofs.Common.{◌≡◌, ◌++◌, ◌||◌, ℕ, ◌<◌, List, drop, take, map, length, get_or, false, true, string_bytes}
+use Rattle.tera_check.specs.Findings.{note_view}
+use Rattle.tera_workspace.specs.Diagnostics.{related_view, related_of}
+use Rattle.tera_workspace.specs.Kept.{sources_of}
+use Rattle.tera_workspace.proofs.diagnostics.related_of.Given as goal
+
+abbrev pub invariant-loop-note : goal.invariant-loop-note
+invariant-loop-note l =
+    map related_view l.related.items ≡ map (related_of l.encoding (sources_of l.all.items)) (map note_view l.yielded)

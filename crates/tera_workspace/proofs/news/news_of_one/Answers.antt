@@ -1,0 +1,15 @@
+use Rattle.std.proofs.Common.{◌≡◌, true, rules}
+use Rattle.tera_check.specs.Named.{known_in}
+use Rattle.tera_workspace.specs.Kept.{templates_of}
+use Rattle.tera_workspace.proofs.FoundLemmas.{found_here}
+use Rattle.tera_workspace.proofs.news.news_of_one.Goals as goal
+
+pub returns : goal.returns
+returns c = λ whole.
+    let stale : c.args.judged.now.stale ≡ true = search rules in
+    let findings = c.in_ok-findings.findings.items in (
+      findings,
+      found_here (known_in c.args.catalogue.now) (templates_of c.args.all.now.items) c.args.number c.args.judged.now.template c.args.judged.now.names.items findings
+          (c.requires.known stale) whole.names c.in_ok-findings.ensures.found c.in_ok-findings.ensures.ordered c.in_ok-findings.ensures.fault,
+      c.in_ok-diagnostics.ensures,
+    )

@@ -1,0 +1,40 @@
+use Rattle.std.proofs.Common.{◌≡◌, ℕ, List, false, map, get_or, string_bytes, sym, subst}
+use Rattle.tera_check.specs.Named.{definitions_of}
+use Rattle.tera_workspace.specs.Heads.{definition_named, HaveOneHeadIfAny}
+use Rattle.tera_workspace.specs.Kept.{StayKept, IsTextAt}
+use Rattle.tera_workspace.specs.Names.{is_among}
+use Rattle.tera_workspace.specs.declared.judged.Judged.{Judged}
+use Rattle.tera_workspace.proofs.ReadingLemmas.{put_is, put_kept, put_text}
+use Rattle.tera_workspace.proofs.reading.replace.Goals as goal
+
+pub returns-clause-kept : goal.returns-clause-kept
+returns-clause-kept c =
+    let name = c.args.name.now in
+    let js = c.args.all.now.items in
+    let j = c.args.judged in
+    let d = c.index.result.now in
+    let touched = map string_bytes c.in_ok-touched.touched.items in
+    let heads : (n : List ℕ) → is_among n touched ≡ false
+    → HaveOneHeadIfAny (definition_named n (definitions_of (get_or js c.args.number d).template.parsed)) (definition_named n (definitions_of j.template.parsed)) =
+    subst (λ (x : Judged). (n : List ℕ) → is_among n touched ≡ false → HaveOneHeadIfAny (definition_named n (definitions_of x.template.parsed)) (definition_named n (definitions_of j.template.parsed)))
+    c.index.ensures c.in_ok-touched.ensures in
+    subst (StayKept js)
+    (sym (put_is name touched js c.args.number j d c.requires.number c.requires.anew heads c.mark.new.all.items c.index_mut.result.now
+    (record c.index_mut.result.now { told = c.replace.new.dest }) c.replace.result c.mark.ensures c.index_mut.ensures.value c.replace.ensures.value))
+    (put_kept name touched js c.args.number j d c.requires.number c.requires.anew heads)
+
+pub returns-clause-read : goal.returns-clause-read
+returns-clause-read c =
+    let name = c.args.name.now in
+    let js = c.args.all.now.items in
+    let j = c.args.judged in
+    let d = c.index.result.now in
+    let touched = map string_bytes c.in_ok-touched.touched.items in
+    let heads : (n : List ℕ) → is_among n touched ≡ false
+    → HaveOneHeadIfAny (definition_named n (definitions_of (get_or js c.args.number d).template.parsed)) (definition_named n (definitions_of j.template.parsed)) =
+    subst (λ (x : Judged). (n : List ℕ) → is_among n touched ≡ false → HaveOneHeadIfAny (definition_named n (definitions_of x.template.parsed)) (definition_named n (definitions_of j.template.parsed)))
+    c.index.ensures c.in_ok-touched.ensures in
+    subst (IsTextAt name j.text js)
+    (sym (put_is name touched js c.args.number j d c.requires.number c.requires.anew heads c.mark.new.all.items c.index_mut.result.now
+    (record c.index_mut.result.now { told = c.replace.new.dest }) c.replace.result c.mark.ensures c.index_mut.ensures.value c.replace.ensures.value))
+    (put_text name touched js c.args.number j d c.requires.number c.requires.anew heads)

@@ -1,0 +1,54 @@
+-- What is found in documents, computed afresh.
+use Rattle.std.specs.Prelude.{◌≡◌, ℕ, ◌<◌, List, [], ◌∷◌, length, map, string_bytes, slice_index_or, IfOk, IfErr, MatchResult}
+use Rattle.std.specs.List.Sorted.{IsPermutation}
+use Rattle.tera_base.specs.ErrorView.{error_view}
+use Rattle.tera_grammar.specs.Limits.{usual}
+use Rattle.tera_grammar.specs.statements.Places.{Places}
+use Rattle.tera_grammar.specs.statements.Top.{Derives, DerivesNames}
+use Rattle.tera_lexer.specs.grammar.Marks.{default_marks}
+use Rattle.tera_parser.specs.Notes.{NotesName}
+use Rattle.tera_parser.specs.Refusal.{Refuses}
+use Rattle.tera_statements.specs.Outputs.{output_view}
+use Rattle.tera_tree.specs.Tree.{Output}
+use Rattle.tera_check.specs.Faults.{IsSyntaxError}
+use Rattle.tera_check.specs.Findings.{finding_view, IsOfError}
+use Rattle.tera_check.specs.Judged.{KnownVal}
+use Rattle.tera_check.specs.Named.{tree_findings, first_named, defined_by}
+use Rattle.tera_check.specs.Rules.{IsInOrder}
+use Rattle.tera_check.specs.declared.finding.Finding.{Finding}
+use Rattle.tera_check.specs.declared.templates.Template.{Template}
+use Rattle.text_edits.specs.declared.positions.Encoding.{Encoding}
+use Rattle.tera_workspace.specs.Diagnostics.{DiagnosticVal, diagnostic_of}
+use Rattle.tera_workspace.specs.Sources.{Source}
+
+-- the template is what `read_template` gives for the source
+pub record IsRead (s : Source) (t : Template) : Type 0 where
+  pub file : string_bytes t.file ≡ s.name
+  pub sound : IfOk t.parsed (λ o. Derives usual default_marks s.text (output_view o))
+  pub complete : (output : Output) → Derives usual default_marks s.text output →
+      MatchResult t.parsed (λ o. output_view o ≡ output) (λ _. ⊥)
+  pub fault : IfErr t.parsed IsSyntaxError
+  pub refusal : IfErr t.parsed (Refuses default_marks s.text)
+  pub notes : IfErr t.parsed (NotesName s.name)
+  pub places : MatchResult t.parsed
+      (λ o. (names : Places) × DerivesNames usual default_marks s.text (output_view o) names × (t.defined_at.items ≡ map (λ n. n.span) names.components))
+      (λ _. t.defined_at.items ≡ [])
+
+-- what is found in the template of a number beside all of these, as `findings_of` gives it
+abbrev pub IsFound : List Template → ℕ → Template → List Finding → Type 0
+IsFound ts number t fs = MatchResult t.parsed
+    (λ o. IsPermutation (tree_findings (λ n. first_named n (defined_by 0 ts)) number t (output_view o)) (map finding_view fs) × IsInOrder fs)
+    (λ e. (f : Finding) × (fs ≡ f ∷ []) × IsOfError (error_view e) (finding_view f))
+
+-- and what is to be told of it in a text
+abbrev pub IsTold : Encoding → List Source → List Template → ℕ → List ℕ → Template → List DiagnosticVal → Type 0
+IsTold e sources ts number text t told =
+    (fs : List Finding) × IsFound ts number t fs × (told ≡ map (diagnostic_of e sources text) (map finding_view fs))
+
+-- of each, what is told under its name
+pub record AreFresh (e : Encoding) (sources : List Source) (told_of : List ℕ → List DiagnosticVal) : Type 0 where
+  pub templates : List Template
+  pub as_many : length templates ≡ length sources
+  pub read : (k : ℕ) (s : Source) (t : Template) → k < length sources → IsRead (slice_index_or sources k s) (slice_index_or templates k t)
+  pub told : (k : ℕ) (s : Source) (t : Template) → k < length sources →
+      IsTold e sources templates k (slice_index_or sources k s).text (slice_index_or templates k t) (told_of (slice_index_or sources k s).name)

@@ -1,0 +1,118 @@
+-- What documents that were judged stand for, and what is so of them.
+use Rattle.std.specs.Prelude.{◌≡◌, ◌||◌, if◌then◌else◌, ℕ, ◌<◌, ◌≤◌, List, [], ◌∷◌, Bool, true, false, cond, length, map, String, string_bytes, slice_index_or, MatchResult}
+use Rattle.std.specs.BTreeSet.{BTreeSet, contains_text}
+use Rattle.std.specs.Cmp.Lexicographic.{slice_cmp}
+use Rattle.std.specs.List.{AllByRecursion, list_any}
+use Rattle.std.specs.Ordering.{nat_cmp, is_gt}
+use Rattle.std.specs.Str.{bytes_eq}
+use Rattle.std.specs.declared.alloc.Global.{Global}
+use Rattle.tera_statements.specs.Outputs.{output_view}
+use Rattle.tera_check.specs.Alike.{names_in}
+use Rattle.tera_check.specs.declared.templates.Template.{Template}
+use Rattle.text_edits.specs.declared.positions.Encoding.{Encoding}
+use Rattle.tera_workspace.specs.Diagnostics.{DiagnosticVal, diagnostic_view}
+use Rattle.tera_workspace.specs.Fresh.{IsRead, IsTold}
+use Rattle.tera_workspace.specs.Names.{is_among}
+use Rattle.tera_workspace.specs.Sources.{Source, AreAscending, text_named}
+use Rattle.tera_workspace.specs.declared.diagnostics.Diagnostic.{Diagnostic}
+use Rattle.tera_workspace.specs.declared.judged.Judged.{Judged}
+
+abbrev pub name_of : Judged → List ℕ
+name_of j = string_bytes j.template.file
+
+abbrev pub source_of : Judged → Source
+source_of j = record { name = string_bytes j.template.file; text = j.text }
+
+abbrev pub sources_of : List Judged → List Source
+sources_of js = map source_of js
+
+abbrev pub templates_of : List Judged → List Template
+templates_of js = map (λ j. j.template) js
+
+abbrev pub told_of : Judged → List DiagnosticVal
+told_of j = map diagnostic_view j.told.items
+
+-- what was told under a name; nothing where it is not among them
+abbrev pub told_named : List ℕ → List Judged → List DiagnosticVal
+told_named n [] = []
+told_named n (j ∷ js) = cond (bytes_eq (string_bytes j.template.file) n) (told_of j) (told_named n js)
+
+-- where the first of a name stands
+abbrev pub has_name : List ℕ → Judged → Bool
+has_name n j = bytes_eq (string_bytes j.template.file) n
+
+abbrev pub NoneBefore : List ℕ → List Judged → ℕ → Type 0
+NoneBefore n js k = (m : ℕ) (d : Judged) → m < k → has_name n (slice_index_or js m d) ≡ false
+
+pub record IsNumbered (n : List ℕ) (js : List Judged) (k : ℕ) : Type 0 where
+  pub within : k < length js
+  pub is : (d : Judged) → has_name n (slice_index_or js k d) ≡ true
+  pub first : NoneBefore n js k
+
+-- where one of a name would stand in the order of the names
+pub record IsPlaceOf (n : List ℕ) (js : List Judged) (k : ℕ) : Type 0 where
+  pub within : k ≤ length js
+  pub before : (m : ℕ) (d : Judged) → m < k → is_gt (slice_cmp nat_cmp (string_bytes (slice_index_or js m d).template.file) n) ≡ false
+  pub behind : (d : Judged) → k < length js → is_gt (slice_cmp nat_cmp (string_bytes (slice_index_or js k d).template.file) n) ≡ true
+
+-- these are the names of the components that the template defines and calls; of one with a fault none are asked for
+abbrev pub HasNames : List (String Global) → Template → Type 0
+HasNames names t = MatchResult t.parsed (λ o. map string_bytes names ≡ names_in (output_view o)) (λ _. Unit {0})
+
+-- a document was read
+pub record IsWhole (j : Judged) : Type 0 where
+  pub read : IsRead (source_of j) j.template
+  pub names : HasNames j.names.items j.template
+
+-- a document of this name and text, which was not judged
+pub record IsAnew (name text : List ℕ) (j : Judged) : Type 0 where
+  pub named : string_bytes j.template.file ≡ name
+  pub texted : j.text ≡ text
+  pub whole : IsWhole j
+  pub stale : j.stale ≡ true
+  pub untold : told_of j ≡ []
+
+-- what was told of the document of a number is as it would be found now, unless it is stale
+abbrev pub IsCurrent : Encoding → List Judged → ℕ → Judged → Type 0
+IsCurrent e js number j =
+    j.stale ≡ false → IsTold e (sources_of js) (templates_of js) number j.text j.template (told_of j)
+
+-- so it is with each
+abbrev pub AllWhole : List Judged → Type 0
+AllWhole js = AllByRecursion IsWhole js
+
+abbrev pub AreCurrent : Encoding → List Judged → Type 0
+AreCurrent e js = (k : ℕ) (d : Judged) → k < length js → IsCurrent e js k (slice_index_or js k d)
+
+-- ---- what is marked when components of some names, and the places in a file, are others than they were
+
+-- a place in the file was told of a finding, and of a document
+abbrev pub is_about : List ℕ → Diagnostic → Bool
+is_about file d = list_any (λ r. bytes_eq (string_bytes r.file) file) d.related.items
+
+abbrev pub is_told_in : List ℕ → Judged → Bool
+is_told_in file j = list_any (is_about file) j.told.items
+
+abbrev pub marked : List (List ℕ) → List ℕ → Judged → Judged
+marked touched file j =
+    record j { stale = if list_any (λ n. is_among n (map string_bytes j.names.items)) touched || is_told_in file j then true else j.stale }
+
+-- the names have all by which the documents are judged that are stale
+abbrev pub WantsAll : BTreeSet (String Global) → List Judged → Type 0
+WantsAll wanted js = AllByRecursion (λ j. j.stale ≡ true → (n : List ℕ) → is_among n (map string_bytes j.names.items) ≡ true → contains_text wanted n ≡ true) js
+
+-- ---- what stays so, whatever is read
+
+pub record StayKept (old now : List Judged) : Type 0 where
+  pub whole : AllWhole old → AllWhole now
+  pub current : (e : Encoding) → AllWhole old → AreCurrent e old → AreCurrent e now
+  pub ordered : AreAscending (sources_of old) → AreAscending (sources_of now)
+  pub told : (n : List ℕ) → told_named n now ≡ told_named n old
+
+-- and the text of a name is this one
+abbrev pub IsTextAt : List ℕ → List ℕ → List Judged → List Judged → Type 0
+IsTextAt name text old now = (n : List ℕ) → text_named n (sources_of now) ≡ cond (bytes_eq name n) text (text_named n (sources_of old))
+
+-- one that is to be judged again
+abbrev pub unsettled : Judged → Judged
+unsettled j = record j { stale = true }

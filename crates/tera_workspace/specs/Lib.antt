@@ -1,0 +1,9 @@
+pub mod Beside
+pub mod Diagnostics
+pub mod Fresh
+pub mod Heads
+pub mod Kept
+pub mod Names
+pub mod Sources
+pub mod Told
+pub mod Workspaces

@@ -1,0 +1,33 @@
+-- What a workspace has, and when what it told is as it would be found afresh.
+use Rattle.std.specs.Prelude.{◌≡◌, ◌≢◌, ℕ, List, [], true, false, map, string_bytes, unwrap_or}
+use Rattle.text_documents.specs.Documents.{text_of}
+use Rattle.text_documents.specs.Stored.{document_of}
+use Rattle.tera_workspace.specs.Diagnostics.{DiagnosticVal}
+use Rattle.tera_workspace.specs.Fresh.{AreFresh}
+use Rattle.tera_workspace.specs.Kept.{sources_of, told_named, AllWhole, AreCurrent}
+use Rattle.tera_workspace.specs.Names.{is_among}
+use Rattle.tera_workspace.specs.Sources.{Source, AreInOrder, AreSources, AreAscending, text_named}
+use Rattle.tera_workspace.specs.declared.workspace.Workspace.{Workspace}
+
+-- what was told last of the document of a name
+abbrev pub told_of_name : Workspace → List ℕ → List DiagnosticVal
+told_of_name w n = told_named n w.judged.items
+
+-- what is so of each workspace
+pub record IsKept (w : Workspace) : Type 0 where
+  pub whole : AllWhole w.judged.items
+  pub ordered : AreAscending (sources_of w.judged.items)
+  pub current : AreCurrent w.encoding w.judged.items
+  pub texts : (n : List ℕ) → is_among n (map string_bytes w.changed.items) ≡ false → text_named n (sources_of w.judged.items) ≡ unwrap_or (text_of (document_of w.documents n)) []
+
+-- what was told is what is found afresh in the documents as they are, wherever that is computed
+pub record IsSettled (w : Workspace) : Type 0 where
+  pub sources : List Source
+  pub are : AreSources w.documents sources
+  pub fresh : AreFresh w.encoding sources (told_of_name w)
+
+-- in their order, the names under which another list is told now than before
+pub record AreOthers (names : List (List ℕ)) (before now : List ℕ → List DiagnosticVal) : Type 0 where
+  pub ordered : AreInOrder names
+  pub others : (n : List ℕ) → is_among n names ≡ true → now n ≢ before n
+  pub same : (n : List ℕ) → is_among n names ≡ false → now n ≡ before n

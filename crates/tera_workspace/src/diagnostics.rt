@@ -1,0 +1,126 @@
+//! Findings, with positions in the place of spans.
+
+ghost use Rattle.std.specs.Prelude.{◌≡◌, IfOk, map, string_bytes};
+ghost use Rattle.tera_check.specs.Findings.{finding_view, note_view};
+ghost use Rattle.tera_workspace.specs.Diagnostics.{diagnostic_view, related_view, diagnostic_of, related_of as told_of_note, position_in};
+ghost use Rattle.tera_workspace.specs.Kept.{sources_of};
+ghost use Rattle.tera_workspace.specs.Sources.{text_named};
+
+use crate::judged::{Judged, number_of};
+use crate::lined_text::LinedText;
+use std::alloc::{AllocError, Global};
+use tera_check::{Finding, Kind, Note};
+use tera_parser::value::Span;
+use text_edits::{Encoding, Position};
+
+/// A finding in a document, and the part of its text that it is about.
+#[derive(Debug, Drop, PartialEq, Eq)]
+pub struct Diagnostic {
+    pub kind: Kind,
+    pub start: Position,
+    pub end: Position,
+    pub message: String,
+    pub related: Vec<Related>,
+}
+
+/// What explains a finding, by a part of the text of whatever document.
+#[derive(Debug, Drop, PartialEq, Eq)]
+pub struct Related {
+    pub file: String,
+    pub start: Position,
+    pub end: Position,
+    pub message: String,
+}
+
+/// What is told of findings in a document, which stands among all.
+pub(crate) fn diagnostics_of(
+    alloc: Global,
+    encoding: Encoding,
+    all: &Vec<Judged>,
+    judged: &Judged,
+    findings: Vec<Finding>,
+) -> Result<Vec<Diagnostic>, AllocError>
+    ensures { IfOk result (λ v. map diagnostic_view v.items
+        ≡ map (diagnostic_of encoding (sources_of all.now.items) judged.now.text)
+        (map finding_view findings.items)) }
+{
+    let mut diagnostics = Vec::new(alloc);
+    for finding in findings {
+        diagnostics.push(diagnostic_for(alloc, encoding, all, judged, finding)?)?;
+    }
+    Ok(diagnostics)
+}
+
+fn diagnostic_for(
+    alloc: Global,
+    encoding: Encoding,
+    all: &Vec<Judged>,
+    judged: &Judged,
+    finding: Finding,
+) -> Result<Diagnostic, AllocError>
+    ensures { IfOk result (λ d. diagnostic_view d
+        ≡ diagnostic_of encoding (sources_of all.now.items) judged.now.text
+        (finding_view finding)) }
+{
+    let (start, end) = ends_of(&judged.text, encoding, &finding.span);
+    let related = related_of(alloc, encoding, all, finding.notes)?;
+    Ok(Diagnostic {
+        kind: finding.kind,
+        start,
+        end,
+        message: finding.message,
+        related,
+    })
+}
+
+fn related_of(
+    alloc: Global,
+    encoding: Encoding,
+    all: &Vec<Judged>,
+    notes: Vec<Note>,
+) -> Result<Vec<Related>, AllocError>
+    ensures { IfOk result (λ v. map related_view v.items
+        ≡ map (told_of_note encoding (sources_of all.now.items)) (map note_view notes.items)) }
+{
+    let mut related = Vec::new(alloc);
+    for note in notes {
+        let (start, end) = ends_in(encoding, all, note.file.as_str(), &note.span);
+        related.push(Related {
+            file: note.file,
+            start,
+            end,
+            message: note.message,
+        })?;
+    }
+    Ok(related)
+}
+
+// Where the span begins and ends in the document of this name.
+fn ends_in(encoding: Encoding, all: &Vec<Judged>, name: &str, span: &Span) -> (Position, Position)
+    ensures { let text = text_named name.now (sources_of all.now.items) in
+        result ≡ (position_in encoding text span.now.range.start, position_in encoding text span.now.range.end) }
+{
+    match number_of(all, name) {
+        Some(number) => {
+            let judged = &all[number];
+            ends_of(&judged.text, encoding, span)
+        }
+        None => {
+            let first = Position {
+                line: 0,
+                character: 0,
+            };
+            (first, first)
+        }
+    }
+}
+
+// Where the span begins and ends in the text.
+fn ends_of(text: &LinedText, encoding: Encoding, span: &Span) -> (Position, Position)
+    ensures { result ≡ (position_in encoding text.now span.now.range.start, position_in encoding text.now span.now.range.end) }
+{
+    (
+        text.position_at(encoding, span.range.start),
+        text.position_at(encoding, span.range.end),
+    )
+}

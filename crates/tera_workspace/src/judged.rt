@@ -1,0 +1,128 @@
+//! Documents as they were judged.
+
+ghost use Rattle.std.specs.Prelude.{◌≡◌, ◌++◌, IfOk, OnOk, map, length, string_bytes, MatchOption};
+ghost use Rattle.std.specs.List.{flat_map};
+ghost use Rattle.tera_base.specs.Spanned.{node_of, span_of};
+ghost use Rattle.tera_nodes.specs.View.{call_view};
+ghost use Rattle.tera_statements.specs.Outputs.{output_view};
+ghost use Rattle.tera_tree.specs.View.{definition_view};
+ghost use Rattle.tera_check.specs.Alike.{name_called, names_in};
+ghost use Rattle.tera_check.specs.Calls.{calls_of as calls_in_tree};
+ghost use Rattle.tera_check.specs.Parts.{seen};
+ghost use Rattle.tera_workspace.specs.Kept.{HasNames, IsAnew, NoneBefore, IsNumbered};
+
+use crate::diagnostics::Diagnostic;
+use crate::lined_text::LinedText;
+use std::alloc::{AllocError, Global};
+use tera_check::{Template, calls_of, read_template};
+use tera_parser::ParserOutput;
+use tera_parser::ast::{ComponentCall, ComponentDefinition};
+use tera_parser::value::Spanned;
+
+/// A document: the text that was read, and what was told of it.
+#[derive(Drop)]
+pub(crate) struct Judged {
+    pub(crate) text: LinedText,
+    pub(crate) template: Template,
+    // Of the components that it defines and calls, in their order.
+    pub(crate) names: Vec<String>,
+    // Whether other findings may be in it than those that were told.
+    pub(crate) stale: bool,
+    pub(crate) told: Vec<Diagnostic>,
+}
+
+impl Judged {
+    /// The document of this name and text, of which nothing was told.
+    pub(crate) fn read(alloc: Global, name: &str, text: &str) -> Result<Judged, AllocError>
+        ensures { IfOk result (IsAnew name.now text.now) }
+    {
+        let template = read_template(alloc, name, text)?;
+        let names = names_of(alloc, &template)?;
+        let text = LinedText::of(alloc, text)?;
+        Ok(Judged {
+            text,
+            template,
+            names,
+            stale: true,
+            told: Vec::new(alloc),
+        })
+    }
+}
+
+fn names_of(alloc: Global, template: &Template) -> Result<Vec<String>, AllocError>
+    ensures { IfOk result (λ v. HasNames v.items template.now) }
+{
+    match &template.parsed {
+        Ok(output) => names_of_tree(alloc, output),
+        Err(_) => Ok(Vec::new(alloc)),
+    }
+}
+
+fn names_of_tree(alloc: Global, output: &ParserOutput) -> Result<Vec<String>, AllocError>
+    ensures { IfOk result (λ v. map string_bytes v.items ≡ names_in (output_view output.now)) }
+{
+    let mut names = Vec::new(alloc);
+    push_defined(&mut names, output.component_definitions.as_slice())?;
+    push_called(alloc, &mut names, output)?;
+    Ok(names)
+}
+
+/// Adds the names of the components that have these definitions.
+pub(crate) fn push_defined(
+    names: &mut Vec<String>,
+    definitions: &[ComponentDefinition],
+) -> Result<(), AllocError>
+    ensures { OnOk result (map string_bytes names.new.items ≡ map string_bytes names.old.items
+        ++ map (λ d. d.name) (map definition_view definitions.now)) }
+{
+    for definition in definitions {
+        names.push(definition.name.clone()?)?;
+    }
+    Ok(())
+}
+
+fn push_called(
+    alloc: Global,
+    names: &mut Vec<String>,
+    output: &ParserOutput,
+) -> Result<(), AllocError>
+    ensures { OnOk result (map string_bytes names.new.items ≡ map string_bytes names.old.items
+        ++ flat_map name_called (calls_in_tree (output_view output.now))) }
+{
+    let calls = calls_of(alloc, output)?;
+    push_calls(names, &calls)
+}
+
+fn push_calls(
+    names: &mut Vec<String>,
+    calls: &Vec<&Spanned<ComponentCall>>,
+) -> Result<(), AllocError>
+    ensures { OnOk result (map string_bytes names.new.items ≡ map string_bytes names.old.items
+        ++ flat_map name_called (map seen calls.now.items)) }
+{
+    for call in calls {
+        push_call(names, call)?;
+    }
+    Ok(())
+}
+
+fn push_call(names: &mut Vec<String>, call: &Spanned<ComponentCall>) -> Result<(), AllocError>
+    ensures { OnOk result (map string_bytes names.new.items ≡ map string_bytes names.old.items
+        ++ name_called (call_view (node_of call.now) (span_of call.now))) }
+{
+    names.push(call.node().name.clone()?)?;
+    Ok(())
+}
+
+/// Where the document of this name stands.
+pub(crate) fn number_of(all: &Vec<Judged>, name: &str) -> Option<usize>
+    ensures { MatchOption result (NoneBefore name.now all.now.items (length all.now.items))
+        (IsNumbered name.now all.now.items) }
+{
+    for (at, judged) in all.iter().enumerate() {
+        if judged.template.file.as_str() == name {
+            return Some(at);
+        }
+    }
+    None
+}

@@ -1,0 +1,23 @@
+//! The findings of templates that are open in an editor or stand on disk, kept while they change.
+//!
+//! It takes documents as `text_documents` keeps them, and tells what `tera_check` finds in each, with positions of
+//! `text_edits` in the place of spans. After an edit the document is read again, unless it has the text that was judged;
+//! judged again are it and those that call a component whose head came, went or changed, or that were told a place in it.
+//!
+//! In the order of reading: specs `Sources`, `Diagnostics`, `Fresh`, `Workspaces`; `diagnostics`; `judged`, a document as
+//! it was judged; `reading`, and `touched`, what a new text changes for others; `catalogue`; `news`; `workspace`.
+#![tactic(auto)]
+
+mod catalogue;
+mod diagnostics;
+mod judged;
+pub mod laws;
+mod lined_text;
+mod names;
+mod news;
+mod reading;
+mod touched;
+mod workspace;
+
+pub use diagnostics::{Diagnostic, Related};
+pub use workspace::Workspace;

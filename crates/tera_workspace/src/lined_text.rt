@@ -1,0 +1,49 @@
+//! A text whose lines are known.
+
+ghost use Rattle.std.specs.Prelude.{◌≡◌, IfOk};
+ghost use Rattle.tera_workspace.specs.Diagnostics.{position_in};
+
+use std::alloc::{AllocError, Global};
+use std::marker::Model;
+use text_edits::{Encoding, Lines, Position, position_at};
+
+/// A text, and where its lines begin.
+#[derive(Drop)]
+pub(crate) struct LinedText {
+    text: String,
+    lines: Lines,
+}
+
+impl Model for LinedText {
+    ghost use Rattle.std.specs.Prelude.{◌≡◌, ℕ, List, string_bytes};
+    ghost use Rattle.text_edits.specs.Lines.{lines_of, starts_of};
+
+    ghost Value = { List ℕ };
+
+    ghost view = { λ t. string_bytes t.text };
+
+    ghost invariant = { λ t. t.lines ≡ starts_of (lines_of (string_bytes t.text)) };
+}
+
+impl LinedText {
+    pub(crate) fn of(alloc: Global, text: &str) -> Result<LinedText, AllocError>
+        ensures { IfOk result (λ t. t ≡ text.now) }
+    {
+        let lines = Lines::of(alloc, text)?;
+        let text = String::from_str(alloc, text)?;
+        Ok(LinedText { text, lines })
+    }
+
+    pub(crate) fn as_str(&self) -> &str
+        ensures { result.now ≡ self.now }
+    {
+        self.text.as_str()
+    }
+
+    /// The position of a byte.
+    pub(crate) fn position_at(&self, encoding: Encoding, byte: usize) -> Position
+        ensures { result ≡ position_in encoding self.now byte }
+    {
+        position_at(self.text.as_str(), &self.lines, encoding, byte)
+    }
+}

@@ -1,0 +1,119 @@
+//! What is to be told of documents.
+
+ghost use Rattle.std.specs.Prelude.{◌≡◌, ℕ, List, true, IfOk, length, map, string_bytes};
+ghost use Rattle.std.specs.Bool.{Decides};
+ghost use Rattle.tera_check.specs.Named.{known_in, first_named, defined_by};
+ghost use Rattle.tera_workspace.specs.Kept.{IsWhole, AllWhole, WantsAll, templates_of, told_of};
+ghost use Rattle.tera_workspace.specs.Names.{is_among};
+ghost use Rattle.tera_workspace.specs.Told.{IsNews, AreNews, AreOfOthers, told_one, told_each};
+
+use crate::catalogue::catalogue_for;
+use crate::diagnostics::{Diagnostic, diagnostics_of};
+use crate::judged::Judged;
+use crate::names::add_all;
+use std::alloc::{AllocError, Global};
+use std::collections::BTreeSet;
+use std::mem;
+use tera_check::{Catalogue, findings_of};
+use text_edits::Encoding;
+
+/// What is to be told of each document: of one that is stale, what is found in it now.
+pub(crate) fn news_of(
+    alloc: Global,
+    encoding: Encoding,
+    all: &Vec<Judged>,
+) -> Result<Vec<Option<Vec<Diagnostic>>>, AllocError>
+    ensures as_many { IfOk result (λ v. length v.items ≡ length all.now.items) }
+    ensures news { AllWhole all.now.items → IfOk result (λ v. AreNews encoding all.now.items v.items) }
+{
+    let wanted = wanted_of(alloc, all)?;
+    let catalogue = catalogue_for(alloc, all, &wanted)?;
+    let mut news = Vec::new(alloc);
+    for (number, judged) in all.iter().enumerate() {
+        news.push(news_of_one(alloc, encoding, &catalogue, all, number, judged)?)?;
+    }
+    Ok(news)
+}
+
+fn news_of_one(
+    alloc: Global,
+    encoding: Encoding,
+    catalogue: &Catalogue<'_>,
+    all: &Vec<Judged>,
+    number: usize,
+    judged: &Judged,
+) -> Result<Option<Vec<Diagnostic>>, AllocError>
+    requires known { judged.now.stale ≡ true → (n : List ℕ) →
+        is_among n (map string_bytes judged.now.names.items) ≡ true →
+        known_in catalogue.now n ≡ first_named n (defined_by 0 (templates_of all.now.items)) }
+    ensures { IsWhole judged.now → IfOk result (λ news. IsNews encoding all.now.items number judged.now news) }
+{
+    if !judged.stale {
+        return Ok(None);
+    }
+    let findings = findings_of(alloc, catalogue, number, &judged.template)?;
+    let diagnostics = diagnostics_of(alloc, encoding, all, judged, findings)?;
+    Ok(Some(diagnostics))
+}
+
+// The names of the components by which those are judged that are stale.
+fn wanted_of(alloc: Global, all: &Vec<Judged>) -> Result<BTreeSet<String>, AllocError>
+    ensures { IfOk result (λ s. WantsAll s all.now.items) }
+{
+    let mut wanted = BTreeSet::new(alloc);
+    for judged in all {
+        if judged.stale {
+            add_all(alloc, &mut wanted, &judged.names)?;
+        }
+    }
+    Ok(wanted)
+}
+
+/// The names of the documents of which other findings are to be told than were told, in their order.
+pub(crate) fn names_of(
+    alloc: Global,
+    all: &Vec<Judged>,
+    news: &Vec<Option<Vec<Diagnostic>>>,
+) -> Result<Vec<String>, AllocError>
+    requires { length news.now.items ≡ length all.now.items }
+    ensures { IfOk result (λ v. AreOfOthers all.now.items news.now.items (map string_bytes v.items)) }
+{
+    let mut names = Vec::new(alloc);
+    for (number, judged) in all.iter().enumerate() {
+        if !is_told_already(judged, &news[number]) {
+            names.push(judged.template.file.clone()?)?;
+        }
+    }
+    Ok(names)
+}
+
+// Whether what is to be told of the document is what was told.
+fn is_told_already(judged: &Judged, news: &Option<Vec<Diagnostic>>) -> bool
+    ensures { Decides result (told_of (told_one judged.now news.now) ≡ told_of judged.now) }
+{
+    match news {
+        Some(diagnostics) => *diagnostics == judged.told,
+        None => true,
+    }
+}
+
+/// Tells it.
+pub(crate) fn tell(all: &mut Vec<Judged>, news: Vec<Option<Vec<Diagnostic>>>)
+    requires { length news.items ≡ length all.old.items }
+    ensures { all.new.items ≡ told_each all.old.items news.items }
+{
+    let mut news = news;
+    for number in 0..all.len() {
+        let diagnostics = mem::replace(&mut news[number], None);
+        tell_one(&mut all[number], diagnostics);
+    }
+}
+
+fn tell_one(judged: &mut Judged, news: Option<Vec<Diagnostic>>)
+    ensures { judged.new ≡ told_one judged.old news }
+{
+    if let Some(diagnostics) = news {
+        judged.told = diagnostics;
+        judged.stale = false;
+    }
+}

@@ -1,0 +1,121 @@
+//! Reading documents that changed.
+
+ghost use Rattle.std.specs.Prelude.{◌≡◌, ℕ, List, [], true, false, map, string_bytes, length, unwrap_or, OnOk, OnErr};
+ghost use Rattle.text_documents.specs.Documents.{text_of};
+ghost use Rattle.text_documents.specs.Stored.{document_of};
+ghost use Rattle.tera_workspace.specs.Kept.{sources_of, IsAnew, NoneBefore, IsNumbered, StayKept, IsTextAt, IsPlaceOf, unsettled};
+ghost use Rattle.tera_workspace.specs.Names.{is_among};
+ghost use Rattle.tera_workspace.specs.Sources.{text_named};
+
+use crate::judged::{Judged, number_of};
+use crate::touched::{mark, touched_names};
+use std::alloc::{AllocError, Global};
+use std::mem;
+use text_documents::Documents;
+
+/// Reads the documents of these names, and marks those whose findings may be others by that.
+pub(crate) fn read_changed(
+    alloc: Global,
+    documents: &Documents,
+    changed: &Vec<String>,
+    all: &mut Vec<Judged>,
+) -> Result<(), AllocError>
+    ensures kept { StayKept all.old.items all.new.items }
+    ensures texts { (n : List ℕ) → is_among n (map string_bytes changed.now.items) ≡ false →
+        text_named n (sources_of all.new.items) ≡ text_named n (sources_of all.old.items) }
+    ensures read { OnOk result ((n : List ℕ) → is_among n (map string_bytes changed.now.items) ≡ true →
+        text_named n (sources_of all.new.items) ≡ unwrap_or (text_of (document_of documents.now n)) []) }
+{
+    for name in changed {
+        let text = documents.text(name.as_str()).unwrap_or("");
+        put(alloc, all, name.as_str(), text)?;
+    }
+    Ok(())
+}
+
+// Judges the document of this name by this text from now on, and marks those whose findings may be others by that.
+fn put(alloc: Global, all: &mut Vec<Judged>, name: &str, text: &str) -> Result<(), AllocError>
+    ensures kept { StayKept all.old.items all.new.items }
+    ensures read { OnOk result (IsTextAt name.now text.now all.old.items all.new.items) }
+    ensures err { OnErr result (all.new.items ≡ all.old.items) }
+{
+    match number_of(all, name) {
+        Some(number) => put_at(alloc, all, number, name, text),
+        None => insert(all, Judged::read(alloc, name, text)?, name),
+    }
+}
+
+// Of one that was judged. By the same text it is not read again.
+fn put_at(
+    alloc: Global,
+    all: &mut Vec<Judged>,
+    number: usize,
+    name: &str,
+    text: &str,
+) -> Result<(), AllocError>
+    requires { IsNumbered name.now all.old.items number }
+    ensures kept { StayKept all.old.items all.new.items }
+    ensures read { OnOk result (IsTextAt name.now text.now all.old.items all.new.items) }
+    ensures err { OnErr result (all.new.items ≡ all.old.items) }
+{
+    if all[number].text.as_str() == text {
+        return Ok(());
+    }
+    replace(alloc, all, number, Judged::read(alloc, name, text)?, name)
+}
+
+// In the place of one that was judged.
+fn replace(
+    alloc: Global,
+    all: &mut Vec<Judged>,
+    number: usize,
+    judged: Judged,
+    name: &str,
+) -> Result<(), AllocError>
+    requires number { IsNumbered name.now all.old.items number }
+    requires anew { IsAnew name.now judged.text judged }
+    ensures kept { StayKept all.old.items all.new.items }
+    ensures read { OnOk result (IsTextAt name.now judged.text all.old.items all.new.items) }
+    ensures err { OnErr result (all.new.items ≡ all.old.items) }
+{
+    let mut judged = judged;
+    let touched = touched_names(alloc, &all[number].template, &judged.template)?;
+    mark(all, &touched, name);
+    judged.told = mem::replace(&mut all[number].told, Vec::new(alloc));
+    all[number] = judged;
+    Ok(())
+}
+
+// Where it stands in the order of the names. The numbers of those behind it are others then.
+fn insert(all: &mut Vec<Judged>, judged: Judged, name: &str) -> Result<(), AllocError>
+    requires none { NoneBefore name.now all.old.items (length all.old.items) }
+    requires anew { IsAnew name.now judged.text judged }
+    ensures kept { StayKept all.old.items all.new.items }
+    ensures read { OnOk result (IsTextAt name.now judged.text all.old.items all.new.items) }
+    ensures err { OnErr result (all.new.items ≡ all.old.items) }
+{
+    let place = place_of(all, name);
+    all.insert(place, judged)?;
+    mark_all(all);
+    Ok(())
+}
+
+fn mark_all(all: &mut Vec<Judged>)
+    ensures { all.new.items ≡ map unsettled all.old.items }
+{
+    for judged in all.iter_mut() {
+        judged.stale = true;
+    }
+}
+
+// How many names are before this one.
+fn place_of(all: &Vec<Judged>, name: &str) -> usize
+    ensures { IsPlaceOf name.now all.now.items result }
+{
+    for (at, judged) in all.iter().enumerate() {
+        if judged.template.file.as_str().cmp(name).is_gt() {
+            return at;
+        }
+    }
+    all.len()
+}

@@ -1,0 +1,10 @@
+//! Tests of workspaces: what is told of documents that define and call one another's components, also after random edits,
+//! and with little memory.
+#![tactic(auto)]
+
+#[cfg(test)]
+mod edits;
+#[cfg(test)]
+mod memory;
+#[cfg(test)]
+mod telling;

@@ -1,0 +1,46 @@
+//! A change with little memory, and what is told then.
+
+use scarce_memory::{Attempt, Seen, Verdict, refuse};
+use std::alloc::{AllocError, Global};
+use std::test::Fail;
+use tera_workspace::Workspace;
+use text_edits::{Change, Encoding, Position};
+
+const DEFINING: &str = "{% component box(size) %}{{<lid/>}}{% endcomponent %}";
+
+const CALLING: &str = "{{<box/>}}";
+
+// Opens two documents and changes the first.
+#[derive(Drop)]
+struct Telling;
+
+impl Attempt for Telling {
+    fn attempt(&self, alloc: Global) -> Seen {
+        match told(alloc) {
+            Ok((defining, calling)) => Seen::answer(defining == 1 && calling == 1),
+            Err(_) => Seen::Memory,
+        }
+    }
+}
+
+fn told(alloc: Global) -> Result<(usize, usize), AllocError> {
+    let mut workspace = Workspace::new(alloc, Encoding::Utf16);
+    workspace.open(alloc, "b", DEFINING)?;
+    workspace.open(alloc, "a", CALLING)?;
+    workspace.settle(alloc)?;
+    let start = Position {
+        line: 0,
+        character: 0,
+    };
+    workspace.change(alloc, "b", &[Change::Part(start, start, "é")])?;
+    workspace.settle(alloc)?;
+    Ok((workspace.told("b").len(), workspace.told("a").len()))
+}
+
+#[test]
+fn each_request_of_memory_may_be_refused(rt: HostRuntime) -> Result<(), Fail> {
+    let verdict = refuse(rt.alloc(), &Telling)?;
+    let is_refused = matches!(verdict, Verdict::Refused(n) if n > 0);
+    assert!(rt; is_refused);
+    Ok(())
+}
