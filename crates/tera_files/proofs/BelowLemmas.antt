@@ -1,38 +1,72 @@
 -- Templates in order, and which of them are added.
-use Rattle.std.proofs.Common.{◌≡◌, ◌<◌, ◌+◌, ◌++◌, ◌∷◌, ℕ, List, [], String, Global, map, length, take, get_or, string_bytes, ⊎_elim, sym, ap, ◌∙◌, subst, arith, append_assoc, append-nil}
-use Rattle.std.specs.Prelude.{All, AllPairs, Contains}
-use Rattle.std.specs.List.Sorted.{IsPermutation, IsSorted}
-use Rattle.std.specs.Ordering.{is_lt}
-use Rattle.std.specs.String.{string_cmp}
+use Rattle.std.proofs.Common.{◌≡◌, ◌<◌, ◌+◌, ◌++◌, ◌∷◌, ℕ, Bool, List, [], Bor, Option, Some, None, String, Global, map, length, take, get_or, string_bytes, ⊎_elim, sym, ap, ◌∙◌, subst, arith, append_assoc, append-nil}
+use denote.Param.Members.{Mut}
+use Rattle.std.specs.Prelude.{All, AllPairs, Contains, IfSome}
+use Rattle.std.specs.Cmp.{IsStrictWeakOrder}
+use Rattle.std.specs.Cmp.Lexicographic.{slice_cmp}
+use Rattle.std.specs.Fn.{Called, ComparesAs}
+use Rattle.std.specs.List.Sorted.{IsPermutation, IsSortedBy}
+use Rattle.std.specs.Ordering.{is_lt, nat_cmp}
+use Rattle.std.specs.Path.{path_join}
+use Rattle.std.specs.declared.cmp.Ordering.{Ordering}
 use Rattle.std.proofs.lemmas.Cmp.{nat_list_cmp_total}
+use Rattle.std.proofs.lemmas.Fn.{always_returns_same}
 use Rattle.std.proofs.lemmas.List.{get_or_default, get_or-map, get_or-take, length-map, length-take, take_more}
 use Rattle.std.proofs.lemmas.List.Elements.{All-contains, All-map, All-nil, All-push, All-weaker, Contains-append_left, Contains-push}
 use Rattle.std.proofs.lemmas.List.MinMax.{ranks_by}
 use Rattle.std.proofs.lemmas.List.Quantifiers.{all_pairs_push}
 use Rattle.std.proofs.lemmas.List.Sorted.{All-permutation, sorted_far}
-use Rattle.tera_files.specs.Below.{AreTemplates, IsBefore, IsUnlisted, Tells}
+use Rattle.tera_files.specs.Below.{AreTemplates, IsBefore, IsUnlisted, Tells, path_of}
+use Rattle.tera_files.specs.declared.below.Template.{Template}
 use Rattle.tera_files.specs.declared.finding.Unlisted.{Unlisted}
 use Rattle.tera_files.specs.Listing.{IsAdded}
-use Rattle.tera_files.specs.Paths.{IsTemplate}
+use Rattle.tera_files.specs.Names.{IsLeftOut}
+use Rattle.tera_files.specs.Paths.{IsKnown, IsPathIn, IsTemplate, IsWithin, at_top, inside, known_inside, top_is_known}
 
-in_order : (files : List (String Global)) → IsSorted string_cmp files → AllPairs IsBefore (map string_bytes files)
+-- what is known by the names below the top is within the folder at the top
+pub within_of : (top itself path known : List ℕ) → IsKnown top itself path known → IsWithin top path
+within_of top itself _ _ top_is_known = at_top
+within_of top itself _ _ (known_inside {folder} {known} name path is kept told) =
+    inside name path (within_of top itself folder known is) kept told
+
+-- an entry of a folder that is known by its name there
+pub known_entry : (top itself folder known name path : List ℕ) (entry : Option (String Global)) → IsKnown top itself folder known
+    → ¬ (IsLeftOut name) → IsPathIn folder name path → IfSome entry (λ text. string_bytes text ≡ path_join known name)
+    → IfSome entry (λ text. IsKnown top itself path (string_bytes text))
+known_entry top itself folder known name path None is kept told same = tt
+known_entry top itself folder known name path (Some text) is kept told same =
+    subst (IsKnown top itself path) (sym same) (known_inside name path is kept told)
+
+abbrev pub goes_before : Template → Template → Bool
+goes_before one other = is_lt (slice_cmp nat_cmp (path_of one) (path_of other))
+
+-- what a sort by paths ensures
+pub by_path : {F : Type 0} {g : Mut F (Bor Template × (Bor Template × Unit {0})) Ordering} {f : F} (templates : List Template)
+    → ((lt : Template → Template → Bool) → IsStrictWeakOrder lt → ComparesAs g lt f → IsSortedBy lt templates)
+    → ((a : Bor Template × (Bor Template × Unit {0})) (r : Ordering) (f' : F) → Called g f a r f'
+    → (r ≡ slice_cmp nat_cmp (path_of a.0.now) (path_of a.1.0.now)) × (f' ≡ f)) → IsSortedBy goes_before templates
+by_path {g = g} {f = f} templates sorted compares = sorted goes_before (ranks_by nat_list_cmp_total path_of)
+    (always_returns_same g (λ a r. is_lt r ≡ goes_before a.0.now a.1.0.now) f
+    (λ a r f' k. (ap is_lt (compares a r f' k).0, (compares a r f' k).1)))
+
+in_order : (templates : List Template) → IsSortedBy goes_before templates → AllPairs IsBefore (map path_of templates)
 in_order [] sorted i j d before below = absurd (omega arith)
-in_order (x ∷ files) sorted i j d before below =
-    let here : j < length (x ∷ files) = rw length-map at below in
-    let far = sorted_far (λ one other. is_lt (string_cmp one other)) (ranks_by nat_list_cmp_total string_bytes) (x ∷ files) sorted i j x (omega arith) here in
-    let first = get_or-map string_bytes (x ∷ files) i x d (omega arith) in
-    let second = get_or-map string_bytes (x ∷ files) j x d here in
-    subst (λ one. IsBefore one (get_or (map string_bytes (x ∷ files)) j d)) (sym first)
-    (subst (IsBefore (string_bytes (get_or (x ∷ files) i x))) (sym second) far)
+in_order (x ∷ templates) sorted i j d before below =
+    let here : j < length (x ∷ templates) = rw length-map at below in
+    let far = sorted_far goes_before (ranks_by nat_list_cmp_total path_of) (x ∷ templates) sorted i j x (omega arith) here in
+    let first = get_or-map path_of (x ∷ templates) i x d (omega arith) in
+    let second = get_or-map path_of (x ∷ templates) j x d here in
+    subst (λ one. IsBefore one (get_or (map path_of (x ∷ templates)) j d)) (sym first)
+    (subst (IsBefore (path_of (get_or (x ∷ templates) i x))) (sym second) far)
 
 -- templates that were sorted
-pub sorted_templates : (extensions : List (List ℕ)) (top : List ℕ) (files sorted : List (String Global))
-    → All (λ path. IsTemplate extensions top (string_bytes path)) files → IsPermutation files sorted → IsSorted string_cmp sorted
-    → AreTemplates extensions top (map string_bytes sorted)
-sorted_templates extensions top files sorted all moved ordered =
-    let Is : String Global → Type 0 = λ path. IsTemplate extensions top (string_bytes path) in
+pub sorted_templates : (extensions : List (List ℕ)) (top : List ℕ) (templates sorted : List Template)
+    → All (λ template. IsTemplate extensions top (path_of template)) templates → IsPermutation templates sorted → IsSortedBy goes_before sorted
+    → AreTemplates extensions top (map path_of sorted)
+sorted_templates extensions top templates sorted all moved ordered =
+    let Is : Template → Type 0 = λ template. IsTemplate extensions top (path_of template) in
     record {
-      templates = All-map (IsTemplate extensions top) string_bytes sorted (All-permutation Is files sorted moved all);
+      templates = All-map (IsTemplate extensions top) path_of sorted (All-permutation Is templates sorted moved all);
       sorted = in_order sorted ordered;
     }
 

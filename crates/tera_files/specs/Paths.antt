@@ -22,6 +22,13 @@ pub data IsWithin (top : List ℕ) : List ℕ → Type 0 where
   inside : {folder : List ℕ} (name path : List ℕ) → IsWithin top folder → ¬ (IsLeftOut name) → IsPathIn folder name path
       → IsWithin top path
 
+-- The folder at the top, or what stands below it and is no link, and the path by which the system knows it: that of the
+-- folder at the top, and behind it the same names.
+pub data IsKnown (top itself : List ℕ) : List ℕ → List ℕ → Type 0 where
+  top_is_known : IsKnown top itself top itself
+  known_inside : {folder known : List ℕ} (name path : List ℕ) → IsKnown top itself folder known → ¬ (IsLeftOut name)
+      → IsPathIn folder name path → IsKnown top itself path (path_join known name)
+
 -- A template below the folder at the top: it stands in such a folder, and its name ends in one of the extensions and is not
 -- left out.
 pub record IsTemplate (extensions : List (List ℕ)) (top path : List ℕ) : Type 0 where

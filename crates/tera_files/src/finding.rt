@@ -1,12 +1,13 @@
 //! Which files the paths of a command line mean.
 
 ghost use Rattle.std.specs.Prelude.{◌≡◌, ◌⊎◌, ◌<◌, [], Contains, IfOk, OnOk, length, vec_len};
-ghost use Rattle.tera_files.specs.Below.{Tells};
+ghost use Rattle.tera_files.specs.Below.{Tells, path_of};
 ghost use Rattle.tera_files.specs.Finding.{AddsAll, IsFound, input};
 ghost use Rattle.tera_files.specs.Listing.{files_in, IsAdded, IsStarted};
 ghost use Rattle.tera_files.specs.Names.{texts};
 
-use crate::below::{fault, templates_below};
+use crate::below::{Template, templates_below};
+use crate::itself::itself_of;
 use crate::listing::Listing;
 use std::alloc::AllocError;
 use std::rt::Files;
@@ -94,9 +95,31 @@ fn add<R: Files + AllocGlobal + Clone + Drop>(
     }
     let templates = templates_below(rt, extensions, path, unlisted)?;
     for template in &templates {
-        add_file(rt, template.as_str(), listing)?;
+        add_template(rt, template, listing)?;
     }
     Ok(())
+}
+
+// Adds a template that was found below a folder, unless it was met or is left out.
+fn add_template<R: Files + AllocGlobal>(
+    rt: &R,
+    template: &Template,
+    listing: &mut Listing,
+) -> Result<(), AllocError>
+    ensures added { OnOk result (IsAdded (path_of template.now) (files_in listing.old) (files_in listing.new)) }
+    ensures started { OnOk result (IsStarted listing.old → 0 < length (files_in listing.new)) }
+{
+    let path = template.path.as_str();
+    match &template.itself {
+        Some(itself) => {
+            let alloc = rt.alloc();
+            listing.add(
+                String::from_str(alloc, path)?,
+                String::from_str(alloc, itself.as_str())?,
+            )
+        }
+        None => add_file(rt, path, listing),
+    }
 }
 
 // Adds a file, unless it was met or is left out.
@@ -114,15 +137,4 @@ fn add_file<R: Files + AllocGlobal>(
 
 fn is_folder(rt: &impl Files, path: &str) -> bool {
     fs::metadata(rt, path).is_ok_and(|data| data.is_dir())
-}
-
-// The path by which the system knows a file, or the one that is given where it knows none.
-fn itself_of<R: Files + AllocGlobal>(rt: &R, path: &str) -> Result<String, AllocError> {
-    match fs::canonicalize(rt, path) {
-        Ok(itself) => Ok(itself.into_string()),
-        Err(error) => {
-            fault(error)?;
-            String::from_str(rt.alloc(), path)
-        }
-    }
 }

@@ -5,12 +5,13 @@
 //! and knows nothing of templates but how their names end.
 //!
 //! In the order of reading: specs `Names` and `Paths`, what names say and the paths that they have in folders, and `names`;
-//! `listing`, files that were met; specs `Below` and `below`, of one folder; specs `Finding` and `finding`, of paths;
-//! `reading`; `replacing`.
+//! `itself`, by which paths the system knows files; `listing`, files that were met; specs `Below` and `below`, of one
+//! folder; specs `Finding` and `finding`, of paths; `reading`; `replacing`.
 #![tactic(auto)]
 
 mod below;
 mod finding;
+mod itself;
 mod listing;
 mod names;
 mod reading;

@@ -1,6 +1,7 @@
 //! What the name of a file says, and the path that it has in a folder.
 
-ghost use Rattle.std.specs.Prelude.{◌↔◌, IfOk, IsTrue, string_bytes};
+ghost use Rattle.std.specs.Prelude.{◌≡◌, ◌↔◌, IfOk, IsTrue, string_bytes};
+ghost use Rattle.std.specs.Path.{path_join};
 ghost use Rattle.tera_files.specs.Names.{EndsIn, IsLeftOut, texts};
 ghost use Rattle.tera_files.specs.Paths.{IsBase, IsPathIn};
 
@@ -41,6 +42,13 @@ fn base_of(folder: &str) -> &str
 pub(crate) fn path_in(alloc: Global, folder: &str, name: &str) -> Result<String, AllocError>
     ensures { IfOk result (λ path. IsPathIn folder.now name.now (string_bytes path)) }
 {
-    let path = Path::new(base_of(folder)).join(alloc, name)?;
+    joined(alloc, base_of(folder), name)
+}
+
+/// The path of what has this name behind a path.
+pub(crate) fn joined(alloc: Global, path: &str, name: &str) -> Result<String, AllocError>
+    ensures { IfOk result (λ joined. string_bytes joined ≡ path_join path.now name.now) }
+{
+    let path = Path::new(path).join(alloc, name)?;
     Ok(path.into_string())
 }

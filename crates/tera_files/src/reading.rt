@@ -8,6 +8,7 @@ ghost use Rattle.tera_files.specs.Reading.{unread_of};
 ghost use Rattle.tera_files.specs.declared.reading.Unread.TheVariants.{Memory};
 
 use std::alloc::{AllocError, Global};
+use std::fs::OpenFile;
 use std::io::Read;
 use std::rt::Files;
 use std::{fs, io};
@@ -58,14 +59,26 @@ pub fn read_source<R: Files + Input + AllocGlobal>(
     ensures file { IfOk result (λ source. string_bytes source.file ≡ name.now) }
 {
     if path == "-" {
-        source_of(rt.alloc(), rt.reader(), name)
+        source_of(rt.alloc(), rt.reader(), name, 0)
     } else {
-        source_of(rt.alloc(), fs::open(rt, path)?, name)
+        let file = fs::open(rt, path)?;
+        let room = room_of(file.metadata()?.len());
+        source_of(rt.alloc(), file, name, room)
     }
 }
 
-/// Reads to the end.
-pub fn source_of<R: Read + Drop>(alloc: Global, mut reader: R, name: &str) -> Result<Source, Unread>
+// How much room a read of so many bytes takes: one byte more shows the end.
+fn room_of(len: u64) -> usize {
+    usize::try_from(len).unwrap_or(0).saturating_add(1)
+}
+
+/// Reads to the end, into room for so many bytes, and more where there are more.
+pub fn source_of<R: Read + Drop>(
+    alloc: Global,
+    mut reader: R,
+    name: &str,
+    room: usize,
+) -> Result<Source, Unread>
     ensures file { IfOk result (λ source. string_bytes source.file ≡ name.now) }
     ensures text { IfOk result (λ source. IfSome (R.remaining reader) (λ bytes.
         string_bytes source.text ≡ bytes)) }
@@ -74,7 +87,7 @@ pub fn source_of<R: Read + Drop>(alloc: Global, mut reader: R, name: &str) -> Re
     ensures failed { (error : _) → result ≡ Err (Unread.Failed error) → error_kind error ≢ OutOfMemory }
 {
     let file = String::from_str(alloc, name)?;
-    let mut bytes = Vec::new(alloc);
+    let mut bytes = Vec::with_capacity(alloc, room)?;
     reader.read_to_end(&mut bytes)?;
     match String::from_utf8(bytes) {
         Ok(text) => Ok(Source { file, text }),

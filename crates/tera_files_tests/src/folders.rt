@@ -98,7 +98,7 @@ fn told(rt: &HostRuntime, room: &Room<'_>, found: &Found) -> Result<String, Fail
 #[test]
 fn paths_mean_files(rt: HostRuntime) -> Result<(), Fail> {
     let room = site(&rt, "paths_mean_files")?;
-    let cases: [(&str, &[&str], &str); 8] = [
+    let cases: [(&str, &[&str], &str); 9] = [
         (
             "-",
             &["site"],
@@ -116,6 +116,11 @@ fn paths_mean_files(rt: HostRuntime) -> Result<(), Fail> {
                 "outside",
             ],
             "site/b.html\nsite/a.html\nsite/a.tera\nsite/a/z.html\nsite/outside.html\n",
+        ),
+        (
+            "-",
+            &["site/a/../a/z.html", "linked", "site"],
+            "site/a/../a/z.html\nlinked/a.html\nlinked/a.tera\nlinked/b.html\nlinked/outside.html\n",
         ),
         // What is named is taken, whatever it is.
         (

@@ -1,7 +1,7 @@
 use Rattle.std.proofs.Common.{◌<◌, ◌≤◌, map, length, string_bytes, inl, inr, sym, ap, ◌∙◌, subst, arith}
 use Rattle.std.specs.Prelude.{Contains}
 use Rattle.std.proofs.lemmas.List.{get_or-map, length-map, take_all}
-use Rattle.tera_files.specs.Below.{AreTemplates}
+use Rattle.tera_files.specs.Below.{AreTemplates, path_of}
 use Rattle.tera_files.specs.Listing.{files_in, IsAdded}
 use Rattle.tera_files.specs.Names.{texts}
 use Rattle.tera_files.proofs.BelowLemmas.{AddsSome, adds_none, adds_more, some_templates, tells_none}
@@ -42,18 +42,18 @@ loop-template-preserved g c =
     let held = c.loop-template.invariant in
     let i = c.loop-template.template-index in
     let items = c.deref-template-items.result.now in
-    let paths = map string_bytes items in
+    let paths = map path_of items in
     let item = c.template-item.result in
-    let path = string_bytes item in
+    let path = path_of item in
     let old = files_in c.args.listing.now in
     let middle = files_in c.loop-template.listing in
-    let new = files_in c.add_file-in-loop-template.new.listing in
+    let new = files_in c.add_template.new.listing in
     let all : AreTemplates (texts c.args.extensions.now) c.args.path.now paths =
-    subst (λ l. AreTemplates (texts c.args.extensions.now) c.args.path.now (map string_bytes l)) (sym c.deref-template-items.ensures.value) c.in_ok-templates.ensures.templates in
+    subst (λ l. AreTemplates (texts c.args.extensions.now) c.args.path.now (map path_of l)) (sym c.deref-template-items.ensures.value) c.in_ok-templates.ensures.templates in
     let below : i < length paths = rw length-map c.loop-template-test.true in
-    let is = ap string_bytes c.template-item.is ∙ sym (get_or-map string_bytes items i item path c.loop-template-test.true) in
-    let added : IsAdded path middle new = subst (λ one. IsAdded one middle new) c.as_str.ensures.value c.in_ok-add_file.ensures.added in
-    let started = c.in_ok-add_file.ensures.started in
+    let is = ap path_of c.template-item.is ∙ sym (get_or-map path_of items i item path c.loop-template-test.true) in
+    let added : IsAdded path middle new = c.in_ok-add_template.ensures.added in
+    let started = c.in_ok-add_template.ensures.started in
     record {
       added = adds_more paths old middle new i path all.sorted below is held.added added;
       started = λ begun. inl (started (held.started begun));
@@ -64,12 +64,12 @@ pub returns-clause-added : goal.returns-clause-added
 returns-clause-added g c =
     let i = c.loop-template.template-index in
     let items = c.deref-template-items.result.now in
-    let paths = map string_bytes items in
+    let paths = map path_of items in
     let old = files_in c.args.listing.now in
     let new = files_in c.loop-template.listing in
     let extensions = texts c.args.extensions.now in
     let all : AreTemplates extensions c.args.path.now paths =
-    subst (λ l. AreTemplates extensions c.args.path.now (map string_bytes l)) (sym c.deref-template-items.ensures.value) c.in_ok-templates.ensures.templates in
+    subst (λ l. AreTemplates extensions c.args.path.now (map path_of l)) (sym c.deref-template-items.ensures.value) c.in_ok-templates.ensures.templates in
     let past : length paths ≤ i = rw length-map c.loop-template-test.false in
     let part : AddsSome paths old new = subst (λ l. AddsSome l old new) (take_all i paths past) c.loop-template.invariant.added in
     record { more = part.more; behind = part.behind; of_path = inr (some_templates extensions c.args.path.now paths old new all part) }

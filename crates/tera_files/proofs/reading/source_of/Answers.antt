@@ -7,5 +7,5 @@ pub returns-clause-not_utf8 : goal.returns-clause-not_utf8
 returns-clause-not_utf8 g c = λ at is.
     let same : c.valid_up_to.result ≡ at = cc in
     let front : at ≡ utf8_valid_len c.read_to_end.new.buf.items = cc (c.utf8_error.ensures, c.in-Err.ensures.valid_len) in
-    valid_of_left (g.R.Read.remaining c.args.reader) c.new-bytes.result.items c.read_to_end.new.buf.items at
-    c.in_ok-read_to_end.ensures.bytes c.new-bytes.ensures.items (λ text. let said = c.in-Err.ensures.succeeds text in cc) front
+    valid_of_left (g.R.Read.remaining c.args.reader) c.in_ok-bytes.bytes.items c.read_to_end.new.buf.items at
+    c.in_ok-read_to_end.ensures.bytes c.in_ok-bytes.ensures.items (λ text. let said = c.in-Err.ensures.succeeds text in cc) front

@@ -1,0 +1,25 @@
+//! The paths by which the system knows files.
+
+use std::alloc::AllocError;
+use std::rt::Files;
+use std::{fs, io};
+
+/// The path by which the system knows a file, or the one that is given where it knows none.
+pub(crate) fn itself_of<R: Files + AllocGlobal>(rt: &R, path: &str) -> Result<String, AllocError> {
+    match fs::canonicalize(rt, path) {
+        Ok(itself) => Ok(itself.into_string()),
+        Err(error) => {
+            fault(error)?;
+            String::from_str(rt.alloc(), path)
+        }
+    }
+}
+
+/// The error, unless it is want of memory.
+pub(crate) fn fault(error: io::Error) -> Result<io::Error, AllocError> {
+    if error.kind() == io::ErrorKind::OutOfMemory {
+        Err(AllocError)
+    } else {
+        Ok(error)
+    }
+}
