@@ -7,6 +7,7 @@ pub mod Numbered
 pub mod Offsets
 pub mod Pieces
 pub mod Placing
+pub mod Printable
 pub mod ShownEdits
 pub mod SideBySide
 pub mod Sides

@@ -30,7 +30,7 @@ plain_width c is =
     let above : nat_le 32 c ≡ true = grind (arith, nat_tests) in
     rw (below, above) refl
 
-plain_columns : (cs : List ℕ) → All IsPlain cs → columns cs ≡ length cs
+pub plain_columns : (cs : List ℕ) → All IsPlain cs → columns cs ≡ length cs
 plain_columns [] all = refl
 plain_columns (c ∷ cs) all =
     let more : columns (c ∷ cs) ≡ width c + columns cs = sum_by-cons width c cs in

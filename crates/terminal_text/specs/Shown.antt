@@ -8,6 +8,10 @@ use Rattle.unicode_width.specs.Width.{char_width}
 abbrev pub turns_direction : ℕ → Bool
 turns_direction c = c == 0x61C || is_in_range 0x200E 0x200F c || is_in_range 0x202A 0x202E c || is_in_range 0x2066 0x2069 c
 
+-- a character of ASCII that is no control character: it is shown as it stands
+abbrev pub is_printable : ℕ → Bool
+is_printable c = is_in_range 0x20 0x7E c
+
 -- the character itself, or U+FFFD for one that a terminal obeys
 abbrev pub seen : ℕ → ℕ
 seen c = if is_control c || turns_direction c then 0xFFFD else c

@@ -208,6 +208,9 @@ fn offset_of(text: &str, count: usize) -> usize
     ensures value { result ≡ length (encode_utf8_all (take count (chars text.now))) }
     ensures boundary { IsCharBoundary text.now result }
 {
+    if text.is_ascii() {
+        return count.min(text.len());
+    }
     match text.char_indices().nth(count) {
         Some((offset, _)) => offset,
         None => text.len(),

@@ -1,7 +1,8 @@
 //! Characters as they are shown on a line of a terminal.
 
 ghost use Rattle.std.specs.Prelude.{◌≡◌, ◌++◌, ◌≤◌, length, chars, encode_utf8_all, string_bytes, IfOk, OnOk};
-ghost use Rattle.terminal_text.specs.Shown.{turns_direction as is_turning, seen as seen_as, shown, shown_as, told_as, on_one_line, width, columns};
+ghost use Rattle.std.specs.List.{list_all};
+ghost use Rattle.terminal_text.specs.Shown.{is_printable as is_printable_byte, turns_direction as is_turning, seen as seen_as, shown, shown_as, told_as, on_one_line, width, columns};
 
 use std::alloc::AllocError;
 use unicode_width::UnicodeWidthChar;
@@ -12,10 +13,26 @@ pub fn push_on_one_line(to: &mut String, text: &str) -> Result<(), AllocError>
     ensures { OnOk result (string_bytes to.new
         ≡ string_bytes to.old ++ encode_utf8_all (on_one_line (chars text.now))) }
 {
+    if is_printable(text) {
+        return to.push_str(text);
+    }
     for character in text.chars() {
         push_told(to, character)?;
     }
     Ok(())
+}
+
+// Whether all of the text is ASCII that is shown as it stands, a column for each character.
+fn is_printable(text: &str) -> bool
+    ensures { result ≡ list_all is_printable_byte text.now }
+{
+    let bytes = text.as_bytes();
+    for byte in bytes {
+        if !matches!(*byte, b' '..=b'~') {
+            return false;
+        }
+    }
+    true
 }
 
 // Adds the character as a message has it.
@@ -38,6 +55,10 @@ pub(crate) fn push_shown(to: &mut String, text: &str) -> Result<usize, AllocErro
     ensures columns { IfOk result (λ n. n ≡ columns (shown (chars text.now))) }
     ensures few { IfOk result (λ n. n ≤ 480) }
 {
+    if is_printable(text) {
+        to.push_str(text)?;
+        return Ok(text.len());
+    }
     let mut columns = 0;
     for character in text.chars() {
         columns += push_character(to, character)?;

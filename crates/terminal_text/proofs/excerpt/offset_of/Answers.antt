@@ -3,6 +3,7 @@ use Rattle.std.proofs.lemmas.Grind.{common_steps}
 use Rattle.std.proofs.lemmas.List.{nil_from_length}
 use Rattle.std.proofs.lemmas.Str.{encodes-chars, chars-nil}
 use Rattle.terminal_text.proofs.Offsets.{passed, taken}
+use Rattle.terminal_text.proofs.Printable.{ascii_offset}
 use Rattle.terminal_text.proofs.excerpt.offset_of.Goals as goal
 
 pub returns-in-Some : goal.returns-in-Some
@@ -21,3 +22,7 @@ returns-in-None-clause-value c =
     let read = rw (nil_from_length _ ran.1.2.0, chars-nil, append-nil) at front.read in
     let few : length (chars c.args.text.now) ≤ c.args.count = rw read (grind (arith, common_steps, ran.2)) in
     rw (take_all _ _ few, encodes-chars _ c.utf8.text)
+
+pub returns-then-is_ascii-clause-value : goal.returns-then-is_ascii-clause-value
+returns-then-is_ascii-clause-value c =
+    ascii_offset c.args.text.now c.args.count c.min.result c.if-is_ascii.ensures.cases c.min.ensures

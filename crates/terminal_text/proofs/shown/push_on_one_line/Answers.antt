@@ -1,6 +1,8 @@
-use Rattle.std.proofs.Common.{sym, ◌∙◌}
+use Rattle.std.proofs.Common.{◌++◌, string_bytes, sym, ap, ◌∙◌}
 use Rattle.std.proofs.lemmas.Str.{IsUtf8-past_char}
 use Rattle.terminal_text.specs.Shown.{told_as}
+use Rattle.terminal_text.proofs.Pieces.{pushed}
+use Rattle.terminal_text.proofs.Printable.{told_as_it_stands}
 use Rattle.terminal_text.proofs.Steps.{text_step, text_end}
 use Rattle.terminal_text.proofs.shown.push_on_one_line.Goals as goal
 
@@ -14,3 +16,10 @@ loop-character-preserved c =
 
 pub returns : goal.returns
 returns c = sym (text_end told_as _ _ c.in-None.ensures.steps.0.0) ∙ c.loop-character.invariant.text
+
+pub returns-then-is_printable : goal.returns-then-is_printable
+returns-then-is_printable c =
+    let all = sym c.is_printable.ensures ∙ c.if-is_printable.true in
+    let before = string_bytes c.args.to.now in
+    pushed c.push_str.result _ before c.args.text.now _ c.push_str.ensures.bytes
+    (ap (λ l. before ++ l) (sym (told_as_it_stands c.args.text.now c.utf8.text all)))
