@@ -34,8 +34,14 @@ pub(crate) fn run<R: Files + Env + Input + Print + Eprint + AllocGlobal + Clone 
         tell(rt, "tera", "--library: a file or a folder is wanted");
         return Ended::failed();
     }
-    match read_all(rt, job.common, files, job.library) {
-        Ok(all) => run_on(rt, style, job, &all, &mut io::writer(rt)),
+    // Excerpts alone want the sources.
+    let keeps_sources = matches!(job.form, Form::Full);
+    match read_all(rt, job.common, files, job.library, keeps_sources) {
+        Ok(all) => {
+            let ended = run_on(rt, style, job, &all, &mut io::writer(rt));
+            all.forget();
+            ended
+        }
         Err(_) => {
             tell(rt, "tera", "out of memory");
             Ended::failed()

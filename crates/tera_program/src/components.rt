@@ -39,7 +39,7 @@ fn listed<R: Files + Env + Input + Print + Eprint + AllocGlobal + Clone + Drop>(
     let Some(files) = job.files else {
         return Ok(Ended::failed());
     };
-    let all = read_all(rt, job.common, files, None)?;
+    let all = read_all(rt, job.common, files, None, true)?;
     let faults = faults_of(alloc, style, &all)?;
     let _ = eprint!(rt; "{}", faults.text);
     let components = components_of(alloc, &all.templates)?;

@@ -18,6 +18,9 @@ use tera_check::{Finding, lines_of, object_of};
 use tera_report::{begin_log, end_log, push_annotation, push_told, put_result};
 use terminal_text::{Sources, Style};
 
+// Most findings are told in so many bytes.
+const ROOM: usize = 1024;
+
 /// The text of what is found in some templates.
 pub(crate) fn text_of(
     alloc: Global,
@@ -96,14 +99,14 @@ fn push_finding(
 {
     match form {
         Form::Full => {
-            let mut text = String::new(alloc);
+            let mut text = String::with_capacity(alloc, ROOM)?;
             push_told(alloc, &mut text, style, file, sources, finding)?;
             to.extend_from_slice(text.as_bytes())
         }
         Form::Concise => to.extend_from_slice(lines_of(alloc, file, finding)?.as_slice()),
         Form::Json => to.extend_from_slice(object_of(alloc, file, finding)?.as_slice()),
         Form::Github => {
-            let mut text = String::new(alloc);
+            let mut text = String::with_capacity(alloc, ROOM)?;
             push_annotation(alloc, &mut text, file, finding)?;
             to.extend_from_slice(text.as_bytes())
         }

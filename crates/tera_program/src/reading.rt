@@ -8,17 +8,19 @@ use crate::job::Common;
 use crate::options::EXTENSIONS;
 use crate::output::{tell, tell_unread};
 use std::alloc::{AllocError, Global};
+use std::mem;
 use std::rt::Files;
 use tera_check::{Template, read_template};
 use tera_files::{Found, Sought, Source, Unread, files_of, read_source};
 use terminal_text::Sources;
 
-/// Templates, each beside the source that it was read from.
+/// Templates, beside the sources that they were read from.
 #[derive(Drop)]
 pub(crate) struct Templates {
     pub(crate) templates: Vec<Template>,
+    /// These are empty where they are not wanted.
     pub(crate) sources: Vec<Source>,
-    /// How many of them are those that were asked for; behind these stand those of the library.
+    /// How many of the templates are those that were asked for; behind these stand those of the library.
     pub(crate) checked: usize,
     /// How many files and folders could not be read.
     pub(crate) unread: usize,
@@ -46,10 +48,17 @@ impl Templates {
         Ok(texts)
     }
 
-    fn push(&mut self, template: Template, source: Source) -> Result<(), AllocError> {
+    fn push(&mut self, template: Template, source: Option<Source>) -> Result<(), AllocError> {
         self.templates.push(template)?;
-        self.sources.push(source)?;
+        if let Some(source) = source {
+            self.sources.push(source)?;
+        }
         Ok(())
+    }
+
+    /// Leaves their memory to the process, which ends soon: to give it back tree by tree takes a tenth of the time.
+    pub(crate) fn forget(self) {
+        mem::forget(self);
     }
 
     fn count_unread(&mut self, count: usize) {
@@ -111,12 +120,13 @@ pub(crate) fn tell_unlisted<R: Eprint + AllocGlobal>(rt: &R, found: &Found) {
 }
 
 /// Reads the templates that the paths mean, and behind them those of the library that are not among these. Standard error
-/// says which cannot be read.
+/// says which cannot be read. Their sources are kept where `keeps_sources` says so.
 pub(crate) fn read_all<R: Files + Input + Eprint + AllocGlobal + Clone + Drop>(
     rt: &R,
     common: Common<'_, '_>,
     paths: &[&str],
     library: Option<&[&str]>,
+    keeps_sources: bool,
 ) -> Result<Templates, AllocError> {
     let (found, asked) = found_with(rt, common, paths, library)?;
     tell_unlisted(rt, &found);
@@ -124,7 +134,7 @@ pub(crate) fn read_all<R: Files + Input + Eprint + AllocGlobal + Clone + Drop>(
     all.count_unread(found.unlisted.len());
     for (number, file) in found.files.iter().enumerate() {
         let name = name_of(file.as_str(), common.stdin);
-        if let Err(why) = add(rt, file.as_str(), name, &mut all) {
+        if let Err(why) = add(rt, file.as_str(), name, keeps_sources, &mut all) {
             tell_unread(rt, name, why);
             all.count_unread(1);
         }
@@ -158,9 +168,11 @@ fn add<R: Files + Input + AllocGlobal>(
     rt: &R,
     file: &str,
     name: &str,
+    keeps_source: bool,
     all: &mut Templates,
 ) -> Result<(), Unread> {
     let source = read_source(rt, file, name)?;
     let template = read_template(rt.alloc(), name, source.text.as_str())?;
-    Ok(all.push(template, source)?)
+    let kept = if keeps_source { Some(source) } else { None };
+    Ok(all.push(template, kept)?)
 }
