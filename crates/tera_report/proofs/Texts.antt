@@ -1,8 +1,7 @@
 -- Texts that grow.
-use Rattle.std.proofs.Common.{◌≡◌, ◌<◌, ℕ, List, [], ◌∷◌, ◌++◌, encode_utf8, ap, ◌∙◌}
+use Rattle.std.proofs.Common.{◌≡◌, ℕ, List, [], ◌∷◌, ◌++◌, ap, ◌∙◌}
 use Rattle.std.proofs.lemmas.Grind.{flat_map-append}
 use Rattle.std.proofs.lemmas.List.{append_assoc, append-nil}
-use Rattle.std.proofs.lemmas.Str.{encode_ascii}
 use Rattle.std.specs.List.{flat_map}
 
 pub one_more : {A : Type 0} (f : A → List ℕ) (xs : List A) (x : A) → flat_map f (xs ++ x ∷ []) ≡ flat_map f xs ++ f x
@@ -19,7 +18,3 @@ three start now next last a b c first second third = behind start now last a (b 
 pub four : {A : Type 0} (start now next more last a b c d : List A) → now ≡ start ++ a → next ≡ now ++ b → more ≡ next ++ c → last ≡ more ++ d → last ≡ start ++ (a ++ (b ++ (c ++ d)))
 four start now next more last a b c d first second third fourth =
     behind start now last a (b ++ (c ++ d)) first (three now next more last b c d second third fourth)
-
--- a character of one byte
-pub ascii : (c : ℕ) → c < 128 → encode_utf8 c ≡ c ∷ []
-ascii c low = encode_ascii c low

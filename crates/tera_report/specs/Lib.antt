@@ -2,4 +2,3 @@ pub mod Annotations
 pub mod Laws
 pub mod Logs
 pub mod Told
-pub mod Uris

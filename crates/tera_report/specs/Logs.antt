@@ -1,6 +1,7 @@
 -- Logs in SARIF 2.1.0, as tokens of JSON.
 use Rattle.std.specs.Prelude.{ℕ, List, [], ◌∷◌, ◌++◌, codes}
 use Rattle.std.specs.List.{flat_map}
+use Rattle.file_uris.specs.Encoding.{encoded_path}
 use Rattle.json.specs.Token.{Token, begin_object, end_object, begin_array, end_array, key}
 use Rattle.tera_base.specs.declared.utils.Span.{Span}
 use Rattle.tera_check.specs.Findings.{NoteVal, NoteOf, FindingVal, FindingOf, kind_name}
@@ -8,7 +9,6 @@ use Rattle.tera_check.specs.Objects.{text_member, number_member}
 use Rattle.tera_check.specs.declared.finding.Kind.{Kind}
 use Rattle.tera_check.specs.declared.finding.Kind.TheVariants.{Fault, UndefinedComponent, MissingArgument, UnknownArgument, WrongType, DefinedAgain}
 use Rattle.tera_report.specs.Annotations.{column_of}
-use Rattle.tera_report.specs.Uris.{uri_text}
 
 -- where a member begins that is an object, and one that is an array
 abbrev pub object_begin : List ℕ → List Token
@@ -44,7 +44,7 @@ artifact uri = object_member (codes "artifactLocation") (text_member (codes "uri
 
 -- a span of a file
 abbrev pub place : List ℕ → Span → List Token
-place file s = object_begin (codes "physicalLocation") ++ (artifact (uri_text file) ++ (region s ++ (end_object ∷ [])))
+place file s = object_begin (codes "physicalLocation") ++ (artifact (encoded_path file) ++ (region s ++ (end_object ∷ [])))
 
 abbrev pub message : List ℕ → List Token
 message text = object_member (codes "message") (text_member (codes "text") text)

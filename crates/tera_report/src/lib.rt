@@ -1,9 +1,9 @@
 //! Findings as text: for people, for workflows of GitHub and for services that read SARIF.
 //!
 //! It takes findings of `tera_check`, and puts them at the end of a text (`told`, `github`) or into a log (`sarif`). It
-//! stands on `tera_check` and `terminal_text`; of the kit on `json`.
+//! stands on `tera_check`, `terminal_text` and `file_uris`; of the kit on `json`.
 //!
-//! In the order of reading: spec `Told`, `severity` and `told`; specs `Annotations` and `github`; `Uris` and `uris`; `Logs`
+//! In the order of reading: spec `Told`, `severity` and `told`; specs `Annotations` and `github`; `Logs`
 //! and `sarif`; `laws`.
 #![tactic(auto)]
 
@@ -12,7 +12,6 @@ pub mod laws;
 mod sarif;
 mod severity;
 mod told;
-mod uris;
 
 pub use github::push_annotation;
 pub use sarif::{begin_log, end_log, put_result};

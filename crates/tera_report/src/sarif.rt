@@ -2,13 +2,13 @@
 
 ghost use Rattle.std.specs.Prelude.{◌≡◌, ◌++◌, map, OnOk};
 ghost use Rattle.std.specs.List.{flat_map};
+ghost use Rattle.file_uris.specs.Encoding.{encoded_path};
 ghost use Rattle.tera_check.specs.Findings.{finding_view, note_view};
 ghost use Rattle.tera_check.specs.Objects.{text_member, number_member};
 ghost use Rattle.tera_report.specs.Logs.{object_begin, array_begin, corner, region, artifact, place, message, object, locations, note_members, note_object, notes_member, kind_member, head, members, result_object, rule, rules, names, driver, tool, form, run_begin, log_begin, log_end};
-ghost use Rattle.tera_report.specs.Uris.{uri_text};
 
 use crate::github::column;
-use crate::uris::uri_of;
+use file_uris::reference_of;
 use json::Writer;
 use std::alloc::{AllocError, Global};
 use tera_base::Span;
@@ -234,10 +234,10 @@ fn put_place(alloc: Global, out: &mut Writer, file: &str, span: &Span) -> Result
 
 fn put_file(alloc: Global, out: &mut Writer, file: &str) -> Result<(), AllocError>
     ensures tokens { OnOk result (out.new.tokens
-        ≡ out.old.tokens ++ artifact (uri_text file.now)) }
+        ≡ out.old.tokens ++ artifact (encoded_path file.now)) }
     ensures before { out.new.before ≡ out.old.before }
 {
-    let uri = uri_of(alloc, file)?;
+    let uri = reference_of(alloc, file)?;
     put_artifact(out, uri.as_str())
 }
 
