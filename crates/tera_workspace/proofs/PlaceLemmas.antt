@@ -15,7 +15,7 @@ use Rattle.tera_workspace.specs.declared.diagnostics.Related.{Related}
 
 -- ---- a test of texts
 
-false_true : false ≡ true → ⊥
+pub false_true : false ≡ true → ⊥
 false_true e = cc
 
 pub apart : (a n : List ℕ) → bytes_eq a n ≡ false → a ≢ n

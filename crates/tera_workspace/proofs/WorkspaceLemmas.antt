@@ -8,7 +8,7 @@ use Rattle.text_documents.specs.Documents.{DocumentVal, text_of}
 use Rattle.text_documents.specs.Stored.{document_of, IsChangedAt, AreSame}
 use Rattle.text_documents.specs.declared.documents.Documents.{Documents}
 use Rattle.tera_workspace.specs.Fresh.{AreFresh}
-use Rattle.tera_workspace.specs.Kept.{sources_of, told_named, AllWhole, AreCurrent, StayKept}
+use Rattle.tera_workspace.specs.Kept.{sources_of, told_of, told_named, AllWhole, AreCurrent, StayKept}
 use Rattle.tera_workspace.specs.Names.{is_among}
 use Rattle.tera_workspace.specs.Sources.{Source, AreAscending, text_named}
 use Rattle.tera_workspace.specs.Told.{AreNews, told_each}
@@ -16,7 +16,8 @@ use Rattle.tera_workspace.specs.Workspaces.{IsKept, IsSettled}
 use Rattle.tera_workspace.specs.declared.judged.Judged.{Judged}
 use Rattle.tera_workspace.specs.declared.workspace.Workspace.{Workspace}
 use Rattle.tera_workspace.proofs.NameSets.{among_append}
-use Rattle.tera_workspace.proofs.PlaceLemmas.{first_false, second_false}
+use Rattle.tera_workspace.specs.Diagnostics.{DiagnosticVal}
+use Rattle.tera_workspace.proofs.PlaceLemmas.{first_false, second_false, false_true}
 use Rattle.tera_workspace.proofs.SettleLemmas.{News, told_sources, told_whole, all_told, now_current, all_fresh}
 
 -- those that are not among the names that changed are what they were
@@ -84,6 +85,16 @@ each_text changed text before now kept stays read n = by_test (is_among n change
 
 -- ---- all was told
 
+-- of what is not among the names nothing was told
+not_here : (here : Bool) (one more : List DiagnosticVal) (rest : Bool) → (if here then true else rest) ≡ false → (rest ≡ false → more ≡ []) → cond here one more ≡ []
+not_here true one more rest free h = absurd (false_true (sym free))
+not_here false one more rest free h = h free
+
+untold : (n : List ℕ) (js : List Judged) → is_among n (map (λ s. s.name) (sources_of js)) ≡ false → told_named n js ≡ []
+untold n [] free = refl
+untold n (j ∷ js) free =
+    not_here (bytes_eq (string_bytes j.template.file) n) (told_of j) (told_named n js) (is_among n (map (λ s. s.name) (sources_of js))) free (untold n js)
+
 pub is_settled : (w : Workspace) (js : List Judged) (news : List News) → w.judged.items ≡ told_each js news → AllWhole js → AreAscending (sources_of js) → AreCurrent w.encoding js → AreNews w.encoding js news
     → ((n : List ℕ) → text_named n (sources_of js) ≡ unwrap_or (text_of (document_of w.documents n)) []) → IsSettled w
 is_settled w js news is whole ordered current are texts = record {
@@ -93,6 +104,7 @@ is_settled w js news is whole ordered current are texts = record {
       subst (λ (xs : List Judged). AreFresh w.encoding (sources_of js) (λ n. told_named n xs)) (sym is)
       (subst (λ (ss : List Source). AreFresh w.encoding ss (λ n. told_named n (told_each js news))) (told_sources js news)
       (all_fresh w.encoding (told_each js news) (told_whole js news whole) (subst AreAscending (sym (told_sources js news)) ordered) (all_told w.encoding js news current are)));
+  others = λ n free. untold n w.judged.items (subst (λ (ss : List Source). is_among n (map (λ s. s.name) ss) ≡ false) (sym (ap sources_of is ∙ told_sources js news)) free);
 }
 
 pub kept_settled : (w : Workspace) (js : List Judged) (news : List News) → w.judged.items ≡ told_each js news → AllWhole js → AreAscending (sources_of js) → AreCurrent w.encoding js → AreNews w.encoding js news

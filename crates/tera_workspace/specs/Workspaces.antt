@@ -20,11 +20,12 @@ pub record IsKept (w : Workspace) : Type 0 where
   pub current : AreCurrent w.encoding w.judged.items
   pub texts : (n : List ℕ) → is_among n (map string_bytes w.changed.items) ≡ false → text_named n (sources_of w.judged.items) ≡ unwrap_or (text_of (document_of w.documents n)) []
 
--- what was told is what is found afresh in the documents as they are, wherever that is computed
+-- what was told is what is found afresh in the documents as they are, wherever that is computed, and of others nothing
 pub record IsSettled (w : Workspace) : Type 0 where
   pub sources : List Source
   pub are : AreSources w.documents sources
   pub fresh : AreFresh w.encoding sources (told_of_name w)
+  pub others : (n : List ℕ) → is_among n (map (λ s. s.name) sources) ≡ false → told_of_name w n ≡ []
 
 -- in their order, the names under which another list is told now than before
 pub record AreOthers (names : List (List ℕ)) (before now : List ℕ → List DiagnosticVal) : Type 0 where
