@@ -71,13 +71,8 @@ fn item_value(item: ArrayEntry) -> Option<Value>
 pub fn constant(expression: Expression) -> Option<Value>
     ensures { option_map value_view result ≡ constant_of (expression_view expression) }
 {
-    match expression {
-        Expression::Const(constant) => {
-            let (value, _span) = constant.into_parts();
-            Some(value)
-        }
-        _other => None,
-    }
+    let (value, _span) = expression.into_constant()?.into_parts();
+    Some(value)
 }
 
 /// A map, which is a constant where its entries are. The only refusal is `Memory`.

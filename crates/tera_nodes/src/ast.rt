@@ -3,7 +3,9 @@
 //! A struct that holds expressions alone, or nodes alone, is declared for every type of them and has its
 //! name as an alias: so the types that hold one another stay few.
 
-ghost use Rattle.std.specs.Prelude.{◌≡◌};
+ghost use Rattle.std.specs.Prelude.{◌≡◌, MatchResult};
+ghost use Rattle.tera_nodes.specs.declared.ast.Node.TheVariants as nodes;
+ghost use Rattle.tera_nodes.specs.Parts.{constant_in};
 
 use std::collections::BTreeMap;
 use tera_base::{Key, Spanned, Value};
@@ -41,7 +43,7 @@ pub enum BinaryOperator {
 
 /// An expression.
 #[cycle(ast)]
-#[derive(Debug, Drop)]
+#[derive(Debug)]
 pub enum Expression {
     Const(Spanned<Value>),
     Array(Spanned<Array>),
@@ -60,9 +62,45 @@ pub enum Expression {
     BinaryOperation(Spanned<BinaryOperation>),
 }
 
+impl Expression {
+    /// The constant that it is, if it is one.
+    pub fn into_constant(self) -> Option<Spanned<Value>>
+        ensures { result ≡ constant_in self }
+    {
+        match self {
+            Expression::Const(constant) => Some(constant),
+            _other => None,
+        }
+    }
+}
+
+// What is dropped of a tree is dropped by these, so that a crate that owns one has no drops of its parts to prove.
+impl Drop for Expression {
+    #[cycle(drops)]
+    fn drop(self) {
+        match self {
+            Expression::Const(it) => drop(it),
+            Expression::Array(it) => drop(it),
+            Expression::Map(it) => drop(it),
+            Expression::Var(it) => drop(it),
+            Expression::GetAttr(it) => drop(it),
+            Expression::GetItem(it) => drop(it),
+            Expression::Slice(it) => drop(it),
+            Expression::Filter(it) => drop(it),
+            Expression::Test(it) => drop(it),
+            Expression::Ternary(it) => drop(it),
+            Expression::ListComprehension(it) => drop(it),
+            Expression::ComponentCall(it) => drop(it),
+            Expression::FunctionCall(it) => drop(it),
+            Expression::UnaryOperation(it) => drop(it),
+            Expression::BinaryOperation(it) => drop(it),
+        }
+    }
+}
+
 /// A node of a template.
 #[cycle(ast)]
-#[derive(Debug, Drop)]
+#[derive(Debug)]
 pub enum Node {
     Content(String),
     Expression(Expression),
@@ -75,6 +113,36 @@ pub enum Node {
     Continue,
     If(If),
     FilterSection(FilterSection),
+}
+
+impl Node {
+    // The `if` that it is, or the node.
+    fn into_if(self) -> Result<If, Node>
+        ensures { MatchResult result (λ i. self ≡ nodes.If i) (λ n. n ≡ self) }
+    {
+        match self {
+            Node::If(chosen) => Ok(chosen),
+            other => Err(other),
+        }
+    }
+}
+
+impl Drop for Node {
+    #[cycle(drops)]
+    fn drop(self) {
+        match self {
+            Node::Content(it) => drop(it),
+            Node::Expression(it) => drop(it),
+            Node::Set(it) => drop(it),
+            Node::BlockSet(it) => drop(it),
+            Node::Include(it) => drop(it),
+            Node::Block(it) => drop(it),
+            Node::ForLoop(it) => drop(it),
+            Node::If(it) => drop(it),
+            Node::FilterSection(it) => drop(it),
+            Node::Break | Node::Continue => {}
+        }
+    }
 }
 
 /// A call of a component, with its body if it is not closed at once.
@@ -145,7 +213,10 @@ impl Drop for If {
                 mut false_body,
             } = self;
             match false_body.pop() {
-                Some(Node::If(next)) if false_body.is_empty() => self = next,
+                Some(last) if false_body.is_empty() => match last.into_if() {
+                    Ok(next) => self = next,
+                    Err(_last) => return,
+                },
                 Some(_last) => return,
                 None => return,
             }

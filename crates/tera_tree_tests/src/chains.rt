@@ -1,10 +1,11 @@
-//! A long chain of `elif`s, which is taken apart.
+//! A choice and its parts, and a long chain of `elif`s, which is taken apart.
 
 use crate::making::{Made, both, one, variable};
 use std::alloc::Global;
+use std::mem;
 use std::test::Fail;
 use tera_base::Span;
-use tera_tree::{Node, build};
+use tera_tree::{If, Node, build};
 
 // A choice with this behind it.
 fn choice(alloc: Global, behind: Made<Vec<Node>>) -> Made<Node> {
@@ -21,14 +22,14 @@ fn chain(alloc: Global, conditions: u32) -> Made<Vec<Node>> {
     nodes
 }
 
-// How many choices stand in the chain, each alone behind the one before. The chain is taken apart.
-fn taken_apart(mut nodes: Vec<Node>) -> usize {
+// How many choices stand in the chain, each alone behind the one before. Each is taken out of the one that holds it.
+fn taken_apart(alloc: Global, mut nodes: Vec<Node>) -> usize {
     for count in 0..20000 {
-        match nodes.pop() {
-            Some(Node::If(choice)) => {
-                let (_condition, _body, behind) = choice.into_parts();
-                nodes = behind;
-            }
+        let Some(mut node) = nodes.pop() else {
+            return count;
+        };
+        match &mut node {
+            Node::If(choice) => nodes = mem::replace(&mut choice.false_body, Vec::new(alloc)),
             _ => return count,
         }
     }
@@ -38,6 +39,26 @@ fn taken_apart(mut nodes: Vec<Node>) -> usize {
 #[test]
 fn a_long_chain_is_taken_apart(rt: HostRuntime) -> Result<(), Fail> {
     let nodes = chain(rt.alloc(), 10001)?;
-    assert_eq!(rt; taken_apart(nodes), 10001);
+    assert_eq!(rt; taken_apart(rt.alloc(), nodes), 10001);
+    Ok(())
+}
+
+#[test]
+fn a_choice_has_three_parts(rt: HostRuntime) -> Result<(), Fail> {
+    let alloc = rt.alloc();
+    let parts = both(
+        variable(alloc, "a", Span::default()),
+        one(alloc, Ok(Node::Break)),
+    );
+    let (expr, body) = parts?;
+    let false_body = Vec::new(alloc);
+    let (condition, body, behind) = If {
+        expr,
+        body,
+        false_body,
+    }
+    .into_parts();
+    assert!(rt; !condition.is_literal());
+    assert_eq!(rt; (body.len(), behind.len()), (1, 0));
     Ok(())
 }
