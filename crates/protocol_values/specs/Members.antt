@@ -1,5 +1,5 @@
 -- What stands in JSON values that may be absent.
-use Rattle.std.specs.Prelude.{◌&&◌, ◌^◌, nat_lt, if◌then◌else◌, ℕ, List, [], ◌∷◌, Bool, true, false, length, Option, None, Some}
+use Rattle.std.specs.Prelude.{◌&&◌, ◌^◌, nat_lt, if◌then◌else◌, ℕ, List, [], ◌∷◌, Bool, true, false, length, Option, None, Some, unwrap_or}
 use Rattle.std.specs.Borrow.{Bor}
 use Rattle.std.specs.Char.{digit_value}
 use Rattle.std.specs.Option.{option_map, option_and_then}
@@ -21,17 +21,17 @@ member_of name j = option_and_then (get name) j
 abbrev pub text_in : Option Json → Option (List ℕ)
 text_in j = option_and_then as_str j
 
--- the items of an array; of what is none no items
+-- the items of an array
 abbrev pub listed : Items → List Json
 listed no_items = []
 listed (item j js) = j ∷ listed js
 
-abbrev pub listed_if : Option Items → List Json
-listed_if None = []
-listed_if (Some js) = listed js
+abbrev pub array_in : Option Json → Option (List Json)
+array_in j = option_map listed (option_and_then as_array j)
 
+-- .. and no items of what is none
 abbrev pub items_in : Option Json → List Json
-items_in j = listed_if (option_and_then as_array j)
+items_in j = unwrap_or (array_in j) []
 
 -- `true`
 abbrev pub is_true : Option Bool → Bool

@@ -8,7 +8,7 @@ use Rattle.text_edits.specs.Edits.{ChangeView, NewText, NewPart}
 use Rattle.text_edits.specs.declared.positions.Encoding.{Encoding}
 use Rattle.text_edits.specs.declared.positions.Encoding.TheVariants.{Utf8, Utf16, Utf32}
 use Rattle.text_edits.specs.declared.positions.Position.{Position}
-use Rattle.protocol_values.specs.Members.{member_of, text_in, number_in, items_in}
+use Rattle.protocol_values.specs.Members.{member_of, text_in, number_in, array_in, items_in}
 
 -- a line and a character
 abbrev pub position_in : Option Json → Option Position
@@ -40,7 +40,7 @@ each_change [] = Some []
 each_change (j ∷ js) = option_and_then (λ change. option_map (λ changes. change ∷ changes) (each_change js)) (change_in j)
 
 abbrev pub changes_in : Option Json → Option (List ChangeView)
-changes_in j = each_change (items_in j)
+changes_in j = option_and_then each_change (array_in j)
 
 -- whether a text is offered
 abbrev pub is_text : List ℕ → Option (List ℕ) → Bool

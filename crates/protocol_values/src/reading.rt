@@ -1,10 +1,10 @@
 //! Values that are read.
 
-ghost use Rattle.std.specs.Prelude.{◌≡◌, [], Some, None, IfOk, MatchOption, map, option_map};
+ghost use Rattle.std.specs.Prelude.{◌≡◌, Some, None, IfOk, MatchOption, map, option_map};
 ghost use Rattle.json.specs.Find.{as_array};
 ghost use Rattle.json.specs.Value.{value_view, items_view};
 ghost use Rattle.text_edits.specs.Edits.{change_view};
-ghost use Rattle.protocol_values.specs.Members.{seen, member_of, text_in, items_in, is_set, number_in};
+ghost use Rattle.protocol_values.specs.Members.{seen, member_of, text_in, array_in, items_in, is_set, number_in};
 ghost use Rattle.protocol_values.specs.Reading.{position_in, part_in, is_told, change_in, each_change, changes_in, is_text, offers, encoding_in};
 
 use json::Value;
@@ -50,20 +50,18 @@ pub fn is_set(value: Option<&Value<'_>>) -> bool
 
 /// The items, where there is an array.
 pub fn items_of<'m, 'a>(value: Option<&'m Value<'a>>) -> Option<&'m [Value<'a>]>
-    ensures { MatchOption result (items_in (seen value.entry) ≡ [])
-        (λ items. map value_view items.now ≡ items_in (seen value.entry)) }
+    ensures { option_map (λ items. map value_view items.now) result ≡ array_in (seen value.entry) }
 {
-    items_in(value?)
+    array_of(value?)
 }
 
-fn items_in<'m, 'a>(value: &'m Value<'a>) -> Option<&'m [Value<'a>]>
-    ensures { MatchOption result (items_in (Some (value_view value.now)) ≡ [])
-        (λ items. map value_view items.now ≡ items_in (Some (value_view value.now))) }
+fn array_of<'m, 'a>(value: &'m Value<'a>) -> Option<&'m [Value<'a>]>
+    ensures { option_map (λ items. map value_view items.now) result ≡ array_in (Some (value_view value.now)) }
 {
-    array_in(value)
+    as_array(value)
 }
 
-fn array_in<'m, 'a>(value: &'m Value<'a>) -> Option<&'m [Value<'a>]>
+fn as_array<'m, 'a>(value: &'m Value<'a>) -> Option<&'m [Value<'a>]>
     ensures { MatchOption result (as_array (value_view value.now) ≡ None)
         (λ items. as_array (value_view value.now) ≡ Some (items_view items.now)) }
 {
@@ -85,7 +83,7 @@ pub fn position_of(value: Option<&Value<'_>>) -> Option<Position>
     })
 }
 
-/// The changes of a text, in order; none where one of them is malformed.
+/// The changes of a text, in order; none where one of them is malformed, or there is no array.
 pub fn changes_of<'a>(
     alloc: Global,
     value: Option<&Value<'a>>,
@@ -94,7 +92,7 @@ pub fn changes_of<'a>(
 {
     match items_of(value) {
         Some(items) => each_change(alloc, items),
-        None => Ok(Some(Vec::new(alloc))),
+        None => Ok(None),
     }
 }
 

@@ -88,6 +88,8 @@ fn malformed_changes_are_none(rt: HostRuntime) -> Result<(), Fail> {
         "[{\"text\":\"x\"},{\"range\":{\"start\":{\"line\":0}},\"text\":\"y\"}]",
         "[{\"text\":7}]",
         "[7]",
+        "{}",
+        "null",
     ] {
         let are = are_changes(alloc, String::from_str(alloc, text)?)?;
         assert!(rt; !are, "of {text}");
