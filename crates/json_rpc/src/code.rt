@@ -18,7 +18,7 @@ pub enum Code {
     InvalidParams,
     /// -32603: no memory was found for it.
     InternalError,
-    /// -32002: a request before `initialize`.
+    /// -32002: a request before the server was initialized.
     ServerNotInitialized,
     /// -32803: the request is as it should be, and cannot be answered now.
     RequestFailed,

@@ -40,7 +40,7 @@ pub fn one_value()
         IsOneValue (request id method j) }
 {}
 
-/// A request is read as this request, a notification as this notification, and an answer as a response.
+/// A request is read as this request, a notification as this notification, and an answer and a refusal as a response.
 pub fn read_back()
     ensures request { (id : IdVal) (method : List ℕ) (j : Json) → IsId id → id ≢ NullId → IsPart j →
         IsUtf8 (body (request id method j)) →

@@ -87,7 +87,7 @@ impl Outbox {
         self.reserve.is_empty()
     }
 
-    /// Adds a notification or a request. Where the reserve is not free it is refused for want of memory.
+    /// Adds a message. Where the reserve is not free it is refused for want of memory.
     pub fn push(&mut self, message: Vec<u8>) -> Result<(), AllocError>
         ensures ok { OnOk result (self.new ≡ more self.old message.items) }
         ensures err { OnErr result (self.new ≡ self.old) }
@@ -100,7 +100,7 @@ impl Outbox {
     }
 
     /// Answers a request by its result, a message that [`crate::begin_answer`] began, or refuses it. Where no memory
-    /// is found for that, the request is refused for want of memory, and the reserve is not free from then on.
+    /// is found for that, it is refused for want of memory, in the reserve, which is not free from then on.
     pub fn answer(&mut self, alloc: Global, id: &Id<'_>, result_or_code: Result<Vec<u8>, Code>)
         requires { IsTrue self.old.reserved }
         ensures { MatchResult result_or_code
