@@ -9,7 +9,8 @@ use std::alloc::{AllocError, Global};
 
 const SCHEME: &str = "file://";
 
-/// The name of a document by its URI: the path, where it is a file on this machine, and else the URI itself.
+/// The name of a document by its URI: what stands behind `file://`, decoded, where that begins with a slash, and else the
+/// URI itself.
 pub fn name_of(alloc: Global, uri: &str) -> Result<String, AllocError>
     ensures { IfOk result (λ name. IsNameOf uri.now (string_bytes name)) }
 {

@@ -25,8 +25,8 @@ pub fn is_left_out(name: &str) -> bool
     name.starts_with('.') || name == "node_modules"
 }
 
-// How paths in a folder begin.
-fn base_of(folder: &str) -> &str
+/// How paths in a folder begin.
+pub(crate) fn base_of(folder: &str) -> &str
     ensures { IsBase folder.now result.now }
 {
     if folder == "." {

@@ -83,7 +83,7 @@ pub(crate) fn command<'a>(alloc: Global) -> Result<Command<'a>, AllocError> {
 }
 
 fn check<'a>(alloc: Global) -> Result<Command<'a>, AllocError> {
-    Command::new(alloc, "check")
+    let command = Command::new(alloc, "check")
         .about("Finds faults of templates, and components that are wrongly defined or called")
         .after_help(OF_CHECK)
         .arg(choice(
@@ -99,16 +99,12 @@ fn check<'a>(alloc: Global) -> Result<Command<'a>, AllocError> {
             "library",
             "PATH",
             "A file or folder whose components may be called, and which is not checked itself",
-        ))?
-        .arg(stdin_filename(alloc))?
-        .arg(colour(alloc))?
-        .arg(quiet(alloc))?
-        .arg(extension(alloc))?
-        .arg(files(alloc))
+        ))?;
+    with_files(alloc, command)
 }
 
 fn format<'a>(alloc: Global) -> Result<Command<'a>, AllocError> {
-    Command::new(alloc, "format")
+    let command = Command::new(alloc, "format")
         .about("Lays out the white space in tags, and changes nothing else")
         .after_help(OF_FORMAT)
         .arg(flag(
@@ -122,16 +118,12 @@ fn format<'a>(alloc: Global) -> Result<Command<'a>, AllocError> {
             "markers",
             "WORDS",
             "Six other markers in one word, as '[% %] [[ ]] [# #]'",
-        ))?
-        .arg(stdin_filename(alloc))?
-        .arg(colour(alloc))?
-        .arg(quiet(alloc))?
-        .arg(extension(alloc))?
-        .arg(files(alloc))
+        ))?;
+    with_files(alloc, command)
 }
 
 fn components<'a>(alloc: Global) -> Result<Command<'a>, AllocError> {
-    Command::new(alloc, "components")
+    let command = Command::new(alloc, "components")
         .about("Lists components with their parameters and a call to copy")
         .after_help(OF_COMPONENTS)
         .arg(choice(
@@ -141,12 +133,8 @@ fn components<'a>(alloc: Global) -> Result<Command<'a>, AllocError> {
             CATALOGUES.as_slice(),
             "json",
             "How they are listed",
-        ))?
-        .arg(stdin_filename(alloc))?
-        .arg(colour(alloc))?
-        .arg(quiet(alloc))?
-        .arg(extension(alloc))?
-        .arg(files(alloc))
+        ))?;
+    with_files(alloc, command)
 }
 
 fn tree<'a>(alloc: Global) -> Result<Command<'a>, AllocError> {
@@ -166,6 +154,16 @@ fn tree<'a>(alloc: Global) -> Result<Command<'a>, AllocError> {
                 .default_value("-")
                 .help("A file, or - for standard input"),
         )
+}
+
+// What is told of the files, by each command that reads several.
+fn with_files<'a>(alloc: Global, command: Command<'a>) -> Result<Command<'a>, AllocError> {
+    command
+        .arg(stdin_filename(alloc))?
+        .arg(colour(alloc))?
+        .arg(quiet(alloc))?
+        .arg(extension(alloc))?
+        .arg(files(alloc))
 }
 
 fn flag<'a>(alloc: Global, name: &'a str, help: &'a str) -> Arg<'a> {

@@ -56,7 +56,7 @@ impl Templates {
         Ok(())
     }
 
-    /// Leaves their memory to the process, which ends soon: to give it back tree by tree takes a tenth of the time.
+    /// Leaves their memory to the process, which ends soon: to give it back tree by tree takes a tenth of the instructions.
     pub(crate) fn forget(self) {
         mem::forget(self);
     }
