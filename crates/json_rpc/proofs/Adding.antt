@@ -8,11 +8,6 @@ pub adds_within : {E : Type 0} {r : Result (Unit {0}) E} {old new : Vec ℕ Glob
 adds_within {r = Ok u} n a h = record { ok = a.ok; len = omega (arith, a.len, h); capacity = a.capacity; full = a.full }
 adds_within {r = Err e} n a h = record { ok = a.ok; len = a.len; capacity = a.capacity; full = omega (arith, a.full, h) }
 
--- what failed has added none of what was wanted
-pub adds_no : {E : Type 0} {e : E} {old new : Vec ℕ Global} {xs : List ℕ} {m : ℕ} (ys : List ℕ) (n : ℕ) →
-    Adds (Err e) old new xs m → m ≤ n → Adds (Err e) old new ys n
-adds_no ys n a h = record { ok = tt; len = tt; capacity = a.capacity; full = omega (arith, a.full, h) }
-
 pub adds_more : {E : Type 0} {u : Unit {0}} {r : Result (Unit {0}) E} {old mid new : Vec ℕ Global} {xs ys : List ℕ} {m n : ℕ} →
     Adds {E = E} (Ok u) old mid xs m → Adds r mid new ys n → Adds r old new (xs ++ ys) (m + n)
 adds_more {r = Ok u} {old = old} {xs = xs} {ys = ys} a b = record {

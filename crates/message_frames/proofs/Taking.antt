@@ -100,11 +100,6 @@ piece_taken limit stream piece now new held pushed after so_far push all =
       partial = more.partial;
     }
 
-pub is_split : (limit : ℕ) (stream : List ℕ) (now : List Frame) (held : Held) → AllTaken limit stream [] now held
-    → (items : List Item) × (rest : List ℕ) × Splits stream items rest × (map shown now ≡ map (frame_of limit) items)
-is_split limit stream now held all =
-    (all.taken.items, all.taken.rest, record { whole = all.taken.begins; partial = all.partial }, all.taken.told)
-
 pub no_other : (limit : ℕ) (stream : List ℕ) (now : List Frame) (held : Held) → AllTaken limit stream [] now held
     → (items : List Item) (rest : List ℕ) → Splits stream items rest → map shown now ≡ map (frame_of limit) items
 no_other limit stream now held all items rest splits =

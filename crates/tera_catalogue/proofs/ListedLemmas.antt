@@ -6,10 +6,8 @@ use Rattle.std.specs.Ordering.{is_lt}
 use Rattle.std.proofs.lemmas.Cmp.{nat_cmp_total, nat_list_cmp_total, on_total, then_total}
 use Rattle.std.proofs.lemmas.List.{get_or-map, length-map, map-append}
 use Rattle.std.proofs.lemmas.List.Sorted.{ranks_by}
-use Rattle.tera_tree.specs.View.{definition_view}
-use Rattle.tera_tree.specs.declared.ast.ComponentDefinition.{ComponentDefinition}
 use Rattle.tera_check.specs.Judged.{KnownVal}
-use Rattle.tera_check.specs.Named.{known_at, defined_from, defined_in, defined_by}
+use Rattle.tera_check.specs.Named.{defined_in, defined_by}
 use Rattle.tera_check.specs.declared.templates.Template.{Template}
 use Rattle.tera_catalogue.specs.Listed.{Rank, rank_cmp}
 
@@ -27,17 +25,6 @@ template_next ts i t before now all h is held step =
     let next : i + 1 ≡ suc i = omega arith in
     let here : all ≡ before ++ defined_by i (t ∷ drop (suc i) ts) = held ∙ ap (λ us. before ++ defined_by i us) (drop_next ts i t h is) in
     rw next (joined all before now (defined_in i t) (defined_by (suc i) (drop (suc i) ts)) here step)
-
--- definitions
-pub definition_next : (number : ℕ) (t : Template) (ds : List ComponentDefinition) (i : ℕ) (d : ComponentDefinition) (before now all : List KnownVal) → i < length ds → d ≡ get_or ds i d
-    → all ≡ before ++ defined_from number t i (map definition_view (drop i ds))
-    → now ≡ before ++ known_at number t i (definition_view d) ∷ []
-    → all ≡ now ++ defined_from number t (i + 1) (map definition_view (drop (i + 1) ds))
-definition_next number t ds i d before now all h is held step =
-    let next : i + 1 ≡ suc i = omega arith in
-    let here : all ≡ before ++ defined_from number t i (map definition_view (d ∷ drop (suc i) ds)) =
-    held ∙ ap (λ es. before ++ defined_from number t i (map definition_view es)) (drop_next ds i d h is) in
-    rw next (joined all before now (known_at number t i (definition_view d) ∷ []) (defined_from number t (suc i) (map definition_view (drop (suc i) ds))) here step)
 
 -- what is told of them
 pub told_next : {W X Y Z : Type 0} (h : X → Z) (f : W → X) (g : Y → Z) (xs : List W) (i : ℕ) (x : W) (before : List Y) (y : Y) (now : List Y) → i < length xs → x ≡ get_or xs i x

@@ -1,15 +1,11 @@
 -- The first component of each name, one by one.
-use Rattle.std.proofs.Common.{◌≡◌, ◌∙◌, ◌≤◌, ◌<◌, ◌+◌, ℕ, zero, suc, List, [], ◌∷◌, ◌++◌, length, drop, get_or, map, Bool, true, false, cond, Option, None, Some, is_some, refl, sym, ap, arith, drop-cons, append_assoc, append-nil}
+use Rattle.std.proofs.Common.{◌≡◌, ◌∙◌, ◌<◌, ◌+◌, ℕ, suc, List, [], ◌∷◌, ◌++◌, length, drop, get_or, Bool, true, false, cond, Option, None, Some, is_some, refl, sym, ap, arith, drop-cons}
 use Rattle.std.specs.Option.{option_map}
-use Rattle.tera_tree.specs.View.{definition_view}
-use Rattle.tera_tree.specs.declared.ast.ComponentDefinition.{ComponentDefinition}
-use Rattle.tera_check.specs.Findings.{FindingVal}
 use Rattle.tera_check.specs.declared.catalogue.Known.{Known}
-use Rattle.tera_base.specs.declared.utils.Span.{Span}
 use Rattle.std.specs.Str.{bytes_eq}
 use Rattle.std.proofs.lemmas.Slice.Eq.{bytes_eq-Decides}
-use Rattle.tera_check.specs.Judged.{KnownVal, known_view, defined_again, again_findings}
-use Rattle.tera_check.specs.Named.{known_at, defined_from, defined_in, defined_by, first_named, or_else}
+use Rattle.tera_check.specs.Judged.{KnownVal, known_view}
+use Rattle.tera_check.specs.Named.{defined_in, defined_by, first_named, or_else}
 use Rattle.tera_check.specs.declared.templates.Template.{Template}
 
 pub or_none : (o : Option KnownVal) → or_else o None ≡ o
@@ -73,12 +69,6 @@ added known k n name now named none is =
 
 -- ---- a list from one of its places on
 
-drop_end : {X : Type 0} (xs : List X) (i : ℕ) → length xs ≤ i → drop i xs ≡ []
-drop_end [] zero h = refl
-drop_end [] (suc i) h = refl
-drop_end (x ∷ xs) zero h = absurd (omega arith)
-drop_end (x ∷ xs) (suc i) h = drop_end xs i (omega arith)
-
 drop_next : {X : Type 0} (xs : List X) (i : ℕ) (x : X) → i < length xs → x ≡ get_or xs i x → drop i xs ≡ x ∷ drop (suc i) xs
 drop_next xs i x h is = drop-cons xs i x h ∙ ap (λ y. y ∷ drop (suc i) xs) (sym is)
 
@@ -90,42 +80,3 @@ template_next n ts i t before now all h is held step =
     let next : i + 1 ≡ suc i = omega arith in
     let here : all ≡ or_else before (first_named n (defined_by i (t ∷ drop (suc i) ts))) = held ∙ ap (λ us. or_else before (first_named n (defined_by i us))) (drop_next ts i t h is) in
     rw next (more_known n before now all (defined_in i t) (defined_by (suc i) (drop (suc i) ts)) here step)
-
-pub templates_done : (n : List ℕ) (ts : List Template) (i : ℕ) (now all : Option KnownVal) → length ts ≤ i
-    → all ≡ or_else now (first_named n (defined_by i (drop i ts))) → now ≡ all
-templates_done n ts i now all h held = sym (held ∙ ap (λ us. or_else now (first_named n (defined_by i us))) (drop_end ts i h) ∙ or_none now)
-
--- definitions
-module _ (number : ℕ) (t : Template) where
-  pub definition_next : (n : List ℕ) (ds : List ComponentDefinition) (i : ℕ) (d : ComponentDefinition) (before now all : Option KnownVal) → i < length ds → d ≡ get_or ds i d
-      → all ≡ or_else before (first_named n (defined_from number t i (map definition_view (drop i ds))))
-      → now ≡ or_else before (first_named n (known_at number t i (definition_view d) ∷ []))
-      → all ≡ or_else now (first_named n (defined_from number t (i + 1) (map definition_view (drop (i + 1) ds))))
-  definition_next n ds i d before now all h is held step =
-      let next : i + 1 ≡ suc i = omega arith in
-      let here : all ≡ or_else before (first_named n (defined_from number t i (map definition_view (d ∷ drop (suc i) ds)))) =
-      held ∙ ap (λ es. or_else before (first_named n (defined_from number t i (map definition_view es)))) (drop_next ds i d h is) in
-      rw next (more_known n before now all (known_at number t i (definition_view d) ∷ []) (defined_from number t (suc i) (map definition_view (drop (suc i) ds))) here step)
-
-  pub definitions_done : (n : List ℕ) (ds : List ComponentDefinition) (i : ℕ) (now all : Option KnownVal) → length ds ≤ i
-      → all ≡ or_else now (first_named n (defined_from number t i (map definition_view (drop i ds)))) → now ≡ all
-  definitions_done n ds i now all h held =
-      sym (held ∙ ap (λ es. or_else now (first_named n (defined_from number t i (map definition_view es)))) (drop_end ds i h) ∙ or_none now)
-
--- components that are defined again
-module _ (known : List ℕ → Option KnownVal) (number : ℕ) (spans : ℕ → Span) where
-  pub again_next : (ds : List ComponentDefinition) (i : ℕ) (d : ComponentDefinition) (before now all : List FindingVal) → i < length ds → d ≡ get_or ds i d
-      → all ≡ before ++ again_findings known number spans i (map definition_view (drop i ds))
-      → now ≡ before ++ defined_again number (spans i) (known (definition_view d).name)
-      → all ≡ now ++ again_findings known number spans (i + 1) (map definition_view (drop (i + 1) ds))
-  again_next ds i d before now all h is held step =
-      let next : i + 1 ≡ suc i = omega arith in
-      let rest = again_findings known number spans (suc i) (map definition_view (drop (suc i) ds)) in
-      let here : all ≡ before ++ again_findings known number spans i (map definition_view (d ∷ drop (suc i) ds)) =
-      held ∙ ap (λ es. before ++ again_findings known number spans i (map definition_view es)) (drop_next ds i d h is) in
-      rw next (here ∙ sym (append_assoc before (defined_again number (spans i) (known (definition_view d).name)) rest) ∙ ap (λ fs. fs ++ rest) (sym step))
-
-  pub again_done : (ds : List ComponentDefinition) (i : ℕ) (now all : List FindingVal) → length ds ≤ i
-      → all ≡ now ++ again_findings known number spans i (map definition_view (drop i ds)) → now ≡ all
-  again_done ds i now all h held =
-      sym (held ∙ ap (λ es. now ++ again_findings known number spans i (map definition_view es)) (drop_end ds i h) ∙ append-nil now)

@@ -86,13 +86,6 @@ refused_next k ps rest p done all later after start before now held split is nam
       names_more later after done v names under more,
     )
 
-pub refused_done : (k : KnownVal) (ps : List Passed) (done all : List PassedVal) (later : Names) (start now : List FindingVal)
-    → map passed_view ps ++ done ≡ all → ps ≡ [] → now ≡ start ++ refused_findings k done → AreNamesOf later done
-    → (now ≡ start ++ refused_findings k all) × AreNamesOf later all
-refused_done k ps done all later start now held none is names =
-    let same : done ≡ all = ap (λ qs. map passed_view qs ++ done) (sym none) ∙ held in
-    (is ∙ ap (λ qs. start ++ refused_findings k qs) same, subst (λ qs. AreNamesOf later qs) same names)
-
 -- ---- a call
 
 missing_same : (k : KnownVal) (names : Names) (ps : List PassedVal) (span : Span) → AreNamesOf names ps

@@ -10,10 +10,6 @@ use Rattle.tera_grammar.specs.expressions.Concrete.{Name}
 use Rattle.tera_grammar.specs.expressions.Reading.Front.{at, takes, skip, lowered, bump, taken_name, name_of}
 use Rattle.tera_expect.specs.Taking.{Fails, Passes}
 
--- a step that gives something, and one that fails
-pub past : {A B : Type 0} (o : Option A) (f : A → Option B) (x : A) (r : Option B) → o ≡ Some x → f x ≡ r → (o >>= f) ≡ r
-past o f x r h k = rw h k
-
 pub failed : {A B : Type 0} (o : Option A) (f : A → Option B) (e : Error) → Fails o e → Fails (o >>= f) e
 failed o f e (inl memory) = inl memory
 failed o f e (inr h) = inr (rw h refl)
@@ -45,15 +41,6 @@ test_kept false x k = refl
 pub kept_by : {A B : Type 0} (o : Option A) (test : A → Bool) (k : A → Option B) → (o >>= λ x. guard (test x) >>= λ u. k x) ≡ ((o >>= λ x. guard (test x) >>= λ u. Some x) >>= k)
 kept_by None test k = refl
 kept_by (Some x) test k = test_kept (test x) x k
-
--- a test that does not hold, and one that does
-pub refused_test : {B : Type 0} (b : Bool) (k : Unit {0} → Option B) → b ≡ false → (guard b >>= k) ≡ None
-refused_test b k h = rw h refl
-
--- one of two truths
-pub not_true : (b : Bool) → (b ≡ true → ⊥) → b ≡ false
-not_true true h = absurd (h refl)
-not_true false h = refl
 
 -- a mark
 pub skipped : (m : Mark) (k : ℕ) (ts us : Items) (s : Span) → takes m ts ≡ Some (s, us) → skip m (at k ts) ≡ Some (s, at k us)

@@ -1,5 +1,5 @@
 -- How cursors go on, and what is refused on the way.
-use Rattle.std.proofs.Common.{IfErr, IfOk, Result, Ok, Err, ◌≡◌, ℕ, ◌<◌, ◌≤◌, Bool, true, false, Option, List, inl, ⊎_elim, refl, subst, sym, arith}
+use Rattle.std.proofs.Common.{IfErr, IfOk, Result, Ok, Err, ◌≡◌, ℕ, ◌<◌, ◌≤◌, Bool, true, false, Option, List, inl, inr, ⊎_elim, refl, subst, sym, arith}
 use Rattle.tera_base.specs.declared.utils.Span.{Span}
 use Rattle.tera_base.specs.declared.errors.Error.{Error}
 use Rattle.tera_base.specs.Errors.{IsMemory, KindTells}
@@ -72,10 +72,6 @@ pub later : (old new : Position) → Took old new → IsLater old new
 unfolding Took
 later old new h = h.0
 
-pub is_refused : (old : Position) (e : Error) → RefusesFrom old e → Refuses old e
-unfolding Refuses
-is_refused old e h = h
-
 -- what tells the same is refused too
 abbrev Holds : (List ℕ → Span → Type 0) → Told → Type 0
 Holds P no_memory = Unit {0}
@@ -136,4 +132,6 @@ eats_size false old new read (none, same) = subst (λ (q : Position). size q.lef
 -- a fault at the next token
 pub next_refused : (old : Position) (here : Span) (e : Error) → FirstStandsAt old.left here → IsWithin old.source here → TellsAt here e → Refuses old e
 unfolding Refuses
-next_refused old here e (t, behind, is) within told = refusals.token_refuses old t here behind e is within told
+next_refused old here e (t, behind, is) within told =
+    tells_weaker (λ text span. span ≡ here) (λ text span. IsWithin old.source span × FaultsFrom old.span old.left text span) e
+    (λ text span at. rw at (within, inr (inr (rw is (inr (inr (inl ((refl, refl, refl), inl (refl, refl, refl))))))))) told

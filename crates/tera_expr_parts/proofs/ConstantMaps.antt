@@ -66,10 +66,6 @@ pub pair_put : (k : Key) (e : Expr) (v : Val) (ps : Pairs) → Some v ≡ consta
 pair_put k (tree.Const x s) v ps h = let same : v ≡ x = cc in ap (λ y. put_pair (key_view k) y ps) same
 pair_put k _ v ps h = cc
 
-pub none_put : (k : Key) (e : Expr) (ps : Pairs) → None ≡ constant_of e → ps ≡ put_entry ps (KeyValue k e)
-none_put k (tree.Const x s) ps h = cc
-none_put k _ ps h = refl
-
 -- all entries are constants, or some is not
 all_constant : (es : List (MapEntryOf Expr)) (ps : Pairs) → list_all is_constant_entry es ≡ true → constant_entries (entries_of es) ps ≡ Some (fold put_entry ps es)
 all_constant [] ps h = refl

@@ -1,5 +1,5 @@
 -- What stands behind an operand, looked at and then taken.
-use Rattle.std.proofs.Common.{◌≡◌, ◌≢◌, ℕ, zero, suc, ◌+◌, ◌<◌, Bool, true, false, is_some, List, Option, Some, None, Ok, refl, sym, ap, subst, ◌∙◌, codes, arith}
+use Rattle.std.proofs.Common.{◌≡◌, ◌≢◌, ℕ, ◌+◌, Bool, true, false, is_some, List, Option, Some, None, Ok, refl, sym, ap, subst, ◌∙◌, codes, arith}
 use Rattle.std.specs.Str.{bytes_eq}
 use Rattle.std.specs.Prelude.{cond}
 use Rattle.tera_base.specs.declared.utils.Span.{Span}
@@ -198,11 +198,6 @@ not_begins (Token u s us) h = by (same_token u (mark_token Not)) refl
     by : (x : Bool) → same_token u (mark_token Not) ≡ x → same_token u (mark_token Not) ≡ cond (same_token u (mark_token Not)) true (same_token u (mark_token (Operation operators.Minus)))
     by true hx = rw hx refl
     by false hx = rw hx (sym h)
-
--- a name is shown
-pub name_shown : (ts : Items) (n : ℕ) (w : List ℕ) (s : Span) (us : Items) → ts ≡ Token (Ident w) s us → Sight 2 ts n → 0 < n
-name_shown ts zero w s us is h = absurd (subst (λ is. Sight 2 is 0) is h)
-name_shown ts (suc n) w s us is h = omega arith
 
 pub name_front : (ts : Items) (w : List ℕ) (s : Span) (us : Items) → ts ≡ Token (Ident w) s us → word_kind w (second_is_in ts) ≡ kind_of (reading.front ts)
 name_front ts w s us is = rw is (sym (word_front_kind w s us))

@@ -18,8 +18,8 @@ use Rattle.tera_lexer.specs.grammar.Tokens.{Items}
 use Rattle.tera_grammar.specs.Options.{◌>>=◌}
 use Rattle.tera_grammar.specs.expressions.Marks.{LeftParen, Not}
 use Rattle.tera_grammar.specs.expressions.Companions.{Filtering}
-use Rattle.tera_grammar.specs.expressions.Concrete.{Name, Args, no_args, args, plainly, negated, Test, Filter, Subscript}
-use Rattle.tera_grammar.specs.expressions.Reading.Front.{Place, at, Reads, takes, taken_name, name_of, ends_test, ends_filter, ends_subscript}
+use Rattle.tera_grammar.specs.expressions.Concrete.{Name, Args, no_args, args, plainly, negated, Test, Subscript}
+use Rattle.tera_grammar.specs.expressions.Reading.Front.{Place, at, Reads, takes, taken_name, name_of, ends_test, ends_subscript}
 use Rattle.tera_grammar.specs.expressions.Reading.Parts.{Reader, Room, sub_of, arguments_of, args_of}
 use Rattle.tera_grammar.specs.expressions.Reading.Loop.{suffix_in}
 use Rattle.tera_expect.specs.Taking.{Fails, GivesBy, Eats}
@@ -62,11 +62,7 @@ module _ (f : Reader) (w : Room) where
   pub call_fails : (k : ℕ) (ts us : Items) (n : Name) (e : Error) → taken_name ts ≡ Some (n, us) → Fails (args_of f w (at k us)) e → Fails (call_of f w (at k ts)) e
   call_fails k ts us n e name h = failed_past (name_of (at k ts)) _ (n, at k us) e (named k ts us n name) (failed (args_of f w (at k us)) _ e h)
 
-  -- a filter behind its bar, a test behind `is`, a subscript behind its bracket
-  pub filter_is : (s : Span) (p : Place) → suffix_in f w (ends_filter s) p ≡ (call_of f w p >>= λ x. Some (Filter s x.0.name x.0.args, x.1))
-  unfolding suffix_in
-  filter_is s p = bind_call f w p (λ n g q. Some (Filter s n g, q))
-
+  -- a test behind `is`, a subscript behind its bracket
   pub test_is : (s : Span) (k : ℕ) (ts : Items) → takes Not ts ≡ None → suffix_in f w (ends_test s) (at k ts) ≡ (call_of f w (at k ts) >>= λ x. Some (Test s plainly x.0.name x.0.args, x.1))
   unfolding suffix_in
   test_is s k ts none = rw (unskipped Not k ts none) (bind_call f w (at k ts) (λ n g q. Some (Test s plainly n g, q)))

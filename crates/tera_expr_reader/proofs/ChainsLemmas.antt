@@ -28,7 +28,7 @@ use Rattle.tera_expr_reader.specs.declared.chains.Linked.TheVariants.{Whole, Lon
 use Rattle.tera_nodes.specs.View.{expression_view}
 use Rattle.tera_nodes.specs.declared.ast.Expression.{Expression}
 use Rattle.tera_expect.specs.Taking.{Fails, GivesBy, Took}
-use Rattle.tera_expr_reader.specs.declared.chains.Link.TheVariants.{Nothing, Called, Field, Item}
+use Rattle.tera_expr_reader.specs.declared.chains.Link.TheVariants.{Nothing, Field, Item}
 use Rattle.tera_expr_parts.proofs.FrontsLemmas.{took_token, unseen}
 use Rattle.tera_expect.proofs.Steps.{named, unnamed, counted, uncounted}
 
@@ -82,22 +82,6 @@ joint_optional true s = refl
 pub bracket_optional : (o : Bool) (s : Span) → is_optional_bracket (bracket_of o s) ≡ o
 bracket_optional false s = refl
 bracket_optional true s = refl
-
-pub none_there : (x : reading.Link) → link_kind x ≡ Nothing → x ≡ no_link
-none_there no_link h = refl
-none_there reading.called h = cc
-none_there (jointed (plain_dot s) us) h = cc
-none_there (jointed (optional_dot s) us) h = cc
-none_there (bracketed (plain_bracket s) us) h = cc
-none_there (bracketed (optional_bracket s) us) h = cc
-
-pub call_there : (x : reading.Link) → link_kind x ≡ Called → x ≡ reading.called
-call_there reading.called h = refl
-call_there no_link h = cc
-call_there (jointed (plain_dot s) us) h = cc
-call_there (jointed (optional_dot s) us) h = cc
-call_there (bracketed (plain_bracket s) us) h = cc
-call_there (bracketed (optional_bracket s) us) h = cc
 
 pub joint_there : (x : reading.Link) (o : Bool) (s : Span) (us : Items) → link_kind x ≡ Field o → LinkAt x s us → x ≡ jointed (joint_of o s) us
 joint_there (jointed (plain_dot t) vs) false s us h a = rw (a.0, a.1) refl

@@ -1,5 +1,5 @@
 -- Steps of the reading over a stack, as the code takes them.
-use Rattle.std.proofs.Common.{◌≡◌, ◌⊎◌, inl, inr, ℕ, ℤ, Bool, true, false, cond, List, [], ◌∷◌, ◌++◌, ◌+◌, length, Some, None, Ok, Err, refl, sym, ap, subst, ◌∙◌}
+use Rattle.std.proofs.Common.{◌≡◌, ◌⊎◌, inl, inr, ℕ, Bool, true, false, cond, List, [], ◌∷◌, ◌++◌, ◌+◌, length, Some, None, Ok, Err, refl, sym, ap, subst, ◌∙◌}
 use Rattle.std.specs.Borrow.{Bor}
 use Rattle.std.proofs.lemmas.List.{length-append}
 use Rattle.tera_lexer.specs.code.Seen.{seen}
@@ -16,17 +16,15 @@ use Rattle.tera_grammar.specs.Words.{is_none, is_not}
 use Rattle.tera_grammar.specs.Options.{◌>>=◌}
 use Rattle.tera_grammar.specs.expressions.Operators.{BinaryOperator, Minus}
 use Rattle.tera_grammar.specs.expressions.Marks.{mark, RightParen, Else, Operation, Other}
-use Rattle.tera_grammar.specs.expressions.Concrete.{Lit, Negative, Negates, Single, NotIn, Suffix, Test, Filter, Subscript, plainly, negated, index, slice, Tree, Op}
+use Rattle.tera_grammar.specs.expressions.Concrete.{Negative, Negates, Single, NotIn, Test, Filter, Subscript, Tree, Op}
 use Rattle.tera_grammar.specs.expressions.Powers.{right_of}
 use Rattle.tera_grammar.specs.expressions.Spans.{spanning}
-use Rattle.tera_grammar.specs.expressions.Output.{literal_value, suffix_output}
-use Rattle.tera_grammar.specs.expressions.Constants.{HoldsOf}
 use Rattle.tera_grammar.specs.expressions.Reading.Front.{Place, at, Reads, takes, lowered, bump, literal_of, head_mark, begins_sign, Front, nothing, joins, closes, misplaced, leads_binary, leads_condition, Ending, ends_test, ends_filter, ends_subscript, front}
 use Rattle.tera_grammar.specs.expressions.Reading.Parts.{Room}
 use Rattle.tera_grammar.specs.expressions.Reading.Atoms.{head_of, word_head, chain_of}
 use Rattle.tera_grammar.specs.expressions.Reading.Loop.{expr, suffix_in}
 use Rattle.tera_grammar.specs.expressions.Stack.{Operand, Level, Shows, outcome, going, coming, heading, prefixing, joining, choosing, suffix_of, resume, in_paren, in_binary, in_condition, in_last, stops, refuses, operator_in, is_negated, HeadGives, SuffixGives}
-use Rattle.tera_grammar.proofs.expressions.Stack.{ends, ends_badly, joins_on, chooses_on, suffix_fails, suffix_given, suffix_missed, encloses, unclosed, goes_otherwise, lacks_else, heads_minus, minus_refused, heads_literal, heads_no_mark, refuses_right, heads_nothing, heads_not, not_refused, heads_name, head_given, head_missed}
+use Rattle.tera_grammar.proofs.expressions.Stack.{ends, ends_badly, joins_on, chooses_on, suffix_fails, suffix_given, suffix_missed, encloses, unclosed, goes_otherwise, lacks_else, heads_minus, minus_refused, heads_no_mark, refuses_right, heads_nothing, heads_not, not_refused, heads_name, head_given, head_missed}
 use Rattle.tera_lexer.specs.code.Cursors.{Position}
 use Rattle.tera_expr_parts.specs.declared.front.Front as fronts
 use Rattle.tera_expr_parts.specs.declared.front.Front.TheVariants as shapes
@@ -55,10 +53,6 @@ module _ (w : Room) (v : Level) (p : Place) where
       by : (b : Bool) → begins_sign us ≡ b → heading w v p ≡ cond (begins_sign us) None (prefixing w v (Negative s) (at p.links us))
       by true h = minus_refused w v p s us is h ∙ sym (ap (λ c. cond c None (prefixing w v (Negative s) (at p.links us))) h)
       by false h = heads_minus w v p s us is h ∙ sym (ap (λ c. cond c None (prefixing w v (Negative s) (at p.links us))) h)
-
-  pub word_opens : (n : List ℕ) (s : Span) (us : Items) → p.tokens ≡ Token (Ident n) s us
-      → heading w v p ≡ (outcome w.in_loop (word_head (expr v.below) w (record { text = n; span = s }) (at p.links us)) >>= λ h. going w v h.0 h.1)
-  word_opens n s us is = ap (λ ts. heading w v (at p.links ts)) is
 
   pub nothing_opens : (t : Tok) (s : Span) (us : Items) → p.tokens ≡ Token t s us → literal_of t ≡ None → BeginsNone t → heading w v p ≡ None
   nothing_opens t s us is none no_mark = ap (λ ts. heading w v (at p.links ts)) is ∙ by t none no_mark
@@ -151,14 +145,6 @@ module _ (w : Room) (v : Level) (x : Operand) (k : ℕ) (ts : Items) (e : Error)
   misses_else a (inl memory) = inl memory
   misses_else a (inr h) = inr (lacks_else w v x (at k ts) a h)
 
--- what ends with a suffix is no number
-pub suffix_negatable : (P : ℤ → Type 0) (l : Bool) (start : Span) (e : tree.Expr) (s : Suffix) → HoldsOf P (suffix_output l start e s)
-suffix_negatable P l start e (Test s plainly w g) = tt
-suffix_negatable P l start e (Test s (negated t) w g) = tt
-suffix_negatable P l start e (Filter s w g) = tt
-suffix_negatable P l start e (Subscript s (index i c)) = tt
-suffix_negatable P l start e (Subscript s (slice x y b z c)) = tt
-
 -- `~` before what became a prefix
 pub tilde_refused : (w : Room) (v : Level) (x : Operand) (p : Place) (o : BinaryOperator) (n : Bool) (a : Operand) (e : Error) → IsMemory e ⊎ (refuses o x.0 ≡ true)
     → Fails (resume w (in_binary v o n a) (x, p)) e
@@ -248,10 +234,6 @@ module _ (w : Room) (v : Level) (k : ℕ) (n : List ℕ) (s : Span) (us : Items)
 
 -- an operand that begins with a mark, or is a constant
 module _ (w : Room) (v : Level) (p : Place) (t : Tok) (s : Span) (us : Items) (is : p.tokens ≡ Token t s us) where
-  pub literal_given : (x : Lit) → literal_of t ≡ Some x → (e : tree.Expr) → e ≡ tree.Const (literal_value x) s → (h : Span) → h ≡ s
-      → going w v (e, spanning s h) (at p.links us) ≡ heading w v p
-  literal_given x read e shows h same = rw (shows, same) (sym (heads_literal w v p t s us x is read))
-
   pub literal_missed : (e : Error) → BeginsNone t → Fails (literal_of t) e → Fails (heading w v p) e
   literal_missed e none (inl memory) = inl memory
   literal_missed e none (inr no_literal) = inr (nothing_opens w v p t s us is no_literal none)

@@ -78,10 +78,6 @@ module _ (f : Reader) (w : Room) where
       (failed (skip RightBracket (at k ts)) _ e (failed_as (takes RightBracket ts) (skip RightBracket (at k ts)) e (unskipped RightBracket k ts) h)))
 
   -- what stands in a subscript
-  pub sub_closed_off : (p : Place) (e : Error) → Fails (inside_subscript w) e → Fails (sub_of f w p) e
-  unfolding sub_of
-  sub_closed_off p e h = failed (inside_subscript w) _ e h
-
   pub sub_from_colon : (v : Room) (k : ℕ) (ts us : Items) (s : Span) → inside_subscript w ≡ Some v → takes Colon ts ≡ Some (s, us) → sub_of f w (at k ts) ≡ slice_of f v absent s (at k us)
   unfolding sub_of
   sub_from_colon v k ts us s opens colon = rw (opens, skipped Colon k ts us s colon) refl

@@ -39,9 +39,6 @@ pub on_ok : {T E P Q : Type 0} (result : Result T E) → (P → Q) → OnOk resu
 on_ok (Ok value) follows is = follows is
 on_ok (Err error) follows is = tt
 
-pub found_none : (extensions : List (List ℕ)) → AreOfAll extensions [] []
-found_none extensions = record { pieces = []; joined = refl; each = tt }
-
 AllZip-push : {A B : Type 0} (R : A → B → Type 0) (xs : List A) (ys : List B) (x : A) (y : B) → AllZip R xs ys → R x y
     → AllZip R (xs ++ x ∷ []) (ys ++ y ∷ [])
 AllZip-push R [] [] x y all here = (here, tt)

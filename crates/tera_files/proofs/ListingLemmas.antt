@@ -1,11 +1,11 @@
 -- Files that were met, as a list of their paths.
-use Rattle.std.proofs.Common.{◌≡◌, ◌≢◌, ◌<◌, ◌∷◌, ◌||◌, ℕ, List, [], true, false, String, map, length, string_bytes, inl, inr, ⊎_elim, refl, sym, ap, ◌∙◌, subst, arith, Global}
+use Rattle.std.proofs.Common.{◌≡◌, ◌≢◌, ◌∷◌, ◌||◌, ℕ, List, [], true, false, String, map, string_bytes, inl, inr, ⊎_elim, refl, sym, ap, ◌∙◌, subst, Global}
 use Rattle.std.specs.Prelude.{AllPairs, Contains}
 use Rattle.std.specs.List.{IsDistinct, AllByRecursion, list_any}
 use Rattle.std.specs.Str.{bytes_eq}
 use Rattle.std.specs.String.{string_eq}
 use Rattle.std.proofs.lemmas.Bool.{cases_Bool}
-use Rattle.std.proofs.lemmas.List.{length-append, map-append}
+use Rattle.std.proofs.lemmas.List.{map-append}
 use Rattle.std.proofs.lemmas.List.Elements.{Contains-push}
 use Rattle.std.proofs.lemmas.List.Folds.{Any-from_list_any}
 use Rattle.std.proofs.lemmas.Map.Made.{AllPairs-from_IsDistinct}
@@ -49,17 +49,6 @@ insert_key-has texts text =
     let at : Contains texts found.1 = (found.0, found.2, found.3) in
     rw has (subst (Contains texts) (sym same) at))
     (λ (lacks : list_any (bytes_eq text) texts ≡ false). rw lacks (Contains-push texts text))
-    (cases_Bool (list_any (bytes_eq text) texts))
-
-any_some : (text : List ℕ) (texts : List (List ℕ)) → list_any (bytes_eq text) texts ≡ true → 0 < length texts
-any_some text [] any = cc
-any_some text (x ∷ texts) any = omega arith
-
-pub length-insert_key : (texts : List (List ℕ)) (text : List ℕ) → 0 < length (insert_key bytes_eq texts text)
-length-insert_key texts text =
-    ⊎_elim
-    (λ yes. rw yes (any_some text texts yes))
-    (λ no'. rw no' (omega (arith, length-append texts (text ∷ []))))
     (cases_Bool (list_any (bytes_eq text) texts))
 
 none_equal : (key : String Global) (keys : List (String Global)) → AllByRecursion (λ other. string_eq key other ≡ false) keys

@@ -39,9 +39,6 @@ and_ok false b h = cc
 pub bytes_same : (a b : List ℕ) → bytes_eq a b ≡ true → a ≡ b
 bytes_same a b h = (bytes_eq-Decides a b).0 h
 
-pub bytes_itself : (a : List ℕ) → bytes_eq a a ≡ true
-bytes_itself a = (bytes_eq-Decides a a).1 refl
-
 bool_apart : (b : Bool) → (b ≡ true → ⊥) → b ≡ false
 bool_apart true h = absurd (h refl)
 bool_apart false h = refl

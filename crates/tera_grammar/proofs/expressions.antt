@@ -16,7 +16,6 @@ pub mod Only
 mod Examples
 pub mod Steps
 pub mod Later
-pub mod Peeks
 pub mod Numbers
 pub mod Repeated
 pub mod Bodiless

@@ -11,7 +11,6 @@ pub mod Tops
 pub mod Closed
 pub mod Wholes
 pub mod Loops
-pub mod Paths
 pub mod Trees
 mod Examples
 pub mod Numbers

@@ -1,8 +1,7 @@
 -- The default markers, and tokens between markers that are the same.
-use Rattle.std.proofs.Common.{◌≡◌, ℕ, true, List, refl, ap, subst}
+use Rattle.std.proofs.Common.{◌≡◌, ℕ, List, refl, subst}
 use Rattle.tera_lexer.specs.grammar.Marks.{Marks, IsValid, default_marks}
 use Rattle.tera_lexer.specs.grammar.Tokens.{Items, AreTokensOf}
-use Rattle.tera_layout.specs.Steady.{is_steady}
 
 pub default_valid : IsValid default_marks
 default_valid = record {
@@ -16,9 +15,6 @@ default_valid = record {
   block_comment = λ e. cc;
   variable_comment = λ e. cc;
 }
-
-pub default_steady : (m : Marks) → m ≡ default_marks → is_steady m ≡ true
-default_steady m same = ap is_steady same
 
 pub same_tokens : (n m : Marks) (source : List ℕ) (items : Items) → n ≡ m → AreTokensOf n source items → AreTokensOf m source items
 same_tokens n m source items = subst (λ k. AreTokensOf k source items)

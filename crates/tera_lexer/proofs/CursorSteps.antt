@@ -1,5 +1,5 @@
 -- A cursor that goes on by one token.
-use Rattle.std.proofs.Common.{◌≡◌, ℕ, suc, ◌<◌, ◌+◌, ◌^◌, length, false, List, Option, Some, None, Result, Ok, Err, ap, sym, ◌∙◌, refl, subst, arith}
+use Rattle.std.proofs.Common.{◌≡◌, ℕ, suc, ◌<◌, ◌+◌, ◌^◌, length, List, Option, Some, None, Result, Ok, Err, ap, sym, ◌∙◌, refl, subst, arith}
 use Rattle.tera_base.specs.declared.utils.Span.{Span}
 use Rattle.tera_base.specs.declared.errors.Error.{Error}
 use Rattle.tera_lexer.specs.grammar.Place.{IsWithin}
@@ -8,7 +8,7 @@ use Rattle.tera_lexer.specs.grammar.Tokens.{Tok, Items, Ended, Failed}
 use Rattle.tera_lexer.specs.reading.Stream.{Stream}
 use Rattle.tera_lexer.specs.code.Steps.{Stops, Steps}
 use Rattle.tera_lexer.specs.code.Seen.{seen}
-use Rattle.tera_lexer.specs.code.Cursors.{Sight, Takes, is_end, size}
+use Rattle.tera_lexer.specs.code.Cursors.{Takes, size}
 use Rattle.tera_lexer.specs.grammar.Lexed.{AreLexed}
 use Rattle.tera_lexer.specs.code.CursorView.{stopped_before, with_item, left_behind, in_sight, position_of, IsReadAhead, Follows, AreReadAhead, IsTokenAhead}
 use Rattle.tera_lexer.specs.declared.lexer.tokens.Token.{Token}
@@ -133,50 +133,6 @@ took old new p third are first near far steps taken span =
         λ some. let shown = sight_of old.second (in_sight new.second 0) 0 (rw (sym next) some) in omega (arith, sight, shown),
       ),
     )
-
--- how many of the next two can be shown
-module _ (r : Stream) where
-  sees_one : (second : Option (Result (Token × Span) Error)) → IsReadAhead r second → Sight 1 (with_item (stopped_before r) second r.left) (in_sight second 0)
-  sees_one None is = ended_sight r.left is
-    where
-      ended_sight : (items : Items) → items ≡ Ended → Sight 1 items 0
-      ended_sight Ended e = refl
-      ended_sight (Failed text span) e = refl
-      ended_sight (toks.Token t span items) e = token_not_ended e
-  sees_one (Some (Ok p)) is = refl
-  sees_one (Some (Err e)) is = stopped_sight (stopped_before r) is.1
-    where
-      stopped_sight : (items : Items) → Stops r.source items e → Sight 1 items 0
-      stopped_sight Ended stops = refl
-      stopped_sight (Failed text span) stops = refl
-      stopped_sight (toks.Token t span items) stops = stops.0
-
-  pub sees_two : (first second : Option (Result (Token × Span) Error)) → IsReadAhead r first → IsReadAhead r second → Follows first second → Sight 2 (left_behind r first second) (in_sight first (in_sight second 0))
-  sees_two (Some (Ok p)) second is_first is_second follows = sees_one second is_second
-  sees_two None second is_first is_second follows = rw follows (ended_sight r.left is_first)
-    where
-      ended_sight : (items : Items) → items ≡ Ended → Sight 2 items 0
-      ended_sight Ended e = refl
-      ended_sight (Failed text span) e = refl
-      ended_sight (toks.Token t span items) e = token_not_ended e
-  sees_two (Some (Err e)) second is_first is_second follows = stopped_sight (stopped_before r) is_first.1
-    where
-      stopped_sight : (items : Items) → Stops r.source items e → Sight 2 items 0
-      stopped_sight Ended stops = refl
-      stopped_sight (Failed text span) stops = refl
-      stopped_sight (toks.Token t span items) stops = stops.0
-
-  -- nothing is left exactly where nothing was read
-  pub none_ended : (second : Option (Result (Token × Span) Error)) → IsReadAhead r None → Follows None second → left_behind r None second ≡ Ended
-  none_ended second is follows = rw follows is
-
-  pub stops_left : (e : Error) → Stops r.source (stopped_before r) e → is_end (stopped_before r) ≡ false
-  stops_left e stops = by (stopped_before r) stops
-    where
-      by : (items : Items) → Stops r.source items e → is_end items ≡ false
-      by Ended stops = absurd stops
-      by (Failed text span) stops = refl
-      by (toks.Token t span items) stops = refl
 
 pub some_left : (r : Stream) (first second : Option (Result (Token × Span) Error)) (p : Token × Span) → first ≡ Some (Ok p) → 0 < size (left_behind r first second)
 some_left r first second p e = rw e (omega arith)

@@ -82,9 +82,6 @@ find_is marker bytes (Some n) two is =
 
 -- the marker stands at no place up to this one, and is sought from here on
 module _ (marker bytes : List ℕ) (n : ℕ) (nowhere : Nowhere (OccursAt bytes marker) 0 n) where
-  pub found_near : n ≤ length bytes → begins marker (drop n bytes) ≡ true → length marker ≡ 2 → FindsNeedle bytes marker 0 (Some n)
-  found_near le here two = (record { low = omega arith; high = omega arith; before = nowhere }, occurs_where_begins marker bytes n two here)
-
   pub nowhere_near : begins marker (drop n bytes) ≡ false → Nowhere (OccursAt bytes marker) 0 (n + 1)
   nowhere_near none k low lt occurs =
       ⊎_elim

@@ -197,9 +197,6 @@ ahead_in r tag e = ap (λ t. left_in r.marks t r.front r.trim r.rest) e
 pub going_is : (r : Progress) → r.failed ≡ false → left_of r ≡ ahead_of r
 going_is r going = rw going refl
 
-pub failed_is : (r : Progress) → r.failed ≡ true → left_of r ≡ Ended
-failed_is r over = rw over refl
-
 pub going_stream : (r : Progress) → r.failed ≡ false → stream_of r ≡ record { source = whole_of r; left = ahead_of r; stopped = None }
 going_stream r going = rw going refl
 

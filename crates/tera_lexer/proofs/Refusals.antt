@@ -1,46 +1,16 @@
 -- Which faults are told of which tokens.
 use Rattle.std.proofs.Common.{◌≡◌, ℕ, zero, suc, ◌+◌, List, inl, inr, ⊎_elim, subst, sym, ◌∙◌, refl, arith}
-use Rattle.std.specs.Prelude.{codes}
 use Rattle.tera_lexer.specs.grammar.Place.{IsWithin}
 use Rattle.tera_lexer.specs.grammar.Tokens.{Tok, Items, Ended, Failed, Token}
-use Rattle.tera_base.specs.Errors.{Tells, IsMemory, end_of}
 use Rattle.tera_lexer.specs.grammar.Faults.{Faults, IsEndBehind, IsEndOf}
-use Rattle.tera_lexer.specs.code.Steps.{Stops}
-use Rattle.tera_lexer.specs.code.Cursors.{Position, IsAt, FaultsFrom, RefusesFrom, Passes, IsLater, TellsAt, TakesOne}
+use Rattle.tera_lexer.specs.code.Cursors.{Position, IsAt, FaultsFrom, RefusesFrom, Passes, IsLater}
 use Rattle.tera_base.specs.declared.utils.Span.{Span}
 use Rattle.tera_base.specs.declared.errors.Error.{Error}
-use Rattle.std.specs.Prelude.{Err}
-use Rattle.tera_base.proofs.Tellings.{tells_weaker, tells_memory}
+use Rattle.tera_base.proofs.Tellings.{tells_weaker}
 
 -- a fault at the next token
 at_next : (t : Tok) (here span : Span) (items : Items) (text : List ℕ) → IsAt here span → Faults (Token t here items) text span
 at_next t here span items text at = inr (inr (inl (at.0, inl at.1)))
-
-pub token_refuses : (old : Position) (t : Tok) (here : Span) (items : Items) (e : Error) → old.left ≡ Token t here items → IsWithin old.source here → TellsAt here e → RefusesFrom old e
-token_refuses old t here items e is within told =
-    tells_weaker (λ text span. span ≡ here) (λ text span. IsWithin old.source span × FaultsFrom old.span old.left text span) e
-    (λ text span at. rw at (within, inr (inr (rw is (at_next t here here items text ((refl, refl, refl), (refl, refl, refl))))))) told
-
--- the end of the input, at the token taken last
-end_refuses : (old : Position) (e : Error) → old.left ≡ Ended → IsWithin old.source old.span → Tells (codes "Unexpected end of input") (end_of old.span) e → RefusesFrom old e
-end_refuses old e ended within told =
-    tells_weaker (λ text span. (text ≡ codes "Unexpected end of input") × (span ≡ end_of old.span)) (λ text span. IsWithin old.source span × FaultsFrom old.span old.left text span) e
-    (λ text span is. let back = sym is.1 in subst (λ s. IsWithin old.source s × FaultsFrom old.span old.left text s) back (within, inr (inl (rw ended (is.0, refl))))) told
-
--- where reading stops
-memory_refuses : (old : Position) (e : Error) → IsMemory e → RefusesFrom old e
-memory_refuses old e memory = tells_memory (λ text span. IsWithin old.source span × FaultsFrom old.span old.left text span) e memory
-
-stops_refuses : (old : Position) (items : Items) (e : Error) → old.left ≡ items → Stops old.source items e → RefusesFrom old e
-stops_refuses old Ended e is stops = absurd stops
-stops_refuses old (Failed told here) e is (within, tells) =
-    tells_weaker (λ text span. (text ≡ told) × (span ≡ here)) (λ text span. IsWithin old.source span × FaultsFrom old.span old.left text span) e
-    (λ text span at. rw at.1 (within, inr (inr (rw is (inl (at.0, refl)))))) tells
-stops_refuses old (Token t here items) e is (takes, memory) = memory_refuses old e memory
-
-pub untaken_refuses : (old new : Position) (e : Error) → IsWithin old.source old.span → TakesOne old (Err e) new → RefusesFrom old e
-untaken_refuses old new e within told =
-    ⊎_elim (λ end. end_refuses old e end.0 within end.1) (λ stops. stops_refuses old old.left e refl stops.1) told
 
 -- the end of the input behind some tokens is behind the one before them
 end_behind : (here : Span) (items : Items) (text : List ℕ) (span : Span) → IsEndOf items text span → IsEndBehind here items text span

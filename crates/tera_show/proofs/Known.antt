@@ -1,8 +1,8 @@
 -- What a reader gave and a writer took, one piece after another.
-use Rattle.std.proofs.Common.{◌≡◌, ℕ, ◌+◌, ◌<◌, ◌≤◌, List, [], ◌++◌, length, take, drop, Option, Some, None, Err, subst, sym, refl, ap, ◌∙◌, append_assoc}
+use Rattle.std.proofs.Common.{◌≡◌, ℕ, ◌+◌, ◌<◌, ◌≤◌, List, ◌++◌, length, take, drop, Option, Some, None, Err, subst, sym, ap, ◌∙◌, append_assoc}
 use Rattle.std.specs.Prelude.{IfSome}
-use Rattle.std.specs.Io.KnownBytes.{Appends, Consumes, IsAtEnd}
-use Rattle.std.proofs.lemmas.List.{append-nil, take-append-drop, take_at, length-append, length-take-le}
+use Rattle.std.specs.Io.KnownBytes.{Appends}
+use Rattle.std.proofs.lemmas.List.{take-append-drop, take_at, length-append, length-take-le}
 use Rattle.tera_grammar.specs.Limits.{Limits}
 use Rattle.tera_show.specs.Shown.{IsShown, IsAnswer}
 use Rattle.tera_show.specs.declared.stream.Outcome.{Outcome}
@@ -21,22 +21,6 @@ take_on xs i n le fits =
     let len : length (take i xs ++ take n (drop i xs)) ≡ i + n
     = length-append (take i xs) (take n (drop i xs)) ∙ (λ k. length-take-le i xs le k + length-take-le n (drop i xs) fits k) in
     sym (ap (take (i + n)) whole ∙ take_at (take i xs ++ take n (drop i xs)) (drop n (drop i xs)) (i + n) len)
-
-pub consumes_more : (a b c : Option (List ℕ)) (xs ys : List ℕ) → Consumes a b xs → Consumes b c ys → Consumes a c (xs ++ ys)
-consumes_more None b c xs ys first second = tt
-consumes_more (Some l) None c xs ys first second = absurd first
-consumes_more (Some l) (Some k) None xs ys first second = absurd second
-consumes_more (Some l) (Some k) (Some j) xs ys first second = first ∙ ap (λ t. xs ++ t) second ∙ sym (append_assoc xs ys j)
-
-pub consumes_none : (a : Option (List ℕ)) → Consumes a a []
-consumes_none None = tt
-consumes_none (Some l) = refl
-
-pub consumed_all : (a b c : Option (List ℕ)) (xs : List ℕ) → Consumes a b xs → Consumes b c [] → IsAtEnd c → IfSome a (λ input. xs ≡ input)
-consumed_all None b c xs first second end = tt
-consumed_all (Some l) None c xs first second end = absurd first
-consumed_all (Some l) (Some k) None xs first second end = absurd second
-consumed_all (Some l) (Some k) (Some j) xs first second end = sym (first ∙ ap (λ t. xs ++ t) (second ∙ end) ∙ append-nil xs)
 
 -- less than an answer was written
 pub write_fault : (l : Limits) (read old new : Option (List ℕ)) (items : List ℕ) (outcome : Outcome) (text : List ℕ) (n : ℕ) → IfSome read (λ input. items ≡ input)

@@ -48,7 +48,3 @@ escaped_kept c p q = escaped_same (encode c) (λ k below.
 
 pub dotted_kept : (c : ℕ) → (c ≡ 46 → ⊥) → dotted (encode c) ≡ encode c
 dotted_kept c p = dotted_same (encode c) (λ k below. no_match 46 (get_or (encode c) k 0) c (omega arith) p (byte_of c k below))
-
-pub none : (bs : List ℕ) → length bs ≡ 0 → bs ≡ []
-none [] e = refl
-none (b ∷ bs) e = absurd (omega (arith, e))

@@ -1,10 +1,6 @@
 -- The items of bodies, by what their tokens begin with.
-use Rattle.std.proofs.Common.{◌≡◌, ℕ, List, Option, Some, None, Err, inl, inr, refl, sym, ap, subst, ◌∙◌}
-use Rattle.tera_base.specs.Errors.{IsMemory}
-use Rattle.tera_base.specs.declared.errors.Error.{Error}
+use Rattle.std.proofs.Common.{◌≡◌, ℕ, List, Option, Some, None, refl, sym, ap, subst, ◌∙◌}
 use Rattle.tera_base.specs.declared.utils.Span.{Span}
-use Rattle.tera_lexer.specs.code.Cursors.{Position, TakesOne}
-use Rattle.tera_lexer.specs.code.Steps.{Stops}
 use Rattle.tera_lexer.specs.grammar.Tokens as toks
 use Rattle.tera_lexer.specs.grammar.Tokens.{Tok, Items, Token}
 use Rattle.tera_lexer.specs.declared.lexer.delimiters.Kind.TheVariants as kind
@@ -23,14 +19,6 @@ use Rattle.tera_statements.specs.Kinds.{kind_of, opener_kind, opener_of}
 use Rattle.tera_statements.specs.declared.fronts.Front.TheVariants as fronts
 use Rattle.tera_statements.specs.declared.fronts.Opener.{Opener}
 use Rattle.tera_statements.specs.declared.fronts.Closer.{Closer}
-
--- a token that is there is taken, or no memory was found
-pub err_takes : (old new : Position) (e : Error) (t : Tok) (s : Span) (us : Items) → old.left ≡ Token t s us → TakesOne old (Err e) new → IsMemory e
-err_takes old new e t s us there (inl meets) = not_ended (sym there ∙ meets.0)
-  where
-    not_ended : {A : Type 0} → Token t s us ≡ toks.Ended → A
-    not_ended h = cc
-err_takes old new e t s us there (inr takes) = (subst (λ v. Stops old.source v e) there takes.1).1
 
 -- a text comes next
 pub record HoldsText (ts : Items) : Type 0 where

@@ -80,6 +80,3 @@ all_met names sorted =
     let is : (name : List ℕ) → locate_all (listed names.entries) nothing_located name ≡ located_of names name = λ name.
     entries_met name names.entries nothing_located sorted ∙ or_nothing (lookup (sought name) names.entries) in
     λ i name. is name i
-
-pub empty_located : (names : BTreeMap (String Global) Span) → names.entries ≡ [] → located_of names ≡ nothing_located
-empty_located names h = λ i name. lookup (sought name) (h i)

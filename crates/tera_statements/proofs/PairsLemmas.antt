@@ -4,10 +4,9 @@ use Rattle.std.specs.BTreeMap.{insert_entry}
 use Rattle.std.specs.FinMap.Entries.{by_order}
 use Rattle.std.specs.List.{zip}
 use Rattle.std.specs.Ordering.{match_ordering}
-use Rattle.tera_base.specs.Text.{key_text}
 use Rattle.tera_base.specs.Values as values
 use Rattle.tera_base.specs.Values.{Pairs, Val}
-use Rattle.tera_base.specs.ValueView.{key_view, pairs_view, value_view}
+use Rattle.tera_base.specs.ValueView.{pairs_view}
 use Rattle.tera_base.specs.declared.values.Key.{Key}
 use Rattle.tera_base.specs.declared.values.Value.{Value}
 use Rattle.tera_grammar.specs.statements.Components.{put_pairs}
@@ -34,12 +33,6 @@ put_named f (e ∷ es) k v =
     by_match (map (named f)) (string_cmp k e.0) ((k, v) ∷ e ∷ es) ((e.0, v) ∷ es) (e ∷ insert_entry string_cmp es k v)
     ∙ one_of (string_cmp k e.0) (named f (k, v) ∷ named f e ∷ map (named f) es) (named f (e.0, v) ∷ map (named f) es) (named f e ∷ map (named f) (insert_entry string_cmp es k v))
     (named f e ∷ put_name (string_bytes k) (f v) (map (named f) es)) (ap (λ more. named f e ∷ more) (put_named f es k v))
-
--- the pairs of a map, one after another
-pub pair_put : (ks more : List Key) (vs others : List Value) (k : Key) (v : Value) (values : Sorted Val) → ks ≡ k ∷ more → vs ≡ v ∷ others
-    → put_pairs (pairs_view (zip ks vs)) values ≡ put_pairs (pairs_view (zip more others)) (put_name (key_text (key_view k)) (value_view v) values)
-pair_put ks more vs others k v values a b =
-    ap (λ m. put_pairs (pairs_view (zip m vs)) values) a ∙ ap (λ m. put_pairs (pairs_view (zip (k ∷ more) m)) values) b
 
 pub all_put : (ks : List Key) (vs : List Value) (values : Sorted Val) → (length ks ≡ 0) ⊎ (length vs ≡ 0) → put_pairs (pairs_view (zip ks vs)) values ≡ values
 all_put [] vs values h = refl

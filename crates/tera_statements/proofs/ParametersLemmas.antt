@@ -121,9 +121,6 @@ view_truth b = search (rules, the_lemmas)
 pub view_text : (s : String Global) → value_view (code.String s) ≡ values.Text (string_bytes s)
 view_text s = search (rules, the_lemmas)
 
-pub view_nothing : value_view code.None ≡ values.Nothing
-view_nothing = search (rules, the_lemmas)
-
 -- a number of a source, and the same below zero
 pub counted_fits : (n : ℤ) → IsCount n → to_z w64 (of_z w64 n) ≡ n
 counted_fits n (k, is, small) = rw is (omega (arith, ints))
@@ -163,9 +160,6 @@ map_default l ts q (Err e) there h = rw (begun_map l ts there) (failed (map_of l
 
 -- names
 module _ (seen : Met) (ts us : Items) (n : Name) (named : taken_name ts ≡ Some (n, us)) where
-  pub named_body : is_body n.text ≡ true → fresh_name seen ts ≡ None
-  named_body h = rw (named, h) refl
-
   module _ (other : is_body n.text ≡ false) where
     pub named_again : seen n.text ≡ true → fresh_name seen ts ≡ None
     named_again h = rw (named, other, h) refl

@@ -5,10 +5,10 @@ use Rattle.tera_base.specs.Errors.{IsMemory}
 use Rattle.tera_base.specs.declared.errors.Error.{Error}
 use Rattle.tera_base.specs.declared.utils.Span.{Span}
 use Rattle.tera_lexer.specs.code.Cursors.{FaultsFrom, IsLater, Passes, Position, TakesOne, is_end, size}
-use Rattle.tera_lexer.specs.code.Steps.{Stops, TakesMemory}
+use Rattle.tera_lexer.specs.code.Steps.{Stops}
 use Rattle.tera_lexer.specs.grammar.Faults.{Faults}
 use Rattle.tera_lexer.specs.grammar.Place.{IsWithin}
-use Rattle.tera_lexer.specs.grammar.Tokens.{Content, Ended, Failed, Items, Tok, Token}
+use Rattle.tera_lexer.specs.grammar.Tokens.{Ended, Failed, Items, Token}
 use Rattle.tera_lexer.proofs.Refusals as refusals
 use Rattle.tera_lexer.proofs.Refusals.{later_faults, lift_faults}
 use Rattle.tera_grammar.specs.statements.Expressions.{Limits}
@@ -102,18 +102,6 @@ pub quiet : (k : Front) (ts : Items) → k ≡ kind_of (front ts) → AreEmptyTe
 quiet k Ended h empty = subst IsQuiet (sym h) tt
 quiet k (Failed text span) h empty = absurd empty
 quiet k (Token t span items) h empty = subst IsQuiet (sym (h ∙ ap (λ u. kind_of (front_at u span items)) empty.0)) tt
-
--- an empty text is taken
-pub empty_untaken : (old new : Position) (e : Error) (t : Tok) (s : Span) (us : Items) → old.left ≡ Token t s us → AreEmptyTexts old.left → TakesOne old (Err e) new → ⊥
-empty_untaken old new e t s us there empty (inl meets) = not_ended (sym there ∙ meets.0)
-  where
-    not_ended : {A : Type 0} → Token t s us ≡ Ended → A
-    not_ended h = cc
-empty_untaken old new e t s us there empty (inr takes) =
-    subst TakesMemory (subst AreEmptyTexts there empty).0 (subst (λ v. Stops old.source v e) there takes.1).0
-
-pub empty_taken : (ts us : Items) (t : Tok) (s : Span) → ts ≡ Token t s us → AreEmptyTexts ts → t ≡ Content []
-empty_taken ts us t s took empty = (subst AreEmptyTexts took empty).0
 
 passed_empty : (n : ℕ) (items : Items) (last : Span) (left : Items) (here : Span) → Passes n items last left here → AreEmptyTexts items → AreEmptyTexts left
 passed_empty zero items last left here (left_is, span_is) empty = subst AreEmptyTexts (sym left_is) empty

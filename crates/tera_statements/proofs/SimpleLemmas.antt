@@ -1,5 +1,5 @@
 -- What `break` and `continue` add, and what keeps an `extends` out.
-use Rattle.std.proofs.Common.{◌≡◌, Bool, true, false, refl}
+use Rattle.std.proofs.Common.{◌≡◌, Bool, refl}
 use Rattle.tera_grammar.specs.statements.Output.{AddsNode, plain_adds}
 use Rattle.tera_grammar.specs.statements.Parts.{Tag}
 use Rattle.tera_statements.specs.Simple.{jump_item, jump_output}
@@ -9,7 +9,3 @@ use Rattle.tera_statements.specs.declared.simple.Jump.TheVariants.{Break, Contin
 pub jump_adds : (in_loop : Bool) (j : Jump) (t : Tag) → AddsNode (jump_output j) ≡ plain_adds in_loop (jump_item j t)
 jump_adds in_loop Break t = refl
 jump_adds in_loop Continue t = refl
-
-pub not_free : (b : Bool) → (b ≡ true → false ≡ true) → b ≡ false
-not_free true h = let e : false ≡ true = h refl in cc
-not_free false h = refl

@@ -1,7 +1,7 @@
 -- How outcomes follow from one another.
 use Rattle.std.specs.List.{AllZip}
 use Rattle.std.proofs.Common.{[], ◌∷◌, ◌++◌, ◌≡◌, ℕ, List, Result, Ok, Err, inl, inr, refl, sym, subst}
-use Rattle.tera_base.specs.Errors.{IsMemory, Says}
+use Rattle.tera_base.specs.Errors.{Says}
 use Rattle.tera_tree.specs.Outcomes.{Outcome, Gives, Passes, Refuses, IsResultOf, ComesTo, Then, InTurn}
 use Rattle.tera_base.specs.declared.errors.Error.{Error}
 
@@ -44,9 +44,6 @@ passed view R e r = inr (Passes e, r, refl)
 
 pub refused : {A B : Type 0} (view : A → B) (R : Outcome B → Type 0) (text : List ℕ) (e : Error) → R (Refuses text) → Says text e → ComesTo view R (Err e)
 refused view R text e r h = inr (Refuses text, r, h)
-
-pub wanted : {A B : Type 0} (view : A → B) (R : Outcome B → Type 0) (e : Error) → IsMemory e → ComesTo view R (Err e)
-wanted view R e m = inl m
 
 -- ---- things in turn
 

@@ -7,10 +7,6 @@ use Rattle.std.proofs.lemmas.Option.{slice_get-map, slice_get_read, slice_get_pa
 use denote.Ref.{Bor}
 use Rattle.terminal_text.specs.Lines.{line_in}
 
-pub line_none : (all : List (List ℕ)) (n : ℕ) → (1 ≤ n → ⊥) → line_in all n ≡ None
-line_none all zero none = refl
-line_none all (suc before) none = absurd (none (omega arith))
-
 line_some : (all : List (List ℕ)) (n i : ℕ) → 1 ≤ n → i ≡ n - 1 → line_in all n ≡ slice_get (map strip_carriage_return all) i
 line_some all zero i some is = absurd (omega arith)
 line_some all (suc before) i some is =

@@ -111,15 +111,6 @@ pub name_read : (n : Name) (k : ℕ) (r : Items) → name_of (at k (name_yield n
 unfolding name_of
 name_read n k r = refl
 
--- what is read as a name is no mark
-pub name_none : (p : Place) → name_of p ≡ None → taken_name p.tokens ≡ None
-unfolding name_of
-name_none p h = moved_none p.links (taken_name p.tokens) h
-
-pub none_name : (k : ℕ) (r : Items) → taken_name r ≡ None → name_of (at k r) ≡ None
-unfolding name_of
-none_name k r h = rw h
-
 pub literal_of_ok : (t : Tok) (l : Lit) → literal_of t ≡ Some l → t ≡ literal_token l
 literal_of_ok (toks.Integer n) l h = ap literal_token (same_Some _ _ h)
 literal_of_ok (toks.Str text) l h = ap literal_token (same_Some _ _ h)

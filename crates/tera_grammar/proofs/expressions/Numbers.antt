@@ -15,7 +15,7 @@ use Rattle.tera_grammar.specs.expressions.Operators.{Div, GreaterThan}
 use Rattle.tera_grammar.specs.expressions.Concrete.{Name, Sign, Negative, Negates, Joint, plain_dot, optional_dot, Bracket, plain_bracket, optional_bracket, Negation, plainly, negated, Second, no_second, second, Dotted, no_dots, dots, Op, Single, NotIn, Lit, Number, Quoted, Truth, Kind, of_arguments, of_items, of_entries, closing, Tree, Atomic, Prefix, Suffixed, Infix, Atom, Literal, Null, Chain, Call, Paren, Array, Comprehension, Map, Component, Links, no_links, field, item, Sub, index, slice, Part, absent, present, Extra, no_extra, extra, Row, ended, only, then, Element, plain, spread, pair, argument, Attributes, no_attributes, bare, quoted, valued, spreading, Suffix, Test, Filter, Subscript, Args, no_args, args, Operator, Binary, Condition, quote_token, literal_token, sign_yield, joint_yield, bracket_yield, negation_yield, second_yield, dotted_yield, op_yield, yield, atom_yield, links_yield, sub_yield, part_yield, extra_yield, row_yield, element_yield, attributes_yield, suffix_yield, args_yield, operator_yield}
 use Rattle.tera_grammar.specs.expressions.Spans.{first}
 use Rattle.tera_grammar.specs.expressions.Output.{output, atom_output, links_output, sub_output, part_output, extra_output, field_output, arguments_output, argument_output, items_output, item_output, entries_output, entry_output, attributes_output, args_output, suffix_output, operator_output, op_output, negation_output, prefixed, array_made, map_made, is_optional_bracket, with_value, constant_items, constant_entries, same_key, put_pair, put_arg, literal_value, of_loop}
-use Rattle.tera_grammar.specs.expressions.Constants.{IsLiteralNumber, EachNumber, HoldsOf, EachOfValue, EachOfValues, EachOfPairs, EachConstant, EachOfMaybe, EachOfArgs, EachOfItems, EachOfEntries}
+use Rattle.tera_grammar.specs.expressions.Constants.{IsLiteralNumber, EachNumber, EachOfValue, EachOfValues, EachOfPairs, EachConstant, EachOfMaybe, EachOfArgs, EachOfItems, EachOfEntries}
 
 module _ (P : ℤ → Type 0) where
   -- behind a token of whatever kind
@@ -270,14 +270,6 @@ module _ (P : ℤ → Type 0) where
           let y = constants_hold l c (mark Else t us) h in
           let x = right y.1 in
           ((y.0, k, x.0), x.1)
-
-    -- where the whole is a number
-    holds_of : (e : Expr) → EachConstant P e → HoldsOf P e
-    holds_of (tree.Const (values.I64 n) span) h = h
-    holds_of _ h = tt
-
-    pub number_holds : (l : Bool) (t : Tree) (r : Items) → EachNumber P (yield t r) → HoldsOf P (output l t)
-    number_holds l t r h = holds_of (output l t) (constants_hold l t r h).0
 
 -- a number with either sign
 pub literal_negates : (n : ℤ) → IsLiteralNumber n → IsLiteralNumber (neg_ℤ n)

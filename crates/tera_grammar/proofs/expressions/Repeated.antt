@@ -2,10 +2,7 @@
 use Rattle.std.proofs.Common.{◌≡◌, ◌⊎◌, inl, inr, ⊎_elim, ℕ, Bool, true, false, not, ◌&&◌, ◌||◌, List, [], ◌∷◌, ◌++◌, bytes_eq, refl, sym, ap, ◌∙◌}
 use Rattle.std.proofs.lemmas.Slice.Eq.{bytes_eq-Decides}
 use Rattle.std.proofs.lemmas.List.Folds.{list_any-append}
-use Rattle.tera_base.specs.declared.utils.Span.{Span}
-use Rattle.tera_grammar.specs.expressions.Concrete.{Name, Row, then, argument, Tree}
 use Rattle.tera_grammar.specs.Words.{is_one_of, are_distinct}
-use Rattle.tera_grammar.specs.expressions.Conditions.{argument_names}
 use Rattle.tera_grammar.proofs.Options.{not_ok, or_false, and_ok}
 
 and_false : (b : Bool) → (b && false) ≡ false
@@ -53,24 +50,3 @@ once (d ∷ ds) n distinct h =
     let (first, rest) = and_ok (not (is_one_of ds d)) (are_distinct ds) distinct in
     let (other, none) = or_false (bytes_eq n d) (is_one_of ds n) h in
     ap (λ b. not b && are_distinct (ds ++ n ∷ [])) (not_behind ds n d (not_ok (is_one_of ds d) first) other) ∙ once ds n rest none
-
--- an argument in front of others
-pub record Given : Type 0 where
-  pub name : Name
-  pub assign : Span
-  pub value : Tree
-  pub comma : Span
-
--- a row of arguments that begins with these
-pub in_front : List Given → Row → Row
-in_front [] row = row
-in_front (g ∷ gs) row = then (argument g.name g.assign g.value) g.comma (in_front gs row)
-
-pub given_names : List Given → List (List ℕ)
-given_names [] = []
-given_names (g ∷ gs) = g.name.text ∷ given_names gs
-
-pub names_in_front : (gs : List Given) (row : Row) → argument_names (in_front gs row) ≡ given_names gs ++ argument_names row
-unfolding in_front given_names
-names_in_front [] row = refl
-names_in_front (g ∷ gs) row = ap (λ ns. g.name.text ∷ ns) (names_in_front gs row)

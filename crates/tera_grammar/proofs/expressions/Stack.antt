@@ -1,6 +1,6 @@
 -- What the whole comes to, from the states of the reading over a stack.
 use Rattle.std.proofs.Common.{◌≡◌, ◌≢◌, ◌⊎◌, inl, inr, ℕ, zero, suc, ◌-◌, Bool, true, false, cond, List, [], ◌∷◌, ◌++◌, length, Option, Some, None, Result, Ok, Err, refl, sym, ap, subst, ◌∙◌, arith}
-use Rattle.std.proofs.lemmas.Option.{none-some, same_Some}
+use Rattle.std.proofs.lemmas.Option.{same_Some}
 use Rattle.tera_base.specs.Errors.{IsMemory}
 use Rattle.tera_base.specs.declared.errors.Error.{Error}
 use Rattle.tera_base.specs.declared.utils.Span.{Span}
@@ -11,18 +11,18 @@ use Rattle.tera_nodes.specs.Tree as tree
 use Rattle.tera_base.specs.Values as values
 use Rattle.tera_grammar.specs.expressions.Operators.{BinaryOperator, StrConcat, Minus, LessThan}
 use Rattle.tera_grammar.specs.expressions.Marks.{mark, LeftParen, RightParen, LeftBracket, LeftBrace, Else, Operation, Other}
-use Rattle.tera_grammar.specs.expressions.Concrete.{Lit, Sign, Negative, Negates, Op, Single, NotIn, Tree, Atomic, Prefix, Suffixed, Infix, Literal, Null, Chain, Call, Paren, Array, Comprehension, Map, Component, Suffix, Test, Filter, Subscript, Operator, Binary, Condition, yield, suffix_yield, operator_yield}
+use Rattle.tera_grammar.specs.expressions.Concrete.{Sign, Negative, Negates, Op, Single, NotIn, Tree, Atomic, Prefix, Suffixed, Infix, Literal, Null, Chain, Call, Paren, Array, Comprehension, Map, Component, Suffix, Test, Filter, Subscript, Operator, Binary, Condition, yield, suffix_yield, operator_yield}
 use Rattle.tera_grammar.specs.expressions.Powers.{op_right, right_of, right_power, sign_power}
 use Rattle.tera_grammar.specs.expressions.Spans.{spanning, first, last}
 use Rattle.tera_grammar.specs.Words.{is_none, is_not}
-use Rattle.tera_grammar.specs.expressions.Output.{literal_value, output, suffix_output}
+use Rattle.tera_grammar.specs.expressions.Output.{output, suffix_output}
 use Rattle.tera_grammar.specs.expressions.Conditions.{is_refused}
 use Rattle.tera_grammar.specs.Options.{◌>>=◌}
-use Rattle.tera_grammar.specs.expressions.Reading.Front.{Place, at, Reads, takes, moved, skip, bump, literal_of, head_mark, begins_sign, leads_binary, leads_condition, Ending, Front, nothing, joins, closes, misplaced, front}
+use Rattle.tera_grammar.specs.expressions.Reading.Front.{Place, at, Reads, takes, moved, skip, bump, head_mark, begins_sign, leads_binary, leads_condition, Ending, Front, nothing, joins, closes, misplaced, front}
 use Rattle.tera_grammar.specs.expressions.Reading.Parts.{Room, Reader}
-use Rattle.tera_grammar.specs.expressions.Reading.Atoms.{prefix_of, paren_of, array_of, map_of, component_of, chain_of, word_head, literal_head, mark_head, head_token, head_in, head_of}
+use Rattle.tera_grammar.specs.expressions.Reading.Atoms.{prefix_of, paren_of, array_of, map_of, component_of, chain_of, word_head, mark_head, head_in, head_of}
 use Rattle.tera_grammar.specs.expressions.Reading.Loop.{Growth, by_operator, by_suffix, grow, suffix_in, operator_of, join_of, close_of, grown, step, go_on, loop_by, loop_with, loop, expr}
-use Rattle.tera_grammar.specs.expressions.Stack.{Operand, shown, Shows, outcome, enclosed, chosen, suffixed, joined, refuses, operator_in, is_negated, grown_operand, Level, level, Frame, in_paren, in_prefix, in_binary, in_condition, in_last, State, going, coming, resume, stops, heading, prefixing, joining, choosing, suffix_of, closing, unwind, Keeps, Gives, HeadGives, SuffixGives}
+use Rattle.tera_grammar.specs.expressions.Stack.{Operand, shown, Shows, outcome, enclosed, chosen, suffixed, joined, refuses, operator_in, is_negated, grown_operand, Level, level, Frame, in_paren, in_prefix, in_binary, in_condition, in_last, State, going, coming, resume, stops, heading, prefixing, joining, choosing, suffix_of, closing, unwind, Keeps, HeadGives, SuffixGives}
 use Rattle.tera_grammar.proofs.expressions.FoundLoop.{expr_sound}
 use Rattle.tera_grammar.proofs.expressions.FoundAtoms.{head_found}
 use Rattle.tera_grammar.proofs.expressions.Unrolled.{loop_goes}
@@ -31,18 +31,6 @@ outcome_bind : (l : Bool) (o : Reads Tree) (f : Tree × Place → Reads Tree) (g
     → ((t : Tree) (q : Place) → outcome l (f (t, q)) ≡ g (shown l t, q)) → outcome l (o >>= f) ≡ (outcome l o >>= g)
 outcome_bind l None f g same = refl
 outcome_bind l (Some x) f g same = same x.0 x.1
-
--- the tree that an outcome stands for
-pub came_of : (l : Bool) (o : Reads Tree) (a : Operand) (q : Place) → outcome l o ≡ Some (a, q)
-    → (t : Tree) × (o ≡ Some (t, q)) × (a ≡ shown l t)
-came_of l None a q h = absurd (none-some _ h)
-came_of l (Some x) a q h =
-    let same : (shown l x.0, x.1) ≡ (a, q) = same_Some _ _ h in
-    (x.0, ap (λ (y : Operand × Place). Some (x.0, y.1)) same, sym (ap (λ (y : Operand × Place). y.0) same))
-
-pub came_to_none : (l : Bool) (o : Reads Tree) → outcome l o ≡ None → o ≡ None
-came_to_none l None h = refl
-came_to_none l (Some x) h = absurd (none-some _ (sym h))
 
 -- an operand grows as its tree does
 pub grows : (l : Bool) (t : Tree) (g : Growth) → shown l (grow t g) ≡ grown_operand l (shown l t) g
@@ -241,17 +229,6 @@ module _ (w : Room) (v : Level) (a : Operand) (p : Place) where
   suffix_fails e us is goes read =
       closes_on e us is goes ∙ ap (λ o. o >>= λ s. going w v (suffixed w.in_loop a s.0) s.1) read
 
--- a right operand, within the links
-pub counts : (w : Room) (v : Level) (o : BinaryOperator) (n : Bool) (a : Operand) (p : Place) (j : ℕ) → p.links ≡ suc j
-    → joining w v o n a p ≡ (coming v.below w (right_of o) (at j p.tokens) >>= resume w (in_binary v o n a))
-unfolding bump
-counts w v o n a p j h = ap (λ i. joining w v o n a (at i p.tokens)) h
-
-pub counts_out : (w : Room) (v : Level) (o : BinaryOperator) (n : Bool) (a : Operand) (p : Place) → p.links ≡ 0
-    → joining w v o n a p ≡ None
-unfolding bump
-counts_out w v o n a p h = ap (λ i. joining w v o n a (at i p.tokens)) h
-
 -- What each frame makes of what was read inside of it, where it goes on, and where it refuses.
 module _ (w : Room) (v : Level) (x : Operand) (p : Place) where
   -- the mark that must follow
@@ -269,10 +246,6 @@ module _ (w : Room) (v : Level) (x : Operand) (p : Place) where
   pub unclosed : (s : Span) → takes RightParen p.tokens ≡ None → resume w (in_paren v s) (x, p) ≡ None
   unfolding skip
   unclosed s h = fails _ (λ c. going w v (enclosed s x c.0) c.1) (ap (moved p.links) h)
-
-  pub joins_up : (o : BinaryOperator) (n : Bool) (a : Operand) → refuses o x.0 ≡ false
-      → resume w (in_binary v o n a) (x, p) ≡ going w v (joined o n a x) p
-  joins_up o n a h = ap (λ c. cond c None (going w v (joined o n a x) p)) h
 
   pub refuses_right : (o : BinaryOperator) (n : Bool) (a : Operand) → refuses o x.0 ≡ true
       → resume w (in_binary v o n a) (x, p) ≡ None
@@ -431,16 +404,6 @@ module _ (w : Room) (v : Level) (p : Place) where
   unfolding head_mark
   heads_component s us is = ap (λ us. head_in (expr v.below) w p.links us) is
 
-  pub heads_literal : (t : Tok) (s : Span) (us : Items) (x : Lit) → p.tokens ≡ Token t s us → literal_of t ≡ Some x
-      → heading w v p ≡ going w v (tree.Const (literal_value x) s, s) (at p.links us)
-  heads_literal t s us x is h = begun (Token t s us) is ∙ literal t h
-    where
-      literal : (t : Tok) → literal_of t ≡ Some x
-          → behind (head_token (expr v.below) w t s (at p.links us)) ≡ going w v (tree.Const (literal_value x) s, s) (at p.links us)
-      literal (Ident n) h = cc
-      literal (Symbol o) h = cc
-      literal t h = ap (λ o. behind (literal_head o s (at p.links us))) h
-
   -- what no operand begins with
   pub heads_no_mark : (o : List ℕ) (s : Span) (us : Items) → p.tokens ≡ Token (Symbol o) s us → head_mark (Symbol o) ≡ Other
       → heading w v p ≡ None
@@ -490,19 +453,6 @@ module _ (w : Room) (v : Level) (a : Operand) (p : Place) (k : Ending) (us : Ite
       → SuffixGives view w.in_loop a (Err e) here q (suffix_of w v k (at p.links us)) → IsMemory e ⊎ (going w v a p ≡ None)
   suffix_missed e here q (inl memory) = inl memory
   suffix_missed e here q (inr none) = inr (suffix_fails w v a p k us is goes none)
-
--- the whole, where all is read, and where nothing is
-module _ {E : Type 0} (view : E → tree.Expr) (d : ℕ) (w : Room) (m : ℕ) (p : Place) where
-  pub whole_given : (e : E) (s : Span) (q : Place) → Some ((view e, s), q) ≡ coming d w m p
-      → Gives view w.in_loop (Ok e) q (expr d w m p)
-  whole_given e s q h =
-      let (t, read, shows) = came_of w.in_loop (expr d w m p) (view e, s) q (sym h) in
-      (t, read, ap (λ (x : Operand). x.0) shows)
-
-  pub whole_missed : (e : Error) (q : Place) → IsMemory e ⊎ (coming d w m p ≡ None)
-      → Gives view w.in_loop (Err e) q (expr d w m p)
-  whole_missed e q (inl memory) = inl memory
-  whole_missed e q (inr none) = inr (came_to_none w.in_loop (expr d w m p) none)
 
 -- where nothing is read inside of the frames, and what is pushed and popped
 module _ {F : Type 0} (frame : F → Frame) (w : Room) where

@@ -11,13 +11,13 @@ use Rattle.tera_grammar.specs.Options.{◌>>=◌}
 use Rattle.tera_grammar.specs.statements.Names.{agrees}
 use Rattle.tera_grammar.specs.statements.Places.{block_placed, component_placed, places, item_places, branch_places, else_places}
 use Rattle.tera_grammar.specs.statements.Reading.Meeting.{Seen, met, ◌having◌}
-use Rattle.tera_grammar.specs.statements.Parts.{Name, name_yield, name_if_any_yield, Tag, Opener, OpensSet, OpensInclude, OpensExtends, OpensBlock, OpensFor, OpensIf, OpensFilter, OpensComponent, OpensBreak, OpensContinue, OpensCall, Closer, AtElif, AtElse, AtEndSet, AtEndBlock, AtEndFor, AtEndIf, AtEndFilter, AtEndComponent, AtEndCall, opening, closing, finish}
+use Rattle.tera_grammar.specs.statements.Parts.{Name, name_yield, name_if_any_yield, Tag, Opener, OpensSet, OpensInclude, OpensExtends, OpensBlock, OpensFor, OpensIf, OpensFilter, OpensComponent, OpensBreak, OpensContinue, OpensCall, AtElif, AtEndBlock, AtEndFor, AtEndIf, opening, closing, finish}
 use Rattle.tera_grammar.specs.statements.Expressions.{Limits, Expression, IsExpression, expression_yield, attributes_yield, component_text}
 use Rattle.tera_grammar.specs.statements.Components.{Head, ending_yield, FitsHead}
 use Rattle.tera_grammar.specs.statements.Heads.{Loop, loop_yield, FitsLoop, Filters, NoFilters, Piped, filters_yield, Capture, SetBody, Section, CallBody, capture_end, FitsCapture}
 use Rattle.tera_grammar.specs.statements.Grammar.{Plain, Text, Shown, Set, Include, Extends, Break, Continue, plain_yield, FitsPlain, Body, Done, Then, Item, Single, Block, Define, Capturing, For, If, Branches, Elif, Last, Else, NoElse, Otherwise, yield, item_yield, branches_yield, else_yield, InFor, InForElse, InBlock, InIf, InComponent, InCapture, Path, may_block, in_loop, is_outermost, text_if_any, Fits, FitsItem, FitsBranches, FitsElse, height, item_height, branch_height, else_height}
 use Rattle.tera_grammar.specs.statements.Reading.{Place, at, Reads, Reader, else_in, branch_in, branches, set_behind, set_of, include_of, extends_of, break_of, block_end, block_of, component_def_of, section_of, call_end, call_of, for_of, if_of, tag_of, shown_of, step, go_on, body}
-use Rattle.tera_grammar.specs.statements.Reading.Parts.{Front, Ends, Closes, Opens, front, closed_tag}
+use Rattle.tera_grammar.specs.statements.Reading.Parts.{Front, Ends, Closes, Opens, front}
 use Rattle.tera_grammar.proofs.statements.Names.{NamesAreNew, first_names, having_both, then_names}
 use Rattle.tera_grammar.proofs.statements.Expressions.{expression_found, filter_found, attributes_found, attributes_begin, component_found}
 use Rattle.tera_grammar.proofs.statements.Heads.{loop_found, filters_end, filters_found}
@@ -48,39 +48,6 @@ front_opening OpensComponent t r = refl
 front_opening OpensBreak t r = refl
 front_opening OpensContinue t r = refl
 front_opening OpensCall t r = refl
-
-pub front_closing : (c : Closer) (t : Tag) (r : Items) → front (closing c t r) ≡ Closes c t.start t.first r
-front_closing AtElif t r = refl
-front_closing AtElse t r = refl
-front_closing AtEndSet t r = refl
-front_closing AtEndBlock t r = refl
-front_closing AtEndFor t r = refl
-front_closing AtEndIf t r = refl
-front_closing AtEndFilter t r = refl
-front_closing AtEndComponent t r = refl
-front_closing AtEndCall t r = refl
-
-closing_ends : (c : Closer) (t : Tag) (r : Items) → EndsBefore (closing c t r)
-closing_ends AtElif t r = tt
-closing_ends AtElse t r = tt
-closing_ends AtEndSet t r = tt
-closing_ends AtEndBlock t r = tt
-closing_ends AtEndFor t r = tt
-closing_ends AtEndIf t r = tt
-closing_ends AtEndFilter t r = tt
-closing_ends AtEndComponent t r = tt
-closing_ends AtEndCall t r = tt
-
-closed_tag_found : (c : Closer) (t : Tag) (r : Items) → closed_tag c (closing c t (finish t r)) ≡ Some (t, r)
-closed_tag_found AtElif t r = refl
-closed_tag_found AtElse t r = refl
-closed_tag_found AtEndSet t r = refl
-closed_tag_found AtEndBlock t r = refl
-closed_tag_found AtEndFor t r = refl
-closed_tag_found AtEndIf t r = refl
-closed_tag_found AtEndFilter t r = refl
-closed_tag_found AtEndComponent t r = refl
-closed_tag_found AtEndCall t r = refl
 
 step_ends : (l : Limits) (f : Reader) (path : Path) (seen : Seen) (fr : Front) → EndsAt fr → step l f path seen fr ≡ Some None
 unfolding step

@@ -33,9 +33,6 @@ free_name_stands ts x h =
     bound _ _ _ h (λ n read more. bound _ _ _ more (λ u free made.
     subst (λ (y : Name × Items). (is_reserved y.0.text ≡ false) × (ts ≡ name_yield y.0 y.1)) (same_Some n x made) (guard_not _ u free, taken_name_ok ts n read)))
 
-pub free_name_found : (n : Name) (rest : Items) → is_reserved n.text ≡ false → free_name (name_yield n rest) ≡ Some (n, rest)
-free_name_found n rest free = rw free refl
-
 module _ (l : Limits) where
   -- what is read as the head of a loop
   abbrev LoopStands : Items → Loop × Items → Type 0

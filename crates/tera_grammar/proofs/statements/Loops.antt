@@ -1,8 +1,8 @@
 -- How loops begin, go on and end.
-use Rattle.std.proofs.Common.{◌≡◌, ℕ, suc, ◌<◌, Bool, true, false, List, [], ◌∷◌, ◌++◌, Option, Some, None, refl, sym, ap, subst, ◌∙◌, append_assoc, append-nil}
+use Rattle.std.proofs.Common.{◌≡◌, ℕ, suc, Bool, true, false, List, [], ◌∷◌, ◌++◌, Option, Some, None, refl, sym, ap, subst, ◌∙◌, append_assoc, append-nil}
 use Rattle.std.proofs.lemmas.Option.{same_Some}
 use Rattle.tera_base.specs.declared.utils.Span.{Span}
-use Rattle.tera_lexer.specs.code.Cursors.{size, is_end}
+use Rattle.tera_lexer.specs.code.Cursors.{is_end}
 use Rattle.tera_lexer.specs.grammar.Tokens.{Items}
 use Rattle.tera_nodes.specs.Tree as tree
 use Rattle.tera_nodes.specs.Tree.{Expr, Stmt}
@@ -16,11 +16,11 @@ use Rattle.tera_grammar.specs.Options.{◌>>=◌, guard}
 use Rattle.tera_grammar.specs.statements.Places.{places}
 use Rattle.tera_grammar.specs.statements.Reading.Meeting.{Met, Seen, meet, nothing_met, nothing_seen, ◌having◌}
 use Rattle.tera_grammar.specs.statements.Parts.{Edge, AtElif, OpensExtends}
-use Rattle.tera_grammar.specs.statements.Expressions.{Limits, Expression, expression_output, Filtering, filter_output}
-use Rattle.tera_grammar.specs.statements.Reading.Expressions.{expression_of, filter_of}
+use Rattle.tera_grammar.specs.statements.Expressions.{Limits, expression_output, Filtering, filter_output}
+use Rattle.tera_grammar.specs.statements.Reading.Expressions.{filter_of}
 use Rattle.tera_grammar.specs.statements.Components.{Parameter, argument_of, Parameters, put_arguments, rest_of, More}
 use Rattle.tera_grammar.specs.statements.Heads.{Filters, NoFilters, Piped, filters_output, SetBody, Section, CallBody}
-use Rattle.tera_grammar.specs.statements.Grammar.{is_outermost, Text, Shown, Set, Include, Extends, Break, Continue, Body, Done, Then, Item, Single, Block, Define, Capturing, For, If, Branches, Elif, Last, Else, Path, in_loop}
+use Rattle.tera_grammar.specs.statements.Grammar.{is_outermost, Text, Shown, Set, Include, Extends, Break, Continue, Body, Done, Then, Item, Single, Block, Define, Capturing, For, If, Branches, Elif, Last, Else, Path}
 use Rattle.tera_grammar.specs.statements.Reading.Loops.{Going, Branch, chain, chain_output, nest, Branching, pipe, pipe_output, Piping, list, Listing, with_added, text_weight, weight, Parent, turn, Topping}
 use Rattle.tera_grammar.specs.statements.Output.{added_nodes, added_by, output, branch_output, else_output, later, parent_by, definitions_by, parent_of, definitions_of, output_of}
 use Rattle.tera_grammar.specs.statements.Reading.{extends_of, Place, at, Reads, else_in, else_of, branch_in, branches, step, go_on, body, Phase, Starting, Standing, Extending, behind_text, next_phase, phases, template}
@@ -29,11 +29,10 @@ use Rattle.tera_grammar.specs.statements.Reading.Components.{parameter_of, param
 use Rattle.tera_grammar.specs.statements.Reading.Parts.{Front, Closes, Opens, front, finish_of, tag}
 use Rattle.tera_grammar.specs.statements.Top.{is_blank, join}
 use Rattle.tera_grammar.proofs.Options.{bound}
-use Rattle.tera_grammar.proofs.statements.Parts.{front_is}
 use Rattle.tera_grammar.proofs.statements.Heads.{filters_steps}
 use Rattle.tera_grammar.proofs.statements.Components.{parameters_steps}
-use Rattle.tera_grammar.proofs.statements.Found.{body_sound, step_found}
-use Rattle.tera_grammar.proofs.statements.Unrolled.{body_steps, branches_steps, item_size}
+use Rattle.tera_grammar.proofs.statements.Found.{body_sound}
+use Rattle.tera_grammar.proofs.statements.Unrolled.{body_steps, branches_steps}
 use Rattle.tera_grammar.proofs.statements.Tops.{phases-join}
 
 pub bind_assoc : {A B C : Type 0} (o : Option A) (f : A → Option B) (g : B → Option C) → ((o >>= f) >>= g) ≡ (o >>= λ x. f x >>= g)
@@ -117,12 +116,6 @@ module _ (l : Limits) (d : ℕ) (path : Path) (f : Bool) (start here : Place) (n
         ∙ ap (λ v. output f g.before ++ v) (sym (append-nil (added_nodes (added_by f i)))) ∙ sym (output-join f g.before (Then i Done));
   }
 
--- each step takes tokens
-pub step_shorter : (l : Limits) (d : ℕ) (path : Path) (here : Place) (x : Item × Place) → step l (body d l) path here.seen (front here.tokens) ≡ Some (Some x) → size x.1.tokens < size here.tokens
-step_shorter l d path here x h =
-    let found = step_found l d (body d l) (body_sound l d) path here.seen here.tokens (front here.tokens) x (front_is here.tokens) h in
-    subst (λ v. size x.1.tokens < size v) (sym found.tokens) (item_size x.0 x.1.tokens)
-
 -- the branches of an `if`, the last inside the others
 pub nest-chain : (f : Bool) (bs : List Branch) (o : Else) → branch_output f (chain bs (Last o)) ≡ nest (chain_output f bs) (else_output f o)
 nest-chain f [] o = refl
@@ -175,13 +168,6 @@ module _ (l : Limits) (d : ℕ) (path : Path) (f : Bool) (start here : Place) (g
         ∙ bind_assoc (All new) _ _ ∙ bind_same (All new) _ _ (λ bs. ap (λ v. Some (v, bs.1)) (sym (chain-more g.before b bs.0)));
     shows = grown ∙ ap (λ v. v ++ (expression_output f b.condition, output f b.body) ∷ []) g.shows ∙ sym (chain_output-more f g.before b);
   }
-
-  -- an `elif` there
-  pub at_elif : (tag_start : Edge) (first : Span) (us : Items) → front here.tokens ≡ Closes AtElif tag_start first us → (c : Expression × Items) → expression_of l (in_loop path) us ≡ Some c
-      → (e : Edge × Items) → finish_of c.1 ≡ Some e → (b : Body × Place) → body d l path (at here.seen e.1) ≡ Some b
-      → branch_in l (body d l) path All here.seen here.tokens (front here.tokens) ≡ (All b.1 >>= λ bs. Some (Elif (tag tag_start first e.0) c.0 b.0 bs.0, bs.1))
-  unfolding branch_in
-  at_elif tag_start first us is c read e ended b inside = rw (is, read, ended, inside) refl
 
   -- none there: what is left is an `else`, or nothing
   no_elif : (fr : Front) → is_elif fr ≡ false → branch_in l (body d l) path All here.seen here.tokens fr ≡ (else_in (body d l) path here.seen here.tokens fr >>= λ o. Some (Last o.0, o.1))

@@ -1,5 +1,5 @@
 -- From the tokens of a whole source to its derivation.
-use Rattle.std.proofs.Common.{◌≡◌, ℕ, false, List, [], map, Some, None, subst, sym, refl, ap, ◌∙◌}
+use Rattle.std.proofs.Common.{◌≡◌, ℕ, false, List, [], map, Some, subst, sym, refl, ap, ◌∙◌}
 use Rattle.tera_lexer.specs.grammar.Marks.{Marks, IsValid}
 use Rattle.tera_lexer.specs.grammar.Division.{Complete, IsDivision}
 use Rattle.tera_lexer.specs.grammar.Tokens.{Items, tokens_of, AreTokensOf}
@@ -14,7 +14,6 @@ use Rattle.tera_grammar.specs.statements.Places.{Places, places, texts}
 use Rattle.tera_grammar.specs.statements.Reading.{template}
 use Rattle.tera_grammar.specs.statements.Top.{IsTemplate, Derives, DerivesNames}
 use Rattle.tera_grammar.specs.statements.Trees.{blocks}
-use Rattle.tera_grammar.proofs.Options.{none_some}
 use Rattle.tera_grammar.proofs.statements.Closed.{ends_in_nothing}
 use Rattle.tera_grammar.proofs.statements.Names.{same_names}
 use Rattle.tera_grammar.proofs.statements.Trees.{same_blocks, same_components}
@@ -74,7 +73,3 @@ module _ (l : Limits) (m : Marks) (valid : IsValid m) (source : List ℕ) where
     -- what is derived is read
     pub derives_read : (output : Output) → Derives l m source output → (b : Body) × (template l items ≡ Some b) × (output ≡ output_of b)
     derives_read output d = (d.2.0, template_complete l items d.2.0 (derived_template items are output d), d.2.2)
-
-    -- so nothing is, where nothing is read
-    pub none_derived : template l items ≡ None → (output : Output) → Derives l m source output → ⊥
-    none_derived none output d = none_some (sym none ∙ template_complete l items d.2.0 (derived_template items are output d))

@@ -99,10 +99,6 @@ abbrev pub is_unary : Expr → Bool
 is_unary (tree.UnaryOperation o e span) = true
 is_unary _ = false
 
-abbrev pub is_constant : Expr → Bool
-is_constant (tree.Const v span) = true
-is_constant _ = false
-
 abbrev pub is_optional_joint : Joint → Bool
 is_optional_joint (plain_dot s) = false
 is_optional_joint (optional_dot s) = true

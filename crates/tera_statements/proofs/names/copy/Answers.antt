@@ -1,7 +1,7 @@
 use Rattle.std.proofs.Common.{◌∙◌, ap, sym}
 use Rattle.tera_grammar.specs.statements.Reading.Meeting.{Located, locate_all}
 use Rattle.tera_statements.specs.Known.{listed, located_of}
-use Rattle.tera_statements.proofs.KnownLemmas.{all_met, empty_located, kept_at, same_place}
+use Rattle.tera_statements.proofs.KnownLemmas.{all_met, kept_at, same_place}
 use Rattle.tera_statements.proofs.names.copy.Goals as goal
 
 pub entries-preserved : goal.entries-preserved
