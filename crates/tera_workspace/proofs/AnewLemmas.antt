@@ -1,5 +1,5 @@
 -- A document that was read.
-use Rattle.std.proofs.Common.{◌≡◌, ◌∙◌, ℕ, List, map, string_bytes, IfOk, IfErr, MatchResult, [], true, sym, subst}
+use Rattle.std.proofs.Common.{◌≡◌, ℕ, List, map, string_bytes, IfOk, IfErr, MatchResult, [], true, sym, subst}
 use Rattle.tera_grammar.specs.Limits.{usual}
 use Rattle.tera_grammar.specs.statements.Places.{Places}
 use Rattle.tera_grammar.specs.statements.Top.{Derives, DerivesNames}
@@ -11,7 +11,7 @@ use Rattle.tera_tree.specs.Tree.{Output}
 use Rattle.tera_check.specs.Faults.{IsSyntaxError}
 use Rattle.tera_check.specs.declared.templates.Template.{Template}
 use Rattle.tera_workspace.specs.Fresh.{IsRead}
-use Rattle.tera_workspace.specs.Kept.{told_of, HasNames, IsWhole, IsAnew}
+use Rattle.tera_workspace.specs.Kept.{told_of, HasNames, IsAnew}
 use Rattle.tera_workspace.specs.Sources.{Source}
 use Rattle.tera_workspace.specs.declared.judged.Judged.{Judged}
 

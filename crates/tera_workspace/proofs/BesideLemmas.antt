@@ -9,7 +9,6 @@ use Rattle.tera_nodes.specs.Tree.{Expr, Const, Array, Map, Var, GetAttr, GetItem
 use Rattle.tera_tree.specs.Tree.{Argument, Definition, Output}
 use Rattle.tera_check.specs.Alike.{name_called, names_in}
 use Rattle.tera_check.specs.Calls.{calls_of}
-use Rattle.tera_check.specs.Findings.{FindingVal}
 use Rattle.tera_check.specs.Judged.{KnownVal, RemarkVal, about, told, refused_for, unless_rest, unknown, refusal, counted, refused, refused_one, is_again, refused_findings, missed, missing_findings, missing_in, judged, call_findings, again, defined_again, again_findings}
 use Rattle.tera_check.specs.Named.{span_at, tree_findings}
 use Rattle.tera_check.specs.Passed.{NamedVal, PassedVal, OneNamed, Whatever, has_whatever, is_passed, passed_by}

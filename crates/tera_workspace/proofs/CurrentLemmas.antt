@@ -1,30 +1,26 @@
 -- What was told stays as it would be found, where another text of one file is read and those are marked that name what it
 -- changes, or were told a place in it.
-use Rattle.std.proofs.Common.{◌≡◌, ◌≢◌, ◌∙◌, ◌<◌, ℕ, zero, suc, List, [], ◌∷◌, ◌||◌, length, get_or, set, map, Bool, true, false, Result, Ok, Err, MatchResult, string_bytes, refl, sym, ap, subst, inl, inr, arith}
+use Rattle.std.proofs.Common.{◌≡◌, ◌∙◌, ◌<◌, ℕ, zero, suc, List, [], ◌∷◌, ◌||◌, length, get_or, set, map, Bool, true, false, Result, Ok, Err, MatchResult, string_bytes, refl, sym, ap, subst, inl, inr, arith}
 use Rattle.std.proofs.lemmas.Bool.{cases_eq}
 use Rattle.std.proofs.Common.{if◌then◌else◌}
 use Rattle.std.specs.List.{AllByRecursion, list_any}
 use Rattle.std.specs.List.Sorted.{IsPermutation}
-use Rattle.std.specs.Str.{bytes_eq}
 use Rattle.std.proofs.lemmas.List.Sorted.{list_any-IsPermutation}
-use Rattle.std.proofs.lemmas.Slice.Eq.{bytes_eq-Decides}
 use Rattle.tera_base.specs.ErrorView.{error_view}
 use Rattle.tera_base.specs.declared.errors.Error.{Error}
 use Rattle.tera_statements.specs.Outputs.{output_view}
 use Rattle.tera_statements.specs.declared.outputs.ParserOutput.{ParserOutput}
 use Rattle.tera_check.specs.Alike.{names_in}
 use Rattle.tera_check.specs.Findings.{finding_view, IsOfError}
-use Rattle.tera_check.specs.Judged.{KnownVal}
 use Rattle.tera_check.specs.Named.{tree_findings, first_named, defined_in, defined_by, definitions_of}
 use Rattle.tera_check.specs.Rules.{IsInOrder}
 use Rattle.tera_check.specs.declared.finding.Finding.{Finding}
 use Rattle.tera_check.specs.declared.templates.Template.{Template}
 use Rattle.text_edits.specs.declared.positions.Encoding.{Encoding}
 use Rattle.tera_workspace.specs.Beside.{AreAlikeButIfAny, AgreeBut}
-use Rattle.tera_workspace.specs.Diagnostics.{diagnostic_view, diagnostic_of}
-use Rattle.tera_workspace.specs.Fresh.{IsRead, IsFound, IsTold}
+use Rattle.tera_workspace.specs.Fresh.{IsTold}
 use Rattle.tera_workspace.specs.Heads.{definition_named, HaveOneHeadIfAny}
-use Rattle.tera_workspace.specs.Kept.{name_of, source_of, sources_of, templates_of, told_of, HasNames, IsWhole, IsCurrent, AreCurrent, is_about, is_told_in, marked}
+use Rattle.tera_workspace.specs.Kept.{name_of, source_of, sources_of, templates_of, told_of, HasNames, IsWhole, IsCurrent, AreCurrent, is_told_in, marked}
 use Rattle.tera_workspace.specs.Names.{is_among}
 use Rattle.tera_workspace.specs.Sources.{Source, text_named}
 use Rattle.tera_workspace.specs.declared.judged.Judged.{Judged}

@@ -1,5 +1,5 @@
 -- What `findings_of` finds by a part of the components is what is found by all.
-use Rattle.std.proofs.Common.{◌≡◌, ◌∙◌, ℕ, List, [], ◌∷◌, map, true, Option, None, Some, Result, Ok, Err, String, string_bytes, IfOk, IfErr, MatchResult, refl, sym, ap, subst}
+use Rattle.std.proofs.Common.{◌≡◌, ◌∙◌, ℕ, List, [], ◌∷◌, map, true, Option, None, Some, Result, Ok, Err, String, string_bytes, IfOk, IfErr, MatchResult, refl, ap, subst}
 use Rattle.std.specs.List.Sorted.{IsPermutation}
 use Rattle.std.specs.declared.alloc.Global.{Global}
 use Rattle.tera_base.specs.ErrorView.{error_view}

@@ -5,7 +5,7 @@ use Rattle.std.specs.Cmp.Lexicographic.{pointwise}
 use Rattle.std.specs.Option.{option_eq}
 use Rattle.std.specs.Str.{bytes_eq}
 use Rattle.std.proofs.lemmas.Slice.Eq.{bytes_eq-Decides, slice_eq-Decides}
-use Rattle.tera_tree.specs.Definitions.{argument_eq, named_argument_eq}
+use Rattle.tera_tree.specs.Definitions.{named_argument_eq}
 use Rattle.tera_tree.specs.DefinitionLaws.{argument_decides}
 use Rattle.tera_tree.specs.Tree.{Argument, Definition}
 use Rattle.tera_workspace.specs.Heads.{HaveOneHead, head_eq}

@@ -1,12 +1,12 @@
 -- What is known under a name where one template is another, whose component of that name has the same head.
-use Rattle.std.proofs.Common.{◌≡◌, ◌∙◌, ◌<◌, ◌+◌, ℕ, zero, suc, List, [], ◌∷◌, ◌++◌, length, get_or, set, Bool, true, false, cond, Option, None, Some, string_bytes, refl, sym, ap, subst, inl, inr, arith, nat_eq}
+use Rattle.std.proofs.Common.{◌≡◌, ◌∙◌, ◌<◌, ℕ, zero, suc, List, [], ◌∷◌, ◌++◌, length, get_or, set, Bool, true, false, cond, Option, None, Some, string_bytes, refl, sym, ap, subst, inl, inr, arith}
 use Rattle.std.specs.Str.{bytes_eq}
 use Rattle.tera_tree.specs.Tree.{Definition}
 use Rattle.tera_check.specs.Judged.{KnownVal}
 use Rattle.tera_check.specs.Named.{known_at, defined_from, defined_in, defined_by, definitions_of, first_named, or_else}
 use Rattle.tera_check.specs.declared.templates.Template.{Template}
 use Rattle.tera_workspace.specs.Beside.{AreAlikeBut, AreAlikeButIfAny}
-use Rattle.tera_workspace.specs.Heads.{definition_named, HaveOneHead, HaveOneHeadIfAny}
+use Rattle.tera_workspace.specs.Heads.{definition_named, HaveOneHeadIfAny}
 
 or_cond : (b : Bool) (k : KnownVal) (rest more : Option KnownVal) → or_else (cond b (Some k) rest) more ≡ cond b (Some k) (or_else rest more)
 or_cond true k rest more = refl

@@ -1,5 +1,5 @@
 -- Sets of names, to which one is added.
-use Rattle.std.proofs.Common.{◌≡◌, ◌∙◌, ◌<◌, ◌≤◌, ◌+◌, ℕ, zero, suc, List, [], ◌∷◌, ◌++◌, ◌||◌, length, drop, get_or, map, Bool, true, false, cond, String, string_bytes, refl, sym, ap, subst, arith, drop-cons}
+use Rattle.std.proofs.Common.{◌≡◌, ◌∙◌, ◌<◌, ◌≤◌, ◌+◌, ℕ, zero, suc, List, [], ◌∷◌, ◌++◌, ◌||◌, length, drop, get_or, Bool, true, false, cond, String, string_bytes, refl, sym, ap, arith, drop-cons}
 use Rattle.std.proofs.Common.{if◌then◌else◌}
 use Rattle.std.specs.BTreeSet as sorted
 use Rattle.std.specs.BTreeSet.{BTreeSet, contains_text}
@@ -37,19 +37,6 @@ or_has false false h = refl
 pub has_it : (name : List ℕ) (s : BTreeSet (String Global)) → contains_text s name ≡ true → (n : List ℕ) → contains_text s n ≡ (contains_text s n || bytes_eq name n)
 has_it name s has n = or_has (bytes_eq name n) (contains_text s n) (λ e. ap (contains_text s) (sym (same_name name n e)) ∙ has)
 
--- one of those that are to come
-step : (c b r : Bool) → (c || (if b then true else r)) ≡ ((c || b) || r)
-step true b r = refl
-step false true r = refl
-step false false r = refl
-
-pub one_less : (all before now : Bool) (n m : List ℕ) (ms : List (List ℕ)) → all ≡ (before || is_among n (m ∷ ms)) → now ≡ (before || bytes_eq m n) → all ≡ (now || is_among n ms)
-one_less all before now n m ms h e = h ∙ step before (bytes_eq m n) (is_among n ms) ∙ ap (λ (c : Bool). c || is_among n ms) (sym e)
-
-or_false : (c : Bool) → (c || false) ≡ c
-or_false true = refl
-or_false false = refl
-
 pub drop_end : {X : Type 0} (xs : List X) (i : ℕ) → length xs ≤ i → drop i xs ≡ []
 drop_end [] zero h = refl
 drop_end [] (suc i) h = refl
@@ -59,21 +46,6 @@ drop_end (x ∷ xs) (suc i) h = drop_end xs i (omega arith)
 pub drop_next : {X : Type 0} (xs : List X) (i : ℕ) (x : X) → i < length xs → x ≡ get_or xs i x → drop i xs ≡ x ∷ drop (suc i) xs
 drop_next xs i x h is = drop-cons xs i x h ∙ ap (λ y. y ∷ drop (suc i) xs) (sym is)
 
--- the names of a list from one of its places on, by a function of each
-module _ {X : Type 0} (names : List X → List (List ℕ)) (name : X → List ℕ) (each : (x : X) (xs : List X) → names (x ∷ xs) ≡ name x ∷ names xs) where
-  pub name_next : (n : List ℕ) (xs : List X) (i : ℕ) (x : X) (m : List ℕ) (all before now : Bool) → i < length xs → x ≡ get_or xs i x → m ≡ name x
-      → all ≡ (before || is_among n (names (drop i xs))) → now ≡ (before || bytes_eq m n)
-      → all ≡ (now || is_among n (names (drop (i + 1) xs)))
-  name_next n xs i x m all before now h is named held added =
-      let next : i + 1 ≡ suc i = omega arith in
-      let here : all ≡ (before || is_among n (name x ∷ names (drop (suc i) xs))) =
-      held ∙ ap (λ ys. before || is_among n (names ys)) (drop_next xs i x h is) ∙ ap (λ ms. before || is_among n ms) (each x (drop (suc i) xs)) in
-      rw next (one_less all before now n (name x) (names (drop (suc i) xs)) here (added ∙ ap (λ k. before || bytes_eq k n) named))
-
-  pub names_done : names [] ≡ [] → (n : List ℕ) (xs : List X) (i : ℕ) (now all : Bool) → length xs ≤ i → all ≡ (now || is_among n (names (drop i xs))) → now ≡ all
-  names_done none n xs i now all h held =
-      sym (held ∙ ap (λ ys. now || is_among n (names ys)) (drop_end xs i h) ∙ ap (λ ms. now || is_among n ms) none ∙ or_false now)
-
 -- two lists of names behind one another
 pub among_append : (n : List ℕ) (ms ks : List (List ℕ)) → is_among n (ms ++ ks) ≡ (is_among n ms || is_among n ks)
 among_append n [] ks = refl
@@ -82,11 +54,6 @@ among_append n (m ∷ ms) ks = by_first (bytes_eq m n) (is_among n (ms ++ ks)) (
     by_first : (b x y z : Bool) → x ≡ (y || z) → (if b then true else x) ≡ ((if b then true else y) || z)
     by_first true x y z h = refl
     by_first false x y z h = h
-
-pub both_added : (n : List ℕ) (ms ks : List (List ℕ)) (start first second : Bool) → start ≡ false → first ≡ (start || is_among n ms) → second ≡ (first || is_among n ks)
-    → second ≡ is_among n (ms ++ ks)
-both_added n ms ks start first second none h1 h2 =
-    h2 ∙ ap (λ (c : Bool). c || is_among n ks) (h1 ∙ ap (λ (c : Bool). c || is_among n ms) none) ∙ sym (among_append n ms ks)
 
 -- what is so of each name that is among these is so of them all
 equal_itself : (n : List ℕ) → bytes_eq n n ≡ true

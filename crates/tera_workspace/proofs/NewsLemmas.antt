@@ -2,7 +2,7 @@
 use Rattle.std.proofs.Common.{◌≡◌, ◌≢◌, ◌∙◌, ◌<◌, ◌≤◌, ◌+◌, ℕ, zero, suc, List, [], ◌∷◌, ◌++◌, length, get_or, set, take, drop, map, Bool, true, false, cond, None, String, string_bytes, refl, sym, ap, subst, inl, inr, arith, append_assoc}
 use Rattle.std.proofs.Common.{if◌then◌else◌}
 use Rattle.std.proofs.lemmas.Bool.{cases_eq}
-use Rattle.std.proofs.lemmas.List.{map-append, get_or_push, get_or_append_left, length_push, length-drop, take_all, drop_all}
+use Rattle.std.proofs.lemmas.List.{map-append, get_or_push, get_or_append_left, length_push}
 use Rattle.std.proofs.lemmas.Slice.Eq.{bytes_eq-Decides}
 use Rattle.std.specs.Bool.{Decides}
 use Rattle.std.specs.Cmp.Lexicographic.{slice_cmp}
@@ -32,9 +32,6 @@ false_true e = cc
 pub record AreNewsSoFar (e : Encoding) (js : List Judged) (news : List News) : Type 0 where
   pub within : length news ≤ length js
   pub each : (k : ℕ) (d : Judged) → k < length news → IsNews e js k (get_or js k d) (get_or news k None)
-
-pub no_news : (e : Encoding) (js : List Judged) → AreNewsSoFar e js []
-no_news e js = record { within = omega arith; each = λ k d h. absurd (omega (arith, h)) }
 
 module _ (e : Encoding) (js : List Judged) (news : List News) (v : News) (j : Judged) (within : length news < length js) (is : j ≡ get_or js (length news) j)
     (one : IsNews e js (length news) j v) (h : AreNewsSoFar e js news) where
@@ -170,9 +167,6 @@ pub record AreToldSoFar (number : ℕ) (old : List Judged) (all : List News) (no
   pub done : now ≡ told_each (take number old) (take number all) ++ drop number old
   pub to_come : drop number left ≡ drop number all
 
-pub none_told : (old : List Judged) (all : List News) → length all ≡ length old → AreToldSoFar 0 old all old all
-none_told old all same = record { as_many = same; whole = refl; done = refl; to_come = refl }
-
 first_left : {X : Type 0} (xs : List X) (i : ℕ) (d : X) → get_or xs i d ≡ get_or (drop i xs) 0 d
 first_left [] zero d = refl
 first_left [] (suc i) d = refl
@@ -224,10 +218,6 @@ one_told_more i old now next all left rest j v within same is is_v next_is rest_
       done = told;
       to_come = ap (drop (suc i)) rest_is ∙ drop_set left i None ∙ drop_one left i ∙ ap (drop 1) h.to_come ∙ sym (drop_one all i);
     })
-
-pub all_are_told : (i : ℕ) (old now : List Judged) (all left : List News) → length old ≤ i → length all ≡ length old → AreToldSoFar i old all now left → now ≡ told_each old all
-all_are_told i old now all left done same h =
-    h.done ∙ (λ k. told_each (take_all i old done k) (take_all i all (omega (arith, same)) k) ++ drop_all i old done k) ∙ nil_end (told_each old all)
 
 -- ---- a test that failed
 

@@ -1,12 +1,10 @@
 -- The document of a number that was found by a name.
-use Rattle.std.proofs.Common.{◌≡◌, ◌∙◌, ◌<◌, ℕ, zero, suc, List, [], ◌∷◌, ◌||◌, length, get_or, map, Bool, true, false, cond, string_bytes, refl, ap, arith, rules, tests}
-use Rattle.std.specs.Str.{bytes_eq}
+use Rattle.std.proofs.Common.{◌≡◌, ◌∙◌, ℕ, zero, suc, List, [], ◌∷◌, length, get_or, false, cond, refl, ap, arith, rules, tests}
 use Rattle.text_edits.specs.Lines.{lines_of}
 use Rattle.text_edits.specs.Positions.{is_boundary, boundary_to, position_of}
 use Rattle.text_edits.specs.declared.positions.Encoding.{Encoding}
-use Rattle.text_edits.specs.declared.positions.Position.{Position}
-use Rattle.tera_workspace.specs.Diagnostics.{DiagnosticVal, position_in}
-use Rattle.tera_workspace.specs.Kept.{sources_of, told_of, told_named, has_name, NoneBefore, IsNumbered}
+use Rattle.tera_workspace.specs.Diagnostics.{position_in}
+use Rattle.tera_workspace.specs.Kept.{sources_of, told_of, told_named, NoneBefore, IsNumbered}
 use Rattle.tera_workspace.specs.Sources.{text_named}
 use Rattle.tera_workspace.specs.declared.judged.Judged.{Judged}
 

@@ -1,11 +1,10 @@
 -- Documents of which all was told.
-use Rattle.std.proofs.Common.{◌≡◌, ◌∙◌, ◌<◌, ℕ, zero, suc, List, [], ◌∷◌, length, get_or, map, Bool, true, false, cond, Option, None, Some, Vec, string_bytes, refl, sym, ap, subst, arith}
+use Rattle.std.proofs.Common.{◌≡◌, ◌∙◌, ◌<◌, ℕ, zero, suc, List, [], ◌∷◌, length, get_or, map, false, cond, Option, None, Some, Vec, string_bytes, refl, sym, ap, subst, arith}
 use Rattle.std.specs.Cmp.Lexicographic.{slice_cmp}
 use Rattle.std.specs.List.{AllByRecursion}
 use Rattle.std.specs.Ordering.{nat_cmp, is_eq}
 use Rattle.std.specs.Str.{bytes_eq}
 use Rattle.std.specs.declared.alloc.Global.{Global}
-use Rattle.std.specs.declared.cmp.Ordering.{Ordering}
 use Rattle.std.specs.declared.cmp.Ordering.TheVariants.{Less}
 use Rattle.std.proofs.lemmas.Map.Text.{is_eq-slice_cmp}
 use Rattle.std.proofs.lemmas.Slice.Eq.{bytes_eq-Decides}
@@ -13,7 +12,7 @@ use Rattle.text_edits.specs.declared.positions.Encoding.{Encoding}
 use Rattle.tera_check.specs.declared.templates.Template.{Template}
 use Rattle.tera_workspace.specs.Fresh.{IsRead, IsTold, AreFresh}
 use Rattle.tera_workspace.specs.Kept.{source_of, sources_of, templates_of, told_of, told_named, IsWhole, AllWhole, AreCurrent}
-use Rattle.tera_workspace.specs.Sources.{Source, AreInOrder, AreAscending}
+use Rattle.tera_workspace.specs.Sources.{Source, AreAscending}
 use Rattle.tera_workspace.specs.Told.{IsNewsBy, AreNews, told_one, told_each}
 use Rattle.tera_workspace.specs.declared.diagnostics.Diagnostic.{Diagnostic}
 use Rattle.tera_workspace.specs.declared.judged.Judged.{Judged}
@@ -85,9 +84,6 @@ module _ (e : Encoding) (js : List Judged) (news : List News) (current : AreCurr
   now_current k d h fresh = all_told k d h
 
 -- ---- each name stands once
-
-false_true : false ≡ true → ⊥
-false_true e = cc
 
 pub not_equal : (a b : List ℕ) → slice_cmp nat_cmp a b ≡ Less → bytes_eq a b ≡ false
 not_equal a b h = sym (is_eq-slice_cmp a b) ∙ ap is_eq h

@@ -1,5 +1,5 @@
 -- Which components have the same heads.
-use Rattle.std.proofs.Common.{◌≡◌, ◌≢◌, ◌∙◌, ◌<◌, ◌≤◌, ◌+◌, ◌⊎◌, ℕ, suc, List, [], ◌∷◌, ◌++◌, ◌||◌, length, drop, get_or, map, Bool, true, false, cond, Option, None, Some, String, string_bytes, refl, sym, ap, subst, inl, inr, arith}
+use Rattle.std.proofs.Common.{◌≡◌, ◌≢◌, ◌∙◌, ◌<◌, ◌+◌, ℕ, suc, List, [], ◌∷◌, ◌++◌, ◌||◌, length, drop, get_or, map, Bool, true, false, cond, Option, None, Some, String, string_bytes, refl, sym, ap, subst, inl, inr, arith}
 use Rattle.std.proofs.Common.{if◌then◌else◌}
 use Rattle.std.specs.Str.{bytes_eq}
 use Rattle.std.specs.declared.alloc.Global.{Global}
@@ -10,7 +10,7 @@ use Rattle.tera_tree.specs.View.{definition_view}
 use Rattle.tera_tree.specs.declared.ast.ComponentDefinition.{ComponentDefinition}
 use Rattle.tera_workspace.specs.Heads.{definition_named, HaveOneHead, HaveOneHeadIfAny, AgreeOn}
 use Rattle.tera_workspace.specs.Names.{is_among}
-use Rattle.tera_workspace.proofs.NameSets.{among_append, drop_end, drop_next}
+use Rattle.tera_workspace.proofs.NameSets.{among_append, drop_next}
 use Rattle.tera_workspace.proofs.PlaceLemmas.{first_false, second_false, differ}
 
 false_true : false ≡ true → ⊥
@@ -43,12 +43,6 @@ pair_next n before after i one other h is g js agree rest =
     subst (λ xs. HaveOneHeadIfAny (definition_named n (map definition_view xs)) (definition_named n (map definition_view (drop i after)))) (sym (drop_next before i one h is))
     (subst (λ ys. HaveOneHeadIfAny (definition_named n (map definition_view (one ∷ drop (suc i) before))) (definition_named n (map definition_view ys))) (sym (drop_next after i other g js))
     (pair_more n (definition_view one) (definition_view other) (map definition_view (drop (suc i) before)) (map definition_view (drop (suc i) after)) agree more))
-
-pub pairs_done : (n : List ℕ) (before after : List ComponentDefinition) (i : ℕ) → length before ≤ i → length after ≤ i
-    → HaveOneHeadIfAny (definition_named n (map definition_view (drop i before))) (definition_named n (map definition_view (drop i after)))
-pairs_done n before after i h g =
-    subst (λ xs. HaveOneHeadIfAny (definition_named n (map definition_view xs)) (definition_named n (map definition_view (drop i after)))) (sym (drop_end before i h))
-    (subst (λ ys. HaveOneHeadIfAny None (definition_named n (map definition_view ys))) (sym (drop_end after i g)) tt)
 
 -- ---- names that were added
 

@@ -1,23 +1,10 @@
 -- The components of the names that are wanted, one by one.
-use Rattle.std.proofs.Common.{◌≡◌, ◌∙◌, ◌<◌, ◌+◌, ℕ, zero, suc, List, [], ◌∷◌, length, drop, get_or, map, Bool, true, false, cond, Option, None, Some, refl, sym, ap, arith}
-use Rattle.std.specs.Str.{bytes_eq}
+use Rattle.std.proofs.Common.{◌≡◌, ◌∙◌, ◌<◌, ◌+◌, ℕ, zero, suc, List, [], ◌∷◌, length, drop, get_or, Option, refl, sym, ap, arith}
 use Rattle.tera_check.specs.Judged.{KnownVal}
 use Rattle.tera_check.specs.Named.{defined_in, defined_by, first_named, or_else}
-use Rattle.tera_check.specs.declared.templates.Template.{Template}
-use Rattle.tera_check.proofs.CatalogueLemmas.{or_none, template_next}
+use Rattle.tera_check.proofs.CatalogueLemmas.{template_next}
 use Rattle.tera_workspace.specs.Kept.{templates_of}
 use Rattle.tera_workspace.specs.declared.judged.Judged.{Judged}
-use Rattle.tera_workspace.proofs.PlaceLemmas.{differ}
-
-false_true : false ≡ true → ⊥
-false_true e = cc
-
--- one whose name is not wanted has no name that is
-pub not_wanted : (known : List ℕ → Option KnownVal) (wanted : List ℕ → Bool) (k : KnownVal) (n name : List ℕ) → name ≡ k.definition.name → wanted name ≡ false → wanted n ≡ true
-    → known n ≡ or_else (known n) (first_named n (k ∷ []))
-not_wanted known wanted k n name named free has =
-    let apart : bytes_eq k.definition.name n ≡ false = differ k.definition.name n (λ same. false_true (sym free ∙ ap wanted (named ∙ same) ∙ has)) in
-    sym (ap (λ b. or_else (known n) (cond b (Some k) None)) apart ∙ or_none (known n))
 
 -- ---- documents
 

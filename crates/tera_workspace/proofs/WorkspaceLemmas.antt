@@ -58,9 +58,6 @@ pub kept_same : (w : Workspace) (ds : Documents) (changed : Vec (String Global) 
 kept_same w ds changed key name is same h k =
     kept_by w ds changed k (λ n free. let (was, other) = one_more w.changed.items changed.items key name n is same free in (was, h n))
 
-pub kept_names : (w : Workspace) (changed : Vec (String Global) Global) → changed.items ≡ w.changed.items → IsKept w → IsKept (record w { changed = changed })
-kept_names w changed is k = kept_by w w.documents changed k (λ n free. (ap (λ names. is_among n (map string_bytes names)) (sym is) ∙ free, refl))
-
 -- ---- documents that were read
 
 pub kept_read : (w u : Workspace) → IsKept w → u.encoding ≡ w.encoding → StayKept w.judged.items u.judged.items

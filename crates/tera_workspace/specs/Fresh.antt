@@ -12,7 +12,6 @@ use Rattle.tera_statements.specs.Outputs.{output_view}
 use Rattle.tera_tree.specs.Tree.{Output}
 use Rattle.tera_check.specs.Faults.{IsSyntaxError}
 use Rattle.tera_check.specs.Findings.{finding_view, IsOfError}
-use Rattle.tera_check.specs.Judged.{KnownVal}
 use Rattle.tera_check.specs.Named.{tree_findings, first_named, defined_by}
 use Rattle.tera_check.specs.Rules.{IsInOrder}
 use Rattle.tera_check.specs.declared.finding.Finding.{Finding}

@@ -2,7 +2,8 @@
 //!
 //! It takes documents as `text_documents` keeps them, and tells what `tera_check` finds in each, with positions of
 //! `text_edits` in the place of spans. After an edit the document is read again, unless it has the text that was judged;
-//! judged again are it and those that call a component whose head came, went or changed, or that were told a place in it.
+//! judged again are it and those that name a component that may be another now, or that were told a place in it: all of
+//! them, where the document is new.
 //!
 //! In the order of reading: specs `Sources`, `Diagnostics`, `Fresh`, `Workspaces`; `diagnostics`; `judged`, a document as
 //! it was judged; `reading`, and `touched`, what a new text changes for others; `catalogue`; `news`; `workspace`.

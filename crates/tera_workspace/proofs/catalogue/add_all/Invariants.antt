@@ -1,4 +1,4 @@
-use Rattle.std.proofs.Common.{◌≡◌, ◌++◌, ◌||◌, ℕ, ◌<◌, List, drop, take, map, length, get_or, false, true, string_bytes}
+use Rattle.std.proofs.Common.{◌≡◌, ℕ, List, drop, map, true}
 use Rattle.tera_tree.specs.View.{definition_view}
 use Rattle.std.specs.BTreeSet.{contains_text}
 use Rattle.tera_check.specs.Named.{known_in, defined_from, first_named, or_else}

@@ -1,4 +1,4 @@
-use Rattle.std.proofs.Common.{◌≡◌, ◌++◌, ◌||◌, ℕ, ◌<◌, List, drop, take, map, length, get_or, false, true, string_bytes}
+use Rattle.std.proofs.Common.{◌≡◌, map}
 use Rattle.tera_check.specs.Findings.{note_view}
 use Rattle.tera_workspace.specs.Diagnostics.{related_view, related_of}
 use Rattle.tera_workspace.specs.Kept.{sources_of}

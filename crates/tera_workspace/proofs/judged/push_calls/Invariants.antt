@@ -1,4 +1,4 @@
-use Rattle.std.proofs.Common.{◌≡◌, ◌++◌, ◌||◌, ℕ, ◌<◌, List, drop, take, map, length, get_or, false, true, string_bytes}
+use Rattle.std.proofs.Common.{◌≡◌, ◌++◌, drop, map, string_bytes}
 use Rattle.std.specs.List.{flat_map}
 use Rattle.tera_check.specs.Alike.{name_called}
 use Rattle.tera_check.specs.Parts.{seen}

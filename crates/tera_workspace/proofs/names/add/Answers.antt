@@ -1,4 +1,4 @@
-use Rattle.std.proofs.Common.{◌≡◌, sym, string_bytes}
+use Rattle.std.proofs.Common.{sym, string_bytes}
 use Rattle.tera_workspace.proofs.NameSets.{has_it, one_added}
 use Rattle.tera_workspace.proofs.names.add.Goals as goal
 

@@ -1,4 +1,4 @@
-use Rattle.std.proofs.Common.{◌≡◌, ◌++◌, ◌||◌, ℕ, ◌<◌, List, drop, take, map, length, get_or, false, true, string_bytes}
+use Rattle.std.proofs.Common.{◌≡◌, ◌||◌, ℕ, List, drop, map, string_bytes}
 use Rattle.std.specs.BTreeSet.{contains_text}
 use Rattle.tera_workspace.specs.Names.{is_among}
 use Rattle.tera_workspace.proofs.names.add_all.Given as goal

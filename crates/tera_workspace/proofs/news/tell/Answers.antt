@@ -1,4 +1,4 @@
-use Rattle.std.proofs.Common.{◌∙◌, ◌<◌, None, length, set, ap, arith}
+use Rattle.std.proofs.Common.{◌∙◌, ◌<◌, length, set, ap, arith}
 use Rattle.tera_workspace.specs.Told.{told_one}
 use Rattle.tera_workspace.proofs.NewsLemmas.{one_told_more}
 use Rattle.tera_workspace.proofs.news.tell.Goals as goal

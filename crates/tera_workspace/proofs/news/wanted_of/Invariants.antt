@@ -1,4 +1,4 @@
-use Rattle.std.proofs.Common.{◌≡◌, ◌++◌, ◌||◌, ℕ, ◌<◌, List, drop, take, map, length, get_or, false, true, string_bytes}
+use Rattle.std.proofs.Common.{take}
 use Rattle.tera_workspace.specs.Kept.{WantsAll}
 use Rattle.tera_workspace.proofs.news.wanted_of.Given as goal
 

@@ -1,4 +1,4 @@
-use Rattle.std.proofs.Common.{◌≡◌, ◌++◌, ◌||◌, ℕ, ◌<◌, List, drop, take, map, length, get_or, false, true, string_bytes}
+use Rattle.std.proofs.Common.{◌≡◌, ◌++◌, drop, take, map}
 use Rattle.tera_workspace.specs.Kept.{unsettled}
 use Rattle.tera_workspace.proofs.reading.mark_all.Given as goal
 

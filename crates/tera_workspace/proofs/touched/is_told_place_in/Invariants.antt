@@ -1,4 +1,4 @@
-use Rattle.std.proofs.Common.{◌≡◌, drop, string_bytes, bytes_eq}
+use Rattle.std.proofs.Common.{◌≡◌, drop}
 use Rattle.std.specs.List.{list_any}
 use Rattle.tera_workspace.specs.Kept.{is_about}
 use Rattle.tera_workspace.proofs.touched.is_told_place_in.Given as goal

@@ -1,4 +1,4 @@
-use Rattle.std.proofs.Common.{◌≡◌, ◌++◌, ◌||◌, ℕ, ◌<◌, List, drop, take, map, length, get_or, false, true, string_bytes}
+use Rattle.std.proofs.Common.{◌≡◌, ◌++◌, drop, take, map, string_bytes}
 use Rattle.tera_workspace.specs.Kept.{marked}
 use Rattle.tera_workspace.proofs.touched.mark.Given as goal
 

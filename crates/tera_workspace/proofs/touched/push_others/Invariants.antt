@@ -1,4 +1,4 @@
-use Rattle.std.proofs.Common.{◌≡◌, ◌++◌, ◌||◌, ℕ, ◌<◌, List, drop, take, map, length, get_or, false, true, string_bytes}
+use Rattle.std.proofs.Common.{◌≡◌, ℕ, List, drop, map, false, string_bytes}
 use Rattle.tera_tree.specs.View.{definition_view}
 use Rattle.tera_workspace.specs.Heads.{definition_named, HaveOneHeadIfAny}
 use Rattle.tera_workspace.specs.Names.{is_among}

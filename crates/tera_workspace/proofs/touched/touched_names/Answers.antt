@@ -1,4 +1,4 @@
-use Rattle.std.proofs.Common.{◌≡◌, ◌∙◌, false, map, string_bytes, sym, ap, subst}
+use Rattle.std.proofs.Common.{◌∙◌, map, string_bytes, sym, ap, subst}
 use Rattle.tera_tree.specs.View.{definition_view}
 use Rattle.tera_check.specs.Named.{definitions_of}
 use Rattle.tera_workspace.specs.Heads.{definition_named, HaveOneHeadIfAny}

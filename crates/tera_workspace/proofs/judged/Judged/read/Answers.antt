@@ -1,4 +1,4 @@
-use Rattle.std.proofs.Common.{◌≡◌, ap, map, refl, string_bytes}
+use Rattle.std.proofs.Common.{ap, map, refl}
 use Rattle.tera_workspace.specs.Diagnostics.{diagnostic_view}
 use Rattle.tera_workspace.proofs.AnewLemmas.{is_read, is_anew}
 use Rattle.tera_workspace.proofs.judged.Judged.read.Goals as goal
