@@ -10,7 +10,7 @@ use Rattle.std.proofs.lemmas.Map.Text.{is_eq-slice_cmp}
 use Rattle.std.proofs.lemmas.Slice.Eq.{bytes_eq-Decides}
 use Rattle.text_edits.specs.declared.positions.Encoding.{Encoding}
 use Rattle.tera_check.specs.declared.templates.Template.{Template}
-use Rattle.tera_workspace.specs.Fresh.{IsRead, IsTold, AreFresh}
+use Rattle.tera_workspace.specs.Fresh.{IsRead, IsTold, AreTemplates, AreFresh}
 use Rattle.tera_workspace.specs.Kept.{source_of, sources_of, templates_of, told_of, told_named, IsWhole, AllWhole, AreCurrent}
 use Rattle.tera_workspace.specs.Sources.{Source, AreAscending}
 use Rattle.tera_workspace.specs.Told.{IsNewsBy, AreNews, told_one, told_each}
@@ -117,8 +117,7 @@ some_of : (js : List Judged) (k : ℕ) → k < length js → Judged
 some_of [] k h = absurd (omega arith)
 some_of (j ∷ js) k h = j
 
-module _ (e : Encoding) (js : List Judged) (whole : AllWhole js) (ordered : AreAscending (sources_of js))
-    (told : (k : ℕ) (d : Judged) → k < length js → IsTold e (sources_of js) (templates_of js) k (get_or js k d).text (get_or js k d).template (told_of (get_or js k d))) where
+module _ (js : List Judged) (whole : AllWhole js) where
   at_read : (k : ℕ) (s : Source) (t : Template) → k < length (sources_of js) → IsRead (get_or (sources_of js) k s) (get_or (templates_of js) k t)
   at_read k s t h =
       let within : k < length js = omega (arith, map_length source_of js) in
@@ -126,6 +125,11 @@ module _ (e : Encoding) (js : List Judged) (whole : AllWhole js) (ordered : AreA
       subst (λ x. IsRead x (get_or (templates_of js) k t)) (sym (at_map source_of js k s within d))
       (subst (IsRead (source_of (get_or js k d))) (sym (at_map (λ j. j.template) js k t within d)) (all_at IsWhole js k d whole within).read)
 
+  pub all_read : AreTemplates (sources_of js) (templates_of js)
+  all_read = record { as_many = map_length (λ j. j.template) js ∙ sym (map_length source_of js); read = at_read }
+
+module _ (e : Encoding) (js : List Judged) (whole : AllWhole js) (ordered : AreAscending (sources_of js))
+    (told : (k : ℕ) (d : Judged) → k < length js → IsTold e (sources_of js) (templates_of js) k (get_or js k d).text (get_or js k d).template (told_of (get_or js k d))) where
   at_told : (k : ℕ) (s : Source) (t : Template) → k < length (sources_of js)
       → IsTold e (sources_of js) (templates_of js) k (get_or (sources_of js) k s).text (get_or (templates_of js) k t) (told_named (get_or (sources_of js) k s).name js)
   at_told k s t h =
@@ -138,7 +142,6 @@ module _ (e : Encoding) (js : List Judged) (whole : AllWhole js) (ordered : AreA
   pub all_fresh : AreFresh e (sources_of js) (λ n. told_named n js)
   all_fresh = record {
     templates = templates_of js;
-    as_many = map_length (λ j. j.template) js ∙ sym (map_length source_of js);
-    read = at_read;
+    are = all_read js whole;
     told = at_told;
   }

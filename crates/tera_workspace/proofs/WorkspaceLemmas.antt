@@ -7,8 +7,9 @@ use Rattle.std.proofs.lemmas.List.{map-append}
 use Rattle.text_documents.specs.Documents.{DocumentVal, text_of}
 use Rattle.text_documents.specs.Stored.{document_of, IsChangedAt, AreSame}
 use Rattle.text_documents.specs.declared.documents.Documents.{Documents}
+use Rattle.tera_workspace.specs.Definitions.{file_by, AreRead}
 use Rattle.tera_workspace.specs.Fresh.{AreFresh}
-use Rattle.tera_workspace.specs.Kept.{sources_of, told_of, told_named, AllWhole, AreCurrent, StayKept}
+use Rattle.tera_workspace.specs.Kept.{name_of, sources_of, templates_of, told_of, told_named, AllWhole, AreCurrent, StayKept}
 use Rattle.tera_workspace.specs.Names.{is_among}
 use Rattle.tera_workspace.specs.Sources.{Source, AreAscending, text_named}
 use Rattle.tera_workspace.specs.Told.{AreNews, told_each}
@@ -18,7 +19,7 @@ use Rattle.tera_workspace.specs.declared.workspace.Workspace.{Workspace}
 use Rattle.tera_workspace.proofs.NameSets.{among_append}
 use Rattle.tera_workspace.specs.Diagnostics.{DiagnosticVal}
 use Rattle.tera_workspace.proofs.PlaceLemmas.{first_false, second_false, false_true}
-use Rattle.tera_workspace.proofs.SettleLemmas.{News, told_sources, told_whole, all_told, now_current, all_fresh}
+use Rattle.tera_workspace.proofs.SettleLemmas.{News, told_sources, told_whole, all_told, now_current, all_read, all_fresh}
 
 -- those that are not among the names that changed are what they were
 kept_by : (w : Workspace) (ds : Documents) (changed : Vec (String Global) Global) → IsKept w
@@ -79,6 +80,36 @@ each_text changed text before now kept stays read n = by_test (is_among n change
     by_test : (b : Bool) → is_among n changed ≡ b → now n ≡ text n
     by_test true e = read n e
     by_test false e = stays n e ∙ kept n e
+
+-- where no more than the documents was read
+module _ (w : Workspace) (now : Vec Judged Global) (k : IsKept w) (stay : StayKept w.judged.items now.items)
+    (others : (n : List ℕ) → is_among n (map string_bytes w.changed.items) ≡ false → text_named n (sources_of now.items) ≡ text_named n (sources_of w.judged.items)) where
+  pub kept_so_far : IsKept (record w { judged = now })
+  kept_so_far = kept_read w (record w { judged = now }) k refl stay (λ n free. others n free ∙ k.texts n free)
+
+  pub kept_behind : (changed : Vec (String Global) Global)
+      → ((n : List ℕ) → is_among n (map string_bytes w.changed.items) ≡ true → text_named n (sources_of now.items) ≡ unwrap_or (text_of (document_of w.documents n)) [])
+      → IsKept (record w { changed = changed; judged = now })
+  kept_behind changed read =
+      kept_read w (record w { changed = changed; judged = now }) k refl stay
+      (λ n free. each_text (map string_bytes w.changed.items) (λ m. unwrap_or (text_of (document_of w.documents m)) []) (λ m. text_named m (sources_of w.judged.items)) (λ m. text_named m (sources_of now.items))
+      k.texts others read n)
+
+-- ---- all was read
+
+names_are : (js : List Judged) → map name_of js ≡ map (λ (s : Source). s.name) (sources_of js)
+names_are [] = refl
+names_are (j ∷ js) = ap (λ ns. name_of j ∷ ns) (names_are js)
+
+pub are_read : (w : Workspace) → IsKept w → w.changed.items ≡ [] → AreRead w
+are_read w k none = record {
+  sources = sources_of w.judged.items;
+  are = record { ascending = k.ordered; texts = λ n. k.texts n (ap (λ names. is_among n (map string_bytes names)) none) };
+  templates = templates_of w.judged.items;
+  read = all_read w.judged.items k.whole;
+  definitions = λ n. refl;
+  files = λ n. ap (λ names. file_by w.documents names n) (names_are w.judged.items);
+}
 
 -- ---- all was told
 

@@ -44,10 +44,14 @@ abbrev pub IsTold : Encoding → List Source → List Template → ℕ → List 
 IsTold e sources ts number text t told =
     (fs : List Finding) × IsFound ts number t fs × (told ≡ map (diagnostic_of e sources text) (map finding_view fs))
 
+-- the templates are what it gives for the sources, in their order
+pub record AreTemplates (sources : List Source) (templates : List Template) : Type 0 where
+  pub as_many : length templates ≡ length sources
+  pub read : (k : ℕ) (s : Source) (t : Template) → k < length sources → IsRead (slice_index_or sources k s) (slice_index_or templates k t)
+
 -- of each, what is told under its name
 pub record AreFresh (e : Encoding) (sources : List Source) (told_of : List ℕ → List DiagnosticVal) : Type 0 where
   pub templates : List Template
-  pub as_many : length templates ≡ length sources
-  pub read : (k : ℕ) (s : Source) (t : Template) → k < length sources → IsRead (slice_index_or sources k s) (slice_index_or templates k t)
+  pub are : AreTemplates sources templates
   pub told : (k : ℕ) (s : Source) (t : Template) → k < length sources →
       IsTold e sources templates k (slice_index_or sources k s).text (slice_index_or templates k t) (told_of (slice_index_or sources k s).name)

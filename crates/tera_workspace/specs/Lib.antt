@@ -1,4 +1,5 @@
 pub mod Beside
+pub mod Definitions
 pub mod Diagnostics
 pub mod Fresh
 pub mod Heads

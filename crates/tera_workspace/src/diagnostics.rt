@@ -1,6 +1,6 @@
 //! Findings, with positions in the place of spans.
 
-ghost use Rattle.std.specs.Prelude.{◌≡◌, IfOk, map, string_bytes};
+ghost use Rattle.std.specs.Prelude.{◌≡◌, IfOk, map};
 ghost use Rattle.tera_check.specs.Findings.{finding_view, note_view};
 ghost use Rattle.tera_workspace.specs.Diagnostics.{diagnostic_view, related_view, diagnostic_of, related_of as told_of_note, position_in};
 ghost use Rattle.tera_workspace.specs.Kept.{sources_of};
@@ -95,8 +95,13 @@ fn related_of(
     Ok(related)
 }
 
-// Where the span begins and ends in the document of this name.
-fn ends_in(encoding: Encoding, all: &Vec<Judged>, name: &str, span: &Span) -> (Position, Position)
+/// Where the span begins and ends in the document of this name.
+pub(crate) fn ends_in(
+    encoding: Encoding,
+    all: &Vec<Judged>,
+    name: &str,
+    span: &Span,
+) -> (Position, Position)
     ensures { let text = text_named name.now (sources_of all.now.items) in
         result ≡ (position_in encoding text span.now.range.start, position_in encoding text span.now.range.end) }
 {

@@ -4,12 +4,15 @@
 //! `text_edits` in the place of spans. After an edit the document is read again, unless it has the text that was judged;
 //! judged again are it and those that name a component that may be another now, or that were told a place in it: all of
 //! them, where the document is new.
+//! It tells where a component is defined, too.
 //!
 //! In the order of reading: specs `Sources`, `Diagnostics`, `Fresh`, `Workspaces`; `diagnostics`; `judged`, a document as
-//! it was judged; `reading`, and `touched`, what a new text changes for others; `catalogue`; `news`; `workspace`.
+//! it was judged; `reading`, and `touched`, what a new text changes for others; `catalogue`; `news`; specs `Definitions`;
+//! `definitions`; `workspace`.
 #![tactic(auto)]
 
 mod catalogue;
+mod definitions;
 mod diagnostics;
 mod judged;
 pub mod laws;
@@ -20,5 +23,6 @@ mod reading;
 mod touched;
 mod workspace;
 
+pub use definitions::Definition;
 pub use diagnostics::{Diagnostic, Related};
 pub use workspace::Workspace;

@@ -5,9 +5,11 @@ ghost use Rattle.std.specs.Option.{option_map, is_some};
 ghost use Rattle.text_edits.specs.Edits.{change_view};
 ghost use Rattle.text_documents.specs.Documents.{no_document, text_of, opened, changed, closed, written, removed};
 ghost use Rattle.text_documents.specs.Stored.{document_of, IsChangedAt, AreSame};
+ghost use Rattle.tera_workspace.specs.Definitions.{definition_view, definition_of_name, file_of_ending, is_file, AreRead};
 ghost use Rattle.tera_workspace.specs.Diagnostics.{diagnostic_view};
 ghost use Rattle.tera_workspace.specs.Workspaces.{told_of_name, IsKept, IsSettled, AreOthers};
 
+use crate::definitions::{Definition, definition_in};
 use crate::diagnostics::Diagnostic;
 use crate::judged::{Judged, number_of};
 use crate::news::{names_of, news_of, tell};
@@ -132,6 +134,40 @@ impl Workspace {
         }
     }
 
+    /// Reads the documents that changed, for `definition_of` and `file_of`. What was told stays. On want of memory some may
+    /// be read.
+    pub fn read(&mut self, alloc: Global) -> Result<(), AllocError>
+        ensures encoding { self.new.encoding ≡ self.old.encoding }
+        ensures documents { AreSame self.old.documents self.new.documents }
+        ensures read { IsKept self.old → OnOk result (AreRead self.new) }
+        ensures kept { IsKept self.old → IsKept self.new }
+        ensures told { (n : List ℕ) → told_of_name self.new n ≡ told_of_name self.old n }
+    {
+        read_changed(alloc, &self.documents, &self.changed, &mut self.judged)?;
+        self.changed.clear();
+        Ok(())
+    }
+
+    /// Where the component of this name is defined, as far as documents were read: in the first of them, by the order of
+    /// the names, that defines it.
+    pub fn definition_of(&self, alloc: Global, name: &str) -> Result<Option<Definition>, AllocError>
+        ensures { IfOk result (λ d. option_map definition_view d ≡ definition_of_name self.now name.now) }
+    {
+        definition_in(alloc, self.encoding, &self.judged, name)
+    }
+
+    /// The first file, by the order of the names, whose name ends so, of those that were read and are there.
+    pub fn file_of(&self, ending: &str) -> Option<&str>
+        ensures { option_map (λ f. f.now) result ≡ file_of_ending self.now ending.now }
+    {
+        for judged in &self.judged {
+            if is_file(&self.documents, ending, judged.template.file.as_str()) {
+                return Some(judged.template.file.as_str());
+            }
+        }
+        None
+    }
+
     /// Finds anew what the documents have that changed, and those whose findings may be others by that. The answer names
     /// the documents whose findings are others than were told before, in the order of the names; from now on `told` has
     /// them. On want of memory what was told stays.
@@ -151,4 +187,11 @@ impl Workspace {
         tell(&mut self.judged, news);
         Ok(names)
     }
+}
+
+// Whether the file is there, and its name ends so.
+fn is_file(documents: &Documents, ending: &str, file: &str) -> bool
+    ensures { result ≡ is_file documents.now ending.now file.now }
+{
+    file.as_bytes().ends_with(ending.as_bytes()) && documents.text(file).is_some()
 }
