@@ -1,0 +1,16 @@
+pub mod ArrayLemmas
+pub mod AskLemmas
+pub mod EditorLemmas
+pub mod FindingLemmas
+pub mod ForestLemmas
+pub mod HandleLemmas
+pub mod KnownLemmas
+pub mod LayoutLemmas
+pub mod NameLemmas
+pub mod NestingLemmas
+pub mod PublishLemmas
+pub mod RequestLemmas
+pub mod SelectionLemmas
+pub mod StayLemmas
+pub mod StepLemmas
+pub mod WithName

@@ -1,0 +1,20 @@
+-- Names that are added one behind another.
+use Rattle.std.proofs.Common.{◌≡◌, ◌∙◌, ◌<◌, ◌+◌, ◌++◌, ◌∷◌, [], ℕ, suc, List, length, drop, get_or, drop-cons, add-one, Option, None, Some, refl, sym, ap, subst, append_assoc}
+use Rattle.std.proofs.lemmas.List.{append-nil}
+use Rattle.tera_server.specs.Requests.{AreNames, AddsName}
+
+-- what is to come of the names of all, when those of the first ones are there
+abbrev pub Follow : List (Option (List ℕ)) → List (Option (List ℕ)) → List (List ℕ) → Type 0
+Follow all uris names = (rest : List (List ℕ)) → AreNames uris rest → AreNames all (names ++ rest)
+
+pub follow_next : (all uris : List (Option (List ℕ))) (u : Option (List ℕ)) (old now : List (List ℕ)) → Follow all (u ∷ uris) old → AddsName u old now → Follow all uris now
+follow_next all uris None old now h same = subst (λ ns. Follow all uris ns) (sym same) h
+follow_next all uris (Some uri) old now h (name, is, more) = λ rest are.
+    subst (λ ns. AreNames all ns) (sym (append_assoc old (name ∷ []) rest) ∙ ap (λ ns. ns ++ rest) (sym more)) (h (name ∷ rest) (name, rest, is, refl, are))
+
+pub follow_done : (all : List (Option (List ℕ))) (names : List (List ℕ)) → Follow all [] names → AreNames all names
+follow_done all names h = subst (λ ns. AreNames all ns) (append-nil names) (h [] refl)
+
+-- one element more
+pub drop_next : {X : Type 0} (xs : List X) (i : ℕ) (x : X) → i < length xs → x ≡ get_or xs i x → drop i xs ≡ x ∷ drop (i + 1) xs
+drop_next xs i x within is = drop-cons xs i x within ∙ rw (add-one i) (ap (λ y. y ∷ drop (suc i) xs) (sym is))

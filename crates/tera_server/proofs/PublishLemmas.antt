@@ -1,0 +1,303 @@
+-- Messages that are sent of documents, one behind another.
+use Rattle.std.proofs.Common.{◌≡◌, Vec, Result, Ok, Err, OnErr, ◌∙◌, ◌<◌, ◌≤◌, ◌+◌, ◌++◌, ◌∷◌, [], ◌⊎◌, inl, inr, ◌||◌, ℕ, List, String, string_bytes, length, get_or, take, drop, map, Bool, true, false, if◌then◌else◌, cond, not, refl, sym, ap, subst, append_assoc}
+use Rattle.std.specs.List.{list_any}
+use Rattle.std.specs.Str.{bytes_eq}
+use Rattle.std.specs.declared.alloc.Global.{Global}
+use Rattle.std.proofs.lemmas.List.{append-nil, map-append, take_more, take_all, take-append-drop}
+use Rattle.std.proofs.lemmas.List.Concat.{flat_map-append}
+use Rattle.std.proofs.lemmas.List.Elements.{filter-append}
+use Rattle.std.proofs.lemmas.Slice.Eq.{bytes_eq-Decides}
+use Rattle.json_rpc.specs.Outgoing.{Outgoing}
+use Rattle.tera_workspace.specs.Names.{is_among}
+use Rattle.tera_workspace.specs.Workspaces.{told_of_name, IsKept, IsSettled, AreOthers}
+use Rattle.tera_workspace.specs.declared.workspace.Workspace.{Workspace}
+use Rattle.text_documents.specs.Stored.{AreSame}
+use Rattle.tera_server.specs.Editors.{stand_of}
+use Rattle.tera_server.specs.Sending.{with_all, found_message, unless_lost, messages_in, messages_of, SendsFirst, untold_of, names_beside}
+use Rattle.tera_server.specs.Settling.{IsSettling, ArePublished, ArePublishedInPart, OnlyTells}
+use Rattle.tera_server.specs.States.{edited_of}
+use Rattle.tera_server.specs.declared.editor.Editor.{Editor}
+use Rattle.tera_server.specs.declared.server.Phase.{Phase}
+use Rattle.tera_server.specs.declared.server.Phase.TheVariants.{New, Running, ShutDown}
+use Rattle.tera_server.specs.declared.server.Server.{Server}
+
+-- ---- more messages
+
+sent_as : Bool → List (List ℕ) → Outgoing
+sent_as reserved messages = record { sent = messages; reserved = reserved }
+
+pub with_none : (o : Outgoing) → with_all o [] ≡ o
+unfolding sent_as
+with_none o = ap (sent_as o.reserved) (append-nil o.sent)
+
+pub with_twice : (o : Outgoing) (a b : List (List ℕ)) → with_all (with_all o a) b ≡ with_all o (a ++ b)
+unfolding sent_as
+with_twice o a b = ap (sent_as o.reserved) (append_assoc o.sent a b)
+
+-- messages of documents that are those of the first ones, and then those of the others
+abbrev pub Joins : (List (List ℕ) → List (List ℕ)) → Type 0
+Joins messages = (xs ys : List (List ℕ)) → messages (xs ++ ys) ≡ messages xs ++ messages ys
+
+pub messages_join : (e : Editor) (related : Bool) (w : Workspace) → Joins (messages_in e related w)
+messages_join e related w xs ys = flat_map-append (λ n. unless_lost (stand_of e n) (found_message e related w n)) xs ys
+
+pub beside_join : (e : Editor) (related : Bool) (w : Workspace) (others : List (List ℕ)) → Joins (λ ns. messages_in e related w (names_beside others ns))
+beside_join e related w others xs ys =
+    ap (messages_in e related w) (filter-append (λ n. not (is_among n others)) xs ys)
+    ∙ messages_join e related w (names_beside others xs) (names_beside others ys)
+
+-- one document more
+pub sends_next : (messages : List (List ℕ) → List (List ℕ)) → Joins messages → (names : List (String Global)) (i : ℕ) (name : String Global) (start now next : Outgoing) →
+    i < length names → name ≡ get_or names i name → now ≡ with_all start (messages (map string_bytes (take i names))) → next ≡ with_all now (messages (string_bytes name ∷ [])) →
+    next ≡ with_all start (messages (map string_bytes (take (i + 1) names)))
+sends_next messages joins names i name start now next within is before more =
+    let front = map string_bytes (take i names) in
+    let longer : take (i + 1) names ≡ take i names ++ name ∷ [] = take_more names i name within ∙ ap (λ n. take i names ++ n ∷ []) (sym is) in
+    let mapped : map string_bytes (take (i + 1) names) ≡ front ++ string_bytes name ∷ [] = ap (map string_bytes) longer ∙ map-append string_bytes (take i names) (name ∷ []) in
+    more
+    ∙ ap (λ o. with_all o (messages (string_bytes name ∷ []))) before
+    ∙ with_twice start (messages front) (messages (string_bytes name ∷ []))
+    ∙ ap (with_all start) (sym (ap messages mapped ∙ joins front (string_bytes name ∷ [])))
+
+pub sends_all : (messages : List (List ℕ) → List (List ℕ)) (names : List (String Global)) (i : ℕ) (start now : Outgoing) →
+    length names ≤ i → now ≡ with_all start (messages (map string_bytes (take i names))) → now ≡ with_all start (messages (map string_bytes names))
+sends_all messages names i start now all e = e ∙ ap (λ ns. with_all start (messages (map string_bytes ns))) (take_all i names all)
+
+pub sends_first : (messages : List (List ℕ) → List (List ℕ)) (names : List (String Global)) (i : ℕ) (start now : Outgoing) →
+    now ≡ with_all start (messages (map string_bytes (take i names))) → SendsFirst messages (map string_bytes names) start now
+sends_first messages names i start now e = (
+  map string_bytes (take i names),
+  map string_bytes (drop i names),
+  ap (map string_bytes) (sym (take-append-drop i names)) ∙ map-append string_bytes (take i names) (drop i names),
+  e,
+)
+
+-- ---- names among others
+
+pub any_among : (n : List ℕ) (ns : List (List ℕ)) → list_any (λ m. bytes_eq m n) ns ≡ is_among n ns
+any_among n [] = refl
+any_among n (m ∷ ms) = by (bytes_eq m n) (any_among n ms)
+  where
+    by : (b : Bool) → list_any (λ m. bytes_eq m n) ms ≡ is_among n ms → (b || list_any (λ m. bytes_eq m n) ms) ≡ (if b then true else is_among n ms)
+    by true e = refl
+    by false e = e
+
+pub among_left : (n : List ℕ) (xs ys : List (List ℕ)) → is_among n xs ≡ true → is_among n (xs ++ ys) ≡ true
+among_left n [] ys h = absurd (cc)
+among_left n (x ∷ xs) ys h = by (bytes_eq x n) (among_left n xs ys) h
+  where
+    by : (b : Bool) → (is_among n xs ≡ true → is_among n (xs ++ ys) ≡ true) → (if b then true else is_among n xs) ≡ true → (if b then true else is_among n (xs ++ ys)) ≡ true
+    by true f e = refl
+    by false f e = f e
+
+pub among_right : (n : List ℕ) (xs ys : List (List ℕ)) → is_among n ys ≡ true → is_among n (xs ++ ys) ≡ true
+among_right n [] ys h = h
+among_right n (x ∷ xs) ys h = by (bytes_eq x n) (among_right n xs ys h)
+  where
+    by : (b : Bool) → is_among n (xs ++ ys) ≡ true → (if b then true else is_among n (xs ++ ys)) ≡ true
+    by true e = refl
+    by false e = e
+
+pub among_either : (n : List ℕ) (xs ys : List (List ℕ)) → is_among n (xs ++ ys) ≡ true → (is_among n xs ≡ true) ⊎ (is_among n ys ≡ true)
+among_either n [] ys h = inr h
+among_either n (x ∷ xs) ys h = by (bytes_eq x n) (among_either n xs ys) h
+  where
+    by : (b : Bool) → (is_among n (xs ++ ys) ≡ true → (is_among n xs ≡ true) ⊎ (is_among n ys ≡ true)) → (if b then true else is_among n (xs ++ ys)) ≡ true → ((if b then true else is_among n xs) ≡ true) ⊎ (is_among n ys ≡ true)
+    by true f e = inl refl
+    by false f e = f e
+
+head_among : (n m : List ℕ) (ms : List (List ℕ)) → bytes_eq m n ≡ true → is_among n (m ∷ ms) ≡ true
+head_among n m ms e = ap (λ b. if b then true else is_among n ms) e
+
+tail_among : (n m : List ℕ) (ms : List (List ℕ)) → is_among n ms ≡ true → is_among n (m ∷ ms) ≡ true
+tail_among n m ms e = among_right n (m ∷ []) ms e
+
+is_head : (n m : List ℕ) → is_among n (m ∷ []) ≡ true → bytes_eq m n ≡ true
+is_head n m h = by (bytes_eq m n) h
+  where
+    by : (b : Bool) → (if b then true else false) ≡ true → b ≡ true
+    by true e = refl
+    by false e = e
+
+-- by whether the first is left out
+among_kept : (left_out : Bool) (n m : List ℕ) (ms : List (List ℕ)) → is_among n (cond (not left_out) (m ∷ ms) ms) ≡ true → (is_among n (m ∷ []) ≡ true) ⊎ (is_among n ms ≡ true)
+among_kept true n m ms h = inr h
+among_kept false n m ms h = among_either n (m ∷ []) ms h
+
+tail_kept : (left_out : Bool) (n m : List ℕ) (ms : List (List ℕ)) → is_among n ms ≡ true → is_among n (cond (not left_out) (m ∷ ms) ms) ≡ true
+tail_kept true n m ms h = h
+tail_kept false n m ms h = tail_among n m ms h
+
+head_kept : (left_out : Bool) (n m : List ℕ) (others ms : List (List ℕ)) → (left_out ≡ true → is_among n others ≡ true) → bytes_eq m n ≡ true →
+    (is_among n (cond (not left_out) (m ∷ ms) ms) ≡ true) ⊎ (is_among n others ≡ true)
+head_kept true n m others ms f e = inr (f refl)
+head_kept false n m others ms f e = inl (head_among n m ms e)
+
+pub among_beside : (n : List ℕ) (others ns : List (List ℕ)) → is_among n (names_beside others ns) ≡ true → is_among n ns ≡ true
+among_beside n others [] h = h
+among_beside n others (m ∷ ms) h =
+    elim (among_kept (is_among m others) n m (names_beside others ms) h) [ inl e ↦ head_among n m ms (is_head n m e) | inr e ↦ tail_among n m ms (among_beside n others ms e) ]
+
+pub beside_or_among : (n : List ℕ) (others ns : List (List ℕ)) → is_among n ns ≡ true → (is_among n (names_beside others ns) ≡ true) ⊎ (is_among n others ≡ true)
+beside_or_among n others [] h = absurd (cc)
+beside_or_among n others (m ∷ ms) h =
+    let left_out = is_among m others in
+    let rest = names_beside others ms in
+    elim (among_either n (m ∷ []) ms h) [
+      | inl e ↦ head_kept left_out n m others rest (λ q. subst (λ k. is_among k others ≡ true) ((bytes_eq-Decides m n).0 (is_head n m e)) q) (is_head n m e)
+      | inr e ↦ elim (beside_or_among n others ms e) [ inl r ↦ inl (tail_kept left_out n m rest r) | inr r ↦ inr r ]
+    ]
+
+-- .. one name
+pub beside_one : (n : List ℕ) (others : List (List ℕ)) → is_among n others ≡ true → names_beside others (n ∷ []) ≡ []
+beside_one n others e = ap (λ b. cond (not b) (n ∷ []) []) e
+
+pub beside_none : (n : List ℕ) (others : List (List ℕ)) → is_among n others ≡ false → names_beside others (n ∷ []) ≡ n ∷ []
+beside_none n others e = ap (λ b. cond (not b) (n ∷ []) []) e
+
+-- where the list that is told is another, a name is among those of which it is
+pub is_other : {A : Type 0} (before now : List ℕ → List A) (names : List (List ℕ)) (n : List ℕ) → (is_among n names ≡ false → now n ≡ before n) → (now n ≡ before n → ⊥) → is_among n names ≡ true
+is_other before now names n same differs = by (is_among n names) same
+  where
+    by : (b : Bool) → (b ≡ false → now n ≡ before n) → b ≡ true
+    by true f = refl
+    by false f = absurd (differs (f refl))
+
+-- ---- what is published in part
+
+-- nothing was found anew
+pub part_before : (s t : Server) (old now : Outgoing) → t ≡ s → SendsFirst (messages_of s) (untold_of s) old now → ArePublishedInPart s t old now
+part_before s t old now same (first, rest, whole, sent) = record {
+  before = first;
+  names = [];
+  sent = sent ∙ ap (with_all old) (sym (append-nil (messages_of s first)));
+  untold = λ n h. inr (subst (λ u. is_among n (untold_of u) ≡ true) (sym same) h);
+  others = λ kept n differs. absurd (differs (ap (λ u. told_of_name u.workspace n) same));
+  edited = λ n h. inr (inr (subst (λ u. is_among n (edited_of u) ≡ true) (sym same) h));
+  only = λ n h. inl (subst (λ ns. is_among n ns ≡ true) (sym whole) (among_left n first rest (subst (λ ns. is_among n ns ≡ true) (append-nil first) h)));
+}
+
+-- all that was to be published still was
+pub part_behind : (s t : Server) (old now : Outgoing) (names : List (List ℕ)) → now ≡ with_all old (messages_of s (untold_of s) ++ messages_of t names) →
+    (IsKept s.workspace → (n : List ℕ) → (told_of_name t.workspace n ≡ told_of_name s.workspace n → ⊥) → is_among n (untold_of t) ≡ true) →
+    ((n : List ℕ) → is_among n (edited_of s) ≡ true → (is_among n names ≡ true) ⊎ ((is_among n (untold_of t) ≡ true) ⊎ (is_among n (edited_of t) ≡ true))) →
+    ((n : List ℕ) → is_among n names ≡ true → (is_among n (edited_of s) ≡ true) ⊎ (is_among n (untold_of t) ≡ true)) →
+    ArePublishedInPart s t old now
+part_behind s t old now names sent others edited only = record {
+  before = untold_of s;
+  names = names;
+  sent = sent;
+  untold = λ n h. inl h;
+  others = others;
+  edited = edited;
+  only = λ n h. elim (among_either n (untold_of s) names h) [ inl e ↦ inl e | inr e ↦ inr (only n e) ];
+}
+
+abbrev pub Names : Type 0
+Names = Vec (String Global) Global
+
+abbrev pub names_of : Names → List (List ℕ)
+names_of v = map string_bytes v.items
+
+-- the server behind that, when w was found: what is to be published still, and the documents that were edited, are others
+abbrev pub with_found : Server → Workspace → Names → Names → Server
+with_found s w untold edited = record s { workspace = w; untold = untold; edited = edited }
+
+-- nothing was found anew, since no memory was
+pub part_unfound : (s : Server) (w : Workspace) (untold : Names) (old now : Outgoing) → now ≡ with_all old (messages_of s (untold_of s)) →
+    ((n : List ℕ) → told_of_name w n ≡ told_of_name s.workspace n) → ArePublishedInPart s (with_found s w untold s.edited) old now
+part_unfound s w untold old now sent same =
+    part_behind s (with_found s w untold s.edited) old now []
+    (sent ∙ ap (with_all old) (sym (append-nil (messages_of s (untold_of s)))))
+    (λ kept n differs. absurd (differs (same n)))
+    (λ n h. inr (inr h))
+    (λ n h. absurd (cc))
+
+-- some of those that were edited were published
+pub part_edited : (s : Server) (w : Workspace) (untold : Names) (old mid now : Outgoing) → mid ≡ with_all old (messages_of s (untold_of s)) →
+    (IsKept s.workspace → AreOthers (names_of untold) (told_of_name s.workspace) (told_of_name w)) →
+    SendsFirst (λ ns. messages_in s.editor s.client.related w (names_beside (names_of untold) ns)) (edited_of s) mid now →
+    ArePublishedInPart s (with_found s w untold s.edited) old now
+part_edited s w untold old mid now before others (first, rest, whole, sent) =
+    let names = names_beside (names_of untold) first in
+    let messages = messages_in s.editor s.client.related w names in
+    part_behind s (with_found s w untold s.edited) old now names
+    (sent ∙ ap (λ o. with_all o messages) before ∙ with_twice old (messages_of s (untold_of s)) messages)
+    (λ kept n differs. is_other (told_of_name s.workspace) (told_of_name w) (names_of untold) n ((others kept).same n) differs)
+    (λ n h. inr (inr h))
+    (λ n h. inl (subst (λ ns. is_among n ns ≡ true) (sym whole) (among_left n first rest (among_beside n (names_of untold) first h))))
+
+-- in three parts
+joined : (s : Server) (w : Workspace) (old mid next now : Outgoing) (beside others : List (List ℕ)) → mid ≡ with_all old (messages_of s (untold_of s)) →
+    next ≡ with_all mid (messages_in s.editor s.client.related w beside) → now ≡ with_all next (messages_in s.editor s.client.related w others) →
+    now ≡ with_all old (messages_of s (untold_of s) ++ messages_in s.editor s.client.related w (beside ++ others))
+joined s w old mid next now beside others before more sent =
+    let messages = messages_in s.editor s.client.related w in
+    sent
+    ∙ ap (λ o. with_all o (messages others)) more
+    ∙ with_twice mid (messages beside) (messages others)
+    ∙ ap (with_all mid) (sym (messages_join s.editor s.client.related w beside others))
+    ∙ ap (λ o. with_all o (messages (beside ++ others))) before
+    ∙ with_twice old (messages_of s (untold_of s)) (messages (beside ++ others))
+
+-- .. all of them, and some of those of which something else is told
+pub part_others : (s : Server) (w : Workspace) (untold edited : Names) (old mid next now : Outgoing) → mid ≡ with_all old (messages_of s (untold_of s)) →
+    (IsKept s.workspace → AreOthers (names_of untold) (told_of_name s.workspace) (told_of_name w)) →
+    next ≡ with_all mid (messages_in s.editor s.client.related w (names_beside (names_of untold) (edited_of s))) →
+    SendsFirst (messages_in s.editor s.client.related w) (names_of untold) next now →
+    ArePublishedInPart s (with_found s w untold edited) old now
+part_others s w untold edited old mid next now before others more (first, rest, whole, sent) =
+    let beside = names_beside (names_of untold) (edited_of s) in
+    let messages = messages_in s.editor s.client.related w in
+    part_behind s (with_found s w untold edited) old now (beside ++ first)
+    (joined s w old mid next now beside first before more sent)
+    (λ kept n differs. is_other (told_of_name s.workspace) (told_of_name w) (names_of untold) n ((others kept).same n) differs)
+    (λ n h. elim (beside_or_among n (names_of untold) (edited_of s) h) [ inl e ↦ inl (among_left n beside first e) | inr e ↦ inr (inl e) ])
+    (λ n h. elim (among_either n beside first h) [
+      | inl e ↦ inl (among_beside n (names_of untold) (edited_of s) e)
+      | inr e ↦ inr (subst (λ ns. is_among n ns ≡ true) (sym whole) (among_left n first rest e))
+    ])
+
+-- all
+pub published_whole : (s : Server) (w : Workspace) (others untold edited : Names) (old mid next now : Outgoing) → mid ≡ with_all old (messages_of s (untold_of s)) →
+    (IsKept s.workspace → IsSettled w) → (IsKept s.workspace → AreOthers (names_of others) (told_of_name s.workspace) (told_of_name w)) →
+    next ≡ with_all mid (messages_in s.editor s.client.related w (names_beside (names_of others) (edited_of s))) →
+    now ≡ with_all next (messages_in s.editor s.client.related w (names_of others)) → names_of untold ≡ [] → names_of edited ≡ [] →
+    ArePublished s (with_found s w untold edited) old now
+published_whole s w others untold edited old mid next now before settled are more sent no_untold no_edited = record {
+  settled = settled;
+  others = names_of others;
+  are = are;
+  sent = joined s w old mid next now (names_beside (names_of others) (edited_of s)) (names_of others) before more sent;
+  untold = no_untold;
+  edited = no_edited;
+}
+
+-- what holds anyhow holds of an error
+pub on_any_err : {T E P : Type 0} (r : Result T E) → P → OnErr r P
+on_any_err (Ok v) h = tt
+on_any_err (Err e) h = h
+
+-- ---- what stays
+
+-- these fields are those of t
+abbrev framed : Server → Server → Server
+framed t u = record u { workspace = t.workspace; untold = t.untold; edited = t.edited }
+
+pub only_tells : (s t : Server) (w : Workspace) (untold edited : Names) → t ≡ with_found s w untold edited → AreSame s.workspace.documents w.documents → w.encoding ≡ s.workspace.encoding →
+    (IsKept s.workspace → IsKept w) → OnlyTells s t
+only_tells s t w untold edited e same encoding kept = record {
+  same = ap (framed t) e;
+  documents = subst (λ (u : Server). AreSame s.workspace.documents u.workspace.documents) (sym e) same;
+  encoding = subst (λ (u : Server). u.workspace.encoding ≡ s.workspace.encoding) (sym e) encoding;
+  kept = λ k. subst (λ (u : Server). IsKept u.workspace) (sym e) (kept k);
+}
+
+pub unchanged_tells : (s t : Server) → t ≡ s → OnlyTells s t
+unchanged_tells s t e = only_tells s t s.workspace s.untold s.edited e (λ n. refl) refl (λ k. k)
+
+-- before the exchange and behind it
+pub idle_settling : (phase : Phase) (s : Server) (o : Outgoing) → (phase ≡ New) ⊎ (phase ≡ ShutDown) → IsSettling phase s s o o
+idle_settling New s o h = (refl, refl)
+idle_settling Running s o h = absurd (elim h [ inl e ↦ cc | inr e ↦ cc ])
+idle_settling ShutDown s o h = (refl, refl)

@@ -1,0 +1,42 @@
+-- What a server can do, as JSON.
+use Rattle.std.specs.Prelude.{codes, true}
+use Rattle.json.specs.Json.{Json, string, boolean, array, object, no_items, item, no_members, member}
+use Rattle.text_edits.specs.declared.positions.Encoding.{Encoding}
+use Rattle.protocol_values.specs.Writing.{number_json, encoding_name}
+
+-- texts are told when they are opened and closed, and their changes by parts
+abbrev pub sync_json : Json
+sync_json = object (member (codes "openClose") (boolean true) (member (codes "change") (number_json 2) no_members))
+
+abbrev pub capabilities_json : Encoding → Json
+capabilities_json e =
+    object (member (codes "positionEncoding") (string (encoding_name e))
+    (member (codes "textDocumentSync") sync_json
+    (member (codes "documentFormattingProvider") (boolean true)
+    (member (codes "documentSymbolProvider") (boolean true)
+    (member (codes "definitionProvider") (boolean true) no_members)))))
+
+abbrev pub server_json : Json
+server_json = object (member (codes "name") (string (codes "tera")) no_members)
+
+-- the result of `initialize`
+abbrev pub abilities_json : Encoding → Json
+abilities_json e =
+    object (member (codes "capabilities") (capabilities_json e) (member (codes "serverInfo") server_json no_members))
+
+-- which files a client is asked to watch
+abbrev pub watcher_json : Json
+watcher_json = object (member (codes "globPattern") (string (codes "**/*.{html,htm,xml,tera}")) no_members)
+
+abbrev pub watchers_json : Json
+watchers_json = object (member (codes "watchers") (array (item watcher_json no_items)) no_members)
+
+abbrev pub registration_json : Json
+registration_json =
+    object (member (codes "id") (string (codes "watch"))
+    (member (codes "method") (string (codes "workspace/didChangeWatchedFiles"))
+    (member (codes "registerOptions") watchers_json no_members)))
+
+-- the parameters by which it is asked
+abbrev pub registrations_json : Json
+registrations_json = object (member (codes "registrations") (array (item registration_json no_items)) no_members)

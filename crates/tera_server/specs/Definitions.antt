@@ -1,0 +1,48 @@
+-- Where what is named in a text is defined.
+use Rattle.std.specs.Prelude.{◌≡◌, ℕ, List, ◌∷◌, Option, None, Some}
+use Rattle.std.specs.List.{find}
+use Rattle.std.specs.Option.{option_map}
+use Rattle.json.specs.Json.{Json, null}
+use Rattle.tera_outline.specs.Names.{Named, names_of, holds}
+use Rattle.tera_outline.specs.Pieces.{Part, ArePartsOf}
+use Rattle.tera_outline.specs.declared.names.NameKind.{NameKind}
+use Rattle.tera_outline.specs.declared.names.NameKind.TheVariants.{Called, Closed, Defined, Extended, Included}
+use Rattle.text_edits.specs.Lines.{lines_of}
+use Rattle.text_edits.specs.Positions.{byte_of}
+use Rattle.text_edits.specs.declared.positions.Encoding.{Encoding}
+use Rattle.text_edits.specs.declared.positions.Position.{Position}
+use Rattle.protocol_values.specs.Writing.{location_json}
+use Rattle.tera_workspace.specs.Definitions.{DefinitionVal, definition_of_name, file_of_ending}
+use Rattle.tera_workspace.specs.declared.workspace.Workspace.{Workspace}
+use Rattle.tera_server.specs.Editors.{seen_of, uri_in}
+use Rattle.tera_server.specs.declared.editor.Editor.{Editor}
+
+-- the name at a position of a text, if one stands there
+abbrev pub IsNamedAt : Encoding → List ℕ → Position → Option Named → Type 0
+IsNamedAt e text p named =
+    (parts : List Part) × ArePartsOf text parts × (named ≡ find (holds (byte_of e (lines_of text) p)) (names_of parts))
+
+-- the beginning of a file
+abbrev pub first_of : List ℕ → DefinitionVal
+first_of file = record { file = file; start = record { line = 0; character = 0 }; end = record { line = 0; character = 0 } }
+
+-- a template is the first file, by the order of the names, that has its name below a folder
+abbrev pub template_place : Workspace → List ℕ → Option DefinitionVal
+template_place w name = option_map first_of (file_of_ending w (47 ∷ name))
+
+-- what a name leads to
+abbrev pub place_by : NameKind → Workspace → List ℕ → Option DefinitionVal
+place_by Called w name = definition_of_name w name
+place_by Closed w name = definition_of_name w name
+place_by Defined w name = definition_of_name w name
+place_by Extended w name = template_place w name
+place_by Included w name = template_place w name
+
+abbrev pub place_of : Workspace → Option Named → Option DefinitionVal
+place_of w None = None
+place_of w (Some n) = place_by n.kind w n.text
+
+-- that as a location; `null` where it leads nowhere
+abbrev pub place_json : Editor → Option DefinitionVal → Json
+place_json e None = null
+place_json e (Some d) = location_json (uri_in d.file (seen_of e d.file)) d.start d.end

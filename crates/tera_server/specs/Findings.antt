@@ -1,0 +1,62 @@
+-- What is found in a document, as it is published.
+use Rattle.std.specs.Prelude.{ℕ, List, [], ◌∷◌, Bool, if◌then◌else◌, codes, map, Option, None, Some}
+use Rattle.json.specs.Json.{Json, string, array, object, Members, no_members, member}
+use Rattle.json.specs.Token.{Token}
+use Rattle.json.specs.Tree.{json_tokens}
+use Rattle.json.specs.Value.{items_of}
+use Rattle.json_rpc.specs.Writing.{notification}
+use Rattle.protocol_values.specs.Writing.{number_json, range_json, location_json, member_tokens}
+use Rattle.tera_check.specs.Findings.{kind_name}
+use Rattle.tera_workspace.specs.Diagnostics.{DiagnosticVal, RelatedVal}
+use Rattle.tera_server.specs.Editors.{seen_of, uri_in, version_in}
+use Rattle.tera_server.specs.declared.editor.Editor.{Editor}
+
+-- what explains a finding
+abbrev pub related_json : Editor → RelatedVal → Json
+related_json e r =
+    object (member (codes "location") (location_json (uri_in r.file (seen_of e r.file)) r.start r.end)
+    (member (codes "message") (string r.message) no_members))
+
+-- that, as it is written
+unfoldable pub one_related : Editor → RelatedVal → List Token
+one_related e r = json_tokens (related_json e r)
+
+abbrev pub related_members : Editor → Bool → List RelatedVal → Members
+related_members e told rs =
+    if told then member (codes "relatedInformation") (array (items_of (map (related_json e) rs))) no_members else no_members
+
+-- that, as it is written
+abbrev pub related_tokens : Editor → Bool → List RelatedVal → List Token
+related_tokens e told rs = if told then member_tokens (codes "relatedInformation") (array (items_of (map (related_json e) rs))) else []
+
+-- a finding
+abbrev pub diagnostic_json : Editor → Bool → DiagnosticVal → Json
+diagnostic_json e told d =
+    object (member (codes "range") (range_json d.start d.end)
+    (member (codes "severity") (number_json 1)
+    (member (codes "code") (string (kind_name d.kind))
+    (member (codes "source") (string (codes "tera"))
+    (member (codes "message") (string d.message) (related_members e told d.related))))))
+
+unfoldable pub one_found : Editor → Bool → DiagnosticVal → List Token
+one_found e told d = json_tokens (diagnostic_json e told d)
+
+-- the version where it is known, before other members
+abbrev pub with_version : Option ℕ → Members → Members
+with_version None ms = ms
+with_version (Some n) ms = member (codes "version") (number_json n) ms
+
+-- that, as it is written
+abbrev pub version_tokens : Option ℕ → List Token
+version_tokens None = []
+version_tokens (Some n) = member_tokens (codes "version") (number_json n)
+
+abbrev pub found_json : Editor → Bool → List ℕ → List DiagnosticVal → Json
+found_json e told name ds =
+    object (member (codes "uri") (string (uri_in name (seen_of e name)))
+    (with_version (version_in (seen_of e name))
+    (member (codes "diagnostics") (array (items_of (map (diagnostic_json e told) ds))) no_members)))
+
+-- the message that publishes what is found in the document of a name
+abbrev pub published : Editor → Bool → List ℕ → List DiagnosticVal → Json
+published e told name ds = notification (codes "textDocument/publishDiagnostics") (found_json e told name ds)

@@ -1,0 +1,36 @@
+-- The layout of a text, as edits.
+use Rattle.std.specs.Prelude.{◌≡◌, ℕ, List, All, map, Option, None, Some}
+use Rattle.json.specs.Json.{Json, null, array}
+use Rattle.json.specs.Token.{Token}
+use Rattle.json.specs.Tree.{json_tokens}
+use Rattle.json.specs.Value.{items_of}
+use Rattle.tera_layout.specs.Layout.{laid_out}
+use Rattle.tera_lexer.specs.grammar.Marks.{default_marks}
+use Rattle.tera_outline.specs.Edits.{applied, AreApart, ReplacesWhite}
+use Rattle.tera_outline.specs.declared.edits.Edit.{Edit}
+use Rattle.text_edits.specs.declared.positions.Encoding.{Encoding}
+use Rattle.protocol_values.specs.Writing.{edit_json as edit_between}
+use Rattle.tera_server.specs.Positions.{position_at}
+
+-- an edit of a text
+abbrev pub edit_json : Encoding → List ℕ → Edit → Json
+edit_json e text edit = edit_between (position_at e text edit.start) (position_at e text edit.end) edit.text.now
+
+-- that, as it is written
+unfoldable pub edit_tokens : Encoding → List ℕ → Edit → List Token
+edit_tokens e text edit = json_tokens (edit_json e text edit)
+
+-- edits of white space that make the one text the other, apart and in order
+pub record AreEdits (old new : List ℕ) (edits : List Edit) : Type 0 where
+  pub applied_are : applied edits old ≡ new
+  pub apart : AreApart edits
+  pub white : All (ReplacesWhite old) edits
+
+-- edits to the layout of a text; `null` where it has none
+abbrev pub IsLayoutOf : Encoding → List ℕ → Option (List ℕ) → Json → Type 0
+IsLayoutOf e text None j = j ≡ null
+IsLayoutOf e text (Some layout) j =
+    (edits : List Edit) × AreEdits text layout edits × (j ≡ array (items_of (map (edit_json e text) edits)))
+
+abbrev pub IsLayout : Encoding → List ℕ → Json → Type 0
+IsLayout e text j = IsLayoutOf e text (laid_out default_marks text) j

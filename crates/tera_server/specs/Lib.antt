@@ -1,0 +1,14 @@
+pub mod Abilities
+pub mod Clients
+pub mod Definitions
+pub mod Editors
+pub mod Findings
+pub mod Layouts
+pub mod Notes
+pub mod Outlines
+pub mod Positions
+pub mod Requests
+pub mod Sending
+pub mod Settling
+pub mod States
+pub mod Steps

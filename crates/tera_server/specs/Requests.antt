@@ -1,0 +1,157 @@
+-- What requests are answered.
+use Rattle.std.specs.Prelude.{◌≡◌, ◌⊎◌, ◌++◌, if◌then◌else◌, ℕ, List, [], ◌∷◌, codes, map, string_bytes, MatchResult, Option, None, Some, Result, Vec}
+use Rattle.std.specs.Str.{bytes_eq}
+use Rattle.std.specs.declared.alloc.Global.{Global}
+use Rattle.file_uris.specs.Names.{IsNameOf}
+use Rattle.json.specs.Json.{Json, null}
+use Rattle.json_rpc.specs.Ids.{IdVal}
+use Rattle.json_rpc.specs.Writing.{body, answer}
+use Rattle.json_rpc.specs.declared.code.Code.{Code}
+use Rattle.json_rpc.specs.declared.code.Code.TheVariants as codes_of
+use Rattle.protocol_values.specs.Members.{items_in, member_of, text_in}
+use Rattle.protocol_values.specs.Reading.{position_in}
+use Rattle.tera_outline.specs.Names.{Named}
+use Rattle.tera_workspace.specs.Definitions.{AreRead}
+use Rattle.tera_workspace.specs.Workspaces.{told_of_name, IsKept}
+use Rattle.text_documents.specs.Documents.{no_document, text_of}
+use Rattle.text_documents.specs.Stored.{document_of, AreSame}
+use Rattle.text_edits.specs.declared.positions.Position.{Position}
+use Rattle.tera_server.specs.Abilities.{abilities_json}
+use Rattle.tera_server.specs.Clients.{client_in}
+use Rattle.tera_server.specs.Definitions.{IsNamedAt, place_of, place_json}
+use Rattle.tera_server.specs.Editors.{stand_of}
+use Rattle.tera_server.specs.Layouts.{IsLayout}
+use Rattle.tera_server.specs.Notes.{document_in, uri_told}
+use Rattle.tera_server.specs.Outlines.{IsOutline}
+use Rattle.tera_server.specs.declared.editor.Stand.{Stand}
+use Rattle.tera_server.specs.declared.editor.Stand.TheVariants.{Open, Lost, Closed}
+use Rattle.tera_server.specs.declared.requests.Asked.{Asked}
+use Rattle.tera_server.specs.declared.requests.Asked.TheVariants as asks
+use Rattle.tera_server.specs.declared.server.Phase.{Phase}
+use Rattle.tera_server.specs.declared.server.Phase.TheVariants.{New, Running, ShutDown}
+use Rattle.tera_server.specs.declared.server.Server.{Server}
+
+-- what a method asks
+abbrev pub asked_of : List ℕ → Asked
+asked_of m =
+    if bytes_eq m (codes "initialize") then asks.Initialize
+    else (if bytes_eq m (codes "shutdown") then asks.Shutdown
+    else (if bytes_eq m (codes "textDocument/formatting") then asks.Formatting
+    else (if bytes_eq m (codes "textDocument/documentSymbol") then asks.Symbols
+    else (if bytes_eq m (codes "textDocument/definition") then asks.Definition else asks.Other))))
+
+-- the names of these URIs, but for what has none
+abbrev pub AreNames : List (Option (List ℕ)) → List (List ℕ) → Type 0
+AreNames [] names = names ≡ []
+AreNames (None ∷ uris) names = AreNames uris names
+AreNames (Some uri ∷ uris) names = (name : List ℕ) × (rest : List (List ℕ)) × IsNameOf uri name × (names ≡ name ∷ rest) × AreNames uris rest
+
+-- the name of what has this URI is added, if it has one
+abbrev pub AddsName : Option (List ℕ) → List (List ℕ) → List (List ℕ) → Type 0
+AddsName None old now = now ≡ old
+AddsName (Some uri) old now = (name : List ℕ) × IsNameOf uri name × (now ≡ old ++ name ∷ [])
+
+-- the URI of a folder
+abbrev pub folder_uri : Json → Option (List ℕ)
+folder_uri j = uri_told (Some j)
+
+abbrev pub folders_by : Option Json → List Json → List (Option (List ℕ))
+folders_by params [] = text_in (member_of (codes "rootUri") params) ∷ []
+folders_by params (j ∷ js) = map folder_uri (j ∷ js)
+
+-- the URIs of the folders that are open: those of the workspace, or its root where it tells none
+abbrev pub folders_in : Option Json → List (Option (List ℕ))
+folders_in params = folders_by params (items_in (member_of (codes "workspaceFolders") params))
+
+-- the exchange has begun: the client is known, and no document is; what the editor told, and what is asked for and is to be
+-- published, is what it was
+pub record IsBegun (params : Option Json) (s t : Server) : Type 0 where
+  pub same : t ≡ record s { phase = t.phase; client = t.client; folders = t.folders; workspace = t.workspace }
+  pub phase : t.phase ≡ Running
+  pub client : t.client ≡ client_in params
+  pub encoding : t.workspace.encoding ≡ t.client.encoding
+  pub folders : AreNames (folders_in params) (map string_bytes t.folders.items)
+  pub documents : (n : List ℕ) → document_of t.workspace.documents n ≡ no_document
+  pub told : (n : List ℕ) → told_of_name t.workspace n ≡ []
+  pub kept : IsKept t.workspace
+
+-- this is the text of the document, which the editor has open
+abbrev pub IsMeant : Option (List ℕ) → Server → List ℕ → Type 0
+IsMeant None s text = ⊥
+IsMeant (Some uri) s text =
+    (name : List ℕ) × IsNameOf uri name × (stand_of s.editor name ≡ Open) × (text_of (document_of s.workspace.documents name) ≡ Some text)
+
+-- the position that parameters tell
+abbrev pub place_in : Option Json → Option Position
+place_in params = position_in (member_of (codes "position") params)
+
+-- this is what is named there in the text of the document, if anything is
+abbrev pub IsNamed : Option Position → Option (List ℕ) → Server → Option Named → Type 0
+IsNamed None uri s named = ⊥
+IsNamed (Some position) uri s named =
+    (text : List ℕ) × IsMeant uri s text × IsNamedAt s.client.encoding text position named
+
+-- documents that changed may have been read, and nothing that is seen of the server is another
+pub record HasRead (s t : Server) : Type 0 where
+  pub rest : t ≡ record s { workspace = t.workspace }
+  pub encoding : t.workspace.encoding ≡ s.workspace.encoding
+  pub documents : AreSame s.workspace.documents t.workspace.documents
+  pub told : (n : List ℕ) → told_of_name t.workspace n ≡ told_of_name s.workspace n
+  pub kept : IsKept s.workspace → IsKept t.workspace
+
+-- the documents are read as they are, and this is the place that a name leads to
+pub record LeadsTo (named : Option Named) (s : Server) (j : Json) (t : Server) : Type 0 where
+  pub read : IsKept s.workspace → AreRead t.workspace
+  pub place : j ≡ place_json t.editor (place_of t.workspace named)
+  pub stays : HasRead s t
+
+-- the result of a request
+abbrev pub Gives : Phase → Asked → Server → Option Json → Json → Server → Type 0
+Gives New asks.Initialize s params j t = (j ≡ abilities_json (client_in params).encoding) × IsBegun params s t
+Gives Running asks.Shutdown s params j t = (j ≡ null) × (t ≡ record s { phase = ShutDown })
+Gives Running asks.Formatting s params j t =
+    (text : List ℕ) × IsMeant (uri_told (document_in params)) s text × IsLayout s.client.encoding text j × (t ≡ s)
+Gives Running asks.Symbols s params j t =
+    (text : List ℕ) × IsMeant (uri_told (document_in params)) s text × IsOutline s.client.encoding text j × (t ≡ s)
+Gives Running asks.Definition s params j t =
+    (named : Option Named) × IsNamed (place_in params) (uri_told (document_in params)) s named × LeadsTo named s j t
+Gives _ _ s params j t = ⊥
+
+-- why a document is refused: the editor has it not open, or with a text that is not known
+abbrev pub RefusesStand : Stand → Option (List ℕ) → Code → Type 0
+RefusesStand Open text code = (text ≡ None) × (code ≡ codes_of.InvalidParams)
+RefusesStand Lost text code = code ≡ codes_of.RequestFailed
+RefusesStand Closed text code = code ≡ codes_of.InvalidParams
+
+abbrev pub RefusesDocument : Option (List ℕ) → Server → Code → Type 0
+RefusesDocument None s code = code ≡ codes_of.InvalidParams
+RefusesDocument (Some uri) s code =
+    (name : List ℕ) × IsNameOf uri name × RefusesStand (stand_of s.editor name) (text_of (document_of s.workspace.documents name)) code
+
+-- .. or no position is told
+abbrev pub RefusesPlace : Option Position → Option (List ℕ) → Server → Code → Type 0
+RefusesPlace None uri s code = code ≡ codes_of.InvalidParams
+RefusesPlace (Some position) uri s code = RefusesDocument uri s code
+
+-- why a request has no result
+abbrev pub IsDue : Phase → Asked → Server → Option Json → Code → Type 0
+IsDue New asks.Initialize s params code = ⊥
+IsDue New _ s params code = code ≡ codes_of.ServerNotInitialized
+IsDue Running asks.Initialize s params code = code ≡ codes_of.InvalidRequest
+IsDue Running asks.Shutdown s params code = ⊥
+IsDue Running asks.Formatting s params code = RefusesDocument (uri_told (document_in params)) s code
+IsDue Running asks.Symbols s params code = RefusesDocument (uri_told (document_in params)) s code
+IsDue Running asks.Definition s params code = RefusesPlace (place_in params) (uri_told (document_in params)) s code
+IsDue Running asks.Other s params code = code ≡ codes_of.MethodNotFound
+IsDue ShutDown _ s params code = code ≡ codes_of.InvalidRequest
+
+-- what one that has no result leaves as it is: everything; but for a definition documents may have been read
+abbrev pub Remains : Phase → Asked → Server → Server → Type 0
+Remains Running asks.Definition s t = HasRead s t
+Remains _ _ s t = t ≡ s
+
+-- it is answered by its result; or it is refused, and nothing changes: for a reason, or for want of memory
+abbrev pub IsAnsweredBy : Server → IdVal → Asked → Option Json → Result (Vec ℕ Global) Code → Server → Type 0
+IsAnsweredBy s id asked params r t =
+    MatchResult r (λ v. (j : Json) × Gives s.phase asked s params j t × (v.items ≡ body (answer id j)))
+    (λ code. Remains s.phase asked s t × ((code ≡ codes_of.InternalError) ⊎ IsDue s.phase asked s params code))

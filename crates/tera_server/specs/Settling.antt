@@ -1,0 +1,46 @@
+-- What is published when no message waits.
+use Rattle.std.specs.Prelude.{◌≡◌, ◌≢◌, ◌⊎◌, ◌++◌, ℕ, List, [], true}
+use Rattle.json_rpc.specs.Outgoing.{Outgoing}
+use Rattle.tera_workspace.specs.Names.{is_among}
+use Rattle.tera_workspace.specs.Workspaces.{told_of_name, IsKept, IsSettled, AreOthers}
+use Rattle.text_documents.specs.Stored.{AreSame}
+use Rattle.tera_server.specs.Sending.{with_all, messages_of, untold_of, names_beside}
+use Rattle.tera_server.specs.States.{edited_of}
+use Rattle.tera_server.specs.declared.server.Phase.{Phase}
+use Rattle.tera_server.specs.declared.server.Phase.TheVariants.{New, Running, ShutDown}
+use Rattle.tera_server.specs.declared.server.Server.{Server}
+
+-- of the documents of which something was to be published still what was told before; and then, by what is told now, of
+-- those that the editor opened, changed or closed, and of those of which something else is told than before
+pub record ArePublished (s t : Server) (old now : Outgoing) : Type 0 where
+  pub settled : IsKept s.workspace → IsSettled t.workspace
+  pub others : List (List ℕ)
+  pub are : IsKept s.workspace → AreOthers others (told_of_name s.workspace) (told_of_name t.workspace)
+  pub sent : now ≡ with_all old (messages_of s (untold_of s) ++ messages_of t (names_beside others (edited_of s) ++ others))
+  pub untold : untold_of t ≡ []
+  pub edited : edited_of t ≡ []
+
+-- once the exchange has begun; before and behind it nothing is
+abbrev pub IsSettling : Phase → Server → Server → Outgoing → Outgoing → Type 0
+IsSettling New s t old now = (t ≡ s) × (now ≡ old)
+IsSettling Running s t old now = ArePublished s t old now
+IsSettling ShutDown s t old now = (t ≡ s) × (now ≡ old)
+
+-- where no memory was found: a part of that, and the rest is to be published still
+pub record ArePublishedInPart (s t : Server) (old now : Outgoing) : Type 0 where
+  pub before : List (List ℕ)
+  pub names : List (List ℕ)
+  pub sent : now ≡ with_all old (messages_of s before ++ messages_of t names)
+  pub untold : (n : List ℕ) → is_among n (untold_of s) ≡ true → (is_among n before ≡ true) ⊎ (is_among n (untold_of t) ≡ true)
+  pub others : IsKept s.workspace → (n : List ℕ) → told_of_name t.workspace n ≢ told_of_name s.workspace n → is_among n (untold_of t) ≡ true
+  pub edited : (n : List ℕ) → is_among n (edited_of s) ≡ true →
+      (is_among n names ≡ true) ⊎ ((is_among n (untold_of t) ≡ true) ⊎ (is_among n (edited_of t) ≡ true))
+  pub only : (n : List ℕ) → is_among n (before ++ names) ≡ true →
+      (is_among n (untold_of s) ≡ true) ⊎ ((is_among n (edited_of s) ≡ true) ⊎ (is_among n (untold_of t) ≡ true))
+
+-- nothing changes but what is told, and what is to be published
+pub record OnlyTells (s t : Server) : Type 0 where
+  pub same : t ≡ record s { workspace = t.workspace; untold = t.untold; edited = t.edited }
+  pub documents : AreSame s.workspace.documents t.workspace.documents
+  pub encoding : t.workspace.encoding ≡ s.workspace.encoding
+  pub kept : IsKept s.workspace → IsKept t.workspace

@@ -1,0 +1,106 @@
+-- What is seen of a server: the documents by their names, and what it asks for.
+use Rattle.std.specs.Prelude.{◌≡◌, ◌++◌, ◌&&◌, if◌then◌else◌, cond, ℕ, List, [], ◌∷◌, Bool, true, false, map, string_bytes, Option, None, Some}
+use Rattle.std.specs.List.{list_any}
+use Rattle.std.specs.Option.{option_map, is_some}
+use Rattle.std.specs.Str.{bytes_eq}
+use Rattle.file_uris.specs.Names.{is_rooted}
+use Rattle.tera_workspace.specs.Workspaces.{told_of_name, IsKept}
+use Rattle.text_documents.specs.Documents.{DocumentVal, opened, changed, closed, written, removed}
+use Rattle.text_documents.specs.Stored.{document_of}
+use Rattle.text_edits.specs.Edits.{ChangeView, NewText, NewPart}
+use Rattle.text_edits.specs.declared.positions.Encoding.{Encoding}
+use Rattle.tera_server.specs.Editors.{SeenVal, seen_of, stand_in, changed_to, closed as seen_closed, lost}
+use Rattle.tera_server.specs.declared.editor.Stand.{Stand}
+use Rattle.tera_server.specs.declared.editor.Stand.TheVariants.{Open, Lost, Closed}
+use Rattle.tera_server.specs.declared.server.Server.{Server}
+use Rattle.tera_server.specs.declared.server.Wanted.{Wanted}
+use Rattle.tera_server.specs.declared.server.Wanted.TheVariants.{Folder, File}
+
+-- a document: what the editor told of it, and its texts
+pub record Known : Type 0 where
+  pub seen : Option SeenVal
+  pub texts : DocumentVal
+
+abbrev pub known_of : Server → List ℕ → Known
+known_of s n = record { seen = seen_of s.editor n; texts = document_of s.workspace.documents n }
+
+-- the document of this name is another, by a function, and the others are what they were
+abbrev pub IsKnownAt : List ℕ → (Known → Known) → Server → Server → Type 0
+IsKnownAt name change s t = (n : List ℕ) → known_of t n ≡ cond (bytes_eq name n) (change (known_of s n)) (known_of s n)
+
+-- opened under a URI and in a version, with a text
+abbrev pub opened_as : List ℕ → Option ℕ → List ℕ → Known → Known
+opened_as uri version text k = record {
+  seen = Some (record { uri = uri; version = version; stand = Open });
+  texts = opened text k.texts;
+}
+
+-- whether a change tells the whole text
+abbrev pub is_whole : ChangeView → Bool
+is_whole (NewText text) = true
+is_whole (NewPart start end text) = false
+
+-- whether changes are made: of a text that is known, or where one of them tells the whole text
+abbrev pub takes : Stand → List ChangeView → Bool
+takes Open changes = true
+takes Lost changes = list_any is_whole changes
+takes Closed changes = false
+
+abbrev pub with_lost : Known → Known
+with_lost k = record { seen = option_map lost k.seen; texts = k.texts }
+
+-- changed in a version; by malformed changes, or by parts of a text that is not known, it is lost
+abbrev pub changed_as : Encoding → Option ℕ → Option (List ChangeView) → Known → Known
+changed_as e version None k = with_lost k
+changed_as e version (Some changes) k =
+    if takes (stand_in k.seen) changes && is_some k.texts.opened
+    then record { seen = option_map (changed_to version) k.seen; texts = changed e changes k.texts }
+    else with_lost k
+
+abbrev pub closed_as : Known → Known
+closed_as k = record { seen = option_map seen_closed k.seen; texts = closed k.texts }
+
+-- the text on disk, or none
+abbrev pub loaded_as : Option (List ℕ) → DocumentVal → DocumentVal
+loaded_as (Some text) d = written text d
+loaded_as None d = removed d
+
+-- ---- what is asked for
+
+pub data WantedVal : Type 0 where
+  WantsFolder : List ℕ → WantedVal
+  WantsFile : List ℕ → WantedVal
+
+abbrev pub wanted_view : Wanted → WantedVal
+wanted_view (Folder path) = WantsFolder (string_bytes path)
+wanted_view (File path) = WantsFile (string_bytes path)
+
+abbrev pub wanted_of : Server → List WantedVal
+wanted_of s = map wanted_view s.wanted.items
+
+-- the texts of the files below a folder; of what is no path none
+abbrev pub wants_folder : List ℕ → List WantedVal
+wants_folder name = if is_rooted name then WantsFolder name ∷ [] else []
+
+-- the text of a file; of what is no path none
+abbrev pub wants_file : List ℕ → List WantedVal
+wants_file name = if is_rooted name then WantsFile name ∷ [] else []
+
+-- ---- what is to be published for a new version
+
+abbrev pub edited_of : Server → List (List ℕ)
+edited_of s = map string_bytes s.edited.items
+
+abbrev pub with_name : List ℕ → List (List ℕ) → List (List ℕ)
+with_name n ns = if list_any (λ m. bytes_eq m n) ns then ns else ns ++ n ∷ []
+
+-- ---- what no notification changes
+
+pub record StaysBut (s t : Server) : Type 0 where
+  pub phase : t.phase ≡ s.phase
+  pub client : t.client ≡ s.client
+  pub folders : t.folders ≡ s.folders
+  pub encoding : t.workspace.encoding ≡ s.workspace.encoding
+  pub untold : t.untold ≡ s.untold
+  pub told : (n : List ℕ) → told_of_name t.workspace n ≡ told_of_name s.workspace n
+  pub kept : IsKept s.workspace → IsKept t.workspace

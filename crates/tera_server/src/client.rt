@@ -1,0 +1,62 @@
+//! What a client tells of itself.
+
+ghost use Rattle.std.specs.Prelude.{◌≡◌};
+ghost use Rattle.protocol_values.specs.Members.{seen};
+ghost use Rattle.tera_server.specs.Clients.{client_in, offered_in, related_in, watches_in};
+
+use json::Value;
+use protocol_values::{encoding_of, is_set, member};
+use text_edits::Encoding;
+
+/// What the client of a server can do.
+#[derive(Clone, Copy, Debug)]
+pub(crate) struct Client {
+    /// What positions are counted in.
+    pub(crate) encoding: Encoding,
+    /// Whether it shows what explains a finding.
+    pub(crate) related: bool,
+    /// Whether it can be asked to watch files.
+    pub(crate) watches: bool,
+}
+
+impl Client {
+    /// One of which nothing is known.
+    pub(crate) const UNKNOWN: Client = Client {
+        encoding: Encoding::Utf16,
+        related: false,
+        watches: false,
+    };
+
+    /// What the parameters of `initialize` tell.
+    pub(crate) fn of(params: Option<&Value<'_>>) -> Client
+        ensures { result ≡ client_in (seen params.entry) }
+    {
+        let capabilities = member(params, "capabilities");
+        Client {
+            encoding: encoding_of(offered(capabilities)),
+            related: is_set(related(capabilities)),
+            watches: is_set(watches(capabilities)),
+        }
+    }
+}
+
+fn offered<'m, 'a>(capabilities: Option<&'m Value<'a>>) -> Option<&'m Value<'a>>
+    ensures { seen result ≡ offered_in (seen capabilities.entry) }
+{
+    member(member(capabilities, "general"), "positionEncodings")
+}
+
+fn related<'m, 'a>(capabilities: Option<&'m Value<'a>>) -> Option<&'m Value<'a>>
+    ensures { seen result ≡ related_in (seen capabilities.entry) }
+{
+    let document = member(capabilities, "textDocument");
+    member(member(document, "publishDiagnostics"), "relatedInformation")
+}
+
+fn watches<'m, 'a>(capabilities: Option<&'m Value<'a>>) -> Option<&'m Value<'a>>
+    ensures { seen result ≡ watches_in (seen capabilities.entry) }
+{
+    let workspace = member(capabilities, "workspace");
+    let files = member(workspace, "didChangeWatchedFiles");
+    member(files, "dynamicRegistration")
+}

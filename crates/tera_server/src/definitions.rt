@@ -1,0 +1,126 @@
+//! Where what is named in a text is defined.
+
+ghost use Rattle.std.specs.Prelude.{◌≡◌, ◌++◌, Some, IfOk, OnOk};
+ghost use Rattle.std.specs.Option.{option_map};
+ghost use Rattle.json.specs.Tree.{json_tokens};
+ghost use Rattle.tera_outline.specs.Names.{name_view};
+ghost use Rattle.tera_workspace.specs.Definitions.{definition_view};
+ghost use Rattle.tera_server.specs.Definitions.{IsNamedAt, first_of, template_place, place_by, place_of, place_json};
+
+use crate::editor::Editor;
+use crate::findings::uri_by;
+use json::Writer;
+use protocol_values::put_location;
+use std::alloc::{AllocError, Global};
+use tera_outline::{Name, NameKind, pieces_of, under};
+use tera_workspace::{Definition, Workspace};
+use text_edits::{Encoding, Lines, Position, byte_at};
+
+/// The name of a component or a template that stands at the position, if one does.
+pub(crate) fn name_at(
+    alloc: Global,
+    encoding: Encoding,
+    text: &str,
+    position: Position,
+) -> Result<Option<Name>, AllocError>
+    ensures { IfOk result (λ name. IsNamedAt encoding text.now position (option_map name_view name)) }
+{
+    let pieces = pieces_of(alloc, text)?;
+    let lines = Lines::of(alloc, text)?;
+    let byte = byte_at(text, &lines, encoding, position);
+    under(alloc, pieces.as_slice(), byte)
+}
+
+/// Writes the place that the name leads to, or `null`.
+pub(crate) fn put_definition(
+    alloc: Global,
+    out: &mut Writer,
+    workspace: &Workspace,
+    editor: &Editor,
+    name: &Option<Name>,
+) -> Result<(), AllocError>
+    ensures tokens { OnOk result (out.new.tokens ≡ out.old.tokens
+        ++ json_tokens (place_json editor.now (place_of workspace.now (option_map name_view name.now)))) }
+    ensures before { out.new.before ≡ out.old.before }
+{
+    match place_of(alloc, workspace, name)? {
+        Some(place) => put_place(alloc, out, editor, &place)?,
+        None => out.null()?,
+    }
+    Ok(())
+}
+
+fn put_place(
+    alloc: Global,
+    out: &mut Writer,
+    editor: &Editor,
+    place: &Definition,
+) -> Result<(), AllocError>
+    ensures tokens { OnOk result (out.new.tokens ≡ out.old.tokens
+        ++ json_tokens (place_json editor.now (Some (definition_view place.now)))) }
+    ensures before { out.new.before ≡ out.old.before }
+{
+    let uri = uri_by(alloc, editor, place.file.as_str())?;
+    put_location(out, uri.as_str(), place.start, place.end)
+}
+
+fn place_of(
+    alloc: Global,
+    workspace: &Workspace,
+    name: &Option<Name>,
+) -> Result<Option<Definition>, AllocError>
+    ensures { IfOk result (λ place. option_map definition_view place
+        ≡ place_of workspace.now (option_map name_view name.now)) }
+{
+    match name {
+        Some(name) => place_by(alloc, workspace, name.kind, name.text.as_str()),
+        None => Ok(None),
+    }
+}
+
+fn place_by(
+    alloc: Global,
+    workspace: &Workspace,
+    kind: NameKind,
+    name: &str,
+) -> Result<Option<Definition>, AllocError>
+    ensures { IfOk result (λ place. option_map definition_view place ≡ place_by kind workspace.now name.now) }
+{
+    match kind {
+        NameKind::Called => workspace.definition_of(alloc, name),
+        NameKind::Closed => workspace.definition_of(alloc, name),
+        NameKind::Defined => workspace.definition_of(alloc, name),
+        NameKind::Extended => template_place(alloc, workspace, name),
+        NameKind::Included => template_place(alloc, workspace, name),
+    }
+}
+
+// The beginning of the first file that has the name below a folder.
+fn template_place(
+    alloc: Global,
+    workspace: &Workspace,
+    name: &str,
+) -> Result<Option<Definition>, AllocError>
+    ensures { IfOk result (λ place. option_map definition_view place ≡ template_place workspace.now name.now) }
+{
+    let mut ending = String::from_str(alloc, "/")?;
+    ending.push_str(name)?;
+    match workspace.file_of(ending.as_str()) {
+        Some(file) => Ok(Some(beginning_of(alloc, file)?)),
+        None => Ok(None),
+    }
+}
+
+fn beginning_of(alloc: Global, file: &str) -> Result<Definition, AllocError>
+    ensures { IfOk result (λ place. definition_view place ≡ first_of file.now) }
+{
+    let first = Position {
+        line: 0,
+        character: 0,
+    };
+    Ok(Definition {
+        file: String::from_str(alloc, file)?,
+        start: first,
+        end: first,
+    })
+}

@@ -1,0 +1,109 @@
+//! The layout of a text, as edits of its white space.
+
+ghost use Rattle.std.specs.Prelude.{◌≡◌, ◌++◌, List, map, option_map, string_bytes, IfOk, OnOk};
+ghost use Rattle.std.specs.List.{flat_map};
+ghost use Rattle.json.specs.Json.{Json, array};
+ghost use Rattle.json.specs.Tree.{json_tokens};
+ghost use Rattle.json.specs.Value.{items_of};
+ghost use Rattle.tera_layout.specs.Layout.{laid_out};
+ghost use Rattle.tera_layout.specs.Respaced.{without_white};
+ghost use Rattle.tera_lexer.specs.grammar.Marks.{default_marks};
+ghost use Rattle.text_edits.specs.Lines.{lines_of, starts_of};
+ghost use Rattle.tera_server.specs.Layouts.{edit_json, edit_tokens, AreEdits, IsLayout};
+ghost use Rattle.tera_outline.specs.declared.edits.Edit.{Edit as AnEdit};
+
+use json::Writer;
+use protocol_values::put_edit;
+use std::alloc::{AllocError, Global};
+use tera_base::ErrorKind;
+use tera_layout::format;
+use tera_outline::{Edit, edits_of};
+use text_edits::{Encoding, Lines, position_at};
+
+/// Writes the edits that make the text its layout, or `null` where it has none.
+pub(crate) fn put_layout(
+    alloc: Global,
+    out: &mut Writer,
+    encoding: Encoding,
+    text: &str,
+) -> Result<(), AllocError>
+    ensures tokens { OnOk result ((j : Json) × IsLayout encoding text.now j
+        × (out.new.tokens ≡ out.old.tokens ++ json_tokens j)) }
+    ensures before { out.new.before ≡ out.old.before }
+{
+    match layout_of(alloc, text)? {
+        Some(layout) => put_edits_to(alloc, out, encoding, text, layout.as_str())?,
+        None => out.null()?,
+    }
+    Ok(())
+}
+
+// The layout, if the text has one.
+fn layout_of(alloc: Global, text: &str) -> Result<Option<String>, AllocError>
+    ensures { IfOk result (λ o. laid_out default_marks text.now ≡ option_map string_bytes o) }
+{
+    match format(alloc, text) {
+        Ok(layout) => Ok(Some(layout)),
+        Err(error) => match error.kind {
+            ErrorKind::Memory => Err(AllocError),
+            _ => Ok(None),
+        },
+    }
+}
+
+fn put_edits_to(
+    alloc: Global,
+    out: &mut Writer,
+    encoding: Encoding,
+    text: &str,
+    layout: &str,
+) -> Result<(), AllocError>
+    requires { without_white text.now ≡ without_white layout.now }
+    ensures tokens { OnOk result ((edits : List AnEdit) × AreEdits text.now layout.now edits
+        × (out.new.tokens ≡ out.old.tokens
+        ++ json_tokens (array (items_of (map (edit_json encoding text.now) edits))))) }
+    ensures before { out.new.before ≡ out.old.before }
+{
+    let edits = edits_of(alloc, text, layout)?;
+    let lines = Lines::of(alloc, text)?;
+    out.begin_array()?;
+    put_edits(out, encoding, text, &lines, edits.as_slice())?;
+    out.end_array()?;
+    Ok(())
+}
+
+fn put_edits(
+    out: &mut Writer,
+    encoding: Encoding,
+    text: &str,
+    lines: &Lines,
+    edits: &[Edit<'_>],
+) -> Result<(), AllocError>
+    requires { lines.now ≡ starts_of (lines_of text.now) }
+    ensures tokens { OnOk result (out.new.tokens ≡ out.old.tokens
+        ++ flat_map (edit_tokens encoding text.now) edits.now) }
+    ensures before { out.new.before ≡ out.old.before }
+{
+    for edit in edits {
+        put_one(out, encoding, text, lines, edit)?;
+    }
+    Ok(())
+}
+
+#[tactic(auto, unfolding(crate::specs::Layouts::edit_tokens))]
+fn put_one(
+    out: &mut Writer,
+    encoding: Encoding,
+    text: &str,
+    lines: &Lines,
+    edit: &Edit<'_>,
+) -> Result<(), AllocError>
+    requires { lines.now ≡ starts_of (lines_of text.now) }
+    ensures tokens { OnOk result (out.new.tokens
+        ≡ out.old.tokens ++ edit_tokens encoding text.now edit.now) }
+    ensures before { out.new.before ≡ out.old.before }
+{
+    let start = position_at(text, lines, encoding, edit.start);
+    let end = position_at(text, lines, encoding, edit.end);
+    put_edit(out, start, end, edit.text)
+}

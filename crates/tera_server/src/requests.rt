@@ -1,0 +1,313 @@
+//! Requests.
+
+ghost use Rattle.std.specs.Prelude.{◌≡◌, ◌⊎◌, [], ◌∷◌, codes, IfOk, OnOk, OnErr, MatchResult, option_map, map, string_bytes, Some};
+ghost use Rattle.json.specs.Json.{Json, null};
+ghost use Rattle.json.specs.Value.{value_view};
+ghost use Rattle.json_rpc.specs.Writing.{body, answer};
+ghost use Rattle.json_rpc.specs.declared.code.Code.TheVariants.{InternalError};
+ghost use Rattle.protocol_values.specs.Members.{seen, member_of, text_in};
+ghost use Rattle.tera_server.specs.Abilities.{abilities_json};
+ghost use Rattle.tera_outline.specs.Names.{name_view};
+ghost use Rattle.tera_server.specs.Clients.{client_in};
+ghost use Rattle.tera_server.specs.Definitions.{place_of, place_json};
+ghost use Rattle.tera_server.specs.Notes.{document_in, uri_told};
+ghost use Rattle.tera_server.specs.Requests.{asked_of, AreNames, AddsName, folder_uri, folders_by, folders_in, IsBegun, Gives, RefusesDocument, RefusesPlace, IsMeant, IsNamed, HasRead, place_in, IsAnsweredBy};
+ghost use Rattle.tera_server.specs.declared.requests.Asked.TheVariants.{Formatting, Symbols, Definition};
+ghost use Rattle.tera_server.specs.declared.server.Phase.TheVariants.{New, Running, ShutDown as PhaseShutDown};
+
+use crate::abilities::put_abilities;
+use crate::client::Client;
+use crate::definitions::{name_at, put_definition};
+use crate::editor::Stand;
+use crate::layouts::put_layout;
+use crate::server::{Phase, Server};
+use crate::symbols::put_outline;
+use file_uris::name_of;
+use json::Value;
+use json_rpc::{Code, Id, begin_answer, end_message};
+use protocol_values::{items_of, member, position_of, text_of};
+use std::alloc::{AllocError, Global};
+use tera_outline::Name;
+use tera_workspace::Workspace;
+
+/// What a request asks.
+#[derive(Clone, Copy, Debug, PartialEq, Eq)]
+pub(crate) enum Asked {
+    Initialize,
+    Shutdown,
+    Formatting,
+    Symbols,
+    Definition,
+    Other,
+}
+
+impl Asked {
+    /// What the request of this method asks.
+    pub(crate) fn of(method: &str) -> Asked
+        ensures { result ≡ asked_of method.now }
+    {
+        match method {
+            "initialize" => Asked::Initialize,
+            "shutdown" => Asked::Shutdown,
+            "textDocument/formatting" => Asked::Formatting,
+            "textDocument/documentSymbol" => Asked::Symbols,
+            "textDocument/definition" => Asked::Definition,
+            _ => Asked::Other,
+        }
+    }
+}
+
+impl Server {
+    /// The answer to a request.
+    pub(crate) fn result_of(
+        &mut self,
+        alloc: Global,
+        id: &Id<'_>,
+        asked: Asked,
+        params: Option<&Value<'_>>,
+    ) -> Result<Vec<u8>, Code>
+        ensures { IsAnsweredBy self.old id.now asked (seen params.entry) result self.new }
+    {
+        match self.phase {
+            Phase::New => self.result_before(alloc, id, asked, params),
+            Phase::Running => self.result_within(alloc, id, asked, params),
+            Phase::ShutDown => Err(Code::InvalidRequest),
+        }
+    }
+
+    // Before the exchange has begun.
+    fn result_before(
+        &mut self,
+        alloc: Global,
+        id: &Id<'_>,
+        asked: Asked,
+        params: Option<&Value<'_>>,
+    ) -> Result<Vec<u8>, Code>
+        requires { self.old.phase ≡ New }
+        ensures { IsAnsweredBy self.old id.now asked (seen params.entry) result self.new }
+    {
+        match asked {
+            Asked::Initialize => Ok(self.initialize(alloc, id, params)?),
+            Asked::Shutdown => Err(Code::ServerNotInitialized),
+            Asked::Formatting => Err(Code::ServerNotInitialized),
+            Asked::Symbols => Err(Code::ServerNotInitialized),
+            Asked::Definition => Err(Code::ServerNotInitialized),
+            Asked::Other => Err(Code::ServerNotInitialized),
+        }
+    }
+
+    // Once it has.
+    fn result_within(
+        &mut self,
+        alloc: Global,
+        id: &Id<'_>,
+        asked: Asked,
+        params: Option<&Value<'_>>,
+    ) -> Result<Vec<u8>, Code>
+        requires { self.old.phase ≡ Running }
+        ensures { IsAnsweredBy self.old id.now asked (seen params.entry) result self.new }
+    {
+        match asked {
+            Asked::Initialize => Err(Code::InvalidRequest),
+            Asked::Shutdown => Ok(self.shut_down(alloc, id)?),
+            Asked::Formatting => self.formatting(alloc, id, params),
+            Asked::Symbols => self.symbols(alloc, id, params),
+            Asked::Definition => self.definition(alloc, id, params),
+            Asked::Other => Err(Code::MethodNotFound),
+        }
+    }
+
+    // Begins the exchange. On want of memory it has not begun.
+    fn initialize(
+        &mut self,
+        alloc: Global,
+        id: &Id<'_>,
+        params: Option<&Value<'_>>,
+    ) -> Result<Vec<u8>, AllocError>
+        requires { self.old.phase ≡ New }
+        ensures begun { IfOk result (λ v. IsBegun (seen params.entry) self.old self.new
+            × (v.items ≡ body (answer id.now (abilities_json (client_in (seen params.entry)).encoding)))) }
+        ensures err { OnErr result (self.new ≡ self.old) }
+    {
+        let client = Client::of(params);
+        let folders = folders_of(alloc, params)?;
+        let mut writer = begin_answer(alloc, id)?;
+        put_abilities(&mut writer, client.encoding)?;
+        let answer = end_message(writer)?;
+        self.client = client;
+        self.folders = folders;
+        self.workspace = Workspace::new(alloc, client.encoding);
+        self.phase = Phase::Running;
+        Ok(answer)
+    }
+
+    fn shut_down(&mut self, alloc: Global, id: &Id<'_>) -> Result<Vec<u8>, AllocError>
+        ensures ended { IfOk result (λ v. (self.new ≡ record self.old { phase = PhaseShutDown })
+            × (v.items ≡ body (answer id.now null))) }
+        ensures err { OnErr result (self.new ≡ self.old) }
+    {
+        let mut writer = begin_answer(alloc, id)?;
+        writer.null()?;
+        let answer = end_message(writer)?;
+        self.phase = Phase::ShutDown;
+        Ok(answer)
+    }
+
+    fn formatting(
+        &self,
+        alloc: Global,
+        id: &Id<'_>,
+        params: Option<&Value<'_>>,
+    ) -> Result<Vec<u8>, Code>
+        requires { self.now.phase ≡ Running }
+        ensures { MatchResult result
+            (λ v. (j : Json) × Gives Running Formatting self.now (seen params.entry) j self.now
+            × (v.items ≡ body (answer id.now j)))
+            (λ code. (code ≡ InternalError) ⊎ RefusesDocument (uri_told (document_in (seen params.entry))) self.now code) }
+    {
+        let text = self.text_meant(alloc, params)?;
+        let mut writer = begin_answer(alloc, id)?;
+        put_layout(alloc, &mut writer, self.client.encoding, text)?;
+        Ok(end_message(writer)?)
+    }
+
+    fn symbols(
+        &self,
+        alloc: Global,
+        id: &Id<'_>,
+        params: Option<&Value<'_>>,
+    ) -> Result<Vec<u8>, Code>
+        requires { self.now.phase ≡ Running }
+        ensures { MatchResult result
+            (λ v. (j : Json) × Gives Running Symbols self.now (seen params.entry) j self.now
+            × (v.items ≡ body (answer id.now j)))
+            (λ code. (code ≡ InternalError) ⊎ RefusesDocument (uri_told (document_in (seen params.entry))) self.now code) }
+    {
+        let text = self.text_meant(alloc, params)?;
+        let mut writer = begin_answer(alloc, id)?;
+        put_outline(alloc, &mut writer, self.client.encoding, text)?;
+        Ok(end_message(writer)?)
+    }
+
+    // Documents that changed are read first, so that the place is one in a text as it is.
+    fn definition(
+        &mut self,
+        alloc: Global,
+        id: &Id<'_>,
+        params: Option<&Value<'_>>,
+    ) -> Result<Vec<u8>, Code>
+        requires { self.old.phase ≡ Running }
+        ensures { MatchResult result
+            (λ v. (j : Json) × Gives Running Definition self.old (seen params.entry) j self.new
+            × (v.items ≡ body (answer id.now j)))
+            (λ code. HasRead self.old self.new
+            × ((code ≡ InternalError) ⊎ RefusesPlace (place_in (seen params.entry)) (uri_told (document_in (seen params.entry))) self.old code)) }
+    {
+        let name = self.name_meant(alloc, params)?;
+        self.workspace.read(alloc)?;
+        Ok(self.lead_to(alloc, id, &name)?)
+    }
+
+    // The name at the position that the parameters tell.
+    fn name_meant(&self, alloc: Global, params: Option<&Value<'_>>) -> Result<Option<Name>, Code>
+        ensures { MatchResult result
+            (λ name. IsNamed (place_in (seen params.entry)) (uri_told (document_in (seen params.entry))) self.now (option_map name_view name))
+            (λ code. (code ≡ InternalError)
+            ⊎ RefusesPlace (place_in (seen params.entry)) (uri_told (document_in (seen params.entry))) self.now code) }
+    {
+        let Some(position) = position_of(member(params, "position")) else {
+            return Err(Code::InvalidParams);
+        };
+        let text = self.text_meant(alloc, params)?;
+        Ok(name_at(alloc, self.client.encoding, text, position)?)
+    }
+
+    fn lead_to(
+        &self,
+        alloc: Global,
+        id: &Id<'_>,
+        name: &Option<Name>,
+    ) -> Result<Vec<u8>, AllocError>
+        ensures { IfOk result (λ v. v.items ≡ body (answer id.now
+            (place_json self.now.editor (place_of self.now.workspace (option_map name_view name.now))))) }
+    {
+        let mut writer = begin_answer(alloc, id)?;
+        put_definition(alloc, &mut writer, &self.workspace, &self.editor, name)?;
+        end_message(writer)
+    }
+
+    // The text of the document that the parameters name, which the editor has open.
+    fn text_meant(&self, alloc: Global, params: Option<&Value<'_>>) -> Result<&str, Code>
+        ensures { MatchResult result (λ text. IsMeant (uri_told (document_in (seen params.entry))) self.now text.now)
+            (λ code. (code ≡ InternalError) ⊎ RefusesDocument (uri_told (document_in (seen params.entry))) self.now code) }
+    {
+        let Some(uri) = text_of(member(member(params, "textDocument"), "uri")) else {
+            return Err(Code::InvalidParams);
+        };
+        let name = name_of(alloc, uri)?;
+        match self.editor.stand(name.as_str()) {
+            Stand::Closed => Err(Code::InvalidParams),
+            Stand::Lost => Err(Code::RequestFailed),
+            Stand::Open => match self.workspace.text(name.as_str()) {
+                Some(text) => Ok(text),
+                None => Err(Code::InvalidParams),
+            },
+        }
+    }
+}
+
+// The folders that the parameters of `initialize` name: those of the workspace, or else its root.
+fn folders_of(alloc: Global, params: Option<&Value<'_>>) -> Result<Vec<String>, AllocError>
+    ensures { IfOk result (λ v. AreNames (folders_in (seen params.entry)) (map string_bytes v.items)) }
+{
+    match items_of(member(params, "workspaceFolders")) {
+        Some(named) => folders_or_root(alloc, named, params),
+        None => root_of(alloc, params),
+    }
+}
+
+fn folders_or_root(
+    alloc: Global,
+    named: &[Value<'_>],
+    params: Option<&Value<'_>>,
+) -> Result<Vec<String>, AllocError>
+    ensures { IfOk result (λ v. AreNames (folders_by (seen params.entry) (map value_view named.now))
+        (map string_bytes v.items)) }
+{
+    if named.is_empty() {
+        root_of(alloc, params)
+    } else {
+        folders_in(alloc, named)
+    }
+}
+
+fn folders_in(alloc: Global, named: &[Value<'_>]) -> Result<Vec<String>, AllocError>
+    ensures { IfOk result (λ v. AreNames (map folder_uri (map value_view named.now))
+        (map string_bytes v.items)) }
+{
+    let mut folders = Vec::new(alloc);
+    for folder in named {
+        push_name(alloc, &mut folders, text_of(member(Some(folder), "uri")))?;
+    }
+    Ok(folders)
+}
+
+// Adds the name of what has this URI, if it has one.
+fn push_name(alloc: Global, names: &mut Vec<String>, uri: Option<&str>) -> Result<(), AllocError>
+    ensures { OnOk result (AddsName (option_map (λ t. t.now) uri.entry)
+        (map string_bytes names.old.items) (map string_bytes names.new.items)) }
+{
+    if let Some(uri) = uri {
+        names.push(name_of(alloc, uri)?)?;
+    }
+    Ok(())
+}
+
+fn root_of(alloc: Global, params: Option<&Value<'_>>) -> Result<Vec<String>, AllocError>
+    ensures { IfOk result (λ v. AreNames (text_in (member_of (codes "rootUri") (seen params.entry)) ∷ [])
+        (map string_bytes v.items)) }
+{
+    let mut folders = Vec::new(alloc);
+    push_name(alloc, &mut folders, text_of(member(params, "rootUri")))?;
+    Ok(folders)
+}

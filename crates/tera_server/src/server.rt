@@ -1,0 +1,385 @@
+//! The server.
+
+ghost use Rattle.std.specs.Prelude.{◌≡◌, ◌++◌, ◌∷◌, [], ℕ, List, IsTrue, None, IfSome, IfOk, OnOk, OnErr, string_bytes};
+ghost use Rattle.std.specs.Option.{option_map, option_to_list};
+ghost use Rattle.json_rpc.specs.Ids.{NullId};
+ghost use Rattle.json_rpc.specs.Messages.{message_of};
+ghost use Rattle.json_rpc.specs.Outgoing.{IsAnswered};
+ghost use Rattle.json_rpc.specs.Outline.{answered_id};
+ghost use Rattle.json_rpc.specs.Shown.{message_view};
+ghost use Rattle.json_rpc.specs.Writing.{body, refusal};
+ghost use Rattle.json_rpc.specs.declared.code.Code.TheVariants.{InternalError, ParseError};
+ghost use Rattle.protocol_values.specs.Members.{seen};
+ghost use Rattle.tera_workspace.specs.Workspaces.{told_of_name, IsKept};
+ghost use Rattle.text_documents.specs.Documents.{no_document};
+ghost use Rattle.text_documents.specs.Stored.{IsChangedAt, AreSame};
+ghost use Rattle.tera_server.specs.Sending.{with_all, found_message, messages_of, SendsFirst, untold_of, names_beside};
+ghost use Rattle.tera_server.specs.Settling.{IsSettling, ArePublished, ArePublishedInPart, OnlyTells};
+ghost use Rattle.tera_server.specs.States.{known_of, loaded_as, wanted_of, wanted_view, edited_of, StaysBut};
+ghost use Rattle.tera_server.specs.Steps.{ended_at, Answers, IsHeard, Step, IsMissed, IsUntaken, IsUntakenBy, EditsIn, Follows, KeepsUp};
+ghost use Rattle.tera_server.specs.Notes.{Texts};
+ghost use Rattle.tera_server.specs.declared.server.Phase.TheVariants.{New};
+
+use crate::client::Client;
+use crate::editor::{Editor, Stand};
+use crate::findings::{Telling, published};
+use crate::notes::{Noted, has_name};
+use crate::requests::Asked;
+use json::{Scratch, Value};
+use json_rpc::{Code, Id, Incoming, Message, Outbox, id_to_answer};
+use std::alloc::{AllocError, Global};
+use tera_workspace::Workspace;
+
+/// How far the exchange with a client has come.
+#[derive(Clone, Copy, Debug, PartialEq, Eq)]
+pub(crate) enum Phase {
+    New,
+    Running,
+    ShutDown,
+}
+
+/// How the exchange ended.
+#[derive(Clone, Copy, Debug, PartialEq, Eq)]
+pub enum Ended {
+    /// Behind a `shutdown`.
+    Orderly,
+    /// Without one.
+    Early,
+}
+
+/// What the server asks of the files on disk. [`Server::load`] takes the texts.
+#[derive(Debug, Drop, PartialEq, Eq)]
+pub enum Wanted {
+    /// The texts of the templates below this folder.
+    Folder(String),
+    /// The text of this file, if there is one.
+    File(String),
+}
+
+/// The state of a server.
+#[derive(Drop)]
+pub struct Server {
+    pub(crate) phase: Phase,
+    pub(crate) client: Client,
+    pub(crate) workspace: Workspace,
+    pub(crate) editor: Editor,
+    pub(crate) folders: Vec<String>,
+    pub(crate) wanted: Vec<Wanted>,
+    // The names of the documents that the editor opened, changed or closed since their findings were published.
+    pub(crate) edited: Vec<String>,
+    // The names of those whose findings are others than were published.
+    untold: Vec<String>,
+}
+
+impl Server {
+    /// A server to which nothing was sent.
+    pub fn new(alloc: Global) -> Server
+        ensures phase { result.phase ≡ New }
+        ensures known { (n : List ℕ) → known_of result n ≡ record { seen = None; texts = no_document } }
+        ensures told { (n : List ℕ) → told_of_name result.workspace n ≡ [] }
+        ensures kept { IsKept result.workspace }
+        ensures none { (wanted_of result ≡ []) × (edited_of result ≡ []) × (untold_of result ≡ []) }
+    {
+        Server {
+            phase: Phase::New,
+            client: Client::UNKNOWN,
+            workspace: Workspace::new(alloc, Client::UNKNOWN.encoding),
+            editor: Editor::new(alloc),
+            folders: Vec::new(alloc),
+            wanted: Vec::new(alloc),
+            edited: Vec::new(alloc),
+            untold: Vec::new(alloc),
+        }
+    }
+
+    /// Takes a message and adds what is sent at once. The answer is how the exchange ends, if it does by this message. The
+    /// error says that no memory was found for it: a request has its answer all the same, and what a notification tells of
+    /// a document is lost.
+    pub fn handle(
+        &mut self,
+        alloc: Global,
+        message: Vec<u8>,
+        out: &mut Outbox,
+    ) -> Result<Option<Ended>, AllocError>
+        requires { IsTrue out.old.reserved }
+        ensures step { IfOk result (λ ended. Step self.old (message_of message.items) out.old ended self.new out.new) }
+        ensures untaken { OnErr result (IsUntaken self.old (message_of message.items) out.old self.new out.new) }
+        ensures in_step { KeepsUp (message_of message.items) self.old self.new }
+        ensures kept { IsKept self.old.workspace → IsKept self.new.workspace }
+    {
+        let mut scratch = Scratch::new(alloc);
+        if scratch.reserve(message.len()).is_err() {
+            self.miss(alloc, out);
+            return Err(AllocError);
+        }
+        match self.read(alloc, message.as_slice(), &mut scratch, out) {
+            Some(taken) => taken,
+            None => {
+                self.refuse_unread(alloc, message.as_slice(), &mut scratch, out);
+                Err(AllocError)
+            }
+        }
+    }
+
+    // Reads a message and takes it. None where there is no memory to read it; then nothing changes.
+    fn read<'a>(
+        &mut self,
+        alloc: Global,
+        bytes: &'a [u8],
+        scratch: &'a mut Scratch,
+        out: &mut Outbox,
+    ) -> Option<Result<Option<Ended>, AllocError>>
+        requires { IsTrue out.old.reserved }
+        ensures step { IfSome result (λ taken. IfOk taken (λ ended.
+            Step self.old (message_of bytes.now) out.old ended self.new out.new)) }
+        ensures untaken { IfSome result (λ taken. OnErr taken
+            (IsUntakenBy (answered_id (message_of bytes.now)) self.old out.old self.new out.new)) }
+        ensures in_step { IfSome result (λ _. KeepsUp (message_of bytes.now) self.old self.new) }
+        ensures kept { IsKept self.old.workspace → IsKept self.new.workspace }
+        ensures unread { result ≡ None → (self.new ≡ self.old) × (out.new ≡ out.old) }
+    {
+        match Incoming::read(alloc, bytes, scratch) {
+            Ok(incoming) => Some(self.take(alloc, incoming.message(), out)),
+            Err(AllocError) => None,
+        }
+    }
+
+    // There was no memory to read a message: what is to be answered is refused, and what is not may have been a change.
+    fn refuse_unread<'a>(
+        &mut self,
+        alloc: Global,
+        bytes: &'a [u8],
+        scratch: &'a mut Scratch,
+        out: &mut Outbox,
+    )
+        requires { IsTrue out.old.reserved }
+        ensures untaken { IsUntaken self.old (message_of bytes.now) out.old self.new out.new }
+        ensures in_step { KeepsUp (message_of bytes.now) self.old self.new }
+        ensures kept { IsKept self.old.workspace → IsKept self.new.workspace }
+    {
+        match id_to_answer(bytes, scratch) {
+            Ok(Some(id)) => out.answer(alloc, &id, Err(Code::InternalError)),
+            Ok(None) => self.editor.lose_all(),
+            Err(AllocError) => self.miss(alloc, out),
+        }
+    }
+
+    /// A message could not be read: it was too long, or no memory was found for its bytes. It may have been a change of
+    /// whatever document, or a request, whose id is not known.
+    pub fn miss(&mut self, alloc: Global, out: &mut Outbox)
+        requires { IsTrue out.old.reserved }
+        ensures missed { IsMissed self.old self.new }
+        ensures answered { IsAnswered out.old out.new NullId (body (refusal NullId InternalError)) }
+    {
+        self.editor.lose_all();
+        out.answer(alloc, &Id::null(), Err(Code::InternalError));
+    }
+
+    /// What came is no message: in the place of its header stood something else.
+    pub fn refuse(&self, alloc: Global, out: &mut Outbox)
+        requires { IsTrue out.old.reserved }
+        ensures { IsAnswered out.old out.new NullId (body (refusal NullId ParseError)) }
+    {
+        out.answer(alloc, &Id::null(), Err(Code::ParseError));
+    }
+
+    fn take(
+        &mut self,
+        alloc: Global,
+        message: Message<'_, '_>,
+        out: &mut Outbox,
+    ) -> Result<Option<Ended>, AllocError>
+        requires { IsTrue out.old.reserved }
+        ensures step { IfOk result (λ ended. Step self.old (message_view message.entry) out.old ended self.new out.new) }
+        ensures untaken { OnErr result
+            (IsUntakenBy (answered_id (message_view message.entry)) self.old out.old self.new out.new) }
+        ensures in_step { KeepsUp (message_view message.entry) self.old self.new }
+        ensures kept { IsKept self.old.workspace → IsKept self.new.workspace }
+    {
+        match message {
+            Message::Request { id, method, params } => {
+                self.answer(alloc, &id, Asked::of(method), params, out);
+                Ok(None)
+            }
+            Message::Notification { method, params } => {
+                self.hear(alloc, Noted::of(method), params, out)
+            }
+            Message::Response => Ok(None),
+            Message::Invalid(id) => {
+                out.answer(alloc, &id, Err(Code::InvalidRequest));
+                Ok(None)
+            }
+            Message::NotJson => {
+                out.answer(alloc, &Id::null(), Err(Code::ParseError));
+                Ok(None)
+            }
+        }
+    }
+
+    // Answers a request.
+    fn answer(
+        &mut self,
+        alloc: Global,
+        id: &Id<'_>,
+        asked: Asked,
+        params: Option<&Value<'_>>,
+        out: &mut Outbox,
+    )
+        requires { IsTrue out.old.reserved }
+        ensures answers { Answers id.now asked self.old (seen params.entry) out.old self.new out.new }
+        ensures in_step { (texts : Texts) → Follows texts self.old → Follows texts self.new }
+        ensures kept { IsKept self.old.workspace → IsKept self.new.workspace }
+    {
+        let result = self.result_of(alloc, id, asked, params);
+        out.answer(alloc, id, result);
+    }
+
+    // Takes a notification.
+    fn hear(
+        &mut self,
+        alloc: Global,
+        noted: Noted,
+        params: Option<&Value<'_>>,
+        out: &mut Outbox,
+    ) -> Result<Option<Ended>, AllocError>
+        ensures heard { IfOk result (λ ended. IsHeard noted self.old (seen params.entry) out.old ended self.new out.new) }
+        ensures unheard { OnErr result (StaysBut self.old self.new × (out.new ≡ out.old)) }
+        ensures in_step { (texts now : Texts) → EditsIn self.old.phase self.old noted (seen params.entry) texts now →
+            Follows texts self.old → Follows now self.new }
+        ensures kept { IsKept self.old.workspace → IsKept self.new.workspace }
+    {
+        match noted {
+            Noted::Exit => Ok(Some(self.ended())),
+            _ => {
+                self.note(alloc, noted, params, out)?;
+                Ok(None)
+            }
+        }
+    }
+
+    /// How the exchange ends, if it does now.
+    pub fn ended(&self) -> Ended
+        ensures { result ≡ ended_at self.now.phase }
+    {
+        match self.phase {
+            Phase::ShutDown => Ended::Orderly,
+            Phase::New | Phase::Running => Ended::Early,
+        }
+    }
+
+    /// What is asked of the files on disk next.
+    pub fn take_wanted(&mut self) -> Option<Wanted>
+        ensures wanted { wanted_of self.old ≡ wanted_of self.new ++ option_to_list (option_map wanted_view result) }
+        ensures none { result ≡ None → wanted_of self.old ≡ [] }
+        ensures stays { StaysBut self.old self.new }
+        ensures same { self.new ≡ record self.old { wanted = self.new.wanted } }
+    {
+        self.wanted.pop()
+    }
+
+    /// This text is in the file now; none where there is no file, or no text in it.
+    pub fn load(&mut self, alloc: Global, path: &str, text: Option<&str>) -> Result<(), AllocError>
+        ensures stays { StaysBut self.old self.new }
+        ensures same { self.new ≡ record self.old { workspace = self.new.workspace } }
+        ensures loaded { OnOk result (IsChangedAt path.now
+            (loaded_as (option_map (λ t. t.now) text.entry)) self.old.workspace.documents self.new.workspace.documents) }
+        ensures err { OnErr result (AreSame self.old.workspace.documents self.new.workspace.documents) }
+    {
+        match text {
+            Some(text) => self.workspace.set_file(alloc, path, text),
+            None => self.workspace.remove_file(alloc, path),
+        }
+    }
+
+    /// Publishes what is found in the texts as they are, where it is something else than was published, or the version is.
+    /// On want of memory the rest is published the next time.
+    pub fn settle(&mut self, alloc: Global, out: &mut Outbox) -> Result<(), AllocError>
+        ensures settled { OnOk result (IsSettling self.old.phase self.old self.new out.old out.new) }
+        ensures unsettled { OnErr result (ArePublishedInPart self.old self.new out.old out.new) }
+        ensures stays { OnlyTells self.old self.new }
+    {
+        match self.phase {
+            Phase::New | Phase::ShutDown => Ok(()),
+            Phase::Running => self.publish_all(alloc, out),
+        }
+    }
+
+    fn publish_all(&mut self, alloc: Global, out: &mut Outbox) -> Result<(), AllocError>
+        ensures published { OnOk result (ArePublished self.old self.new out.old out.new) }
+        ensures in_part { OnErr result (ArePublishedInPart self.old self.new out.old out.new) }
+        ensures stays { OnlyTells self.old self.new }
+    {
+        self.publish_untold(alloc, out)?;
+        self.untold = self.workspace.settle(alloc)?;
+        self.publish_edited(alloc, out)?;
+        self.publish_untold(alloc, out)?;
+        Ok(())
+    }
+
+    fn publish_untold(&mut self, alloc: Global, out: &mut Outbox) -> Result<(), AllocError>
+        ensures published { OnOk result (out.new ≡ with_all out.old (messages_of self.old (untold_of self.old))) }
+        ensures none { OnOk result (untold_of self.new ≡ []) }
+        ensures same { self.new ≡ record self.old { untold = self.new.untold } }
+        ensures in_part { OnErr result (SendsFirst (messages_of self.old) (untold_of self.old) out.old out.new) }
+        ensures err { OnErr result (self.new ≡ self.old) }
+    {
+        for name in &self.untold {
+            self.publish(alloc, name.as_str(), out)?;
+        }
+        self.untold.clear();
+        Ok(())
+    }
+
+    fn publish_edited(&mut self, alloc: Global, out: &mut Outbox) -> Result<(), AllocError>
+        ensures published { OnOk result (out.new ≡ with_all out.old
+            (messages_of self.old (names_beside (untold_of self.old) (edited_of self.old)))) }
+        ensures none { OnOk result (edited_of self.new ≡ []) }
+        ensures same { self.new ≡ record self.old { edited = self.new.edited } }
+        ensures in_part { OnErr result (SendsFirst (λ ns. messages_of self.old (names_beside (untold_of self.old) ns))
+            (edited_of self.old) out.old out.new) }
+        ensures err { OnErr result (self.new ≡ self.old) }
+    {
+        for name in &self.edited {
+            self.publish_told(alloc, name.as_str(), out)?;
+        }
+        self.edited.clear();
+        Ok(())
+    }
+
+    // Of those that are untold it is published behind.
+    fn publish_told(&self, alloc: Global, name: &str, out: &mut Outbox) -> Result<(), AllocError>
+        ensures ok { OnOk result (out.new ≡ with_all out.old
+            (messages_of self.now (names_beside (untold_of self.now) (name.now ∷ [])))) }
+        ensures err { OnErr result (out.new ≡ out.old) }
+    {
+        if has_name(self.untold.as_slice(), name) {
+            return Ok(());
+        }
+        self.publish(alloc, name, out)
+    }
+
+    fn publish(&self, alloc: Global, name: &str, out: &mut Outbox) -> Result<(), AllocError>
+        ensures ok { OnOk result (out.new ≡ with_all out.old (messages_of self.now (name.now ∷ []))) }
+        ensures err { OnErr result (out.new ≡ out.old) }
+    {
+        match self.editor.stand(name) {
+            Stand::Open | Stand::Closed => {
+                let message = self.found_message(alloc, name)?;
+                out.push(message)
+            }
+            Stand::Lost => Ok(()),
+        }
+    }
+
+    // The message that publishes what was told of the document of this name last.
+    fn found_message(&self, alloc: Global, name: &str) -> Result<Vec<u8>, AllocError>
+        ensures { IfOk result (λ m. m.items
+            ≡ found_message self.now.editor self.now.client.related self.now.workspace name.now) }
+    {
+        let telling = Telling {
+            editor: &self.editor,
+            related: self.client.related,
+        };
+        published(alloc, telling, name, self.workspace.told(name))
+    }
+}

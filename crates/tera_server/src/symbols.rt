@@ -1,0 +1,167 @@
+//! The outline of a text: its blocks and the definitions of its components.
+
+ghost use Rattle.std.specs.Prelude.{◌≡◌, ◌++◌, ◌∷◌, [], map, reverse, OnOk};
+ghost use Rattle.json.specs.Json.{Json};
+ghost use Rattle.json.specs.Token.{end_array, end_object};
+ghost use Rattle.json.specs.Tree.{json_tokens, items_tokens};
+ghost use Rattle.tera_outline.specs.Symbols.{outlined};
+ghost use Rattle.text_edits.specs.Lines.{lines_of, starts_of};
+ghost use Rattle.protocol_values.specs.Writing.{member_tokens, range_json};
+ghost use Rattle.tera_server.specs.Positions.{position_at};
+ghost use Rattle.tera_server.specs.Outlines.{IsOutline, nested, symbol_items, symbol_begin, end_tokens, open_at, all_ended, kind_name, kind_number};
+
+use json::Writer;
+use protocol_values::{put_number, put_range, put_text};
+use std::alloc::{AllocError, Global};
+use tera_outline::{Symbol, SymbolKind, symbols_of};
+use text_edits::{Encoding, Lines, position_at};
+
+/// Writes the symbols of the text, with a fault or without one, each with those that stand in it.
+pub(crate) fn put_outline(
+    alloc: Global,
+    out: &mut Writer,
+    encoding: Encoding,
+    text: &str,
+) -> Result<(), AllocError>
+    ensures tokens { OnOk result ((j : Json) × IsOutline encoding text.now j
+        × (out.new.tokens ≡ out.old.tokens ++ json_tokens j)) }
+    ensures before { out.new.before ≡ out.old.before }
+{
+    let symbols = symbols_of(alloc, text)?;
+    let lines = Lines::of(alloc, text)?;
+    out.begin_array()?;
+    put_nested(alloc, out, encoding, text, &lines, symbols.as_slice())?;
+    Ok(())
+}
+
+// Writes them and ends the array in which they stand.
+fn put_nested(
+    alloc: Global,
+    out: &mut Writer,
+    encoding: Encoding,
+    text: &str,
+    lines: &Lines,
+    symbols: &[Symbol],
+) -> Result<(), AllocError>
+    requires { lines.now ≡ starts_of (lines_of text.now) }
+    ensures tokens { OnOk result (out.new.tokens ≡ out.old.tokens
+        ++ items_tokens (symbol_items encoding text.now (nested (map outlined symbols.now)))) }
+    ensures before { out.new.before ≡ out.old.before }
+{
+    // The ends of those that are begun, the innermost last.
+    let mut open = Vec::new(alloc);
+    for symbol in symbols {
+        end_before(out, &mut open, symbol.start)?;
+        begin_symbol(out, encoding, text, lines, symbol)?;
+        open.push(symbol.end)?;
+    }
+    end_all(out, &mut open)?;
+    out.end_array()?;
+    Ok(())
+}
+
+// Ends those that end at or before the byte.
+fn end_before(out: &mut Writer, open: &mut Vec<usize>, byte: usize) -> Result<(), AllocError>
+    ensures tokens { OnOk result (out.new.tokens
+        ≡ out.old.tokens ++ end_tokens byte (reverse open.old.items)) }
+    ensures open { OnOk result (reverse open.new.items ≡ open_at byte (reverse open.old.items)) }
+    ensures before { out.new.before ≡ out.old.before }
+{
+    'open: while let Some(end) = open.last().copied() {
+        if byte < end {
+            return Ok(());
+        }
+        open.pop();
+        end_symbol(out)?;
+    }
+    Ok(())
+}
+
+fn end_all(out: &mut Writer, open: &mut Vec<usize>) -> Result<(), AllocError>
+    ensures tokens { OnOk result (out.new.tokens
+        ≡ out.old.tokens ++ all_ended (reverse open.old.items)) }
+    ensures before { out.new.before ≡ out.old.before }
+{
+    'open: while let Some(_) = open.pop() {
+        end_symbol(out)?;
+    }
+    Ok(())
+}
+
+fn begin_symbol(
+    out: &mut Writer,
+    encoding: Encoding,
+    text: &str,
+    lines: &Lines,
+    symbol: &Symbol,
+) -> Result<(), AllocError>
+    requires { lines.now ≡ starts_of (lines_of text.now) }
+    ensures tokens { OnOk result (out.new.tokens
+        ≡ out.old.tokens ++ symbol_begin encoding text.now (outlined symbol.now)) }
+    ensures before { out.new.before ≡ out.old.before }
+{
+    out.begin_object()?;
+    put_text(out, "name", symbol.name.as_str())?;
+    put_text(out, "detail", kind_name(symbol.kind))?;
+    put_number(out, "kind", kind_number(symbol.kind))?;
+    put_part(
+        out,
+        "range",
+        encoding,
+        text,
+        lines,
+        (symbol.start, symbol.end),
+    )?;
+    let name = (symbol.name_start, symbol.name_end);
+    put_part(out, "selectionRange", encoding, text, lines, name)?;
+    out.key("children")?;
+    out.begin_array()?;
+    Ok(())
+}
+
+// Writes the member that is the range between two bytes.
+fn put_part(
+    out: &mut Writer,
+    member: &str,
+    encoding: Encoding,
+    text: &str,
+    lines: &Lines,
+    bytes: (usize, usize),
+) -> Result<(), AllocError>
+    requires { lines.now ≡ starts_of (lines_of text.now) }
+    ensures tokens { OnOk result (out.new.tokens ≡ out.old.tokens ++ member_tokens member.now
+        (range_json (position_at encoding text.now bytes.0) (position_at encoding text.now bytes.1))) }
+    ensures before { out.new.before ≡ out.old.before }
+{
+    let start = position_at(text, lines, encoding, bytes.0);
+    let end = position_at(text, lines, encoding, bytes.1);
+    put_range(out, member, start, end)
+}
+
+fn end_symbol(out: &mut Writer) -> Result<(), AllocError>
+    ensures tokens { OnOk result (out.new.tokens ≡ out.old.tokens ++ end_array ∷ end_object ∷ []) }
+    ensures before { out.new.before ≡ out.old.before }
+{
+    out.end_array()?;
+    out.end_object()?;
+    Ok(())
+}
+
+fn kind_name(kind: SymbolKind) -> &'static str
+    ensures { result.now ≡ kind_name kind }
+{
+    match kind {
+        SymbolKind::Block => "block",
+        SymbolKind::Component => "component",
+    }
+}
+
+// A namespace, or a function.
+fn kind_number(kind: SymbolKind) -> usize
+    ensures { result ≡ kind_number kind }
+{
+    match kind {
+        SymbolKind::Block => 3,
+        SymbolKind::Component => 12,
+    }
+}

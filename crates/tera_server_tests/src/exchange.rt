@@ -1,0 +1,198 @@
+//! Exchanges.
+
+use json_rpc::Outbox;
+use std::test::Fail;
+use tera_server::{Ended, Server, Wanted};
+
+// What is sent behind the message, in its order.
+fn answers(
+    rt: &HostRuntime,
+    server: &mut Server,
+    out: &mut Outbox,
+    message: &str,
+) -> Result<Option<Ended>, Fail> {
+    out.clear();
+    let message = Vec::from_slice(rt.alloc(), message.as_bytes())?;
+    let ended = server.handle(rt.alloc(), message, out)?;
+    if ended.is_none() {
+        server.settle(rt.alloc(), out)?;
+    }
+    Ok(ended)
+}
+
+// Whether this many messages were sent, and this one last.
+fn is_last(out: &Outbox, count: usize, body: &str) -> bool {
+    let Some(last) = out.len().checked_sub(1) else {
+        return count == 0;
+    };
+    match out.get(last) {
+        Some(sent) => out.len() == count && *sent == *body.as_bytes(),
+        None => false,
+    }
+}
+
+#[test]
+fn text_is_opened_changed_and_laid_out(rt: HostRuntime) -> Result<(), Fail> {
+    let mut server = Server::new(rt.alloc());
+    let mut out = Outbox::new(rt.alloc())?;
+    for (message, count, last) in [
+        (
+            "{\"id\":1,\"method\":\"shutdown\"}",
+            1,
+            "{\"jsonrpc\":\"2.0\",\"id\":1,\"error\":{\"code\":-32002,\"message\":\"the server is not initialized\"}}",
+        ),
+        (
+            "{\"id\":2,\"method\":\"initialize\",\"params\":{\"capabilities\":{\"general\":{\"positionEncodings\":[\"utf-8\"]}}}}",
+            1,
+            "{\"jsonrpc\":\"2.0\",\"id\":2,\"result\":{\"capabilities\":{\"positionEncoding\":\"utf-8\",\"textDocumentSync\":{\"openClose\":true,\"change\":2},\"documentFormattingProvider\":true,\"documentSymbolProvider\":true,\"definitionProvider\":true},\"serverInfo\":{\"name\":\"tera\"}}}",
+        ),
+        (
+            "{\"method\":\"textDocument/didOpen\",\"params\":{\"textDocument\":{\"uri\":\"file:///a%20b\",\"version\":1,\"text\":\"{{a\"}}}",
+            1,
+            "{\"jsonrpc\":\"2.0\",\"method\":\"textDocument/publishDiagnostics\",\"params\":{\"uri\":\"file:///a%20b\",\"version\":1,\"diagnostics\":[{\"range\":{\"start\":{\"line\":0,\"character\":2},\"end\":{\"line\":0,\"character\":3}},\"severity\":1,\"code\":\"fault\",\"source\":\"tera\",\"message\":\"Unexpected end of input\"}]}}",
+        ),
+        (
+            "{\"method\":\"textDocument/didChange\",\"params\":{\"textDocument\":{\"uri\":\"file:///a%20b\",\"version\":2},\"contentChanges\":[{\"range\":{\"start\":{\"line\":0,\"character\":3},\"end\":{\"line\":0,\"character\":3}},\"text\":\"}}\"}]}}",
+            1,
+            "{\"jsonrpc\":\"2.0\",\"method\":\"textDocument/publishDiagnostics\",\"params\":{\"uri\":\"file:///a%20b\",\"version\":2,\"diagnostics\":[]}}",
+        ),
+        (
+            "{\"id\":3,\"method\":\"textDocument/formatting\",\"params\":{\"textDocument\":{\"uri\":\"file:///a b\"}}}",
+            1,
+            "{\"jsonrpc\":\"2.0\",\"id\":3,\"result\":[{\"range\":{\"start\":{\"line\":0,\"character\":2},\"end\":{\"line\":0,\"character\":2}},\"newText\":\" \"},{\"range\":{\"start\":{\"line\":0,\"character\":3},\"end\":{\"line\":0,\"character\":3}},\"newText\":\" \"}]}",
+        ),
+        (
+            "{\"id\":4,\"method\":\"$/unknown\"}",
+            1,
+            "{\"jsonrpc\":\"2.0\",\"id\":4,\"error\":{\"code\":-32601,\"message\":\"the method is not known\"}}",
+        ),
+        (
+            "{\"id\":5,\"method\":\"shutdown\"}",
+            1,
+            "{\"jsonrpc\":\"2.0\",\"id\":5,\"result\":null}",
+        ),
+    ] {
+        assert_eq!(rt; answers(&rt, &mut server, &mut out, message)?, None);
+        assert!(rt; is_last(&out, count, last), "{message}");
+    }
+    let ended = answers(&rt, &mut server, &mut out, "{\"method\":\"exit\"}")?;
+    assert_eq!(rt; ended, Some(Ended::Orderly));
+    Ok(())
+}
+
+#[test]
+fn outline_and_definitions_are_told(rt: HostRuntime) -> Result<(), Fail> {
+    let mut server = Server::new(rt.alloc());
+    let mut out = Outbox::new(rt.alloc())?;
+    for (message, count, last) in [
+        (
+            "{\"id\":1,\"method\":\"initialize\",\"params\":{\"capabilities\":{}}}",
+            1,
+            "{\"jsonrpc\":\"2.0\",\"id\":1,\"result\":{\"capabilities\":{\"positionEncoding\":\"utf-16\",\"textDocumentSync\":{\"openClose\":true,\"change\":2},\"documentFormattingProvider\":true,\"documentSymbolProvider\":true,\"definitionProvider\":true},\"serverInfo\":{\"name\":\"tera\"}}}",
+        ),
+        (
+            "{\"method\":\"textDocument/didOpen\",\"params\":{\"textDocument\":{\"uri\":\"file:///t/ui.html\",\"version\":1,\"text\":\"{% component ui.box(a) %}{% endcomponent %}\"}}}",
+            1,
+            "{\"jsonrpc\":\"2.0\",\"method\":\"textDocument/publishDiagnostics\",\"params\":{\"uri\":\"file:///t/ui.html\",\"version\":1,\"diagnostics\":[]}}",
+        ),
+        (
+            "{\"method\":\"textDocument/didOpen\",\"params\":{\"textDocument\":{\"uri\":\"file:///t/page.html\",\"version\":1,\"text\":\"{% extends \\\"ui.html\\\" %}\\n{% block b %}{{<ui.box a={1}/>}}{% endblock b %}\"}}}",
+            1,
+            "{\"jsonrpc\":\"2.0\",\"method\":\"textDocument/publishDiagnostics\",\"params\":{\"uri\":\"file:///t/page.html\",\"version\":1,\"diagnostics\":[]}}",
+        ),
+        (
+            "{\"id\":2,\"method\":\"textDocument/documentSymbol\",\"params\":{\"textDocument\":{\"uri\":\"file:///t/page.html\"}}}",
+            1,
+            "{\"jsonrpc\":\"2.0\",\"id\":2,\"result\":[{\"name\":\"b\",\"detail\":\"block\",\"kind\":3,\"range\":{\"start\":{\"line\":1,\"character\":0},\"end\":{\"line\":1,\"character\":48}},\"selectionRange\":{\"start\":{\"line\":1,\"character\":9},\"end\":{\"line\":1,\"character\":10}},\"children\":[]}]}",
+        ),
+        (
+            "{\"id\":3,\"method\":\"textDocument/definition\",\"params\":{\"textDocument\":{\"uri\":\"file:///t/page.html\"},\"position\":{\"line\":1,\"character\":20}}}",
+            1,
+            "{\"jsonrpc\":\"2.0\",\"id\":3,\"result\":{\"uri\":\"file:///t/ui.html\",\"range\":{\"start\":{\"line\":0,\"character\":16},\"end\":{\"line\":0,\"character\":19}}}}",
+        ),
+        (
+            "{\"id\":4,\"method\":\"textDocument/definition\",\"params\":{\"textDocument\":{\"uri\":\"file:///t/page.html\"},\"position\":{\"line\":0,\"character\":15}}}",
+            1,
+            "{\"jsonrpc\":\"2.0\",\"id\":4,\"result\":{\"uri\":\"file:///t/ui.html\",\"range\":{\"start\":{\"line\":0,\"character\":0},\"end\":{\"line\":0,\"character\":0}}}}",
+        ),
+        (
+            "{\"id\":5,\"method\":\"textDocument/definition\",\"params\":{\"textDocument\":{\"uri\":\"file:///t/page.html\"},\"position\":{\"line\":0,\"character\":0}}}",
+            1,
+            "{\"jsonrpc\":\"2.0\",\"id\":5,\"result\":null}",
+        ),
+        (
+            "{\"id\":6,\"method\":\"textDocument/definition\",\"params\":{\"textDocument\":{\"uri\":\"file:///t/page.html\"}}}",
+            1,
+            "{\"jsonrpc\":\"2.0\",\"id\":6,\"error\":{\"code\":-32602,\"message\":\"the parameters are not those of the method\"}}",
+        ),
+    ] {
+        assert_eq!(rt; answers(&rt, &mut server, &mut out, message)?, None);
+        assert!(rt; is_last(&out, count, last), "{message}");
+    }
+    Ok(())
+}
+
+// What is sent when no message waits.
+fn settled(rt: &HostRuntime, server: &mut Server, out: &mut Outbox) -> Result<(), Fail> {
+    out.clear();
+    server.settle(rt.alloc(), out)?;
+    Ok(())
+}
+
+#[test]
+fn files_are_asked_for_and_loaded(rt: HostRuntime) -> Result<(), Fail> {
+    let mut server = Server::new(rt.alloc());
+    let mut out = Outbox::new(rt.alloc())?;
+    for message in [
+        "{\"id\":1,\"method\":\"initialize\",\"params\":{\"workspaceFolders\":[{\"uri\":\"file:///t\",\"name\":\"t\"}]}}",
+        "{\"method\":\"initialized\",\"params\":{}}",
+        "{\"method\":\"workspace/didChangeWatchedFiles\",\"params\":{\"changes\":[{\"uri\":\"file:///t/a.html\",\"type\":1}]}}",
+    ] {
+        assert_eq!(rt; answers(&rt, &mut server, &mut out, message)?, None);
+    }
+    let file = Wanted::File(String::from_str(rt.alloc(), "/t/a.html")?);
+    assert_eq!(rt; server.take_wanted(), Some(file));
+    let folder = Wanted::Folder(String::from_str(rt.alloc(), "/t")?);
+    assert_eq!(rt; server.take_wanted(), Some(folder));
+    assert_eq!(rt; server.take_wanted(), None);
+    for (text, last) in [
+        (
+            Some("{{a"),
+            "{\"jsonrpc\":\"2.0\",\"method\":\"textDocument/publishDiagnostics\",\"params\":{\"uri\":\"file:///t/a.html\",\"diagnostics\":[{\"range\":{\"start\":{\"line\":0,\"character\":2},\"end\":{\"line\":0,\"character\":3}},\"severity\":1,\"code\":\"fault\",\"source\":\"tera\",\"message\":\"Unexpected end of input\"}]}}",
+        ),
+        (
+            None,
+            "{\"jsonrpc\":\"2.0\",\"method\":\"textDocument/publishDiagnostics\",\"params\":{\"uri\":\"file:///t/a.html\",\"diagnostics\":[]}}",
+        ),
+    ] {
+        server.load(rt.alloc(), "/t/a.html", text)?;
+        settled(&rt, &mut server, &mut out)?;
+        assert!(rt; is_last(&out, 1, last), "{last}");
+    }
+    Ok(())
+}
+
+#[test]
+fn what_is_not_read_is_answered_under_null(rt: HostRuntime) -> Result<(), Fail> {
+    let mut server = Server::new(rt.alloc());
+    let mut out = Outbox::new(rt.alloc())?;
+    server.miss(rt.alloc(), &mut out);
+    assert!(rt;
+        is_last(
+            &out,
+            1,
+            "{\"jsonrpc\":\"2.0\",\"id\":null,\"error\":{\"code\":-32603,\"message\":\"out of memory\"}}",
+        )
+    );
+    out.clear();
+    server.refuse(rt.alloc(), &mut out);
+    assert!(rt;
+        is_last(
+            &out,
+            1,
+            "{\"jsonrpc\":\"2.0\",\"id\":null,\"error\":{\"code\":-32700,\"message\":\"the message is no JSON\"}}",
+        )
+    );
+    assert_eq!(rt; server.ended(), Ended::Early);
+    Ok(())
+}
