@@ -5,3 +5,5 @@ pub mod Lists
 pub mod PlanLemmas
 pub mod Same
 pub mod SourcesLemmas
+pub mod SendLemmas
+pub mod ServingLemmas

@@ -37,6 +37,7 @@ pub data JobVal : Type 0 where
   Shows : Bool → List ℕ → CommonVal → JobVal
   Lists : Bool → Option (List (List ℕ)) → CommonVal → JobVal
   LaysOut : Mode → Option (List ℕ) → Option (List (List ℕ)) → CommonVal → JobVal
+  Serves : JobVal
 
 abbrev pub check_view : Check → JobVal
 check_view j = Checks j.form (lists_view j.library) (lists_view j.files) (common_view j.common)
@@ -55,6 +56,7 @@ job_view (jobs.Check j) = check_view j
 job_view (jobs.Tree j) = tree_view j
 job_view (jobs.Components j) = components_view j
 job_view (jobs.Format j) = format_view j
+job_view jobs.Server = Serves
 
 -- ---- what is read of the rows of a subcommand
 
@@ -113,4 +115,5 @@ job_of (name, rows) =
     if bytes_eq name (codes "check") then Some (check_of rows)
     else (if bytes_eq name (codes "tree") then Some (tree_of rows)
     else (if bytes_eq name (codes "components") then Some (components_of rows)
-    else (if bytes_eq name (codes "format") then Some (format_of rows) else None)))
+    else (if bytes_eq name (codes "format") then Some (format_of rows)
+    else (if bytes_eq name (codes "server") then Some Serves else None))))

@@ -7,3 +7,5 @@ pub mod Lines
 pub mod Plans
 pub mod Sources
 pub mod Told
+pub mod Sent
+pub mod Serving

@@ -15,6 +15,7 @@ pub(crate) enum Job<'b, 'a> {
     Tree(Tree<'b, 'a>),
     Components(Components<'b, 'a>),
     Format(Format<'b, 'a>),
+    Server,
 }
 
 /// What each job is told.
@@ -90,6 +91,7 @@ impl<'b, 'a> Job<'b, 'a> {
             "tree" => Some(Job::Tree(tree_in(found))),
             "components" => Some(Job::Components(components_in(found))),
             "format" => Some(Job::Format(format_in(found))),
+            "server" => Some(Job::Server),
             _ => None,
         }
     }

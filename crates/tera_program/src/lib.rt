@@ -22,6 +22,8 @@ mod options;
 mod output;
 mod plan;
 mod reading;
+mod sending;
+mod server;
 mod status;
 mod telling;
 mod tree;
@@ -115,6 +117,7 @@ fn done<R: Files + Env + Input + Print + Eprint + AllocGlobal + Clone + Drop>(
         Some(Job::Tree(job)) => tree::run(rt, terminals, &job),
         Some(Job::Components(job)) => components::run(rt, terminals, &job),
         Some(Job::Format(job)) => format::run(rt, terminals, &job),
+        Some(Job::Server) => server::run(rt),
         None => Ended::failed(),
     };
     Ok(ended)

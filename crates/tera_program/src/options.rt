@@ -67,6 +67,12 @@ Examples:
 
 Exit status: 0 where a tree was shown, 1 where the template has a fault, 2 where it could not be read.";
 
+const OF_SERVER: &str = "\
+An editor starts it and ends it. It tells what is wrong while templates are edited, over all that stand below the folders
+that are open, and lays them out.
+
+Exit status: 0 where the editor ended it in order, 1 where it did not, 2 where standard input or output failed.";
+
 /// The program, with its subcommands.
 pub(crate) fn command<'a>(alloc: Global) -> Result<Command<'a>, AllocError> {
     Command::new(alloc, "tera")
@@ -79,7 +85,8 @@ pub(crate) fn command<'a>(alloc: Global) -> Result<Command<'a>, AllocError> {
         .subcommand(check(alloc)?)?
         .subcommand(format(alloc)?)?
         .subcommand(components(alloc)?)?
-        .subcommand(tree(alloc)?)
+        .subcommand(tree(alloc)?)?
+        .subcommand(server(alloc))
 }
 
 fn check<'a>(alloc: Global) -> Result<Command<'a>, AllocError> {
@@ -154,6 +161,14 @@ fn tree<'a>(alloc: Global) -> Result<Command<'a>, AllocError> {
                 .default_value("-")
                 .help("A file, or - for standard input"),
         )
+}
+
+fn server<'a>(alloc: Global) -> Command<'a> {
+    Command::new(alloc, "server")
+        .about(
+            "Talks with an editor in the Language Server Protocol, over standard input and output",
+        )
+        .after_help(OF_SERVER)
 }
 
 // What is told of the files, by each command that reads several.

@@ -1,0 +1,272 @@
+//! `tera server`.
+
+ghost use Rattle.std.specs.Prelude.{◌≡◌, ◌++◌, ℕ, List, Option, IfOk, OnOk};
+ghost use Rattle.std.specs.Io.KnownBytes.{Appends, Consumes};
+ghost use Rattle.std.specs.List.{flat_map};
+ghost use Rattle.json_rpc.specs.Outgoing.{Outgoing, nothing};
+ghost use Rattle.message_frames.specs.Shown.{Message, shown};
+ghost use Rattle.message_frames.specs.Standing.{Stands};
+ghost use Rattle.message_frames.specs.Writing.{frame as frame_text};
+ghost use Rattle.tera_program.specs.Serving.{Takes, Settles, Gives, IsTalking, IsServed};
+ghost use Rattle.tera_server.specs.States.{StaysBut};
+ghost use Rattle.tera_server.specs.declared.server.Server.{Server};
+
+use crate::options::EXTENSIONS;
+use crate::output::tell;
+use crate::sending::send;
+use crate::status::Ended;
+use json_rpc::Outbox;
+use message_frames::{Frame, Frames};
+use std::alloc::{AllocError, Global};
+use std::io::{Read, Write};
+use std::rt::Files;
+use std::{fs, io};
+use tera_files::{Sought, files_of, read_source};
+use tera_server::{Ended as Finished, Server, Wanted};
+
+// How many bytes a message may have.
+const LONGEST: usize = 0x1000_0000;
+
+// How many bytes are read at once.
+const PIECE: usize = 0x1_0000;
+
+// How many bytes a file may have to be read.
+const LARGEST: u64 = 0x100_0000;
+
+/// Talks with an editor over standard input and output, until it ends that.
+pub(crate) fn run<R: Files + Input + Print + Eprint + AllocGlobal + Clone + Drop>(rt: &R) -> Ended {
+    match serve(rt, &mut rt.reader(), &mut io::writer(rt)) {
+        Ok(finished) => Ended {
+            found: finished == Finished::Early,
+            failed: false,
+        },
+        Err(error) => {
+            tell(rt, "tera", why(&error));
+            Ended::failed()
+        }
+    }
+}
+
+fn why(error: &io::Error) -> &'static str {
+    if error.kind() == io::ErrorKind::OutOfMemory {
+        "out of memory"
+    } else {
+        "standard input or output failed"
+    }
+}
+
+// Answers the messages that come from the reader, until one ends that, or the reader has no more.
+fn serve<F: Files + Input + AllocGlobal + Clone + Drop, R: Read, W: Write>(
+    files: &F,
+    reader: &mut R,
+    writer: &mut W,
+) -> io::Result<Finished>
+    ensures { OnOk result (IsServed LONGEST (R.remaining reader.old) (R.remaining reader.new)
+        (W.contents writer.old) (W.contents writer.new)) }
+{
+    let alloc = files.alloc();
+    let mut server = Server::new(alloc);
+    let mut out = Outbox::new(alloc)?;
+    let mut frames = Frames::new(alloc, LONGEST);
+    let mut piece = Vec::from_elem(alloc, 0u8, PIECE)?;
+    'pieces: for _ in 0..u64::MAX {
+        if !take_piece(reader, &mut piece, &mut frames)? {
+            return Ok(server.ended());
+        }
+        if let Some(finished) = answer_all(files, &mut server, &mut frames, writer, &mut out)? {
+            return Ok(finished);
+        }
+    }
+    Ok(server.ended())
+}
+
+// Reads what has come. The answer is false where nothing does any more.
+fn take_piece<R: Read>(reader: &mut R, piece: &mut Vec<u8>, frames: &mut Frames) -> io::Result<bool>
+    ensures limit { frames.new.limit ≡ frames.old.limit }
+    ensures came { OnOk result ((bytes : List ℕ) × Consumes (R.remaining reader.old) (R.remaining reader.new) bytes
+        × ((pending : List ℕ) → Stands frames.old pending → Stands frames.new (pending ++ bytes))) }
+{
+    let count = reader.read(piece.as_mut_slice())?;
+    let (came, _) = piece.as_slice().split_at(count);
+    frames.push(came)?;
+    Ok(count > 0)
+}
+
+// Answers the messages that have come whole, and publishes what is found behind the last.
+fn answer_all<F: Files + Input + AllocGlobal + Clone + Drop, W: Write>(
+    files: &F,
+    server: &mut Server,
+    frames: &mut Frames,
+    writer: &mut W,
+    out: &mut Outbox,
+) -> io::Result<Option<Finished>>
+    requires { out.old ≡ nothing }
+    ensures limit { frames.new.limit ≡ frames.old.limit }
+    ensures talked { OnOk result ((start : Server) (bytes : List ℕ) (began : Option (List ℕ)) →
+        IsTalking frames.old.limit start server.old bytes frames.old began (W.contents writer.old) →
+        IsTalking frames.old.limit start server.new bytes frames.new began (W.contents writer.new)) }
+    ensures sent { OnOk result (out.new ≡ nothing) }
+{
+    let alloc = files.alloc();
+    'messages: for _ in 0..u64::MAX {
+        match frames.next(alloc)? {
+            Frame::Wait => {
+                settle(alloc, server, writer, out)?;
+                return Ok(None);
+            }
+            frame => {
+                let finished = answer(alloc, server, frame, writer, out)?;
+                if finished.is_some() {
+                    return Ok(finished);
+                }
+                // What finds no memory is not given, and ends nothing.
+                let _given = give(files, server);
+            }
+        }
+    }
+    Ok(None)
+}
+
+// Takes what came, and writes what is sent of it.
+fn answer<W: Write>(
+    alloc: Global,
+    server: &mut Server,
+    next: Frame,
+    writer: &mut W,
+    out: &mut Outbox,
+) -> io::Result<Option<Finished>>
+    requires { out.old ≡ nothing }
+    ensures took { IfOk result (λ finished. (sent : Outgoing) × Takes server.old (shown next) finished server.new sent
+        × Appends (W.contents writer.old) (W.contents writer.new) (flat_map frame_text sent.sent)) }
+    ensures sent { OnOk result (out.new ≡ nothing) }
+{
+    let finished = take(alloc, server, next, out);
+    send(alloc, writer, out)?;
+    Ok(finished)
+}
+
+fn take(alloc: Global, server: &mut Server, next: Frame, out: &mut Outbox) -> Option<Finished>
+    requires { out.old ≡ nothing }
+    ensures { Takes server.old (shown next) result server.new out.new }
+{
+    match next {
+        Frame::Message(message) => handle(alloc, server, message, out),
+        Frame::TooLong(_) => {
+            server.miss(alloc, out);
+            None
+        }
+        Frame::Bad => {
+            server.refuse(alloc, out);
+            None
+        }
+        Frame::Wait => None,
+    }
+}
+
+// What finds no memory ends nothing.
+fn handle(
+    alloc: Global,
+    server: &mut Server,
+    message: Vec<u8>,
+    out: &mut Outbox,
+) -> Option<Finished>
+    requires { out.old ≡ nothing }
+    ensures { Takes server.old (Message message.items) result server.new out.new }
+{
+    match server.handle(alloc, message, out) {
+        Ok(finished) => finished,
+        Err(AllocError) => None,
+    }
+}
+
+// Publishes what is found, and writes it. What finds no memory is published the next time.
+fn settle<W: Write>(
+    alloc: Global,
+    server: &mut Server,
+    writer: &mut W,
+    out: &mut Outbox,
+) -> io::Result<()>
+    requires { out.old ≡ nothing }
+    ensures settles { OnOk result ((sent : Outgoing) × Settles server.old server.new sent
+        × Appends (W.contents writer.old) (W.contents writer.new) (flat_map frame_text sent.sent)) }
+    ensures sent { OnOk result (out.new ≡ nothing) }
+{
+    publish(alloc, server, out);
+    send(alloc, writer, out)?;
+    Ok(())
+}
+
+fn publish(alloc: Global, server: &mut Server, out: &mut Outbox)
+    requires { out.old ≡ nothing }
+    ensures { Settles server.old server.new out.new }
+{
+    let _settled = server.settle(alloc, out);
+}
+
+// Gives the server the texts of files that it asks for.
+fn give<F: Files + Input + AllocGlobal + Clone + Drop>(
+    files: &F,
+    server: &mut Server,
+) -> Result<(), AllocError>
+    ensures { Gives server.old server.new }
+{
+    'wanted: for _ in 0..u64::MAX {
+        match server.take_wanted() {
+            Some(wanted) => give_wanted(files, server, &wanted)?,
+            None => return Ok(()),
+        }
+    }
+    Ok(())
+}
+
+fn give_wanted<F: Files + Input + AllocGlobal + Clone + Drop>(
+    files: &F,
+    server: &mut Server,
+    wanted: &Wanted,
+) -> Result<(), AllocError>
+    ensures { Gives server.old server.new }
+{
+    match wanted {
+        Wanted::Folder(path) => give_folder(files, server, path.as_str()),
+        Wanted::File(path) => give_file(files, server, path.as_str()),
+    }
+}
+
+fn give_folder<F: Files + Input + AllocGlobal + Clone + Drop>(
+    files: &F,
+    server: &mut Server,
+    folder: &str,
+) -> Result<(), AllocError>
+    ensures { Gives server.old server.new }
+{
+    let sought = Sought {
+        extensions: EXTENSIONS.as_slice(),
+        stdin: "-",
+    };
+    let found = files_of(files, sought, &[folder])?;
+    for file in &found.files {
+        give_file(files, server, file.as_str())?;
+    }
+    Ok(())
+}
+
+// A pipe or a device is never read, nor what is too large, nor what is no text.
+fn give_file<F: Files + Input + AllocGlobal>(
+    files: &F,
+    server: &mut Server,
+    path: &str,
+) -> Result<(), AllocError>
+    ensures { StaysBut server.old server.new }
+{
+    if !may_be_read(files, path) {
+        return server.load(files.alloc(), path, None);
+    }
+    match read_source(files, path, path) {
+        Ok(source) => server.load(files.alloc(), path, Some(source.text.as_str())),
+        Err(_) => server.load(files.alloc(), path, None),
+    }
+}
+
+fn may_be_read(files: &impl Files, path: &str) -> bool {
+    fs::metadata(files, path).is_ok_and(|data| data.is_file() && data.len() <= LARGEST)
+}
