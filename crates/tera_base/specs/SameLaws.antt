@@ -81,9 +81,6 @@ key_decides k l = (key_sound k l, λ e. rw (← e) (key_itself k))
 pub value_decides : (v w : Val) → Decides (value_eq v w) (v ≡ w)
 value_decides v w = (value_sound v w, λ e. rw (← e) (value_itself v))
 
-pub vals_decide : (vs ws : Vals) → Decides (vals_eq vs ws) (vs ≡ ws)
-vals_decide vs ws = (vals_sound vs ws, λ e. rw (← e) (vals_itself vs))
-
 pub pairs_decide : (ps qs : Pairs) → Decides (pairs_eq ps qs) (ps ≡ qs)
 pairs_decide ps qs = (pairs_sound ps qs, λ e. rw (← e) (pairs_itself ps))
 

@@ -348,6 +348,3 @@ stmt_decides m n = (stmt_sound m n, λ p. rw (← p) (stmt_itself m))
 
 pub stmt_equivalence : IsEquivalence stmt_eq
 stmt_equivalence = decided stmt_eq stmt_decides
-
-pub nodes_decide : (ms ns : Nodes) → Decides (nodes_eq ms ns) (ms ≡ ns)
-nodes_decide ms ns = (nodes_sound ms ns, λ p. rw (← p) (nodes_itself ms))

@@ -3,9 +3,9 @@
 //! A struct that holds expressions alone, or nodes alone, is declared for every type of them and has its
 //! name as an alias: so the types that hold one another stay few.
 
-ghost use Rattle.std.specs.Prelude.{◌≡◌, MatchResult};
+ghost use Rattle.std.specs.Prelude.{◌≡◌, false, MatchResult};
 ghost use Rattle.tera_nodes.specs.declared.ast.Node.TheVariants as nodes;
-ghost use Rattle.tera_nodes.specs.Parts.{constant_in};
+ghost use Rattle.tera_nodes.specs.Parts.{constant_in, is_if};
 
 use std::collections::BTreeMap;
 use tera_base::{Key, Spanned, Value};
@@ -116,9 +116,9 @@ pub enum Node {
 }
 
 impl Node {
-    // The `if` that it is, or the node.
-    fn into_if(self) -> Result<If, Node>
-        ensures { MatchResult result (λ i. self ≡ nodes.If i) (λ n. n ≡ self) }
+    /// The `if` that it is, or the node.
+    pub fn into_if(self) -> Result<If, Node>
+        ensures { MatchResult result (λ i. self ≡ nodes.If i) (λ n. (n ≡ self) × (is_if n ≡ false)) }
     {
         match self {
             Node::If(chosen) => Ok(chosen),

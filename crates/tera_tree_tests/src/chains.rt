@@ -2,7 +2,6 @@
 
 use crate::making::{Made, both, one, variable};
 use std::alloc::Global;
-use std::mem;
 use std::test::Fail;
 use tera_base::Span;
 use tera_tree::{If, Node, build};
@@ -23,15 +22,16 @@ fn chain(alloc: Global, conditions: u32) -> Made<Vec<Node>> {
 }
 
 // How many choices stand in the chain, each alone behind the one before. Each is taken out of the one that holds it.
-fn taken_apart(alloc: Global, mut nodes: Vec<Node>) -> usize {
+fn taken_apart(mut nodes: Vec<Node>) -> usize {
     for count in 0..20000 {
-        let Some(mut node) = nodes.pop() else {
+        let Some(node) = nodes.pop() else {
             return count;
         };
-        match &mut node {
-            Node::If(choice) => nodes = mem::replace(&mut choice.false_body, Vec::new(alloc)),
-            _ => return count,
-        }
+        let Ok(choice) = node.into_if() else {
+            return count;
+        };
+        let (_condition, _body, behind) = choice.into_parts();
+        nodes = behind;
     }
     20000
 }
@@ -39,7 +39,7 @@ fn taken_apart(alloc: Global, mut nodes: Vec<Node>) -> usize {
 #[test]
 fn a_long_chain_is_taken_apart(rt: HostRuntime) -> Result<(), Fail> {
     let nodes = chain(rt.alloc(), 10001)?;
-    assert_eq!(rt; taken_apart(rt.alloc(), nodes), 10001);
+    assert_eq!(rt; taken_apart(nodes), 10001);
     Ok(())
 }
 
