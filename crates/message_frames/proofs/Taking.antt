@@ -13,7 +13,7 @@ use Rattle.message_frames.proofs.Splitting.{begins_on, begins_grow, splits_once,
 
 -- ---- the frame that is none
 
-never_waits : (limit : ℕ) (item : Item) → Wait ≡ frame_of limit item → ⊥
+pub never_waits : (limit : ℕ) (item : Item) → Wait ≡ frame_of limit item → ⊥
 never_waits limit (Whole m) e =
     elim (which (leb (length m) limit)) [
       | inl holds ↦ let h = rw holds at e in cc
@@ -21,7 +21,7 @@ never_waits limit (Whole m) e =
     ]
 never_waits limit Headless e = cc
 
-no_wait : (f : Frame) → (f ≡ frames.Wait → ⊥) → shown f ≡ Wait → ⊥
+pub no_wait : (f : Frame) → (f ≡ frames.Wait → ⊥) → shown f ≡ Wait → ⊥
 no_wait (frames.Message m) h e = cc
 no_wait (frames.TooLong n) h e = cc
 no_wait frames.Bad h e = cc

@@ -61,6 +61,10 @@ IsWholeNext limit pending =
     (message : List ℕ) × (text : List ℕ) × (rest : List ℕ) × (pending ≡ text ++ rest) × IsText text (Whole message)
     × (length message ≤ limit)
 
+-- .. and stands in front of what is held
+abbrev pub HoldsWhole : Held → Type 0
+HoldsWhole held = (len : ℕ) × (held.stage ≡ stages.Message len) × (len ≤ length held.bytes)
+
 -- while it waits, it holds less than a message of the limit, or of a header the front of one line
 abbrev pub HoldsLittle : ℕ → Stage → List ℕ → Type 0
 HoldsLittle limit (stages.Lines t searched) bytes = NoneEndsBefore bytes (length bytes)

@@ -1,8 +1,8 @@
 //! The messages of a stream, in the pieces in which it comes.
 
 ghost use Rattle.std.specs.Prelude.{◌≡◌, ◌+◌, ◌<◌, ◌≤◌, List, ℕ, [], ◌++◌, drop, length, IfOk, OnOk, OnErr};
-ghost use Rattle.message_frames.specs.Shown.{shown};
-ghost use Rattle.message_frames.specs.Standing.{Stands, IsNext, IsWholeNext, IsLittle, IsNearer};
+ghost use Rattle.message_frames.specs.Shown.{Message, shown};
+ghost use Rattle.message_frames.specs.Standing.{Stands, IsNext, IsWholeNext, HoldsWhole, IsLittle, IsNearer};
 ghost use Rattle.message_frames.specs.Steps.{HeaderRead, IsAtStage, IsLittleHeader, IsNearerHeader, passed_of, stage_behind};
 ghost use Rattle.message_frames.specs.declared.framing.Stage.TheVariants as stages;
 
@@ -142,7 +142,8 @@ impl Frames {
         Ok(())
     }
 
-    /// Takes the next frame. A message that finds no memory stays, and is the next frame still.
+    /// Takes the next frame. A message that finds no memory stays, and is the next frame still; [`Frames::skip`] passes
+    /// over it.
     ///
     /// [`Frame::Bad`] is told of what ends with the first empty line and is no header; reading goes on behind that
     /// line. [`Frame::TooLong`] is told when the last byte of the message has come.
@@ -155,12 +156,28 @@ impl Frames {
         ensures err { OnErr result ((pending : List ℕ) → Stands self.old pending → Stands self.new pending) }
         ensures memory { OnErr result ((pending : List ℕ) → Stands self.old pending →
             IsWholeNext self.old.limit pending) }
+        ensures whole { OnErr result (HoldsWhole self.new) }
     {
         match self.read_header() {
             Header::Open => Ok(Frame::Wait),
             Header::Malformed => Ok(Frame::Bad),
             Header::Message(len) => self.take_message(alloc, len),
             Header::TooLong(len, left) => Ok(self.pass_over(len, left)),
+        }
+    }
+
+    /// Passes over the message that [`Frames::next`] found no memory for. Where none is there, nothing changes.
+    pub fn skip(&mut self)
+        ensures limit { self.new.limit ≡ self.old.limit }
+        ensures skipped { HoldsWhole self.old → (pending : List ℕ) → Stands self.old pending →
+            (message : List ℕ) × IsNext self.old.limit pending (Message message) self.new }
+        ensures none { (HoldsWhole self.old → ⊥) → self.new ≡ self.old }
+    {
+        if let Stage::Message { len } = self.stage {
+            if len <= self.held() {
+                self.taken += len;
+                self.stage = Stage::START;
+            }
         }
     }
 
@@ -227,6 +244,7 @@ impl Frames {
         ensures err { OnErr result (self.new ≡ self.old) }
         ensures memory { OnErr result ((pending : List ℕ) → Stands self.old pending →
             IsWholeNext self.old.limit pending) }
+        ensures whole { OnErr result (HoldsWhole self.old) }
     {
         let (_, rest) = self.held.as_slice().split_at(self.taken);
         if rest.len() < len {
