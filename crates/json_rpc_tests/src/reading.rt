@@ -1,8 +1,8 @@
 //! What bytes are read as.
 
 use json::Scratch;
-use json_rpc::{Incoming, Message, id_to_answer};
-use std::alloc::Global;
+use json_rpc::{Code, Incoming, id_to_answer};
+use std::alloc::{AllocError, Global};
 use std::test::Fail;
 
 // Bytes, and what they are.
@@ -69,7 +69,8 @@ const MESSAGES: [(&str, &str); 24] = [
     ("{\"id\":01,\"method\":\"a\"}", "NotJson"),
 ];
 
-fn told(alloc: Global, bytes: Vec<u8>) -> Result<String, Fail> {
+fn told(alloc: Global, bytes: &[u8]) -> Result<String, Code> {
+    let bytes = Vec::from_slice(alloc, bytes)?;
     let mut scratch = Scratch::new(alloc);
     let incoming = Incoming::read(alloc, &bytes, &mut scratch)?;
     let message = incoming.message();
@@ -78,47 +79,43 @@ fn told(alloc: Global, bytes: Vec<u8>) -> Result<String, Fail> {
 
 #[test]
 fn each_kind_of_message_is_read(rt: HostRuntime) -> Result<(), Fail> {
-    let alloc = rt.alloc();
-    for (bytes, kind) in MESSAGES {
-        let seen = told(alloc, Vec::from_slice(alloc, bytes.as_bytes())?)?;
-        assert_eq!(rt; seen.as_str(), kind, "of {bytes}");
+    for (bytes, kind) in &MESSAGES {
+        let seen = told(rt.alloc(), bytes.as_bytes())?;
+        assert!(rt; seen.as_str() == *kind, "{seen} of {bytes}");
     }
     Ok(())
+}
+
+// Arrays in arrays, so many.
+fn nested(alloc: Global, depth: usize) -> Result<Vec<u8>, AllocError> {
+    let mut bytes = [b'['].repeat(alloc, depth)?;
+    bytes.extend_from_slice([b']'].repeat(alloc, depth)?.as_slice())?;
+    Ok(bytes)
 }
 
 #[test]
 fn what_is_no_utf_8_or_nests_too_deep_is_no_json(rt: HostRuntime) -> Result<(), Fail> {
-    let alloc = rt.alloc();
-    let seen = told(alloc, Vec::from_slice(alloc, b"{\"method\":\"\xff\"}")?)?;
-    assert_eq!(rt; seen.as_str(), "NotJson");
-    let mut deep = Vec::new(alloc);
-    for byte in [b'[', b']'] {
-        for _ in 0..128 {
-            deep.push(byte)?;
-        }
+    assert!(rt; told(rt.alloc(), b"{\"method\":\"\xff\"}")?.as_str() == "NotJson");
+    for (depth, kind) in &[(128, "Invalid(Id { name: Null })"), (129, "NotJson")] {
+        let seen = told(rt.alloc(), nested(rt.alloc(), *depth)?.as_slice())?;
+        assert!(rt; seen.as_str() == *kind, "{seen} at {depth}");
     }
-    let seen = told(alloc, deep.clone()?)?;
-    assert_eq!(rt; seen.as_str(), "Invalid(Id { name: Null })");
-    deep.insert(0, b'[')?;
-    deep.push(b']')?;
-    let seen = told(alloc, deep)?;
-    assert_eq!(rt; seen.as_str(), "NotJson");
     Ok(())
+}
+
+// A request whose id has so many bytes.
+fn with_id(alloc: Global, len: usize) -> Result<Vec<u8>, AllocError> {
+    let mut bytes = Vec::from_slice(alloc, b"{\"method\":\"a\",\"id\":\"")?;
+    bytes.extend_from_slice([b'x'].repeat(alloc, len)?.as_slice())?;
+    bytes.extend_from_slice(b"\"}")?;
+    Ok(bytes)
 }
 
 #[test]
 fn an_id_has_at_most_128_bytes(rt: HostRuntime) -> Result<(), Fail> {
-    let alloc = rt.alloc();
-    for (len, is_request) in [(128, true), (129, false)] {
-        let mut bytes = Vec::from_slice(alloc, b"{\"method\":\"a\",\"id\":\"")?;
-        for _ in 0..len {
-            bytes.push(b'x')?;
-        }
-        bytes.extend_from_slice(b"\"}")?;
-        let mut scratch = Scratch::new(alloc);
-        let incoming = Incoming::read(alloc, &bytes, &mut scratch)?;
-        let message = incoming.message();
-        assert_eq!(rt; matches!(message, Message::Request { .. }), is_request);
+    for (len, kind) in &[(128, "Request {"), (129, "Invalid(")] {
+        let seen = told(rt.alloc(), with_id(rt.alloc(), *len)?.as_slice())?;
+        assert!(rt; seen.as_str().starts_with(kind), "{seen}");
     }
     Ok(())
 }
@@ -138,18 +135,17 @@ const ANSWERED: [(&str, &str); 5] = [
     ("{\"id\":1,\"method\":\"a\"", "Some(Id { name: Null })"),
 ];
 
-fn answered(alloc: Global, bytes: Vec<u8>) -> Result<String, Fail> {
+fn answered(alloc: Global, bytes: &[u8]) -> Result<String, AllocError> {
     let mut scratch = Scratch::new(alloc);
-    let id = id_to_answer(&bytes, &mut scratch)?;
-    Ok(format!(in alloc; "{id:?}")?)
+    let id = id_to_answer(bytes, &mut scratch)?;
+    format!(in alloc; "{id:?}")
 }
 
 #[test]
 fn the_id_of_an_answer_is_found_without_a_tree(rt: HostRuntime) -> Result<(), Fail> {
-    let alloc = rt.alloc();
-    for (bytes, id) in ANSWERED {
-        let seen = answered(alloc, Vec::from_slice(alloc, bytes.as_bytes())?)?;
-        assert_eq!(rt; seen.as_str(), id, "of {bytes}");
+    for (bytes, id) in &ANSWERED {
+        let seen = answered(rt.alloc(), bytes.as_bytes())?;
+        assert!(rt; seen.as_str() == *id, "{seen} of {bytes}");
     }
     Ok(())
 }

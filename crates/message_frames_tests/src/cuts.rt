@@ -26,6 +26,14 @@ fn expected(alloc: Global) -> Result<Vec<Frame>, AllocError> {
     Ok(frames)
 }
 
+fn pieces_of(alloc: Global, parts: &[&[u8]]) -> Result<Vec<Vec<u8>>, AllocError> {
+    let mut pieces = Vec::new(alloc);
+    for part in parts {
+        pieces.push(Vec::from_slice(alloc, part)?)?;
+    }
+    Ok(pieces)
+}
+
 #[test]
 fn in_three_pieces(rt: HostRuntime) -> Result<(), Fail> {
     let expected = expected(rt.alloc())?;
@@ -33,12 +41,9 @@ fn in_three_pieces(rt: HostRuntime) -> Result<(), Fail> {
         let (front, back) = STREAM.split_at(second);
         for first in 0..front.len() {
             let (one, two) = front.split_at(first);
-            let mut pieces = Vec::new(rt.alloc());
-            for piece in [one, two, back] {
-                pieces.push(Vec::from_slice(rt.alloc(), piece)?)?;
-            }
+            let pieces = pieces_of(rt.alloc(), &[one, two, back])?;
             let frames = frames_of(rt.alloc(), LIMIT, pieces.as_slice())?;
-            assert_eq!(rt; frames.as_slice(), expected.as_slice(), "{first} {second}");
+            assert!(rt; frames == expected, "{first} {second}");
         }
     }
     Ok(())

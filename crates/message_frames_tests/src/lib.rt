@@ -7,3 +7,5 @@ mod cuts;
 mod headers;
 #[cfg(test)]
 mod limits;
+#[cfg(test)]
+mod next;

@@ -1,48 +1,76 @@
-//! Messages of the limit and beyond it.
+//! Messages of the limit and beyond it, and one that is passed over.
 
-use message_frames::{Frame, Frames, write_frame};
+use crate::next::{gives, is_too_long, waits};
+use message_frames::{Frames, write_frame};
+use std::alloc::{AllocError, Global};
 use std::test::Fail;
+
+const FRAME: &[u8] = b"Content-Length: 10\r\n\r\nten bytes.";
 
 #[test]
 fn at_the_limit(rt: HostRuntime) -> Result<(), Fail> {
-    let frame = write_frame(rt.alloc(), b"ten bytes.")?;
-    assert_eq!(rt;
-        frame.as_slice(),
-        b"Content-Length: 10\r\n\r\nten bytes.".as_slice()
-    );
+    assert!(rt; write_frame(rt.alloc(), b"ten bytes.")?.as_slice() == FRAME);
     let mut frames = Frames::new(rt.alloc(), 10);
-    frames.push(frame.as_slice())?;
-    let message = Frame::Message(Vec::from_slice(rt.alloc(), b"ten bytes.")?);
-    assert_eq!(rt; frames.next(rt.alloc())?, message);
+    frames.push(FRAME)?;
+    assert!(rt; gives(rt.alloc(), &mut frames, b"ten bytes.")?);
     Ok(())
+}
+
+// Whether the reader waits and holds nothing before each of these pieces, which it takes.
+fn lets_all_go(
+    alloc: Global,
+    frames: &mut Frames,
+    piece: &[u8],
+    times: usize,
+) -> Result<bool, AllocError> {
+    for _ in 0..times {
+        if !waits(alloc, frames)? || frames.held() > 0 {
+            return Ok(false);
+        }
+        frames.push(piece)?;
+    }
+    Ok(true)
 }
 
 #[test]
 fn beyond_the_limit(rt: HostRuntime) -> Result<(), Fail> {
+    let piece = [b'x'].repeat(rt.alloc(), 1000)?;
     let mut frames = Frames::new(rt.alloc(), 9);
     frames.push(b"Content-Length: 1000001\r\n\r\nx")?;
-    let piece = [b'x'].repeat(rt.alloc(), 1000)?;
-    for _ in 0..1000 {
-        assert_eq!(rt; frames.next(rt.alloc())?, Frame::Wait);
-        assert_eq!(rt; frames.held(), 0);
-        frames.push(piece.as_slice())?;
-    }
-    assert_eq!(rt; frames.next(rt.alloc())?, Frame::TooLong(1_000_001));
-    assert_eq!(rt; frames.next(rt.alloc())?, Frame::Wait);
+    assert!(rt; lets_all_go(rt.alloc(), &mut frames, piece.as_slice(), 1000)?);
+    assert!(rt; is_too_long(rt.alloc(), &mut frames, 1_000_001)?);
+    assert!(rt; waits(rt.alloc(), &mut frames)?);
     Ok(())
+}
+
+// Whether the reader waits behind each of these bytes.
+fn waits_at_each(alloc: Global, frames: &mut Frames, bytes: &[u8]) -> Result<bool, AllocError> {
+    for byte in bytes {
+        frames.push(&[*byte])?;
+        if !waits(alloc, frames)? {
+            return Ok(false);
+        }
+    }
+    Ok(true)
 }
 
 #[test]
 fn behind_the_limit(rt: HostRuntime) -> Result<(), Fail> {
     let mut frames = Frames::new(rt.alloc(), 1);
-    for byte in b"Content-Length: 2\r\n\r\n{" {
-        frames.push(&[*byte])?;
-        assert_eq!(rt; frames.next(rt.alloc())?, Frame::Wait);
-    }
+    assert!(rt; waits_at_each(rt.alloc(), &mut frames, b"Content-Length: 2\r\n\r\n{")?);
     frames.push(b"}Content-Length: 1\r\n\r\n!")?;
-    assert_eq!(rt; frames.next(rt.alloc())?, Frame::TooLong(2));
-    let message = Frame::Message(Vec::from_slice(rt.alloc(), b"!")?);
-    assert_eq!(rt; frames.next(rt.alloc())?, message);
-    assert_eq!(rt; frames.next(rt.alloc())?, Frame::Wait);
+    assert!(rt; is_too_long(rt.alloc(), &mut frames, 2)?);
+    assert!(rt; gives(rt.alloc(), &mut frames, b"!")?);
+    Ok(())
+}
+
+#[test]
+fn passed_over(rt: HostRuntime) -> Result<(), Fail> {
+    let mut frames = Frames::new(rt.alloc(), 2);
+    frames.push(b"Content-Length: 2\r\n\r\n")?;
+    assert!(rt; waits(rt.alloc(), &mut frames)?);
+    frames.push(b"{}Content-Length: 1\r\n\r\n!")?;
+    frames.skip();
+    assert!(rt; gives(rt.alloc(), &mut frames, b"!")?);
     Ok(())
 }

@@ -30,42 +30,72 @@ fn fault(alloc: Global, report: ReportError) -> Result<Error, AllocError> {
     Ok(Error { kind })
 }
 
-#[test]
-fn errors(rt: HostRuntime) -> Result<(), Fail> {
-    let alloc = rt.alloc();
+fn makes_messages(alloc: Global) -> Result<bool, AllocError> {
     let kind = ErrorKind::Message(String::from_str(alloc, "what")?);
-    assert_eq!(rt; Error::message(alloc, "what"), Error { kind });
+    Ok(Error::message(alloc, "what") == Error { kind })
+}
+
+fn makes_faults(alloc: Global) -> Result<bool, AllocError> {
     let why = fault(alloc, report(alloc, "why", place())?)?;
-    assert_eq!(rt; Error::syntax_error(alloc, "why", &place()), why);
     let text = String::from_str(alloc, "why");
-    assert_eq!(rt; Error::reported(alloc, text, &place()), why);
+    Ok(
+        Error::syntax_error(alloc, "why", &place()) == why
+            && Error::reported(alloc, text, &place()) == why,
+    )
+}
+
+fn makes_ends(alloc: Global) -> Result<bool, AllocError> {
     let end = Span {
         start_line: 3,
         start_col: 4,
         ..place()
     };
     let end = fault(alloc, report(alloc, "Unexpected end of input", end)?)?;
-    assert_eq!(rt; ReportError::unexpected_end_of_input(alloc, &place()), end);
+    Ok(ReportError::unexpected_end_of_input(alloc, &place()) == end)
+}
+
+#[test]
+fn errors(rt: HostRuntime) -> Result<(), Fail> {
+    assert!(rt; makes_messages(rt.alloc())?);
+    assert!(rt; makes_faults(rt.alloc())?);
+    assert!(rt; makes_ends(rt.alloc())?);
     Ok(())
+}
+
+/// Whether each part stands in the text.
+pub(crate) fn has_parts(text: &str, parts: &[&str]) -> bool {
+    for part in parts {
+        if !text.contains(part) {
+            return false;
+        }
+    }
+    true
+}
+
+fn is_at_the_place(node: &Spanned<u8>) -> bool {
+    *node.node() == 7 && node.span().copied() == place()
+}
+
+fn is_shown_with_its_place(alloc: Global, node: &Spanned<u8>) -> Result<bool, AllocError> {
+    let shown = format!(in alloc; "{node:?}")?;
+    Ok(has_parts(shown.as_str(), &["node: 7", "start_line: 1", "range: 5..6"]))
 }
 
 #[test]
 fn nodes_equal_with_their_places(rt: HostRuntime) -> Result<(), Fail> {
     let mut a = Spanned::new(rt.alloc(), 7u8, place())?;
-    assert_eq!(rt; *a.node(), 7);
-    assert_eq!(rt; a.span().copied(), place());
+    assert!(rt; is_at_the_place(&a) && is_shown_with_its_place(rt.alloc(), &a)?);
     let b = a.clone()?;
     assert!(rt; laws::same_spanned(&a, &b));
-    let shown = format!(in rt.alloc(); "{a:?}")?;
-    for part in ["node: 7", "start_line: 1", "range: 5..6"] {
-        assert!(rt; shown.as_str().contains(part), "{part} in {shown}");
-    }
     a.span_mut().expand(&Span::default());
-    assert_ne!(rt; a, b);
-    let (node, span) = a.into_parts();
-    assert_eq!(rt; node, 7);
-    assert_eq!(rt; (span.start_line, span.start_col), (1, 2));
-    assert_eq!(rt; (span.end_line, span.end_col, span.range), (0, 0, 5..0));
+    assert!(rt; a != b);
+    let expanded = Span {
+        end_line: 0,
+        end_col: 0,
+        range: 5..0,
+        ..place()
+    };
+    assert!(rt; a.into_parts() == (7, expanded));
     Ok(())
 }
 
@@ -76,41 +106,47 @@ fn noted(alloc: Global) -> Result<ReportError, Error> {
     Ok(report)
 }
 
+fn note(alloc: Global) -> Result<Note, AllocError> {
+    Ok(Note {
+        label: String::from_str(alloc, "there")?,
+        filename: String::from_str(alloc, "base")?,
+        span: Span::default(),
+    })
+}
+
 #[test]
 fn notes_stand_behind_a_report(rt: HostRuntime) -> Result<(), Fail> {
-    let mut report = noted(rt.alloc())?;
+    let (mut report, note) = (noted(rt.alloc())?, note(rt.alloc())?);
     report.add_note("there", "base", &Span::default())?;
-    assert_eq!(rt; report.notes.len(), 2);
-    let wanted = Note {
-        label: String::from_str(rt.alloc(), "there")?,
-        filename: String::from_str(rt.alloc(), "base")?,
-        span: Span::default(),
-    };
-    assert_eq!(rt; report.notes.last(), Some(&wanted));
-    assert!(rt; laws::same_note(&wanted, &wanted));
+    assert!(rt; report.notes.len() == 2 && report.notes.last() == Some(&note));
+    assert!(rt; laws::same_note(&note, &note));
     assert!(rt; !laws::same_report(&report, &noted(rt.alloc())?));
     Ok(())
 }
 
+// Whether the error has this text, and these parts stand in what `Debug` shows of it.
+fn shows(alloc: Global, error: &Error, text: &str, parts: &[&str]) -> Result<bool, AllocError> {
+    let shown = format!(in alloc; "{error}")?;
+    let told = format!(in alloc; "{error:?}")?;
+    Ok(shown.as_str() == text && has_parts(told.as_str(), parts))
+}
+
+fn are_told_apart(fault: &Error, message: &Error, memory: &Error) -> bool {
+    laws::same_error(fault, fault) && !laws::same_error(fault, message) && message != memory
+}
+
 #[test]
 fn errors_show_their_texts(rt: HostRuntime) -> Result<(), Fail> {
+    let alloc = rt.alloc();
     let memory = Error {
         kind: ErrorKind::Memory,
     };
-    let message = Error::message(rt.alloc(), "how");
-    let fault = fault(rt.alloc(), noted(rt.alloc())?)?;
-    assert_eq!(rt;
-        format!(in rt.alloc(); "{memory}; {message}; {fault}")?.as_str(),
-        "out of memory; how; why"
-    );
-    let told = format!(in rt.alloc(); "{memory:?} {message:?} {fault:?}")?;
-    for part in [
-        "Memory", "Message(", "\"how\"", "Syntax", "\"why\"", "Note", "\"here\"", "\"page\"",
-    ] {
-        assert!(rt; told.as_str().contains(part), "{part} in {told}");
-    }
-    assert!(rt; laws::same_error(&fault, &fault));
-    assert!(rt; !laws::same_error(&fault, &message));
-    assert_ne!(rt; message, memory);
+    let message = Error::message(alloc, "how");
+    let fault = fault(alloc, noted(alloc)?)?;
+    assert!(rt; shows(alloc, &memory, "out of memory", &["Memory"])?);
+    assert!(rt; shows(alloc, &message, "how", &["Message(", "\"how\""])?);
+    let parts = ["Syntax", "\"why\"", "Note", "\"here\"", "\"page\""];
+    assert!(rt; shows(alloc, &fault, "why", &parts)?);
+    assert!(rt; are_told_apart(&fault, &message, &memory));
     Ok(())
 }

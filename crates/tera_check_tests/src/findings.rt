@@ -6,7 +6,8 @@ use tera_check::{Finding, KINDS, Kind, Note, Place, finding_of_fault, object_of}
 use tera_parser::value::{Error, Span};
 
 const OBJECT: &str =
-    r#"{"file":"a","line":3,"column":4,"message":"\"x\"\n","notes":[{"file":"b","line":1,"column":2,"message":"h"}]}"#;
+    r#"{"file":"a","line":3,"column":4,"message":"\"x\"\n","notes":[{"file":"b","line":1,"column":2,"message":"h"}]}
+"#;
 
 fn span(line: usize, column: usize) -> Span {
     Span {
@@ -34,28 +35,30 @@ fn finding(alloc: Global) -> Result<Finding, AllocError> {
 #[test]
 fn a_finding_is_an_object(rt: HostRuntime) -> Result<(), Fail> {
     let object = object_of(rt.alloc(), "a", &finding(rt.alloc())?)?;
-    let wanted = format!(in rt.alloc(); "{OBJECT}\n")?;
-    assert_eq!(rt; object.as_slice(), wanted.as_bytes());
+    assert!(rt; object.as_slice() == OBJECT.as_bytes());
     Ok(())
+}
+
+fn is_at_the_beginning(finding: &Finding, message: &str) -> bool {
+    finding.kind == Kind::Fault
+        && finding.place() == Place::first()
+        && finding.message.as_str() == message
+        && finding.notes.is_empty()
 }
 
 #[test]
 fn a_message_stands_where_a_file_begins(rt: HostRuntime) -> Result<(), Fail> {
     let error = Error::message(rt.alloc(), "refused");
     let finding = finding_of_fault(rt.alloc(), &error)?;
-    assert_eq!(rt; finding.kind, Kind::Fault);
-    assert_eq!(rt; finding.place(), Place::first());
-    assert_eq!(rt; finding.message.as_str(), "refused");
-    assert!(rt; finding.notes.is_empty());
+    assert!(rt; is_at_the_beginning(&finding, "refused"));
     Ok(())
 }
 
 #[test]
-fn each_kind_has_a_word_of_its_own(rt: HostRuntime) -> Result<(), Fail> {
+fn each_kind_has_a_word_of_its_own(rt: HostRuntime) {
     for (number, kind) in KINDS.iter().enumerate() {
         for other in &KINDS[..number] {
             assert!(rt; kind.name() != other.name(), "{kind:?}");
         }
     }
-    Ok(())
 }

@@ -1,7 +1,7 @@
 //! Templates that are read where memory is refused.
 
 use scarce_memory::{Attempt, Seen, Verdict, refuse};
-use std::alloc::Global;
+use std::alloc::{AllocError, Global};
 use std::test::Fail;
 use tera_check::{Template, read_template};
 
@@ -34,17 +34,16 @@ fn are_same(one: &Template, other: &Template) -> bool {
     one.parsed == other.parsed && one.defined_at == other.defined_at
 }
 
+fn is_refused(alloc: Global, source: &str) -> Result<bool, AllocError> {
+    let wanted = &read_template(alloc, "t", source)?;
+    let verdict = refuse(alloc, &Reading { source, wanted })?;
+    Ok(matches!(verdict, Verdict::Refused(n) if n > 0))
+}
+
 #[test]
 fn each_request_of_memory_may_be_refused(rt: HostRuntime) -> Result<(), Fail> {
-    for source in SOURCES {
-        let wanted = read_template(rt.alloc(), "t", source)?;
-        let reading = Reading {
-            source,
-            wanted: &wanted,
-        };
-        let verdict = refuse(rt.alloc(), &reading)?;
-        let is_refused = matches!(verdict, Verdict::Refused(n) if n > 0);
-        assert!(rt; is_refused, "{source}");
+    for source in &SOURCES {
+        assert!(rt; is_refused(rt.alloc(), source)?, "{source}");
     }
     Ok(())
 }

@@ -1,7 +1,7 @@
 //! Which files paths mean.
 
 use crate::failing::{Failing, Fault};
-use crate::room::Room;
+use crate::room::{Room, expect};
 use std::cell::Cell;
 use std::test::Fail;
 use tera_files::{Found, Sought, files_of};
@@ -40,16 +40,21 @@ const LINKS: [(&str, &str); 7] = [
 
 fn site<'a>(rt: &'a HostRuntime, name: &str) -> Result<Room<'a>, Fail> {
     let room = Room::new(rt, name)?;
-    for folder in FOLDERS {
+    fill(&room)?;
+    Ok(room)
+}
+
+fn fill(room: &Room<'_>) -> Result<(), Fail> {
+    for folder in &FOLDERS {
         room.make_folder(folder)?;
     }
-    for file in FILES {
+    for file in &FILES {
         room.write(file, b"{{ a }}")?;
     }
-    for (name, to) in LINKS {
+    for (name, to) in &LINKS {
         room.link(name, to)?;
     }
-    Ok(room)
+    Ok(())
 }
 
 // The files that some paths in the room mean, each on a line.
@@ -95,81 +100,95 @@ fn told(rt: &HostRuntime, room: &Room<'_>, found: &Found) -> Result<String, Fail
     Ok(text)
 }
 
+// What standard input stands for, the paths, and the files that they mean.
+const CASES: [(&str, &[&str], &str); 9] = [
+    (
+        "-",
+        &["site"],
+        "site/a.html\nsite/a.tera\nsite/a/z.html\nsite/b.html\nsite/outside.html\n",
+    ),
+    ("-", &["site/a/"], "site/a/z.html\n"),
+    // A file that is met again, by whatever path, is left out.
+    (
+        "-",
+        &[
+            "site/b.html",
+            "site/../site/b.html",
+            "site",
+            "linked",
+            "outside",
+        ],
+        "site/b.html\nsite/a.html\nsite/a.tera\nsite/a/z.html\nsite/outside.html\n",
+    ),
+    (
+        "-",
+        &["site/a/../a/z.html", "linked", "site"],
+        "site/a/../a/z.html\nlinked/a.html\nlinked/a.tera\nlinked/b.html\nlinked/outside.html\n",
+    ),
+    // What is named is taken, whatever it is.
+    (
+        "-",
+        &["absent.html", "site/notes.txt", "absent.html", "site/.git"],
+        "absent.html\nsite/notes.txt\nsite/.git/x.html\n",
+    ),
+    ("-", &["empty", "site/a"], "site/a/z.html\nempty: none\n"),
+    ("-", &["-", "-"], "-\n"),
+    (
+        "site/a.html",
+        &["site", "-"],
+        "site/a.tera\nsite/a/z.html\nsite/b.html\nsite/outside.html\n-\n",
+    ),
+    ("site/a.html", &["site/a.html"], "site/a.html\n"),
+];
+
 #[test]
 fn paths_mean_files(rt: HostRuntime) -> Result<(), Fail> {
     let room = site(&rt, "paths_mean_files")?;
-    let cases: [(&str, &[&str], &str); 9] = [
-        (
-            "-",
-            &["site"],
-            "site/a.html\nsite/a.tera\nsite/a/z.html\nsite/b.html\nsite/outside.html\n",
-        ),
-        ("-", &["site/a/"], "site/a/z.html\n"),
-        // A file that is met again, by whatever path, is left out.
-        (
-            "-",
-            &[
-                "site/b.html",
-                "site/../site/b.html",
-                "site",
-                "linked",
-                "outside",
-            ],
-            "site/b.html\nsite/a.html\nsite/a.tera\nsite/a/z.html\nsite/outside.html\n",
-        ),
-        (
-            "-",
-            &["site/a/../a/z.html", "linked", "site"],
-            "site/a/../a/z.html\nlinked/a.html\nlinked/a.tera\nlinked/b.html\nlinked/outside.html\n",
-        ),
-        // What is named is taken, whatever it is.
-        (
-            "-",
-            &["absent.html", "site/notes.txt", "absent.html", "site/.git"],
-            "absent.html\nsite/notes.txt\nsite/.git/x.html\n",
-        ),
-        ("-", &["empty", "site/a"], "site/a/z.html\nempty: none\n"),
-        ("-", &["-", "-"], "-\n"),
-        (
-            "site/a.html",
-            &["site", "-"],
-            "site/a.tera\nsite/a/z.html\nsite/b.html\nsite/outside.html\n-\n",
-        ),
-        ("site/a.html", &["site/a.html"], "site/a.html\n"),
-    ];
-    for (stdin, names, files) in cases {
+    for (stdin, names, files) in &CASES {
         let meant = meant(&rt, &room, stdin, names)?;
-        assert_eq!(rt; meant.as_str(), files);
+        assert!(rt; meant.as_str() == *files, "{meant} for {files}");
     }
     room.remove()
 }
 
 // Of a call that fails something is told: a folder that was not listed, or the path itself as that of a file.
-#[test]
-fn each_call_on_folders_fails_in_turn(rt: HostRuntime) -> Result<(), Fail> {
-    let room = site(&rt, "each_call_on_folders")?;
-    let top = room.at("site")?;
+fn is_told(found: &Found, top: &str) -> bool {
+    found.files.len() >= 5
+        || found.files.iter().any(|file| file.as_str() == top)
+        || found.unlisted.iter().any(|one| one.error.is_some())
+}
+
+// Whether this call fails, of which something is told.
+fn fails(rt: &HostRuntime, top: &str, call: u32) -> Result<bool, Fail> {
+    let calls = Cell::new(0);
+    let runtime = Failing {
+        rt,
+        calls: &calls,
+        fault: Fault::At(call),
+    };
     let sought = Sought {
         extensions: &EXTENSIONS,
         stdin: "-",
     };
+    let found = files_of(&runtime, sought, &[top])?;
+    let has_failed = runtime.has_failed();
+    expect(
+        !has_failed || is_told(&found, top),
+        "a call that fails is not told",
+    )?;
+    Ok(has_failed)
+}
+
+#[test]
+fn each_call_on_folders_fails_in_turn(rt: HostRuntime) -> Result<(), Fail> {
+    let room = site(&rt, "each_call_on_folders")?;
+    let top = room.at("site")?;
     let mut turns = 0u32;
     for call in 0..100 {
-        let calls = Cell::new(0);
-        let runtime = Failing {
-            rt: &rt,
-            calls: &calls,
-            fault: Fault::At(call),
-        };
-        let found = files_of(&runtime, sought, &[top.as_str()])?;
-        if !runtime.has_failed() {
+        if !fails(&rt, top.as_str(), call)? {
             break;
         }
         turns = turns.saturating_add(1);
-        let is_whole = found.files.len() >= 5;
-        let is_itself = found.files.iter().any(|file| file.as_str() == top.as_str());
-        let is_told = found.unlisted.iter().any(|one| one.error.is_some());
-        assert!(rt; is_whole || is_itself || is_told, "call {call}");
     }
     assert!(rt; turns > 20 && turns < 100, "{turns} turns");
     room.remove()

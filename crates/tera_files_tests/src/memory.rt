@@ -1,6 +1,6 @@
 //! Calls whose memory is refused.
 
-use crate::room::Room;
+use crate::room::{Room, expect};
 use scarce_memory::{Attempt, Seen, Verdict, refuse};
 use std::alloc::Global;
 use std::io::ErrorKind;
@@ -58,35 +58,29 @@ impl Attempt for Replacing<'_> {
     }
 }
 
-fn is_refused(verdict: Verdict) -> bool {
-    matches!(verdict, Verdict::Refused(times) if times > 0)
+// That memory is refused to the attempt, which answers as usual at last.
+fn is_refused(rt: &HostRuntime, attempt: &impl Attempt) -> Result<bool, Fail> {
+    let verdict = refuse(rt.alloc(), attempt)?;
+    Ok(matches!(verdict, Verdict::Refused(times) if times > 0))
+}
+
+fn all_are_refused(rt: &HostRuntime, top: &str, path: &str) -> Result<(), Fail> {
+    expect(is_refused(rt, &Finding { rt, top })?, "finding")?;
+    expect(is_refused(rt, &Reading { rt, path })?, "reading")?;
+    expect(is_refused(rt, &Replacing { rt, path })?, "replacing")
+}
+
+fn fill(room: &Room<'_>) -> Result<(), Fail> {
+    room.make_folder("below")?;
+    room.write("a.html", b"{{ a }}")?;
+    room.write("below/b.html", b"{{ b }}")
 }
 
 #[test]
 fn memory_is_refused(rt: HostRuntime) -> Result<(), Fail> {
     let room = Room::new(&rt, "memory_is_refused")?;
-    room.make_folder("below")?;
-    room.write("a.html", b"{{ a }}")?;
-    room.write("below/b.html", b"{{ b }}")?;
-    let (top, path) = (room.at(".")?, room.at("a.html")?);
-    let finding = Finding {
-        rt: &rt,
-        top: top.as_str(),
-    };
-    let reading = Reading {
-        rt: &rt,
-        path: path.as_str(),
-    };
-    let replacing = Replacing {
-        rt: &rt,
-        path: path.as_str(),
-    };
-    let found = refuse(rt.alloc(), &finding)?;
-    let read = refuse(rt.alloc(), &reading)?;
-    let replaced = refuse(rt.alloc(), &replacing)?;
-    assert!(rt; is_refused(found), "{found:?}");
-    assert!(rt; is_refused(read), "{read:?}");
-    assert!(rt; is_refused(replaced), "{replaced:?}");
-    assert_eq!(rt; room.text("a.html")?.as_str(), "{{ b }}");
+    fill(&room)?;
+    all_are_refused(&rt, room.at(".")?.as_str(), room.at("a.html")?.as_str())?;
+    expect(room.holds("a.html", "{{ b }}")?, "the text")?;
     room.remove()
 }

@@ -4,6 +4,11 @@ use std::rt::Files;
 use std::test::Fail;
 use std::{env, fs, process};
 
+/// Fails, and tells this, unless something holds.
+pub(crate) fn expect(holds: bool, what: &str) -> Result<(), Fail> {
+    if holds { Ok(()) } else { Err(Fail::new(what)) }
+}
+
 /// A folder that no other test uses.
 #[derive(Drop)]
 pub(crate) struct Room<'a> {
@@ -49,8 +54,10 @@ impl<'a> Room<'a> {
         Ok(())
     }
 
-    pub(crate) fn text(&self, name: &str) -> Result<String, Fail> {
-        Ok(fs::read_to_string(self.rt, self.at(name)?.as_str())?)
+    /// Whether the file has this text.
+    pub(crate) fn holds(&self, name: &str, text: &str) -> Result<bool, Fail> {
+        let stands = fs::read_to_string(self.rt, self.at(name)?.as_str())?;
+        Ok(stands.as_str() == text)
     }
 
     pub(crate) fn has(&self, name: &str) -> Result<bool, Fail> {

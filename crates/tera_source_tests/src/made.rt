@@ -38,7 +38,7 @@ fn what_holds_a_call_with_a_body_is_refused(rt: HostRuntime) -> Result<(), Fail>
     let alloc = rt.alloc();
     let text = text_of(alloc, negated(alloc, call_with_body(alloc)));
     let refusal = Error::message(alloc, "A component call with a body has no expression text");
-    assert_eq!(rt; text, Err(refusal));
+    assert!(rt; text == Err(refusal));
     Ok(())
 }
 
@@ -62,24 +62,41 @@ fn operation(alloc: Global, operator: BinaryOperator) -> Made {
     build::binary(alloc, operator, left, right, Span::default())
 }
 
-#[test]
-fn what_is_no_expression_of_a_source_has_some_text(rt: HostRuntime) -> Result<(), Fail> {
-    let alloc = rt.alloc();
-    for name in ["", "a b", "not", "none", "1", "\u{e9}"] {
-        text_of(alloc, variable(alloc, name))?;
-    }
-    text_of(alloc, map(alloc, Key::I64(-1)))?;
-    text_of(alloc, operation(alloc, BinaryOperator::Is))?;
-    text_of(alloc, operation(alloc, BinaryOperator::Pipe))?;
-    for value in [
+fn values(alloc: Global) -> [Value; 6] {
+    [
         Value::Bytes(Vec::new(alloc)),
         Value::Undefined,
         Value::I64(i64::MIN),
         Value::U64(u64::MAX),
         Value::I128(i128::MIN),
         Value::U128(u128::MAX),
-    ] {
-        text_of(alloc, build::constant(alloc, value, Span::default()))?;
+    ]
+}
+
+fn constants_have_texts(alloc: Global) -> Result<(), Error> {
+    for value in &values(alloc) {
+        text_of(
+            alloc,
+            build::constant(alloc, value.clone()?, Span::default()),
+        )?;
     }
+    Ok(())
+}
+
+fn variables_have_texts(alloc: Global) -> Result<(), Error> {
+    for name in &["", "a b", "not", "none", "1", "\u{e9}"] {
+        text_of(alloc, variable(alloc, name))?;
+    }
+    Ok(())
+}
+
+#[test]
+fn what_is_no_expression_of_a_source_has_some_text(rt: HostRuntime) -> Result<(), Fail> {
+    let alloc = rt.alloc();
+    variables_have_texts(alloc)?;
+    text_of(alloc, map(alloc, Key::I64(-1)))?;
+    text_of(alloc, operation(alloc, BinaryOperator::Is))?;
+    text_of(alloc, operation(alloc, BinaryOperator::Pipe))?;
+    constants_have_texts(alloc)?;
     Ok(())
 }

@@ -2,7 +2,6 @@
 
 use crate::making::{Made, both, constant, one, variable};
 use std::alloc::{AllocError, Global};
-use std::process::Abort;
 use std::test::Fail;
 use tera_base::{Span, Value};
 use tera_tree::{BinaryOperator, ComponentArgument, ComponentDefinition, Expression, Node, build};
@@ -23,53 +22,66 @@ fn call(alloc: Global) -> Made<Expression> {
     build::component_call(alloc, name, Vec::new(alloc), body, false, Span::default())
 }
 
-// That the expression shows as this text.
-fn expect(
-    rt: &impl Abort,
-    alloc: Global,
-    text: &str,
-    made: Made<Expression>,
-) -> Result<(), AllocError> {
+// Whether the expression shows as this text.
+fn shows(alloc: Global, text: &str, made: Made<Expression>) -> Result<bool, AllocError> {
     let expression = made?;
     let shown = format!(in alloc; "{expression}");
     drop(expression);
-    assert_eq!(rt; shown?.as_str(), text);
-    Ok(())
+    Ok(shown?.as_str() == text)
+}
+
+fn show_constants(alloc: Global) -> Result<bool, AllocError> {
+    let bytes = Value::Bytes(Vec::from_array(alloc, [97u8])?);
+    Ok(
+        shows(alloc, "<bytes>", constant(alloc, bytes))?
+            && shows(alloc, "undefined", constant(alloc, Value::Undefined))?,
+    )
+}
+
+fn show_empty_ones(alloc: Global) -> Result<bool, AllocError> {
+    let array = build::array(alloc, Vec::new(alloc), Span::default());
+    let is_array = shows(alloc, "[]", array)?;
+    let map = build::map(alloc, Vec::new(alloc), Span::default());
+    Ok(shows(alloc, "{}", map)? && is_array)
+}
+
+fn show_operations(alloc: Global) -> Result<bool, AllocError> {
+    Ok(
+        shows(alloc, "(is a b)", operation(alloc, BinaryOperator::Is))?
+            && shows(alloc, "(| a b)", operation(alloc, BinaryOperator::Pipe))?,
+    )
 }
 
 #[test]
 fn expressions_of_no_source(rt: HostRuntime) -> Result<(), Fail> {
-    let alloc = rt.alloc();
-    let bytes = Value::Bytes(Vec::from_array(alloc, [97u8])?);
-    let array = build::array(alloc, Vec::new(alloc), Span::default());
-    expect(&rt, alloc, "[]", array)?;
-    let map = build::map(alloc, Vec::new(alloc), Span::default());
-    expect(&rt, alloc, "{}", map)?;
-    expect(&rt, alloc, "<bytes>", constant(alloc, bytes))?;
-    expect(&rt, alloc, "undefined", constant(alloc, Value::Undefined))?;
-    expect(&rt, alloc, "(is a b)", operation(alloc, BinaryOperator::Is))?;
-    expect(
-        &rt,
-        alloc,
-        "(| a b)",
-        operation(alloc, BinaryOperator::Pipe),
-    )?;
-    expect(&rt, alloc, "<box{}>[nodes: 1]<box/>", call(alloc))?;
+    assert!(rt; show_constants(rt.alloc())?);
+    assert!(rt; show_empty_ones(rt.alloc())?);
+    assert!(rt; show_operations(rt.alloc())?);
+    assert!(rt; shows(rt.alloc(), "<box{}>[nodes: 1]<box/>", call(rt.alloc()))?);
     Ok(())
+}
+
+// A definition of two arguments, the first of whose names is none.
+fn definition(alloc: Global) -> Result<ComponentDefinition, AllocError> {
+    let mut definition = ComponentDefinition::empty(alloc);
+    for name in &["é", "z"] {
+        let name = String::from_str(alloc, name)?;
+        let argument = ComponentArgument::default();
+        drop(definition.kwargs.insert(name, argument)?);
+    }
+    Ok(definition)
 }
 
 #[test]
 fn an_argument_whose_name_is_no_name(rt: HostRuntime) -> Result<(), Fail> {
-    let mut definition = ComponentDefinition::empty(rt.alloc());
-    for name in ["é", "z"] {
-        let name = String::from_str(rt.alloc(), name)?;
-        let argument = ComponentArgument::default();
-        drop(definition.kwargs.insert(name, argument)?);
-    }
+    let definition = definition(rt.alloc())?;
     let mut lines = String::new(rt.alloc());
     let written = push_definition(&mut lines, &definition);
     drop(definition);
     written?;
-    assert_eq!(rt; lines.as_str(), "component \n  arg z\n  arg é\n");
+    assert!(rt;
+        lines.as_str() == "component \n  arg z\n  arg é\n",
+        "{lines}"
+    );
     Ok(())
 }

@@ -2,9 +2,8 @@
 
 use crate::making::{both, constant, variable};
 use std::alloc::{AllocError, Global};
-use std::process::Abort;
 use std::test::Fail;
-use tera_base::{Map, Span, Value};
+use tera_base::{Error, Map, Span, Value};
 use tera_tree::{
     ArgType as Type, ComponentArgument, ComponentDefinition, Expression, Node, UnaryOperator,
     build, laws,
@@ -20,12 +19,18 @@ const ALL: [(Type, &str); 7] = [
     (Type::Bytes, "bytes"),
 ];
 
+fn is_named(alloc: Global, typ: Type, name: &str) -> Result<bool, Error> {
+    Ok(
+        typ.as_str() == name
+            && Type::from_str(alloc, name)? == typ
+            && laws::type_of_its_name(alloc, typ)? == typ,
+    )
+}
+
 #[test]
 fn types_by_name(rt: HostRuntime) -> Result<(), Fail> {
-    for (typ, name) in ALL {
-        assert_eq!(rt; typ.as_str(), name);
-        assert_eq!(rt; Type::from_str(rt.alloc(), name)?, typ);
-        assert_eq!(rt; laws::type_of_its_name(rt.alloc(), typ)?, typ);
+    for (typ, name) in &ALL {
+        assert!(rt; is_named(rt.alloc(), *typ, name)?, "{name}");
     }
     Ok(())
 }
@@ -33,7 +38,7 @@ fn types_by_name(rt: HostRuntime) -> Result<(), Fail> {
 // The names of the types that the value matches.
 fn matched(alloc: Global, value: &Value) -> Result<String, AllocError> {
     let mut names = String::new(alloc);
-    for (typ, name) in ALL {
+    for (typ, name) in &ALL {
         if typ.matches_value(value) {
             names.push_str(name)?;
             names.push_str(" ")?;
@@ -42,30 +47,35 @@ fn matched(alloc: Global, value: &Value) -> Result<String, AllocError> {
     Ok(names)
 }
 
-// That the value has this type, and matches these.
-fn expect_type(
-    rt: &impl Abort,
+// Whether an argument without a type matches the value, and one of bytes where the value is bytes.
+fn is_matched(value: &Value, is_bytes: bool) -> bool {
+    let mut argument = ComponentArgument::default();
+    let is_any = argument.type_matches(value);
+    argument.typ = Some(Type::Bytes);
+    is_any && argument.type_matches(value) == is_bytes
+}
+
+// Whether the value has this type, and matches these.
+fn has_type(
     alloc: Global,
     value: &Value,
     typ: Option<Type>,
     names: &str,
-) -> Result<(), AllocError> {
-    assert_eq!(rt; Type::from_value(value), typ);
-    assert_eq!(rt; matched(alloc, value)?.as_str(), names);
-    let mut argument = ComponentArgument::default();
-    assert!(rt; argument.type_matches(value), "without a type");
-    argument.typ = Some(Type::Bytes);
-    assert_eq!(rt; argument.type_matches(value), names == "bytes ");
-    Ok(())
+) -> Result<bool, AllocError> {
+    let matched = matched(alloc, value)?;
+    Ok(
+        Type::from_value(value) == typ
+            && matched.as_str() == names
+            && is_matched(value, names == "bytes "),
+    )
 }
 
-#[test]
-fn types_of_values(rt: HostRuntime) -> Result<(), Fail> {
-    let alloc = rt.alloc();
+// Values, their types, and the names of those that they match.
+fn values(alloc: Global) -> [(Value, Option<Type>, &'static str); 11] {
     let text = Value::String(String::new(alloc));
     let (array, map) = (Value::Array(Vec::new(alloc)), Value::Map(Map::new(alloc)));
     let (integer, whole) = (Some(Type::Integer), "integer number ");
-    for (value, typ, names) in [
+    [
         (Value::Undefined, None, ""),
         (Value::None, None, ""),
         (Value::Bool(true), Some(Type::Bool), "bool "),
@@ -77,8 +87,13 @@ fn types_of_values(rt: HostRuntime) -> Result<(), Fail> {
         (Value::Bytes(Vec::new(alloc)), Some(Type::Bytes), "bytes "),
         (array, Some(Type::Array), "array "),
         (map, Some(Type::Map), "map "),
-    ] {
-        expect_type(&rt, alloc, &value, typ, names)?;
+    ]
+}
+
+#[test]
+fn types_of_values(rt: HostRuntime) -> Result<(), Fail> {
+    for (value, typ, names) in &values(rt.alloc()) {
+        assert!(rt; has_type(rt.alloc(), value, *typ, names)?, "{value:?}");
     }
     Ok(())
 }
@@ -92,16 +107,20 @@ fn place(start: usize, end: usize) -> Span {
     }
 }
 
+fn is_expanded(variable: &mut Expression) -> bool {
+    variable.expand_span(&place(6, 9));
+    !variable.is_literal() && variable.span().copied() == place(3, 9)
+}
+
 #[test]
 fn an_expression_is_expanded(rt: HostRuntime) -> Result<(), Fail> {
     let mut e = variable(rt.alloc(), "a", place(3, 4))?;
-    assert!(rt; !e.is_literal());
-    e.expand_span(&place(6, 9));
-    assert_eq!(rt; e.span().copied(), place(3, 9));
+    let is_expanded = is_expanded(&mut e);
     drop(e);
     let constant = constant(rt.alloc(), Value::I64(1))?;
-    assert!(rt; constant.is_literal());
+    let is_literal = constant.is_literal();
     drop(constant);
+    assert!(rt; is_expanded && is_literal);
     Ok(())
 }
 
@@ -124,21 +143,28 @@ fn expressions_equal_with_their_places(rt: HostRuntime) -> Result<(), Fail> {
     let is_same = is_copied(&one);
     drop(one);
     drop(other);
-    assert_eq!(rt; (are_same, is_same?), (false, true));
+    assert!(rt; is_same? && !are_same);
     Ok(())
 }
 
-#[test]
-fn nodes_and_definitions_equal_their_copies(rt: HostRuntime) -> Result<(), Fail> {
-    let mut definition = ComponentDefinition::empty(rt.alloc());
-    assert!(rt; is_copied(&definition)?);
-    let name = String::from_str(rt.alloc(), "a")?;
+fn definition(alloc: Global) -> Result<ComponentDefinition, AllocError> {
+    let mut definition = ComponentDefinition::empty(alloc);
+    let name = String::from_str(alloc, "a")?;
     definition
         .kwargs
         .insert(name, ComponentArgument::default())?;
     definition.body.push(Node::Break)?;
-    assert!(rt; is_copied(&definition)?);
-    assert!(rt; !laws::same_definition(&definition, &ComponentDefinition::empty(rt.alloc())));
+    Ok(definition)
+}
+
+fn are_copied(alloc: Global) -> Result<bool, AllocError> {
+    let (definition, empty) = (definition(alloc)?, ComponentDefinition::empty(alloc));
+    Ok(is_copied(&empty)? && is_copied(&definition)? && !laws::same_definition(&definition, &empty))
+}
+
+#[test]
+fn nodes_and_definitions_equal_their_copies(rt: HostRuntime) -> Result<(), Fail> {
+    assert!(rt; are_copied(rt.alloc())?);
     assert!(rt; laws::same_node(&Node::Break, &Node::Break));
     assert!(rt; !laws::same_node(&Node::Break, &Node::Continue));
     Ok(())

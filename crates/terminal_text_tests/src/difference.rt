@@ -12,7 +12,7 @@ fn hunks(rt: HostRuntime) -> Result<(), Fail> {
     let text = difference(rt.alloc(), Style::Plain, "a.txt", OLD, NEW)?;
     let wanted =
         "--- a.txt\n+++ a.txt\n@@ -1,5 +1,5 @@\n a\n-b\n+B\n c\n d\n e\n@@ -9,4 +9,4 @@\n i\n j\n k\n-l\n\\ No newline at end of file\n+L\n";
-    assert_eq!(&rt; text.as_str(), wanted);
+    assert!(rt; text.as_str() == wanted, "{text}");
     Ok(())
 }
 
@@ -21,12 +21,12 @@ fn colours(rt: HostRuntime) -> Result<(), Fail> {
     let text = difference(rt.alloc(), Style::Coloured, "a b", "x\n", "y\n")?;
     let wanted =
         "\u{1b}[1m--- \"a b\"\u{1b}[0m\n\u{1b}[1m+++ \"a b\"\u{1b}[0m\n\u{1b}[34m@@ -1 +1 @@\u{1b}[0m\n\u{1b}[31m-x\u{1b}[0m\n\u{1b}[32m+y\u{1b}[0m\n";
-    assert_eq!(&rt; text.as_str(), wanted);
+    assert!(rt; text.as_str() == wanted, "{text}");
     Ok(())
 }
 
 #[test]
 fn same(rt: HostRuntime) -> Result<(), Fail> {
-    assert!(&rt; difference(rt.alloc(), Style::Plain, "a", OLD, OLD)?.is_empty());
+    assert!(rt; difference(rt.alloc(), Style::Plain, "a", OLD, OLD)?.is_empty());
     Ok(())
 }

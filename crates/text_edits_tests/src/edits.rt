@@ -1,17 +1,15 @@
 //! Random edits, beside a slow way to make them.
 
 use crate::slow::{ENCODINGS, Random, slow_change};
-use std::alloc::Global;
-use std::process::Abort;
+use std::alloc::{AllocError, Global};
 use std::test::Fail;
 use text_edits::{Encoding, edited};
 
-fn one_round(
-    rt: &impl Abort,
+fn is_edited_as_slowly(
     alloc: Global,
     random: &mut Random,
     encoding: Encoding,
-) -> Result<(), Fail> {
+) -> Result<bool, AllocError> {
     let text = random.text(alloc, 12)?;
     let mut wanted = text.clone()?;
     let mut changes = Vec::new(alloc);
@@ -21,16 +19,16 @@ fn one_round(
         wanted = slow_change(alloc, wanted.as_str(), encoding, change)?;
     }
     let new = edited(alloc, text.as_str(), encoding, changes.as_slice())?;
-    assert_eq!(rt; new.as_str(), wanted.as_str());
-    Ok(())
+    Ok(new == wanted)
 }
 
 #[test]
 fn random_edits(rt: HostRuntime) -> Result<(), Fail> {
     let mut random = Random(1);
-    for encoding in ENCODINGS {
-        for _round in 0..400 {
-            one_round(&rt, rt.alloc(), &mut random, encoding)?;
+    for encoding in &ENCODINGS {
+        for round in 0..400 {
+            let is_same = is_edited_as_slowly(rt.alloc(), &mut random, *encoding)?;
+            assert!(rt; is_same, "{encoding:?}, round {round}");
         }
     }
     Ok(())
