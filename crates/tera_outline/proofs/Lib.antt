@@ -1,10 +1,12 @@
 mod EditSteps
 mod Finding
+mod HeadCuts
 mod NameParts
 mod NamePlaces
 mod Nesting
 mod OutlineSteps
 mod Outlines
 mod Rising
+pub mod SemanticLemmas
 mod Sides
 mod Stopping

@@ -8,7 +8,7 @@ use Rattle.tera_outline.specs.declared.symbols.SymbolKind.{SymbolKind}
 use Rattle.tera_outline.specs.declared.symbols.SymbolKind.TheVariants as kinds
 use Rattle.tera_outline.specs.Pieces.{Part, StandBetween}
 use Rattle.tera_outline.specs.Dotted.{is_name, is_operator, begins_link, links, dotted, end_of}
-use Rattle.tera_outline.specs.Symbols.{Closes, begins_tag, ends_tag, tag_end, opening, word_mark, marks}
+use Rattle.tera_outline.specs.Symbols.{Mark, Closes, begins_tag, ends_tag, tag_end, opening, word_mark, marks}
 use Rattle.tera_outline.proofs.Nesting.{Ascend, sooner}
 
 abbrev end_from : ℕ → List Part → ℕ
@@ -55,12 +55,12 @@ opens : (to from behind start : ℕ) (k : SymbolKind) (ps name : List Part) → 
 opens to from behind start k ps [] a b named none = none
 opens to from behind start k ps (n ∷ ns) a b (c, d, rest) none = (a, omega arith, d, rest)
 
--- a tag is one of these
-a_word : (to from start : ℕ) (t : Tok) (ps : List Part) → Ascend from to (marks to ps)
-    → ((k : SymbolKind) → Ascend from to (option_to_list (opening k start (dotted ps)) ++ marks to ps))
-    → ((k : SymbolKind) → Ascend from to (Closes k start (tag_end to ps) ∷ marks to ps))
-    → Ascend from to (option_to_list (word_mark to start t ps) ++ marks to ps)
-a_word to from start (Ident word) ps none opened closed = elim (cases_Bool (bytes_eq word (codes "block"))) [
+-- what is so of the tags behind a word, whichever tag it makes, is so of them with it
+pub a_word : (P : List Mark → Type 0) (to start : ℕ) (t : Tok) (ps : List Part) (ms : List Mark) → P ms
+    → ((k : SymbolKind) → P (option_to_list (opening k start (dotted ps)) ++ ms))
+    → ((k : SymbolKind) → P (Closes k start (tag_end to ps) ∷ ms))
+    → P (option_to_list (word_mark to start t ps) ++ ms)
+a_word P to start (Ident word) ps ms none opened closed = elim (cases_Bool (bytes_eq word (codes "block"))) [
   | inl is ↦ rw is (opened kinds.Block)
   | inr not_block ↦ elim (cases_Bool (bytes_eq word (codes "component"))) [
     | inl is ↦ rw (not_block, is) (opened kinds.Component)
@@ -73,7 +73,7 @@ a_word to from start (Ident word) ps none opened closed = elim (cases_Bool (byte
     ]
   ]
 ]
-a_word to from start t ps none opened closed = none
+a_word P to start t ps ms none opened closed = none
 
 marks_rise : (to : ℕ) (p w : Part) (ps : List Part) → Rises to (w ∷ ps) → Rises to ps → (from : ℕ) → StandBetween from to (p ∷ w ∷ ps)
     → Ascend from to (marks to (p ∷ w ∷ ps))
@@ -89,7 +89,7 @@ marks_rise to p w ps one two from (a, b, behind) =
             let none_behind : Ascend from to (marks to ps) = rw same at none in
             let closes = two.tagged w.end further in
             rw (tag, same)
-            (a_word to from p.start w.token ps none_behind
+            (a_word (Ascend from to) to p.start w.token ps (marks to ps) none_behind
             (λ k. opens to from w.end p.start k ps (dotted ps) a (omega arith) (two.named w.end further) none_behind)
             (λ k. (a, omega (arith, closes.0), closes.1)))
       ]

@@ -1,8 +1,10 @@
 pub mod Completions
 pub mod Dotted
 pub mod Edits
+pub mod Heads
 pub mod Names
 pub mod Opened
 pub mod Pieces
 pub mod Runs
+pub mod SemanticTokens
 pub mod Symbols

@@ -1,13 +1,22 @@
-//! What the pieces and the symbols of a text are: each function has the law as its promise and does nothing.
+//! What the pieces, the coloured tokens and the symbols of a text are: each function has the law as its promise and
+//! does nothing.
 
 ghost use Rattle.std.specs.Prelude.{ℕ, List, length, All};
 ghost use Rattle.tera_outline.specs.Pieces.{Part, ArePartsOf, StandBetween};
+ghost use Rattle.tera_outline.specs.SemanticTokens.{semantic_tokens_of, StandOnLines};
 ghost use Rattle.tera_outline.specs.Symbols.{outline_of, AreNested, IsWithin};
 
 /// The pieces of a text stand in it one behind the other, and none is empty.
 pub fn pieces_stand()
     ensures { (text : List ℕ) (parts : List Part) → ArePartsOf text parts →
         StandBetween 0 (length text) parts }
+{}
+
+/// The tokens that are coloured stand in a text one behind the other; none is empty, and none goes over the end of a
+/// line.
+pub fn semantic_tokens_stand()
+    ensures { (text : List ℕ) (parts : List Part) → ArePartsOf text parts →
+        StandOnLines 0 text (semantic_tokens_of text parts) }
 {}
 
 /// Of two symbols of a text the later begins behind the start of the earlier, and either at or behind its end, or ends

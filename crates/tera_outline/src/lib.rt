@@ -1,25 +1,31 @@
 //! What the bytes and the tokens of a template say by themselves, for an editor: the edits of a layout, the tokens up
-//! to a fault, the outline, the names of components and templates, and what may be typed at a place.
+//! to a fault, the outline, the names of components and templates, what may be typed at a place, and what each token is
+//! for its colour.
 //!
 //! It takes a text, with a fault or without one, and needs no tree. It stands on `tera_lexer`, and on `tera_layout`
 //! for the layout.
 //!
 //! In the order of reading: specs `Edits`; `edits`, a layout as edits of white space; specs `Pieces`;
 //! `pieces`, the tokens with their bytes; specs `Dotted` and `Symbols`; `symbols`, the outline; specs `Names`; `names`,
-//! what is called, defined, extended and included; specs `Completions`; `completions`, what may be typed; `dotted`,
-//! which reads names with dots; `laws`.
+//! what is called, defined, extended and included; specs `Heads`; `heads`, what the definition of a
+//! component begins with; specs `Completions`; `completions`, what may be typed; specs `SemanticTokens`;
+//! `semantic_tokens`, what is coloured; `dotted`, which reads names with dots; `laws`.
 #![tactic(auto)]
 
 mod completions;
 mod dotted;
 mod edits;
+mod heads;
 pub mod laws;
 mod names;
 mod pieces;
+mod semantic_tokens;
 mod symbols;
 
 pub use completions::{Completion, CompletionKind, wanted};
 pub use edits::{Edit, edits_of};
+pub use heads::head_of;
 pub use names::{Name, NameKind, names_of, under};
 pub use pieces::{Piece, pieces_of};
+pub use semantic_tokens::{SemanticKind, SemanticToken, semantic_tokens_of};
 pub use symbols::{Symbol, SymbolKind, symbols_of};

@@ -49,8 +49,12 @@ pub fn symbols_of(alloc: Global, text: &str) -> Result<Vec<Symbol>, AllocError>
     symbols_in(alloc, pieces.as_slice(), text.len())
 }
 
-// Those of the pieces, in a text that ends at the byte.
-fn symbols_in(alloc: Global, pieces: &[Piece<'_>], last: usize) -> Result<Vec<Symbol>, AllocError>
+/// Those of the pieces, in a text that ends at the byte.
+pub(crate) fn symbols_in(
+    alloc: Global,
+    pieces: &[Piece<'_>],
+    last: usize,
+) -> Result<Vec<Symbol>, AllocError>
     ensures { IfOk result (λ symbols.
         map outlined symbols.items ≡ outline_of last (map part_of pieces.now)) }
 {
@@ -137,19 +141,19 @@ fn tag_end(last: usize, pieces: &[Piece<'_>]) -> usize
     last
 }
 
-fn begins_tag(token: &Token<'_>) -> bool
+pub(crate) fn begins_tag(token: &Token<'_>) -> bool
     ensures { result ≡ specs.begins_tag (seen token.now) }
 {
     matches!(token, Token::TagStart(_))
 }
 
-fn ends_tag(token: &Token<'_>) -> bool
+pub(crate) fn ends_tag(token: &Token<'_>) -> bool
     ensures { result ≡ specs.ends_tag (seen token.now) }
 {
     matches!(token, Token::TagEnd(_))
 }
 
-fn is_same(kind: SymbolKind, other: SymbolKind) -> bool
+pub(crate) fn is_same(kind: SymbolKind, other: SymbolKind) -> bool
     ensures { result ≡ same_kind kind other }
 {
     kind == other

@@ -1,10 +1,10 @@
-//! The edits of a layout, the pieces of a text with a fault, and the outline and the names of a text, and what
-//! may be typed in it.
+//! The edits of a layout, the pieces of a text with a fault, and the outline, the names and the coloured tokens of a text,
+//! and what may be typed in it.
 
 use std::test::Fail;
 use tera_outline::{
-    Completion, CompletionKind, NameKind, SymbolKind, edits_of, names_of, pieces_of, symbols_of,
-    under, wanted,
+    Completion, CompletionKind, NameKind, SymbolKind, edits_of, head_of, names_of, pieces_of,
+    semantic_tokens_of, symbols_of, under, wanted,
 };
 
 #[test]
@@ -48,6 +48,8 @@ fn outline_of_a_text(rt: HostRuntime) -> Result<(), Fail> {
         shown.as_str(),
         "block a 0..54, at 9..10; component ui.box 13..40, at 26..34; block b 54..67, at 63..64; "
     );
+    assert_eq!(rt; head_of(rt.alloc(), text, "ui.box")?, Some("ui . box()"));
+    assert_eq!(rt; head_of(rt.alloc(), text, "a")?, None);
     Ok(())
 }
 
@@ -59,7 +61,7 @@ fn symbol_word(kind: SymbolKind) -> &'static str {
 }
 
 #[test]
-fn names_in_a_text(rt: HostRuntime) -> Result<(), Fail> {
+fn names_and_coloured_tokens_in_a_text(rt: HostRuntime) -> Result<(), Fail> {
     let text = "{% extends \"base\" %}{{ <ui.box a={b < c}/> < d }}{% </ ui . card> %}";
     let pieces = pieces_of(rt.alloc(), text)?;
     let names = names_of(rt.alloc(), pieces.as_slice())?;
@@ -73,6 +75,23 @@ fn names_in_a_text(rt: HostRuntime) -> Result<(), Fail> {
     assert_eq!(rt;
         shown.as_str(),
         "extended base 11..17; called ui.box 24..30; closed ui.card 55..64; "
+    );
+    let text = "{#\n#}{% set a = b.if | f(x=1) %}{% block c %}{{ <u.b k='l'/> is not d }}\
+        {% component e(g: map, h) %}{{ ? }}";
+    shown.clear();
+    for token in semantic_tokens_of(rt.alloc(), text)? {
+        let kind = token.kind;
+        let told = format!(in rt.alloc(); "{kind:?} {}..{}, ", token.start, token.end)?;
+        shown.push_str(told.as_str())?;
+    }
+    assert_eq!(rt;
+        shown.as_str(),
+        "Comment 0..2, Comment 3..5, Keyword 8..11, Variable 12..13, Operator 14..15, \
+            Variable 16..17, Property 18..20, Operator 21..22, Function 23..24, Parameter 25..26, \
+            Operator 26..27, Number 27..28, Keyword 35..40, Namespace 41..42, Operator 48..49, \
+            Class 49..50, Class 51..52, Parameter 53..54, Operator 54..55, String 55..58, \
+            Operator 58..59, Operator 59..60, Keyword 61..63, Keyword 64..67, Function 68..69, \
+            Keyword 75..84, Class 85..86, Parameter 87..88, Type 90..93, Variable 95..96, "
     );
     Ok(())
 }

@@ -1,0 +1,151 @@
+-- Where the head of a definition is cut out of its text.
+use Rattle.std.proofs.Common.{◌≡◌, ◌<◌, ◌≤◌, ◌++◌, ◌||◌, ℕ, Bool, Some, List, [], ◌∷◌, length, nat_lt, inl, inr, refl, subst, arith}
+use Rattle.std.specs.List.{AllByRecursion, find}
+use Rattle.std.specs.Option.{option_to_list}
+use Rattle.std.specs.Str.{IsCharBoundary, IsUtf8}
+use Rattle.std.proofs.lemmas.Str.Ascii.{IsAscii-cons}
+use Rattle.std.proofs.lemmas.Bool.{cases_Bool}
+use Rattle.std.proofs.lemmas.Bool.Decides.{nat_tests}
+use Rattle.std.proofs.lemmas.Str.{IsUtf8-from_ascii}
+use Rattle.tera_lexer.specs.grammar.Marks.{AreTexts, default_marks}
+use Rattle.tera_lexer.specs.grammar.Tokens.{Items, Ended, Failed, Token}
+use Rattle.tera_lexer.specs.code.Steps.{EachStandsAt}
+use Rattle.tera_lexer.proofs.Standing.{each_stands}
+use Rattle.tera_layout.proofs.Defaults.{default_valid}
+use Rattle.tera_outline.specs.declared.symbols.SymbolKind.{SymbolKind}
+use Rattle.tera_outline.specs.Pieces.{Part, parts_in, ArePartsOf}
+use Rattle.tera_outline.specs.Dotted.{is_name, begins_link, links, dotted, start_of, end_of}
+use Rattle.tera_outline.specs.Symbols.{Outlined, Mark, Opens, Closes, begins_tag, ends_tag, opening, marks, is_open, behind_last, outline, outline_of}
+use Rattle.tera_outline.specs.Heads.{head_end}
+use Rattle.tera_outline.proofs.Nesting.{Ascend}
+use Rattle.tera_outline.proofs.Rising.{a_word, marks_ascend}
+use Rattle.tera_outline.proofs.Stopping.{parts_stand}
+
+-- the part between two bytes can be cut out
+pub record IsCut (text : List ℕ) (start end : ℕ) : Type 0 where
+  pub order : start ≤ end
+  pub begins : IsCharBoundary text start
+  pub ends : IsCharBoundary text end
+
+abbrev AreCut : List ℕ → List Part → Type 0
+AreCut text ps = AllByRecursion (λ (p : Part). IsCut text p.start p.end) ps
+
+-- ---- tokens
+
+two_ascii : (a b : ℕ) → a < 128 → b < 128 → IsUtf8 (a ∷ b ∷ [])
+two_ascii a b h k = IsUtf8-from_ascii (a ∷ b ∷ []) (IsAscii-cons a (b ∷ []) h (IsAscii-cons b [] k (λ i. omega arith)))
+
+default_texts : AreTexts default_marks
+default_texts = record {
+  block_start = two_ascii 123 37 (omega arith) (omega arith);
+  block_end = two_ascii 37 125 (omega arith) (omega arith);
+  variable_start = two_ascii 123 123 (omega arith) (omega arith);
+  variable_end = two_ascii 125 125 (omega arith) (omega arith);
+  comment_start = two_ascii 123 35 (omega arith) (omega arith);
+  comment_end = two_ascii 35 125 (omega arith) (omega arith);
+}
+
+items_cut : (text : List ℕ) (items : Items) → EachStandsAt text items → AreCut text (parts_in items)
+items_cut text Ended h = tt
+items_cut text (Failed t span) h = tt
+items_cut text (Token t span items) (stands, rest) =
+    (record { order = stands.0.0; begins = stands.0.1; ends = stands.0.2 }, items_cut text items rest)
+
+parts_cut : (text : List ℕ) (parts : List Part) → IsUtf8 text → ArePartsOf text parts → AreCut text parts
+parts_cut text parts utf8 (items, tokens, same) =
+    rw same (items_cut text items (each_stands default_marks default_valid default_texts text utf8 items tokens))
+
+-- ---- names
+
+links_cut : (text : List ℕ) (ps : List Part) → AreCut text ps → AreCut text (links ps)
+links_cut text [] h = tt
+links_cut text (p ∷ []) h = tt
+links_cut text (p ∷ q ∷ ps) (a, (b, rest)) = elim (cases_Bool (begins_link (p ∷ q ∷ ps))) [
+  | inl link ↦ let some : links (p ∷ q ∷ ps) ≡ p ∷ q ∷ links ps = rw link refl in rw some (a, (b, links_cut text ps rest))
+  | inr none ↦ let e : links (p ∷ q ∷ ps) ≡ [] = rw none refl in rw e tt
+]
+
+dotted_cut : (text : List ℕ) (ps : List Part) → AreCut text ps → AreCut text (dotted ps)
+dotted_cut text [] h = tt
+dotted_cut text (p ∷ ps) (a, rest) = elim (cases_Bool (is_name p.token)) [
+  | inl name ↦ let some : dotted (p ∷ ps) ≡ p ∷ links ps = rw name refl in rw some (a, links_cut text ps rest)
+  | inr none ↦ let e : dotted (p ∷ ps) ≡ [] = rw none refl in rw e tt
+]
+
+end_cut : (text : List ℕ) (p : Part) (ps : List Part) → AreCut text (p ∷ ps) → IsCharBoundary text (end_of (p ∷ ps))
+end_cut text p [] h = h.0.ends
+end_cut text p (q ∷ ps) (a, rest) = end_cut text q ps rest
+
+-- ---- tags, by the ends of their names
+
+record IsNameCut (text : List ℕ) (start end : ℕ) : Type 0 where
+  begins : IsCharBoundary text start
+  ends : IsCharBoundary text end
+
+abbrev AreNamesCut : List ℕ → List Mark → Type 0
+AreNamesCut text [] = Unit {0}
+AreNamesCut text (Opens k start name ∷ ms) = IsNameCut text (start_of name) (end_of name) × AreNamesCut text ms
+AreNamesCut text (Closes k start end ∷ ms) = AreNamesCut text ms
+
+opened_cut : (text : List ℕ) (k : SymbolKind) (start : ℕ) (name : List Part) (ms : List Mark) → AreCut text name → AreNamesCut text ms
+    → AreNamesCut text (option_to_list (opening k start name) ++ ms)
+opened_cut text k start [] ms h rest = rest
+opened_cut text k start (n ∷ ns) ms h rest = (record { begins = h.0.begins; ends = end_cut text n ns h }, rest)
+
+marks_cut : (text : List ℕ) (last : ℕ) (ps : List Part) → AreCut text ps → AreNamesCut text (marks last ps)
+marks_cut text last [] h = tt
+marks_cut text last (p ∷ []) h = tt
+marks_cut text last (p ∷ w ∷ ps) (a, (b, rest)) =
+    let behind = marks_cut text last (w ∷ ps) (b, rest) in
+    elim (cases_Bool (begins_tag p.token)) [
+      | inl tag ↦
+          rw tag
+          (a_word (AreNamesCut text) last p.start w.token ps (marks last (w ∷ ps)) behind
+          (λ k. opened_cut text k p.start (dotted ps) (marks last (w ∷ ps)) (dotted_cut text ps rest) behind)
+          (λ k. behind))
+      | inr none ↦ rw none behind
+    ]
+
+outline_cut : (text : List ℕ) (from last : ℕ) (around : List SymbolKind) (ms : List Mark) → Ascend from last ms → AreNamesCut text ms
+    → AllByRecursion (λ (s : Outlined). IsCut text s.name_start s.name_end) (outline last around ms)
+outline_cut text from last around [] h cut = tt
+outline_cut text from last around (Opens k start name ∷ ms) (a, b, c, rest) (named, cut) =
+    (record { order = omega arith; begins = named.begins; ends = named.ends }, outline_cut text (end_of name) last (k ∷ around) ms rest cut)
+outline_cut text from last around (Closes k start end ∷ ms) (a, b, rest) cut = elim (cases_Bool (is_open k around)) [
+  | inl is ↦ rw is (outline_cut text end last (behind_last k around) ms rest cut)
+  | inr none ↦ rw none (outline_cut text end last around ms rest cut)
+]
+
+-- ---- the head
+
+find_among : (P : Outlined → Type 0) (test : Outlined → Bool) (ss : List Outlined) (s : Outlined) → AllByRecursion P ss → find test ss ≡ Some s → P s
+find_among P test [] s all is = cc
+find_among P test (t ∷ ss) s (a, rest) is = elim (cases_Bool (test t)) [
+  | inl passes ↦ let e : Some t ≡ Some s = rw passes at is in subst P (some_one t s e) a
+  | inr fails ↦ let e : find test ss ≡ Some s = rw fails at is in find_among P test ss s rest e
+]
+  where
+    some_one : (t s : Outlined) → Some t ≡ Some s → t ≡ s
+    some_one t s e = cc
+
+end_of_head : (text : List ℕ) (from byte : ℕ) (ps : List Part) → IsCut text from byte → AreCut text ps → IsCut text from (head_end byte ps)
+end_of_head text from byte [] h all = h
+end_of_head text from byte (p ∷ ps) h (a, rest) = elim (cases_Bool (nat_lt p.start byte)) [
+  | inl before ↦ rw before (end_of_head text from byte ps h rest)
+  | inr behind ↦ elim (cases_Bool (ends_tag p.token || begins_tag p.token)) [
+    | inl stops ↦ rw (behind, stops) h
+    | inr goes_on ↦
+        rw (behind, goes_on)
+        (end_of_head text from p.end ps
+        (record { order = grind (arith, nat_tests, h.order, a.order, behind); begins = h.begins; ends = a.ends }) rest)
+  ]
+]
+
+pub head_cut : (text : List ℕ) (parts : List Part) (test : Outlined → Bool) (s : Outlined) → IsUtf8 text → ArePartsOf text parts
+    → find test (outline_of (length text) parts) ≡ Some s → IsCut text s.name_start (head_end s.name_end parts)
+head_cut text parts test s utf8 are found =
+    let cut = parts_cut text parts utf8 are in
+    let tags = marks (length text) parts in
+    let named = outline_cut text 0 (length text) [] tags (marks_ascend 0 (length text) parts (parts_stand text parts are)) (marks_cut text (length text) parts cut) in
+    end_of_head text s.name_start s.name_end parts
+    (find_among (λ (o : Outlined). IsCut text o.name_start o.name_end) test (outline_of (length text) parts) s named found) cut
