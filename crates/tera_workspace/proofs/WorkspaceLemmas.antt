@@ -7,6 +7,7 @@ use Rattle.std.proofs.lemmas.List.{map-append}
 use Rattle.text_documents.specs.Documents.{DocumentVal, text_of}
 use Rattle.text_documents.specs.Stored.{document_of, IsChangedAt, AreSame}
 use Rattle.text_documents.specs.declared.documents.Documents.{Documents}
+use Rattle.tera_workspace.specs.Components.{files_by}
 use Rattle.tera_workspace.specs.Definitions.{file_by, AreRead}
 use Rattle.tera_workspace.specs.Fresh.{AreFresh}
 use Rattle.tera_workspace.specs.Kept.{name_of, sources_of, templates_of, told_of, told_named, AllWhole, AreCurrent, StayKept}
@@ -109,6 +110,10 @@ are_read w k none = record {
   read = all_read w.judged.items k.whole;
   definitions = λ n. refl;
   files = λ n. ap (λ names. file_by w.documents names n) (names_are w.judged.items);
+  texts = refl;
+  components = refl;
+  parameters = λ n. refl;
+  there = ap (files_by w.documents) (names_are w.judged.items);
 }
 
 -- ---- all was told

@@ -1,4 +1,4 @@
--- Where components are defined, and which files have a name, in documents as they are.
+-- Where components are defined, which files have a name, and which texts they have, in documents as they are.
 use Rattle.std.specs.Prelude.{◌≡◌, ◌&&◌, ℕ, nat_eq, List, Bool, map, string_bytes, Option}
 use Rattle.std.specs.List.{find, ends_with}
 use Rattle.std.specs.Option.{option_map, is_some}
@@ -10,11 +10,13 @@ use Rattle.text_edits.specs.declared.positions.Position.{Position}
 use Rattle.tera_check.specs.Judged.{KnownVal}
 use Rattle.tera_check.specs.Named.{first_named, defined_by}
 use Rattle.tera_check.specs.declared.templates.Template.{Template}
+use Rattle.tera_workspace.specs.Components.{components_by, parameters_by, files_by, components_of, parameters_of_name, files_of}
 use Rattle.tera_workspace.specs.Diagnostics.{position_in}
 use Rattle.tera_workspace.specs.Fresh.{AreTemplates}
 use Rattle.tera_workspace.specs.Kept.{name_of, sources_of, templates_of}
 use Rattle.tera_workspace.specs.Sources.{Source, AreSources, text_named}
 use Rattle.tera_workspace.specs.declared.definitions.Definition.{Definition}
+use Rattle.tera_workspace.specs.declared.texts.FileText.{FileText}
 use Rattle.tera_workspace.specs.declared.workspace.Workspace.{Workspace}
 
 -- a file, and the part of its text in which the name of a component stands, where it is defined
@@ -52,6 +54,13 @@ definition_of_name w name = definition_by w.encoding (sources_of w.judged.items)
 abbrev pub file_of_ending : Workspace → List ℕ → Option (List ℕ)
 file_of_ending w ending = file_by w.documents (map name_of w.judged.items) ending
 
+-- the documents that were read, with their texts
+abbrev pub text_view : FileText → Source
+text_view t = record { name = t.file.now; text = t.text.now }
+
+abbrev pub texts_read : Workspace → List Source
+texts_read w = sources_of w.judged.items
+
 -- the documents were read as they are: what is found by them is what is found by their texts, wherever that is computed
 pub record AreRead (w : Workspace) : Type 0 where
   pub sources : List Source
@@ -60,3 +69,7 @@ pub record AreRead (w : Workspace) : Type 0 where
   pub read : AreTemplates sources templates
   pub definitions : (n : List ℕ) → definition_of_name w n ≡ definition_by w.encoding sources templates n
   pub files : (n : List ℕ) → file_of_ending w n ≡ file_by w.documents (map (λ s. s.name) sources) n
+  pub texts : texts_read w ≡ sources
+  pub components : components_of w ≡ components_by templates
+  pub parameters : (n : List ℕ) → parameters_of_name w n ≡ parameters_by templates n
+  pub there : files_of w ≡ files_by w.documents (map (λ s. s.name) sources)

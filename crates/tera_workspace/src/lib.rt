@@ -4,14 +4,16 @@
 //! `text_edits` in the place of spans. After an edit the document is read again, unless it has the text that was judged;
 //! judged again are it and those that name a component that may be another now, or that were told a place in it: all of
 //! them, where the document is new.
-//! It tells where a component is defined, too.
+//! It tells which components and files there are, which parameters a component has and where it is defined, and which texts
+//! it has read, too.
 //!
 //! In the order of reading: specs `Sources`, `Diagnostics`, `Fresh`, `Workspaces`; `diagnostics`; `judged`, a document as
-//! it was judged; `reading`, and `touched`, what a new text changes for others; `catalogue`; `news`; specs `Definitions`;
-//! `definitions`; `workspace`.
+//! it was judged; `reading`, and `touched`, what a new text changes for others; `catalogue`; `news`; specs `Components` and
+//! `Definitions`; `components`, `definitions` and `texts`; `workspace`.
 #![tactic(auto)]
 
 mod catalogue;
+mod components;
 mod definitions;
 mod diagnostics;
 mod judged;
@@ -20,9 +22,11 @@ mod lined_text;
 mod names;
 mod news;
 mod reading;
+mod texts;
 mod touched;
 mod workspace;
 
 pub use definitions::Definition;
 pub use diagnostics::{Diagnostic, Related};
+pub use texts::FileText;
 pub use workspace::Workspace;

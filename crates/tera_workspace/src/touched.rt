@@ -41,7 +41,8 @@ pub(crate) fn touched_names(
     Ok(touched)
 }
 
-fn definitions_of(template: &Template) -> &[ComponentDefinition]
+/// The components that the template defines.
+pub(crate) fn definitions_of(template: &Template) -> &[ComponentDefinition]
     ensures { map definition_view result.now ≡ definitions_of template.now.parsed }
 {
     match &template.parsed {

@@ -5,15 +5,18 @@ ghost use Rattle.std.specs.Option.{option_map, is_some};
 ghost use Rattle.text_edits.specs.Edits.{change_view};
 ghost use Rattle.text_documents.specs.Documents.{no_document, text_of, opened, changed, closed, written, removed};
 ghost use Rattle.text_documents.specs.Stored.{document_of, IsChangedAt, AreSame};
-ghost use Rattle.tera_workspace.specs.Definitions.{definition_view, definition_of_name, file_of_ending, is_file, AreRead};
+ghost use Rattle.tera_workspace.specs.Components.{components_of, parameters_of_name, files_of};
+ghost use Rattle.tera_workspace.specs.Definitions.{definition_view, definition_of_name, file_of_ending, is_file, text_view, texts_read, AreRead};
 ghost use Rattle.tera_workspace.specs.Diagnostics.{diagnostic_view};
 ghost use Rattle.tera_workspace.specs.Workspaces.{told_of_name, IsKept, IsSettled, AreOthers};
 
+use crate::components::{components_of, files_of, parameters_in};
 use crate::definitions::{Definition, definition_in};
 use crate::diagnostics::Diagnostic;
 use crate::judged::{Judged, number_of};
 use crate::news::{names_of, news_of, tell};
 use crate::reading::read_changed;
+use crate::texts::{FileText, texts_of};
 use std::alloc::{AllocError, Global};
 use text_documents::Documents;
 use text_edits::{Change, Encoding};
@@ -134,8 +137,8 @@ impl Workspace {
         }
     }
 
-    /// Reads the documents that changed, for `definition_of` and `file_of`. What was told stays. On want of memory some may
-    /// be read.
+    /// Reads the documents that changed, by which components, files and texts are told. What was told stays. On want of memory
+    /// some may be read.
     pub fn read(&mut self, alloc: Global) -> Result<(), AllocError>
         ensures encoding { self.new.encoding ≡ self.old.encoding }
         ensures documents { AreSame self.old.documents self.new.documents }
@@ -166,6 +169,37 @@ impl Workspace {
             }
         }
         None
+    }
+
+    /// The files that were read, in the order of their names, each with its text. A file that is gone has the empty one, or
+    /// is not among them.
+    pub fn texts(&self, alloc: Global) -> Result<Vec<FileText<'_>>, AllocError>
+        ensures { IfOk result (λ texts. map text_view texts.items ≡ texts_read self.now) }
+    {
+        texts_of(alloc, &self.judged)
+    }
+
+    /// The names of the components that the documents define that were read, in the order of the documents and of their
+    /// definitions. One with a fault defines none.
+    pub fn components(&self, alloc: Global) -> Result<Vec<&str>, AllocError>
+        ensures { IfOk result (λ v. map (λ n. n.now) v.items ≡ components_of self.now) }
+    {
+        components_of(alloc, &self.judged)
+    }
+
+    /// The names of the parameters of a component, in their order, as far as documents were read: by the first of them that
+    /// defines it; none where none does.
+    pub fn parameters_of(&self, alloc: Global, name: &str) -> Result<Vec<&str>, AllocError>
+        ensures { IfOk result (λ v. map (λ n. n.now) v.items ≡ parameters_of_name self.now name.now) }
+    {
+        parameters_in(alloc, &self.judged, name)
+    }
+
+    /// The files that were read and are there, in the order of their names.
+    pub fn files(&self, alloc: Global) -> Result<Vec<&str>, AllocError>
+        ensures { IfOk result (λ v. map (λ f. f.now) v.items ≡ files_of self.now) }
+    {
+        files_of(alloc, &self.documents, &self.judged)
     }
 
     /// Finds anew what the documents have that changed, and those whose findings may be others by that. The answer names

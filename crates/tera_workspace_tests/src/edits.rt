@@ -1,7 +1,6 @@
 //! Random edits, beside a workspace that is opened anew with the texts as they are.
 
 use std::alloc::{AllocError, Global};
-use std::process::Abort;
 use std::test::Fail;
 use tera_workspace::Workspace;
 use text_edits::{Change, Encoding, Position};
@@ -39,14 +38,14 @@ impl Random {
         (self.0 >> 33) as usize % limit.max(1)
     }
 
-    fn piece(&mut self) -> &'static str {
-        PIECES[self.below(12) % 12]
+    fn one_of(&mut self, texts: &[&'static str]) -> &'static str {
+        texts.get(self.below(texts.len())).copied().unwrap_or("")
     }
 
     fn text(&mut self, alloc: Global) -> Result<String, AllocError> {
         let mut text = String::new(alloc);
         for _piece in 0..self.below(5) {
-            text.push_str(self.piece())?;
+            text.push_str(self.one_of(&PIECES))?;
         }
         Ok(text)
     }
@@ -60,12 +59,16 @@ impl Random {
             line: start.line,
             character: start.character.saturating_add(self.below(3)),
         };
-        Change::Part(start, end, self.piece())
+        Change::Part(start, end, self.one_of(&PIECES))
     }
 }
 
-fn one_step(alloc: Global, random: &mut Random, workspace: &mut Workspace) -> Result<(), Fail> {
-    let name = NAMES[random.below(5) % 5];
+fn one_step(
+    alloc: Global,
+    random: &mut Random,
+    workspace: &mut Workspace,
+) -> Result<(), AllocError> {
+    let name = random.one_of(&NAMES);
     match random.below(8) {
         0 => workspace.open(alloc, name, random.text(alloc)?.as_str())?,
         1 => workspace.set_file(alloc, name, random.text(alloc)?.as_str())?,
@@ -79,37 +82,48 @@ fn one_step(alloc: Global, random: &mut Random, workspace: &mut Workspace) -> Re
     Ok(())
 }
 
-fn is_as_anew(
-    rt: &impl Abort,
-    alloc: Global,
-    encoding: Encoding,
-    workspace: &Workspace,
-) -> Result<(), Fail> {
+// A workspace that is opened with the texts of this one.
+fn anew(alloc: Global, encoding: Encoding, workspace: &Workspace) -> Result<Workspace, AllocError> {
     let mut anew = Workspace::new(alloc, encoding);
-    for name in NAMES {
+    for name in &NAMES {
         if let Some(text) = workspace.text(name) {
             anew.set_file(alloc, name, text)?;
         }
     }
     anew.settle(alloc)?;
-    for name in NAMES {
-        assert_eq!(rt; workspace.told(name), anew.told(name));
+    Ok(anew)
+}
+
+fn tell_the_same(one: &Workspace, other: &Workspace) -> bool {
+    for name in &NAMES {
+        if one.told(name) != other.told(name) {
+            return false;
+        }
     }
-    Ok(())
+    true
+}
+
+fn one_round(
+    alloc: Global,
+    random: &mut Random,
+    encoding: Encoding,
+    workspace: &mut Workspace,
+) -> Result<bool, AllocError> {
+    for _step in 0..random.below(4) {
+        one_step(alloc, random, workspace)?;
+    }
+    workspace.settle(alloc)?;
+    Ok(tell_the_same(workspace, &anew(alloc, encoding, workspace)?))
 }
 
 #[test]
 fn what_is_told_is_as_anew(rt: HostRuntime) -> Result<(), Fail> {
-    let alloc = rt.alloc();
     let mut random = Random(1);
-    for encoding in ENCODINGS {
-        let mut workspace = Workspace::new(alloc, encoding);
-        for _round in 0..300 {
-            for _step in 0..random.below(4) {
-                one_step(alloc, &mut random, &mut workspace)?;
-            }
-            workspace.settle(alloc)?;
-            is_as_anew(&rt, alloc, encoding, &workspace)?;
+    for encoding in &ENCODINGS {
+        let mut workspace = Workspace::new(rt.alloc(), *encoding);
+        for round in 0..300 {
+            let is_same = one_round(rt.alloc(), &mut random, *encoding, &mut workspace)?;
+            assert!(rt; is_same, "{encoding:?}, round {round}");
         }
     }
     Ok(())
