@@ -1,5 +1,6 @@
 pub mod ArrayLemmas
 pub mod AskLemmas
+pub mod CompletionLemmas
 pub mod EditorLemmas
 pub mod FindingLemmas
 pub mod ForestLemmas
@@ -9,8 +10,11 @@ pub mod LayoutLemmas
 pub mod NameLemmas
 pub mod NestingLemmas
 pub mod PublishLemmas
+pub mod ReferenceLemmas
 pub mod RequestLemmas
 pub mod SelectionLemmas
 pub mod StayLemmas
 pub mod StepLemmas
+pub mod TemplateNames
+pub mod TokenLemmas
 pub mod WithName

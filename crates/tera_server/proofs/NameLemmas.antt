@@ -1,5 +1,5 @@
 -- Names that are added one behind another.
-use Rattle.std.proofs.Common.{◌≡◌, ◌∙◌, ◌<◌, ◌+◌, ◌++◌, ◌∷◌, [], ℕ, suc, List, length, drop, get_or, drop-cons, add-one, Option, None, Some, refl, sym, ap, subst, append_assoc}
+use Rattle.std.proofs.Common.{◌≡◌, ◌∙◌, ◌<◌, ◌+◌, ◌++◌, ◌∷◌, [], ℕ, List, length, drop, get_or, drop-cons, add-one, Option, None, Some, refl, sym, ap, subst, append_assoc}
 use Rattle.std.proofs.lemmas.List.{append-nil}
 use Rattle.tera_server.specs.Requests.{AreNames, AddsName}
 
@@ -16,5 +16,8 @@ pub follow_done : (all : List (Option (List ℕ))) (names : List (List ℕ)) →
 follow_done all names h = subst (λ ns. AreNames all ns) (append-nil names) (h [] refl)
 
 -- one element more
+pub drop_at : {X : Type 0} (xs : List X) (i : ℕ) (x : X) → i < length xs → drop i xs ≡ get_or xs i x ∷ drop (i + 1) xs
+drop_at xs i x within = drop-cons xs i x within ∙ rw (add-one i) refl
+
 pub drop_next : {X : Type 0} (xs : List X) (i : ℕ) (x : X) → i < length xs → x ≡ get_or xs i x → drop i xs ≡ x ∷ drop (i + 1) xs
-drop_next xs i x within is = drop-cons xs i x within ∙ rw (add-one i) (ap (λ y. y ∷ drop (suc i) xs) (sym is))
+drop_next xs i x within is = drop_at xs i x within ∙ ap (λ y. y ∷ drop (i + 1) xs) (sym is)

@@ -14,7 +14,7 @@ use Rattle.tera_workspace.specs.declared.workspace.Workspace.{Workspace}
 use Rattle.text_documents.specs.Stored.{AreSame}
 use Rattle.tera_server.specs.Editors.{stand_of}
 use Rattle.tera_server.specs.Sending.{with_all, found_message, unless_lost, messages_in, messages_of, SendsFirst, untold_of, names_beside}
-use Rattle.tera_server.specs.Settling.{IsSettling, ArePublished, ArePublishedInPart, OnlyTells}
+use Rattle.tera_server.specs.Settling.{due_of, IsSettling, ArePublished, ArePublishedInPart, OnlyTells}
 use Rattle.tera_server.specs.States.{edited_of}
 use Rattle.tera_server.specs.declared.editor.Editor.{Editor}
 use Rattle.tera_server.specs.declared.server.Phase.{Phase}
@@ -165,110 +165,84 @@ is_other before now names n same differs = by (is_among n names) same
 
 -- ---- what is published in part
 
--- nothing was found anew
-pub part_before : (s t : Server) (old now : Outgoing) → t ≡ s → SendsFirst (messages_of s) (untold_of s) old now → ArePublishedInPart s t old now
-part_before s t old now same (first, rest, whole, sent) = record {
-  before = first;
-  names = [];
-  sent = sent ∙ ap (with_all old) (sym (append-nil (messages_of s first)));
-  untold = λ n h. inr (subst (λ u. is_among n (untold_of u) ≡ true) (sym same) h);
-  others = λ kept n differs. absurd (differs (ap (λ u. told_of_name u.workspace n) same));
-  edited = λ n h. inr (inr (subst (λ u. is_among n (edited_of u) ≡ true) (sym same) h));
-  only = λ n h. inl (subst (λ ns. is_among n ns ≡ true) (sym whole) (among_left n first rest (subst (λ ns. is_among n ns ≡ true) (append-nil first) h)));
-}
-
--- all that was to be published still was
-pub part_behind : (s t : Server) (old now : Outgoing) (names : List (List ℕ)) → now ≡ with_all old (messages_of s (untold_of s) ++ messages_of t names) →
-    (IsKept s.workspace → (n : List ℕ) → (told_of_name t.workspace n ≡ told_of_name s.workspace n → ⊥) → is_among n (untold_of t) ≡ true) →
-    ((n : List ℕ) → is_among n (edited_of s) ≡ true → (is_among n names ≡ true) ⊎ ((is_among n (untold_of t) ≡ true) ⊎ (is_among n (edited_of t) ≡ true))) →
-    ((n : List ℕ) → is_among n names ≡ true → (is_among n (edited_of s) ≡ true) ⊎ (is_among n (untold_of t) ≡ true)) →
-    ArePublishedInPart s t old now
-part_behind s t old now names sent others edited only = record {
-  before = untold_of s;
-  names = names;
-  sent = sent;
-  untold = λ n h. inl h;
-  others = others;
-  edited = edited;
-  only = λ n h. elim (among_either n (untold_of s) names h) [ inl e ↦ inl e | inr e ↦ inr (only n e) ];
-}
-
 abbrev pub Names : Type 0
 Names = Vec (String Global) Global
 
 abbrev pub names_of : Names → List (List ℕ)
 names_of v = map string_bytes v.items
 
--- the server behind that, when w was found: what is to be published still, and the documents that were edited, are others
+-- the server behind that, when w was found: what is to be published is something else
 abbrev pub with_found : Server → Workspace → Names → Names → Server
 with_found s w untold edited = record s { workspace = w; untold = untold; edited = edited }
 
--- nothing was found anew, since no memory was
-pub part_unfound : (s : Server) (w : Workspace) (untold : Names) (old now : Outgoing) → now ≡ with_all old (messages_of s (untold_of s)) →
-    ((n : List ℕ) → told_of_name w n ≡ told_of_name s.workspace n) → ArePublishedInPart s (with_found s w untold s.edited) old now
-part_unfound s w untold old now sent same =
-    part_behind s (with_found s w untold s.edited) old now []
-    (sent ∙ ap (with_all old) (sym (append-nil (messages_of s (untold_of s)))))
-    (λ kept n differs. absurd (differs (same n)))
-    (λ n h. inr (inr h))
-    (λ n h. absurd (cc))
+-- nothing was found, and nothing is published
+pub part_unfound : (s : Server) (w : Workspace) (untold edited : Names) (old : Outgoing) → ((n : List ℕ) → told_of_name w n ≡ told_of_name s.workspace n) →
+    due_of (with_found s w untold edited) ≡ due_of s → ArePublishedInPart s (with_found s w untold edited) old old
+part_unfound s w untold edited old same due = record {
+  names = [];
+  sent = sym (with_none old);
+  others = λ kept n differs. absurd (differs (same n));
+  due = λ n h. inr (subst (λ ns. is_among n ns ≡ true) (sym due) h);
+  only = λ n h. absurd (cc);
+}
 
--- some of those that were edited were published
-pub part_edited : (s : Server) (w : Workspace) (untold : Names) (old mid now : Outgoing) → mid ≡ with_all old (messages_of s (untold_of s)) →
-    (IsKept s.workspace → AreOthers (names_of untold) (told_of_name s.workspace) (told_of_name w)) →
-    SendsFirst (λ ns. messages_in s.editor s.client.related w (names_beside (names_of untold) ns)) (edited_of s) mid now →
-    ArePublishedInPart s (with_found s w untold s.edited) old now
-part_edited s w untold old mid now before others (first, rest, whole, sent) =
-    let names = names_beside (names_of untold) first in
-    let messages = messages_in s.editor s.client.related w names in
-    part_behind s (with_found s w untold s.edited) old now names
-    (sent ∙ ap (λ o. with_all o messages) before ∙ with_twice old (messages_of s (untold_of s)) messages)
-    (λ kept n differs. is_other (told_of_name s.workspace) (told_of_name w) (names_of untold) n ((others kept).same n) differs)
-    (λ n h. inr (inr h))
-    (λ n h. inl (subst (λ ns. is_among n ns ≡ true) (sym whole) (among_left n first rest (among_beside n (names_of untold) first h))))
+-- some of those that were due were published
+pub part_due : (s : Server) (w : Workspace) (others due : Names) (old now : Outgoing) → names_of due ≡ due_of s →
+    (IsKept s.workspace → AreOthers (names_of others) (told_of_name s.workspace) (told_of_name w)) →
+    SendsFirst (λ ns. messages_in s.editor s.client.related w (names_beside (names_of others) ns)) (names_of due) old now →
+    ArePublishedInPart s (with_found s w others due) old now
+part_due s w others due old now is are (first, rest, whole, sent) = record {
+  names = names_beside (names_of others) first;
+  sent = sent;
+  others = λ kept n differs. is_other (told_of_name s.workspace) (told_of_name w) (names_of others) n ((are kept).same n) differs;
+  due = λ n h. inr (among_left n (names_of due) (names_of others) (subst (λ ns. is_among n ns ≡ true) (sym is) h));
+  only = λ n h. inl (subst (λ ns. is_among n ns ≡ true) (sym whole ∙ is) (among_left n first rest (among_beside n (names_of others) first h)));
+}
 
--- in three parts
-joined : (s : Server) (w : Workspace) (old mid next now : Outgoing) (beside others : List (List ℕ)) → mid ≡ with_all old (messages_of s (untold_of s)) →
-    next ≡ with_all mid (messages_in s.editor s.client.related w beside) → now ≡ with_all next (messages_in s.editor s.client.related w others) →
-    now ≡ with_all old (messages_of s (untold_of s) ++ messages_in s.editor s.client.related w (beside ++ others))
-joined s w old mid next now beside others before more sent =
+-- in two parts
+joined : (s : Server) (w : Workspace) (old next now : Outgoing) (beside others : List (List ℕ)) →
+    next ≡ with_all old (messages_in s.editor s.client.related w beside) → now ≡ with_all next (messages_in s.editor s.client.related w others) →
+    now ≡ with_all old (messages_in s.editor s.client.related w (beside ++ others))
+joined s w old next now beside others more sent =
     let messages = messages_in s.editor s.client.related w in
     sent
     ∙ ap (λ o. with_all o (messages others)) more
-    ∙ with_twice mid (messages beside) (messages others)
-    ∙ ap (with_all mid) (sym (messages_join s.editor s.client.related w beside others))
-    ∙ ap (λ o. with_all o (messages (beside ++ others))) before
-    ∙ with_twice old (messages_of s (untold_of s)) (messages (beside ++ others))
+    ∙ with_twice old (messages beside) (messages others)
+    ∙ ap (with_all old) (sym (messages_join s.editor s.client.related w beside others))
 
 -- .. all of them, and some of those of which something else is told
-pub part_others : (s : Server) (w : Workspace) (untold edited : Names) (old mid next now : Outgoing) → mid ≡ with_all old (messages_of s (untold_of s)) →
-    (IsKept s.workspace → AreOthers (names_of untold) (told_of_name s.workspace) (told_of_name w)) →
-    next ≡ with_all mid (messages_in s.editor s.client.related w (names_beside (names_of untold) (edited_of s))) →
-    SendsFirst (messages_in s.editor s.client.related w) (names_of untold) next now →
-    ArePublishedInPart s (with_found s w untold edited) old now
-part_others s w untold edited old mid next now before others more (first, rest, whole, sent) =
-    let beside = names_beside (names_of untold) (edited_of s) in
-    let messages = messages_in s.editor s.client.related w in
-    part_behind s (with_found s w untold edited) old now (beside ++ first)
-    (joined s w old mid next now beside first before more sent)
-    (λ kept n differs. is_other (told_of_name s.workspace) (told_of_name w) (names_of untold) n ((others kept).same n) differs)
-    (λ n h. elim (beside_or_among n (names_of untold) (edited_of s) h) [ inl e ↦ inl (among_left n beside first e) | inr e ↦ inr (inl e) ])
-    (λ n h. elim (among_either n beside first h) [
-      | inl e ↦ inl (among_beside n (names_of untold) (edited_of s) e)
-      | inr e ↦ inr (subst (λ ns. is_among n ns ≡ true) (sym whole) (among_left n first rest e))
-    ])
+pub part_others : (s : Server) (w : Workspace) (others edited : Names) (old next now : Outgoing) →
+    (IsKept s.workspace → AreOthers (names_of others) (told_of_name s.workspace) (told_of_name w)) →
+    next ≡ with_all old (messages_in s.editor s.client.related w (names_beside (names_of others) (due_of s))) →
+    SendsFirst (messages_in s.editor s.client.related w) (names_of others) next now →
+    ArePublishedInPart s (with_found s w others edited) old now
+part_others s w others edited old next now are more (first, rest, whole, sent) =
+    let beside = names_beside (names_of others) (due_of s) in
+    record {
+      names = beside ++ first;
+      sent = joined s w old next now beside first more sent;
+      others = λ kept n differs. is_other (told_of_name s.workspace) (told_of_name w) (names_of others) n ((are kept).same n) differs;
+      due = λ n h. elim (beside_or_among n (names_of others) (due_of s) h) [
+        | inl e ↦ inl (among_left n beside first e)
+        | inr e ↦ inr (among_right n (names_of edited) (names_of others) e)
+      ];
+      only = λ n h. elim (among_either n beside first h) [
+        | inl e ↦ inl (among_beside n (names_of others) (due_of s) e)
+        | inr e ↦ inr (subst (λ ns. is_among n ns ≡ true) (sym whole) (among_left n first rest e))
+      ];
+    }
 
 -- all
-pub published_whole : (s : Server) (w : Workspace) (others untold edited : Names) (old mid next now : Outgoing) → mid ≡ with_all old (messages_of s (untold_of s)) →
+pub published_whole : (s : Server) (w : Workspace) (others untold edited : Names) (old next now : Outgoing) →
     (IsKept s.workspace → IsSettled w) → (IsKept s.workspace → AreOthers (names_of others) (told_of_name s.workspace) (told_of_name w)) →
-    next ≡ with_all mid (messages_in s.editor s.client.related w (names_beside (names_of others) (edited_of s))) →
+    next ≡ with_all old (messages_in s.editor s.client.related w (names_beside (names_of others) (due_of s))) →
     now ≡ with_all next (messages_in s.editor s.client.related w (names_of others)) → names_of untold ≡ [] → names_of edited ≡ [] →
     ArePublished s (with_found s w untold edited) old now
-published_whole s w others untold edited old mid next now before settled are more sent no_untold no_edited = record {
+published_whole s w others untold edited old next now settled are more sent no_untold no_edited = record {
   settled = settled;
   others = names_of others;
   are = are;
-  sent = joined s w old mid next now (names_beside (names_of others) (edited_of s)) (names_of others) before more sent;
+  sent = joined s w old next now (names_beside (names_of others) (due_of s)) (names_of others) more sent;
   untold = no_untold;
   edited = no_edited;
 }

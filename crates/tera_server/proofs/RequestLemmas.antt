@@ -1,5 +1,5 @@
 -- What requests are given, by what they ask and when.
-use Rattle.std.proofs.Common.{◌≡◌, ◌∙◌, ◌++◌, ◌∷◌, [], ℕ, List, Option, Result, Ok, Err, Vec, refl, sym, ap, subst, append_assoc}
+use Rattle.std.proofs.Common.{◌≡◌, ◌∙◌, ◌++◌, ◌∷◌, [], ℕ, List, Option, Some, None, Result, Ok, Err, Vec, MatchResult, ◌⊎◌, inl, inr, refl, sym, ap, subst, append_assoc}
 use Rattle.std.specs.declared.alloc.Global.{Global}
 use Rattle.json.specs.Json.{Json, null}
 use Rattle.json.specs.Print.{print}
@@ -9,11 +9,18 @@ use Rattle.json_rpc.specs.Ids.{IdVal, NullId, NumberId, TextId}
 use Rattle.json_rpc.specs.Writing.{body, answer, answer_begin}
 use Rattle.tera_server.specs.Abilities.{abilities_json}
 use Rattle.tera_server.specs.Clients.{client_in}
+use Rattle.tera_workspace.specs.Definitions.{AreRead}
 use Rattle.tera_workspace.specs.Workspaces.{IsKept}
 use Rattle.json_rpc.specs.declared.code.Code.{Code}
-use Rattle.tera_server.specs.Requests.{IsBegun, Gives, Remains, IsAnsweredBy}
+use Rattle.json_rpc.specs.declared.code.Code.TheVariants.{InternalError}
+use Rattle.text_documents.specs.Documents.{text_of}
+use Rattle.text_documents.specs.Stored.{document_of}
+use Rattle.text_edits.specs.declared.positions.Position.{Position}
+use Rattle.tera_server.specs.Editors.{stand_of}
+use Rattle.tera_server.specs.Notes.{document_in, uri_told}
+use Rattle.tera_server.specs.Requests.{IsBegun, HasRead, IsOffered, place_in, RefusesStand, RefusesPlace, Gives, Remains, IsAnsweredBy}
 use Rattle.tera_server.specs.declared.requests.Asked.{Asked}
-use Rattle.tera_server.specs.declared.requests.Asked.TheVariants.{Initialize, Shutdown, Formatting, Symbols, Definition, Other}
+use Rattle.tera_server.specs.declared.requests.Asked.TheVariants.{Initialize, Shutdown, Formatting, Symbols, Definition, Hover, References, Completion, SemanticTokens, Other}
 use Rattle.tera_server.specs.declared.server.Phase.{Phase}
 use Rattle.tera_server.specs.declared.server.Phase.TheVariants.{New, Running, ShutDown}
 use Rattle.tera_server.specs.declared.server.Server.{Server}
@@ -42,6 +49,28 @@ answered id j first items tokens is none written =
     ∙ ap (λ bs. bs ++ print (tokens ++ end_object ∷ [])) none
     ∙ ap print (ap (λ ts. ts ++ end_object ∷ []) written ∙ append_assoc (answer_begin id) (json_tokens j) (end_object ∷ []) ∙ completed id j)
 
+-- ---- what refuses a place behind documents that were read refuses it before
+
+pub refused_before : (position : Option Position) (uri : Option (List ℕ)) (s t : Server) (code : Code) → HasRead s t → RefusesPlace position uri t code → RefusesPlace position uri s code
+refused_before None uri s t code h r = r
+refused_before (Some position) None s t code h r = r
+refused_before (Some position) (Some uri) s t code h (name, is, r) = (
+  name,
+  is,
+  subst (λ d. RefusesStand (stand_of s.editor name) (text_of d) code) (h.documents name)
+      (subst (λ (u : Server). RefusesStand (stand_of u.editor name) (text_of (document_of t.workspace.documents name)) code) h.rest r),
+)
+
+-- what may be typed, told by documents that were read
+pub offered_read : (id : IdVal) (params : Option Json) (s t : Server) (r : Result (Vec ℕ Global) Code) → (IsKept s.workspace → AreRead t.workspace) → HasRead s t
+    → MatchResult r (λ v. (j : Json) × IsOffered (place_in params) (uri_told (document_in params)) t j × (v.items ≡ body (answer id j)))
+    (λ code. (code ≡ InternalError) ⊎ RefusesPlace (place_in params) (uri_told (document_in params)) t code)
+    → MatchResult r (λ v. (j : Json) × Gives Running Completion s params j t × (v.items ≡ body (answer id j)))
+    (λ code. HasRead s t × ((code ≡ InternalError) ⊎ RefusesPlace (place_in params) (uri_told (document_in params)) s code))
+offered_read id params s t (Ok v) read stays (j, offered, written) = (j, record { read = read; offered = offered; stays = stays }, written)
+offered_read id params s t (Err code) read stays (inl memory) = (stays, inl memory)
+offered_read id params s t (Err code) read stays (inr r) = (stays, inr (refused_before (place_in params) (uri_told (document_in params)) s t code stays r))
+
 -- ---- what is so of each workspace stays so
 
 same_kept : (s t : Server) → t ≡ s → IsKept s.workspace → IsKept t.workspace
@@ -53,12 +82,20 @@ given_kept New Shutdown params s t j h kept = absurd h
 given_kept New Formatting params s t j h kept = absurd h
 given_kept New Symbols params s t j h kept = absurd h
 given_kept New Definition params s t j h kept = absurd h
+given_kept New Hover params s t j h kept = absurd h
+given_kept New References params s t j h kept = absurd h
+given_kept New Completion params s t j h kept = absurd h
+given_kept New SemanticTokens params s t j h kept = absurd h
 given_kept New Other params s t j h kept = absurd h
 given_kept Running Initialize params s t j h kept = absurd h
 given_kept Running Shutdown params s t j h kept = subst (λ u. IsKept u.workspace) (sym h.1) kept
 given_kept Running Formatting params s t j h kept = same_kept s t h.3 kept
 given_kept Running Symbols params s t j h kept = same_kept s t h.3 kept
 given_kept Running Definition params s t j h kept = h.2.stays.kept kept
+given_kept Running Hover params s t j h kept = h.2.stays.kept kept
+given_kept Running References params s t j h kept = h.2.stays.kept kept
+given_kept Running Completion params s t j h kept = h.stays.kept kept
+given_kept Running SemanticTokens params s t j h kept = same_kept s t h.3 kept
 given_kept Running Other params s t j h kept = absurd h
 given_kept ShutDown asked params s t j h kept = absurd h
 
@@ -69,6 +106,10 @@ remains_kept Running Shutdown s t h kept = same_kept s t h kept
 remains_kept Running Formatting s t h kept = same_kept s t h kept
 remains_kept Running Symbols s t h kept = same_kept s t h kept
 remains_kept Running Definition s t h kept = h.kept kept
+remains_kept Running Hover s t h kept = h.kept kept
+remains_kept Running References s t h kept = h.kept kept
+remains_kept Running Completion s t h kept = h.kept kept
+remains_kept Running SemanticTokens s t h kept = same_kept s t h kept
 remains_kept Running Other s t h kept = same_kept s t h kept
 remains_kept ShutDown asked s t h kept = same_kept s t h kept
 

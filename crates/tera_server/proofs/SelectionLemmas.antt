@@ -13,7 +13,7 @@ use Rattle.tera_server.specs.Positions.{position_at}
 up_or_same : (b c : ℕ) → b ≤ suc c → (b ≤ c) ⊎ (b ≡ suc c)
 up_or_same b c h = grind (arith, h)
 
-boundaries_order : (text : List ℕ) (b c : ℕ) → b ≤ c → boundary_to text b ≤ boundary_to text c
+pub boundaries_order : (text : List ℕ) (b c : ℕ) → b ≤ c → boundary_to text b ≤ boundary_to text c
 boundaries_order text b zero h = rw (zero_is b h) (omega arith)
   where
     zero_is : (b : ℕ) → b ≤ 0 → b ≡ 0

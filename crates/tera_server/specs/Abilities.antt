@@ -1,12 +1,26 @@
 -- What a server can do, as JSON.
 use Rattle.std.specs.Prelude.{codes, true}
-use Rattle.json.specs.Json.{Json, string, boolean, array, object, no_items, item, no_members, member}
+use Rattle.json.specs.Json.{Json, Items, string, boolean, array, object, no_items, item, no_members, member}
 use Rattle.text_edits.specs.declared.positions.Encoding.{Encoding}
 use Rattle.protocol_values.specs.Writing.{number_json, encoding_name}
+use Rattle.tera_server.specs.SemanticTokens.{legend_json}
 
 -- texts are told when they are opened and closed, and their changes by parts
 abbrev pub sync_json : Json
 sync_json = object (member (codes "openClose") (boolean true) (member (codes "change") (number_json 2) no_members))
+
+-- the characters behind which an editor asks by itself what may be typed
+abbrev pub triggers : Items
+triggers =
+    item (string (codes "<")) (item (string (codes "/")) (item (string (codes "."))
+    (item (string (codes " ")) (item (string (codes "\"")) (item (string (codes "'")) no_items)))))
+
+abbrev pub completion_json : Json
+completion_json = object (member (codes "triggerCharacters") (array triggers) no_members)
+
+-- tokens are told for a whole text
+abbrev pub semantic_json : Json
+semantic_json = object (member (codes "legend") legend_json (member (codes "full") (boolean true) no_members))
 
 abbrev pub capabilities_json : Encoding → Json
 capabilities_json e =
@@ -14,7 +28,11 @@ capabilities_json e =
     (member (codes "textDocumentSync") sync_json
     (member (codes "documentFormattingProvider") (boolean true)
     (member (codes "documentSymbolProvider") (boolean true)
-    (member (codes "definitionProvider") (boolean true) no_members)))))
+    (member (codes "definitionProvider") (boolean true)
+    (member (codes "hoverProvider") (boolean true)
+    (member (codes "referencesProvider") (boolean true)
+    (member (codes "completionProvider") completion_json
+    (member (codes "semanticTokensProvider") semantic_json no_members)))))))))
 
 abbrev pub server_json : Json
 server_json = object (member (codes "name") (string (codes "tera")) no_members)

@@ -1,5 +1,5 @@
 -- Where what is named in a text is defined.
-use Rattle.std.specs.Prelude.{◌≡◌, ℕ, List, ◌∷◌, Option, None, Some}
+use Rattle.std.specs.Prelude.{◌≡◌, if◌then◌else◌, ℕ, List, ◌∷◌, Bool, true, false, Option, None, Some}
 use Rattle.std.specs.List.{find}
 use Rattle.std.specs.Option.{option_map}
 use Rattle.json.specs.Json.{Json, null}
@@ -30,13 +30,17 @@ first_of file = record { file = file; start = record { line = 0; character = 0 }
 abbrev pub template_place : Workspace → List ℕ → Option DefinitionVal
 template_place w name = option_map first_of (file_of_ending w (47 ∷ name))
 
+-- whether a name stands for a component; it does for a template where not
+abbrev pub is_component : NameKind → Bool
+is_component Called = true
+is_component Closed = true
+is_component Defined = true
+is_component Extended = false
+is_component Included = false
+
 -- what a name leads to
 abbrev pub place_by : NameKind → Workspace → List ℕ → Option DefinitionVal
-place_by Called w name = definition_of_name w name
-place_by Closed w name = definition_of_name w name
-place_by Defined w name = definition_of_name w name
-place_by Extended w name = template_place w name
-place_by Included w name = template_place w name
+place_by kind w name = if is_component kind then definition_of_name w name else template_place w name
 
 abbrev pub place_of : Workspace → Option Named → Option DefinitionVal
 place_of w None = None

@@ -1,13 +1,17 @@
 pub mod Abilities
 pub mod Clients
+pub mod Completions
 pub mod Definitions
 pub mod Editors
 pub mod Findings
+pub mod Hovers
 pub mod Layouts
 pub mod Notes
 pub mod Outlines
 pub mod Positions
+pub mod References
 pub mod Requests
+pub mod SemanticTokens
 pub mod Sending
 pub mod Settling
 pub mod States

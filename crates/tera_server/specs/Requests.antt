@@ -1,5 +1,5 @@
 -- What requests are answered.
-use Rattle.std.specs.Prelude.{◌≡◌, ◌⊎◌, ◌++◌, if◌then◌else◌, ℕ, List, [], ◌∷◌, codes, map, string_bytes, MatchResult, Option, None, Some, Result, Vec}
+use Rattle.std.specs.Prelude.{◌≡◌, ◌⊎◌, ◌++◌, if◌then◌else◌, ℕ, List, [], ◌∷◌, Bool, codes, map, string_bytes, MatchResult, Option, None, Some, Result, Vec}
 use Rattle.std.specs.Str.{bytes_eq}
 use Rattle.std.specs.declared.alloc.Global.{Global}
 use Rattle.file_uris.specs.Names.{IsNameOf}
@@ -11,18 +11,22 @@ use Rattle.json_rpc.specs.declared.code.Code.TheVariants as codes_of
 use Rattle.protocol_values.specs.Members.{items_in, member_of, text_in}
 use Rattle.protocol_values.specs.Reading.{position_in}
 use Rattle.tera_outline.specs.Names.{Named}
-use Rattle.tera_workspace.specs.Definitions.{AreRead}
+use Rattle.tera_workspace.specs.Definitions.{texts_read, AreRead}
 use Rattle.tera_workspace.specs.Workspaces.{told_of_name, IsKept}
 use Rattle.text_documents.specs.Documents.{no_document, text_of}
 use Rattle.text_documents.specs.Stored.{document_of, AreSame}
 use Rattle.text_edits.specs.declared.positions.Position.{Position}
 use Rattle.tera_server.specs.Abilities.{abilities_json}
 use Rattle.tera_server.specs.Clients.{client_in}
+use Rattle.tera_server.specs.Completions.{IsCompletion}
 use Rattle.tera_server.specs.Definitions.{IsNamedAt, place_of, place_json}
 use Rattle.tera_server.specs.Editors.{stand_of}
+use Rattle.tera_server.specs.Hovers.{IsHead, hover_json}
 use Rattle.tera_server.specs.Layouts.{IsLayout}
 use Rattle.tera_server.specs.Notes.{document_in, uri_told}
 use Rattle.tera_server.specs.Outlines.{IsOutline}
+use Rattle.tera_server.specs.References.{declares, IsList}
+use Rattle.tera_server.specs.SemanticTokens.{AreTokens}
 use Rattle.tera_server.specs.declared.editor.Stand.{Stand}
 use Rattle.tera_server.specs.declared.editor.Stand.TheVariants.{Open, Lost, Closed}
 use Rattle.tera_server.specs.declared.requests.Asked.{Asked}
@@ -38,7 +42,11 @@ asked_of m =
     else (if bytes_eq m (codes "shutdown") then asks.Shutdown
     else (if bytes_eq m (codes "textDocument/formatting") then asks.Formatting
     else (if bytes_eq m (codes "textDocument/documentSymbol") then asks.Symbols
-    else (if bytes_eq m (codes "textDocument/definition") then asks.Definition else asks.Other))))
+    else (if bytes_eq m (codes "textDocument/definition") then asks.Definition
+    else (if bytes_eq m (codes "textDocument/hover") then asks.Hover
+    else (if bytes_eq m (codes "textDocument/references") then asks.References
+    else (if bytes_eq m (codes "textDocument/completion") then asks.Completion
+    else (if bytes_eq m (codes "textDocument/semanticTokens/full") then asks.SemanticTokens else asks.Other))))))))
 
 -- the names of these URIs, but for what has none
 abbrev pub AreNames : List (Option (List ℕ)) → List (List ℕ) → Type 0
@@ -99,10 +107,39 @@ pub record HasRead (s t : Server) : Type 0 where
   pub told : (n : List ℕ) → told_of_name t.workspace n ≡ told_of_name s.workspace n
   pub kept : IsKept s.workspace → IsKept t.workspace
 
--- the documents are read as they are, and this is the place that a name leads to
-pub record LeadsTo (named : Option Named) (s : Server) (j : Json) (t : Server) : Type 0 where
+-- the documents are read as they are, and this is told by them
+pub record IsTold (Tells : Server → Json → Type 0) (s : Server) (j : Json) (t : Server) : Type 0 where
   pub read : IsKept s.workspace → AreRead t.workspace
-  pub place : j ≡ place_json t.editor (place_of t.workspace named)
+  pub told : Tells t j
+  pub stays : HasRead s t
+
+-- .. of the name at the position that parameters tell
+abbrev pub IsToldOf : Option Json → (Option Named → Server → Json → Type 0) → Server → Json → Server → Type 0
+IsToldOf params Tells s j t =
+    (named : Option Named) × IsNamed (place_in params) (uri_told (document_in params)) s named × IsTold (Tells named) s j t
+
+-- of a name: the place that it leads to; the head of its definition; the places that refer to what it stands for
+abbrev pub LeadsTo : Option Named → Server → Json → Type 0
+LeadsTo named t j = j ≡ place_json t.editor (place_of t.workspace named)
+
+abbrev pub IsExplained : Option Named → Server → Json → Type 0
+IsExplained named t j = (head : Option (List ℕ)) × IsHead t.workspace named head × (j ≡ hover_json head)
+
+abbrev pub AreListed : Bool → Option Named → Server → Json → Type 0
+AreListed declared None t j = j ≡ null
+AreListed declared (Some n) t j =
+    IsList (record { named = n; declared = declared; editor = t.editor; encoding = t.client.encoding }) (texts_read t.workspace) j
+
+-- this may be typed at the position in the text of the document
+abbrev pub IsOffered : Option Position → Option (List ℕ) → Server → Json → Type 0
+IsOffered None uri s j = ⊥
+IsOffered (Some position) uri s j =
+    (text : List ℕ) × IsMeant uri s text × IsCompletion s.client.encoding s.workspace (map string_bytes s.folders.items) text position j
+
+-- the documents are read as they are, and this may be typed
+pub record Offers (position : Option Position) (uri : Option (List ℕ)) (s : Server) (j : Json) (t : Server) : Type 0 where
+  pub read : IsKept s.workspace → AreRead t.workspace
+  pub offered : IsOffered position uri t j
   pub stays : HasRead s t
 
 -- the result of a request
@@ -113,8 +150,12 @@ Gives Running asks.Formatting s params j t =
     (text : List ℕ) × IsMeant (uri_told (document_in params)) s text × IsLayout s.client.encoding text j × (t ≡ s)
 Gives Running asks.Symbols s params j t =
     (text : List ℕ) × IsMeant (uri_told (document_in params)) s text × IsOutline s.client.encoding text j × (t ≡ s)
-Gives Running asks.Definition s params j t =
-    (named : Option Named) × IsNamed (place_in params) (uri_told (document_in params)) s named × LeadsTo named s j t
+Gives Running asks.Definition s params j t = IsToldOf params LeadsTo s j t
+Gives Running asks.Hover s params j t = IsToldOf params IsExplained s j t
+Gives Running asks.References s params j t = IsToldOf params (AreListed (declares params)) s j t
+Gives Running asks.Completion s params j t = Offers (place_in params) (uri_told (document_in params)) s j t
+Gives Running asks.SemanticTokens s params j t =
+    (text : List ℕ) × IsMeant (uri_told (document_in params)) s text × AreTokens s.client.encoding text j × (t ≡ s)
 Gives _ _ s params j t = ⊥
 
 -- why a document is refused: the editor has it not open, or with a text that is not known
@@ -142,12 +183,20 @@ IsDue Running asks.Shutdown s params code = ⊥
 IsDue Running asks.Formatting s params code = RefusesDocument (uri_told (document_in params)) s code
 IsDue Running asks.Symbols s params code = RefusesDocument (uri_told (document_in params)) s code
 IsDue Running asks.Definition s params code = RefusesPlace (place_in params) (uri_told (document_in params)) s code
+IsDue Running asks.Hover s params code = RefusesPlace (place_in params) (uri_told (document_in params)) s code
+IsDue Running asks.References s params code = RefusesPlace (place_in params) (uri_told (document_in params)) s code
+IsDue Running asks.Completion s params code = RefusesPlace (place_in params) (uri_told (document_in params)) s code
+IsDue Running asks.SemanticTokens s params code = RefusesDocument (uri_told (document_in params)) s code
 IsDue Running asks.Other s params code = code ≡ codes_of.MethodNotFound
 IsDue ShutDown _ s params code = code ≡ codes_of.InvalidRequest
 
--- what one that has no result leaves as it is: everything; but for a definition documents may have been read
+-- what one that has no result leaves as it is: everything; but where it asks what stands at a place documents may
+-- have been read
 abbrev pub Remains : Phase → Asked → Server → Server → Type 0
 Remains Running asks.Definition s t = HasRead s t
+Remains Running asks.Hover s t = HasRead s t
+Remains Running asks.References s t = HasRead s t
+Remains Running asks.Completion s t = HasRead s t
 Remains _ _ s t = t ≡ s
 
 -- it is answered by its result; or it is refused, and nothing changes: for a reason, or for want of memory

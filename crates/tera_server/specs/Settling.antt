@@ -10,13 +10,18 @@ use Rattle.tera_server.specs.declared.server.Phase.{Phase}
 use Rattle.tera_server.specs.declared.server.Phase.TheVariants.{New, Running, ShutDown}
 use Rattle.tera_server.specs.declared.server.Server.{Server}
 
--- of the documents of which something was to be published still what was told before; and then, by what is told now, of
--- those that the editor opened, changed or closed, and of those of which something else is told than before
+-- the documents of which something is to be published: those that the editor opened, changed or closed, and those of which it
+-- was told and not published yet
+abbrev pub due_of : Server → List (List ℕ)
+due_of s = edited_of s ++ untold_of s
+
+-- what is told now is published: of the documents of which something was to be, and of those of which something else is told
+-- than before
 pub record ArePublished (s t : Server) (old now : Outgoing) : Type 0 where
   pub settled : IsKept s.workspace → IsSettled t.workspace
   pub others : List (List ℕ)
   pub are : IsKept s.workspace → AreOthers others (told_of_name s.workspace) (told_of_name t.workspace)
-  pub sent : now ≡ with_all old (messages_of s (untold_of s) ++ messages_of t (names_beside others (edited_of s) ++ others))
+  pub sent : now ≡ with_all old (messages_of t (names_beside others (due_of s) ++ others))
   pub untold : untold_of t ≡ []
   pub edited : edited_of t ≡ []
 
@@ -28,15 +33,11 @@ IsSettling ShutDown s t old now = (t ≡ s) × (now ≡ old)
 
 -- where no memory was found: a part of that, and the rest is to be published still
 pub record ArePublishedInPart (s t : Server) (old now : Outgoing) : Type 0 where
-  pub before : List (List ℕ)
   pub names : List (List ℕ)
-  pub sent : now ≡ with_all old (messages_of s before ++ messages_of t names)
-  pub untold : (n : List ℕ) → is_among n (untold_of s) ≡ true → (is_among n before ≡ true) ⊎ (is_among n (untold_of t) ≡ true)
+  pub sent : now ≡ with_all old (messages_of t names)
   pub others : IsKept s.workspace → (n : List ℕ) → told_of_name t.workspace n ≢ told_of_name s.workspace n → is_among n (untold_of t) ≡ true
-  pub edited : (n : List ℕ) → is_among n (edited_of s) ≡ true →
-      (is_among n names ≡ true) ⊎ ((is_among n (untold_of t) ≡ true) ⊎ (is_among n (edited_of t) ≡ true))
-  pub only : (n : List ℕ) → is_among n (before ++ names) ≡ true →
-      (is_among n (untold_of s) ≡ true) ⊎ ((is_among n (edited_of s) ≡ true) ⊎ (is_among n (untold_of t) ≡ true))
+  pub due : (n : List ℕ) → is_among n (due_of s) ≡ true → (is_among n names ≡ true) ⊎ (is_among n (due_of t) ≡ true)
+  pub only : (n : List ℕ) → is_among n names ≡ true → (is_among n (due_of s) ≡ true) ⊎ (is_among n (untold_of t) ≡ true)
 
 -- nothing changes but what is told, and what is to be published
 pub record OnlyTells (s t : Server) : Type 0 where

@@ -3,8 +3,9 @@
 ghost use Rattle.std.specs.Prelude.{◌≡◌, ◌++◌, codes, OnOk};
 ghost use Rattle.json.specs.Tree.{json_tokens};
 ghost use Rattle.protocol_values.specs.Writing.{member_tokens};
-ghost use Rattle.tera_server.specs.Abilities.{sync_json, capabilities_json, server_json, abilities_json, watcher_json, watchers_json, registration_json, registrations_json};
+ghost use Rattle.tera_server.specs.Abilities.{sync_json, completion_json, semantic_json, capabilities_json, server_json, abilities_json, watcher_json, watchers_json, registration_json, registrations_json};
 
+use crate::semantic_tokens::put_legend;
 use json::Writer;
 use protocol_values::{encoding_name, put_number, put_text, put_truth};
 use std::alloc::AllocError;
@@ -33,6 +34,10 @@ fn put_capabilities(out: &mut Writer, encoding: Encoding) -> Result<(), AllocErr
     put_truth(out, "documentFormattingProvider", true)?;
     put_truth(out, "documentSymbolProvider", true)?;
     put_truth(out, "definitionProvider", true)?;
+    put_truth(out, "hoverProvider", true)?;
+    put_truth(out, "referencesProvider", true)?;
+    put_completion(out)?;
+    put_semantic(out)?;
     out.end_object()?;
     Ok(())
 }
@@ -46,6 +51,40 @@ fn put_sync(out: &mut Writer) -> Result<(), AllocError>
     out.begin_object()?;
     put_truth(out, "openClose", true)?;
     put_number(out, "change", 2)?;
+    out.end_object()?;
+    Ok(())
+}
+
+// An editor asks by itself behind these characters, beside those of words.
+fn put_completion(out: &mut Writer) -> Result<(), AllocError>
+    ensures tokens { OnOk result (out.new.tokens ≡ out.old.tokens ++ member_tokens (codes "completionProvider") completion_json) }
+    ensures before { out.new.before ≡ out.old.before }
+{
+    out.key("completionProvider")?;
+    out.begin_object()?;
+    out.key("triggerCharacters")?;
+    out.begin_array()?;
+    out.string("<")?;
+    out.string("/")?;
+    out.string(".")?;
+    out.string(" ")?;
+    out.string("\"")?;
+    out.string("'")?;
+    out.end_array()?;
+    out.end_object()?;
+    Ok(())
+}
+
+// Tokens are told for a whole text.
+fn put_semantic(out: &mut Writer) -> Result<(), AllocError>
+    ensures tokens { OnOk result (out.new.tokens
+        ≡ out.old.tokens ++ member_tokens (codes "semanticTokensProvider") semantic_json) }
+    ensures before { out.new.before ≡ out.old.before }
+{
+    out.key("semanticTokensProvider")?;
+    out.begin_object()?;
+    put_legend(out)?;
+    put_truth(out, "full", true)?;
     out.end_object()?;
     Ok(())
 }

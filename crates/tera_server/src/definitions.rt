@@ -5,7 +5,7 @@ ghost use Rattle.std.specs.Option.{option_map};
 ghost use Rattle.json.specs.Tree.{json_tokens};
 ghost use Rattle.tera_outline.specs.Names.{name_view};
 ghost use Rattle.tera_workspace.specs.Definitions.{definition_view};
-ghost use Rattle.tera_server.specs.Definitions.{IsNamedAt, first_of, template_place, place_by, place_of, place_json};
+ghost use Rattle.tera_server.specs.Definitions.{IsNamedAt, first_of, is_component, template_place, place_by, place_of, place_json};
 
 use crate::editor::Editor;
 use crate::findings::uri_by;
@@ -86,13 +86,21 @@ fn place_by(
 ) -> Result<Option<Definition>, AllocError>
     ensures { IfOk result (λ place. option_map definition_view place ≡ place_by kind workspace.now name.now) }
 {
-    match kind {
-        NameKind::Called => workspace.definition_of(alloc, name),
-        NameKind::Closed => workspace.definition_of(alloc, name),
-        NameKind::Defined => workspace.definition_of(alloc, name),
-        NameKind::Extended => template_place(alloc, workspace, name),
-        NameKind::Included => template_place(alloc, workspace, name),
+    if is_component(kind) {
+        workspace.definition_of(alloc, name)
+    } else {
+        template_place(alloc, workspace, name)
     }
+}
+
+/// Whether what is so named is a component, and no template.
+pub(crate) fn is_component(kind: NameKind) -> bool
+    ensures { result ≡ is_component kind }
+{
+    matches!(
+        kind,
+        NameKind::Called | NameKind::Closed | NameKind::Defined
+    )
 }
 
 // The beginning of the first file that has the name below a folder.

@@ -3,22 +3,27 @@
 //! It takes the bytes of messages as they come (`Server::handle`), and the texts of files that it asks for
 //! (`Server::load`); when no message waits it tells what is found in the texts as they are (`Server::settle`). It does no
 //! input or output. It stands on `json_rpc` for messages, on `tera_workspace` for documents and what is found in them, on
-//! `tera_layout`, and on `tera_outline` for outlines and names.
+//! `tera_layout`, and on `tera_outline` for outlines, names, coloured tokens and what may be typed.
 //!
 //! In the order of reading: specs `States`, `Requests`, `Notes`, `Steps`, `Settling`; `server`, and `requests` and `notes`,
-//! which a message may be; `client` and `editor`, what is known of them; `abilities`, `layouts`, `symbols`, `definitions`
-//! and `findings`, which write results; `laws`.
+//! which a message may be; `client` and `editor`, what is known of them; `abilities`, `layouts`, `symbols`,
+//! `definitions`, `hovers`, `references`, `completions`, `semantic_tokens` and `findings`, which write results;
+//! `laws`.
 #![tactic(auto)]
 
 mod abilities;
 mod client;
+mod completions;
 mod definitions;
 mod editor;
 mod findings;
+mod hovers;
 pub mod laws;
 mod layouts;
 mod notes;
+mod references;
 mod requests;
+mod semantic_tokens;
 mod server;
 mod symbols;
 

@@ -1,31 +1,38 @@
 //! Requests.
 
-ghost use Rattle.std.specs.Prelude.{◌≡◌, ◌⊎◌, [], ◌∷◌, codes, IfOk, OnOk, OnErr, MatchResult, option_map, map, string_bytes, Some};
+ghost use Rattle.std.specs.Prelude.{◌≡◌, ◌⊎◌, ◌++◌, [], ◌∷◌, codes, IfOk, IfErr, OnOk, OnErr, MatchResult, option_map, map, string_bytes, Some};
 ghost use Rattle.json.specs.Json.{Json, null};
+ghost use Rattle.json.specs.Tree.{json_tokens};
 ghost use Rattle.json.specs.Value.{value_view};
 ghost use Rattle.json_rpc.specs.Writing.{body, answer};
 ghost use Rattle.json_rpc.specs.declared.code.Code.TheVariants.{InternalError};
 ghost use Rattle.protocol_values.specs.Members.{seen, member_of, text_in};
 ghost use Rattle.tera_server.specs.Abilities.{abilities_json};
 ghost use Rattle.tera_outline.specs.Names.{name_view};
+ghost use Rattle.tera_workspace.specs.Definitions.{AreRead};
+ghost use Rattle.tera_workspace.specs.Workspaces.{IsKept};
 ghost use Rattle.tera_server.specs.Clients.{client_in};
 ghost use Rattle.tera_server.specs.Definitions.{place_of, place_json};
 ghost use Rattle.tera_server.specs.Notes.{document_in, uri_told};
-ghost use Rattle.tera_server.specs.Requests.{asked_of, AreNames, AddsName, folder_uri, folders_by, folders_in, IsBegun, Gives, RefusesDocument, RefusesPlace, IsMeant, IsNamed, HasRead, place_in, IsAnsweredBy};
-ghost use Rattle.tera_server.specs.declared.requests.Asked.TheVariants.{Formatting, Symbols, Definition};
+ghost use Rattle.tera_server.specs.Requests.{asked_of, AreNames, AddsName, folder_uri, folders_by, folders_in, IsBegun, Gives, RefusesDocument, RefusesPlace, IsMeant, IsNamed, IsOffered, HasRead, IsExplained, AreListed, place_in, IsAnsweredBy};
+ghost use Rattle.tera_server.specs.declared.requests.Asked.TheVariants.{Formatting, Symbols, Definition, Hover, References, Completion, SemanticTokens};
 ghost use Rattle.tera_server.specs.declared.server.Phase.TheVariants.{New, Running, ShutDown as PhaseShutDown};
 
 use crate::abilities::put_abilities;
 use crate::client::Client;
+use crate::completions::{Offering, put_completion};
 use crate::definitions::{name_at, put_definition};
 use crate::editor::Stand;
+use crate::hovers::put_hover;
 use crate::layouts::put_layout;
+use crate::references::{Search, put_references};
+use crate::semantic_tokens::put_semantic_tokens;
 use crate::server::{Phase, Server};
 use crate::symbols::put_outline;
 use file_uris::name_of;
-use json::Value;
+use json::{Value, Writer};
 use json_rpc::{Code, Id, begin_answer, end_message};
-use protocol_values::{items_of, member, position_of, text_of};
+use protocol_values::{is_set, items_of, member, position_of, text_of};
 use std::alloc::{AllocError, Global};
 use tera_outline::Name;
 use tera_workspace::Workspace;
@@ -38,6 +45,10 @@ pub(crate) enum Asked {
     Formatting,
     Symbols,
     Definition,
+    Hover,
+    References,
+    Completion,
+    SemanticTokens,
     Other,
 }
 
@@ -52,6 +63,10 @@ impl Asked {
             "textDocument/formatting" => Asked::Formatting,
             "textDocument/documentSymbol" => Asked::Symbols,
             "textDocument/definition" => Asked::Definition,
+            "textDocument/hover" => Asked::Hover,
+            "textDocument/references" => Asked::References,
+            "textDocument/completion" => Asked::Completion,
+            "textDocument/semanticTokens/full" => Asked::SemanticTokens,
             _ => Asked::Other,
         }
     }
@@ -92,6 +107,10 @@ impl Server {
             Asked::Formatting => Err(Code::ServerNotInitialized),
             Asked::Symbols => Err(Code::ServerNotInitialized),
             Asked::Definition => Err(Code::ServerNotInitialized),
+            Asked::Hover => Err(Code::ServerNotInitialized),
+            Asked::References => Err(Code::ServerNotInitialized),
+            Asked::Completion => Err(Code::ServerNotInitialized),
+            Asked::SemanticTokens => Err(Code::ServerNotInitialized),
             Asked::Other => Err(Code::ServerNotInitialized),
         }
     }
@@ -113,6 +132,10 @@ impl Server {
             Asked::Formatting => self.formatting(alloc, id, params),
             Asked::Symbols => self.symbols(alloc, id, params),
             Asked::Definition => self.definition(alloc, id, params),
+            Asked::Hover => self.hover(alloc, id, params),
+            Asked::References => self.references(alloc, id, params),
+            Asked::Completion => self.completion(alloc, id, params),
+            Asked::SemanticTokens => self.semantic_tokens(alloc, id, params),
             Asked::Other => Err(Code::MethodNotFound),
         }
     }
@@ -189,7 +212,6 @@ impl Server {
         Ok(end_message(writer)?)
     }
 
-    // Documents that changed are read first, so that the place is one in a text as it is.
     fn definition(
         &mut self,
         alloc: Global,
@@ -201,11 +223,72 @@ impl Server {
             (λ v. (j : Json) × Gives Running Definition self.old (seen params.entry) j self.new
             × (v.items ≡ body (answer id.now j)))
             (λ code. HasRead self.old self.new
-            × ((code ≡ InternalError) ⊎ RefusesPlace (place_in (seen params.entry)) (uri_told (document_in (seen params.entry))) self.old code)) }
+            × ((code ≡ InternalError) ⊎ RefusesPlace (place_in (seen params.entry))
+            (uri_told (document_in (seen params.entry))) self.old code)) }
+    {
+        let name = self.name_read(alloc, params)?;
+        Ok(self.lead_to(alloc, id, &name)?)
+    }
+
+    fn hover(
+        &mut self,
+        alloc: Global,
+        id: &Id<'_>,
+        params: Option<&Value<'_>>,
+    ) -> Result<Vec<u8>, Code>
+        requires { self.old.phase ≡ Running }
+        ensures { MatchResult result
+            (λ v. (j : Json) × Gives Running Hover self.old (seen params.entry) j self.new
+            × (v.items ≡ body (answer id.now j)))
+            (λ code. HasRead self.old self.new
+            × ((code ≡ InternalError) ⊎ RefusesPlace (place_in (seen params.entry))
+            (uri_told (document_in (seen params.entry))) self.old code)) }
+    {
+        let name = self.name_read(alloc, params)?;
+        Ok(self.explain(alloc, id, &name)?)
+    }
+
+    fn references(
+        &mut self,
+        alloc: Global,
+        id: &Id<'_>,
+        params: Option<&Value<'_>>,
+    ) -> Result<Vec<u8>, Code>
+        requires { self.old.phase ≡ Running }
+        ensures { MatchResult result
+            (λ v. (j : Json) × Gives Running References self.old (seen params.entry) j self.new
+            × (v.items ≡ body (answer id.now j)))
+            (λ code. HasRead self.old self.new
+            × ((code ≡ InternalError) ⊎ RefusesPlace (place_in (seen params.entry))
+            (uri_told (document_in (seen params.entry))) self.old code)) }
+    {
+        let declared = is_set(member(member(params, "context"), "includeDeclaration"));
+        let name = self.name_read(alloc, params)?;
+        Ok(self.list(alloc, id, declared, &name)?)
+    }
+
+    // The name at the position that the parameters tell. Then the documents that changed are read, so that what is told of
+    // it is told by the texts as they are.
+    fn name_read(&mut self, alloc: Global, params: Option<&Value<'_>>) -> Result<Option<Name>, Code>
+        ensures named { IfOk result (λ name. IsNamed (place_in (seen params.entry))
+            (uri_told (document_in (seen params.entry))) self.old (option_map name_view name)) }
+        ensures read { OnOk result (IsKept self.old.workspace → AreRead self.new.workspace) }
+        ensures stays { HasRead self.old self.new }
+        ensures refused { IfErr result (λ code. (code ≡ InternalError)
+            ⊎ RefusesPlace (place_in (seen params.entry)) (uri_told (document_in (seen params.entry))) self.old code) }
     {
         let name = self.name_meant(alloc, params)?;
+        self.read_documents(alloc)?;
+        Ok(name)
+    }
+
+    // Reads the documents that changed. On want of memory some may be read.
+    fn read_documents(&mut self, alloc: Global) -> Result<(), AllocError>
+        ensures read { IsKept self.old.workspace → OnOk result (AreRead self.new.workspace) }
+        ensures stays { HasRead self.old self.new }
+    {
         self.workspace.read(alloc)?;
-        Ok(self.lead_to(alloc, id, &name)?)
+        Ok(())
     }
 
     // The name at the position that the parameters tell.
@@ -234,6 +317,126 @@ impl Server {
         let mut writer = begin_answer(alloc, id)?;
         put_definition(alloc, &mut writer, &self.workspace, &self.editor, name)?;
         end_message(writer)
+    }
+
+    fn explain(
+        &self,
+        alloc: Global,
+        id: &Id<'_>,
+        name: &Option<Name>,
+    ) -> Result<Vec<u8>, AllocError>
+        ensures { IfOk result (λ v. (j : Json) × IsExplained (option_map name_view name.now) self.now j
+            × (v.items ≡ body (answer id.now j))) }
+    {
+        let mut writer = begin_answer(alloc, id)?;
+        put_hover(alloc, &mut writer, &self.workspace, name)?;
+        Ok(end_message(writer)?)
+    }
+
+    fn list(
+        &self,
+        alloc: Global,
+        id: &Id<'_>,
+        declared: bool,
+        name: &Option<Name>,
+    ) -> Result<Vec<u8>, AllocError>
+        ensures { IfOk result (λ v. (j : Json) × AreListed declared (option_map name_view name.now) self.now j
+            × (v.items ≡ body (answer id.now j))) }
+    {
+        let mut writer = begin_answer(alloc, id)?;
+        self.put_list(alloc, &mut writer, declared, name)?;
+        end_message(writer)
+    }
+
+    fn put_list(
+        &self,
+        alloc: Global,
+        out: &mut Writer,
+        declared: bool,
+        name: &Option<Name>,
+    ) -> Result<(), AllocError>
+        ensures tokens { OnOk result ((j : Json) × AreListed declared (option_map name_view name.now) self.now j
+            × (out.new.tokens ≡ out.old.tokens ++ json_tokens j)) }
+        ensures before { out.new.before ≡ out.old.before }
+    {
+        match name {
+            Some(name) => {
+                let search = Search {
+                    name,
+                    declared,
+                    editor: &self.editor,
+                    encoding: self.client.encoding,
+                };
+                let texts = self.workspace.texts(alloc)?;
+                put_references(alloc, out, search, texts.as_slice())?;
+            }
+            None => out.null()?,
+        }
+        Ok(())
+    }
+
+    // Documents that changed are read first, so that what is offered is of the texts as they are.
+    fn completion(
+        &mut self,
+        alloc: Global,
+        id: &Id<'_>,
+        params: Option<&Value<'_>>,
+    ) -> Result<Vec<u8>, Code>
+        requires { self.old.phase ≡ Running }
+        ensures { MatchResult result
+            (λ v. (j : Json) × Gives Running Completion self.old (seen params.entry) j self.new
+            × (v.items ≡ body (answer id.now j)))
+            (λ code. HasRead self.old self.new
+            × ((code ≡ InternalError) ⊎ RefusesPlace (place_in (seen params.entry)) (uri_told (document_in (seen params.entry))) self.old code)) }
+    {
+        self.read_documents(alloc)?;
+        self.offer(alloc, id, params)
+    }
+
+    // What may be typed at the position that the parameters tell.
+    fn offer(&self, alloc: Global, id: &Id<'_>, params: Option<&Value<'_>>) -> Result<Vec<u8>, Code>
+        ensures { MatchResult result
+            (λ v. (j : Json) × IsOffered (place_in (seen params.entry)) (uri_told (document_in (seen params.entry))) self.now j
+            × (v.items ≡ body (answer id.now j)))
+            (λ code. (code ≡ InternalError)
+            ⊎ RefusesPlace (place_in (seen params.entry)) (uri_told (document_in (seen params.entry))) self.now code) }
+    {
+        let Some(position) = position_of(member(params, "position")) else {
+            return Err(Code::InvalidParams);
+        };
+        let text = self.text_meant(alloc, params)?;
+        let offering = Offering {
+            workspace: &self.workspace,
+            folders: &self.folders,
+        };
+        let mut writer = begin_answer(alloc, id)?;
+        put_completion(
+            alloc,
+            &mut writer,
+            offering,
+            self.client.encoding,
+            text,
+            position,
+        )?;
+        Ok(end_message(writer)?)
+    }
+
+    fn semantic_tokens(
+        &self,
+        alloc: Global,
+        id: &Id<'_>,
+        params: Option<&Value<'_>>,
+    ) -> Result<Vec<u8>, Code>
+        requires { self.now.phase ≡ Running }
+        ensures { MatchResult result
+            (λ v. (j : Json) × Gives Running SemanticTokens self.now (seen params.entry) j self.now
+            × (v.items ≡ body (answer id.now j)))
+            (λ code. (code ≡ InternalError) ⊎ RefusesDocument (uri_told (document_in (seen params.entry))) self.now code) }
+    {
+        let text = self.text_meant(alloc, params)?;
+        let mut writer = begin_answer(alloc, id)?;
+        put_semantic_tokens(alloc, &mut writer, self.client.encoding, text)?;
+        Ok(end_message(writer)?)
     }
 
     // The text of the document that the parameters name, which the editor has open.

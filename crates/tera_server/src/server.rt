@@ -65,7 +65,8 @@ pub struct Server {
     pub(crate) editor: Editor,
     pub(crate) folders: Vec<String>,
     pub(crate) wanted: Vec<Wanted>,
-    // The names of the documents that the editor opened, changed or closed since their findings were published.
+    // The names of the documents whose findings are to be published, whatever they are: the editor opened, changed or closed
+    // them, or they were not published in time.
     pub(crate) edited: Vec<String>,
     // The names of those whose findings are others than were published.
     untold: Vec<String>,
@@ -309,7 +310,8 @@ impl Server {
         ensures in_part { OnErr result (ArePublishedInPart self.old self.new out.old out.new) }
         ensures stays { OnlyTells self.old self.new }
     {
-        self.publish_untold(alloc, out)?;
+        // What is not published yet is published by what is told now.
+        self.edited.append(&mut self.untold)?;
         self.untold = self.workspace.settle(alloc)?;
         self.publish_edited(alloc, out)?;
         self.publish_untold(alloc, out)?;

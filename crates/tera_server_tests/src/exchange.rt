@@ -44,7 +44,7 @@ fn text_is_opened_changed_and_laid_out(rt: HostRuntime) -> Result<(), Fail> {
         (
             "{\"id\":2,\"method\":\"initialize\",\"params\":{\"capabilities\":{\"general\":{\"positionEncodings\":[\"utf-8\"]}}}}",
             1,
-            "{\"jsonrpc\":\"2.0\",\"id\":2,\"result\":{\"capabilities\":{\"positionEncoding\":\"utf-8\",\"textDocumentSync\":{\"openClose\":true,\"change\":2},\"documentFormattingProvider\":true,\"documentSymbolProvider\":true,\"definitionProvider\":true},\"serverInfo\":{\"name\":\"tera\"}}}",
+            "{\"jsonrpc\":\"2.0\",\"id\":2,\"result\":{\"capabilities\":{\"positionEncoding\":\"utf-8\",\"textDocumentSync\":{\"openClose\":true,\"change\":2},\"documentFormattingProvider\":true,\"documentSymbolProvider\":true,\"definitionProvider\":true,\"hoverProvider\":true,\"referencesProvider\":true,\"completionProvider\":{\"triggerCharacters\":[\"<\",\"/\",\".\",\" \",\"\\\"\",\"'\"]},\"semanticTokensProvider\":{\"legend\":{\"tokenTypes\":[\"comment\",\"keyword\",\"string\",\"number\",\"operator\",\"namespace\",\"class\",\"type\",\"function\",\"parameter\",\"property\",\"variable\"],\"tokenModifiers\":[]},\"full\":true}},\"serverInfo\":{\"name\":\"tera\"}}}",
         ),
         (
             "{\"method\":\"textDocument/didOpen\",\"params\":{\"textDocument\":{\"uri\":\"file:///a%20b\",\"version\":1,\"text\":\"{{a\"}}}",
@@ -81,14 +81,14 @@ fn text_is_opened_changed_and_laid_out(rt: HostRuntime) -> Result<(), Fail> {
 }
 
 #[test]
-fn outline_and_definitions_are_told(rt: HostRuntime) -> Result<(), Fail> {
+fn what_is_told_of_a_text_and_a_place(rt: HostRuntime) -> Result<(), Fail> {
     let mut server = Server::new(rt.alloc());
     let mut out = Outbox::new(rt.alloc())?;
     for (message, count, last) in [
         (
-            "{\"id\":1,\"method\":\"initialize\",\"params\":{\"capabilities\":{}}}",
+            "{\"id\":1,\"method\":\"initialize\",\"params\":{\"rootUri\":\"file:///t\",\"capabilities\":{}}}",
             1,
-            "{\"jsonrpc\":\"2.0\",\"id\":1,\"result\":{\"capabilities\":{\"positionEncoding\":\"utf-16\",\"textDocumentSync\":{\"openClose\":true,\"change\":2},\"documentFormattingProvider\":true,\"documentSymbolProvider\":true,\"definitionProvider\":true},\"serverInfo\":{\"name\":\"tera\"}}}",
+            "{\"jsonrpc\":\"2.0\",\"id\":1,\"result\":{\"capabilities\":{\"positionEncoding\":\"utf-16\",\"textDocumentSync\":{\"openClose\":true,\"change\":2},\"documentFormattingProvider\":true,\"documentSymbolProvider\":true,\"definitionProvider\":true,\"hoverProvider\":true,\"referencesProvider\":true,\"completionProvider\":{\"triggerCharacters\":[\"<\",\"/\",\".\",\" \",\"\\\"\",\"'\"]},\"semanticTokensProvider\":{\"legend\":{\"tokenTypes\":[\"comment\",\"keyword\",\"string\",\"number\",\"operator\",\"namespace\",\"class\",\"type\",\"function\",\"parameter\",\"property\",\"variable\"],\"tokenModifiers\":[]},\"full\":true}},\"serverInfo\":{\"name\":\"tera\"}}}",
         ),
         (
             "{\"method\":\"textDocument/didOpen\",\"params\":{\"textDocument\":{\"uri\":\"file:///t/ui.html\",\"version\":1,\"text\":\"{% component ui.box(a) %}{% endcomponent %}\"}}}",
@@ -121,9 +121,39 @@ fn outline_and_definitions_are_told(rt: HostRuntime) -> Result<(), Fail> {
             "{\"jsonrpc\":\"2.0\",\"id\":5,\"result\":null}",
         ),
         (
-            "{\"id\":6,\"method\":\"textDocument/definition\",\"params\":{\"textDocument\":{\"uri\":\"file:///t/page.html\"}}}",
+            "{\"id\":6,\"method\":\"textDocument/hover\",\"params\":{\"textDocument\":{\"uri\":\"file:///t/page.html\"},\"position\":{\"line\":1,\"character\":20}}}",
             1,
-            "{\"jsonrpc\":\"2.0\",\"id\":6,\"error\":{\"code\":-32602,\"message\":\"the parameters are not those of the method\"}}",
+            "{\"jsonrpc\":\"2.0\",\"id\":6,\"result\":{\"contents\":{\"kind\":\"plaintext\",\"value\":\"ui.box(a)\"}}}",
+        ),
+        (
+            "{\"id\":7,\"method\":\"textDocument/references\",\"params\":{\"textDocument\":{\"uri\":\"file:///t/ui.html\"},\"position\":{\"line\":0,\"character\":13},\"context\":{\"includeDeclaration\":true}}}",
+            1,
+            "{\"jsonrpc\":\"2.0\",\"id\":7,\"result\":[{\"uri\":\"file:///t/page.html\",\"range\":{\"start\":{\"line\":1,\"character\":16},\"end\":{\"line\":1,\"character\":22}}},{\"uri\":\"file:///t/ui.html\",\"range\":{\"start\":{\"line\":0,\"character\":13},\"end\":{\"line\":0,\"character\":19}}}]}",
+        ),
+        (
+            "{\"id\":8,\"method\":\"textDocument/completion\",\"params\":{\"textDocument\":{\"uri\":\"file:///t/page.html\"},\"position\":{\"line\":1,\"character\":19}}}",
+            1,
+            "{\"jsonrpc\":\"2.0\",\"id\":8,\"result\":[{\"label\":\"ui.box\",\"kind\":7,\"textEdit\":{\"range\":{\"start\":{\"line\":1,\"character\":16},\"end\":{\"line\":1,\"character\":19}},\"newText\":\"ui.box\"}}]}",
+        ),
+        (
+            "{\"id\":9,\"method\":\"textDocument/completion\",\"params\":{\"textDocument\":{\"uri\":\"file:///t/page.html\"},\"position\":{\"line\":1,\"character\":23}}}",
+            1,
+            "{\"jsonrpc\":\"2.0\",\"id\":9,\"result\":[{\"label\":\"a\",\"kind\":5,\"textEdit\":{\"range\":{\"start\":{\"line\":1,\"character\":23},\"end\":{\"line\":1,\"character\":23}},\"newText\":\"a\"}}]}",
+        ),
+        (
+            "{\"id\":10,\"method\":\"textDocument/completion\",\"params\":{\"textDocument\":{\"uri\":\"file:///t/page.html\"},\"position\":{\"line\":0,\"character\":12}}}",
+            1,
+            "{\"jsonrpc\":\"2.0\",\"id\":10,\"result\":[{\"label\":\"page.html\",\"kind\":17,\"textEdit\":{\"range\":{\"start\":{\"line\":0,\"character\":12},\"end\":{\"line\":0,\"character\":12}},\"newText\":\"page.html\"}},{\"label\":\"ui.html\",\"kind\":17,\"textEdit\":{\"range\":{\"start\":{\"line\":0,\"character\":12},\"end\":{\"line\":0,\"character\":12}},\"newText\":\"ui.html\"}}]}",
+        ),
+        (
+            "{\"id\":11,\"method\":\"textDocument/definition\",\"params\":{\"textDocument\":{\"uri\":\"file:///t/page.html\"}}}",
+            1,
+            "{\"jsonrpc\":\"2.0\",\"id\":11,\"error\":{\"code\":-32602,\"message\":\"the parameters are not those of the method\"}}",
+        ),
+        (
+            "{\"id\":12,\"method\":\"textDocument/semanticTokens/full\",\"params\":{\"textDocument\":{\"uri\":\"file:///t/page.html\"}}}",
+            1,
+            "{\"jsonrpc\":\"2.0\",\"id\":12,\"result\":{\"data\":[0,3,7,1,0,0,8,9,2,0,1,3,5,1,0,0,6,1,5,0,0,6,1,4,0,0,1,2,6,0,0,3,3,6,0,0,4,1,9,0,0,1,1,4,0,0,2,1,3,0,0,2,1,4,0,0,1,1,4,0,0,6,8,1,0,0,9,1,5,0]}}",
         ),
     ] {
         assert_eq!(rt; answers(&rt, &mut server, &mut out, message)?, None);

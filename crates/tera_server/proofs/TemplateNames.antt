@@ -1,0 +1,52 @@
+-- The names of templates, as they are found in the paths of their files.
+use Rattle.std.proofs.Common.{◌≡◌, ◌∙◌, ◌≢◌, ◌<◌, ◌≤◌, ◌+◌, ◌++◌, ◌∷◌, [], ℕ, zero, suc, List, length, drop, Bool, true, false, nat_eq, Option, None, Some, option_map, if◌then◌else◌, Bor, refl, sym, ap, arith}
+use Rattle.std.specs.Option.{MatchOption, option_or}
+use Rattle.std.specs.Str.Pattern.{FindsText, FindsTextPrefix, StripsPrefix, SplitsAroundMatch, LacksTextAt}
+use Rattle.tera_server.specs.Completions.{behind, behind_first}
+
+is_behind : (front rest : List ℕ) → behind front (front ++ rest) ≡ Some rest
+is_behind [] rest = refl
+is_behind (f ∷ fs) rest =
+    let same : nat_eq f f ≡ true = grind arith in
+    ap (λ b. if b then behind fs (fs ++ rest) else None) same ∙ is_behind fs rest
+
+not_behind : (front text : List ℕ) → ((rest : List ℕ) → text ≢ front ++ rest) → behind front text ≡ None
+not_behind [] text h = absurd (h text refl)
+not_behind (f ∷ fs) [] h = refl
+not_behind (f ∷ fs) (b ∷ bs) h = by (nat_eq f b) refl (λ same. not_behind fs bs (λ rest is. h rest (cc)))
+  where
+    by : (t : Bool) → nat_eq f b ≡ t → (f ≡ b → behind fs bs ≡ None) → (if t then behind fs bs else None) ≡ None
+    by false e g = refl
+    by true e g = g (grind (arith, e))
+
+-- as a text is taken off the front of another
+pub stripped : (front text : List ℕ) (r : Option (Bor (List ℕ))) → MatchOption r (FindsTextPrefix front text None) (λ x. StripsPrefix (FindsTextPrefix front) text x.now)
+    → option_map (λ x. x.now) r ≡ behind front text
+stripped front text None h = sym (not_behind front text h)
+stripped front text (Some x) (k, (same, split, boundary), is, len) =
+    ap Some is ∙ sym (ap (behind front) split ∙ is_behind front (drop k text))
+
+-- .. and where it stands first in it
+none_of_none : (i : ℕ) → drop {A = ℕ} i [] ≡ []
+none_of_none zero = refl
+none_of_none (suc i) = refl
+
+found : (part s : List ℕ) (i j : ℕ) → ((k : ℕ) → k < i → LacksTextAt part s k) → drop i s ≡ part ++ drop j s → j ≡ i + length part → behind_first part s ≡ Some (drop j s)
+found part [] i j lacks split ends = ap (behind part) (sym (none_of_none i) ∙ split) ∙ is_behind part (drop j [])
+found part (b ∷ bs) zero j lacks split ends =
+    ap (λ o. option_or o (behind_first part bs)) (ap (behind part) split ∙ is_behind part (drop j (b ∷ bs)))
+found part (b ∷ bs) (suc i) zero lacks split ends = absurd (omega (arith, ends))
+found part (b ∷ bs) (suc i) (suc j) lacks split ends =
+    ap (λ o. option_or o (behind_first part bs)) (not_behind part (b ∷ bs) (lacks 0 (omega arith)))
+    ∙ found part bs i j (λ k below. lacks (suc k) (omega (arith, below))) split (omega (arith, ends))
+
+nowhere : (part s : List ℕ) → ((i : ℕ) → i ≤ length s → LacksTextAt part s i) → behind_first part s ≡ None
+nowhere part [] lacks = not_behind part [] (lacks 0 (omega arith))
+nowhere part (b ∷ bs) lacks =
+    ap (λ o. option_or o (behind_first part bs)) (not_behind part (b ∷ bs) (lacks 0 (omega arith)))
+    ∙ nowhere part bs (λ k within. lacks (suc k) (omega (arith, within)))
+
+pub split_behind : (part s : List ℕ) (r : Option (Bor (List ℕ) × Bor (List ℕ))) → MatchOption r (FindsText part s None) (λ x. SplitsAroundMatch (FindsText part) s x.0.now x.1.now)
+    → option_map (λ x. x.1.now) r ≡ behind_first part s
+split_behind part s None h = sym (nowhere part s h)
+split_behind part s (Some x) (i, j, is, front, back, up, before, behind) = ap Some back ∙ sym (found part s i j is.0 is.1.split is.1.ends)

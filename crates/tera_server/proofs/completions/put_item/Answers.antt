@@ -1,0 +1,9 @@
+use Rattle.std.proofs.Common.{refl, append_assoc}
+use Rattle.tera_server.specs.Completions.{item_tokens}
+use Rattle.tera_server.proofs.completions.put_item.Goals as goal
+
+pub returns-clause-tokens : goal.returns-clause-tokens
+unfolding item_tokens
+returns-clause-tokens c =
+    rw (c.in_ok-end_object.ensures.ok, c.in_ok-put_edit.ensures.tokens, c.in_ok-key.ensures.ok, c.in_ok-put_number.ensures.tokens, c.kind_number.ensures, c.in_ok-put_text.ensures.tokens, c.in_ok-begin_object.ensures.ok)
+    (simp append_assoc refl)

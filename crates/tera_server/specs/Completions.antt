@@ -1,0 +1,108 @@
+-- What may be typed at a place of a text.
+use Rattle.std.specs.Prelude.{◌≡◌, ◌++◌, ℕ, nat_eq, if◌then◌else◌, Bool, true, false, List, [], ◌∷◌, codes, length, map, filter, Option, None, Some, option_map, unwrap_or}
+use Rattle.std.specs.List.{filter_map, find}
+use Rattle.std.specs.Option.{option_and_then, option_map_or, option_or}
+use Rattle.json.specs.Json.{Json, null, string, array, object, no_members, member}
+use Rattle.json.specs.Token.{Token}
+use Rattle.json.specs.Tree.{json_tokens}
+use Rattle.json.specs.Value.{items_of}
+use Rattle.protocol_values.specs.Writing.{edit_json, number_json}
+use Rattle.tera_outline.specs.Completions.{completion_at, slot_of}
+use Rattle.tera_outline.specs.Names.{Named, names_of, holds}
+use Rattle.tera_outline.specs.Pieces.{Part, ArePartsOf}
+use Rattle.tera_outline.specs.declared.completions.Completion.{Completion}
+use Rattle.tera_outline.specs.declared.completions.CompletionKind.{CompletionKind}
+use Rattle.tera_outline.specs.declared.completions.CompletionKind.TheVariants.{Statement, Component, Template, Argument}
+use Rattle.tera_outline.specs.declared.names.NameKind.{NameKind}
+use Rattle.tera_outline.specs.declared.names.NameKind.TheVariants.{Defined}
+use Rattle.tera_tree.specs.Calls.{once_each}
+use Rattle.tera_workspace.specs.Components.{components_of, parameters_of_name, files_of}
+use Rattle.tera_workspace.specs.declared.workspace.Workspace.{Workspace}
+use Rattle.text_edits.specs.Lines.{lines_of}
+use Rattle.text_edits.specs.Positions.{byte_of}
+use Rattle.text_edits.specs.declared.positions.Encoding.{Encoding}
+use Rattle.text_edits.specs.declared.positions.Position.{Position}
+use Rattle.tera_server.specs.Positions.{position_at}
+
+-- the words with which the tags of statements begin
+abbrev pub statements : List (List ℕ)
+statements =
+    codes "block" ∷ codes "break" ∷ codes "component" ∷ codes "continue" ∷ codes "elif" ∷ codes "else"
+    ∷ codes "endblock" ∷ codes "endcomponent" ∷ codes "endfilter" ∷ codes "endfor" ∷ codes "endif" ∷ codes "endset"
+    ∷ codes "extends" ∷ codes "filter" ∷ codes "for" ∷ codes "if" ∷ codes "include" ∷ codes "raw" ∷ codes "set"
+    ∷ codes "set_global" ∷ []
+
+-- those of names in a text that stand for what is defined there
+abbrev pub is_defined : NameKind → Bool
+is_defined Defined = true
+is_defined kind = false
+
+abbrev pub defined_names : List Named → List (List ℕ)
+defined_names named = map (λ n. n.text) (filter (λ n. is_defined n.kind) named)
+
+-- what stands behind the front of a text
+abbrev pub behind : List ℕ → List ℕ → Option (List ℕ)
+behind [] text = Some text
+behind (f ∷ fs) [] = None
+behind (f ∷ fs) (b ∷ bs) = if nat_eq f b then behind fs bs else None
+
+-- what stands behind a part where it stands first in a text
+abbrev pub behind_first : List ℕ → List ℕ → Option (List ℕ)
+behind_first part [] = behind part []
+behind_first part (b ∷ bs) = option_or (behind part (b ∷ bs)) (behind_first part bs)
+
+-- the name of a template, by the path of its file behind a folder, with the slash between: what stands there behind the
+-- first folder `templates`, or else the path
+abbrev pub name_in : List ℕ → Option (List ℕ)
+name_in path = option_map (unwrap_or (behind_first (codes "/templates/") path)) (behind (codes "/") path)
+
+abbrev pub name_below : List ℕ → List ℕ → Option (List ℕ)
+name_below folder file = option_and_then name_in (behind folder file)
+
+-- by the first of the folders in which its file is
+abbrev pub template_name : List (List ℕ) → List ℕ → Option (List ℕ)
+template_name [] file = None
+template_name (f ∷ fs) file = option_or (name_below f file) (template_name fs file)
+
+-- what may be typed of a kind, beside these names that stand in the text
+abbrev pub offered : Workspace → List (List ℕ) → List Named → CompletionKind → List (List ℕ)
+offered w folders named Statement = statements
+offered w folders named Component = components_of w ++ defined_names named
+offered w folders named Template = filter_map (template_name folders) (files_of w)
+offered w folders named (Argument call) = option_map_or (λ n. parameters_of_name w n.text) (find (holds call) named) []
+
+-- the numbers that the protocol has for a keyword, a class, a file and a field
+abbrev pub kind_number : CompletionKind → ℕ
+kind_number Statement = 14
+kind_number Component = 7
+kind_number Template = 17
+kind_number (Argument call) = 5
+
+-- what a name that may be typed is told as: it goes between two positions
+abbrev pub item_json : Position → Position → ℕ → List ℕ → Json
+item_json start end kind name =
+    object (member (codes "label") (string name)
+    (member (codes "kind") (number_json kind)
+    (member (codes "textEdit") (edit_json start end name) no_members)))
+
+unfoldable pub item_tokens : Position → Position → ℕ → List ℕ → List Token
+item_tokens start end kind name = json_tokens (item_json start end kind name)
+
+-- names in byte order, each once
+abbrev pub items_json : Position → Position → ℕ → List (List ℕ) → Json
+items_json start end kind names = array (items_of (map (item_json start end kind) (once_each names)))
+
+-- at a byte of a text with these parts: what is typed there is replaced; `null` where nothing is to be typed
+abbrev pub completion_json : Encoding → Workspace → List (List ℕ) → List ℕ → List Named → ℕ → Option Completion → Json
+completion_json e w folders text named byte None = null
+completion_json e w folders text named byte (Some c) =
+    items_json (position_at e text c.start) (position_at e text byte) (kind_number c.kind) (offered w folders named c.kind)
+
+abbrev pub completion_of : Encoding → Workspace → List (List ℕ) → List ℕ → List Part → ℕ → Json
+completion_of e w folders text parts byte =
+    completion_json e w folders text (names_of parts) byte (option_map (completion_at byte) (slot_of (length text) byte parts))
+
+-- at a position of a text
+abbrev pub IsCompletion : Encoding → Workspace → List (List ℕ) → List ℕ → Position → Json → Type 0
+IsCompletion e w folders text p j =
+    (parts : List Part) × ArePartsOf text parts × (j ≡ completion_of e w folders text parts (byte_of e (lines_of text) p))

@@ -1,0 +1,75 @@
+-- Where a component or a template is named, in all documents.
+use Rattle.std.specs.Prelude.{◌≡◌, ◌++◌, ◌&&◌, ◌||◌, not, if◌then◌else◌, List, [], ◌∷◌, Bool, true, false, codes, map, Option}
+use Rattle.std.specs.List.{filter}
+use Rattle.std.specs.Str.{bytes_eq}
+use Rattle.json.specs.Json.{Json, array}
+use Rattle.json.specs.Token.{Token}
+use Rattle.json.specs.Tree.{json_tokens}
+use Rattle.json.specs.Value.{items_of}
+use Rattle.protocol_values.specs.Members.{member_of, is_set}
+use Rattle.protocol_values.specs.Writing.{location_json}
+use Rattle.tera_outline.specs.Names.{Named, name_view, names_of}
+use Rattle.tera_outline.specs.Pieces.{Part, ArePartsOf}
+use Rattle.tera_outline.specs.declared.names.NameKind.{NameKind}
+use Rattle.tera_outline.specs.declared.names.NameKind.TheVariants.{Called, Closed, Defined, Extended, Included}
+use Rattle.tera_workspace.specs.Sources.{Source}
+use Rattle.text_edits.specs.declared.positions.Encoding.{Encoding}
+use Rattle.tera_server.specs.Definitions.{is_component}
+use Rattle.tera_server.specs.Editors.{seen_of, uri_in}
+use Rattle.tera_server.specs.Positions.{position_at}
+use Rattle.tera_server.specs.declared.editor.Editor.{Editor}
+use Rattle.tera_server.specs.declared.references.Search.{Search}
+
+-- whether the parameters ask for definitions too
+abbrev pub declares : Option Json → Bool
+declares params = is_set (member_of (codes "includeDeclaration") (member_of (codes "context") params))
+
+-- what is looked for, whether its definitions count, and how places are told
+pub record Sought : Type 0 where
+  pub named : Named
+  pub declared : Bool
+  pub editor : Editor
+  pub encoding : Encoding
+
+abbrev pub sought_by : Search → Sought
+sought_by s = record { named = name_view s.name.now; declared = s.declared; editor = s.editor.now; encoding = s.encoding }
+
+abbrev pub is_definition : NameKind → Bool
+is_definition Called = false
+is_definition Closed = false
+is_definition Defined = true
+is_definition Extended = false
+is_definition Included = false
+
+-- both stand for a component, or both for a template
+abbrev pub are_alike : NameKind → NameKind → Bool
+are_alike k l = if is_component k then is_component l else not (is_component l)
+
+-- a name stands for what is looked for, and counts
+abbrev pub refers : Sought → Named → Bool
+refers k n = are_alike k.named.kind n.kind && (bytes_eq n.text k.named.text && (k.declared || not (is_definition n.kind)))
+
+-- a name in a file, as a location
+abbrev pub reference_json : Sought → Source → Named → Json
+reference_json k s n =
+    location_json (uri_in s.name (seen_of k.editor s.name)) (position_at k.encoding s.text n.start) (position_at k.encoding s.text n.end)
+
+-- those in a file that refer to it, in the order of its text
+abbrev pub AreReferencesIn : Sought → Source → List Json → Type 0
+AreReferencesIn k s js =
+    (parts : List Part) × ArePartsOf s.text parts × (js ≡ map (reference_json k s) (filter (refers k) (names_of parts)))
+
+-- .. and in files, in their order
+abbrev pub AreReferences : Sought → List Source → List Json → Type 0
+AreReferences k [] js = js ≡ []
+AreReferences k (s ∷ ss) js =
+    (first : List Json) × (rest : List Json) × AreReferencesIn k s first × AreReferences k ss rest × (js ≡ first ++ rest)
+
+-- the array of all
+abbrev pub IsList : Sought → List Source → Json → Type 0
+IsList k sources j = (js : List Json) × AreReferences k sources js × (j ≡ array (items_of js))
+
+-- ---- as it is written
+
+unfoldable pub reference_tokens : Sought → Source → Named → List Token
+reference_tokens k s n = if refers k n then json_tokens (reference_json k s n) else []

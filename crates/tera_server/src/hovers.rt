@@ -1,0 +1,94 @@
+//! What is told of a component that is named in a text.
+
+ghost use Rattle.std.specs.Prelude.{◌≡◌, ◌++◌, ℕ, List, Option, Some, IfOk, OnOk};
+ghost use Rattle.std.specs.Option.{option_map};
+ghost use Rattle.json.specs.Tree.{json_tokens};
+ghost use Rattle.tera_outline.specs.Names.{name_view};
+ghost use Rattle.tera_workspace.specs.Definitions.{definition_view};
+ghost use Rattle.tera_server.specs.Hovers.{component_in, text_at, IsHead, IsHeadBy, hover_json};
+
+use crate::definitions::is_component;
+use json::Writer;
+use protocol_values::put_text;
+use std::alloc::{AllocError, Global};
+use tera_outline::{Name, head_of};
+use tera_workspace::{Definition, Workspace};
+
+/// Writes the head of the definition of the component that the name stands for, or `null`.
+pub(crate) fn put_hover(
+    alloc: Global,
+    out: &mut Writer,
+    workspace: &Workspace,
+    name: &Option<Name>,
+) -> Result<(), AllocError>
+    ensures tokens { OnOk result ((head : Option (List ℕ)) × IsHead workspace.now (option_map name_view name.now) head
+        × (out.new.tokens ≡ out.old.tokens ++ json_tokens (hover_json head))) }
+    ensures before { out.new.before ≡ out.old.before }
+{
+    match head_meant(alloc, workspace, name)? {
+        Some(head) => put_head(out, head)?,
+        None => out.null()?,
+    }
+    Ok(())
+}
+
+fn put_head(out: &mut Writer, head: &str) -> Result<(), AllocError>
+    ensures tokens { OnOk result (out.new.tokens ≡ out.old.tokens ++ json_tokens (hover_json (Some head.now))) }
+    ensures before { out.new.before ≡ out.old.before }
+{
+    out.begin_object()?;
+    out.key("contents")?;
+    out.begin_object()?;
+    put_text(out, "kind", "plaintext")?;
+    put_text(out, "value", head)?;
+    out.end_object()?;
+    out.end_object()?;
+    Ok(())
+}
+
+fn head_meant<'w>(
+    alloc: Global,
+    workspace: &'w Workspace,
+    name: &Option<Name>,
+) -> Result<Option<&'w str>, AllocError>
+    ensures { IfOk result (λ head. IsHead workspace.now (option_map name_view name.now)
+        (option_map (λ h. h.now) head)) }
+{
+    match component_in(name) {
+        Some(name) => head_by(alloc, workspace, name),
+        None => Ok(None),
+    }
+}
+
+// In the first file that defines the component.
+fn head_by<'w>(
+    alloc: Global,
+    workspace: &'w Workspace,
+    name: &str,
+) -> Result<Option<&'w str>, AllocError>
+    ensures { IfOk result (λ head. IsHeadBy workspace.now (Some name.now) (option_map (λ h. h.now) head)) }
+{
+    let place = workspace.definition_of(alloc, name)?;
+    match text_at(workspace, &place) {
+        Some(text) => head_of(alloc, text, name),
+        None => Ok(None),
+    }
+}
+
+fn text_at<'w>(workspace: &'w Workspace, place: &Option<Definition>) -> Option<&'w str>
+    ensures { option_map (λ t. t.now) result ≡ text_at workspace.now (option_map definition_view place.now) }
+{
+    match place {
+        Some(place) => workspace.text(place.file.as_str()),
+        None => None,
+    }
+}
+
+fn component_in(name: &Option<Name>) -> Option<&str>
+    ensures { option_map (λ n. n.now) result ≡ component_in (option_map name_view name.now) }
+{
+    match name {
+        Some(name) if is_component(name.kind) => Some(name.text.as_str()),
+        _ => None,
+    }
+}

@@ -1,0 +1,208 @@
+//! The tokens of a text that an editor colours.
+
+ghost use Rattle.std.specs.Prelude.{◌≡◌, ◌≤◌, ◌++◌, codes, OnOk};
+ghost use Rattle.std.specs.List.{flat_map};
+ghost use Rattle.json.specs.Json.{Json};
+ghost use Rattle.json.specs.Tree.{json_tokens};
+ghost use Rattle.tera_outline.specs.SemanticTokens.{IsOnLine, StandOnLines};
+ghost use Rattle.text_edits.specs.Laws.{IsUpTo};
+ghost use Rattle.text_edits.specs.Positions.{boundary_to};
+ghost use Rattle.text_edits.specs.Walks.{IsReached};
+ghost use Rattle.protocol_values.specs.Writing.{member_tokens};
+ghost use Rattle.tera_server.specs.SemanticTokens as specs;
+ghost use Rattle.tera_server.specs.SemanticTokens.{AreTokens, data_of, numbers, number_tokens, kind_tokens};
+
+use json::Writer;
+use std::alloc::{AllocError, Global};
+use tera_outline::{SemanticKind, SemanticToken, semantic_tokens_of};
+use text_edits::{Encoding, Position, Walk};
+
+/// Writes the tokens of the text, with a fault or without one, each by its distance from the one before.
+pub(crate) fn put_semantic_tokens(
+    alloc: Global,
+    out: &mut Writer,
+    encoding: Encoding,
+    text: &str,
+) -> Result<(), AllocError>
+    ensures tokens { OnOk result ((j : Json) × AreTokens encoding text.now j
+        × (out.new.tokens ≡ out.old.tokens ++ json_tokens j)) }
+    ensures before { out.new.before ≡ out.old.before }
+{
+    let tokens = semantic_tokens_of(alloc, text)?;
+    out.begin_object()?;
+    out.key("data")?;
+    out.begin_array()?;
+    put_data(out, encoding, text, tokens.as_slice())?;
+    out.end_array()?;
+    out.end_object()?;
+    Ok(())
+}
+
+fn put_data(
+    out: &mut Writer,
+    encoding: Encoding,
+    text: &str,
+    tokens: &[SemanticToken],
+) -> Result<(), AllocError>
+    requires { StandOnLines 0 text.now tokens.now }
+    ensures tokens { OnOk result (out.new.tokens
+        ≡ out.old.tokens ++ flat_map number_tokens (data_of encoding text.now tokens.now)) }
+    ensures before { out.new.before ≡ out.old.before }
+{
+    let mut walk = Walk::first();
+    let mut last = walk.position;
+    for token in tokens {
+        let (placed, behind) = place(encoding, text, walk, *token);
+        put_placed(out, last, placed)?;
+        last = placed.start;
+        walk = behind;
+    }
+    Ok(())
+}
+
+// A token by its position.
+#[derive(Clone, Copy)]
+struct Placed {
+    start: Position,
+    length: usize,
+    kind: SemanticKind,
+}
+
+// The position of a token behind a place, and the place behind it.
+fn place(encoding: Encoding, text: &str, walk: Walk, token: SemanticToken) -> (Placed, Walk)
+    requires reached { IsReached encoding text.now walk }
+    requires order { walk.byte ≤ boundary_to text.now token.start }
+    requires line { IsOnLine text.now token }
+    ensures placed { result.0 ≡ specs.placed encoding text.now token }
+    ensures byte { result.1.byte ≡ boundary_to text.now token.end }
+    ensures reached { IsReached encoding text.now result.1 }
+{
+    let start = walk.onward(text, encoding, token.start);
+    let end = start.onward(text, encoding, token.end);
+    let placed = Placed {
+        start: start.position,
+        length: end.position.character - start.position.character,
+        kind: token.kind,
+    };
+    (placed, end)
+}
+
+// Writes the five numbers of a token behind one that begins at the position.
+fn put_placed(out: &mut Writer, last: Position, placed: Placed) -> Result<(), AllocError>
+    requires { IsUpTo last placed.start }
+    ensures tokens { OnOk result (out.new.tokens
+        ≡ out.old.tokens ++ flat_map number_tokens (numbers last placed)) }
+    ensures before { out.new.before ≡ out.old.before }
+{
+    put_number(out, placed.start.line - last.line)?;
+    put_number(out, distance(last, placed.start))?;
+    put_number(out, placed.length)?;
+    put_number(out, kind_number(placed.kind))?;
+    put_number(out, 0)
+}
+
+// How many units stand before the position on its line, behind the other if that is on the line.
+fn distance(last: Position, position: Position) -> usize
+    requires { IsUpTo last position }
+    ensures { result ≡ specs.distance last position }
+{
+    if position.line == last.line {
+        position.character - last.character
+    } else {
+        position.character
+    }
+}
+
+#[tactic(auto, unfolding(crate::specs::SemanticTokens::number_tokens))]
+fn put_number(out: &mut Writer, number: usize) -> Result<(), AllocError>
+    ensures tokens { OnOk result (out.new.tokens ≡ out.old.tokens ++ number_tokens number) }
+    ensures before { out.new.before ≡ out.old.before }
+{
+    out.u64(number as u64)
+}
+
+/// Writes the member that tells what the numbers of kinds mean.
+pub(crate) fn put_legend(out: &mut Writer) -> Result<(), AllocError>
+    ensures tokens { OnOk result (out.new.tokens
+        ≡ out.old.tokens ++ member_tokens (codes "legend") specs.legend_json) }
+    ensures before { out.new.before ≡ out.old.before }
+{
+    out.key("legend")?;
+    out.begin_object()?;
+    out.key("tokenTypes")?;
+    out.begin_array()?;
+    put_kinds(out, &KINDS)?;
+    out.end_array()?;
+    out.key("tokenModifiers")?;
+    out.begin_array()?;
+    out.end_array()?;
+    out.end_object()?;
+    Ok(())
+}
+
+const KINDS: [SemanticKind; 12] = [
+    SemanticKind::Comment,
+    SemanticKind::Keyword,
+    SemanticKind::String,
+    SemanticKind::Number,
+    SemanticKind::Operator,
+    SemanticKind::Namespace,
+    SemanticKind::Class,
+    SemanticKind::Type,
+    SemanticKind::Function,
+    SemanticKind::Parameter,
+    SemanticKind::Property,
+    SemanticKind::Variable,
+];
+
+#[tactic(auto, unfolding(crate::specs::SemanticTokens::kind_tokens))]
+fn put_kinds(out: &mut Writer, kinds: &[SemanticKind]) -> Result<(), AllocError>
+    ensures tokens { OnOk result (out.new.tokens
+        ≡ out.old.tokens ++ flat_map kind_tokens kinds.now) }
+    ensures before { out.new.before ≡ out.old.before }
+{
+    for kind in kinds {
+        out.string(kind_name(*kind))?;
+    }
+    Ok(())
+}
+
+// As the protocol names it.
+fn kind_name(kind: SemanticKind) -> &'static str
+    ensures { result.now ≡ specs.kind_name kind }
+{
+    match kind {
+        SemanticKind::Comment => "comment",
+        SemanticKind::Keyword => "keyword",
+        SemanticKind::String => "string",
+        SemanticKind::Number => "number",
+        SemanticKind::Operator => "operator",
+        SemanticKind::Namespace => "namespace",
+        SemanticKind::Class => "class",
+        SemanticKind::Type => "type",
+        SemanticKind::Function => "function",
+        SemanticKind::Parameter => "parameter",
+        SemanticKind::Property => "property",
+        SemanticKind::Variable => "variable",
+    }
+}
+
+// Its place in the legend.
+fn kind_number(kind: SemanticKind) -> usize
+    ensures { result ≡ specs.kind_number kind }
+{
+    match kind {
+        SemanticKind::Comment => 0,
+        SemanticKind::Keyword => 1,
+        SemanticKind::String => 2,
+        SemanticKind::Number => 3,
+        SemanticKind::Operator => 4,
+        SemanticKind::Namespace => 5,
+        SemanticKind::Class => 6,
+        SemanticKind::Type => 7,
+        SemanticKind::Function => 8,
+        SemanticKind::Parameter => 9,
+        SemanticKind::Property => 10,
+        SemanticKind::Variable => 11,
+    }
+}
