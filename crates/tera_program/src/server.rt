@@ -1,15 +1,16 @@
 //! `tera server`.
 
-ghost use Rattle.std.specs.Prelude.{◌≡◌, ◌++◌, ℕ, List, Option, IfOk, OnOk};
-ghost use Rattle.std.specs.Io.KnownBytes.{Appends, Consumes};
+ghost use Rattle.std.specs.Prelude.{◌≡◌, ◌<◌, ◌++◌, ℕ, List, [], length, false, Option, None, IfOk, OnOk};
+ghost use Rattle.std.specs.Io.KnownBytes.{Appends, Consumes, IsAtEnd};
 ghost use Rattle.std.specs.List.{flat_map};
 ghost use Rattle.json_rpc.specs.Outgoing.{Outgoing, nothing};
 ghost use Rattle.message_frames.specs.Shown.{Message, shown};
 ghost use Rattle.message_frames.specs.Standing.{Stands};
 ghost use Rattle.message_frames.specs.Writing.{frame as frame_text};
-ghost use Rattle.tera_program.specs.Serving.{Takes, Settles, Gives, IsTalking, IsServed};
-ghost use Rattle.tera_server.specs.States.{StaysBut};
+ghost use Rattle.tera_program.specs.Serving.{Takes, Settles, IsLoaded, AreGiven, Gives, IsTalking, IsWaiting, IsServed};
+ghost use Rattle.tera_server.specs.States.{WantsFolder, wanted_view, loaded_as};
 ghost use Rattle.tera_server.specs.declared.server.Server.{Server};
+ghost use Rattle.text_documents.specs.Stored.{IsChangedAt};
 
 use crate::options::EXTENSIONS;
 use crate::output::tell;
@@ -21,7 +22,7 @@ use std::alloc::{AllocError, Global};
 use std::io::{Read, Write};
 use std::rt::Files;
 use std::{fs, io};
-use tera_files::{Sought, files_of, read_source};
+use tera_files::{Sought, Unread, files_of, read_source};
 use tera_server::{Ended as Finished, Server, Wanted};
 
 // How many bytes a message may have.
@@ -61,7 +62,7 @@ fn serve<F: Files + Input + AllocGlobal + Clone + Drop, R: Read, W: Write>(
     reader: &mut R,
     writer: &mut W,
 ) -> io::Result<Finished>
-    ensures { OnOk result (IsServed LONGEST (R.remaining reader.old) (R.remaining reader.new)
+    ensures { IfOk result (λ finished. IsServed LONGEST finished (R.remaining reader.old) (R.remaining reader.new)
         (W.contents writer.old) (W.contents writer.new)) }
 {
     let alloc = files.alloc();
@@ -77,14 +78,17 @@ fn serve<F: Files + Input + AllocGlobal + Clone + Drop, R: Read, W: Write>(
             return Ok(finished);
         }
     }
-    Ok(server.ended())
+    Err(io::ErrorKind::Other.into())
 }
 
 // Reads what has come. The answer is false where nothing does any more.
 fn take_piece<R: Read>(reader: &mut R, piece: &mut Vec<u8>, frames: &mut Frames) -> io::Result<bool>
+    requires { 0 < length piece.old.items }
     ensures limit { frames.new.limit ≡ frames.old.limit }
-    ensures came { OnOk result ((bytes : List ℕ) × Consumes (R.remaining reader.old) (R.remaining reader.new) bytes
-        × ((pending : List ℕ) → Stands frames.old pending → Stands frames.new (pending ++ bytes))) }
+    ensures room { length piece.new.items ≡ length piece.old.items }
+    ensures came { IfOk result (λ more. (bytes : List ℕ) × Consumes (R.remaining reader.old) (R.remaining reader.new) bytes
+        × ((pending : List ℕ) → Stands frames.old pending → Stands frames.new (pending ++ bytes))
+        × (more ≡ false → (bytes ≡ []) × IsAtEnd (R.remaining reader.new))) }
 {
     let count = reader.read(piece.as_mut_slice())?;
     let (came, _) = piece.as_slice().split_at(count);
@@ -102,29 +106,52 @@ fn answer_all<F: Files + Input + AllocGlobal + Clone + Drop, W: Write>(
 ) -> io::Result<Option<Finished>>
     requires { out.old ≡ nothing }
     ensures limit { frames.new.limit ≡ frames.old.limit }
-    ensures talked { OnOk result ((start : Server) (bytes : List ℕ) (began : Option (List ℕ)) →
-        IsTalking frames.old.limit start server.old bytes frames.old began (W.contents writer.old) →
-        IsTalking frames.old.limit start server.new bytes frames.new began (W.contents writer.new)) }
+    ensures talked { IfOk result (λ ended. (start : Server) (bytes : List ℕ) (began : Option (List ℕ)) →
+        IsTalking frames.old.limit None start server.old bytes frames.old began (W.contents writer.old) →
+        IsWaiting frames.old.limit ended start server.new bytes frames.new began (W.contents writer.new)) }
     ensures sent { OnOk result (out.new ≡ nothing) }
 {
     let alloc = files.alloc();
     'messages: for _ in 0..u64::MAX {
-        match frames.next(alloc)? {
-            Frame::Wait => {
-                settle(alloc, server, writer, out)?;
-                return Ok(None);
-            }
-            frame => {
-                let finished = answer(alloc, server, frame, writer, out)?;
-                if finished.is_some() {
-                    return Ok(finished);
+        match frames.next(alloc) {
+            Ok(next) => match next {
+                Frame::Wait => {
+                    settle(alloc, server, writer, out)?;
+                    return Ok(None);
                 }
-                // What finds no memory is not given, and ends nothing.
-                let _given = give(files, server);
+                frame => {
+                    let finished = answer(alloc, server, frame, writer, out)?;
+                    if finished.is_some() {
+                        return Ok(finished);
+                    }
+                }
+            },
+            Err(AllocError) => {
+                frames.skip();
+                miss(alloc, server, writer, out)?;
             }
         }
+        // What finds no memory is not given, and ends nothing.
+        let _given = give(files, server);
     }
-    Ok(None)
+    Err(io::ErrorKind::Other.into())
+}
+
+// There is no memory for a message.
+fn miss<W: Write>(
+    alloc: Global,
+    server: &mut Server,
+    writer: &mut W,
+    out: &mut Outbox,
+) -> io::Result<()>
+    requires { out.old ≡ nothing }
+    ensures took { OnOk result ((sent : Outgoing) × ((message : List ℕ) → Takes server.old (Message message) None server.new sent)
+        × Appends (W.contents writer.old) (W.contents writer.new) (flat_map frame_text sent.sent)) }
+    ensures sent { OnOk result (out.new ≡ nothing) }
+{
+    server.miss(alloc, out);
+    send(alloc, writer, out)?;
+    Ok(())
 }
 
 // Takes what came, and writes what is sent of it.
@@ -224,7 +251,7 @@ fn give_wanted<F: Files + Input + AllocGlobal + Clone + Drop>(
     server: &mut Server,
     wanted: &Wanted,
 ) -> Result<(), AllocError>
-    ensures { Gives server.old server.new }
+    ensures { AreGiven (wanted_view wanted.now) server.old server.new }
 {
     match wanted {
         Wanted::Folder(path) => give_folder(files, server, path.as_str()),
@@ -237,7 +264,7 @@ fn give_folder<F: Files + Input + AllocGlobal + Clone + Drop>(
     server: &mut Server,
     folder: &str,
 ) -> Result<(), AllocError>
-    ensures { Gives server.old server.new }
+    ensures { AreGiven (WantsFolder folder.now) server.old server.new }
 {
     let sought = Sought {
         extensions: EXTENSIONS.as_slice(),
@@ -250,23 +277,38 @@ fn give_folder<F: Files + Input + AllocGlobal + Clone + Drop>(
     Ok(())
 }
 
-// A pipe or a device is never read, nor what is too large, nor what is no text.
 fn give_file<F: Files + Input + AllocGlobal>(
     files: &F,
     server: &mut Server,
     path: &str,
 ) -> Result<(), AllocError>
-    ensures { StaysBut server.old server.new }
+    ensures given { IsLoaded path.now server.old server.new }
+    ensures loaded { OnOk result ((text : Option (List ℕ)) × IsChangedAt path.now (loaded_as text)
+        server.old.workspace.documents server.new.workspace.documents) }
 {
-    if !may_be_read(files, path) {
-        return server.load(files.alloc(), path, None);
+    let text = text_of(files, path)?;
+    server.load(files.alloc(), path, text.as_deref())
+}
+
+// A pipe or a device is never read, nor what is too large, nor what is no text.
+fn text_of<F: Files + Input + AllocGlobal>(
+    files: &F,
+    path: &str,
+) -> Result<Option<String>, AllocError> {
+    if !may_be_read(files, path)? {
+        return Ok(None);
     }
     match read_source(files, path, path) {
-        Ok(source) => server.load(files.alloc(), path, Some(source.text.as_str())),
-        Err(_) => server.load(files.alloc(), path, None),
+        Ok(source) => Ok(Some(source.text)),
+        Err(Unread::Memory) => Err(AllocError),
+        Err(Unread::NotUtf8(_) | Unread::Failed(_)) => Ok(None),
     }
 }
 
-fn may_be_read(files: &impl Files, path: &str) -> bool {
-    fs::metadata(files, path).is_ok_and(|data| data.is_file() && data.len() <= LARGEST)
+fn may_be_read(files: &impl Files, path: &str) -> Result<bool, AllocError> {
+    match fs::metadata(files, path) {
+        Ok(data) => Ok(data.is_file() && data.len() <= LARGEST),
+        Err(error) if error.kind() == io::ErrorKind::OutOfMemory => Err(AllocError),
+        Err(_) => Ok(false),
+    }
 }
