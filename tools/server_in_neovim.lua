@@ -140,6 +140,68 @@ must("the component is defined a line further", type(place) == "table" and place
 place = ask(page, "textDocument/definition", at(page, 0, 15))
 must("the template that is extended is found", type(place) == "table" and place.uri:match("/base%.html$") ~= nil, place)
 
+-- The colours: each token by its distance from the one before, in units of UTF-16.
+local tokens = ask(page, "textDocument/semanticTokens/full", { textDocument = vim.lsp.util.make_text_document_params(page) })
+local kinds = client.server_capabilities.semanticTokensProvider.legend.tokenTypes
+local data = type(tokens) == "table" and tokens.data or {}
+local told, line, character = {}, 0, 0
+for n = 1, #data, 5 do
+  line, character = line + data[n], data[n] == 0 and character + data[n + 1] or data[n + 1]
+  table.insert(told, string.format("%d:%d-%d %s", line, character, character + data[n + 2], kinds[data[n + 3] + 1]))
+end
+told = table.concat(told, ", ")
+must("the tokens are coloured", told:match("0:3%-10 keyword, 0:11%-22 string, ") and told:match(", 2:6%-8 class, 2:9%-12 class, ")
+  and told:match(", 2:29%-30 variable, 2:31%-32 operator, 2:33%-38 function, "), told)
+-- What is told of a component, and where it is named, in all files and by the texts as they are.
+local hover = ask(page, "textDocument/hover", at(page, 2, 9))
+must("the head of the definition is told", type(hover) == "table" and type(hover.contents) == "table"
+  and hover.contents.value == "ui.box(size: string = 'l')", hover)
+hover = ask(page, "textDocument/hover", at(page, 0, 15))
+must("of a template nothing is told", hover == nil or hover == vim.NIL, hover)
+local function references(buffer, line, character, declared)
+  local params = at(buffer, line, character)
+  params.context = { includeDeclaration = declared }
+  local places = {}
+  for _, place in ipairs(ask(buffer, "textDocument/references", params) or {}) do
+    table.insert(places, string.format("%s:%d:%d-%d", place.uri:match("[^/]*$"), place.range.start.line,
+      place.range.start.character, place.range["end"].character))
+  end
+  return table.concat(places, " ")
+end
+local places = references(ui, 1, 24, false)
+must("the call is found", places == "page.html:2:6-12", places)
+places = references(page, 2, 9, true)
+must("and the definition, where it is asked for", places == "page.html:2:6-12 ui.html:1:23-29", places)
+places = references(page, 0, 15, false)
+must("the template is extended in one place", places == "page.html:0:11-22", places)
+-- What may be typed, in a text that has a fault.
+local function offered(character)
+  local items, labels = ask(page, "textDocument/completion", at(page, 2, character)), {}
+  for _, item in ipairs(type(items) == "table" and items or {}) do
+    table.insert(labels, item.label)
+  end
+  return items, labels
+end
+vim.api.nvim_buf_set_lines(page, 2, 3, true, { "{% component own() %}😀{{ <ui. }}" })
+local items, labels = offered(30)
+must("components are offered, that of the text too", vim.deep_equal(labels, { "own", "ui.box" }), labels)
+if #labels == 2 then
+  vim.lsp.util.apply_text_edits({ items[2].textEdit }, page, client.offset_encoding)
+end
+text = vim.api.nvim_buf_get_lines(page, 2, 3, true)[1]
+must("one takes the place of what is typed", text == "{% component own() %}😀{{ <ui.box }}", text)
+vim.api.nvim_buf_set_lines(page, 2, 3, true, { "{{ <ui.box s }}" })
+items, labels = offered(12)
+must("parameters are offered", vim.deep_equal(labels, { "size" }), labels)
+vim.api.nvim_buf_set_lines(page, 2, 3, true, { '{% include "" %}' })
+items, labels = offered(12)
+must("templates are offered", vim.deep_equal(labels, { "base.html", "page.html", "ui.html" }), labels)
+vim.api.nvim_buf_set_lines(page, 2, 3, true, { "{% e %}" })
+items, labels = offered(4)
+must("statements are offered", vim.tbl_contains(labels, "endblock"), labels)
+items, labels = offered(0)
+must("in a text nothing is", items == vim.NIL or items == nil, items)
+
 -- A request that is not known has an error.
 local unknown = ask(page, "textDocument/nothing", {})
 must("a request that is not known is refused", type(unknown) == "table" and unknown.code == -32601, unknown)
