@@ -1,7 +1,7 @@
 pub mod Documents
 pub mod Adding
 pub mod Escapes
-pub mod Refusals
+pub mod RefusalBytes
 pub mod Reserve
 pub mod OneValue
 pub mod ReadBack

@@ -16,7 +16,7 @@ use Rattle.tera_grammar.specs.expressions.Concrete.{Kind, of_items, of_entries, 
 use Rattle.tera_grammar.specs.expressions.Measures.{Within, EachElement, EachRow, EachAttribute}
 use Rattle.tera_grammar.specs.expressions.Companions.{EachArgs}
 use Rattle.tera_grammar.specs.statements.Names.{agrees, NamesAreDistinct, block_named, component_named, ◌and_then◌}
-use Rattle.tera_grammar.specs.statements.Parts.{Name, name_if_any_yield, AtEndBlock, AtEndFor, AtEndIf, closing, finish}
+use Rattle.tera_grammar.specs.statements.TagParts.{Name, name_if_any_yield, AtEndBlock, AtEndFor, AtEndIf, closing, finish}
 use Rattle.tera_grammar.specs.statements.Expressions.{Expression, IsExpression, Filtering, IsFilter, Attributes, AreAttributes, ComponentName, LiteralArray, IsLiteralArray, LiteralMap, IsLiteralMap, expression_yield, attributes_yield}
 use Rattle.tera_grammar.specs.statements.Components.{Default, LiteralDefault, MinusDefault, NothingDefault, ArrayDefault, MapDefault, FitsDefault, Annotation, Assigned, Parameter, assigned_yield, is_known, default_has_type, FitsAssigned, FitsParameter, Parameters, Closed, Rest, Final, More, parameters_yield, parameter_names, FitEach, Head, metadata_yield, ending_yield, FitsMetadata, component_texts, FitsHead}
 use Rattle.tera_grammar.specs.statements.Heads.{Loop, FitsLoop, Filters, NoFilters, Piped, filters_yield, AreFilters, Capture, SetBody, Section, CallBody, capture_end, FitsCapture}
@@ -28,7 +28,7 @@ use Rattle.tera_grammar.proofs.statements.Tops.{top_found, top_read}
 use Rattle.tera_source.proofs.Places.{tree_at, row_at, element_at, args_at, attributes_at, tokens_at}
 use Rattle.tera_source.proofs.SameMeasures.{within_same}
 use Rattle.tera_source.proofs.SameConditions.{bound_same}
-use Rattle.tera_alike.proofs.Parts.{constants_same, pairs_same, variables_bound, items_deep, items_bound, entries_bound, args_bound, attributes_bound}
+use Rattle.tera_alike.proofs.Subexpressions.{constants_same, pairs_same, variables_bound, items_deep, items_bound, entries_bound, args_bound, attributes_bound}
 use Rattle.tera_alike.proofs.BodyPlaces.{name_if_any_at, filter_at, component_if_any_at, array_at, map_at, metadata_at, default_at, assigned_at, annotation_at, parameter_at, parameters_at, head_at, filters_at, capture_at, loop_at, plain_at, body_at, item_at, branches_at, else_at, body_tokens}
 use Rattle.tera_alike.proofs.BodyOutput.{component_same, argument_same}
 

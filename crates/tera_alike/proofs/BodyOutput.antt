@@ -14,7 +14,7 @@ use Rattle.tera_tree.specs.Tree.{Argument, Definition}
 use Rattle.tera_grammar.specs.expressions.Operators.{GreaterThan, In}
 use Rattle.tera_grammar.specs.expressions.Marks.{mark, LeftParen, RightParen, Comma, Operation}
 use Rattle.tera_grammar.specs.expressions.Concrete.{second_yield}
-use Rattle.tera_grammar.specs.statements.Parts.{name_if_any_yield, AtEndBlock, AtEndFor, AtEndIf, closing, finish}
+use Rattle.tera_grammar.specs.statements.TagParts.{name_if_any_yield, AtEndBlock, AtEndFor, AtEndIf, closing, finish}
 use Rattle.tera_grammar.specs.statements.Expressions.{Expression, Filtering, Attributes, ComponentName, expression_yield, attributes_yield, expression_output, filter_output, attributes_output, component_text, array_output, map_output, LiteralMap}
 use Rattle.tera_grammar.specs.statements.Types.{Sorted, put_name}
 use Rattle.tera_grammar.specs.statements.Components.{Default, LiteralDefault, MinusDefault, NothingDefault, ArrayDefault, MapDefault, default_output, Annotation, Assigned, Parameter, assigned_yield, default_of, type_of_argument, argument_of, Parameters, Closed, Rest, Final, More, parameters_yield, put_arguments, rest_of, Head, metadata_yield, ending_yield, metadata_output, definition_of}
@@ -26,7 +26,7 @@ use Rattle.tera_grammar.proofs.statements.Expressions.{expression_plain}
 use Rattle.tera_source.specs.Placeless.{placeless, placeless_entries}
 use Rattle.tera_source.proofs.Places.{tree_at, attributes_at}
 use Rattle.tera_source.proofs.SameOutput as whole
-use Rattle.tera_alike.proofs.Parts as parts
+use Rattle.tera_alike.proofs.Subexpressions as parts
 use Rattle.tera_alike.specs.Outputs.{placeless_filters, placeless_nodes, placeless_node, placeless_list, placeless_definition, placeless_output}
 use Rattle.tera_alike.proofs.BodyPlaces.{filter_at, component_at, metadata_at, default_at, assigned_at, annotation_at, mark_at, parameter_at, parameters_at, head_at, filters_at, capture_at, loop_at, plain_at, body_at, item_at, branches_at, else_at}
 

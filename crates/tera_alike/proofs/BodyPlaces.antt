@@ -8,13 +8,13 @@ use Rattle.tera_grammar.specs.expressions.Operators.{GreaterThan, In}
 use Rattle.tera_grammar.specs.expressions.Marks.{mark, LeftParen, RightParen, Comma, Assign, Operation}
 use Rattle.tera_grammar.specs.expressions.Concrete.{Kind, of_items, of_entries, quote_token, second_yield, dotted_yield, row_yield, args_yield}
 use Rattle.tera_grammar.specs.expressions.Companions.{Opened}
-use Rattle.tera_grammar.specs.statements.Parts.{Edge, Name, name_yield, name_if_any_yield, Tag, OpensSet, OpensInclude, OpensExtends, OpensBlock, OpensFor, OpensIf, OpensFilter, OpensComponent, OpensBreak, OpensContinue, OpensCall, AtElif, AtElse, AtEndSet, AtEndBlock, AtEndFor, AtEndIf, AtEndFilter, AtEndComponent, AtEndCall, opener_token, closer_token, closing, finish}
+use Rattle.tera_grammar.specs.statements.TagParts.{Edge, Name, name_yield, name_if_any_yield, Tag, OpensSet, OpensInclude, OpensExtends, OpensBlock, OpensFor, OpensIf, OpensFilter, OpensComponent, OpensBreak, OpensContinue, OpensCall, AtElif, AtElse, AtEndSet, AtEndBlock, AtEndFor, AtEndIf, AtEndFilter, AtEndComponent, AtEndCall, opener_token, closer_token, closing, finish}
 use Rattle.tera_grammar.specs.statements.Expressions.{Expression, Filtering, Attributes, ComponentName, LiteralArray, LiteralMap, expression_yield, filter_yield, attributes_yield, component_yield, array_yield, map_yield}
 use Rattle.tera_grammar.specs.statements.Components.{Default, LiteralDefault, MinusDefault, NothingDefault, ArrayDefault, MapDefault, default_yield, Annotation, Assigned, Parameter, at_yield, annotation_yield, assigned_yield, parameter_yield, Parameters, Closed, Rest, Final, More, parameters_yield, Head, metadata_yield, component_if_any_yield, head_yield, ending_yield}
 use Rattle.tera_grammar.specs.statements.Heads.{Loop, loop_yield, Filters, NoFilters, Piped, filters_yield, Capture, SetBody, Section, CallBody, capture_yield, capture_end}
 use Rattle.tera_grammar.specs.statements.Grammar.{Plain, Text, Shown, Set, Include, Extends, Break, Continue, Body, Done, Then, Item, Single, Block, Define, Capturing, For, If, Branches, Elif, Last, Else, NoElse, Otherwise, plain_yield, yield, item_yield, branches_yield, else_yield}
 use Rattle.tera_source.proofs.Places.{name_at, second_at, dotted_at, tree_at, row_at, args_at, attributes_at, tokens_at, tree_tokens}
-use Rattle.tera_alike.proofs.Parts.{second_tokens, dotted_tokens, row_tokens, args_tokens, attributes_tokens}
+use Rattle.tera_alike.proofs.Subexpressions.{second_tokens, dotted_tokens, row_tokens, args_tokens, attributes_tokens}
 
 -- a token stands where the tokens behind it say
 module _ (place : Items → Span) where

@@ -1,4 +1,4 @@
-pub mod Parts
+pub mod Subexpressions
 pub mod BodyPlaces
 pub mod BodyOutput
 pub mod BodyConditions

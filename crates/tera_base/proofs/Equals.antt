@@ -24,7 +24,7 @@ use Rattle.tera_base.specs.contracts.errors.NotePartialEq.TheImpl as note_test
 use Rattle.tera_base.specs.contracts.errors.ReportErrorPartialEq.TheImpl as report_test
 use Rattle.tera_base.specs.contracts.errors.ErrorPartialEq.TheImpl as error_test
 use Rattle.tera_base.proofs.Puts.{derived}
-use Rattle.tera_base.proofs.Rows.{first, rest}
+use Rattle.tera_base.proofs.KeysAndValues.{first, rest}
 
 pub derived_keys : (ks ls : List Key) → pointwise ((derived_eq.ghosts).eq) ks ls ≡ pointwise same_key ks ls
 derived_keys ks ls i = pointwise (λ k l. derived k l i) ks ls

@@ -1,7 +1,7 @@
 pub mod Tellings
 pub mod ValueViews
 pub mod Showing
-pub mod Rows
+pub mod KeysAndValues
 pub mod Puts
 pub mod Equals
 pub mod ContextViews

@@ -68,7 +68,7 @@ fn copy_values(alloc: Global, values: &[Value]) -> Result<Vec<Value>, AllocError
     Ok(copies)
 }
 
-#[tactic(auto, using(crate::proofs::Rows::same_pairs, crate::proofs::Rows::copied_values))]
+#[tactic(auto, using(crate::proofs::KeysAndValues::same_pairs, crate::proofs::KeysAndValues::copied_values))]
 fn joined(like: &Map, values: Vec<Value>) -> Result<Map, AllocError>
     requires { map value_view values.items ≡ map value_view (values_of like.now) }
     ensures { IfOk result (λ c. pairs_view c ≡ pairs_view like.now) }

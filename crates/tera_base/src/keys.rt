@@ -112,7 +112,7 @@ impl Keys {
     }
 }
 
-#[tactic(auto, using(crate::proofs::Rows::copied_keys, crate::proofs::Rows::copied_len))]
+#[tactic(auto, using(crate::proofs::KeysAndValues::copied_keys, crate::proofs::KeysAndValues::copied_len))]
 fn copy_set(keys: &KeySet) -> Result<KeySet, AllocError>
     ensures same { IfOk result (λ c. map key_view c.keys ≡ map key_view keys.now.keys) }
     ensures len { IfOk result (λ c. length c.keys ≡ length keys.now.keys) }

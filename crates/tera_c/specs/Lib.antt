@@ -1,4 +1,4 @@
 pub mod Asked
-pub mod Refusals
+pub mod WithoutTree
 pub mod Statuses
 pub mod Told

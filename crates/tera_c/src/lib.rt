@@ -6,7 +6,7 @@
 //! tells beside it, by the words of `tera_parser`, `tera_show` and `tera_tree_json`, on which it stands.
 //!
 //! In the order of reading: `status` and `shapes`, the types; specs `Statuses`, what a buffer holds, `Asked`, what can
-//! be read, and `Told`. Then `buffer`; `markers`; `parsed`, with specs `Refusals`; `trees`; `faults`.
+//! be read, and `Told`. Then `buffer`; `markers`; `parsed`, with specs `WithoutTree`; `trees`; `faults`.
 #![tactic(auto)]
 
 mod buffer;

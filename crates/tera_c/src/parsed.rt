@@ -6,7 +6,7 @@ ghost use Rattle.tera_grammar.specs.statements.Top.{Derives};
 ghost use Rattle.tera_expr_parts.specs.Rooms.{AreValid, limits_of};
 ghost use Rattle.tera_statements.specs.Outputs.{output_view};
 ghost use Rattle.tera_c.specs.Asked.{limits_at};
-ghost use Rattle.tera_c.specs.Refusals.{RefusesText, RefusesAsked};
+ghost use Rattle.tera_c.specs.WithoutTree.{RefusesText, RefusesAsked};
 ghost use Rattle.tera_c.specs.Told.{HasTree};
 
 use crate::markers::markers_at;

@@ -2,7 +2,7 @@ pub mod AlikeLemmas
 pub mod CatalogueLemmas
 pub mod FaultLemmas
 pub mod JudgedLemmas
-pub mod Parts
+pub mod Pending
 pub mod PassedLemmas
 pub mod SpansLemmas
 pub mod Unknown

@@ -5,6 +5,6 @@ pub mod Findings
 pub mod Judged
 pub mod Named
 pub mod Objects
-pub mod Parts
+pub mod Pending
 pub mod Passed
-pub mod Rules
+pub mod OrderAndStatus

@@ -13,7 +13,7 @@ ghost use Rattle.tera_nodes.specs.declared.ast.If.{out-If};
 ghost use Rattle.tera_statements.specs.Outputs.{output_view};
 ghost use Rattle.tera_tree.specs.View.{definition_view};
 ghost use Rattle.tera_check.specs.Calls.{calls_in, calls_in_maybe, calls_in_filters, calls_in_args, calls_in_item, calls_in_items, calls_in_entry, calls_in_entries, calls_in_node, calls_in_nodes, calls_in_definition, calls_of};
-ghost use Rattle.tera_check.specs.Parts.{seen, calls_in_part, to_come};
+ghost use Rattle.tera_check.specs.Pending.{seen, calls_in_part, to_come};
 
 use std::alloc::{AllocError, Global};
 use std::collections::BTreeMap;
@@ -75,7 +75,7 @@ fn parts_of(alloc: Global, output: &ParserOutput) -> Result<Parts<'_>, AllocErro
 }
 
 // Takes the part. What was found stands from right to left.
-#[tactic(auto, using(crate::proofs::Parts::framed, crate::proofs::Parts::found_more))]
+#[tactic(auto, using(crate::proofs::Pending::framed, crate::proofs::Pending::found_more))]
 fn take<'a>(
     calls: &mut Vec<&'a Spanned<ComponentCall>>,
     left: &mut Parts<'a>,
@@ -124,7 +124,7 @@ fn push_nodes<'a>(left: &mut Parts<'a>, nodes: &'a Vec<Node>) -> Result<(), Allo
     Ok(())
 }
 
-#[tactic(auto, using(crate::proofs::Parts::to_come_more))]
+#[tactic(auto, using(crate::proofs::Pending::to_come_more))]
 fn push_part<'a>(left: &mut Parts<'a>, part: Part<'a>) -> Result<(), AllocError>
     ensures { OnOk result (to_come left.new.items
         ≡ to_come left.old.items ++ calls_in_part part.entry) }
@@ -237,7 +237,7 @@ fn push_arguments<'a>(
     Ok(())
 }
 
-#[tactic(auto, using(crate::proofs::Parts::items_more))]
+#[tactic(auto, using(crate::proofs::Pending::items_more))]
 fn push_items<'a>(left: &mut Parts<'a>, items: &'a Vec<ArrayEntry>) -> Result<(), AllocError>
     ensures { OnOk result (to_come left.new.items ≡ to_come left.old.items
         ++ calls_in_items (items_view items.now.items)) }
@@ -258,7 +258,7 @@ fn push_item<'a>(left: &mut Parts<'a>, item: &'a ArrayEntry) -> Result<(), Alloc
     }
 }
 
-#[tactic(auto, using(crate::proofs::Parts::entries_more))]
+#[tactic(auto, using(crate::proofs::Pending::entries_more))]
 fn push_entries<'a>(left: &mut Parts<'a>, entries: &'a Vec<MapEntry>) -> Result<(), AllocError>
     ensures { OnOk result (to_come left.new.items ≡ to_come left.old.items
         ++ calls_in_entries (entries_view entries.now.items)) }

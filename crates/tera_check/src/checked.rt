@@ -16,9 +16,9 @@ ghost use Rattle.tera_check.specs.Calls.{calls_of};
 ghost use Rattle.tera_check.specs.Findings.{NoteOf, place_of};
 ghost use Rattle.tera_check.specs.Judged.{known_view, undefined, judged, call_findings, again, defined_again, again_findings, refused_findings, missing_in};
 ghost use Rattle.tera_check.specs.Named.{known_in, span_at, tree_findings};
-ghost use Rattle.tera_check.specs.Parts.{seen};
+ghost use Rattle.tera_check.specs.Pending.{seen};
 ghost use Rattle.tera_check.specs.Passed.{passed_view, passed_by};
-ghost use Rattle.tera_check.specs.Rules.{IsInOrder, status_of};
+ghost use Rattle.tera_check.specs.OrderAndStatus.{IsInOrder, status_of};
 
 use crate::arguments::{push_missing, push_refused};
 use crate::calls::calls_of;

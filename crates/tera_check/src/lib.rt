@@ -4,8 +4,8 @@
 //! (`tree_findings`); and it writes findings as lines (`lines_of`) or objects of JSON (`object_of`). It stands on
 //! `tera_parser`, and names nothing below that in its code; of the kit on `json`.
 //!
-//! In the order of reading: specs `Findings`, `Calls`, `Passed`, `Judged`, `Named`, `Rules`, `Objects`, `Faults`,
-//! `Alike`; `templates`, which reads, and `spans`; `catalogue`; `calls`, over a stack of parts (specs `Parts`);
+//! In the order of reading: specs `Findings`, `Calls`, `Passed`, `Judged`, `Named`, `OrderAndStatus`, `Objects`, `Faults`,
+//! `Alike`; `templates`, which reads, and `spans`; `catalogue`; `calls`, over a stack of parts (specs `Pending`);
 //! `passed`, `arguments` and `messages`, of one call; `checked`, of a template; `finding`, `faults`, `lines` and
 //! `objects`; `laws`.
 #![tactic(auto)]

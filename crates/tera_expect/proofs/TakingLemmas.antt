@@ -11,7 +11,7 @@ use Rattle.tera_lexer.specs.grammar.Lexed.{EachNumber, IsCount}
 use Rattle.tera_lexer.specs.grammar.Tokens as toks
 use Rattle.tera_lexer.specs.grammar.Tokens.{Tok, Items, Token}
 use Rattle.tera_lexer.specs.code.Cursors.{FirstStandsAt, Position, TellsAt, FaultsFrom, IsLater, RefusesFrom, size}
-use Rattle.tera_lexer.proofs.Refusals as refusals
+use Rattle.tera_lexer.proofs.FaultsOfTokens as refusals
 use Rattle.tera_expect.specs.Taking.{Eats, GoesOn, IsCounted, Took, Refuses, Told, no_memory, says, tells, kind_told, TellsAs}
 
 pub goes_further : (old mid new : Position) → GoesOn old mid → GoesOn mid new → GoesOn old new

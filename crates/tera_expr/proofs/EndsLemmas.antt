@@ -13,7 +13,7 @@ use Rattle.tera_grammar.specs.expressions.Concrete.{Dotted, Name, dots, no_dots}
 use Rattle.tera_grammar.specs.expressions.Ends.{EndsPath}
 use Rattle.tera_grammar.specs.expressions.Marks.{Dot}
 use Rattle.tera_grammar.specs.expressions.Reading.Front.{Place, Reads, at, name_of, skip, takes}
-use Rattle.tera_grammar.specs.expressions.Reading.Parts.{dotted_at, dotted_by, dotted_of}
+use Rattle.tera_grammar.specs.expressions.Reading.Bracketed.{dotted_at, dotted_by, dotted_of}
 use Rattle.tera_grammar.specs.expressions.Reading.Whole.{path_of}
 use Rattle.tera_grammar.proofs.Options.{bound}
 use Rattle.tera_grammar.proofs.expressions.Fronts.{skip_none}

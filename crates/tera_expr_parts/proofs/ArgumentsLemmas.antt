@@ -11,7 +11,7 @@ use Rattle.tera_nodes.specs.Tree.{Arg}
 use Rattle.tera_nodes.specs.View.{args_view, expression_view}
 use Rattle.tera_nodes.specs.declared.ast.Expression.{Expression}
 use Rattle.tera_grammar.specs.expressions.Output.{put_arg}
-use Rattle.tera_expr_parts.specs.Rows.{has_argument}
+use Rattle.tera_expr_parts.specs.CommaLists.{has_argument}
 
 cond_some : {A : Type 0} (b : Bool) (x : A) (o : Option A) → is_some (cond b (Some x) o) ≡ (b || is_some o)
 cond_some true x o = refl

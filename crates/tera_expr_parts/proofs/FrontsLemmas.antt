@@ -17,7 +17,7 @@ use Rattle.tera_grammar.specs.expressions.Reading.Front.{among, front_marks, fro
 use Rattle.tera_grammar.proofs.expressions.Fronts.{takes_ok}
 use Rattle.tera_lexer.specs.code.Seen.{seen}
 use Rattle.tera_lexer.specs.code.Cursors.{Position, Takes, Skips, Sight, SeesTwo, size}
-use Rattle.tera_lexer.proofs.Refusals.{token_later}
+use Rattle.tera_lexer.proofs.FaultsOfTokens.{token_later}
 use Rattle.tera_expect.specs.Taking.{Took}
 use Rattle.tera_lexer.specs.declared.lexer.tokens.Token.{Token as Lexed}
 use Rattle.tera_expr_parts.specs.declared.front.Ending.{Ending}

@@ -9,7 +9,7 @@ use Rattle.tera_grammar.specs.expressions.Output.{dotted_text}
 use Rattle.tera_grammar.specs.expressions.Companions.{Path, path_output}
 use Rattle.tera_grammar.specs.Options.{◌>>=◌}
 use Rattle.tera_grammar.specs.expressions.Reading.Front.{at, takes, taken_name, name_of}
-use Rattle.tera_grammar.specs.expressions.Reading.Parts.{dotted_of, dotted_at}
+use Rattle.tera_grammar.specs.expressions.Reading.Bracketed.{dotted_of, dotted_at}
 use Rattle.tera_grammar.specs.expressions.Reading.Whole.{left_over, path_of}
 use Rattle.tera_grammar.proofs.expressions.Fronts.{takes_ok, skip_mark, none_skip}
 use Rattle.tera_expect.specs.Taking.{Fails}

@@ -4,7 +4,7 @@ use Rattle.tera_lexer.specs.code.Cursors.{Position}
 use Rattle.tera_lexer.specs.grammar.Tokens.{Items}
 use Rattle.tera_grammar.specs.expressions.Marks.{Mark, Comma}
 use Rattle.tera_grammar.specs.expressions.Reading.Front.{takes}
-use Rattle.tera_expr_parts.specs.Rows.{Continues}
+use Rattle.tera_expr_parts.specs.CommaLists.{Continues}
 use Rattle.tera_expect.specs.Taking.{Eats}
 
 -- behind a comma

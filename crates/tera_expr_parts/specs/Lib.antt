@@ -3,7 +3,7 @@ pub mod Paths
 pub mod Fronts
 pub mod Literals
 pub mod Unfold
-pub mod Rows
+pub mod CommaLists
 pub mod Keys
 pub mod Folding
 pub mod Ranges

@@ -2,7 +2,7 @@
 use Rattle.std.specs.Prelude.{ℕ, ◌≤◌, Bool, true, false, Option}
 use Rattle.tera_grammar.specs.Limits.{Limits}
 use Rattle.tera_grammar.specs.expressions.Reading.Front as front
-use Rattle.tera_grammar.specs.expressions.Reading.Parts as parts
+use Rattle.tera_grammar.specs.expressions.Reading.Bracketed as parts
 use Rattle.tera_expr_parts.specs.declared.limits.Limits as own
 use Rattle.tera_expr_parts.specs.declared.limits.Room.{Room}
 

@@ -2,7 +2,7 @@
 
 ghost use Rattle.std.specs.Prelude.{◌≡◌, ◌⊎◌, ◌≤◌, IfErr, IfOk, Some, None};
 ghost use Rattle.tera_base.specs.Errors.{IsMemory};
-ghost use Rattle.tera_grammar.specs.expressions.Reading.Parts.{inside_array, inside_subscript};
+ghost use Rattle.tera_grammar.specs.expressions.Reading.Bracketed.{inside_array, inside_subscript};
 ghost use Rattle.tera_grammar.specs.expressions.Reading.Whole.{widest};
 ghost use Rattle.tera_expr_parts.specs.Rooms.{Decides, limits_of, lowered, room_of};
 ghost use Rattle.tera_expect.specs.Taking.{Refuses};

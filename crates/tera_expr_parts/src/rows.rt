@@ -2,7 +2,7 @@
 
 ghost use Rattle.std.specs.Prelude.{IfErr, IfOk};
 ghost use Rattle.tera_expr_parts.specs.Rooms.{room_of};
-ghost use Rattle.tera_expr_parts.specs.Rows.{Continues, reader_of};
+ghost use Rattle.tera_expr_parts.specs.CommaLists.{Continues, reader_of};
 ghost use Rattle.tera_expect.specs.Taking.{Refuses, Took, mark_of};
 
 use crate::limits::{Room, Scope};

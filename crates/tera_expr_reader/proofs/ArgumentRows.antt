@@ -13,12 +13,12 @@ use Rattle.tera_grammar.specs.expressions.Conditions.{argument_names}
 use Rattle.tera_grammar.specs.expressions.Output.{output, put_arg}
 use Rattle.tera_grammar.specs.Options.{◌>>=◌}
 use Rattle.tera_grammar.specs.expressions.Reading.Front.{Place, at, Reads, takes, skip, taken_name, name_of}
-use Rattle.tera_grammar.specs.expressions.Reading.Parts.{Room, Reader, element_of, comma_at, after_element, row_of, arguments_of}
+use Rattle.tera_grammar.specs.expressions.Reading.Bracketed.{Room, Reader, element_of, comma_at, after_element, row_of, arguments_of}
 use Rattle.tera_grammar.proofs.expressions.Fronts.{bind_ok, fails_ok, none_skip}
 use Rattle.tera_grammar.proofs.expressions.Repeated.{twice}
 use Rattle.tera_expect.specs.Taking.{Fails}
 use Rattle.tera_expr_parts.specs.declared.rows.Values.{Values}
-use Rattle.tera_expr_parts.specs.Rows.{Continues, has_argument, new_name_at, reader_of}
+use Rattle.tera_expr_parts.specs.CommaLists.{Continues, has_argument, new_name_at, reader_of}
 use Rattle.tera_expr_reader.proofs.RowsLemmas.{Opening, Rowing, skip_taken, element_read, element_fails, behind, behind_fails, fails_by}
 use Rattle.tera_expr_reader.proofs.ArgumentsLemmas.{Arguing, Argued, one_more, last_one, all_of}
 

@@ -14,7 +14,7 @@ use Rattle.tera_grammar.specs.expressions.Conditions.{argument_names}
 use Rattle.tera_grammar.specs.expressions.Output.{output, arguments_output, put_arg}
 use Rattle.tera_grammar.specs.expressions.Spans.{row_end}
 use Rattle.tera_grammar.proofs.expressions.Repeated.{once}
-use Rattle.tera_expr_parts.specs.Rows.{has_argument}
+use Rattle.tera_expr_parts.specs.CommaLists.{has_argument}
 
 or_again : (a b : Bool) → (a || b) ≡ (a || (a || b))
 or_again true b = refl

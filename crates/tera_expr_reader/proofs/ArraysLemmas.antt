@@ -15,7 +15,7 @@ use Rattle.tera_grammar.specs.expressions.Output.{array_made, constant_items}
 use Rattle.tera_grammar.specs.expressions.Stack.{HeadGives}
 use Rattle.tera_grammar.specs.Options.{◌>>=◌}
 use Rattle.tera_grammar.specs.expressions.Reading.Front.{Place, at, Reads, takes, skip}
-use Rattle.tera_grammar.specs.expressions.Reading.Parts.{Room, Reader, inside_array, element_of}
+use Rattle.tera_grammar.specs.expressions.Reading.Bracketed.{Room, Reader, inside_array, element_of}
 use Rattle.tera_grammar.specs.expressions.Reading.Atoms.{array_of, array_at, array_from, for_at, items_from, comprehension_of}
 use Rattle.tera_grammar.proofs.expressions.Fronts.{none_skip}
 use Rattle.tera_expr_parts.specs.Literals.{MayBeNegated}

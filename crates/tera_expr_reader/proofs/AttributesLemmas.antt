@@ -17,7 +17,7 @@ use Rattle.tera_grammar.specs.expressions.Marks.{Assign, LeftBrace, RightBrace, 
 use Rattle.tera_grammar.specs.expressions.Concrete.{Name, Quote, Tree, Attributes, no_attributes, bare, quoted, valued, spreading}
 use Rattle.tera_grammar.specs.expressions.Output.{attributes_output}
 use Rattle.tera_grammar.specs.expressions.Reading.Front.{Place, at, Reads, takes, skip, taken_name, name_of, taken_quote, quote_at}
-use Rattle.tera_grammar.specs.expressions.Reading.Parts.{Room, Reader, value_at, named_at, attribute_at, attributes_of}
+use Rattle.tera_grammar.specs.expressions.Reading.Bracketed.{Room, Reader, value_at, named_at, attribute_at, attributes_of}
 use Rattle.tera_grammar.specs.expressions.Reading.Loop.{expr, fresh}
 use Rattle.tera_grammar.proofs.expressions.Fronts.{takes_ok}
 use Rattle.tera_grammar.proofs.expressions.FoundLoop.{expr_sound}
@@ -25,7 +25,7 @@ use Rattle.tera_grammar.proofs.expressions.FoundParts.{Any}
 use Rattle.tera_grammar.specs.expressions.Measures.{links}
 use Rattle.tera_grammar.proofs.expressions.Outermost.{no_toll, Fitting, fresh_sound}
 use Rattle.tera_grammar.proofs.expressions.Steps.{attributes_steps}
-use Rattle.tera_expr_parts.specs.Rows.{reader_by, reader_of}
+use Rattle.tera_expr_parts.specs.CommaLists.{reader_by, reader_of}
 use Rattle.tera_expr_reader.specs.Chains.{Adds, Lacks}
 use Rattle.tera_expr_reader.specs.Attributes.{braced_of, IsBraced, ValueGives, entry_onto, IsAttribute, AttributeGives, MaybeAttribute}
 use Rattle.tera_expr_parts.specs.Attributes.{GivesQuote}

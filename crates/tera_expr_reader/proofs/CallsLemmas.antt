@@ -20,7 +20,7 @@ use Rattle.tera_grammar.specs.expressions.Marks.{LeftParen, Not}
 use Rattle.tera_grammar.specs.expressions.Companions.{Filtering}
 use Rattle.tera_grammar.specs.expressions.Concrete.{Name, Args, no_args, args, plainly, negated, Test, Subscript}
 use Rattle.tera_grammar.specs.expressions.Reading.Front.{Place, at, Reads, takes, taken_name, name_of, ends_test, ends_subscript}
-use Rattle.tera_grammar.specs.expressions.Reading.Parts.{Reader, Room, sub_of, arguments_of, args_of}
+use Rattle.tera_grammar.specs.expressions.Reading.Bracketed.{Reader, Room, sub_of, arguments_of, args_of}
 use Rattle.tera_grammar.specs.expressions.Reading.Loop.{suffix_in}
 use Rattle.tera_expect.specs.Taking.{Fails, GivesBy, Eats}
 use Rattle.tera_expect.proofs.Steps.{failed, failed_past, failed_as, skipped, unskipped, named, unnamed}

@@ -17,7 +17,7 @@ use Rattle.tera_grammar.specs.expressions.Spans.{links_end}
 use Rattle.tera_grammar.specs.expressions.Output.{of_loop, is_optional_joint, is_optional_bracket, field_output, sub_output, links_output}
 use Rattle.tera_grammar.specs.expressions.Reading.Front as reading
 use Rattle.tera_grammar.specs.expressions.Reading.Front.{Place, at, Reads, lowered, taken_name, name_of, no_link, jointed, bracketed, link_of, link_marks, marked_link, among}
-use Rattle.tera_grammar.specs.expressions.Reading.Parts.{Reader, Room, sub_of, links_at, links_of}
+use Rattle.tera_grammar.specs.expressions.Reading.Bracketed.{Reader, Room, sub_of, links_at, links_of}
 use Rattle.tera_grammar.specs.expressions.Reading.Loop.{expr}
 use Rattle.tera_grammar.proofs.expressions.Fronts.{bind_ok, holds_ok}
 use Rattle.tera_grammar.proofs.expressions.FoundLoop.{expr_sound}

@@ -13,7 +13,7 @@ use Rattle.tera_grammar.specs.expressions.Concrete.{Name, Tree, Atomic, Componen
 use Rattle.tera_grammar.specs.expressions.Output.{output, attributes_output}
 use Rattle.tera_grammar.specs.expressions.Spans.{spanning}
 use Rattle.tera_grammar.specs.expressions.Reading.Front.{Place, at, Reads, moved, takes, skip, taken_name, name_of}
-use Rattle.tera_grammar.specs.expressions.Reading.Parts.{Room, Reader, dotted_at, dotted_by, dotted_of, attributes_of}
+use Rattle.tera_grammar.specs.expressions.Reading.Bracketed.{Room, Reader, dotted_at, dotted_by, dotted_of, attributes_of}
 use Rattle.tera_grammar.specs.expressions.Reading.Whole.{left_over, path_of}
 use Rattle.tera_grammar.specs.expressions.Reading.Atoms.{component_of}
 use Rattle.tera_grammar.specs.statements.Reading.Components.{is_name}

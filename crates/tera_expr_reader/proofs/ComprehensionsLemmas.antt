@@ -8,7 +8,7 @@ use Rattle.tera_grammar.specs.expressions.Marks.{Mark, RightBracket, If, Operati
 use Rattle.tera_grammar.specs.expressions.Concrete.{Name, Second, Tree, Atomic, Comprehension, Extra, no_extra, extra}
 use Rattle.tera_grammar.specs.Options.{◌>>=◌}
 use Rattle.tera_grammar.specs.expressions.Reading.Front.{Place, at, Reads, takes, skip}
-use Rattle.tera_grammar.specs.expressions.Reading.Parts.{Room, Reader, extra_at, extra_of}
+use Rattle.tera_grammar.specs.expressions.Reading.Bracketed.{Room, Reader, extra_at, extra_of}
 use Rattle.tera_grammar.specs.expressions.Reading.Atoms.{variables_of, comprehension_of}
 use Rattle.tera_grammar.proofs.expressions.Fronts.{none_skip}
 use Rattle.tera_expr_reader.proofs.RowsLemmas.{skip_taken}

@@ -16,12 +16,12 @@ use Rattle.tera_grammar.specs.expressions.Output.{array_of, items_output, item_o
 use Rattle.tera_grammar.specs.expressions.Spans.{spanning, row_end}
 use Rattle.tera_grammar.specs.Options.{◌>>=◌}
 use Rattle.tera_grammar.specs.expressions.Reading.Front.{Place, at, Reads, takes}
-use Rattle.tera_grammar.specs.expressions.Reading.Parts.{Room, Reader, item_at, element_of, after_element, row_of}
+use Rattle.tera_grammar.specs.expressions.Reading.Bracketed.{Room, Reader, item_at, element_of, after_element, row_of}
 use Rattle.tera_grammar.specs.expressions.Reading.Atoms.{items_from}
 use Rattle.tera_grammar.proofs.expressions.Fronts.{none_skip}
 use Rattle.tera_expr_reader.specs.Elements.{IsItem}
 use Rattle.tera_expr_parts.specs.declared.rows.Values.{Values}
-use Rattle.tera_expr_parts.specs.Rows.{Continues, reader_of}
+use Rattle.tera_expr_parts.specs.CommaLists.{Continues, reader_of}
 use Rattle.tera_expect.specs.Taking.{Fails}
 use Rattle.tera_expr_reader.proofs.RowsLemmas.{Opening, Rowing, skip_taken, bind_some, element_read, element_fails, behind, behind_fails, fails_by}
 

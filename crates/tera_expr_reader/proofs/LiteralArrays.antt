@@ -15,7 +15,7 @@ use Rattle.tera_grammar.specs.expressions.Marks.{LeftBracket, RightBracket, Comm
 use Rattle.tera_grammar.specs.expressions.Output.{array_made, constant_items, items_output, output}
 use Rattle.tera_grammar.specs.Options.{◌>>=◌}
 use Rattle.tera_grammar.specs.expressions.Reading.Front.{Place, at, Reads, takes, skip}
-use Rattle.tera_grammar.specs.expressions.Reading.Parts.{Room, Reader, inside_array, extra_of, element_of, comma_at, after_element, row_at, row_of}
+use Rattle.tera_grammar.specs.expressions.Reading.Bracketed.{Room, Reader, inside_array, extra_of, element_of, comma_at, after_element, row_at, row_of}
 use Rattle.tera_grammar.specs.expressions.Reading.Atoms.{variables_of, comprehension_of, items_from, for_at, array_from, array_at, array_of}
 use Rattle.tera_grammar.specs.expressions.Reading.Whole.{widest, outermost, left_over, with_array, literal_array_of}
 use Rattle.tera_grammar.proofs.expressions.Fronts.{skip_ok, none_skip}

@@ -14,7 +14,7 @@ use Rattle.tera_grammar.specs.expressions.Marks.{LeftBrace}
 use Rattle.tera_grammar.specs.expressions.Output.{constant_entries, entries_output, map_made, output}
 use Rattle.tera_grammar.specs.Options.{◌>>=◌}
 use Rattle.tera_grammar.specs.expressions.Reading.Front.{Place, at, Reads, takes}
-use Rattle.tera_grammar.specs.expressions.Reading.Parts.{row_of}
+use Rattle.tera_grammar.specs.expressions.Reading.Bracketed.{row_of}
 use Rattle.tera_grammar.specs.expressions.Reading.Atoms.{map_of}
 use Rattle.tera_grammar.specs.expressions.Reading.Whole.{widest, outermost, left_over, with_map, literal_map_of}
 use Rattle.tera_grammar.proofs.expressions.Fronts.{none_skip}

@@ -17,7 +17,7 @@ use Rattle.tera_grammar.specs.expressions.Marks.{RightParen, RightBracket, Right
 use Rattle.tera_grammar.specs.expressions.Concrete.{Lit, Number, Quoted, Simple, Escaped, Truth, Tree, Atomic, Chain, Literal, no_links, literal_token}
 use Rattle.tera_grammar.specs.expressions.Output.{output}
 use Rattle.tera_grammar.specs.expressions.Reading.Front.{at, skip}
-use Rattle.tera_grammar.specs.expressions.Reading.Parts.{Room, links_by, links_of}
+use Rattle.tera_grammar.specs.expressions.Reading.Bracketed.{Room, links_by, links_of}
 use Rattle.tera_grammar.specs.expressions.Reading.Atoms.{chain_of, word_head}
 use Rattle.tera_grammar.specs.expressions.Reading.Loop.{expr, loop_by, step}
 use Rattle.tera_grammar.proofs.Options.{bound, bytes_same, or_false}

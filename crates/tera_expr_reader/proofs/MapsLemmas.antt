@@ -20,14 +20,14 @@ use Rattle.tera_grammar.specs.expressions.Output.{map_of, entries_output, entry_
 use Rattle.tera_grammar.specs.expressions.Spans.{spanning, row_end}
 use Rattle.tera_grammar.specs.Options.{◌>>=◌}
 use Rattle.tera_grammar.specs.expressions.Reading.Front.{Place, at, Reads, takes, moved, skip, literal_at}
-use Rattle.tera_grammar.specs.expressions.Reading.Parts.{Room, Reader, entry_at, element_of, row_of}
+use Rattle.tera_grammar.specs.expressions.Reading.Bracketed.{Room, Reader, entry_at, element_of, row_of}
 use Rattle.tera_grammar.specs.expressions.Reading.Atoms as atoms
 use Rattle.tera_grammar.specs.expressions.Stack.{HeadGives}
 use Rattle.tera_grammar.proofs.expressions.Fronts.{none_skip}
 use Rattle.tera_expr_reader.specs.Elements.{IsEntry}
 use Rattle.tera_expr_parts.specs.Keys.{taken_literal}
 use Rattle.tera_expr_parts.specs.declared.rows.Values.{Values}
-use Rattle.tera_expr_parts.specs.Rows.{Continues, reader_of}
+use Rattle.tera_expr_parts.specs.CommaLists.{Continues, reader_of}
 use Rattle.tera_expect.specs.Taking.{Fails}
 use Rattle.tera_expr_reader.proofs.RowsLemmas.{Opening, Rowing, skip_taken, element_read, element_fails, behind, behind_fails, fails_by}
 

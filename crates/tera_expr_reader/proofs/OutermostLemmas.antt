@@ -21,7 +21,7 @@ use Rattle.tera_grammar.specs.expressions.Companions.{Filtering, Opened}
 use Rattle.tera_grammar.specs.expressions.Output.{args_output}
 use Rattle.tera_grammar.specs.expressions.Spans.{args_end, spanning}
 use Rattle.tera_grammar.specs.expressions.Reading.Front.{Reads, at, skip, takes}
-use Rattle.tera_grammar.specs.expressions.Reading.Parts.{arguments_of, attributes_of}
+use Rattle.tera_grammar.specs.expressions.Reading.Bracketed.{arguments_of, attributes_of}
 use Rattle.tera_grammar.specs.expressions.Reading.Loop.{expr}
 use Rattle.tera_grammar.specs.expressions.Reading.Whole.{kwargs_of, left_over, outermost, widest}
 use Rattle.tera_grammar.specs.expressions.Stack.{Gives}

@@ -12,7 +12,7 @@ use Rattle.tera_grammar.specs.expressions.Measures.{links}
 use Rattle.tera_grammar.specs.expressions.Stack.{Gives}
 use Rattle.tera_grammar.specs.Options.{◌>>=◌}
 use Rattle.tera_grammar.specs.expressions.Reading.Front.{Place, at, Reads, takes, skip}
-use Rattle.tera_grammar.specs.expressions.Reading.Parts.{Room, Reader, element_of, comma_at, after_element, row_at, row_of}
+use Rattle.tera_grammar.specs.expressions.Reading.Bracketed.{Room, Reader, element_of, comma_at, after_element, row_at, row_of}
 use Rattle.tera_grammar.specs.expressions.Reading.Loop.{expr, fresh}
 use Rattle.tera_grammar.proofs.expressions.Fronts.{takes_ok, none_skip}
 use Rattle.tera_grammar.proofs.expressions.FoundParts.{Any}
@@ -20,7 +20,7 @@ use Rattle.tera_grammar.proofs.expressions.FoundLoop.{expr_sound}
 use Rattle.tera_grammar.proofs.expressions.Outermost.{no_toll, Fitting, fresh_sound}
 use Rattle.tera_grammar.proofs.expressions.Steps.{row_steps}
 use Rattle.tera_expr_parts.specs.declared.rows.Values.{Values}
-use Rattle.tera_expr_parts.specs.Rows.{reader_by, reader_of, Continues}
+use Rattle.tera_expr_parts.specs.CommaLists.{reader_by, reader_of, Continues}
 use Rattle.tera_expect.specs.Taking.{Eats, Fails, GoesOn, Took}
 use Rattle.tera_expect.proofs.TakingLemmas.{stays, took_goes, goes_took}
 

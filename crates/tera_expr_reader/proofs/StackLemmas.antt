@@ -20,7 +20,7 @@ use Rattle.tera_grammar.specs.expressions.Concrete.{Negative, Negates, Single, N
 use Rattle.tera_grammar.specs.expressions.Powers.{right_of}
 use Rattle.tera_grammar.specs.expressions.Spans.{spanning}
 use Rattle.tera_grammar.specs.expressions.Reading.Front.{Place, at, Reads, takes, lowered, bump, literal_of, head_mark, begins_sign, Front, nothing, joins, closes, misplaced, leads_binary, leads_condition, Ending, ends_test, ends_filter, ends_subscript, front}
-use Rattle.tera_grammar.specs.expressions.Reading.Parts.{Room}
+use Rattle.tera_grammar.specs.expressions.Reading.Bracketed.{Room}
 use Rattle.tera_grammar.specs.expressions.Reading.Atoms.{head_of, word_head, chain_of}
 use Rattle.tera_grammar.specs.expressions.Reading.Loop.{expr, suffix_in}
 use Rattle.tera_grammar.specs.expressions.Stack.{Operand, Level, Shows, outcome, going, coming, heading, prefixing, joining, choosing, suffix_of, resume, in_paren, in_binary, in_condition, in_last, stops, refuses, operator_in, is_negated, HeadGives, SuffixGives}

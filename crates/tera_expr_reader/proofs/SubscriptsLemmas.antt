@@ -8,7 +8,7 @@ use Rattle.tera_grammar.specs.Options.{◌>>=◌}
 use Rattle.tera_grammar.specs.expressions.Marks.{Mark, RightBracket, Colon}
 use Rattle.tera_grammar.specs.expressions.Concrete.{Tree, Sub, index, slice, Part, absent, present, Extra, no_extra, extra}
 use Rattle.tera_grammar.specs.expressions.Reading.Front.{Place, at, Reads, begins, takes, skip}
-use Rattle.tera_grammar.specs.expressions.Reading.Parts.{Reader, Room, inside_subscript, part_of, extra_of, slice_of, index_at, sub_of}
+use Rattle.tera_grammar.specs.expressions.Reading.Bracketed.{Reader, Room, inside_subscript, part_of, extra_of, slice_of, index_at, sub_of}
 use Rattle.tera_nodes.specs.Tree.{Expr}
 use Rattle.tera_nodes.specs.View.{expression_view}
 use Rattle.tera_nodes.specs.declared.ast.Expression.{Expression}

@@ -17,7 +17,7 @@ use Rattle.tera_grammar.specs.expressions.Marks.{RightBrace}
 use Rattle.tera_grammar.specs.expressions.Concrete.{Name, Tree, Attributes, no_attributes}
 use Rattle.tera_grammar.specs.expressions.Output.{output, attributes_output}
 use Rattle.tera_grammar.specs.expressions.Reading.Front.{Place, Reads, skip, quote_at}
-use Rattle.tera_grammar.specs.expressions.Reading.Parts.{Room, Reader, value_at}
+use Rattle.tera_grammar.specs.expressions.Reading.Bracketed.{Room, Reader, value_at}
 use Rattle.tera_expr_reader.specs.Chains.{Adds, Lacks}
 use Rattle.tera_expect.specs.Taking.{Took}
 

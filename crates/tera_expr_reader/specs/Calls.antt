@@ -13,7 +13,7 @@ use Rattle.tera_grammar.specs.expressions.Companions.{Filtering}
 use Rattle.tera_grammar.specs.expressions.Spans.{spanning, args_end, row_end}
 use Rattle.tera_grammar.specs.expressions.Output.{args_output, arguments_output}
 use Rattle.tera_grammar.specs.expressions.Reading.Front.{Place, Reads, name_of}
-use Rattle.tera_grammar.specs.expressions.Reading.Parts.{Room, Reader, args_of}
+use Rattle.tera_grammar.specs.expressions.Reading.Bracketed.{Room, Reader, args_of}
 use Rattle.tera_expr_reader.specs.declared.calls.Call.{Call}
 
 -- a name with its arguments

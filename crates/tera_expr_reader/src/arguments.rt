@@ -2,10 +2,10 @@
 
 ghost use Rattle.std.specs.Prelude.{IfErr, IfOk};
 ghost use Rattle.tera_grammar.specs.expressions.Reading.Front.{at};
-ghost use Rattle.tera_grammar.specs.expressions.Reading.Parts.{arguments_of};
+ghost use Rattle.tera_grammar.specs.expressions.Reading.Bracketed.{arguments_of};
 ghost use Rattle.tera_expr_parts.specs.Rooms.{room_of};
 ghost use Rattle.tera_expr_reader.specs.Calls.{AreArguments};
-ghost use Rattle.tera_expr_parts.specs.Rows.{reader_of};
+ghost use Rattle.tera_expr_parts.specs.CommaLists.{reader_of};
 ghost use Rattle.tera_expect.specs.Taking.{GivesBy, Refuses, Took};
 
 use crate::rows::value;

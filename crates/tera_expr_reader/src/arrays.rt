@@ -7,12 +7,12 @@ ghost use Rattle.tera_grammar.specs.expressions.Marks.{RightBracket};
 ghost use Rattle.tera_grammar.specs.expressions.Output.{output};
 ghost use Rattle.tera_grammar.specs.expressions.Reading.Atoms.{array_of, comprehension_of, items_from};
 ghost use Rattle.tera_grammar.specs.expressions.Reading.Front.{at, takes};
-ghost use Rattle.tera_grammar.specs.expressions.Reading.Parts.{element_of, extra_of};
+ghost use Rattle.tera_grammar.specs.expressions.Reading.Bracketed.{element_of, extra_of};
 ghost use Rattle.tera_grammar.specs.expressions.Stack.{HeadGives};
 ghost use Rattle.tera_expr_reader.specs.Elements.{IsExtra, IsItem};
 ghost use Rattle.tera_expr_parts.specs.Literals.{MayBeNegated};
 ghost use Rattle.tera_expr_parts.specs.Rooms.{room_of};
-ghost use Rattle.tera_expr_parts.specs.Rows.{reader_of};
+ghost use Rattle.tera_expr_parts.specs.CommaLists.{reader_of};
 ghost use Rattle.tera_expect.specs.Taking.{GivesAs, GivesBy, GoesOn, Refuses, Took, mark_of, place_at};
 
 use crate::faults::second_for;

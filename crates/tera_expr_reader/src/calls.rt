@@ -3,13 +3,13 @@
 ghost use Rattle.std.specs.Prelude.{IfErr, IfOk};
 ghost use Rattle.tera_nodes.specs.View.{expression_view};
 ghost use Rattle.tera_grammar.specs.expressions.Reading.Front.{at, ends_test};
-ghost use Rattle.tera_grammar.specs.expressions.Reading.Parts.{args_of};
+ghost use Rattle.tera_grammar.specs.expressions.Reading.Bracketed.{args_of};
 ghost use Rattle.tera_grammar.specs.expressions.Reading.Loop.{expr, suffix_in};
 ghost use Rattle.tera_grammar.specs.expressions.Stack.{SuffixGives};
 ghost use Rattle.tera_expr_reader.specs.Calls.{AreArgs, IsCall, IsFilter, call_of};
 ghost use Rattle.tera_expr_parts.specs.Fronts.{ending_of};
 ghost use Rattle.tera_expr_parts.specs.Rooms.{room_of};
-ghost use Rattle.tera_expr_parts.specs.Rows.{reader_of};
+ghost use Rattle.tera_expr_parts.specs.CommaLists.{reader_of};
 ghost use Rattle.tera_expect.specs.Taking.{GivesBy, GoesOn, Refuses, Took};
 
 use crate::arguments::arguments;

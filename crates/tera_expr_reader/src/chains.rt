@@ -6,7 +6,7 @@ ghost use Rattle.tera_grammar.specs.Words.{is_loop, is_loop_field};
 ghost use Rattle.tera_grammar.specs.expressions.Output.{of_loop};
 ghost use Rattle.tera_grammar.specs.expressions.Reading.Front as reading;
 ghost use Rattle.tera_grammar.specs.expressions.Reading.Front.{at};
-ghost use Rattle.tera_grammar.specs.expressions.Reading.Parts.{arguments_of, links_at, links_of};
+ghost use Rattle.tera_grammar.specs.expressions.Reading.Bracketed.{arguments_of, links_at, links_of};
 ghost use Rattle.tera_grammar.specs.expressions.Reading.Atoms.{chain_of};
 ghost use Rattle.tera_grammar.specs.expressions.Reading.Loop.{expr};
 ghost use Rattle.tera_grammar.specs.expressions.Stack.{HeadGives};

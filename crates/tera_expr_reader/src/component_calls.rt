@@ -6,12 +6,12 @@ ghost use Rattle.tera_grammar.specs.expressions.Marks.{Assign, LeftBrace};
 ghost use Rattle.tera_grammar.specs.expressions.Reading.Atoms.{component_of};
 ghost use Rattle.tera_grammar.specs.expressions.Reading.Front.{at, name_of, skip};
 ghost use Rattle.tera_grammar.specs.expressions.Reading.Loop.{expr};
-ghost use Rattle.tera_grammar.specs.expressions.Reading.Parts.{attribute_at, attributes_of, named_at};
+ghost use Rattle.tera_grammar.specs.expressions.Reading.Bracketed.{attribute_at, attributes_of, named_at};
 ghost use Rattle.tera_grammar.specs.expressions.Stack.{HeadGives};
 ghost use Rattle.tera_expr_reader.specs.Attributes.{AttributeGives, IsBraced, ListsAttributes, MaybeGives, MaybeTook, ValueGives, braced_of};
 ghost use Rattle.tera_expr_parts.specs.Literals.{MayBeNegated};
 ghost use Rattle.tera_expr_parts.specs.Rooms.{room_of};
-ghost use Rattle.tera_expr_parts.specs.Rows.{reader_of};
+ghost use Rattle.tera_expr_parts.specs.CommaLists.{reader_of};
 ghost use Rattle.tera_expect.specs.Taking.{GivesBy, GoesOn, Refuses, Took, name_in};
 
 use crate::rows::value;

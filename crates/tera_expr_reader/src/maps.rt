@@ -5,12 +5,12 @@ ghost use Rattle.tera_nodes.specs.View.{expression_view};
 ghost use Rattle.tera_grammar.specs.expressions.Concrete.{of_entries};
 ghost use Rattle.tera_grammar.specs.expressions.Reading.Atoms.{map_of};
 ghost use Rattle.tera_grammar.specs.expressions.Reading.Front.{at};
-ghost use Rattle.tera_grammar.specs.expressions.Reading.Parts.{element_of};
+ghost use Rattle.tera_grammar.specs.expressions.Reading.Bracketed.{element_of};
 ghost use Rattle.tera_grammar.specs.expressions.Stack.{HeadGives};
 ghost use Rattle.tera_expr_reader.specs.Elements.{IsEntry};
 ghost use Rattle.tera_expr_parts.specs.Literals.{MayBeNegated};
 ghost use Rattle.tera_expr_parts.specs.Rooms.{room_of};
-ghost use Rattle.tera_expr_parts.specs.Rows.{reader_of};
+ghost use Rattle.tera_expr_parts.specs.CommaLists.{reader_of};
 ghost use Rattle.tera_expect.specs.Taking.{GivesBy, Refuses, Took};
 
 use crate::rows::value;

@@ -5,7 +5,7 @@ ghost use Rattle.tera_nodes.specs.View.{expression_view};
 ghost use Rattle.tera_grammar.specs.expressions.Reading.Front.{at};
 ghost use Rattle.tera_grammar.specs.expressions.Stack.{Gives};
 ghost use Rattle.tera_expr_parts.specs.Rooms.{room_of};
-ghost use Rattle.tera_expr_parts.specs.Rows.{reader_of};
+ghost use Rattle.tera_expr_parts.specs.CommaLists.{reader_of};
 ghost use Rattle.tera_expect.specs.Taking.{Refuses, Took};
 
 use crate::stack::expression;

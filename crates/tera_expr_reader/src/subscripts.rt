@@ -6,7 +6,7 @@ ghost use Rattle.tera_nodes.specs.View.{expression_view};
 ghost use Rattle.tera_grammar.specs.expressions.Concrete.{Part};
 ghost use Rattle.tera_grammar.specs.expressions.Marks.{Colon};
 ghost use Rattle.tera_grammar.specs.expressions.Reading.Front.{at};
-ghost use Rattle.tera_grammar.specs.expressions.Reading.Parts.{extra_of, part_of, slice_of, sub_of};
+ghost use Rattle.tera_grammar.specs.expressions.Reading.Bracketed.{extra_of, part_of, slice_of, sub_of};
 ghost use Rattle.tera_grammar.specs.expressions.Reading.Loop.{expr};
 ghost use Rattle.tera_expr_reader.specs.Chains.{IsPart, IsSubscript, subscripted};
 ghost use Rattle.tera_expr_reader.specs.Elements.{IsExtra};

@@ -1,7 +1,7 @@
 pub mod Names
 pub mod Inside
 pub mod Expressions
-pub mod Parts
+pub mod TagParts
 pub mod Heads
 pub mod Components
 pub mod Found

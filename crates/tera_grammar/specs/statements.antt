@@ -1,5 +1,5 @@
 pub mod Names
-pub mod Parts
+pub mod TagParts
 pub mod Expressions
 pub mod Types
 pub mod Components

@@ -9,6 +9,6 @@ pub mod Bytes
 pub mod Solids
 pub mod Together
 pub mod Layouts
-pub mod Written
+pub mod WrittenLayout
 pub mod LineFeeds
 mod Examples

@@ -7,4 +7,4 @@ pub mod Widened
 pub mod Narrowed
 pub mod Respaced
 pub mod Alike
-pub mod Written
+pub mod WrittenLayout

@@ -11,7 +11,7 @@ ghost use Rattle.tera_layout.specs.Apart.{has_pair, first_from, last_from, meet_
 ghost use Rattle.tera_layout.specs.Layout.{laid_gap, laid_out, unless_end};
 ghost use Rattle.tera_layout.specs.Refusal.{Refuses};
 ghost use Rattle.tera_layout.specs.Steady.{is_steady};
-ghost use Rattle.tera_layout.specs.Written.{gap_text, has_bytes, is_one_space, nothing, reached as behind_token, put, written, Follow, IsCut, RefusesTokens};
+ghost use Rattle.tera_layout.specs.WrittenLayout.{gap_text, has_bytes, is_one_space, nothing, reached as behind_token, put, written, Follow, IsCut, RefusesTokens};
 
 use crate::sides::{Join, Left};
 use std::alloc::{AllocError, Global};

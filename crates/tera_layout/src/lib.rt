@@ -6,7 +6,7 @@
 //!
 //! In the order of reading: specs `Sides`, which tokens stand together and which apart, and `Layout`,
 //! and of `Widened` what the bytes of pieces are; `sides`, and `formatting`, which writes the layout,
-//! with the specs `Written`; `steady`, between which markers. Then `laws`, with the specs `Respaced`,
+//! with the specs `WrittenLayout`; `steady`, between which markers. Then `laws`, with the specs `Respaced`,
 //! `Alike`, `Widened`, `Apart` and `Narrowed`. `Examples` in `proofs` runs the layout.
 #![tactic(auto)]
 

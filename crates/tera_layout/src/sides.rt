@@ -3,7 +3,7 @@
 ghost use Rattle.std.specs.Prelude.{◌≡◌};
 ghost use Rattle.tera_lexer.specs.code.Seen.{seen};
 ghost use Rattle.tera_layout.specs.Sides as sides;
-ghost use Rattle.tera_layout.specs.Written.{is_finish, join_of};
+ghost use Rattle.tera_layout.specs.WrittenLayout.{is_finish, join_of};
 
 use tera_lexer::Token;
 

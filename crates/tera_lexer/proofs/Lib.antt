@@ -25,7 +25,7 @@ pub mod Closed
 pub mod Places
 pub mod Slices
 pub mod Dashes
-pub mod Parts
+pub mod TextParts
 pub mod Readings
 pub mod CursorSteps
-pub mod Refusals
+pub mod FaultsOfTokens

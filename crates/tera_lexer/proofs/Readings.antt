@@ -31,7 +31,7 @@ use Rattle.tera_lexer.proofs.Fronts.{IsFront}
 use Rattle.tera_lexer.proofs.Escapes.{unescaped_written}
 use Rattle.tera_lexer.proofs.Pieces.{body_splits}
 use Rattle.tera_lexer.proofs.Slices.{span_slice}
-use Rattle.tera_lexer.proofs.Parts.{part_part}
+use Rattle.tera_lexer.proofs.TextParts.{part_part}
 use Rattle.tera_lexer.proofs.Tilings.{before_body, behind_body, raw_around, lexeme_stands}
 use Rattle.tera_lexer.proofs.Finding.{IsMarkerAt, behind_at, find_stands}
 use Rattle.tera_lexer.proofs.WordTags.{IsTagAt, word_tag_stands, word_tag_splits}

@@ -22,7 +22,7 @@ use Rattle.tera_lexer.proofs.TagCuts.{gap_ascii, raw_ascii, endraw_ascii}
 use Rattle.tera_lexer.proofs.WordTags.{word_tag_splits}
 use Rattle.tera_lexer.proofs.RawEnds.{parts_split}
 use Rattle.tera_lexer.proofs.Pieces.{body_splits}
-use Rattle.tera_lexer.proofs.Parts.{part_part, part_trimmed}
+use Rattle.tera_lexer.proofs.TextParts.{part_part, part_trimmed}
 use Rattle.tera_lexer.proofs.Slices.{span_slice}
 use Rattle.tera_lexer.proofs.Tilings.{lexeme_stands, before_body, behind_body, raw_around, end_splits, comment_splits, raw_splits}
 

@@ -4,4 +4,4 @@ pub mod Text
 pub mod Spans
 pub mod Same
 pub mod SameLaws
-pub mod Parts
+pub mod Children

@@ -5,7 +5,7 @@
 
 ghost use Rattle.std.specs.Prelude.{◌≡◌, false, MatchResult};
 ghost use Rattle.tera_nodes.specs.declared.ast.Node.TheVariants as nodes;
-ghost use Rattle.tera_nodes.specs.Parts.{constant_in, is_if};
+ghost use Rattle.tera_nodes.specs.Children.{constant_in, is_if};
 
 use std::collections::BTreeMap;
 use tera_base::{Key, Spanned, Value};

@@ -21,7 +21,7 @@ ghost use Rattle.tera_grammar.specs.statements.Trees.{IsRight};
 ghost use Rattle.tera_grammar.specs.statements.Types.{type_of, has_type};
 ghost use Rattle.tera_source.specs.Outermost.{EachOfBody};
 ghost use Rattle.tera_source.specs.Nodes as trees;
-ghost use Rattle.tera_source.specs.Parts.{EachPart};
+ghost use Rattle.tera_source.specs.Subexpressions.{EachPart};
 ghost use Rattle.tera_source.specs.Printing.{PrintsBack};
 ghost use Rattle.tera_statements.specs.Outputs.{output_view};
 

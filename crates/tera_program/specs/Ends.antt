@@ -1,6 +1,6 @@
 -- How the program ends.
 use Rattle.std.specs.Prelude.{ℕ}
-use Rattle.tera_check.specs.Rules.{status_of}
+use Rattle.tera_check.specs.OrderAndStatus.{status_of}
 use Rattle.tera_program.specs.declared.status.Ended.{Ended}
 
 -- 2 where not all could be done or told, or else 1 where something was found

@@ -9,7 +9,7 @@ use Rattle.tera_statements.specs.declared.outputs.ParserOutput.{ParserOutput}
 use Rattle.tera_check.specs.Findings.{FindingVal, finding_view, IsOfError}
 use Rattle.tera_check.specs.Judged.{KnownVal}
 use Rattle.tera_check.specs.Named.{tree_findings, first_named, defined_by}
-use Rattle.tera_check.specs.Rules.{IsInOrder}
+use Rattle.tera_check.specs.OrderAndStatus.{IsInOrder}
 use Rattle.tera_check.specs.declared.finding.Finding.{Finding}
 use Rattle.tera_check.specs.declared.templates.Template.{Template}
 use Rattle.tera_program.specs.declared.found.Found.{Found}

@@ -31,12 +31,12 @@ use Rattle.tera_source.specs.Standing.{StandsIn}
 use Rattle.tera_source.specs.Printing.{shown_alone, Shows, PrintsBack}
 use Rattle.tera_source.specs.Outermost.{EachOfBody}
 use Rattle.tera_source.specs.Nodes.{EachOfOutput}
-use Rattle.tera_source.specs.Parts.{EachPart}
-use Rattle.tera_source.proofs.Parts.{each_part}
+use Rattle.tera_source.specs.Subexpressions.{EachPart}
+use Rattle.tera_source.proofs.Subexpressions.{each_part}
 use Rattle.tera_source.proofs.Outermost.{StandsAmong, template_stands}
 use Rattle.tera_source.proofs.Shown.{of_whole, output_holds}
 use Rattle.tera_source.proofs.Writables.{output_writable}
-use Rattle.tera_source.proofs.Written.{source_bound}
+use Rattle.tera_source.proofs.WrittenOutputs.{source_bound}
 use Rattle.tera_source.proofs.Backs.{source_output}
 use Rattle.tera_source.proofs.Standing.{stands_given}
 use Rattle.tera_source.proofs.Spelled.{paren_spelled}

@@ -1,7 +1,7 @@
 pub mod Signs
 pub mod Sorted
 pub mod Loose
-pub mod Written
+pub mod WrittenOutputs
 pub mod Heights
 pub mod Lower
 pub mod Fewer
@@ -13,7 +13,7 @@ pub mod Again
 pub mod Writables
 pub mod Standing
 pub mod Outermost
-pub mod Parts
+pub mod Subexpressions
 pub mod Backs
 pub mod Places
 pub mod SameMeasures
@@ -28,5 +28,5 @@ pub mod Bodiless
 pub mod Characters
 pub mod Printed
 pub mod Read
-pub mod Rows
+pub mod FromFirst
 pub mod Trails

@@ -9,7 +9,7 @@ use Rattle.tera_grammar.specs.expressions.Conditions as conditions
 use Rattle.tera_grammar.specs.expressions.Conditions.{IsRow, IsElement, AreArgs}
 use Rattle.tera_grammar.specs.expressions.Measures.{Within, EachElement, EachRow, EachAttribute}
 use Rattle.tera_grammar.specs.expressions.Companions.{EachArgs}
-use Rattle.tera_grammar.specs.statements.Parts.{Name, name_if_any_yield}
+use Rattle.tera_grammar.specs.statements.TagParts.{Name, name_if_any_yield}
 use Rattle.tera_grammar.specs.statements.Expressions as stated
 use Rattle.tera_grammar.specs.statements.Expressions.{Filtering, IsFilter, IsLiteralArray, IsLiteralMap, ComponentName, LiteralArray, LiteralMap, expression_yield, filter_yield, component_yield, array_yield, map_yield}
 use Rattle.tera_grammar.specs.statements.Components.{Default, LiteralDefault, MinusDefault, NothingDefault, ArrayDefault, MapDefault, FitsDefault, default_yield, Annotation, Assigned, Parameter, at_yield, annotation_yield, assigned_yield, parameter_yield, FitsAssigned, FitsParameter, Parameters, Closed, Rest, Final, More, parameters_yield, FitEach, metadata_yield, component_if_any_yield, FitsMetadata}

@@ -16,7 +16,7 @@ use Rattle.tera_source.specs.Source.{source_tree}
 use Rattle.tera_source.specs.Placeless.{placeless}
 use Rattle.tera_spelling.specs.Sources.{AreReadAs}
 use Rattle.tera_source.specs.Standing.{StandsIn}
-use Rattle.tera_source.proofs.Written.{source_bound}
+use Rattle.tera_source.proofs.WrittenOutputs.{source_bound}
 use Rattle.tera_source.proofs.Fewer.{source_within}
 use Rattle.tera_source.proofs.Backs.{source_output}
 use Rattle.tera_source.proofs.Standing.{stands_given}

@@ -15,7 +15,7 @@ use Rattle.tera_grammar.proofs.expressions.Bodiless.{has_body}
 use Rattle.tera_grammar.proofs.statements.Expressions.{expression_plain}
 use Rattle.tera_source.specs.Outermost.{EachOfPlain, EachOfBody, EachOfItem, EachOfBranches, EachOfElse}
 use Rattle.tera_source.specs.Nodes.{EachOfNodes, EachOfNode, EachOfOutput}
-use Rattle.tera_source.specs.Parts.{EachPart}
+use Rattle.tera_source.specs.Subexpressions.{EachPart}
 
 -- of the whole, where it holds of each part
 pub of_whole : (P : Tree → Type 0) (e : Tree) → EachPart P e → P e

@@ -3,10 +3,10 @@ pub mod Placeless
 pub mod Standing
 pub mod Printing
 pub mod Outermost
-pub mod Parts
+pub mod Subexpressions
 pub mod Nodes
 pub mod Writable
 pub mod Bodies
-pub mod Refusals
+pub mod Unwritten
 pub mod Contexts
 pub mod Writing

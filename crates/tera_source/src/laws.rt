@@ -17,7 +17,7 @@ ghost use Rattle.tera_spelling.specs.Sources.{AreReadAs};
 ghost use Rattle.tera_source.specs.Placeless.{placeless};
 ghost use Rattle.tera_source.specs.Outermost.{EachOfBody};
 ghost use Rattle.tera_source.specs.Nodes.{EachOfOutput};
-ghost use Rattle.tera_source.specs.Parts.{EachPart};
+ghost use Rattle.tera_source.specs.Subexpressions.{EachPart};
 ghost use Rattle.tera_source.specs.Printing.{PrintsBack};
 ghost use Rattle.tera_source.specs.Source.{source_tree, source_text};
 ghost use Rattle.tera_source.specs.Standing.{StandsIn};

@@ -1,6 +1,6 @@
 //! Why an expression is not written.
 
-ghost use Rattle.tera_source.specs.Refusals.{IsMemory};
+ghost use Rattle.tera_source.specs.Unwritten.{IsMemory};
 
 use std::alloc::AllocError;
 

@@ -7,7 +7,7 @@ ghost use Rattle.tera_nodes.specs.declared.ast.ComponentCall.{out-ComponentCall}
 ghost use Rattle.tera_source.specs.Bodies.{has_body, maybe_has_body, args_have_body, item_has_body, items_have_body, entry_has_body, entries_have_body};
 ghost use Rattle.tera_source.specs.Contexts as at;
 ghost use Rattle.tera_source.specs.Contexts.{before, behind, behind_prefix, above, left_of, right_of};
-ghost use Rattle.tera_source.specs.Refusals.{Finds};
+ghost use Rattle.tera_source.specs.Unwritten.{Finds};
 ghost use Rattle.tera_source.specs.Writing.{comma_text, dotted, dot_text, bracket_text, names_text, test_text, operator_text, has_args, optional_args, is_bare, attribute_value, attribute_text, text, unary_text, written, maybe_text, args_text, item_text, items_text, key_source, entry_text, entries_text, one_attribute, attributes_text};
 
 use crate::constants::{push_comma, push_constant, push_key};
@@ -377,7 +377,7 @@ fn push_optional_args(out: &mut String, args: &BTreeMap<String, Expression>) -> 
     }
 }
 
-#[tactic(auto, using(crate::proofs::Rows::has_none, crate::proofs::Rows::has_some))]
+#[tactic(auto, using(crate::proofs::FromFirst::has_none, crate::proofs::FromFirst::has_some))]
 fn has_args(args: &BTreeMap<String, Expression>) -> bool
     ensures { result ≡ has_args (args_view args.now.entries) }
 {

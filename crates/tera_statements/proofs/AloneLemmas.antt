@@ -9,7 +9,7 @@ use Rattle.tera_grammar.specs.Limits.{Limits}
 use Rattle.tera_grammar.specs.Words.{is_none, is_not}
 use Rattle.tera_grammar.specs.expressions.Concrete.{Atomic, Chain, Tree, no_links}
 use Rattle.tera_grammar.specs.expressions.Reading.Front.{front_of_token, link_of, skip}
-use Rattle.tera_grammar.specs.expressions.Reading.Parts.{links_by, links_of}
+use Rattle.tera_grammar.specs.expressions.Reading.Bracketed.{links_by, links_of}
 use Rattle.tera_grammar.specs.expressions.Reading.Atoms.{chain_of, word_head}
 use Rattle.tera_grammar.specs.expressions.Reading.Loop.{expr, loop_by, step}
 use Rattle.tera_grammar.specs.statements.Expressions.{expression_output}

@@ -8,12 +8,12 @@ use Rattle.tera_grammar.specs.statements.Components.{Head}
 use Rattle.tera_grammar.specs.statements.Expressions.{ComponentName, Limits}
 use Rattle.tera_grammar.specs.statements.Grammar.{Body, Item, Block, Define, InBlock, InComponent, Path, is_outermost, may_block, text_if_any}
 use Rattle.tera_grammar.specs.statements.Names.{agrees}
-use Rattle.tera_grammar.specs.statements.Parts.{AtEndBlock, Edge, Name, Tag}
+use Rattle.tera_grammar.specs.statements.TagParts.{AtEndBlock, Edge, Name, Tag}
 use Rattle.tera_grammar.specs.statements.Places.{block_placed, component_placed, placed_name}
 use Rattle.tera_grammar.specs.statements.Reading.{Place, Reader, Reads, at, block_end, block_of, component_def_of}
 use Rattle.tera_grammar.specs.statements.Reading.Components.{Opened, ending_of, opened_of}
 use Rattle.tera_grammar.specs.statements.Reading.Meeting.{Located, Seen, locate, met, ◌having◌}
-use Rattle.tera_grammar.specs.statements.Reading.Parts.{closed, finish_of, name_if_any, tag}
+use Rattle.tera_grammar.specs.statements.Reading.TagParts.{closed, finish_of, name_if_any, tag}
 use Rattle.tera_statements.specs.Blocks.{new_block_of}
 use Rattle.tera_expect.proofs.Steps.{kept_by}
 

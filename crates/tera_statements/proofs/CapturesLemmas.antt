@@ -12,10 +12,10 @@ use Rattle.tera_grammar.specs.statements.Reading.Expressions.{attributes_of, com
 use Rattle.tera_grammar.specs.statements.Grammar.{Body, Item, Single, Set, Capturing, InCapture, Path, in_loop}
 use Rattle.tera_grammar.specs.statements.Heads.{Filters, NoFilters, SetBody, Section, CallBody}
 use Rattle.tera_grammar.specs.statements.Reading.Meeting.{Seen}
-use Rattle.tera_grammar.specs.statements.Parts.{AtEndCall, AtEndFilter, AtEndSet, Edge, Name, Tag}
+use Rattle.tera_grammar.specs.statements.TagParts.{AtEndCall, AtEndFilter, AtEndSet, Edge, Name, Tag}
 use Rattle.tera_grammar.specs.statements.Reading.{Place, Reader, Reads, at, call_end, call_of, section_of, set_behind, set_of}
 use Rattle.tera_grammar.specs.statements.Reading.Heads.{filters_in, filters_of, free_name}
-use Rattle.tera_grammar.specs.statements.Reading.Parts.{closed, closed_tag, finish_of, tag}
+use Rattle.tera_grammar.specs.statements.Reading.TagParts.{closed, closed_tag, finish_of, tag}
 use Rattle.tera_grammar.specs.statements.Reading.Components.{is_name}
 use Rattle.tera_grammar.proofs.statements.Expressions.{component_begins, component_stands}
 use Rattle.tera_grammar.proofs.statements.Heads.{filters_steps}

@@ -18,9 +18,9 @@ use Rattle.tera_grammar.specs.statements.Components.{Head, Parameters, component
 use Rattle.tera_grammar.specs.statements.Expressions.{Limits, ComponentName, LiteralMap, component_span, component_text, component_yield}
 use Rattle.tera_grammar.specs.statements.Reading.Expressions.{component_of, map_of}
 use Rattle.tera_grammar.specs.statements.Names.{agrees}
-use Rattle.tera_grammar.specs.statements.Parts.{AtEndComponent, Edge}
+use Rattle.tera_grammar.specs.statements.TagParts.{AtEndComponent, Edge}
 use Rattle.tera_grammar.specs.statements.Reading.Components.{Opened, end_name_in, ending_of, head, is_name, metadata_in, opened_of, parameters_of}
-use Rattle.tera_grammar.specs.statements.Reading.Parts.{closed, finish_of}
+use Rattle.tera_grammar.specs.statements.Reading.TagParts.{closed, finish_of}
 use Rattle.tera_grammar.specs.statements.Reading.Meeting.{Met, nothing_met}
 use Rattle.tera_grammar.specs.statements.Types.{Sorted}
 use Rattle.tera_statements.specs.Components.{agreeing_name, new_component_of}

@@ -8,10 +8,10 @@ use Rattle.tera_grammar.specs.statements.Reading.Expressions.{expression_of}
 use Rattle.tera_grammar.specs.statements.Grammar.{Body, Branches, Elif, Item, Else, NoElse, Otherwise, For, If, InFor, InForElse, InIf, Path, in_loop}
 use Rattle.tera_grammar.specs.statements.Heads.{Loop}
 use Rattle.tera_grammar.specs.statements.Reading.Meeting.{Seen}
-use Rattle.tera_grammar.specs.statements.Parts.{AtElif, AtElse, AtEndSet, AtEndBlock, AtEndFor, AtEndIf, AtEndFilter, AtEndComponent, AtEndCall, Edge, Tag}
+use Rattle.tera_grammar.specs.statements.TagParts.{AtElif, AtElse, AtEndSet, AtEndBlock, AtEndFor, AtEndIf, AtEndFilter, AtEndComponent, AtEndCall, Edge, Tag}
 use Rattle.tera_grammar.specs.statements.Reading.{Place, Reader, Reads, at, body, branch_in, branches, else_in, else_of, for_of, if_of}
 use Rattle.tera_grammar.specs.statements.Reading.Heads.{loop_of}
-use Rattle.tera_grammar.specs.statements.Reading.Parts.{Front, Ends, Closes, Holds, Shows, Opens, Wrong, closed, closed_at, closed_tag, finish_of, front, tag}
+use Rattle.tera_grammar.specs.statements.Reading.TagParts.{Front, Ends, Closes, Holds, Shows, Opens, Wrong, closed, closed_at, closed_tag, finish_of, front, tag}
 use Rattle.std.proofs.Common.{Result, Ok, Err, IfOk, IfErr, Global, Vec, inl}
 use Rattle.tera_base.specs.Errors.{IsMemory}
 use Rattle.tera_nodes.specs.Tree.{Stmt}
@@ -24,7 +24,7 @@ use Rattle.tera_statements.specs.Conditions.{Conditional, conditional_of}
 use Rattle.tera_statements.specs.Heads.{expression_to_end, loop_to_end}
 use Rattle.tera_statements.proofs.HeadsLemmas.{one_to_end}
 use Rattle.tera_grammar.proofs.statements.Loops.{is_elif}
-use Rattle.tera_grammar.proofs.statements.Parts.{closed_stands}
+use Rattle.tera_grammar.proofs.statements.TagParts.{closed_stands}
 use Rattle.tera_statements.specs.Kinds.{closes}
 use Rattle.tera_expect.specs.Taking.{GivesBy}
 use Rattle.tera_statements.specs.declared.fronts.Closer.TheVariants as closers

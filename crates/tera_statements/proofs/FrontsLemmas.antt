@@ -4,8 +4,8 @@ use Rattle.tera_base.specs.declared.utils.Span.{Span}
 use Rattle.tera_lexer.specs.grammar.Tokens.{Tok, Items, Token, Start}
 use Rattle.tera_lexer.specs.code.Cursors.{FirstIs, SecondIs}
 use Rattle.tera_lexer.specs.declared.lexer.delimiters.Kind.TheVariants as kind
-use Rattle.tera_grammar.specs.statements.Parts.{Edge}
-use Rattle.tera_grammar.specs.statements.Reading.Parts.{Role, Opening, Closing, Neither, role, front_by, front}
+use Rattle.tera_grammar.specs.statements.TagParts.{Edge}
+use Rattle.tera_grammar.specs.statements.Reading.TagParts.{Role, Opening, Closing, Neither, role, front_by, front}
 use Rattle.tera_statements.specs.Kinds.{role_kind, kind_of}
 
 kind_by : (r : Role) (start : Edge) (span : Span) (items : Items) → role_kind r ≡ kind_of (front_by r start span items)

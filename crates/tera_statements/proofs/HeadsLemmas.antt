@@ -12,9 +12,9 @@ use Rattle.tera_grammar.specs.expressions.Reading.Front.{Takes, takes}
 use Rattle.tera_grammar.specs.statements.Expressions.{Attributes, Expression, Filtering, Limits}
 use Rattle.tera_grammar.specs.statements.Reading.Expressions.{attributes_of, expression_of, filter_of}
 use Rattle.tera_grammar.specs.statements.Heads.{Filters, filters_output}
-use Rattle.tera_grammar.specs.statements.Parts.{Edge}
+use Rattle.tera_grammar.specs.statements.TagParts.{Edge}
 use Rattle.tera_grammar.specs.statements.Reading.Heads.{filters_of}
-use Rattle.tera_grammar.specs.statements.Reading.Parts.{finish_of}
+use Rattle.tera_grammar.specs.statements.Reading.TagParts.{finish_of}
 use Rattle.tera_statements.specs.Heads.{AreAllFilters, AreFilters, attributes_to_end, expression_to_end, filters_to_end, section_to_end}
 use Rattle.tera_statements.specs.Reading.{IsFilter}
 use Rattle.tera_expect.specs.Taking.{GivesBy}

@@ -9,12 +9,12 @@ use Rattle.tera_grammar.specs.statements.Expressions.{Limits, Expression}
 use Rattle.tera_grammar.specs.statements.Reading.Expressions.{expression_of}
 use Rattle.tera_grammar.specs.statements.Grammar.{Item, Path, Shown, Single, Text, in_loop}
 use Rattle.tera_grammar.specs.statements.Reading.Meeting.{Seen}
-use Rattle.tera_grammar.specs.statements.Parts as parts
-use Rattle.tera_grammar.specs.statements.Parts.{Edge, opener_token, start_yield}
+use Rattle.tera_grammar.specs.statements.TagParts as parts
+use Rattle.tera_grammar.specs.statements.TagParts.{Edge, opener_token, start_yield}
 use Rattle.tera_grammar.specs.statements.Reading.{Place, Reader, Reads, at, shown_of, step, tag_of}
-use Rattle.tera_grammar.specs.statements.Reading.Parts as reading
-use Rattle.tera_grammar.specs.statements.Reading.Parts.{front, variable_end_of}
-use Rattle.tera_grammar.proofs.statements.Parts.{FrontOf, front_is}
+use Rattle.tera_grammar.specs.statements.Reading.TagParts as reading
+use Rattle.tera_grammar.specs.statements.Reading.TagParts.{front, variable_end_of}
+use Rattle.tera_grammar.proofs.statements.TagParts.{FrontOf, front_is}
 use Rattle.tera_statements.specs.Kinds.{kind_of, opener_kind, opener_of}
 use Rattle.tera_statements.specs.declared.fronts.Front.TheVariants as fronts
 use Rattle.tera_statements.specs.declared.fronts.Opener.{Opener}

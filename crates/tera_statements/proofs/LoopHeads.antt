@@ -12,9 +12,9 @@ use Rattle.tera_grammar.specs.expressions.Reading.Whole.{left_over}
 use Rattle.tera_grammar.specs.statements.Expressions.{Expression, Limits}
 use Rattle.tera_grammar.specs.statements.Reading.Expressions.{expression_of}
 use Rattle.tera_grammar.specs.statements.Heads.{Loop}
-use Rattle.tera_grammar.specs.statements.Parts.{Edge}
+use Rattle.tera_grammar.specs.statements.TagParts.{Edge}
 use Rattle.tera_grammar.specs.statements.Reading.Heads.{loop_of}
-use Rattle.tera_grammar.specs.statements.Reading.Parts.{finish_of}
+use Rattle.tera_grammar.specs.statements.Reading.TagParts.{finish_of}
 use Rattle.tera_statements.specs.Heads.{expression_to_end, loop_to_end}
 use Rattle.tera_statements.proofs.HeadsLemmas.{ended_one}
 

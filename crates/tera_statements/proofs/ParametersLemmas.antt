@@ -31,7 +31,7 @@ use Rattle.tera_grammar.specs.statements.Components.{Annotation, Assigned, Defau
 use Rattle.tera_grammar.specs.statements.Components as components
 use Rattle.tera_grammar.specs.statements.Expressions.{Limits}
 use Rattle.tera_grammar.specs.statements.Reading.Expressions.{array_of, map_of}
-use Rattle.tera_grammar.specs.statements.Parts.{Name}
+use Rattle.tera_grammar.specs.statements.TagParts.{Name}
 use Rattle.tera_grammar.specs.statements.Reading.Meeting.{Met, meet}
 use Rattle.tera_grammar.specs.statements.Reading.Components.{annotation_in, assigned_in, at_in, default_at, default_by, default_of, fresh_name, minus_of, parameter, parameter_behind, parameter_of, parameters_at, parameters_behind, parameters_in, parameters_of}
 use Rattle.tera_grammar.specs.statements.Reading.Loops.{Listing}

@@ -9,8 +9,8 @@ use Rattle.tera_lexer.specs.code.Steps.{Stops}
 use Rattle.tera_lexer.specs.grammar.Faults.{Faults}
 use Rattle.tera_lexer.specs.grammar.Place.{IsWithin}
 use Rattle.tera_lexer.specs.grammar.Tokens.{Ended, Failed, Items, Token}
-use Rattle.tera_lexer.proofs.Refusals as refusals
-use Rattle.tera_lexer.proofs.Refusals.{later_faults, lift_faults}
+use Rattle.tera_lexer.proofs.FaultsOfTokens as refusals
+use Rattle.tera_lexer.proofs.FaultsOfTokens.{later_faults, lift_faults}
 use Rattle.tera_grammar.specs.statements.Expressions.{Limits}
 use Rattle.tera_grammar.specs.statements.Grammar.{Item, Path, Single, Text}
 use Rattle.tera_grammar.specs.statements.Reading.Meeting.{Seen}
@@ -18,7 +18,7 @@ use Rattle.tera_grammar.specs.statements.Output.{AddsNothing, added_by}
 use Rattle.tera_grammar.specs.statements.Reading as reading
 use Rattle.tera_grammar.specs.statements.Reading.{Place, Reader, step}
 use Rattle.tera_grammar.specs.statements.Reading.Loops.{Silent, turn}
-use Rattle.tera_grammar.specs.statements.Reading.Parts.{front, front_at}
+use Rattle.tera_grammar.specs.statements.Reading.TagParts.{front, front_at}
 use Rattle.tera_statements.specs.Items.{AreEmptyTexts}
 use Rattle.tera_statements.specs.Kinds.{kind_of}
 use Rattle.tera_expect.specs.Taking.{GoesOn, Refuses, RefusesIn, Took}
@@ -118,11 +118,11 @@ same_first x y h = let same : x ≡ y = cc in ap (λ (z : Item × Place). z.0) s
 
 -- what the next step over empty texts comes to
 module _ (l : Limits) (self : Reader) (path : Path) (seen : Seen) where
-  holds_nothing : (text : List ℕ) (span : Span) (us : Items) → step l self path seen (reading.Parts.Holds text span us) ≡ Some None → ⊥
+  holds_nothing : (text : List ℕ) (span : Span) (us : Items) → step l self path seen (reading.TagParts.Holds text span us) ≡ Some None → ⊥
   unfolding step
   holds_nothing text span us h = cc
 
-  holds_item : (in_loop : Bool) (text : List ℕ) (span : Span) (us : Items) (i : Item) (p : Place) → text ≡ [] → step l self path seen (reading.Parts.Holds text span us) ≡ Some (Some (i, p)) → added_by in_loop i ≡ AddsNothing
+  holds_item : (in_loop : Bool) (text : List ℕ) (span : Span) (us : Items) (i : Item) (p : Place) → text ≡ [] → step l self path seen (reading.TagParts.Holds text span us) ≡ Some (Some (i, p)) → added_by in_loop i ≡ AddsNothing
   unfolding step
   holds_item in_loop text span us i p none h =
       ap (added_by in_loop) (sym (same_first (Single (Text text span), reading.at seen us) (i, p) h)) ∙ ap (λ t. added_by in_loop (Single (Text t span))) none

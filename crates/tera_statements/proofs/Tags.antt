@@ -8,10 +8,10 @@ use Rattle.tera_lexer.specs.grammar.Tokens.{Tok, Items, Ended, Failed, Finish, T
 use Rattle.tera_lexer.specs.code.Seen.{seen}
 use Rattle.tera_lexer.specs.declared.lexer.delimiters.Kind.{Kind}
 use Rattle.tera_grammar.specs.expressions.Reading.Front.{Takes}
-use Rattle.tera_grammar.specs.statements.Parts as parts
-use Rattle.tera_grammar.specs.statements.Parts.{Edge}
-use Rattle.tera_grammar.specs.statements.Reading.Parts.{Front, Ends, Closes, Holds, Shows, Opens, Wrong, front, closed_at, closed}
-use Rattle.tera_grammar.proofs.statements.Parts.{FrontOf, front_is}
+use Rattle.tera_grammar.specs.statements.TagParts as parts
+use Rattle.tera_grammar.specs.statements.TagParts.{Edge}
+use Rattle.tera_grammar.specs.statements.Reading.TagParts.{Front, Ends, Closes, Holds, Shows, Opens, Wrong, front, closed_at, closed}
+use Rattle.tera_grammar.proofs.statements.TagParts.{FrontOf, front_is}
 use Rattle.tera_statements.specs.Kinds.{closer_of, closes}
 use Rattle.tera_statements.specs.Reading.{EatsEnd}
 use Rattle.tera_expr_parts.proofs.FrontsLemmas.{took_token}

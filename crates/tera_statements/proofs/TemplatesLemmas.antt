@@ -19,7 +19,7 @@ use Rattle.tera_grammar.specs.statements.Reading as reading
 use Rattle.tera_grammar.specs.statements.Reading.{Place, at, body, step, template}
 use Rattle.tera_grammar.specs.statements.Reading.Loops as loops
 use Rattle.tera_grammar.specs.statements.Reading.Loops.{text_weight, turn, weight, with_added}
-use Rattle.tera_grammar.specs.statements.Reading.Parts.{Holds, front, front_at}
+use Rattle.tera_grammar.specs.statements.Reading.TagParts.{Holds, front, front_at}
 use Rattle.tera_grammar.proofs.statements.Tops.{template_complete, template_sound}
 use Rattle.tera_grammar.proofs.statements.Loops.{topping_extends, topping_refused, topping_stops}
 use Rattle.tera_grammar.specs.statements.Top.{is_blank, is_empty}

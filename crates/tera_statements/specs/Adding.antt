@@ -7,7 +7,7 @@ use Rattle.tera_tree.specs.View.{definition_view}
 use Rattle.tera_nodes.specs.declared.ast.Node.{Node}
 use Rattle.tera_grammar.specs.statements.Grammar.{Item, Path, Body, Branches, Else, in_loop}
 use Rattle.tera_grammar.specs.statements.Output.{Adds, AddsNothing, AddsNode, AddsParent, AddsDefinition, added_by, branch_output, else_output, output}
-use Rattle.tera_grammar.specs.statements.Parts.{Edge}
+use Rattle.tera_grammar.specs.statements.TagParts.{Edge}
 use Rattle.tera_grammar.specs.statements.Reading.{Place, at, Reads}
 use Rattle.tera_grammar.specs.statements.Reading.Meeting.{Seen}
 use Rattle.tera_statements.specs.Around.{Stands}

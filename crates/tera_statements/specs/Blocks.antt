@@ -5,7 +5,7 @@ use Rattle.tera_base.specs.declared.utils.Span.{Span}
 use Rattle.tera_lexer.specs.grammar.Tokens.{Items}
 use Rattle.tera_grammar.specs.Options.{◌>>=◌, guard}
 use Rattle.tera_grammar.specs.expressions.Reading.Front.{Takes, taken_name}
-use Rattle.tera_grammar.specs.statements.Parts.{Name}
+use Rattle.tera_grammar.specs.statements.TagParts.{Name}
 use Rattle.tera_grammar.specs.statements.Reading.Meeting.{Met}
 
 -- a name that was not met

@@ -10,9 +10,9 @@ use Rattle.tera_grammar.specs.statements.Expressions.{Limits, ComponentName}
 use Rattle.tera_grammar.specs.statements.Grammar as grammar
 use Rattle.tera_grammar.specs.statements.Grammar.{Path, in_loop}
 use Rattle.tera_grammar.specs.statements.Reading.Meeting.{Seen}
-use Rattle.tera_grammar.specs.statements.Parts.{Edge, Name, Tag}
+use Rattle.tera_grammar.specs.statements.TagParts.{Edge, Name, Tag}
 use Rattle.tera_grammar.specs.statements.Reading.{Place, Reader, at, body, set_behind}
-use Rattle.tera_grammar.specs.statements.Reading.Parts.{finish_of}
+use Rattle.tera_grammar.specs.statements.Reading.TagParts.{finish_of}
 use Rattle.tera_statements.specs.Adding.{IsAdded}
 use Rattle.tera_statements.specs.Around.{Stands, context_of}
 use Rattle.tera_expect.specs.Taking.{GivesBy}

@@ -7,7 +7,7 @@ use Rattle.tera_grammar.specs.Options.{◌>>=◌}
 use Rattle.tera_grammar.specs.statements.Expressions as expressions
 use Rattle.tera_grammar.specs.statements.Expressions.{Limits}
 use Rattle.tera_grammar.specs.statements.Grammar.{Body, Path, in_loop}
-use Rattle.tera_grammar.specs.statements.Parts.{Edge}
+use Rattle.tera_grammar.specs.statements.TagParts.{Edge}
 use Rattle.tera_grammar.specs.statements.Reading.{Place, Reads, at, body}
 use Rattle.tera_statements.specs.Adding.{IsBody}
 use Rattle.tera_statements.specs.Heads.{expression_to_end}

@@ -12,9 +12,9 @@ use Rattle.tera_grammar.specs.statements.Expressions as expressions
 use Rattle.tera_grammar.specs.statements.Expressions.{Attributes, Filtering, Limits, filter_output}
 use Rattle.tera_grammar.specs.statements.Reading.Expressions.{attributes_of, expression_of, filter_of}
 use Rattle.tera_grammar.specs.statements.Heads.{Loop, Filters, filters_output}
-use Rattle.tera_grammar.specs.statements.Parts.{Edge}
+use Rattle.tera_grammar.specs.statements.TagParts.{Edge}
 use Rattle.tera_grammar.specs.statements.Reading.Heads.{filters_of, loop_of}
-use Rattle.tera_grammar.specs.statements.Reading.Parts.{finish_of}
+use Rattle.tera_grammar.specs.statements.Reading.TagParts.{finish_of}
 use Rattle.tera_expr_parts.specs.Names.{AreVariables}
 use Rattle.tera_statements.specs.Reading.{IsExpression}
 use Rattle.tera_statements.specs.declared.heads.LoopHead.{LoopHead}

@@ -9,9 +9,9 @@ use Rattle.tera_grammar.specs.statements.Expressions.{Limits}
 use Rattle.tera_grammar.specs.statements.Output.{added_by, added_nodes}
 use Rattle.tera_grammar.specs.statements.Grammar.{Item, Path, in_loop}
 use Rattle.tera_grammar.specs.statements.Reading.Meeting.{Seen}
-use Rattle.tera_grammar.specs.statements.Parts.{Edge, Opener}
+use Rattle.tera_grammar.specs.statements.TagParts.{Edge, Opener}
 use Rattle.tera_grammar.specs.statements.Reading.{Place, Reader, at, body, step}
-use Rattle.tera_grammar.specs.statements.Reading.Parts.{Front, Holds, Opens, front}
+use Rattle.tera_grammar.specs.statements.Reading.TagParts.{Front, Holds, Opens, front}
 use Rattle.tera_statements.specs.Adding.{GivesItem}
 use Rattle.tera_statements.specs.Around.{Stands}
 use Rattle.tera_expect.specs.Taking.{Fails, Took}

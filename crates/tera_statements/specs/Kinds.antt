@@ -1,9 +1,9 @@
 -- What the tokens of a body begin with, without the tokens themselves.
 use Rattle.std.specs.Prelude.{Bool, false}
 use Rattle.tera_grammar.specs.expressions.Reading.Front.{same_token}
-use Rattle.tera_grammar.specs.statements.Parts as parts
-use Rattle.tera_grammar.specs.statements.Parts.{closer_token}
-use Rattle.tera_grammar.specs.statements.Reading.Parts as reading
+use Rattle.tera_grammar.specs.statements.TagParts as parts
+use Rattle.tera_grammar.specs.statements.TagParts.{closer_token}
+use Rattle.tera_grammar.specs.statements.Reading.TagParts as reading
 use Rattle.tera_statements.specs.declared.fronts.Opener.{Opener}
 use Rattle.tera_statements.specs.declared.fronts.Opener.TheVariants as openers
 use Rattle.tera_statements.specs.declared.fronts.Closer.{Closer}

@@ -12,7 +12,7 @@ use Rattle.tera_lexer.specs.grammar.Tokens.{Finish, Ident, Items}
 use Rattle.tera_grammar.specs.Words.{is_none, is_not}
 use Rattle.tera_grammar.specs.expressions.Concrete.{Quote}
 use Rattle.tera_grammar.specs.expressions.Output.{quote_text}
-use Rattle.tera_grammar.specs.statements.Parts.{Edge}
+use Rattle.tera_grammar.specs.statements.TagParts.{Edge}
 use Rattle.tera_expect.specs.Taking.{Took}
 pub use Rattle.tera_expr_reader.specs.Outermost.{AreAttributes, IsArray, IsComponent, IsExpression, IsFilter, IsMap}
 

@@ -4,7 +4,7 @@ use Rattle.tera_nodes.specs.Tree as tree
 use Rattle.tera_nodes.specs.Tree.{Stmt}
 use Rattle.tera_grammar.specs.statements.Grammar as grammar
 use Rattle.tera_grammar.specs.statements.Grammar.{Plain}
-use Rattle.tera_grammar.specs.statements.Parts.{Tag}
+use Rattle.tera_grammar.specs.statements.TagParts.{Tag}
 use Rattle.tera_statements.specs.declared.simple.Extension.{Extension}
 use Rattle.tera_statements.specs.declared.simple.Extension.TheVariants as extensions
 use Rattle.tera_statements.specs.declared.simple.Jump.{Jump}

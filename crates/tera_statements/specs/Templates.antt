@@ -16,7 +16,7 @@ use Rattle.tera_grammar.specs.statements.Reading as reading
 use Rattle.tera_grammar.specs.statements.Reading.{Place, at, body, step, template}
 use Rattle.tera_grammar.specs.statements.Reading.Loops as loops
 use Rattle.tera_grammar.specs.statements.Reading.Loops.{Topping, turn, weight, with_added}
-use Rattle.tera_grammar.specs.statements.Reading.Parts.{front}
+use Rattle.tera_grammar.specs.statements.Reading.TagParts.{front}
 use Rattle.tera_grammar.specs.statements.Top.{IsTemplate}
 use Rattle.tera_statements.specs.Adding.{IsAdded}
 use Rattle.tera_expect.specs.Taking.{Fails}

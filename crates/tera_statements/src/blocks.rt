@@ -4,7 +4,7 @@ ghost use Rattle.std.specs.Prelude.{IfErr, IfOk, ◌≡◌, ◌⊎◌, false, is
 ghost use Rattle.std.specs.Str.{bytes_eq};
 ghost use Rattle.tera_base.specs.Errors.{IsMemory};
 ghost use Rattle.tera_grammar.specs.statements.Reading.{block_end, block_of, component_def_of};
-ghost use Rattle.tera_grammar.specs.statements.Parts.{Name};
+ghost use Rattle.tera_grammar.specs.statements.TagParts.{Name};
 ghost use Rattle.tera_grammar.specs.statements.Reading.Meeting.{locate};
 ghost use Rattle.tera_statements.specs.Adding.{AddsBy, here, seen_of};
 ghost use Rattle.tera_statements.specs.Blocks.{IsName, new_block_of};

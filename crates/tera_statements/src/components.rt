@@ -8,7 +8,7 @@ ghost use Rattle.tera_grammar.specs.expressions.Reading.Front.{begins};
 ghost use Rattle.tera_grammar.specs.statements.Components.{put_pairs};
 ghost use Rattle.tera_grammar.specs.statements.Types.{put_name};
 ghost use Rattle.tera_grammar.specs.statements.Expressions.{component_text};
-ghost use Rattle.tera_grammar.specs.statements.Parts.{Edge};
+ghost use Rattle.tera_grammar.specs.statements.TagParts.{Edge};
 ghost use Rattle.tera_grammar.specs.statements.Reading.Components as reading;
 ghost use Rattle.tera_grammar.specs.statements.Reading.Components.{ending_of, metadata_in, opened_of};
 ghost use Rattle.tera_statements.specs.Components.{IsOpened, Keeps, agreeing_name, new_component_of};

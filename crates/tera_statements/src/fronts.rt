@@ -4,8 +4,8 @@ ghost use Rattle.std.specs.Prelude.{◌≡◌};
 ghost use Rattle.tera_lexer.specs.code.Seen.{seen};
 ghost use Rattle.tera_lexer.specs.grammar.Tokens as toks;
 ghost use Rattle.tera_grammar.specs.expressions.Reading.Front.{same_token};
-ghost use Rattle.tera_grammar.specs.statements.Parts.{closer_token};
-ghost use Rattle.tera_grammar.specs.statements.Reading.Parts.{front, role};
+ghost use Rattle.tera_grammar.specs.statements.TagParts.{closer_token};
+ghost use Rattle.tera_grammar.specs.statements.Reading.TagParts.{front, role};
 ghost use Rattle.tera_statements.specs.Kinds.{closer_of, kind_of, role_kind};
 
 use tera_lexer::{Cursor, Token};

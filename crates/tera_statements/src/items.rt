@@ -4,7 +4,7 @@ ghost use Rattle.std.specs.Prelude.{◌≡◌, [], IfErr, IfOk, is_none, true};
 ghost use Rattle.tera_base.specs.Errors.{IsMemory};
 ghost use Rattle.tera_grammar.specs.statements.Output.{text_adds};
 ghost use Rattle.tera_grammar.specs.statements.Reading.{tag_of};
-ghost use Rattle.tera_grammar.specs.statements.Reading.Parts.{front};
+ghost use Rattle.tera_grammar.specs.statements.Reading.TagParts.{front};
 ghost use Rattle.tera_lexer.specs.code.Seen.{seen};
 ghost use Rattle.tera_statements.specs.Adding.{AddsBy, added_view, here, seen_of};
 ghost use Rattle.tera_statements.specs.Items.{AreEmptyTexts, EatsText, Enters, GivesNext, GivesShown, GivesText, GoesByItem, text_in};

@@ -5,7 +5,7 @@ ghost use Rattle.std.specs.Bool.{OnTrue};
 ghost use Rattle.tera_lexer.specs.code.Cursors.{is_end};
 ghost use Rattle.tera_grammar.specs.expressions.Reading.Front.{taken_quote};
 ghost use Rattle.tera_grammar.specs.statements.Reading.Expressions.{expression_of};
-ghost use Rattle.tera_grammar.specs.statements.Reading.Parts.{closed, closed_tag, finish_of, front, variable_end_of};
+ghost use Rattle.tera_grammar.specs.statements.Reading.TagParts.{closed, closed_tag, finish_of, front, variable_end_of};
 ghost use Rattle.tera_statements.specs.Kinds.{closer_of, closes};
 ghost use Rattle.tera_statements.specs.Reading.{EatsAlone, EatsEnd, EndsBehind, IsExpression, IsQuote, NamesVariable, PassesOne};
 ghost use Rattle.tera_statements.specs.Settings.{limits_under};

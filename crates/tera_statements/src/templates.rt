@@ -7,7 +7,7 @@ ghost use Rattle.tera_grammar.specs.statements.Output.{AddsNothing, text_adds};
 ghost use Rattle.tera_grammar.specs.statements.Reading.{at, step};
 ghost use Rattle.tera_grammar.specs.statements.Reading.Meeting.{Seen};
 ghost use Rattle.tera_grammar.specs.statements.Reading.Loops.{node_weight, turn, weight, with_added};
-ghost use Rattle.tera_grammar.specs.statements.Reading.Parts.{front};
+ghost use Rattle.tera_grammar.specs.statements.Reading.TagParts.{front};
 ghost use Rattle.tera_statements.specs.Adding.{added_view, here};
 ghost use Rattle.tera_statements.specs.Outputs.{output_view};
 ghost use Rattle.tera_statements.specs.Items.{AreEmptyTexts, GivesStep, GoesByItem};

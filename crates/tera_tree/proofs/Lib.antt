@@ -1,6 +1,6 @@
 pub mod Names
 pub mod Defined
 pub mod Coming
-pub mod Refusals
+pub mod RefusedArguments
 pub mod CallNames
 pub mod CallSteps

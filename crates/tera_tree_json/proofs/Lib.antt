@@ -1,5 +1,5 @@
 pub mod Elifs
 pub mod Pairs
-pub mod Rows
+pub mod FromFirst
 pub mod Views
 pub mod Writing

@@ -2,7 +2,7 @@
 use Rattle.std.proofs.Common.{◌≡◌, List, ◌∷◌, [], ◌++◌, Result, Ok, Err, ◌∙◌, append_assoc, ap, sym, subst}
 use Rattle.json.specs.Token.{Token}
 use Rattle.json.specs.Written.{Written, Writes}
-use Rattle.tera_tree_json.specs.Written.{Puts}
+use Rattle.tera_tree_json.specs.WrittenJson.{Puts}
 
 -- the last token
 pub put_last : {E : Type 0} (r : Result (Unit {0}) E) (first old new : Written) (ts : List Token) (t : Token)

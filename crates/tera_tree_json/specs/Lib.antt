@@ -1,4 +1,4 @@
-pub mod Written
+pub mod WrittenJson
 pub mod Constants
 pub mod Elifs
 pub mod Forms

@@ -6,7 +6,7 @@ ghost use Rattle.json.specs.Tree.{json_tokens};
 ghost use Rattle.tera_nodes.specs.View.{name_view};
 ghost use Rattle.tera_tree_json.specs.Constants.{count_json};
 ghost use Rattle.tera_tree_json.specs.Forms.{span_json, name_json, unary_name, binary_name};
-ghost use Rattle.tera_tree_json.specs.Written.{Puts, PutsJson};
+ghost use Rattle.tera_tree_json.specs.WrittenJson.{Puts, PutsJson};
 
 use json::Writer;
 use std::alloc::AllocError;

@@ -13,7 +13,7 @@ ghost use Rattle.tera_nodes.specs.declared.ast.If.{out-If};
 ghost use Rattle.tera_tree_json.specs.Elifs.{elifs, ends};
 ghost use Rattle.tera_tree_json.specs.Forms.{node, name_json, content_json, shown_json, set_json, block_set_json, include_json, block_json, for_json, if_json, section_json};
 ghost use Rattle.tera_tree_json.specs.TreeJson.{expr_json, filters_json, node_json, nodes_json};
-ghost use Rattle.tera_tree_json.specs.Written.{Puts, PutsJson};
+ghost use Rattle.tera_tree_json.specs.WrittenJson.{Puts, PutsJson};
 
 use crate::expressions::{put_expression, put_part};
 use crate::fields::{begin, begin_at, put_flag, put_name, put_text};

@@ -4,7 +4,7 @@ ghost use Rattle.std.specs.Prelude.{◌≡◌, map, string_bytes, IfOk};
 ghost use Rattle.tera_nodes.specs.View.{name_view, node_view};
 ghost use Rattle.tera_tree.specs.View.{definition_view};
 ghost use Rattle.tera_tree_json.specs.TreeJson.{output_json, json_text};
-ghost use Rattle.tera_tree_json.specs.Written.{PutsJson};
+ghost use Rattle.tera_tree_json.specs.WrittenJson.{PutsJson};
 
 use crate::definitions::put_definitions;
 use crate::fields::put_name;

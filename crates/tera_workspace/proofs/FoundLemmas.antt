@@ -10,7 +10,7 @@ use Rattle.tera_check.specs.Alike.{names_in, AreAlikeIfAny}
 use Rattle.tera_check.specs.Findings.{finding_view, IsOfError}
 use Rattle.tera_check.specs.Judged.{KnownVal}
 use Rattle.tera_check.specs.Named.{tree_findings, first_named, defined_by}
-use Rattle.tera_check.specs.Rules.{IsInOrder}
+use Rattle.tera_check.specs.OrderAndStatus.{IsInOrder}
 use Rattle.tera_check.specs.declared.finding.Finding.{Finding}
 use Rattle.tera_check.specs.declared.templates.Template.{Template}
 use Rattle.tera_check.proofs.AlikeLemmas.{tree_alike}

@@ -13,7 +13,7 @@ use Rattle.tera_tree.specs.Tree.{Output}
 use Rattle.tera_check.specs.Faults.{IsSyntaxError}
 use Rattle.tera_check.specs.Findings.{finding_view, IsOfError}
 use Rattle.tera_check.specs.Named.{tree_findings, first_named, defined_by}
-use Rattle.tera_check.specs.Rules.{IsInOrder}
+use Rattle.tera_check.specs.OrderAndStatus.{IsInOrder}
 use Rattle.tera_check.specs.declared.finding.Finding.{Finding}
 use Rattle.tera_check.specs.declared.templates.Template.{Template}
 use Rattle.text_edits.specs.declared.positions.Encoding.{Encoding}

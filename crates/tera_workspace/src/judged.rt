@@ -8,7 +8,7 @@ ghost use Rattle.tera_statements.specs.Outputs.{output_view};
 ghost use Rattle.tera_tree.specs.View.{definition_view};
 ghost use Rattle.tera_check.specs.Alike.{name_called, names_in};
 ghost use Rattle.tera_check.specs.Calls.{calls_of as calls_in_tree};
-ghost use Rattle.tera_check.specs.Parts.{seen};
+ghost use Rattle.tera_check.specs.Pending.{seen};
 ghost use Rattle.tera_workspace.specs.Kept.{HasNames, IsAnew, NoneBefore, IsNumbered};
 
 use crate::diagnostics::Diagnostic;

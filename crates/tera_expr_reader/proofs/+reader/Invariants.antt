@@ -5,12 +5,12 @@ use Rattle.tera_grammar.specs.expressions.Concrete.{of_arguments, Element, of_it
 use Rattle.tera_grammar.specs.expressions.Output.{of_loop}
 use Rattle.tera_grammar.specs.expressions.Reading.Front.{at}
 use Rattle.tera_grammar.specs.expressions.Reading.Loop.{expr}
-use Rattle.tera_grammar.specs.expressions.Reading.Parts.{row_of, links_of, after_element, attributes_of}
+use Rattle.tera_grammar.specs.expressions.Reading.Bracketed.{row_of, links_of, after_element, attributes_of}
 use Rattle.tera_grammar.specs.expressions.Stack.{coming, comes_to, left_to_do}
 use Rattle.tera_expr_reader.specs.Elements.{IsItem}
 use Rattle.tera_expr_reader.specs.Frames.{frame_view, state_view, HoldsNegatable, Went}
 use Rattle.tera_expr_parts.specs.Rooms.{room_of}
-use Rattle.tera_expr_parts.specs.Rows.{reader_of}
+use Rattle.tera_expr_parts.specs.CommaLists.{reader_of}
 use Rattle.tera_expect.specs.Taking.{GoesOn, name_in, Took}
 use Rattle.tera_expr_reader.proofs.ArgumentsLemmas.{Arguing, Argued}
 use Rattle.tera_expr_reader.proofs.ChainsLemmas.{Chaining}

@@ -14,7 +14,7 @@ use Rattle.tera_grammar.specs.expressions.Measures.{deep, atom_deep, links_deep,
 use Rattle.tera_grammar.specs.expressions.Output.{of_loop}
 use Rattle.tera_grammar.specs.Options.{◌>>=◌}
 use Rattle.tera_grammar.specs.expressions.Reading.Front.{Place, at, Reads, same_token, takes, skip, no_link, link_of, Lead, leads_binary, leads_condition, ends_test, ends_filter, ends_subscript, Front, nothing, joins, closes, misplaced, lead_power, keeps_out, front, head_mark}
-use Rattle.tera_grammar.specs.expressions.Reading.Parts.{Room, room, extra_of, part_of, slice_of, sub_at, sub_of, row_of, arguments_of, args_of, links_by, links_of, attributes_of}
+use Rattle.tera_grammar.specs.expressions.Reading.Bracketed.{Room, room, extra_of, part_of, slice_of, sub_at, sub_of, row_of, arguments_of, args_of, links_by, links_of, attributes_of}
 use Rattle.tera_grammar.specs.expressions.Reading.Atoms.{array_at, head_of}
 use Rattle.tera_grammar.specs.expressions.Reading.Loop.{operator_of, test_at, suffix_in, by_operator, by_suffix, grow, join_of, close_of, step, go_on, expr, loop_with, loop}
 use Rattle.tera_grammar.proofs.expressions.Fronts.{skip_mark, skip_past, bump_read, name_read, lead_tokens, front_lead, front_ending, apart_lead, apart_test, apart_filter, ends_mark}

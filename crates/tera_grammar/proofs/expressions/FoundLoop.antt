@@ -12,7 +12,7 @@ use Rattle.tera_grammar.specs.Words.{is_not}
 use Rattle.tera_grammar.specs.expressions.Conditions.{NamesTest, argument_names, is_refused, IsExpression, IsSuffix, IsOperator}
 use Rattle.tera_grammar.specs.expressions.Measures.{deep, suffix_deep, operator_deep, openings, subscripts, arrays, height, links, suffix_links, operator_links}
 use Rattle.tera_grammar.specs.expressions.Reading.Front.{Place, at, Reads, takes, skip, Lead, leads_binary, leads_condition, Ending, ends_test, ends_filter, ends_subscript, Front, nothing, joins, closes, misplaced, lead_power, keeps_out, front}
-use Rattle.tera_grammar.specs.expressions.Reading.Parts.{Room, Reader}
+use Rattle.tera_grammar.specs.expressions.Reading.Bracketed.{Room, Reader}
 use Rattle.tera_grammar.specs.expressions.Reading.Loop.{operator_of, test_named, test_at, suffix_in, Growth, by_operator, by_suffix, grow, join_of, close_of, grown, step, go_on, loop_by, expr}
 use Rattle.tera_grammar.proofs.Options.{bound}
 use Rattle.tera_grammar.proofs.expressions.Fronts.{cond_ok, fails_ok, skip_ok, skip_none, bump_ok, name_of_ok, lead_tokens, ending_tokens, FrontOf, FrontOf-front}

@@ -8,7 +8,7 @@ use Rattle.tera_grammar.specs.expressions.Conditions.{IsExpression, IsRow, IsEle
 use Rattle.tera_grammar.specs.Limits.{Limits}
 use Rattle.tera_grammar.specs.expressions.Measures.{row_deep, element_deep, attributes_deep, openings, subscripts, arrays, links, row_links, element_links, attributes_links, Within, EachElement, EachRow, EachAttribute}
 use Rattle.tera_grammar.specs.expressions.Reading.Front.{Place, at}
-use Rattle.tera_grammar.specs.expressions.Reading.Parts.{Room, Reader}
+use Rattle.tera_grammar.specs.expressions.Reading.Bracketed.{Room, Reader}
 use Rattle.tera_grammar.specs.expressions.Reading.Loop.{expr, fresh}
 use Rattle.tera_grammar.specs.expressions.Reading.Whole.{widest}
 use Rattle.tera_grammar.proofs.Options.{bound}

@@ -19,7 +19,7 @@ use Rattle.tera_grammar.specs.expressions.Output.{output, suffix_output}
 use Rattle.tera_grammar.specs.expressions.Conditions.{is_refused}
 use Rattle.tera_grammar.specs.Options.{◌>>=◌}
 use Rattle.tera_grammar.specs.expressions.Reading.Front.{Place, at, Reads, takes, moved, skip, bump, head_mark, begins_sign, leads_binary, leads_condition, Ending, Front, nothing, joins, closes, misplaced, front}
-use Rattle.tera_grammar.specs.expressions.Reading.Parts.{Room, Reader}
+use Rattle.tera_grammar.specs.expressions.Reading.Bracketed.{Room, Reader}
 use Rattle.tera_grammar.specs.expressions.Reading.Atoms.{prefix_of, paren_of, array_of, map_of, component_of, chain_of, word_head, mark_head, head_in, head_of}
 use Rattle.tera_grammar.specs.expressions.Reading.Loop.{Growth, by_operator, by_suffix, grow, suffix_in, operator_of, join_of, close_of, grown, step, go_on, loop_by, loop_with, loop, expr}
 use Rattle.tera_grammar.specs.expressions.Stack.{Operand, shown, Shows, outcome, enclosed, chosen, suffixed, joined, refuses, operator_in, is_negated, grown_operand, Level, level, Frame, in_paren, in_prefix, in_binary, in_condition, in_last, State, going, coming, resume, stops, heading, prefixing, joining, choosing, suffix_of, closing, unwind, Keeps, HeadGives, SuffixGives}

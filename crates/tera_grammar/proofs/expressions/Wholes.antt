@@ -12,7 +12,7 @@ use Rattle.tera_grammar.specs.expressions.Measures.{deep, row_deep, element_deep
 use Rattle.tera_grammar.specs.expressions.Companions.{Opened, kwargs_yield, AreKwargs, Filtering, filter_yield, EachArgs, Path, path_yield, array_yield, array_value, IsArray, ArrayWithin, map_yield, map_value, IsMap}
 use Rattle.tera_grammar.specs.Options.{◌>>=◌}
 use Rattle.tera_grammar.specs.expressions.Reading.Front.{Place, at, Reads, takes, skip, link_of}
-use Rattle.tera_grammar.specs.expressions.Reading.Parts.{room, inside_array, row_of, arguments_of, args_at, args_of, attributes_of}
+use Rattle.tera_grammar.specs.expressions.Reading.Bracketed.{room, inside_array, row_of, arguments_of, args_at, args_of, attributes_of}
 use Rattle.tera_grammar.specs.expressions.Reading.Loop.{expr, fresh}
 use Rattle.tera_grammar.specs.expressions.Reading.Whole.{widest, outermost, left_over, expression_of, kwargs_of, filter_of, all_attributes, path_of, with_array, with_map, literal_array_of, literal_map_of}
 use Rattle.tera_grammar.proofs.Options.{bound}

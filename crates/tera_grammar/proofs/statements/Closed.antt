@@ -10,9 +10,9 @@ use Rattle.tera_lexer.specs.declared.lexer.delimiters.Kind.TheVariants as kind
 use Rattle.tera_grammar.specs.expressions.Operators.{GreaterThan}
 use Rattle.tera_grammar.specs.expressions.Concrete.{Quote, Simple, Escaped, Lit, quote_token, literal_token}
 use Rattle.tera_grammar.specs.expressions.Marks.{mark, LeftParen, RightParen, Comma, Assign, Operation}
-use Rattle.tera_grammar.specs.statements.Parts as parts
+use Rattle.tera_grammar.specs.statements.TagParts as parts
 use Rattle.tera_grammar.specs.expressions.Concrete as concrete
-use Rattle.tera_grammar.specs.statements.Parts.{name_yield, name_if_any_yield, OpensSet, AtElif, AtElse, AtEndBlock, AtEndFor, AtEndIf, opening, closing, finish}
+use Rattle.tera_grammar.specs.statements.TagParts.{name_yield, name_if_any_yield, OpensSet, AtElif, AtElse, AtEndBlock, AtEndFor, AtEndIf, opening, closing, finish}
 use Rattle.tera_grammar.specs.statements.Expressions.{expression_yield, attributes_yield, ComponentName, LiteralMap}
 use Rattle.tera_grammar.specs.statements.Components.{Default, LiteralDefault, MinusDefault, NothingDefault, ArrayDefault, MapDefault, default_yield, Annotation, Assigned, Parameter, at_yield, annotation_yield, assigned_yield, parameter_yield, Parameters, Closed, Rest, Final, More, parameters_yield, Head, head_yield, ending_yield, metadata_yield, component_if_any_yield}
 use Rattle.tera_grammar.specs.statements.Heads.{Loop, loop_yield, Filters, NoFilters, Piped, filters_yield, Capture, SetBody, Section, CallBody, capture_yield, capture_end}

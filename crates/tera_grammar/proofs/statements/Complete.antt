@@ -11,13 +11,13 @@ use Rattle.tera_grammar.specs.Options.{◌>>=◌}
 use Rattle.tera_grammar.specs.statements.Names.{agrees}
 use Rattle.tera_grammar.specs.statements.Places.{block_placed, component_placed, places, item_places, branch_places, else_places}
 use Rattle.tera_grammar.specs.statements.Reading.Meeting.{Seen, met, ◌having◌}
-use Rattle.tera_grammar.specs.statements.Parts.{Name, name_yield, name_if_any_yield, Tag, Opener, OpensSet, OpensInclude, OpensExtends, OpensBlock, OpensFor, OpensIf, OpensFilter, OpensComponent, OpensBreak, OpensContinue, OpensCall, AtElif, AtEndBlock, AtEndFor, AtEndIf, opening, closing, finish}
+use Rattle.tera_grammar.specs.statements.TagParts.{Name, name_yield, name_if_any_yield, Tag, Opener, OpensSet, OpensInclude, OpensExtends, OpensBlock, OpensFor, OpensIf, OpensFilter, OpensComponent, OpensBreak, OpensContinue, OpensCall, AtElif, AtEndBlock, AtEndFor, AtEndIf, opening, closing, finish}
 use Rattle.tera_grammar.specs.statements.Expressions.{Limits, Expression, IsExpression, expression_yield, attributes_yield, component_text}
 use Rattle.tera_grammar.specs.statements.Components.{Head, ending_yield, FitsHead}
 use Rattle.tera_grammar.specs.statements.Heads.{Loop, loop_yield, FitsLoop, Filters, NoFilters, Piped, filters_yield, Capture, SetBody, Section, CallBody, capture_end, FitsCapture}
 use Rattle.tera_grammar.specs.statements.Grammar.{Plain, Text, Shown, Set, Include, Extends, Break, Continue, plain_yield, FitsPlain, Body, Done, Then, Item, Single, Block, Define, Capturing, For, If, Branches, Elif, Last, Else, NoElse, Otherwise, yield, item_yield, branches_yield, else_yield, InFor, InForElse, InBlock, InIf, InComponent, InCapture, Path, may_block, in_loop, is_outermost, text_if_any, Fits, FitsItem, FitsBranches, FitsElse, height, item_height, branch_height, else_height}
 use Rattle.tera_grammar.specs.statements.Reading.{Place, at, Reads, Reader, else_in, branch_in, branches, set_behind, set_of, include_of, extends_of, break_of, block_end, block_of, component_def_of, section_of, call_end, call_of, for_of, if_of, tag_of, shown_of, step, go_on, body}
-use Rattle.tera_grammar.specs.statements.Reading.Parts.{Front, Ends, Closes, Opens, front}
+use Rattle.tera_grammar.specs.statements.Reading.TagParts.{Front, Ends, Closes, Opens, front}
 use Rattle.tera_grammar.proofs.statements.Names.{NamesAreNew, first_names, having_both, then_names}
 use Rattle.tera_grammar.proofs.statements.Expressions.{expression_found, filter_found, attributes_found, attributes_begin, component_found}
 use Rattle.tera_grammar.proofs.statements.Heads.{loop_found, filters_end, filters_found}

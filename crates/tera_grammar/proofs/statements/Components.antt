@@ -12,7 +12,7 @@ use Rattle.tera_grammar.specs.expressions.Marks.{mark, Mark, LeftParen, RightPar
 use Rattle.tera_grammar.specs.Options.{◌>>=◌}
 use Rattle.tera_grammar.specs.expressions.Concrete.{Number, Quoted, Truth, Simple, Escaped}
 use Rattle.tera_grammar.specs.statements.Names.{agrees}
-use Rattle.tera_grammar.specs.statements.Parts.{Edge, Name, name_yield, OpensComponent, opener_token, AtEndComponent, closer_token, start_yield, finish_yield}
+use Rattle.tera_grammar.specs.statements.TagParts.{Edge, Name, name_yield, OpensComponent, opener_token, AtEndComponent, closer_token, start_yield, finish_yield}
 use Rattle.tera_grammar.specs.statements.Expressions.{Limits, ComponentName, component_yield, component_text, LiteralMap, map_yield}
 use Rattle.tera_grammar.specs.statements.Reading.Expressions.{array_of, map_of}
 use Rattle.tera_grammar.specs.statements.Components.{Default, LiteralDefault, MinusDefault, NothingDefault, ArrayDefault, MapDefault, FitsDefault, default_yield, Annotation, Assigned, Parameter, at_yield, annotation_yield, assigned_yield, parameter_yield, is_known, is_body, FitsAssigned, FitsParameter, Parameters, Closed, Rest, Final, More, parameters_yield, parameter_names, FitEach, FitParameters, Head, head_yield, ending_yield, metadata_yield, component_if_any_yield, component_texts, FitsMetadata, FitsHead}
@@ -21,7 +21,7 @@ use Rattle.tera_grammar.specs.statements.Reading.Meeting.{Met, meet, nothing_met
 use Rattle.tera_grammar.proofs.Options.{bound, bind_both, guard_ok, guard_not}
 use Rattle.tera_grammar.proofs.statements.Names.{AreNew, all_new, new_distinct}
 use Rattle.tera_grammar.proofs.statements.Expressions.{component_stands, component_found, component_size, component_begins, array_stands, array_found, array_size, array_begins, map_stands, map_found, map_size, map_begins}
-use Rattle.tera_grammar.proofs.statements.Parts.{finish_stands, closed_stands}
+use Rattle.tera_grammar.proofs.statements.TagParts.{finish_stands, closed_stands}
 
 -- no tokens are lost
 default_size : (d : Default) (rest : Items) → size rest ≤ size (default_yield d rest)

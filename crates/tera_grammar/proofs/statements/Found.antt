@@ -17,16 +17,16 @@ use Rattle.tera_grammar.specs.Words.{is_reserved}
 use Rattle.tera_grammar.specs.statements.Names.{agrees}
 use Rattle.tera_grammar.specs.statements.Places.{block_placed, component_placed, ◌followed_by◌, places, item_places, branch_places, else_places}
 use Rattle.tera_grammar.specs.statements.Reading.Meeting.{Seen, met, ◌having◌}
-use Rattle.tera_grammar.specs.statements.Parts.{Edge, Name, name_yield, name_if_any_yield, Tag, Opener, OpensSet, OpensInclude, OpensExtends, OpensBlock, OpensFor, OpensIf, OpensFilter, OpensComponent, OpensBreak, OpensContinue, OpensCall, opener_token, AtElif, AtElse, AtEndSet, AtEndBlock, AtEndFor, AtEndIf, AtEndFilter, AtEndCall, closer_token, start_yield, opening, closing, finish}
+use Rattle.tera_grammar.specs.statements.TagParts.{Edge, Name, name_yield, name_if_any_yield, Tag, Opener, OpensSet, OpensInclude, OpensExtends, OpensBlock, OpensFor, OpensIf, OpensFilter, OpensComponent, OpensBreak, OpensContinue, OpensCall, opener_token, AtElif, AtElse, AtEndSet, AtEndBlock, AtEndFor, AtEndIf, AtEndFilter, AtEndCall, closer_token, start_yield, opening, closing, finish}
 use Rattle.tera_grammar.specs.statements.Expressions.{Limits, expression_yield, filter_yield, attributes_yield, ComponentName, component_yield, component_text}
 use Rattle.tera_grammar.specs.statements.Heads.{loop_yield, filters_yield, Capture, SetBody, Section, CallBody, capture_yield, capture_end, FitsCapture}
 use Rattle.tera_grammar.specs.statements.Grammar.{Plain, Text, Shown, Set, Include, Extends, Break, Continue, plain_yield, FitsPlain, Body, Then, Item, Single, Block, Define, Capturing, For, If, Branches, Elif, Last, Else, NoElse, Otherwise, yield, item_yield, branches_yield, else_yield, InFor, InForElse, InBlock, InIf, InComponent, InCapture, Path, may_break, in_loop, text_if_any, Fits, FitsItem, FitsBranches, FitsElse, height, item_height, branch_height, else_height}
 use Rattle.tera_grammar.specs.statements.Reading.{Place, at, Reads, Reader, else_in, branch_in, branches_by, branches, set_behind, set_of, include_of, extends_of, break_of, block_end, block_of, component_def_of, section_of, call_end, call_of, for_of, if_of, tag_of, shown_of, step, go_on, items_by, items, body}
-use Rattle.tera_grammar.specs.statements.Reading.Parts.{Front, Ends, Closes, Holds, Shows, Opens, Wrong, front, name_if_any, tag}
+use Rattle.tera_grammar.specs.statements.Reading.TagParts.{Front, Ends, Closes, Holds, Shows, Opens, Wrong, front, name_if_any, tag}
 use Rattle.tera_grammar.proofs.Options.{bound, guard_ok, guard_not}
 use Rattle.tera_grammar.proofs.statements.Names.{Named, named_nothing, named_both, named_block, named_component}
 use Rattle.tera_grammar.proofs.statements.Expressions.{expression_stands, filter_stands, attributes_stands, component_stands}
-use Rattle.tera_grammar.proofs.statements.Parts.{name_if_any_stands, quote_stands, finish_stands, variable_end_stands, FrontOf, front_is, closed_stands, closed_tag_stands}
+use Rattle.tera_grammar.proofs.statements.TagParts.{name_if_any_stands, quote_stands, finish_stands, variable_end_stands, FrontOf, front_is, closed_stands, closed_tag_stands}
 use Rattle.tera_grammar.proofs.statements.Heads.{free_name_stands, loop_stands, filters_stand}
 use Rattle.tera_grammar.proofs.statements.Components.{opened_yield, opened_stands, ending_stands}
 

@@ -10,7 +10,7 @@ use Rattle.tera_grammar.specs.expressions.Operators.{In}
 use Rattle.tera_grammar.specs.expressions.Marks.{mark, Bar, Operation}
 use Rattle.tera_grammar.specs.Options.{◌>>=◌}
 use Rattle.tera_grammar.specs.Words.{is_reserved}
-use Rattle.tera_grammar.specs.statements.Parts.{Name, name_yield}
+use Rattle.tera_grammar.specs.statements.TagParts.{Name, name_yield}
 use Rattle.tera_grammar.specs.statements.Expressions.{Limits, filter_yield}
 use Rattle.tera_grammar.specs.statements.Heads.{Loop, loop_yield, FitsLoop, Filters, NoFilters, Piped, filters_yield, AreFilters}
 use Rattle.tera_grammar.specs.statements.Reading.Heads.{free_name, loop_of, filters_in, filters_by, filters_of}

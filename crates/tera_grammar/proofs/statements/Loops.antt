@@ -15,7 +15,7 @@ use Rattle.tera_grammar.specs.statements.Types.{Sorted, put_name}
 use Rattle.tera_grammar.specs.Options.{◌>>=◌, guard}
 use Rattle.tera_grammar.specs.statements.Places.{places}
 use Rattle.tera_grammar.specs.statements.Reading.Meeting.{Met, Seen, meet, nothing_met, nothing_seen, ◌having◌}
-use Rattle.tera_grammar.specs.statements.Parts.{Edge, AtElif, OpensExtends}
+use Rattle.tera_grammar.specs.statements.TagParts.{Edge, AtElif, OpensExtends}
 use Rattle.tera_grammar.specs.statements.Expressions.{Limits, expression_output, Filtering, filter_output}
 use Rattle.tera_grammar.specs.statements.Reading.Expressions.{filter_of}
 use Rattle.tera_grammar.specs.statements.Components.{Parameter, argument_of, Parameters, put_arguments, rest_of, More}
@@ -26,7 +26,7 @@ use Rattle.tera_grammar.specs.statements.Output.{added_nodes, added_by, output, 
 use Rattle.tera_grammar.specs.statements.Reading.{extends_of, Place, at, Reads, else_in, else_of, branch_in, branches, step, go_on, body, Phase, Starting, Standing, Extending, behind_text, next_phase, phases, template}
 use Rattle.tera_grammar.specs.statements.Reading.Heads.{filters_in, filters_of}
 use Rattle.tera_grammar.specs.statements.Reading.Components.{parameter_of, parameters_behind, parameters_at, parameters_in, parameters_of}
-use Rattle.tera_grammar.specs.statements.Reading.Parts.{Front, Closes, Opens, front, finish_of, tag}
+use Rattle.tera_grammar.specs.statements.Reading.TagParts.{Front, Closes, Opens, front, finish_of, tag}
 use Rattle.tera_grammar.specs.statements.Top.{is_blank, join}
 use Rattle.tera_grammar.proofs.Options.{bound}
 use Rattle.tera_grammar.proofs.statements.Heads.{filters_steps}

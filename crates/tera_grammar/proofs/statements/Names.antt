@@ -7,7 +7,7 @@ use Rattle.tera_base.specs.declared.utils.Span.{Span}
 use Rattle.tera_grammar.specs.statements.Expressions.{ComponentName, component_text}
 use Rattle.tera_grammar.specs.statements.Grammar.{Body, Done, Then, Item, Single, Block, Define, Capturing, For, If, Branches, Elif, Last, Else, NoElse, Otherwise, names, item_names, branch_names, else_names}
 use Rattle.tera_grammar.specs.statements.Names.{Names, NamesAreDistinct, ◌and_then◌}
-use Rattle.tera_grammar.specs.statements.Parts.{Name}
+use Rattle.tera_grammar.specs.statements.TagParts.{Name}
 use Rattle.tera_grammar.specs.statements.Places.{Places, no_places, block_placed, component_placed, ◌followed_by◌, texts, texts_of, places, item_places, branch_places, else_places}
 use Rattle.tera_grammar.specs.statements.Reading.Meeting.{Met, Seen, Located, locate, locate_all, nothing_located, meet, met, nothing_met, nothing_seen, ◌having◌}
 use Rattle.tera_grammar.proofs.Options.{or_false, bytes_apart, bytes_differ}

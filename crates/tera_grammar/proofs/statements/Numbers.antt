@@ -24,7 +24,7 @@ use Rattle.tera_grammar.specs.expressions.Marks.{mark, RightParen, Comma, Operat
 use Rattle.tera_grammar.specs.expressions.Concrete.{quote_token, literal_token, of_items, of_entries}
 use Rattle.tera_grammar.specs.expressions.Output.{items_output, entries_output}
 use Rattle.tera_grammar.specs.expressions.Constants.{IsLiteralNumber, EachNumber, EachOfValue, EachOfValues, EachOfPairs, EachConstant, EachOfEntries}
-use Rattle.tera_grammar.specs.statements.Parts.{Name, name_yield, name_if_any_yield, Tag, OpensSet, AtEndBlock, AtEndFor, AtEndIf, opening, closing, finish}
+use Rattle.tera_grammar.specs.statements.TagParts.{Name, name_yield, name_if_any_yield, Tag, OpensSet, AtEndBlock, AtEndFor, AtEndIf, opening, closing, finish}
 use Rattle.tera_grammar.specs.statements.Types.{Sorted, put_name}
 use Rattle.tera_grammar.specs.statements.Expressions.{Limits, Expression, expression_yield, expression_output, Filtering, filter_yield, filter_output, Attributes, attributes_yield, attributes_output, ComponentName, component_yield, LiteralArray, IsLiteralArray, array_yield, array_output, LiteralMap, IsLiteralMap, map_yield, map_output}
 use Rattle.tera_grammar.specs.statements.Components.{Default, LiteralDefault, MinusDefault, NothingDefault, ArrayDefault, MapDefault, FitsDefault, default_yield, default_output, Annotation, Assigned, Parameter, at_yield, annotation_yield, assigned_yield, parameter_yield, default_of, argument_of, FitsAssigned, FitsParameter, Parameters, Closed, Rest, Final, More, parameters_yield, FitEach, put_arguments, metadata_yield, component_if_any_yield, FitsMetadata, ending_yield, put_pairs, metadata_output}

@@ -7,7 +7,7 @@ use Rattle.tera_lexer.specs.grammar.Tokens.{Items, Ended, Failed, Token}
 use Rattle.tera_grammar.specs.expressions.Concrete.{Quote}
 use Rattle.tera_grammar.specs.Options.{◌>>=◌}
 use Rattle.tera_grammar.specs.statements.Reading.Meeting.{nothing_seen}
-use Rattle.tera_grammar.specs.statements.Parts.{Tag}
+use Rattle.tera_grammar.specs.statements.TagParts.{Tag}
 use Rattle.tera_grammar.specs.statements.Expressions.{Limits}
 use Rattle.tera_grammar.specs.statements.Names.{NamesAreDistinct}
 use Rattle.tera_grammar.specs.statements.Places.{places}

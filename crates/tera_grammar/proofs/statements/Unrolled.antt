@@ -7,17 +7,17 @@ use Rattle.tera_lexer.specs.declared.lexer.delimiters.Kind.TheVariants as kind
 use Rattle.tera_grammar.specs.expressions.Operators.{GreaterThan}
 use Rattle.tera_grammar.specs.expressions.Marks.{mark, Operation}
 use Rattle.tera_grammar.specs.Options.{◌>>=◌}
-use Rattle.tera_grammar.specs.statements.Parts.{Name, name_if_any_yield, AtElif, AtEndBlock, AtEndFor, AtEndIf, closer_token, start_yield, closing, finish}
+use Rattle.tera_grammar.specs.statements.TagParts.{Name, name_if_any_yield, AtElif, AtEndBlock, AtEndFor, AtEndIf, closer_token, start_yield, closing, finish}
 use Rattle.tera_grammar.specs.statements.Expressions.{Limits, expression_yield, attributes_yield}
 use Rattle.tera_grammar.specs.statements.Components.{ending_yield}
 use Rattle.tera_grammar.specs.statements.Heads.{filters_yield, Capture, SetBody, Section, CallBody, capture_yield, capture_end}
 use Rattle.tera_grammar.specs.statements.Grammar.{Plain, Text, Shown, Set, Include, Extends, Break, Continue, plain_yield, Body, Done, Then, Item, Single, Block, Define, Capturing, For, If, Branches, Elif, Last, Else, NoElse, Otherwise, yield, item_yield, branches_yield, else_yield, Path, in_loop}
 use Rattle.tera_grammar.specs.statements.Reading.{Place, at, Reads, Reader, branch_in, branches_by, branches, step, go_on, items_by, items, body}
-use Rattle.tera_grammar.specs.statements.Reading.Parts.{Front, Closes, front, tag}
+use Rattle.tera_grammar.specs.statements.Reading.TagParts.{Front, Closes, front, tag}
 use Rattle.tera_grammar.specs.statements.Reading.Meeting.{Seen}
 use Rattle.tera_grammar.proofs.Options.{bind_both}
 use Rattle.tera_grammar.proofs.statements.Expressions.{expression_stands, expression_size, filter_size, attributes_size, component_size}
-use Rattle.tera_grammar.proofs.statements.Parts.{finish_stands, FrontOf, front_is}
+use Rattle.tera_grammar.proofs.statements.TagParts.{finish_stands, FrontOf, front_is}
 use Rattle.tera_grammar.proofs.statements.Heads.{filters_size, loop_size}
 use Rattle.tera_grammar.proofs.statements.Components.{opened_part, opened_size, ending_size}
 use Rattle.tera_grammar.proofs.statements.Found.{Sound, step_found, body_sound}

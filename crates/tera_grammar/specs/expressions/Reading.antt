@@ -1,5 +1,5 @@
 pub mod Front
-pub mod Parts
+pub mod Bracketed
 pub mod Atoms
 pub mod Loop
 pub mod Whole

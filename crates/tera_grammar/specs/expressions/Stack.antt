@@ -15,7 +15,7 @@ use Rattle.tera_grammar.specs.expressions.Spans.{spanning, sign_span, suffix_end
 use Rattle.tera_grammar.specs.expressions.Output.{prefixed, is_unary, output, suffix_output, operator_output}
 use Rattle.tera_grammar.specs.Options.{◌>>=◌}
 use Rattle.tera_grammar.specs.expressions.Reading.Front.{Place, Reads, skip, bump, Ending, Front, nothing, joins, closes, misplaced, lead_power, keeps_out}
-use Rattle.tera_grammar.specs.expressions.Reading.Parts.{Room}
+use Rattle.tera_grammar.specs.expressions.Reading.Bracketed.{Room}
 use Rattle.tera_grammar.specs.expressions.Reading.Atoms.{head_of}
 use Rattle.tera_grammar.specs.expressions.Reading.Loop.{Growth, by_operator, by_suffix, suffix_in, loop_with, expr}
 

@@ -18,7 +18,7 @@ use Rattle.tera_grammar.specs.statements.Types.{type_of, type_named, has_type, S
 use Rattle.tera_grammar.specs.Words.{is_none}
 use Rattle.tera_grammar.specs.Words.{AreDistinct}
 use Rattle.tera_grammar.specs.statements.Names.{agrees}
-use Rattle.tera_grammar.specs.statements.Parts.{Name, name_yield, Tag, OpensComponent, AtEndComponent, opening, closing, finish}
+use Rattle.tera_grammar.specs.statements.TagParts.{Name, name_yield, Tag, OpensComponent, AtEndComponent, opening, closing, finish}
 use Rattle.tera_grammar.specs.statements.Expressions.{Limits, ComponentName, component_yield, component_text, LiteralArray, IsLiteralArray, array_yield, array_output, LiteralMap, IsLiteralMap, map_yield, map_output}
 
 -- the default of a parameter: a literal; a minus and a number; a word for no value; a constant array; a constant

@@ -9,7 +9,7 @@ use Rattle.tera_grammar.specs.expressions.Concrete.{Quote, quote_token}
 use Rattle.tera_grammar.specs.expressions.Marks.{mark, Assign}
 use Rattle.tera_grammar.specs.Words.{is_reserved}
 use Rattle.tera_grammar.specs.statements.Names.{agrees, Names, no_names, block_named, component_named, ◌and_then◌}
-use Rattle.tera_grammar.specs.statements.Parts.{Edge, Name, name_yield, name_if_any_yield, Tag, OpensSet, OpensInclude, OpensExtends, OpensBlock, OpensFor, OpensIf, OpensBreak, OpensContinue, AtElif, AtElse, AtEndBlock, AtEndFor, AtEndIf, opening, closing, finish}
+use Rattle.tera_grammar.specs.statements.TagParts.{Edge, Name, name_yield, name_if_any_yield, Tag, OpensSet, OpensInclude, OpensExtends, OpensBlock, OpensFor, OpensIf, OpensBreak, OpensContinue, AtElif, AtElse, AtEndBlock, AtEndFor, AtEndIf, opening, closing, finish}
 use Rattle.tera_grammar.specs.statements.Expressions.{Limits, Expression, IsExpression, expression_yield, component_text}
 use Rattle.tera_grammar.specs.statements.Components.{Head, head_yield, ending_yield, FitsHead}
 use Rattle.tera_grammar.specs.statements.Heads.{Loop, loop_yield, FitsLoop, Capture, capture_yield, capture_end, FitsCapture}

@@ -13,7 +13,7 @@ use Rattle.tera_grammar.specs.expressions.Spans.{spanning}
 use Rattle.tera_grammar.specs.expressions.Concrete.{Second, second_yield}
 use Rattle.tera_grammar.specs.expressions.Conditions.{AreVariables}
 use Rattle.tera_grammar.specs.expressions.Output.{key_variable, value_variable}
-use Rattle.tera_grammar.specs.statements.Parts.{Name, name_yield, Tag, OpensSet, OpensFilter, OpensCall, AtEndSet, AtEndFilter, AtEndCall, opening, closing, finish}
+use Rattle.tera_grammar.specs.statements.TagParts.{Name, name_yield, Tag, OpensSet, OpensFilter, OpensCall, AtEndSet, AtEndFilter, AtEndCall, opening, closing, finish}
 use Rattle.tera_grammar.specs.statements.Expressions.{Limits, Expression, IsExpression, expression_yield, expression_output, Filtering, IsFilter, filter_yield, filter_output, Attributes, AreAttributes, attributes_yield, attributes_output, ComponentName, component_yield, component_text}
 
 -- the head of a loop: its variables, which are those of a comprehension; the word `in`; and its target

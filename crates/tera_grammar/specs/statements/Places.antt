@@ -1,7 +1,7 @@
 -- Where the names stand that a template defines: of a block its name, of a component the last part of its name.
 use Rattle.std.specs.Prelude.{ℕ, List, [], ◌∷◌, ◌++◌, map}
 use Rattle.tera_grammar.specs.statements.Names.{Names}
-use Rattle.tera_grammar.specs.statements.Parts.{Name}
+use Rattle.tera_grammar.specs.statements.TagParts.{Name}
 use Rattle.tera_grammar.specs.statements.Expressions.{ComponentName, component_text, component_span}
 use Rattle.tera_grammar.specs.statements.Grammar.{Body, Done, Then, Item, Single, Block, Define, Capturing, For, If, Branches, Elif, Last, Else, NoElse, Otherwise}
 

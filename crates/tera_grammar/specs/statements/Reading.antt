@@ -10,18 +10,18 @@ use Rattle.tera_grammar.specs.expressions.Marks.{Assign, Operation}
 use Rattle.tera_grammar.specs.Options.{◌>>=◌, guard}
 use Rattle.tera_grammar.specs.statements.Names.{agrees}
 use Rattle.tera_grammar.specs.statements.Places.{block_placed, component_placed}
-use Rattle.tera_grammar.specs.statements.Parts.{Edge, Name, Tag, Opener, OpensSet, OpensInclude, OpensExtends, OpensBlock, OpensFor, OpensIf, OpensFilter, OpensComponent, OpensBreak, OpensContinue, OpensCall, AtElif, AtElse, AtEndSet, AtEndBlock, AtEndFor, AtEndIf, AtEndFilter, AtEndCall}
+use Rattle.tera_grammar.specs.statements.TagParts.{Edge, Name, Tag, Opener, OpensSet, OpensInclude, OpensExtends, OpensBlock, OpensFor, OpensIf, OpensFilter, OpensComponent, OpensBreak, OpensContinue, OpensCall, AtElif, AtElse, AtEndSet, AtEndBlock, AtEndFor, AtEndIf, AtEndFilter, AtEndCall}
 use Rattle.tera_grammar.specs.statements.Expressions.{Limits, Filtering, Attributes, ComponentName, component_text}
 use Rattle.tera_grammar.specs.statements.Reading.Expressions.{expression_of, filter_of, attributes_of, component_of}
 use Rattle.tera_grammar.specs.statements.Heads.{Filters, Capture, SetBody, Section, CallBody}
 use Rattle.tera_grammar.specs.statements.Grammar.{Plain, Text, Shown, Set, Include, Extends, Break, Continue, Body, Done, Then, Item, Single, Block, Define, Capturing, For, If, Branches, Elif, Last, Else, NoElse, Otherwise, InFor, InForElse, InBlock, InIf, InComponent, InCapture, Path, may_block, may_break, in_loop, is_outermost, text_if_any}
 use Rattle.tera_grammar.specs.statements.Top.{is_blank, is_kept}
-use Rattle.tera_grammar.specs.statements.Reading.Parts.{Front, Ends, Closes, Holds, Shows, Opens, Wrong, front, name_if_any, finish_of, variable_end_of, tag, closed, closed_tag}
+use Rattle.tera_grammar.specs.statements.Reading.TagParts.{Front, Ends, Closes, Holds, Shows, Opens, Wrong, front, name_if_any, finish_of, variable_end_of, tag, closed, closed_tag}
 use Rattle.tera_grammar.specs.statements.Reading.Meeting.{Seen, met, nothing_seen, ◌having◌}
 use Rattle.tera_grammar.specs.statements.Reading.Heads.{free_name, loop_of, filters_of}
 use Rattle.tera_grammar.specs.statements.Reading.Components.{opened_of, ending_of}
 pub mod Expressions
-pub mod Parts
+pub mod TagParts
 pub mod Meeting
 pub mod Heads
 pub mod Components

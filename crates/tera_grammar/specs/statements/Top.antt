@@ -8,7 +8,7 @@ use Rattle.tera_lexer.specs.grammar.Tokens.{Items, Ended, tokens_of}
 use Rattle.tera_tree.specs.Tree.{Output}
 use Rattle.tera_grammar.specs.expressions.Concrete.{Quote}
 use Rattle.tera_grammar.specs.statements.Names.{NamesAreDistinct}
-use Rattle.tera_grammar.specs.statements.Parts.{Tag}
+use Rattle.tera_grammar.specs.statements.TagParts.{Tag}
 use Rattle.tera_grammar.specs.statements.Expressions.{Limits}
 use Rattle.tera_grammar.specs.statements.Grammar.{Text, Extends, Body, Done, Then, Item, Single, Block, Define, yield, Fits, names, height}
 use Rattle.tera_grammar.specs.statements.Output.{output_of}

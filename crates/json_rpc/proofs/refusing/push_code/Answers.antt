@@ -1,7 +1,7 @@
 use Rattle.std.proofs.Common.{◌≡◌, ◌∙◌, arith}
 use Rattle.json_rpc.specs.Codes.{code_number}
 use Rattle.json_rpc.proofs.Adding.{adds_more, adds_within}
-use Rattle.json_rpc.proofs.Refusals.{number-short}
+use Rattle.json_rpc.proofs.RefusalBytes.{number-short}
 use Rattle.json_rpc.proofs.refusing.push_code.Goals as goal
 
 pub returns : goal.returns

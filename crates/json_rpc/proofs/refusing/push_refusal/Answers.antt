@@ -1,7 +1,7 @@
 use Rattle.std.proofs.Common.{sym, subst, lit≤}
 use Rattle.json_rpc.specs.Room.{Adds}
 use Rattle.json_rpc.proofs.Adding.{adds_more, adds_within}
-use Rattle.json_rpc.proofs.Refusals.{refusal_text}
+use Rattle.json_rpc.proofs.RefusalBytes.{refusal_text}
 use Rattle.json_rpc.proofs.refusing.push_refusal.Goals as goal
 
 pub returns : goal.returns

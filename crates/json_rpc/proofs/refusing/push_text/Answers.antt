@@ -1,7 +1,7 @@
 use Rattle.std.proofs.Common.{◌≡◌, ◌∙◌, arith}
 use Rattle.json_rpc.specs.Codes.{code_text}
 use Rattle.json_rpc.proofs.Adding.{adds_more, adds_within}
-use Rattle.json_rpc.proofs.Refusals.{text-short}
+use Rattle.json_rpc.proofs.RefusalBytes.{text-short}
 use Rattle.json_rpc.proofs.refusing.push_text.Goals as goal
 
 pub returns : goal.returns

@@ -6,7 +6,7 @@ use Rattle.std.proofs.lemmas.Map.Entries.{length-keys_of, length-values_of}
 use Rattle.tera_base.specs.ValueView.{key_view, value_view, vals_view}
 use Rattle.tera_base.specs.Text.{inner_text, inner_key_text, vals_text, comma_text}
 use Rattle.tera_base.proofs.Showing.{shown_more, one_pair, one_less}
-use Rattle.tera_base.proofs.Rows.{zip_rows}
+use Rattle.tera_base.proofs.KeysAndValues.{zip_rows}
 use Rattle.tera_base.proofs.show.+show.Goals as goal
 
 pub show_values-loop-value-init : goal.show_values-loop-value-init

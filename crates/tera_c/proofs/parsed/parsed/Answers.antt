@@ -1,5 +1,5 @@
 use Rattle.tera_c.specs.Asked.{limits_at, IsReadable}
-use Rattle.tera_c.proofs.Refusals.{refuses_asked}
+use Rattle.tera_c.proofs.WithoutTree.{refuses_asked}
 use Rattle.tera_c.proofs.parsed.parsed.Goals as goal
 
 pub returns-in-Ok-markers_at-clause-err : goal.returns-in-Ok-markers_at-clause-err

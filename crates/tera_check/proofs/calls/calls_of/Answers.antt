@@ -1,4 +1,4 @@
-use Rattle.tera_check.proofs.Parts.{all_found, emptied}
+use Rattle.tera_check.proofs.Pending.{all_found, emptied}
 use Rattle.tera_check.proofs.calls.calls_of.Goals as goal
 
 pub returns-in-None : goal.returns-in-None

@@ -2,7 +2,7 @@ use Rattle.std.proofs.Common.{◌≡◌, ◌++◌, drop, map}
 use Rattle.std.specs.List.{flat_map}
 use Rattle.tera_tree.specs.View.{definition_view}
 use Rattle.tera_check.specs.Calls.{calls_in_definition}
-use Rattle.tera_check.specs.Parts.{to_come}
+use Rattle.tera_check.specs.Pending.{to_come}
 use Rattle.tera_check.proofs.calls.push_definitions.Given as goal
 
 abbrev pub invariant-loop-definition : goal.invariant-loop-definition

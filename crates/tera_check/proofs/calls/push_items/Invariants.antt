@@ -1,7 +1,7 @@
 use Rattle.std.proofs.Common.{◌≡◌, ◌++◌, drop}
 use Rattle.tera_nodes.specs.View.{items_view}
 use Rattle.tera_check.specs.Calls.{calls_in_items}
-use Rattle.tera_check.specs.Parts.{to_come}
+use Rattle.tera_check.specs.Pending.{to_come}
 use Rattle.tera_check.proofs.calls.push_items.Given as goal
 
 abbrev pub invariant-loop-item : goal.invariant-loop-item

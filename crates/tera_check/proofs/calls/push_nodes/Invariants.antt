@@ -1,7 +1,7 @@
 use Rattle.std.proofs.Common.{◌≡◌, ◌++◌, drop}
 use Rattle.tera_nodes.specs.View.{nodes_view}
 use Rattle.tera_check.specs.Calls.{calls_in_nodes}
-use Rattle.tera_check.specs.Parts.{to_come}
+use Rattle.tera_check.specs.Pending.{to_come}
 use Rattle.tera_check.proofs.calls.push_nodes.Given as goal
 
 abbrev pub invariant-loop-node : goal.invariant-loop-node

@@ -3,7 +3,7 @@ use Rattle.std.specs.List.{flat_map}
 use Rattle.tera_check.specs.Findings.{finding_view}
 use Rattle.tera_check.specs.Judged.{call_findings}
 use Rattle.tera_check.specs.Named.{known_in}
-use Rattle.tera_check.specs.Parts.{seen}
+use Rattle.tera_check.specs.Pending.{seen}
 use Rattle.tera_check.proofs.checked.push_found.Given as goal
 
 abbrev pub invariant-loop-call : goal.invariant-loop-call

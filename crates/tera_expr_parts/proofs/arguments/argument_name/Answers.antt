@@ -2,7 +2,7 @@ use Rattle.std.proofs.Common.{inr, cond, Some, None, ap, sym, ◌∙◌}
 use Rattle.tera_nodes.specs.View.{args_view}
 use Rattle.tera_grammar.specs.Options.{◌>>=◌}
 use Rattle.tera_expect.specs.Taking.{name_at}
-use Rattle.tera_expr_parts.specs.Rows.{has_argument}
+use Rattle.tera_expr_parts.specs.CommaLists.{has_argument}
 use Rattle.tera_expr_parts.proofs.ArgumentsLemmas.{has_found}
 use Rattle.tera_expr_parts.proofs.arguments.argument_name.Goals as goal
 

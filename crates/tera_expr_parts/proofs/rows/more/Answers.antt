@@ -1,6 +1,6 @@
 use Rattle.std.proofs.Common.{not, Ok, subst}
 use Rattle.tera_lexer.specs.code.Cursors.{Position}
-use Rattle.tera_expr_parts.specs.Rows.{Continues}
+use Rattle.tera_expr_parts.specs.CommaLists.{Continues}
 use Rattle.tera_expect.specs.Taking.{mark_of}
 use Rattle.tera_expr_parts.proofs.RowsLemmas.{comma_then}
 use Rattle.tera_expr_parts.proofs.rows.more.Goals as goal

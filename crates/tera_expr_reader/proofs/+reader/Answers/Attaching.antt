@@ -9,11 +9,11 @@ use Rattle.tera_nodes.specs.View.{nodes_view}
 use Rattle.tera_grammar.specs.expressions.Concrete.{Atomic, Component}
 use Rattle.tera_grammar.specs.expressions.Reading.Front.{at, taken_quote}
 use Rattle.tera_grammar.specs.expressions.Reading.Loop.{expr}
-use Rattle.tera_grammar.specs.expressions.Reading.Parts.{attributes_of}
+use Rattle.tera_grammar.specs.expressions.Reading.Bracketed.{attributes_of}
 use Rattle.tera_grammar.specs.expressions.Spans.{spanning}
 use Rattle.tera_expr_parts.specs.Attributes.{GivesQuote}
 use Rattle.tera_expr_parts.specs.Rooms.{room_of}
-use Rattle.tera_expr_parts.specs.Rows.{reader_of}
+use Rattle.tera_expr_parts.specs.CommaLists.{reader_of}
 use Rattle.tera_expect.specs.Taking.{GoesOn, name_at, name_in}
 use Rattle.tera_expr_reader.proofs.AttributesLemmas.{attributing_begins, attributing_more, attributing_ends, attributing_fails, named_gives, named_lacks, nothing_gives, spread_gives, spread_lacks, spread_missing, brace_at, bare_gives, assigned_lacks, assigned_gives, value_braced, value_quoted, braced_given, braced_fails, braced_unclosed}
 use Rattle.tera_expr_reader.proofs.ComponentCallsLemmas.{unnamed_component, component_no_path, component_no_attributes, component_unclosed, component_given, component_shown}

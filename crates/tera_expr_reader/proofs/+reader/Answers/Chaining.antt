@@ -8,7 +8,7 @@ use Rattle.tera_grammar.specs.expressions.Concrete.{field, item}
 use Rattle.tera_grammar.specs.expressions.Output.{of_loop, links_output, sub_output}
 use Rattle.tera_grammar.specs.expressions.Reading.Front.{at, link_of}
 use Rattle.tera_grammar.specs.expressions.Reading.Loop.{expr}
-use Rattle.tera_grammar.specs.expressions.Reading.Parts.{links_of}
+use Rattle.tera_grammar.specs.expressions.Reading.Bracketed.{links_of}
 use Rattle.tera_expr_reader.specs.Chains.{subscripted}
 use Rattle.tera_expr_parts.specs.Rooms.{room_of}
 use Rattle.tera_expect.specs.Taking.{name_in}

@@ -10,10 +10,10 @@ use Rattle.tera_grammar.specs.expressions.Operators.{In}
 use Rattle.tera_grammar.specs.expressions.Output.{output}
 use Rattle.tera_grammar.specs.expressions.Reading.Atoms.{array_of, items_from, comprehension_of, variables_of}
 use Rattle.tera_grammar.specs.expressions.Reading.Front.{at, takes}
-use Rattle.tera_grammar.specs.expressions.Reading.Parts.{row_of, inside_array, after_element, element_of, extra_of}
+use Rattle.tera_grammar.specs.expressions.Reading.Bracketed.{row_of, inside_array, after_element, element_of, extra_of}
 use Rattle.tera_grammar.specs.expressions.Spans.{spanning}
 use Rattle.tera_expr_parts.specs.Rooms.{room_of}
-use Rattle.tera_expr_parts.specs.Rows.{reader_of}
+use Rattle.tera_expr_parts.specs.CommaLists.{reader_of}
 use Rattle.tera_expect.specs.Taking.{mark_of}
 use Rattle.tera_expr_parts.specs.declared.limits.Scope.{Scope}
 use Rattle.tera_expr_reader.proofs.ArraysLemmas.{no_room, empty_read, by_spread, by_plain, by_for, by_items, head_by}

@@ -6,11 +6,11 @@ use Rattle.tera_nodes.specs.View.{entries_view}
 use Rattle.tera_grammar.specs.expressions.Concrete.{of_entries, ended, pair, spread}
 use Rattle.tera_grammar.specs.expressions.Marks.{Colon}
 use Rattle.tera_grammar.specs.expressions.Reading.Front.{at, takes}
-use Rattle.tera_grammar.specs.expressions.Reading.Parts.{row_of, element_of}
+use Rattle.tera_grammar.specs.expressions.Reading.Bracketed.{row_of, element_of}
 use Rattle.tera_grammar.specs.expressions.Spans.{spanning}
 use Rattle.tera_expr_parts.specs.Keys.{taken_literal}
 use Rattle.tera_expr_parts.specs.Rooms.{room_of}
-use Rattle.tera_expr_parts.specs.Rows.{reader_of}
+use Rattle.tera_expr_parts.specs.CommaLists.{reader_of}
 use Rattle.tera_expr_parts.proofs.ConstantMaps.{negatable_if_ok}
 use Rattle.tera_expect.proofs.TakingLemmas.{took_size, took_all}
 use Rattle.tera_expr_reader.proofs.MapsLemmas.{Pairing, Paired, no_entries, none_at_all, lacks_entry, lacks_end, one_entry, map_missed, map_given, spread_read, no_key, no_colon, pair_read}

@@ -14,7 +14,7 @@ use Rattle.tera_expr_reader.specs.Calls.{call_of, filtering}
 use Rattle.tera_expr_reader.specs.Chains.{subscripted}
 use Rattle.tera_expr_parts.specs.Fronts.{ending_of}
 use Rattle.tera_expr_parts.specs.Rooms.{room_of}
-use Rattle.tera_expr_parts.specs.Rows.{reader_of, reader_by}
+use Rattle.tera_expr_parts.specs.CommaLists.{reader_of, reader_by}
 use Rattle.tera_expect.specs.Taking.{name_at}
 use Rattle.tera_expr_reader.proofs.ArgumentsLemmas.{Arguing, Argued, none_yet, none_at_all}
 use Rattle.tera_expr_reader.proofs.ArgumentRows.{no_new_name, lacks_assign, lacks_value, lacks_end, one_argument, arguments_given}

@@ -10,7 +10,7 @@ use Rattle.tera_grammar.specs.Words.{is_none, is_not, is_reserved}
 use Rattle.tera_grammar.specs.expressions.Output.{of_loop}
 use Rattle.tera_grammar.specs.Options.{◌>>=◌}
 use Rattle.tera_grammar.specs.expressions.Reading.Front.{Place, at, Reads, skip, name_of, literal_of, head_mark, begins_sign}
-use Rattle.tera_grammar.specs.expressions.Reading.Parts.{Room, Reader, inside_array, extra_of, element_of, after_element, row_of, arguments_of, links_of, dotted_of, attributes_of}
+use Rattle.tera_grammar.specs.expressions.Reading.Bracketed.{Room, Reader, inside_array, extra_of, element_of, after_element, row_of, arguments_of, links_of, dotted_of, attributes_of}
 
 unfoldable pub prefix_of : Reader → Room → Sign → Place → Reads Tree
 prefix_of self w s p = cond (begins_sign p.tokens) None (self w (sign_power s) p >>= λ e. Some (Prefix s e.0, e.1))

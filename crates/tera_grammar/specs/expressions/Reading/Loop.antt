@@ -8,7 +8,7 @@ use Rattle.tera_grammar.specs.expressions.Powers.{right_power}
 use Rattle.tera_grammar.specs.expressions.Conditions.{is_refused}
 use Rattle.tera_grammar.specs.Options.{◌>>=◌}
 use Rattle.tera_grammar.specs.expressions.Reading.Front.{Place, at, Reads, skip, bump, name_of, Lead, leads_binary, leads_condition, Ending, ends_test, ends_filter, ends_subscript, Front, nothing, joins, closes, misplaced, lead_power, keeps_out, front}
-use Rattle.tera_grammar.specs.expressions.Reading.Parts.{Room, Reader, sub_of, args_of}
+use Rattle.tera_grammar.specs.expressions.Reading.Bracketed.{Room, Reader, sub_of, args_of}
 use Rattle.tera_grammar.specs.expressions.Reading.Atoms.{head_of}
 
 -- an operator that begins so, with what stands in it

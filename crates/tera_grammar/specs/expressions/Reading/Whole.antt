@@ -8,7 +8,7 @@ use Rattle.tera_grammar.specs.Limits.{Limits}
 use Rattle.tera_grammar.specs.expressions.Companions.{Opened, Filtering, Path, array_value, map_value}
 use Rattle.tera_grammar.specs.Options.{◌>>=◌}
 use Rattle.tera_grammar.specs.expressions.Reading.Front.{Place, at, Reads, skip, name_of}
-use Rattle.tera_grammar.specs.expressions.Reading.Parts.{Room, room, Reader, inside_array, row_of, arguments_of, args_of, attributes_of, dotted_of}
+use Rattle.tera_grammar.specs.expressions.Reading.Bracketed.{Room, room, Reader, inside_array, row_of, arguments_of, args_of, attributes_of, dotted_of}
 use Rattle.tera_grammar.specs.expressions.Reading.Loop.{expr, fresh}
 
 -- the room of an outermost expression

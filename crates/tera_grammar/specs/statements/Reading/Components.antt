@@ -9,11 +9,11 @@ use Rattle.tera_grammar.specs.expressions.Marks.{mark, Mark, LeftParen, RightPar
 use Rattle.tera_grammar.specs.Words.{is_none}
 use Rattle.tera_grammar.specs.Options.{◌>>=◌, guard}
 use Rattle.tera_grammar.specs.statements.Names.{agrees}
-use Rattle.tera_grammar.specs.statements.Parts.{Edge, Name, AtEndComponent}
+use Rattle.tera_grammar.specs.statements.TagParts.{Edge, Name, AtEndComponent}
 use Rattle.tera_grammar.specs.statements.Expressions.{Limits, ComponentName, component_text, LiteralMap}
 use Rattle.tera_grammar.specs.statements.Reading.Expressions.{component_of, array_of, map_of}
 use Rattle.tera_grammar.specs.statements.Components.{Default, LiteralDefault, MinusDefault, NothingDefault, ArrayDefault, MapDefault, Annotation, Assigned, Parameter, is_known, is_body, argument_of, default_has_type, Parameters, Closed, Rest, Final, More, component_texts, Head}
-use Rattle.tera_grammar.specs.statements.Reading.Parts.{finish_of, closed, tag}
+use Rattle.tera_grammar.specs.statements.Reading.TagParts.{finish_of, closed, tag}
 use Rattle.tera_grammar.specs.statements.Reading.Meeting.{Met, meet, nothing_met}
 
 -- the number behind a minus

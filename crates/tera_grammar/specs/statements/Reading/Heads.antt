@@ -8,7 +8,7 @@ use Rattle.tera_grammar.specs.expressions.Operators.{In}
 use Rattle.tera_grammar.specs.expressions.Marks.{Bar, Operation}
 use Rattle.tera_grammar.specs.Options.{◌>>=◌, guard}
 use Rattle.tera_grammar.specs.Words.{is_reserved}
-use Rattle.tera_grammar.specs.statements.Parts.{Name}
+use Rattle.tera_grammar.specs.statements.TagParts.{Name}
 use Rattle.tera_grammar.specs.expressions.Reading.Atoms.{variables_of}
 use Rattle.tera_grammar.specs.expressions.Reading.Whole.{left_over}
 use Rattle.tera_grammar.specs.statements.Expressions.{Limits}

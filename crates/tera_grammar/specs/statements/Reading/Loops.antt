@@ -8,7 +8,7 @@ use Rattle.tera_tree.specs.Tree.{Argument, Output}
 use Rattle.tera_nodes.specs.View.{nodes_of}
 use Rattle.tera_grammar.specs.statements.Types.{Sorted}
 use Rattle.tera_grammar.specs.Options.{◌>>=◌}
-use Rattle.tera_grammar.specs.statements.Parts.{Tag}
+use Rattle.tera_grammar.specs.statements.TagParts.{Tag}
 use Rattle.tera_grammar.specs.statements.Expressions.{Limits, Expression, expression_output, Filtering, filter_output}
 use Rattle.tera_grammar.specs.statements.Components.{Parameter, Parameters, More, put_arguments}
 use Rattle.tera_grammar.specs.statements.Heads.{Filters, Piped}

@@ -3,7 +3,7 @@
 use Rattle.std.specs.Prelude.{ℕ, Bool, false, ◌||◌, cond, List, [], ◌∷◌, Option, Some, None, is_some}
 use Rattle.std.specs.Str.{bytes_eq}
 use Rattle.tera_base.specs.declared.utils.Span.{Span}
-use Rattle.tera_grammar.specs.statements.Parts.{Name}
+use Rattle.tera_grammar.specs.statements.TagParts.{Name}
 use Rattle.tera_grammar.specs.statements.Places.{Places}
 
 -- whether a name was met

@@ -2,7 +2,7 @@ use Rattle.std.proofs.Common.{◌∙◌, sym, string_bytes}
 use Rattle.std.proofs.lemmas.Option.{same_Some}
 use Rattle.tera_lexer.specs.grammar.Marks.{marks_of}
 use Rattle.tera_layout.proofs.Defaults.{same_tokens}
-use Rattle.tera_layout.proofs.Written.{source_follow, source_written, source_refused, laid_refused}
+use Rattle.tera_layout.proofs.WrittenLayout.{source_follow, source_written, source_refused, laid_refused}
 use Rattle.tera_layout.proofs.formatting.format_between.Goals as goal
 
 pub push_tokens-requires-clause-follow : goal.push_tokens-requires-clause-follow

@@ -1,6 +1,6 @@
 use Rattle.std.proofs.Common.{◌∙◌, sym, string_bytes}
 use Rattle.tera_lexer.specs.grammar.Marks.{marks_of}
-use Rattle.tera_layout.proofs.Written.{run_goes_on}
+use Rattle.tera_layout.proofs.WrittenLayout.{run_goes_on}
 use Rattle.tera_layout.proofs.formatting.push_gap.Goals as goal
 
 pub returns-then-stays-clause-text : goal.returns-then-stays-clause-text

@@ -1,7 +1,7 @@
 use Rattle.std.proofs.Common.{rules, Some, ◌∙◌, ap, subst, string_bytes}
 use Rattle.tera_lexer.specs.code.Steps.{Steps}
 use Rattle.tera_lexer.specs.grammar.Marks.{marks_of}
-use Rattle.tera_layout.proofs.Written.{first_written, further_written}
+use Rattle.tera_layout.proofs.WrittenLayout.{first_written, further_written}
 use Rattle.tera_layout.proofs.formatting.push_tokens.Goals as goal
 
 pub tokens-init : goal.tokens-init

@@ -1,7 +1,7 @@
 use Rattle.std.proofs.Common.{◌≡◌, string_bytes}
 use Rattle.tera_lexer.specs.code.Cursors.{size}
 use Rattle.tera_lexer.specs.grammar.Marks.{marks_of}
-use Rattle.tera_layout.specs.Written.{nothing, put, written, AreWritten}
+use Rattle.tera_layout.specs.WrittenLayout.{nothing, put, written, AreWritten}
 use Rattle.tera_layout.proofs.formatting.push_tokens.Given as goal
 
 -- what is written, and what is to be written of the tokens that are left

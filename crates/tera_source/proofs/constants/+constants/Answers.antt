@@ -2,7 +2,7 @@ use Rattle.std.proofs.Common.{[], ◌≡◌, ◌⊎◌, inl, inr, length, ⊎_el
 use Rattle.std.specs.Iterator.Adapters.{zip_first, zip_second}
 use Rattle.std.specs.List.{zip}
 use Rattle.std.specs.Slice.Iter.{iter_rest}
-use Rattle.tera_source.proofs.Rows.{one_pair, value_below, no_pairs}
+use Rattle.tera_source.proofs.FromFirst.{one_pair, value_below, no_pairs}
 use Rattle.tera_source.proofs.constants.+constants.Goals as goal
 
 pub push_pairs-loop-key-init : goal.push_pairs-loop-key-init

@@ -1,4 +1,4 @@
-use Rattle.tera_source.proofs.Written.{source_bound}
+use Rattle.tera_source.proofs.WrittenOutputs.{source_bound}
 use Rattle.tera_source.proofs.Backs.{source_output}
 use Rattle.tera_source.proofs.ReadBack.{stands_within}
 use Rattle.tera_source.proofs.laws.sources.Goals as goal

@@ -5,7 +5,7 @@ use Rattle.tera_nodes.specs.Tree as tree
 use Rattle.tera_nodes.specs.View.{nodes_of}
 use Rattle.tera_grammar.specs.statements.Grammar.{Block, Define}
 use Rattle.tera_grammar.specs.statements.Output.{AddsNode, AddsDefinition}
-use Rattle.tera_grammar.specs.statements.Reading.Parts.{tag}
+use Rattle.tera_grammar.specs.statements.Reading.TagParts.{tag}
 use Rattle.tera_statements.specs.Adding.{here, seen_of}
 use Rattle.tera_statements.specs.Known.{located_of}
 use Rattle.tera_statements.proofs.BlocksLemmas.{barred, block_unnamed, block_unfinished, block_empty, block_unclosed, block_given, block_kept, component_kept, definition_empty, definition_given, definition_unclosed, nested, unopened}

@@ -6,7 +6,7 @@ use Rattle.tera_nodes.specs.View.{node_view}
 use Rattle.tera_grammar.specs.statements.Grammar.{Single, Text, in_loop}
 use Rattle.tera_grammar.specs.statements.Output.{added_nodes}
 use Rattle.tera_grammar.specs.statements.Reading.{body}
-use Rattle.tera_grammar.specs.statements.Reading.Parts.{front}
+use Rattle.tera_grammar.specs.statements.Reading.TagParts.{front}
 use Rattle.tera_grammar.proofs.statements.Loops.{going_ends, going_on, going_refused, going_starts}
 use Rattle.tera_statements.specs.Adding.{here, seen_of}
 use Rattle.tera_statements.specs.Around.{context_of}

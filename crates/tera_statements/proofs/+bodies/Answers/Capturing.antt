@@ -10,7 +10,7 @@ use Rattle.tera_nodes.specs.View.{filters_of, nodes_of}
 use Rattle.tera_grammar.specs.statements.Grammar.{Capturing}
 use Rattle.tera_grammar.specs.statements.Heads.{SetBody, Section, CallBody}
 use Rattle.tera_grammar.specs.statements.Output.{AddsNode}
-use Rattle.tera_grammar.specs.statements.Reading.Parts.{tag}
+use Rattle.tera_grammar.specs.statements.Reading.TagParts.{tag}
 use Rattle.tera_grammar.specs.expressions.Spans.{spanning}
 use Rattle.tera_statements.proofs.+bodies.Goals as goal
 

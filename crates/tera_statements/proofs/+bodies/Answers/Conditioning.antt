@@ -5,7 +5,7 @@ use Rattle.tera_nodes.specs.Tree as tree
 use Rattle.tera_nodes.specs.View.{nodes_of}
 use Rattle.tera_grammar.specs.statements.Grammar.{If, InIf, in_loop}
 use Rattle.tera_grammar.specs.statements.Output.{AddsNode}
-use Rattle.tera_grammar.specs.statements.Reading.Parts.{tag}
+use Rattle.tera_grammar.specs.statements.Reading.TagParts.{tag}
 use Rattle.tera_statements.specs.Adding.{seen_of, here}
 use Rattle.tera_statements.proofs.ConditionsLemmas.{no_first, no_branches, if_unclosed, if_given, no_condition, condition_empty, condition_given, elif_branch, ends_by, no_elif_branch, no_elif_there}
 use Rattle.tera_expect.proofs.Steps.{failed_as}

@@ -2,7 +2,7 @@
 use Rattle.std.proofs.Common.{inr, refl}
 use Rattle.std.proofs.lemmas.Result.{err_from_is_err_and}
 use Rattle.tera_grammar.specs.statements.Reading.{body}
-use Rattle.tera_grammar.specs.statements.Reading.Parts.{front}
+use Rattle.tera_grammar.specs.statements.Reading.TagParts.{front}
 use Rattle.tera_statements.specs.Adding.{seen_of}
 use Rattle.tera_statements.specs.Kinds.{opener_of}
 use Rattle.tera_expr_parts.specs.Rooms.{limits_of}

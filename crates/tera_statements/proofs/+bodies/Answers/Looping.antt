@@ -5,7 +5,7 @@ use Rattle.tera_nodes.specs.Tree as tree
 use Rattle.tera_nodes.specs.View.{nodes_of, node_view}
 use Rattle.tera_grammar.specs.statements.Grammar.{For, NoElse}
 use Rattle.tera_grammar.specs.statements.Output.{AddsNode}
-use Rattle.tera_grammar.specs.statements.Reading.Parts.{tag}
+use Rattle.tera_grammar.specs.statements.Reading.TagParts.{tag}
 use Rattle.tera_statements.specs.Adding.{seen_of, here}
 use Rattle.tera_statements.proofs.ConditionsLemmas.{loop_unended, loop_empty, no_else, loop_unclosed, loop_given, without_else, else_unfinished, otherwise_given}
 use Rattle.tera_expect.proofs.Steps.{failed_as}

@@ -1,8 +1,8 @@
 use Rattle.std.proofs.Common.{◌≡◌, ◌∙◌, Option, Some, None, refl, ap}
 use Rattle.std.specs.Str.{bytes_eq}
 use Rattle.std.proofs.lemmas.Result.{err_from_is_err_and}
-use Rattle.tera_grammar.specs.statements.Reading.Parts.{finish_of, name_if_any, name_if_found, tag}
-use Rattle.tera_grammar.specs.statements.Parts.{Name, Tag}
+use Rattle.tera_grammar.specs.statements.Reading.TagParts.{finish_of, name_if_any, name_if_found, tag}
+use Rattle.tera_grammar.specs.statements.TagParts.{Name, Tag}
 use Rattle.tera_expect.specs.Taking.{name_at}
 use Rattle.tera_statements.proofs.BlocksLemmas.{unclosed_block, renamed, ends_as}
 use Rattle.tera_expect.proofs.Steps.{failed_as, fails_by, passed}

@@ -2,8 +2,8 @@ use Rattle.std.proofs.Common.{◌≡◌, ◌∙◌, sym, inr}
 use Rattle.std.specs.Str.{bytes_eq}
 use Rattle.std.proofs.lemmas.Result.{err_from_is_err_and}
 use Rattle.tera_grammar.specs.statements.Expressions.{component_text}
-use Rattle.tera_grammar.specs.statements.Parts.{AtEndCall}
-use Rattle.tera_grammar.specs.statements.Reading.Parts.{tag}
+use Rattle.tera_grammar.specs.statements.TagParts.{AtEndCall}
+use Rattle.tera_grammar.specs.statements.Reading.TagParts.{tag}
 use Rattle.tera_statements.proofs.CapturesLemmas.{call_not_closed, end_unnamed, end_renamed, end_without, end_unfinished, end_given}
 use Rattle.tera_expect.proofs.Steps.{failed_as, fails_by}
 use Rattle.tera_statements.proofs.Tags.{unclosed_at_end}

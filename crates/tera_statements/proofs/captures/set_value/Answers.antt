@@ -3,7 +3,7 @@ use Rattle.std.proofs.lemmas.Result.{err_from_is_err_and}
 use Rattle.tera_nodes.specs.Tree as tree
 use Rattle.tera_grammar.specs.statements.Grammar.{Set, Single}
 use Rattle.tera_grammar.specs.statements.Output.{AddsNode}
-use Rattle.tera_grammar.specs.statements.Reading.Parts.{tag}
+use Rattle.tera_grammar.specs.statements.Reading.TagParts.{tag}
 use Rattle.tera_statements.proofs.CapturesLemmas.{no_value, value_given}
 use Rattle.tera_expect.proofs.Steps.{failed_as}
 use Rattle.tera_statements.proofs.captures.set_value.Goals as goal

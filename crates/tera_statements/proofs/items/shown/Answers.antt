@@ -3,7 +3,7 @@ use Rattle.std.proofs.lemmas.Result.{err_from_is_err_and}
 use Rattle.tera_nodes.specs.Tree as tree
 use Rattle.tera_grammar.specs.statements.Grammar.{Shown, Single}
 use Rattle.tera_grammar.specs.statements.Output.{AddsNode}
-use Rattle.tera_grammar.specs.statements.Reading.Parts.{front}
+use Rattle.tera_grammar.specs.statements.Reading.TagParts.{front}
 use Rattle.tera_expr_parts.specs.Rooms.{limits_of}
 use Rattle.tera_statements.proofs.ItemsLemmas.{shown_taken, shows_given, shows_nothing, shows_tag, shows_unended}
 use Rattle.tera_expect.proofs.Steps.{failed_as}

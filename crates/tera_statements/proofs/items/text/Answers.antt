@@ -1,7 +1,7 @@
 use Rattle.std.proofs.Common.{◌∙◌, ap}
 use Rattle.tera_grammar.specs.statements.Grammar.{Single, Text}
 use Rattle.tera_grammar.specs.statements.Output.{text_adds}
-use Rattle.tera_grammar.specs.statements.Reading.Parts.{front}
+use Rattle.tera_grammar.specs.statements.Reading.TagParts.{front}
 use Rattle.tera_statements.specs.Items.{text_in}
 use Rattle.tera_statements.proofs.ItemsLemmas.{holds_text, step_holds, text_taken}
 use Rattle.tera_statements.proofs.items.text.Goals as goal

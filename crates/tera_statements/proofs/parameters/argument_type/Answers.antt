@@ -3,7 +3,7 @@ use Rattle.std.proofs.lemmas.Result.{err_from_is_err_and}
 use Rattle.tera_lexer.specs.code.Seen.{seen}
 use Rattle.tera_lexer.specs.grammar.Tokens.{Token}
 use Rattle.tera_grammar.specs.expressions.Reading.Front.{taken_name}
-use Rattle.tera_grammar.specs.statements.Parts.{Name}
+use Rattle.tera_grammar.specs.statements.TagParts.{Name}
 use Rattle.tera_grammar.specs.statements.Reading.Components.{annotation_in}
 use Rattle.tera_statements.proofs.ParametersLemmas.{annotation_given, name_of_token, no_name_taken, no_such_type, no_type_name, untaken}
 use Rattle.tera_expect.proofs.Steps.{failed_as}

@@ -1,4 +1,4 @@
-use Rattle.tera_grammar.specs.statements.Reading.Parts.{finish_of, tag}
+use Rattle.tera_grammar.specs.statements.Reading.TagParts.{finish_of, tag}
 use Rattle.tera_expect.proofs.Steps.{passed}
 use Rattle.tera_statements.proofs.parts.closed_tag.Goals as goal
 

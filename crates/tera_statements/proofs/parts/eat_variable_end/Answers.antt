@@ -2,7 +2,7 @@ use Rattle.std.proofs.Common.{refl, subst}
 use Rattle.tera_lexer.specs.code.Cursors.{FirstIs}
 use Rattle.tera_lexer.specs.code.Seen.{seen}
 use Rattle.tera_lexer.specs.declared.lexer.delimiters.Kind.TheVariants as kind
-use Rattle.tera_grammar.specs.statements.Reading.Parts.{variable_end_of}
+use Rattle.tera_grammar.specs.statements.Reading.TagParts.{variable_end_of}
 use Rattle.tera_statements.proofs.Tags.{end_eaten}
 use Rattle.tera_statements.proofs.parts.eat_variable_end.Goals as goal
 

@@ -3,7 +3,7 @@ use Rattle.std.proofs.lemmas.Result.{err_from_is_err_and}
 use Rattle.tera_grammar.specs.statements.Grammar.{Extends, Single, is_outermost}
 use Rattle.tera_grammar.specs.statements.Output.{AddsParent}
 use Rattle.tera_grammar.specs.statements.Reading.{extends_of}
-use Rattle.tera_grammar.specs.statements.Reading.Parts.{tag}
+use Rattle.tera_grammar.specs.statements.Reading.TagParts.{tag}
 use Rattle.tera_expect.proofs.Steps.{failed, fails_by}
 use Rattle.tera_statements.proofs.simple.extends.Goals as goal
 

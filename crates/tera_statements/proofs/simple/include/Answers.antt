@@ -4,7 +4,7 @@ use Rattle.tera_nodes.specs.Tree as tree
 use Rattle.tera_grammar.specs.statements.Grammar.{Include, Single}
 use Rattle.tera_grammar.specs.statements.Output.{AddsNode}
 use Rattle.tera_grammar.specs.statements.Reading.{include_of}
-use Rattle.tera_grammar.specs.statements.Reading.Parts.{tag}
+use Rattle.tera_grammar.specs.statements.Reading.TagParts.{tag}
 use Rattle.tera_expect.proofs.Steps.{failed}
 use Rattle.tera_statements.proofs.simple.include.Goals as goal
 

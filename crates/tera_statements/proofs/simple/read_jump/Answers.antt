@@ -3,7 +3,7 @@ use Rattle.std.proofs.lemmas.Result.{err_from_is_err_and}
 use Rattle.tera_grammar.specs.statements.Grammar.{Single, may_break}
 use Rattle.tera_grammar.specs.statements.Output.{AddsNode}
 use Rattle.tera_grammar.specs.statements.Reading.{break_of}
-use Rattle.tera_grammar.specs.statements.Reading.Parts.{tag}
+use Rattle.tera_grammar.specs.statements.Reading.TagParts.{tag}
 use Rattle.tera_statements.specs.Simple.{jump_item}
 use Rattle.tera_statements.proofs.SimpleLemmas.{jump_adds}
 use Rattle.tera_expect.proofs.Steps.{failed, fails_by}

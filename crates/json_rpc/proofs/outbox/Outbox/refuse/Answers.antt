@@ -2,7 +2,7 @@ use Rattle.std.proofs.Common.{[], ◌∷◌, ◌++◌, map, IsTrue, false, ap, �
 use Rattle.json_rpc.specs.Outgoing.{is_free}
 use Rattle.json_rpc.specs.Writing.{body, refusal}
 use Rattle.json_rpc.specs.declared.code.Code.TheVariants.{InternalError}
-use Rattle.json_rpc.proofs.Refusals.{refusal_begins}
+use Rattle.json_rpc.proofs.RefusalBytes.{refusal_begins}
 use Rattle.json_rpc.proofs.Reserve.{one-more}
 use Rattle.json_rpc.proofs.outbox.Outbox.refuse.Goals as goal
 

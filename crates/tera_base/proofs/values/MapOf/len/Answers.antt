@@ -1,5 +1,5 @@
 use Rattle.std.proofs.Common.{◌∙◌}
-use Rattle.tera_base.proofs.Rows.{rows_len}
+use Rattle.tera_base.proofs.KeysAndValues.{rows_len}
 use Rattle.tera_base.proofs.values.MapOf.len.Goals as goal
 
 pub returns : goal.returns

@@ -1,6 +1,6 @@
 use Rattle.std.proofs.Common.{ap, sym, ◌∙◌}
 use Rattle.std.specs.Map.{values_of}
-use Rattle.tera_base.proofs.Rows.{values_of-zip}
+use Rattle.tera_base.proofs.KeysAndValues.{values_of-zip}
 use Rattle.tera_base.proofs.values.MapOf.values.Goals as goal
 
 pub returns : goal.returns

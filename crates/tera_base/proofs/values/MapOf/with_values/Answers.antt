@@ -2,7 +2,7 @@ use Rattle.std.proofs.Common.{◌≡◌, length, map, ap, sym, ◌∙◌}
 use Rattle.std.specs.Map.{keys_of}
 use Rattle.std.proofs.lemmas.Map.Made.{keys_of-zip}
 use Rattle.tera_base.specs.ValueView.{key_view}
-use Rattle.tera_base.proofs.Rows.{rows_len, values_of-zip}
+use Rattle.tera_base.proofs.KeysAndValues.{rows_len, values_of-zip}
 use Rattle.tera_base.proofs.values.MapOf.with_values.Goals as goal
 
 pub invariant_of-result : goal.invariant_of-result

@@ -1,5 +1,5 @@
 use Rattle.tera_lexer.specs.code.Steps.{IsPart}
-use Rattle.tera_lexer.proofs.Parts.{part_whole, part_part, part_start, part_end}
+use Rattle.tera_lexer.proofs.TextParts.{part_whole, part_part, part_start, part_end}
 use Rattle.tera_lexer.proofs.lexer.scanner.trimmed.Goals as goal
 use Rattle.tera_lexer.proofs.lexer.scanner.trimmed.Goals.{Joined-start, then-start, else-start}
 

@@ -1,5 +1,5 @@
 use Rattle.tera_tree.proofs.Coming.{refused}
-use Rattle.tera_tree.proofs.Refusals.{wrong_type}
+use Rattle.tera_tree.proofs.RefusedArguments.{wrong_type}
 use Rattle.tera_tree.proofs.ast.ComponentArgument.checked.Goals as goal
 
 pub returns-else-matches_value : goal.returns-else-matches_value

@@ -1,5 +1,5 @@
 use Rattle.tera_tree.proofs.Coming.{refused}
-use Rattle.tera_tree.proofs.Refusals.{missing}
+use Rattle.tera_tree.proofs.RefusedArguments.{missing}
 use Rattle.tera_tree.proofs.ast.ComponentArgument.default_value.Goals as goal
 
 pub returns-in-None : goal.returns-in-None

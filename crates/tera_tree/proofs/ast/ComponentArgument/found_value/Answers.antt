@@ -3,7 +3,7 @@ use Rattle.tera_base.specs.ValueView.{value_view}
 use Rattle.tera_tree.specs.Calls.{default_of, of_type}
 use Rattle.tera_tree.specs.View.{argument_view}
 use Rattle.tera_tree.proofs.Coming.{otherwise, passed}
-use Rattle.tera_tree.proofs.Refusals.{found_none, found_given}
+use Rattle.tera_tree.proofs.RefusedArguments.{found_none, found_given}
 use Rattle.tera_tree.proofs.ast.ComponentArgument.found_value.Goals as goal
 
 pub returns-in_err-value : goal.returns-in_err-value

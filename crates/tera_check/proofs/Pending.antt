@@ -10,7 +10,7 @@ use Rattle.tera_nodes.specs.declared.ast.MapEntryOf.{MapEntryOf}
 use Rattle.tera_nodes.specs.declared.ast.MapEntryOf.TheVariants as entries
 use Rattle.tera_nodes.specs.declared.ast.ComponentCall.{ComponentCall}
 use Rattle.tera_check.specs.Calls.{calls_in_item, calls_in_items, calls_in_entry, calls_in_entries}
-use Rattle.tera_check.specs.Parts.{seen, calls_in_part, to_come}
+use Rattle.tera_check.specs.Pending.{seen, calls_in_part, to_come}
 use Rattle.tera_check.specs.declared.calls.Part.{Part}
 
 abbrev pub Found : Type 0

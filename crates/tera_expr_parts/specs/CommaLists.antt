@@ -11,7 +11,7 @@ use Rattle.tera_grammar.specs.expressions.Concrete.{Name}
 use Rattle.tera_grammar.specs.expressions.Marks.{Mark, Comma}
 use Rattle.tera_grammar.specs.Options.{◌>>=◌}
 use Rattle.tera_grammar.specs.expressions.Reading.Front.{Takes, takes, taken_name}
-use Rattle.tera_grammar.specs.expressions.Reading.Parts.{Reader}
+use Rattle.tera_grammar.specs.expressions.Reading.Bracketed.{Reader}
 use Rattle.tera_grammar.specs.expressions.Reading.Loop.{expr, fresh}
 use Rattle.tera_expr_parts.specs.declared.rows.Values.{Values}
 

@@ -4,7 +4,7 @@ use Rattle.std.specs.Prelude.{IfErr}
 use Rattle.tera_grammar.specs.Limits.{Limits}
 use Rattle.tera_c.specs.Asked.{marks_at, IsReadable}
 use Rattle.tera_c.specs.Told.{IsUntold}
-use Rattle.tera_c.specs.Refusals.{RefusesText, RefusesAsked}
+use Rattle.tera_c.specs.WithoutTree.{RefusesText, RefusesAsked}
 use Rattle.tera_c.specs.declared.parsed.Refusal.{Refusal}
 use Rattle.tera_c.specs.declared.parsed.Refusal.TheVariants.{Fault, Untold}
 

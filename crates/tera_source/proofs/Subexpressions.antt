@@ -8,7 +8,7 @@ use Rattle.tera_grammar.specs.expressions.Concrete.{Tree, Atomic, Prefix, Suffix
 use Rattle.tera_grammar.specs.expressions.Conditions.{IsExpression, IsAtom, AreLinks, IsSub, IsPart, IsExtra, IsRow, IsElement, AreAttributes, IsSuffix, AreArgs, IsOperator}
 use Rattle.tera_grammar.specs.expressions.Measures.{Weight, deep, atom_deep, links_deep, sub_deep, part_deep, extra_deep, row_deep, element_deep, attributes_deep, suffix_deep, args_deep, operator_deep, openings, subscripts, arrays, links, atom_links, links_links, sub_links, part_links, extra_links, row_links, element_links, attributes_links, suffix_links, args_links, operator_links, Within}
 use Rattle.tera_grammar.specs.expressions.Output.{of_loop}
-use Rattle.tera_source.specs.Parts.{EachPart, EachOfAtom, EachOfLinks, EachOfSub, EachOfPart, EachOfExtra, EachOfRow, EachOfElement, EachOfAttributes, EachOfSuffix, EachOfArgs, EachOfOperator}
+use Rattle.tera_source.specs.Subexpressions.{EachPart, EachOfAtom, EachOfLinks, EachOfSub, EachOfPart, EachOfExtra, EachOfRow, EachOfElement, EachOfAttributes, EachOfSuffix, EachOfArgs, EachOfOperator}
 use Rattle.tera_source.proofs.Outermost.{Left, skip, StandsAmong}
 
 -- so deep by each weight, and so many links, are within the limits

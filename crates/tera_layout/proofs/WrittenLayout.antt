@@ -44,7 +44,7 @@ use Rattle.tera_layout.specs.Sides.{outside, at_start, behind}
 use Rattle.tera_layout.specs.Apart.{first_from, in_end, last_from, meet_in_end}
 use Rattle.tera_layout.specs.Layout.{laid_edge, laid_gap, join_inside, unless_end, join_behind, laid_items, laid_piece, laid_out_by, laid_out}
 use Rattle.tera_layout.specs.Refusal.{Refuses}
-use Rattle.tera_layout.specs.Written.{AreWritten, gap_text, has_bytes, is_finish, join_of, put, nothing, reached, token_text, written, Follow, KeepsFaults, RefusesTokens}
+use Rattle.tera_layout.specs.WrittenLayout.{AreWritten, gap_text, has_bytes, is_finish, join_of, put, nothing, reached, token_text, written, Follow, KeepsFaults, RefusesTokens}
 
 -- Texts, one behind the other
 same_put : (f g : List ℕ → List ℕ) → ((r : List ℕ) → f r ≡ g r) → (o : Option (List ℕ)) → option_map f o ≡ option_map g o

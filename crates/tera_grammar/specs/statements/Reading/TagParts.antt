@@ -4,7 +4,7 @@ use Rattle.tera_base.specs.declared.utils.Span.{Span}
 use Rattle.tera_lexer.specs.grammar.Tokens.{Tok, Items, Ended, Failed, Token, Content, Start, Finish}
 use Rattle.tera_lexer.specs.declared.lexer.delimiters.Kind.TheVariants as kind
 use Rattle.tera_grammar.specs.Options.{◌>>=◌, guard}
-use Rattle.tera_grammar.specs.statements.Parts.{Edge, Name, Tag, Opener, OpensSet, OpensInclude, OpensExtends, OpensBlock, OpensFor, OpensIf, OpensFilter, OpensComponent, OpensBreak, OpensContinue, OpensCall, opener_token, Closer, AtElif, AtElse, AtEndSet, AtEndBlock, AtEndFor, AtEndIf, AtEndFilter, AtEndComponent, AtEndCall, closer_token}
+use Rattle.tera_grammar.specs.statements.TagParts.{Edge, Name, Tag, Opener, OpensSet, OpensInclude, OpensExtends, OpensBlock, OpensFor, OpensIf, OpensFilter, OpensComponent, OpensBreak, OpensContinue, OpensCall, opener_token, Closer, AtElif, AtElse, AtEndSet, AtEndBlock, AtEndFor, AtEndIf, AtEndFilter, AtEndComponent, AtEndCall, closer_token}
 use Rattle.tera_grammar.specs.expressions.Reading.Front.{same_token, taken_name, Takes}
 
 abbrev pub openers : List Opener
