@@ -21,7 +21,7 @@ reader_by d None = expr d
 reader_by d (Some n) = fresh n (expr d)
 
 abbrev pub reader_of : Values → Reader
-reader_of v = reader_by v.below v.own
+reader_of v = reader_by v.depth v.own
 
 -- Behind an element the row ends, at once or behind a comma; or another element stands behind a comma.
 abbrev pub EndsAt : Mark → Items → Position → Type 0

@@ -16,7 +16,7 @@ pub struct Values {
     /// The room of each value.
     pub room: Room,
     /// How many expressions may be open inside.
-    pub below: usize,
+    pub depth: usize,
     /// The links of each value, where it has its own.
     pub own: Option<usize>,
 }
@@ -34,7 +34,7 @@ impl Values {
     {
         Values {
             room: Room::widest(scope),
-            below: scope.limits.depth,
+            depth: scope.limits.depth,
             own: Some(scope.limits.links),
         }
     }

@@ -40,7 +40,7 @@ steps_by d None w p = attributes_steps links Any d (expr d) (expr_sound d) w p
 steps_by d (Some n) w p = attributes_steps no_toll (Fitting 0 d n) d (fresh n (expr d)) (fresh_sound 0 d n (expr d) (expr_sound d)) w p
 
 pub attributes_step : (v : Values) (w : Room) (p : Place) → attributes_of (reader_of v) w p ≡ attribute_at (attributes_of (reader_of v) w) (reader_of v) w p (name_of p) (skip LeftBrace p)
-attributes_step v w p = steps_by v.below v.own w p
+attributes_step v w p = steps_by v.depth v.own w p
 
 -- attributes in front of others
 abbrev onto : List (MapEntryOf Expression) → tree.Entries → tree.Entries

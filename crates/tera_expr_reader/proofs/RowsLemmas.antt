@@ -39,7 +39,7 @@ steps_by d (Some n) w k p = row_steps no_toll (Fitting 0 d n) d (fresh n (expr d
 
 pub steps : (v : Values) (w : Room) (k : Kind) (p : Place)
     → row_of (reader_of v) w k p ≡ row_at (row_of (reader_of v) w k) (reader_of v) w k p (skip (closing k) p)
-steps v w k p = steps_by v.below v.own w k p
+steps v w k p = steps_by v.depth v.own w k p
 
 pub skip_taken : (m : Mark) (i : ℕ) (r us : Items) (s : Span) → takes m r ≡ Some (s, us) → skip m (at i r) ≡ Some (s, at i us)
 unfolding skip

@@ -93,19 +93,19 @@ module _ (w : Room) (v : Level) (a : Operand) (p : Place) where
   -- an operator, whose link is counted
   pub joins_more : (o : BinaryOperator) (n : Bool) (us : Items) (j : ℕ) → IsOperatorBefore (front p.tokens) o n us
       → false ≡ keeps_off v.least (kind_of (front p.tokens)) → lowered p.links ≡ Some j
-      → (coming v.below w (right_of o) (at j us) >>= resume w (in_binary v o n a)) ≡ going w v a p
+      → (coming v.depth w (right_of o) (at j us) >>= resume w (in_binary v o n a)) ≡ going w v a p
   unfolding bump
   joins_more o n us j (op, is, one, two) h counted =
       sym (joins_on w v a p op us is (goes h)
       ∙ ap (λ x. joining w v x (is_negated op) a (at p.links us)) one ∙ ap (λ x. joining w v o x a (at p.links us)) two
-      ∙ ap (λ r. (r >>= λ k. Some (at k us)) >>= λ q. coming v.below w (right_of o) q >>= resume w (in_binary v o n a)) counted)
+      ∙ ap (λ r. (r >>= λ k. Some (at k us)) >>= λ q. coming v.depth w (right_of o) q >>= resume w (in_binary v o n a)) counted)
 
   pub joins_no_more : (o : Op) (us : Items) → front p.tokens ≡ joins (leads_binary o) us
       → false ≡ keeps_off v.least (kind_of (front p.tokens)) → lowered p.links ≡ None → going w v a p ≡ None
   unfolding bump
   joins_no_more o us is h counted =
       joins_on w v a p o us is (goes h)
-      ∙ ap (λ r. (r >>= λ k. Some (at k us)) >>= λ q. coming v.below w (right_of (operator_in o)) q >>= resume w (in_binary v (operator_in o) (is_negated o) a)) counted
+      ∙ ap (λ r. (r >>= λ k. Some (at k us)) >>= λ q. coming v.depth w (right_of (operator_in o)) q >>= resume w (in_binary v (operator_in o) (is_negated o) a)) counted
 
   pub chooses_more : (s : Span) (us : Items) → front p.tokens ≡ joins (leads_condition s) us
       → false ≡ keeps_off v.least (kind_of (front p.tokens)) → choosing w v a (at p.links us) ≡ going w v a p
@@ -113,19 +113,19 @@ module _ (w : Room) (v : Level) (a : Operand) (p : Place) where
 
   -- a suffix, whose link is counted
   module _ (k : Ending) (us : Items) (is : front p.tokens ≡ closes k us) (h : false ≡ keeps_off v.least (kind_of (front p.tokens))) where
-    counted_suffix : (j : ℕ) → lowered p.links ≡ Some j → suffix_of w v k (at p.links us) ≡ suffix_in (expr v.below) w k (at j us)
+    counted_suffix : (j : ℕ) → lowered p.links ≡ Some j → suffix_of w v k (at p.links us) ≡ suffix_in (expr v.depth) w k (at j us)
     unfolding bump
-    counted_suffix j counted = ap (λ r. (r >>= λ i. Some (at i us)) >>= λ q. suffix_in (expr v.below) w k q) counted
+    counted_suffix j counted = ap (λ r. (r >>= λ i. Some (at i us)) >>= λ q. suffix_in (expr v.depth) w k q) counted
 
     pub grows_by : {E : Type 0} (view : E → tree.Expr) (e : E) (here : Span) (j : ℕ) (q : Place) → lowered p.links ≡ Some j
-        → SuffixGives view w.in_loop a (Ok e) here q (suffix_in (expr v.below) w k (at j us))
+        → SuffixGives view w.in_loop a (Ok e) here q (suffix_in (expr v.depth) w k (at j us))
         → going w v (view e, spanning a.1 here) q ≡ going w v a p
     grows_by view e here j q counted gives =
         suffix_given w v a p k us is (goes h) view e here q
         (subst (SuffixGives view w.in_loop a (Ok e) here q) (sym (counted_suffix j counted)) gives)
 
     pub grows_not : {E : Type 0} (view : E → tree.Expr) (e : Error) (here : Span) (j : ℕ) (q : Place) → lowered p.links ≡ Some j
-        → SuffixGives view w.in_loop a (Err e) here q (suffix_in (expr v.below) w k (at j us))
+        → SuffixGives view w.in_loop a (Err e) here q (suffix_in (expr v.depth) w k (at j us))
         → IsMemory e ⊎ (going w v a p ≡ None)
     grows_not view e here j q counted gives =
         suffix_missed w v a p k us is (goes h) view e here q
@@ -133,7 +133,7 @@ module _ (w : Room) (v : Level) (a : Operand) (p : Place) where
 
     pub grows_no_more : lowered p.links ≡ None → going w v a p ≡ None
     unfolding bump
-    grows_no_more counted = suffix_fails w v a p k us is (goes h) (ap (λ r. (r >>= λ i. Some (at i us)) >>= λ q. suffix_in (expr v.below) w k q) counted)
+    grows_no_more counted = suffix_fails w v a p k us is (goes h) (ap (λ r. (r >>= λ i. Some (at i us)) >>= λ q. suffix_in (expr v.depth) w k q) counted)
 
 -- a mark that has to follow and does not
 module _ (w : Room) (v : Level) (x : Operand) (k : ℕ) (ts : Items) (e : Error) where
@@ -157,7 +157,7 @@ pub encloses_all : (w : Room) (v : Level) (x : Operand) (k : ℕ) (ts us : Items
 encloses_all w v x k ts us s t h = sym (encloses w v x (at k ts) s t us h)
 
 pub chooses_last : (w : Room) (v : Level) (x : Operand) (k : ℕ) (ts us : Items) (a : Operand) (t : Span) → takes Else ts ≡ Some (t, us)
-    → (coming v.below w 0 (at k us) >>= resume w (in_last v a x.0)) ≡ resume w (in_condition v a) (x, at k ts)
+    → (coming v.depth w 0 (at k us) >>= resume w (in_last v a x.0)) ≡ resume w (in_condition v a) (x, at k ts)
 chooses_last w v x k ts us a t h = sym (goes_otherwise w v x (at k ts) a t us h)
 
 -- where no link may come, and no operator or suffix is taken
@@ -206,7 +206,7 @@ module _ (w : Room) (v : Level) (k : ℕ) (n : List ℕ) (s : Span) (us : Items)
   there = at k (Token (Ident n) s us)
 
   abbrev pub worded : Shows
-  worded = outcome w.in_loop (word_head (expr v.below) w (record { text = n; span = s }) (at k us)) >>= λ h. going w v h.0 h.1
+  worded = outcome w.in_loop (word_head (expr v.depth) w (record { text = n; span = s }) (at k us)) >>= λ h. going w v h.0 h.1
 
   pub word_none : is_none n ≡ true → (e : tree.Expr) → e ≡ tree.Const values.Nothing s → (h : Span) → h ≡ s
       → going w v (e, spanning s h) (at k us) ≡ worded
@@ -220,13 +220,13 @@ module _ (w : Room) (v : Level) (k : ℕ) (n : List ℕ) (s : Span) (us : Items)
       by false h = heads_not w v there n s us refl none other h ∙ sym (ap (λ c. cond c None (prefixing w v (Negates s) (at k us))) h)
 
   module _ {E : Type 0} (view : E → tree.Expr) (here : Span) (q : Place) (none : is_none n ≡ false) (other : is_not n ≡ false) where
-    pub word_given : (e : E) → HeadGives view w.in_loop (Ok e) here q (chain_of (expr v.below) w (record { text = n; span = s }) (at k us))
+    pub word_given : (e : E) → HeadGives view w.in_loop (Ok e) here q (chain_of (expr v.depth) w (record { text = n; span = s }) (at k us))
         → going w v (view e, spanning s here) q ≡ worded
     word_given e gives =
         head_given w v there view e here q (Ident n) s us refl
         (subst (HeadGives view w.in_loop (Ok e) here q) (sym (heads_name w v there n s us refl none other)) gives)
 
-    pub word_missed : (e : Error) → HeadGives view w.in_loop (Err e) here q (chain_of (expr v.below) w (record { text = n; span = s }) (at k us))
+    pub word_missed : (e : Error) → HeadGives view w.in_loop (Err e) here q (chain_of (expr v.depth) w (record { text = n; span = s }) (at k us))
         → Fails worded e
     word_missed e gives =
         head_missed w v there view e here q
@@ -238,7 +238,7 @@ module _ (w : Room) (v : Level) (p : Place) (t : Tok) (s : Span) (us : Items) (i
   literal_missed e none (inl memory) = inl memory
   literal_missed e none (inr no_literal) = inr (nothing_opens w v p t s us is no_literal none)
 
-  module _ {E : Type 0} (view : E → tree.Expr) (here : Span) (q : Place) (r : Reads Tree) (same : head_of (expr v.below) w p ≡ r) where
+  module _ {E : Type 0} (view : E → tree.Expr) (here : Span) (q : Place) (r : Reads Tree) (same : head_of (expr v.depth) w p ≡ r) where
     pub given_as : (e : E) → HeadGives view w.in_loop (Ok e) here q r → going w v (view e, spanning s here) q ≡ heading w v p
     given_as e gives = head_given w v p view e here q t s us is (subst (HeadGives view w.in_loop (Ok e) here q) (sym same) gives)
 

@@ -27,7 +27,7 @@ abbrev pub operand_view : Operand → stack.Operand
 operand_view a = (expression_view a.expr, a.span)
 
 abbrev pub level_view : Level → stack.Level
-level_view v = stack.level v.below v.least
+level_view v = stack.level v.depth v.least
 
 abbrev pub frame_view : Frame → stack.Frame
 frame_view (frames.Paren v s) = stack.in_paren (level_view v) s
@@ -68,7 +68,7 @@ behind_sign r v s p = cond (begins_sign p.tokens) None (stack.prefixing (room_of
 
 -- what an open expression comes to behind a word
 abbrev pub behind_word : Room → Level → Name → Place → stack.Shows
-behind_word r v n p = stack.outcome r.scope.in_loop (word_head (expr v.below) (room_of r) n p) >>= λ h. stack.going (room_of r) (level_view v) h.0 h.1
+behind_word r v n p = stack.outcome r.scope.in_loop (word_head (expr v.depth) (room_of r) n p) >>= λ h. stack.going (room_of r) (level_view v) h.0 h.1
 
 abbrev pub operand_at : Level → Expression → Span → State
 operand_at v e span = states.Holds v (record { expr = e; span = span })

@@ -37,28 +37,28 @@ pub(crate) fn suffix(
     cursor: &mut Cursor<'_>,
     links: &mut usize,
     room: Room,
-    below: usize,
+    depth: usize,
     ending: Ending,
     left: Expression,
     start: &Span,
 ) -> Result<Expression, Error>
     ensures gives { SuffixGives expression_view room.scope.in_loop
         (expression_view left, start.now) result cursor.new.span (at links.new cursor.new.left)
-        (suffix_in (expr below) (room_of room) (ending_of ending cursor.old.span)
+        (suffix_in (expr depth) (room_of room) (ending_of ending cursor.old.span)
         (at links.old cursor.old.left)) }
     ensures refusal { IfErr result (Refuses cursor.old) }
     ensures later { IfOk result (λ _. Took cursor.old cursor.new) }
 {
     let values = Values {
         room,
-        below,
+        depth,
         own: None,
     };
     match ending {
         Ending::Test => test(cursor, links, values, left, start),
         Ending::Filter => filter_with(cursor, links, values, left),
         Ending::Subscript => {
-            let item = read_subscript(cursor, links, room, below)?;
+            let item = read_subscript(cursor, links, room, depth)?;
             let last = cursor.current_span();
             Ok(with_subscript(cursor.alloc(), left, item, false, last)?)
         }

@@ -69,23 +69,23 @@ pub(crate) fn chain(
     cursor: &mut Cursor<'_>,
     links: &mut usize,
     room: Room,
-    below: usize,
+    depth: usize,
     name: &str,
     first: &Span,
 ) -> Result<Expression, Error>
     requires { cursor.old.span ≡ first.now }
     ensures gives { HeadGives expression_view room.scope.in_loop result cursor.new.span
         (at links.new cursor.new.left)
-        (chain_of (expr below) (room_of room) (name_in name.now first.now)
+        (chain_of (expr depth) (room_of room) (name_in name.now first.now)
         (at links.old cursor.old.left)) }
     ensures negatable { IfOk result (λ e. MayBeNegated (expression_view e)) }
     ensures refusal { IfErr result (Refuses cursor.old) }
     ensures later { IfOk result (λ _. GoesOn cursor.old cursor.new) }
 {
     if eat(cursor, Fixed::LeftParen) {
-        function_call(cursor, links, room, below, name, first)
+        function_call(cursor, links, room, depth, name, first)
     } else {
-        with_links(cursor, links, room, below, name, first)
+        with_links(cursor, links, room, depth, name, first)
     }
 }
 
@@ -96,21 +96,21 @@ fn function_call(
     cursor: &mut Cursor<'_>,
     links: &mut usize,
     room: Room,
-    below: usize,
+    depth: usize,
     name: &str,
     first: &Span,
 ) -> Result<Expression, Error>
     ensures gives { GivesBy
         (IsCallOf room.scope.in_loop (name_in name.now first.now) cursor.new.span) result
         (at links.new cursor.new.left)
-        (arguments_of (expr below) (room_of room) (at links.old cursor.old.left)) }
+        (arguments_of (expr depth) (room_of room) (at links.old cursor.old.left)) }
     ensures refusal { IfErr result (Refuses cursor.old) }
     ensures later { IfOk result (λ _. Took cursor.old cursor.new) }
 {
     let alloc = cursor.alloc();
     let values = Values {
         room,
-        below,
+        depth,
         own: None,
     };
     let kwargs = arguments(cursor, links, values)?;
@@ -127,7 +127,7 @@ fn with_links(
     cursor: &mut Cursor<'_>,
     links: &mut usize,
     room: Room,
-    below: usize,
+    depth: usize,
     name: &str,
     first: &Span,
 ) -> Result<Expression, Error>
@@ -135,7 +135,7 @@ fn with_links(
     ensures gives { GivesBy
         (IsChain room.scope.in_loop (name_in name.now first.now) cursor.new.span) result
         (at links.new cursor.new.left)
-        (links_of (expr below) (room_of room)
+        (links_of (expr depth) (room_of room)
         (of_loop room.scope.in_loop (name_in name.now first.now)) (at links.old cursor.old.left)) }
     ensures refusal { IfErr result (Refuses cursor.old) }
     ensures later { IfOk result (λ _. GoesOn cursor.old cursor.new) }
@@ -143,7 +143,7 @@ fn with_links(
     let fields_of_loop = is_loop(room.scope.in_loop, name);
     let mut chain = leaves::variable(cursor.alloc(), name, first.copied())?;
     'growing: loop {
-        match with_link(cursor, links, room, below, fields_of_loop, chain)? {
+        match with_link(cursor, links, room, depth, fields_of_loop, chain)? {
             Linked::Whole(whole) => return Ok(whole),
             Linked::Longer(longer) => chain = longer,
         }
@@ -164,13 +164,13 @@ fn with_link(
     cursor: &mut Cursor<'_>,
     links: &mut usize,
     room: Room,
-    below: usize,
+    depth: usize,
     fields_of_loop: bool,
     chain: Expression,
 ) -> Result<Linked, Error>
     ensures gives { LinkedGives room.scope.in_loop fields_of_loop chain result cursor.new
         (at links.old cursor.old.left) (at links.new cursor.new.left) (λ more.
-        links_at more (expr below) (room_of room) fields_of_loop (at links.old cursor.old.left)
+        links_at more (expr depth) (room_of room) fields_of_loop (at links.old cursor.old.left)
         (reading.link_of cursor.old.left)) }
     ensures refusal { IfErr result (Refuses cursor.old) }
     ensures later { IfOk result (LinkedGoes Took cursor.old cursor.new) }
@@ -187,7 +187,7 @@ fn with_link(
         Link::Item(optional) => {
             count_link(cursor, links)?;
             take_link(cursor);
-            let item = read_subscript(cursor, links, room, below)?;
+            let item = read_subscript(cursor, links, room, depth)?;
             let last = cursor.current_span();
             Ok(Linked::Longer(with_subscript(cursor.alloc(), chain, item, optional, last)?))
         }

@@ -30,12 +30,12 @@ pub(crate) fn component(
     cursor: &mut Cursor<'_>,
     links: &mut usize,
     room: Room,
-    below: usize,
+    depth: usize,
     first: &Span,
 ) -> Result<Expression, Error>
     ensures gives { HeadGives expression_view room.scope.in_loop result cursor.new.span
         (at links.new cursor.new.left)
-        (component_of (expr below) (room_of room) first.now (at links.old cursor.old.left)) }
+        (component_of (expr depth) (room_of room) first.now (at links.old cursor.old.left)) }
     ensures negatable { IfOk result (λ e. MayBeNegated (expression_view e)) }
     ensures refusal { IfErr result (Refuses cursor.old) }
     ensures later { IfOk result (λ _. Took cursor.old cursor.new) }
@@ -47,7 +47,7 @@ pub(crate) fn component(
     let name = dotted_name(cursor)?;
     let values = Values {
         room,
-        below,
+        depth,
         own: None,
     };
     let kwargs = attributes(cursor, links, values)?;

@@ -14,7 +14,7 @@ pub(crate) struct Operand {
 /// An open expression: how many more may open inside of it, and the least power that it lets in.
 #[derive(Clone, Copy)]
 pub(crate) struct Level {
-    pub below: usize,
+    pub depth: usize,
     pub least: u8,
 }
 

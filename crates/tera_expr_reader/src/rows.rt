@@ -31,8 +31,8 @@ pub(crate) fn value(
     match values.own {
         Some(all) => {
             let mut own = all;
-            expression(cursor, &mut own, values.room, values.below, least)
+            expression(cursor, &mut own, values.room, values.depth, least)
         }
-        None => expression(cursor, links, values.room, values.below, least),
+        None => expression(cursor, links, values.room, values.depth, least),
     }
 }

@@ -88,7 +88,7 @@ fn operand(
         return Err(too_complex(cursor));
     }
     let level = Level {
-        below: depth - 1,
+        depth: depth - 1,
         least,
     };
     head(cursor, links, frames, room, level)
@@ -117,14 +117,14 @@ fn head(
     let (token, span) = take(cursor)?;
     let values = Values {
         room,
-        below: level.below,
+        depth: level.depth,
         own: None,
     };
     match token {
         Token::Minus => return prefix(cursor, frames, level, UnaryOperator::Minus, span),
         Token::LeftParen => {
             frames.push(Frame::Paren(level, span))?;
-            return Ok(State::Wants(level.below, 0));
+            return Ok(State::Wants(level.depth, 0));
         }
         Token::Ident(name) => return word(cursor, links, frames, room, level, name, span),
         Token::LeftBracket => {
@@ -136,7 +136,7 @@ fn head(
             return Ok(holds(cursor, level, expr, &span));
         }
         Token::LessThan => {
-            let expr = component(cursor, links, room, level.below, &span)?;
+            let expr = component(cursor, links, room, level.depth, &span)?;
             return Ok(holds(cursor, level, expr, &span));
         }
         token => {
@@ -185,7 +185,7 @@ fn word(
     if is_not(name) {
         return prefix(cursor, frames, level, UnaryOperator::Not, span);
     }
-    let expr = chain(cursor, links, room, level.below, name, &span)?;
+    let expr = chain(cursor, links, room, level.depth, name, &span)?;
     Ok(holds(cursor, level, expr, &span))
 }
 
@@ -212,7 +212,7 @@ fn prefix(
         return Err(consecutive(cursor));
     }
     frames.push(Frame::Prefix(level, sign, span))?;
-    Ok(State::Wants(level.below, prefix_power(sign)))
+    Ok(State::Wants(level.depth, prefix_power(sign)))
 }
 
 // One turn: what the operand is followed by, if the power lets it in.
@@ -251,18 +251,18 @@ fn turn(
                 negated,
                 left,
             })?;
-            Ok(State::Wants(level.below, operator.right_power()))
+            Ok(State::Wants(level.depth, operator.right_power()))
         }
         Front::Chooses => {
             take_condition(cursor);
             frames.push(Frame::TernaryCondition { level, left })?;
-            Ok(State::Wants(level.below, 0))
+            Ok(State::Wants(level.depth, 0))
         }
         Front::Closes(ending) => {
             count_link(cursor, links)?;
             take_ending(cursor, ending);
             let Operand { expr, span } = left;
-            let expr = suffix(cursor, links, room, level.below, ending, expr, &span)?;
+            let expr = suffix(cursor, links, room, level.depth, ending, expr, &span)?;
             let span = spanning(&span, cursor.current_span());
             Ok(State::Holds(level, Operand { expr, span }))
         }
@@ -349,7 +349,7 @@ fn resume(
                 left,
                 condition,
             })?;
-            Ok(State::Wants(level.below, 0))
+            Ok(State::Wants(level.depth, 0))
         }
         Frame::TernaryLast {
             level,

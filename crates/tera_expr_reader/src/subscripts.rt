@@ -39,21 +39,21 @@ pub(crate) fn read_subscript(
     cursor: &mut Cursor<'_>,
     links: &mut usize,
     room: Room,
-    below: usize,
+    depth: usize,
 ) -> Result<Subscript, Error>
     ensures gives { GivesBy (IsSubscript room.scope.in_loop cursor.new.span) result
         (at links.new cursor.new.left)
-        (sub_of (expr below) (room_of room) (at links.old cursor.old.left)) }
+        (sub_of (expr depth) (room_of room) (at links.old cursor.old.left)) }
     ensures refusal { IfErr result (Refuses cursor.old) }
     ensures later { IfOk result (λ _. Took cursor.old cursor.new) }
 {
     let inside = room.in_subscript(cursor)?;
     if eat(cursor, Fixed::Colon) {
-        return slice(cursor, links, inside, below, None);
+        return slice(cursor, links, inside, depth, None);
     }
-    let first = expression(cursor, links, inside, below, 0)?;
+    let first = expression(cursor, links, inside, depth, 0)?;
     if eat(cursor, Fixed::Colon) {
-        return slice(cursor, links, inside, below, Some(first));
+        return slice(cursor, links, inside, depth, Some(first));
     }
     expect(cursor, Fixed::RightBracket)?;
     Ok(Subscript::Index(first))
@@ -66,17 +66,17 @@ fn slice(
     cursor: &mut Cursor<'_>,
     links: &mut usize,
     room: Room,
-    below: usize,
+    depth: usize,
     start: Option<Expression>,
 ) -> Result<Subscript, Error>
     ensures gives { (a : Part) (s : Span) → IsPart room.scope.in_loop start a →
         GivesBy (IsSubscript room.scope.in_loop cursor.new.span) result (at links.new
-        cursor.new.left) (slice_of (expr below) (room_of room) a s (at links.old cursor.old.left)) }
+        cursor.new.left) (slice_of (expr depth) (room_of room) a s (at links.old cursor.old.left)) }
     ensures refusal { IfErr result (Refuses cursor.old) }
     ensures later { IfOk result (λ _. Took cursor.old cursor.new) }
 {
-    let end = end(cursor, links, room, below)?;
-    let step = step(cursor, links, room, below)?;
+    let end = end(cursor, links, room, depth)?;
+    let step = step(cursor, links, room, depth)?;
     expect(cursor, Fixed::RightBracket)?;
     Ok(Subscript::Slice { start, end, step })
 }
@@ -88,17 +88,17 @@ fn end(
     cursor: &mut Cursor<'_>,
     links: &mut usize,
     room: Room,
-    below: usize,
+    depth: usize,
 ) -> Result<Option<Expression>, Error>
     ensures gives { GivesBy (IsPart room.scope.in_loop) result (at links.new cursor.new.left)
-        (part_of (expr below) (room_of room) (at links.old cursor.old.left)) }
+        (part_of (expr depth) (room_of room) (at links.old cursor.old.left)) }
     ensures refusal { IfErr result (Refuses cursor.old) }
     ensures later { IfOk result (λ _. GoesOn cursor.old cursor.new) }
 {
     if begins(cursor, Fixed::Colon) || begins(cursor, Fixed::RightBracket) {
         return Ok(None);
     }
-    Ok(Some(expression(cursor, links, room, below, 0)?))
+    Ok(Some(expression(cursor, links, room, depth, 0)?))
 }
 
 // The step of a slice behind a second colon, if it has one.
@@ -108,17 +108,17 @@ fn step(
     cursor: &mut Cursor<'_>,
     links: &mut usize,
     room: Room,
-    below: usize,
+    depth: usize,
 ) -> Result<Option<Expression>, Error>
     ensures gives { GivesBy (IsExtra room.scope.in_loop) result (at links.new cursor.new.left)
-        (extra_of (expr below) (room_of room) Colon 0 (at links.old cursor.old.left)) }
+        (extra_of (expr depth) (room_of room) Colon 0 (at links.old cursor.old.left)) }
     ensures refusal { IfErr result (Refuses cursor.old) }
     ensures later { IfOk result (λ _. GoesOn cursor.old cursor.new) }
 {
     if !eat(cursor, Fixed::Colon) {
         return Ok(None);
     }
-    Ok(Some(expression(cursor, links, room, below, 0)?))
+    Ok(Some(expression(cursor, links, room, depth, 0)?))
 }
 
 /// An operand with a subscript, up to the bracket at the span.

@@ -96,18 +96,18 @@ module _ (self : Reader) (path : Path) (seen : Seen) (ts : Items) where
       else_is = else_present (front ts) x us there ∙ rw ended refl
 
 -- a condition with its body
-module _ (l : Limits) (below : ℕ) (path : Path) (seen : Seen) (ts : Items) where
+module _ (l : Limits) (depth : ℕ) (path : Path) (seen : Seen) (ts : Items) where
   abbrev conditional : Reads Conditional
-  conditional = conditional_of l below path (at seen ts)
+  conditional = conditional_of l depth path (at seen ts)
 
   pub no_condition : expression_to_end l (in_loop path) ts ≡ None → conditional ≡ None
   no_condition h = rw h refl
 
   module _ (c : Expression × Edge) (us : Items) (read : expression_to_end l (in_loop path) ts ≡ Some (c, us)) where
-    pub condition_empty : body below l path (at seen us) ≡ None → conditional ≡ None
+    pub condition_empty : body depth l path (at seen us) ≡ None → conditional ≡ None
     condition_empty h = rw (read, h) refl
 
-    pub condition_given : (b : Body) (p : Place) → body below l path (at seen us) ≡ Some (b, p) → conditional ≡ Some ((c.0, c.1, b), p)
+    pub condition_given : (b : Body) (p : Place) → body depth l path (at seen us) ≡ Some (b, p) → conditional ≡ Some ((c.0, c.1, b), p)
     condition_given b p h = rw (read, h) refl
 
 -- an `else` whose body is read
@@ -118,12 +118,12 @@ module _ (self : Reader) (path : Path) (seen : Seen) (ts : Items) (x : Edge × S
     otherwise_given (Err e) q h = failed_as (self path (at seen vs)) (else_of self path (at seen ts)) e (λ none. else_is self path seen ts x us there f vs ended ∙ rw none refl) h
 
 -- the parts of a condition with its body, taken together
-module _ (l : Limits) (below : ℕ) (path : Path) (seen : Seen) where
+module _ (l : Limits) (depth : ℕ) (path : Path) (seen : Seen) where
   abbrev with_body : (Expression × Edge) × Items → Reads Conditional
-  with_body c = body below l path (at seen c.1) >>= λ b. Some ((c.0.0, c.0.1, b.0), b.1)
+  with_body c = body depth l path (at seen c.1) >>= λ b. Some ((c.0.0, c.0.1, b.0), b.1)
 
   regrouped : {Z : Type 0} (k : Conditional × Place → Reads Z) (c : Option (Expression × Items))
-      → (c >>= λ c. finish_of c.1 >>= λ f. body below l path (at seen f.1) >>= λ b. k ((c.0, f.0, b.0), b.1))
+      → (c >>= λ c. finish_of c.1 >>= λ f. body depth l path (at seen f.1) >>= λ b. k ((c.0, f.0, b.0), b.1))
       ≡ (((c >>= λ c. finish_of c.1 >>= λ f. Some ((c.0, f.0), f.1)) >>= with_body) >>= k)
   regrouped k None = refl
   regrouped k (Some c) = by_finish (finish_of c.1)
@@ -132,48 +132,48 @@ module _ (l : Limits) (below : ℕ) (path : Path) (seen : Seen) where
       by_body f None = refl
       by_body f (Some b) = refl
 
-      by_finish : (f : Option (Edge × Items)) → (f >>= λ f. body below l path (at seen f.1) >>= λ b. k ((c.0, f.0, b.0), b.1))
+      by_finish : (f : Option (Edge × Items)) → (f >>= λ f. body depth l path (at seen f.1) >>= λ b. k ((c.0, f.0, b.0), b.1))
           ≡ (((f >>= λ f. Some ((c.0, f.0), f.1)) >>= with_body) >>= k)
       by_finish None = refl
-      by_finish (Some f) = by_body f (body below l path (at seen f.1))
+      by_finish (Some f) = by_body f (body depth l path (at seen f.1))
 
 -- an `if`: a first condition with its body, the others, and the closing tag
-module _ (l : Limits) (below : ℕ) (path : Path) (start : Edge) (first : Span) (seen : Seen) (ts : Items) where
+module _ (l : Limits) (depth : ℕ) (path : Path) (start : Edge) (first : Span) (seen : Seen) (ts : Items) where
   abbrev Closing : Edge → Expression → Body → Branches × Place → Reads Item
   Closing f c b bs = closed_tag AtEndIf bs.1.tokens >>= λ e. Some (If (tag start first f) c b bs.0 e.0, at bs.1.seen e.1)
 
   abbrev Others : Conditional × Place → Reads Item
-  Others x = branches l (body below l) (InIf ∷ path) x.1 >>= λ bs. Closing x.0.1 x.0.0 x.0.2 bs
+  Others x = branches l (body depth l) (InIf ∷ path) x.1 >>= λ bs. Closing x.0.1 x.0.0 x.0.2 bs
 
-  if_is : if_of l (body below l) path start first seen ts ≡ (conditional_of l below (InIf ∷ path) (at seen ts) >>= Others)
+  if_is : if_of l (body depth l) path start first seen ts ≡ (conditional_of l depth (InIf ∷ path) (at seen ts) >>= Others)
   unfolding if_of expression_to_end
-  if_is = regrouped l below (InIf ∷ path) seen Others (expression_of l (in_loop path) ts)
+  if_is = regrouped l depth (InIf ∷ path) seen Others (expression_of l (in_loop path) ts)
 
-  pub no_first : conditional_of l below (InIf ∷ path) (at seen ts) ≡ None → if_of l (body below l) path start first seen ts ≡ None
+  pub no_first : conditional_of l depth (InIf ∷ path) (at seen ts) ≡ None → if_of l (body depth l) path start first seen ts ≡ None
   no_first h = if_is ∙ ap (λ o. o >>= Others) h
 
-  module _ (x : Conditional) (p : Place) (one : conditional_of l below (InIf ∷ path) (at seen ts) ≡ Some (x, p)) where
-    if_first : if_of l (body below l) path start first seen ts ≡ Others (x, p)
+  module _ (x : Conditional) (p : Place) (one : conditional_of l depth (InIf ∷ path) (at seen ts) ≡ Some (x, p)) where
+    if_first : if_of l (body depth l) path start first seen ts ≡ Others (x, p)
     if_first = if_is ∙ ap (λ o. o >>= Others) one
 
-    pub no_branches : branches l (body below l) (InIf ∷ path) p ≡ None → if_of l (body below l) path start first seen ts ≡ None
+    pub no_branches : branches l (body depth l) (InIf ∷ path) p ≡ None → if_of l (body depth l) path start first seen ts ≡ None
     no_branches h = if_first ∙ rw h refl
 
-    module _ (bs : Branches) (q : Place) (more : branches l (body below l) (InIf ∷ path) p ≡ Some (bs, q)) where
-      pub if_unclosed : closed_tag AtEndIf q.tokens ≡ None → if_of l (body below l) path start first seen ts ≡ None
+    module _ (bs : Branches) (q : Place) (more : branches l (body depth l) (InIf ∷ path) p ≡ Some (bs, q)) where
+      pub if_unclosed : closed_tag AtEndIf q.tokens ≡ None → if_of l (body depth l) path start first seen ts ≡ None
       if_unclosed h = if_first ∙ rw (more, h) refl
 
       pub if_given : (e : Tag) (ws : Items) → closed_tag AtEndIf q.tokens ≡ Some (e, ws)
-          → if_of l (body below l) path start first seen ts ≡ Some (If (tag start first x.1) x.0 x.2 bs e, at q.seen ws)
+          → if_of l (body depth l) path start first seen ts ≡ Some (If (tag start first x.1) x.0 x.2 bs e, at q.seen ws)
       if_given e ws h = if_first ∙ rw (more, h) refl
 
 -- the branches behind the first one
 abbrev elif_with : Edge × Span → Conditional → Branches × Place → Reads Branches
 elif_with x c bs = Some (Elif (tag x.0 x.1 c.1) c.0 c.2 bs.0, bs.1)
 
-module _ (l : Limits) (below : ℕ) (path : Path) (seen : Seen) (ts us : Items) (x : Edge × Span) (there : closed AtElif ts ≡ Some (x, us)) where
+module _ (l : Limits) (depth : ℕ) (path : Path) (seen : Seen) (ts us : Items) (x : Edge × Span) (there : closed AtElif ts ≡ Some (x, us)) where
   abbrev All : Place → Reads Branches
-  All p = branches l (body below l) path p
+  All p = branches l (body depth l) path p
 
   abbrev Next : Conditional × Place → Reads Branches
   Next c = All c.1 >>= elif_with x c.0
@@ -181,15 +181,15 @@ module _ (l : Limits) (below : ℕ) (path : Path) (seen : Seen) (ts us : Items) 
   front_elif : front ts ≡ Closes AtElif x.0 x.1 us
   front_elif = ap front (closed_stands AtElif ts (x, us) there)
 
-  branch_is : branch_in l (body below l) path All seen ts (front ts) ≡ (conditional_of l below path (at seen us) >>= Next)
+  branch_is : branch_in l (body depth l) path All seen ts (front ts) ≡ (conditional_of l depth path (at seen us) >>= Next)
   unfolding branch_in expression_to_end
-  branch_is = ap (branch_in l (body below l) path All seen ts) front_elif ∙ regrouped l below path seen Next (expression_of l (in_loop path) us)
+  branch_is = ap (branch_in l (body depth l) path All seen ts) front_elif ∙ regrouped l depth path seen Next (expression_of l (in_loop path) us)
 
-  pub no_elif_branch : conditional_of l below path (at seen us) ≡ None → branch_in l (body below l) path All seen ts (front ts) ≡ None
+  pub no_elif_branch : conditional_of l depth path (at seen us) ≡ None → branch_in l (body depth l) path All seen ts (front ts) ≡ None
   no_elif_branch h = branch_is ∙ ap (λ o. o >>= Next) h
 
-  pub elif_branch : (c : Conditional) (q : Place) → conditional_of l below path (at seen us) ≡ Some (c, q)
-      → branch_in l (body below l) path All seen ts (front ts) ≡ (All q >>= elif_with x c)
+  pub elif_branch : (c : Conditional) (q : Place) → conditional_of l depth path (at seen us) ≡ Some (c, q)
+      → branch_in l (body depth l) path All seen ts (front ts) ≡ (All q >>= elif_with x c)
   elif_branch c q h = branch_is ∙ ap (λ o. o >>= Next) h
 
 not_elif : (fr : Front) → closes closers.Elif fr ≡ false → is_elif fr ≡ false

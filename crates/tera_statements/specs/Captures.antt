@@ -28,9 +28,9 @@ GivesSetValue l around name global r new old =
 
 -- likewise filters and a body, in a context that is a capture
 abbrev pub GivesSetBody : Limits → ℕ → Around → Context → List ℕ → Bool → Result Added Error → Place → Place → Type 0
-GivesSetBody l below around context name global r new old =
+GivesSetBody l depth around context name global r new old =
     (path : Path) → Stands path around → context_of context ≡ grammar.InCapture → (start : Edge) (first : Span) (n : Name) → n.text ≡ name
-    → GivesBy (IsAdded (in_loop path)) r new (set_behind l (body below l) path global start first old.seen n old.tokens None)
+    → GivesBy (IsAdded (in_loop path)) r new (set_behind l (body depth l) path global start first old.seen n old.tokens None)
 
 -- neither filters nor the end of a tag begin there
 pub record IsNone (items : Items) : Type 0 where

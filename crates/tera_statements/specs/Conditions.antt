@@ -23,11 +23,11 @@ abbrev pub Conditional : Type 0
 Conditional = expressions.Expression × Edge × Body
 
 abbrev pub conditional_of : Limits → ℕ → Path → Place → Reads Conditional
-conditional_of l below path p =
-    expression_to_end l (in_loop path) p.tokens >>= λ c. body below l path (at p.seen c.1) >>= λ b. Some ((c.0.0, c.0.1, b.0), b.1)
+conditional_of l depth path p =
+    expression_to_end l (in_loop path) p.tokens >>= λ c. body depth l path (at p.seen c.1) >>= λ b. Some ((c.0.0, c.0.1, b.0), b.1)
 
 abbrev pub IsConditional : Bool → Branch → Conditional → Type 0
 IsConditional in_loop b c = IsExpression in_loop b.condition c.0 × IsBody in_loop b.body.items c.2
 
 abbrev pub GivesBranch : Limits → ℕ → Path → Result Branch Error → Place → Place → Type 0
-GivesBranch l below path r new old = GivesBy (IsConditional (in_loop path)) r new (conditional_of l below path old)
+GivesBranch l depth path r new old = GivesBy (IsConditional (in_loop path)) r new (conditional_of l depth path old)

@@ -25,14 +25,14 @@ GivesStep path (Ok (Some a)) new old read = GivesItem (in_loop path) (Ok a) new 
 GivesStep path (Err e) new old read = Fails read e
 
 abbrev pub GivesNext : Limits → ℕ → Around → Result (Option Added) Error → Place → Place → Type 0
-GivesNext l below around r new old = (path : Path) → Stands path around → GivesStep path r new old (step l (body below l) path old.seen (front old.tokens))
+GivesNext l depth around r new old = (path : Path) → Stands path around → GivesStep path r new old (step l (body depth l) path old.seen (front old.tokens))
 
 -- likewise, where what the item adds was put behind other nodes
 abbrev pub GivesNode : {A : Type 0} → Limits → ℕ → Path → Result (Option A) Error → List Stmt → List Stmt → Place → Place → Type 0
-GivesNode l below path (Ok None) nodes before new old = (step l (body below l) path old.seen (front old.tokens) ≡ Some None) × (new ≡ old) × (nodes ≡ before)
-GivesNode l below path (Ok (Some a)) nodes before new old =
-    (i : Item) × (step l (body below l) path old.seen (front old.tokens) ≡ Some (Some (i, new))) × (nodes ≡ before ++ added_nodes (added_by (in_loop path) i))
-GivesNode l below path (Err e) nodes before new old = Fails (step l (body below l) path old.seen (front old.tokens)) e
+GivesNode l depth path (Ok None) nodes before new old = (step l (body depth l) path old.seen (front old.tokens) ≡ Some None) × (new ≡ old) × (nodes ≡ before)
+GivesNode l depth path (Ok (Some a)) nodes before new old =
+    (i : Item) × (step l (body depth l) path old.seen (front old.tokens) ≡ Some (Some (i, new))) × (nodes ≡ before ++ added_nodes (added_by (in_loop path) i))
+GivesNode l depth path (Err e) nodes before new old = Fails (step l (body depth l) path old.seen (front old.tokens)) e
 
 -- tokens were taken where there is an item
 abbrev pub GoesByItem : {A : Type 0} → Result (Option A) Error → Position → Position → Type 0

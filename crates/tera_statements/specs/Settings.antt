@@ -11,4 +11,4 @@ limits_under s = limits_of s.limits
 
 -- how bodies are read, where so many may still open
 abbrev pub bodies_under : Setting → ℕ → Reader
-bodies_under s below = body below (limits_under s)
+bodies_under s depth = body depth (limits_under s)

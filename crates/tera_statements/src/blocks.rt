@@ -35,10 +35,10 @@ pub(crate) fn block(
     cursor: &mut Cursor<'_>,
     names: &mut Names,
     around: &Around,
-    below: usize,
+    depth: usize,
 ) -> Result<Added, Error>
     ensures gives { AddsBy around.now result (here names.new cursor.new) (λ path start.
-        block_of (bodies_under setting.now below) path start cursor.old.span
+        block_of (bodies_under setting.now depth) path start cursor.old.span
         (seen_of names.old) cursor.old.left) }
     ensures refusal { IfErr result (Refuses cursor.old) }
     ensures later { IfOk result (λ _. Took cursor.old cursor.new) }
@@ -51,7 +51,7 @@ pub(crate) fn block(
     check_block(cursor, around)?;
     let (name, span) = new_block(cursor, &mut names.blocks)?;
     finish(cursor)?;
-    let inside = body(setting, cursor, names, around, &opening, below)?;
+    let inside = body(setting, cursor, names, around, &opening, depth)?;
     block_end(cursor, name)?;
     let name = String::from_str(alloc, name)?;
     let name = Spanned::new(alloc, name, span)?;
@@ -115,10 +115,10 @@ pub(crate) fn definition(
     cursor: &mut Cursor<'_>,
     names: &mut Names,
     around: &Around,
-    below: usize,
+    depth: usize,
 ) -> Result<Added, Error>
     ensures gives { AddsBy around.now result (here names.new cursor.new) (λ path start.
-        component_def_of (limits_under setting.now) (bodies_under setting.now below) path start
+        component_def_of (limits_under setting.now) (bodies_under setting.now depth) path start
         cursor.old.span (seen_of names.old) cursor.old.left) }
     ensures refusal { IfErr result (Refuses cursor.old) }
     ensures later { IfOk result (λ _. Took cursor.old cursor.new) }
@@ -129,7 +129,7 @@ pub(crate) fn definition(
     };
     check_definition(cursor, around)?;
     let opened = opening_tag(setting, cursor, &mut names.components)?;
-    let inside = body(setting, cursor, names, around, &opening, below)?;
+    let inside = body(setting, cursor, names, around, &opening, depth)?;
     closing_tag(cursor, opened.name.as_str())?;
     Ok(Added::Definition(ComponentDefinition {
         name: opened.name,

@@ -29,17 +29,17 @@ pub(crate) fn body(
     names: &mut Names,
     around: &Around,
     opening: &Opening,
-    below: usize,
+    depth: usize,
 ) -> Result<Vec<Node>, Error>
     ensures gives { (path : Path) → Stands path around.now →
         GivesBy (λ ns b. IsBody (in_loop (context_of opening.now.context ∷ path)) ns.items b) result
         (here names.new cursor.new)
-        (bodies_under setting.now below (context_of opening.now.context ∷ path)
+        (bodies_under setting.now depth (context_of opening.now.context ∷ path)
         (here names.old cursor.old)) }
     ensures refusal { IfErr result (Refuses cursor.old) }
     ensures later { IfOk result (λ _. GoesOn cursor.old cursor.new) }
 {
-    if below == 0 {
+    if depth == 0 {
         return Err(too_deep(cursor));
     }
     let inside = around.inside(opening);
@@ -52,7 +52,7 @@ pub(crate) fn body(
         &mut nodes,
         &inside,
         extension,
-        below - 1,
+        depth - 1,
     )? {
         extension = later;
     }
@@ -70,11 +70,11 @@ fn next_node<'p>(
     nodes: &mut Vec<Node>,
     around: &Around,
     extension: Extension<'p>,
-    below: usize,
+    depth: usize,
 ) -> Result<Option<Extension<'p>>, Error>
     requires { is_none around.now.innermost ≡ false }
     ensures gives { (path : Path) → Stands path around.now →
-        GivesNode (limits_under setting.now) below path result (map node_view nodes.new.items)
+        GivesNode (limits_under setting.now) depth path result (map node_view nodes.new.items)
         (map node_view nodes.old.items) (here names.new cursor.new) (here names.old cursor.old) }
     ensures refusal { IfErr result (RefusesIn cursor.old) }
     ensures later { GoesByItem result cursor.old cursor.new }
@@ -84,7 +84,7 @@ fn next_node<'p>(
             push_text(nodes, cursor.alloc(), text)?;
             Ok(Some(extension.later_text(text)))
         }
-        None => item_node(setting, cursor, names, nodes, around, extension, below),
+        None => item_node(setting, cursor, names, nodes, around, extension, depth),
     }
 }
 
@@ -98,16 +98,16 @@ fn item_node<'p>(
     nodes: &mut Vec<Node>,
     around: &Around,
     extension: Extension<'p>,
-    below: usize,
+    depth: usize,
 ) -> Result<Option<Extension<'p>>, Error>
     requires { is_none around.now.innermost ≡ false }
     ensures gives { (path : Path) → Stands path around.now →
-        GivesNode (limits_under setting.now) below path result (map node_view nodes.new.items)
+        GivesNode (limits_under setting.now) depth path result (map node_view nodes.new.items)
         (map node_view nodes.old.items) (here names.new cursor.new) (here names.old cursor.old) }
     ensures refusal { IfErr result (RefusesIn cursor.old) }
     ensures later { GoesByItem result cursor.old cursor.new }
 {
-    let Some(added) = item(setting, cursor, names, around, extension, below)? else {
+    let Some(added) = item(setting, cursor, names, around, extension, depth)? else {
         return Ok(None);
     };
     let later = extension.later(&added);

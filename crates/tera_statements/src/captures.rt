@@ -46,10 +46,10 @@ pub(crate) fn set(
     names: &mut Names,
     around: &Around,
     global: bool,
-    below: usize,
+    depth: usize,
 ) -> Result<Added, Error>
     ensures gives { AddsBy around.now result (here names.new cursor.new) (λ path start.
-        set_of (limits_under setting.now) (bodies_under setting.now below) path global start
+        set_of (limits_under setting.now) (bodies_under setting.now depth) path global start
         cursor.old.span (seen_of names.old) cursor.old.left) }
     ensures refusal { IfErr result (Refuses cursor.old) }
     ensures later { IfOk result (λ _. Took cursor.old cursor.new) }
@@ -63,7 +63,7 @@ pub(crate) fn set(
     if eat(cursor, Fixed::Assign) {
         return set_value(setting, cursor, around, variable);
     }
-    set_body(setting, cursor, names, around, &opening, variable, below)
+    set_body(setting, cursor, names, around, &opening, variable, depth)
 }
 
 // The value of a variable, behind the equals sign, which was taken last.
@@ -94,9 +94,9 @@ fn set_body(
     around: &Around,
     opening: &Opening,
     variable: Variable<'_>,
-    below: usize,
+    depth: usize,
 ) -> Result<Added, Error>
-    ensures gives { GivesSetBody (limits_under setting.now) below around.now opening.now.context
+    ensures gives { GivesSetBody (limits_under setting.now) depth around.now opening.now.context
         variable.entry.name.now variable.entry.global result
         (here names.new cursor.new) (here names.old cursor.old) }
     ensures refusal { IfErr result (Refuses cursor.old) }
@@ -105,7 +105,7 @@ fn set_body(
     let alloc = cursor.alloc();
     check_set(cursor)?;
     let filters = filters_to_end(setting, cursor, around.in_loop, Vec::new(alloc))?;
-    let inside = body(setting, cursor, names, around, opening, below)?;
+    let inside = body(setting, cursor, names, around, opening, depth)?;
     closed_tag(cursor, Closer::EndSet)?;
     let name = String::from_str(alloc, variable.name)?;
     Ok(Added::Node(build::block_set(name, filters, inside, variable.global)))
@@ -130,10 +130,10 @@ pub(crate) fn section(
     cursor: &mut Cursor<'_>,
     names: &mut Names,
     around: &Around,
-    below: usize,
+    depth: usize,
 ) -> Result<Added, Error>
     ensures gives { AddsBy around.now result (here names.new cursor.new) (λ path start.
-        section_of (limits_under setting.now) (bodies_under setting.now below) path start
+        section_of (limits_under setting.now) (bodies_under setting.now depth) path start
         cursor.old.span (seen_of names.old) cursor.old.left) }
     ensures refusal { IfErr result (Refuses cursor.old) }
     ensures later { IfOk result (λ _. Took cursor.old cursor.new) }
@@ -143,7 +143,7 @@ pub(crate) fn section(
         at: cursor.current_span().copied(),
     };
     let filters = section_to_end(setting, cursor, around.in_loop)?;
-    let inside = body(setting, cursor, names, around, &opening, below)?;
+    let inside = body(setting, cursor, names, around, &opening, depth)?;
     closed_tag(cursor, Closer::EndFilter)?;
     Ok(Added::Node(build::filter_section(filters, inside)))
 }
@@ -156,10 +156,10 @@ pub(crate) fn call(
     cursor: &mut Cursor<'_>,
     names: &mut Names,
     around: &Around,
-    below: usize,
+    depth: usize,
 ) -> Result<Added, Error>
     ensures gives { AddsBy around.now result (here names.new cursor.new) (λ path start.
-        call_of (limits_under setting.now) (bodies_under setting.now below) path start
+        call_of (limits_under setting.now) (bodies_under setting.now depth) path start
         cursor.old.span (seen_of names.old) cursor.old.left) }
     ensures refusal { IfErr result (Refuses cursor.old) }
     ensures later { IfOk result (λ _. Took cursor.old cursor.new) }
@@ -170,7 +170,7 @@ pub(crate) fn call(
     };
     let name = called_name(cursor)?;
     let attributes = attributes_to_end(setting, cursor, around.in_loop)?;
-    let inside = body(setting, cursor, names, around, &opening, below)?;
+    let inside = body(setting, cursor, names, around, &opening, depth)?;
     let last = call_end(cursor, name.as_str())?;
     let span = spanning(&opening.at, &last);
     let call = build::component_call(cursor.alloc(), name, attributes, inside, false, span)?;

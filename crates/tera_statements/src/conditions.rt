@@ -41,17 +41,17 @@ pub(crate) fn condition(
     cursor: &mut Cursor<'_>,
     names: &mut Names,
     around: &Around,
-    below: usize,
+    depth: usize,
 ) -> Result<Added, Error>
     ensures gives { AddsBy around.now result (here names.new cursor.new) (λ path start.
-        if_of (limits_under setting.now) (bodies_under setting.now below) path start
+        if_of (limits_under setting.now) (bodies_under setting.now depth) path start
         cursor.old.span (seen_of names.old) cursor.old.left) }
     ensures refusal { IfErr result (Refuses cursor.old) }
     ensures later { IfOk result (λ _. Took cursor.old cursor.new) }
 {
     let word = cursor.current_span().copied();
-    let first = read_branch(setting, cursor, names, around, &word, below)?;
-    let others = other_branches(setting, cursor, names, around, word, below)?;
+    let first = read_branch(setting, cursor, names, around, &word, depth)?;
+    let others = other_branches(setting, cursor, names, around, word, depth)?;
     closed_tag(cursor, Closer::EndIf)?;
     Ok(Added::Node(build::when(first.condition, first.body, others)))
 }
@@ -65,10 +65,10 @@ fn read_branch(
     names: &mut Names,
     around: &Around,
     word: &Span,
-    below: usize,
+    depth: usize,
 ) -> Result<Branch, Error>
     ensures gives { (path : Path) → Stands path around.now →
-        GivesBranch (limits_under setting.now) below (InIf ∷ path) result
+        GivesBranch (limits_under setting.now) depth (InIf ∷ path) result
         (here names.new cursor.new) (here names.old cursor.old) }
     ensures refusal { IfErr result (Refuses cursor.old) }
     ensures later { IfOk result (λ _. Took cursor.old cursor.new) }
@@ -78,7 +78,7 @@ fn read_branch(
         context: Context::Condition,
         at: word.copied(),
     };
-    let body = body(setting, cursor, names, around, &opening, below)?;
+    let body = body(setting, cursor, names, around, &opening, depth)?;
     Ok(Branch { condition, body })
 }
 
@@ -91,11 +91,11 @@ fn other_branches(
     names: &mut Names,
     around: &Around,
     word: Span,
-    below: usize,
+    depth: usize,
 ) -> Result<Vec<Node>, Error>
     ensures gives { (path : Path) → Stands path around.now →
         GivesBy (λ ns bs. AreBranches (in_loop path) ns.items bs) result (here names.new cursor.new)
-        (branches (limits_under setting.now) (bodies_under setting.now below)
+        (branches (limits_under setting.now) (bodies_under setting.now depth)
         (InIf ∷ path) (here names.old cursor.old)) }
     ensures refusal { IfErr result (Refuses cursor.old) }
     ensures later { IfOk result (λ _. GoesOn cursor.old cursor.new) }
@@ -106,14 +106,14 @@ fn other_branches(
     'branches: while closes(cursor, Closer::Elif) {
         take_closer(cursor, Closer::Elif)?;
         word = cursor.current_span().copied();
-        let branch = read_branch(setting, cursor, names, around, &word, below)?;
+        let branch = read_branch(setting, cursor, names, around, &word, depth)?;
         branches.push(branch)?;
     }
     let opening = Opening {
         context: Context::Condition,
         at: word,
     };
-    let otherwise = else_body(setting, cursor, names, around, &opening, below)?;
+    let otherwise = else_body(setting, cursor, names, around, &opening, depth)?;
     nested(alloc, branches, otherwise)
 }
 

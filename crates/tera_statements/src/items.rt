@@ -40,10 +40,10 @@ pub(crate) fn item(
     names: &mut Names,
     around: &Around,
     extension: Extension<'_>,
-    below: usize,
+    depth: usize,
 ) -> Result<Option<Added>, Error>
     requires { is_none around.now.innermost ≡ true → is_free extension ≡ true }
-    ensures gives { GivesNext (limits_under setting.now) below around.now result
+    ensures gives { GivesNext (limits_under setting.now) depth around.now result
         (here names.new cursor.new) (here names.old cursor.old) }
     ensures refusal { IfErr result (RefusesIn cursor.old) }
     ensures empty { IfErr result (λ _. AreEmptyTexts cursor.old.left → ⊥) }
@@ -56,7 +56,7 @@ pub(crate) fn item(
         Front::Shows => Ok(Some(shown(setting, cursor, around)?)),
         Front::Opens(opener) => {
             enter(cursor, opener)?;
-            let added = tag(setting, cursor, names, around, extension, opener, below)?;
+            let added = tag(setting, cursor, names, around, extension, opener, depth)?;
             Ok(Some(added))
         }
         Front::Wrong => Err(unknown_tag(cursor)),
@@ -152,26 +152,26 @@ fn tag(
     around: &Around,
     extension: Extension<'_>,
     opener: Opener,
-    below: usize,
+    depth: usize,
 ) -> Result<Added, Error>
     requires { is_none around.now.innermost ≡ true → is_free extension ≡ true }
     ensures gives { AddsBy around.now result (here names.new cursor.new) (λ path start.
-        tag_of (limits_under setting.now) (bodies_under setting.now below) path (opener_of opener)
+        tag_of (limits_under setting.now) (bodies_under setting.now depth) path (opener_of opener)
         start cursor.old.span (seen_of names.old) cursor.old.left) }
     ensures refusal { IfErr result (Refuses cursor.old) }
     ensures later { IfOk result (λ _. Took cursor.old cursor.new) }
 {
     match opener {
-        Opener::Set { global } => set(setting, cursor, names, around, global, below),
+        Opener::Set { global } => set(setting, cursor, names, around, global, depth),
         Opener::Include => include(cursor, around),
         Opener::Extends => extends(cursor, around, extension),
-        Opener::Block => block(setting, cursor, names, around, below),
-        Opener::For => for_loop(setting, cursor, names, around, below),
-        Opener::If => condition(setting, cursor, names, around, below),
-        Opener::Filter => section(setting, cursor, names, around, below),
-        Opener::Component => definition(setting, cursor, names, around, below),
+        Opener::Block => block(setting, cursor, names, around, depth),
+        Opener::For => for_loop(setting, cursor, names, around, depth),
+        Opener::If => condition(setting, cursor, names, around, depth),
+        Opener::Filter => section(setting, cursor, names, around, depth),
+        Opener::Component => definition(setting, cursor, names, around, depth),
         Opener::Break => read_jump(cursor, around, Jump::Break),
         Opener::Continue => read_jump(cursor, around, Jump::Continue),
-        Opener::Call => call(setting, cursor, names, around, below),
+        Opener::Call => call(setting, cursor, names, around, depth),
     }
 }

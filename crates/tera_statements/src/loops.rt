@@ -28,10 +28,10 @@ pub(crate) fn for_loop(
     cursor: &mut Cursor<'_>,
     names: &mut Names,
     around: &Around,
-    below: usize,
+    depth: usize,
 ) -> Result<Added, Error>
     ensures gives { AddsBy around.now result (here names.new cursor.new) (λ path start.
-        for_of (limits_under setting.now) (bodies_under setting.now below) path start
+        for_of (limits_under setting.now) (bodies_under setting.now depth) path start
         cursor.old.span (seen_of names.old) cursor.old.left) }
     ensures refusal { IfErr result (Refuses cursor.old) }
     ensures later { IfOk result (λ _. Took cursor.old cursor.new) }
@@ -41,12 +41,12 @@ pub(crate) fn for_loop(
         at: cursor.current_span().copied(),
     };
     let head = loop_to_end(setting, cursor)?;
-    let inside = body(setting, cursor, names, around, &opening, below)?;
+    let inside = body(setting, cursor, names, around, &opening, depth)?;
     let otherwise = Opening {
         context: Context::LoopElse,
         at: opening.at.copied(),
     };
-    let otherwise = else_body(setting, cursor, names, around, &otherwise, below)?;
+    let otherwise = else_body(setting, cursor, names, around, &otherwise, depth)?;
     closed_tag(cursor, Closer::EndFor)?;
     Ok(Added::Node(build::for_loop(head.key, head.value, head.target, inside, otherwise)))
 }
@@ -60,11 +60,11 @@ pub(crate) fn else_body(
     names: &mut Names,
     around: &Around,
     opening: &Opening,
-    below: usize,
+    depth: usize,
 ) -> Result<Vec<Node>, Error>
     ensures gives { (path : Path) → Stands path around.now →
         GivesBy (λ ns o. IsElse (in_loop (context_of opening.now.context ∷ path)) ns.items o) result
-        (here names.new cursor.new) (else_of (bodies_under setting.now below)
+        (here names.new cursor.new) (else_of (bodies_under setting.now depth)
         (context_of opening.now.context ∷ path) (here names.old cursor.old)) }
     ensures refusal { IfErr result (Refuses cursor.old) }
     ensures later { IfOk result (λ _. GoesOn cursor.old cursor.new) }
@@ -74,5 +74,5 @@ pub(crate) fn else_body(
     }
     take_closer(cursor, Closer::Else)?;
     finish(cursor)?;
-    body(setting, cursor, names, around, opening, below)
+    body(setting, cursor, names, around, opening, depth)
 }

@@ -370,6 +370,6 @@ fn top_item(
         parent,
     };
     let around = Around::nothing();
-    let below = setting.limits.bodies - 1;
-    item(&inside, cursor, names, &around, Extension::Free, below)
+    let depth = setting.limits.bodies - 1;
+    item(&inside, cursor, names, &around, Extension::Free, depth)
 }

@@ -108,8 +108,8 @@ decreases-subscripts::step l = 8 * size l.cursor.now.left + 5
 abbrev pub invariant-chains::with_links-growing : goal.invariant-chains::with_links-growing
 invariant-chains::with_links-growing l = record {
   chaining : Chaining l.fn.room.scope.in_loop l.fields_of_loop (name_in l.fn.name l.fn.first)
-      (links_of (expr l.fn.below) (room_of l.fn.room) (of_loop l.fn.room.scope.in_loop (name_in l.fn.name l.fn.first)) (at l.fn.links l.fn.cursor.left))
-      (links_of (expr l.fn.below) (room_of l.fn.room) l.fields_of_loop) (expression_view l.chain) l.cursor.span (at l.links l.cursor.left);
+      (links_of (expr l.fn.depth) (room_of l.fn.room) (of_loop l.fn.room.scope.in_loop (name_in l.fn.name l.fn.first)) (at l.fn.links l.fn.cursor.left))
+      (links_of (expr l.fn.depth) (room_of l.fn.room) l.fields_of_loop) (expression_view l.chain) l.cursor.span (at l.links l.cursor.left);
   later : GoesOn l.fn.cursor l.cursor;
 }
 

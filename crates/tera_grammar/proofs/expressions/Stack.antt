@@ -100,11 +100,11 @@ module _ (w : Room) (v : Level) (a : Operand) (p : Place) where
 
   abbrev right_part : Reads Operator → Reads Growth
   right_part r =
-      r >>= λ o. expr v.below w (right_power o.0) o.1 >>= λ r. cond (is_refused w.in_loop o.0 r.0) None
+      r >>= λ o. expr v.depth w (right_power o.0) o.1 >>= λ r. cond (is_refused w.in_loop o.0 r.0) None
       (Some (by_operator o.0 r.0, r.1))
 
   joined_alike : (o : Op) (q : Place)
-      → after (join_of (expr v.below) w (leads_binary o) q) ≡ joining w v (operator_in o) (is_negated o) a q
+      → after (join_of (expr v.depth) w (leads_binary o) q) ≡ joining w v (operator_in o) (is_negated o) a q
   unfolding join_of operator_of
   joined_alike o q = bumped o (bump q)
     where
@@ -128,15 +128,15 @@ module _ (w : Room) (v : Level) (a : Operand) (p : Place) where
           ∙ ap (λ b. cond (refuses (operator_in o) (output w.in_loop x.0)) None (going w v b x.1)) (joined_as w.in_loop o a x.0)
 
       bumped : (o : Op) (r : Option Place) → after (right_part (operator (Binary o) r))
-          ≡ (r >>= λ q. coming v.below w (right_of (operator_in o)) q >>= resume w (in_binary v (operator_in o) (is_negated o) a))
+          ≡ (r >>= λ q. coming v.depth w (right_of (operator_in o)) q >>= resume w (in_binary v (operator_in o) (is_negated o) a))
       bumped o None = refl
       bumped o (Some r) =
-          last o (expr v.below w (op_right o) r)
-          ∙ ap (λ m. coming v.below w m r >>= resume w (in_binary v (operator_in o) (is_negated o) a)) (sym (powers o))
+          last o (expr v.depth w (op_right o) r)
+          ∙ ap (λ m. coming v.depth w m r >>= resume w (in_binary v (operator_in o) (is_negated o) a)) (sym (powers o))
 
-  chosen_alike : (s : Span) (q : Place) → after (join_of (expr v.below) w (leads_condition s) q) ≡ choosing w v a q
+  chosen_alike : (s : Span) (q : Place) → after (join_of (expr v.depth) w (leads_condition s) q) ≡ choosing w v a q
   unfolding join_of operator_of
-  chosen_alike s q = first (expr v.below w 0 q)
+  chosen_alike s q = first (expr v.depth w 0 q)
     where
       last : (o : Operator) (c : Tree) (t : Span) → o ≡ Condition s c t → (r : Reads Tree)
           → after (r >>= λ r. cond (is_refused w.in_loop (Condition s c t) r.0) None (Some (by_operator (Condition s c t) r.0, r.1)))
@@ -148,16 +148,16 @@ module _ (w : Room) (v : Level) (a : Operand) (p : Place) where
       otherwise c r = r >>= λ t. Some (Condition s c t.0, t.1)
 
       middle : (c : Tree) (r : Reads Span) → after (right_part (otherwise c r))
-          ≡ (r >>= λ t. coming v.below w 0 t.1 >>= λ r. going w v (chosen (output w.in_loop c) a r.0) r.1)
+          ≡ (r >>= λ t. coming v.depth w 0 t.1 >>= λ r. going w v (chosen (output w.in_loop c) a r.0) r.1)
       middle c None = refl
-      middle c (Some t) = last (Condition s c t.0) c t.0 refl (expr v.below w 0 t.1)
+      middle c (Some t) = last (Condition s c t.0) c t.0 refl (expr v.depth w 0 t.1)
 
       first : (r : Reads Tree) → after (right_part (r >>= λ c. otherwise c.0 (skip Else c.1)))
           ≡ (outcome w.in_loop r >>= resume w (in_condition v a))
       first None = refl
       first (Some c) = middle c.0 (skip Else c.1)
 
-  closed_alike : (e : Ending) (q : Place) → after (close_of (expr v.below) w e q) ≡ closing w v e a q
+  closed_alike : (e : Ending) (q : Place) → after (close_of (expr v.depth) w e q) ≡ closing w v e a q
   unfolding close_of
   closed_alike e q = counted (bump q)
     where
@@ -166,19 +166,19 @@ module _ (w : Room) (v : Level) (a : Operand) (p : Place) where
       last None = refl
       last (Some x) = refl
 
-      counted : (o : Option Place) → after (o >>= λ q. suffix_in (expr v.below) w e q >>= λ s. Some (by_suffix s.0, s.1))
-          ≡ ((o >>= λ q. suffix_in (expr v.below) w e q) >>= λ s. going w v (suffixed w.in_loop a s.0) s.1)
+      counted : (o : Option Place) → after (o >>= λ q. suffix_in (expr v.depth) w e q >>= λ s. Some (by_suffix s.0, s.1))
+          ≡ ((o >>= λ q. suffix_in (expr v.depth) w e q) >>= λ s. going w v (suffixed w.in_loop a s.0) s.1)
       counted None = refl
-      counted (Some q) = last (suffix_in (expr v.below) w e q)
+      counted (Some q) = last (suffix_in (expr v.depth) w e q)
 
   -- one turn of the loop
   going_at : (fr : Front) → front p.tokens ≡ fr → going w v a p
-      ≡ (step (expr v.below) w v.least p.links fr >>= λ g. go_on (grown_operand w.in_loop) (going w v) a p g)
+      ≡ (step (expr v.depth) w v.least p.links fr >>= λ g. go_on (grown_operand w.in_loop) (going w v) a p g)
   going_at fr is =
-      loop_goes (grown_operand w.in_loop) v.below w v.least a p
-      ∙ ap (λ f. step (expr v.below) w v.least p.links f >>= λ g. go_on (grown_operand w.in_loop) (going w v) a p g) is
+      loop_goes (grown_operand w.in_loop) v.depth w v.least a p
+      ∙ ap (λ f. step (expr v.depth) w v.least p.links f >>= λ g. go_on (grown_operand w.in_loop) (going w v) a p g) is
 
-  stops_at : (fr : Front) → stops v.least fr ≡ true → step (expr v.below) w v.least p.links fr ≡ Some None
+  stops_at : (fr : Front) → stops v.least fr ≡ true → step (expr v.depth) w v.least p.links fr ≡ Some None
   unfolding step
   stops_at nothing h = refl
   stops_at (joins e us) h = rw h refl
@@ -252,14 +252,14 @@ module _ (w : Room) (v : Level) (x : Operand) (p : Place) where
   refuses_right o n a h = ap (λ c. cond c None (going w v (joined o n a x) p)) h
 
   pub goes_otherwise : (a : Operand) (t : Span) (us : Items) → takes Else p.tokens ≡ Some (t, us)
-      → resume w (in_condition v a) (x, p) ≡ (coming v.below w 0 (at p.links us) >>= resume w (in_last v a x.0))
+      → resume w (in_condition v a) (x, p) ≡ (coming v.depth w 0 (at p.links us) >>= resume w (in_last v a x.0))
   unfolding skip
   goes_otherwise a t us h =
-      follows _ (t, at p.links us) (λ t. coming v.below w 0 t.1 >>= resume w (in_last v a x.0)) (ap (moved p.links) h)
+      follows _ (t, at p.links us) (λ t. coming v.depth w 0 t.1 >>= resume w (in_last v a x.0)) (ap (moved p.links) h)
 
   pub lacks_else : (a : Operand) → takes Else p.tokens ≡ None → resume w (in_condition v a) (x, p) ≡ None
   unfolding skip
-  lacks_else a h = fails _ (λ t. coming v.below w 0 t.1 >>= resume w (in_last v a x.0)) (ap (moved p.links) h)
+  lacks_else a h = fails _ (λ t. coming v.depth w 0 t.1 >>= resume w (in_last v a x.0)) (ap (moved p.links) h)
 
 -- the span of the first token
 span_of_first : Items → Option Span
@@ -292,24 +292,24 @@ module _ (w : Room) (v : Level) (p : Place) where
   abbrev behind : Reads Tree → Shows
   behind r = outcome w.in_loop r >>= λ h. going w v h.0 h.1
 
-  pub heads : (t : Tree) (q : Place) → head_of (expr v.below) w p ≡ Some (t, q)
+  pub heads : (t : Tree) (q : Place) → head_of (expr v.depth) w p ≡ Some (t, q)
       → heading w v p ≡ going w v (shown w.in_loop t) q
   heads t q h = ap behind h
 
-  pub heads_badly : head_of (expr v.below) w p ≡ None → heading w v p ≡ None
+  pub heads_badly : head_of (expr v.depth) w p ≡ None → heading w v p ≡ None
   heads_badly h = ap behind h
 
   -- an operand begins at the first token that is taken
   pub heads_at : (k : Tok) (s : Span) (us : Items) → p.tokens ≡ Token k s us → (t : Tree) (q : Place)
-      → head_of (expr v.below) w p ≡ Some (t, q) → heading w v p ≡ going w v (output w.in_loop t, spanning s (last t)) q
+      → head_of (expr v.depth) w p ≡ Some (t, q) → heading w v p ≡ going w v (output w.in_loop t, spanning s (last t)) q
   heads_at k s us is t q h =
       heads t q h ∙ ap (λ b. going w v (output w.in_loop t, spanning b (last t)) q)
-      (begins_at t q.tokens k s us (sym (head_found v.below (expr v.below) (expr_sound v.below) w p (t, q) h).spelled ∙ is))
+      (begins_at t q.tokens k s us (sym (head_found v.depth (expr v.depth) (expr_sound v.depth) w p (t, q) h).spelled ∙ is))
 
   paren_opens : (s : Span) (q : Place)
-      → behind (paren_of (expr v.below) w s q) ≡ (coming v.below w 0 q >>= resume w (in_paren v s))
+      → behind (paren_of (expr v.depth) w s q) ≡ (coming v.depth w 0 q >>= resume w (in_paren v s))
   unfolding paren_of
-  paren_opens s q = inside (expr v.below w 0 q)
+  paren_opens s q = inside (expr v.depth w 0 q)
     where
       closes_it : Tree → Reads Span → Reads Tree
       closes_it t r = r >>= λ c. Some (Atomic (Paren s t c.0), c.1)
@@ -324,30 +324,30 @@ module _ (w : Room) (v : Level) (p : Place) where
       inside None = refl
       inside (Some x) = closed x.0 (skip RightParen x.1)
 
-  prefix_opens : (s : Sign) (q : Place) → begins_sign q.tokens ≡ false → behind (prefix_of (expr v.below) w s q) ≡ prefixing w v s q
+  prefix_opens : (s : Sign) (q : Place) → begins_sign q.tokens ≡ false → behind (prefix_of (expr v.depth) w s q) ≡ prefixing w v s q
   unfolding prefix_of
-  prefix_opens s q h = ap behind (decided h) ∙ inside (expr v.below w (sign_power s) q)
+  prefix_opens s q h = ap behind (decided h) ∙ inside (expr v.depth w (sign_power s) q)
     where
       signs : Reads Tree → Reads Tree
       signs r = r >>= λ e. Some (Prefix s e.0, e.1)
 
-      decided : begins_sign q.tokens ≡ false → prefix_of (expr v.below) w s q ≡ signs (expr v.below w (sign_power s) q)
-      decided h = ap (λ c. cond c None (signs (expr v.below w (sign_power s) q))) h
+      decided : begins_sign q.tokens ≡ false → prefix_of (expr v.depth) w s q ≡ signs (expr v.depth w (sign_power s) q)
+      decided h = ap (λ c. cond c None (signs (expr v.depth w (sign_power s) q))) h
 
       inside : (r : Reads Tree) → behind (signs r) ≡ (outcome w.in_loop r >>= resume w (in_prefix v s))
       inside None = refl
       inside (Some x) = refl
 
-  prefix_refused : (s : Sign) (q : Place) → begins_sign q.tokens ≡ true → behind (prefix_of (expr v.below) w s q) ≡ None
+  prefix_refused : (s : Sign) (q : Place) → begins_sign q.tokens ≡ true → behind (prefix_of (expr v.depth) w s q) ≡ None
   unfolding prefix_of
   prefix_refused s q h =
-      ap (λ c. behind (cond c None (expr v.below w (sign_power s) q >>= λ e. Some (Prefix s e.0, e.1)))) h
+      ap (λ c. behind (cond c None (expr v.depth w (sign_power s) q >>= λ e. Some (Prefix s e.0, e.1)))) h
 
-  begun : (ts : Items) → p.tokens ≡ ts → heading w v p ≡ behind (head_in (expr v.below) w p.links ts)
-  begun ts is = ap (λ us. behind (head_in (expr v.below) w p.links us)) is
+  begun : (ts : Items) → p.tokens ≡ ts → heading w v p ≡ behind (head_in (expr v.depth) w p.links ts)
+  begun ts is = ap (λ us. behind (head_in (expr v.depth) w p.links us)) is
 
   pub heads_paren : (s : Span) (us : Items) → p.tokens ≡ mark LeftParen s us
-      → heading w v p ≡ (coming v.below w 0 (at p.links us) >>= resume w (in_paren v s))
+      → heading w v p ≡ (coming v.depth w 0 (at p.links us) >>= resume w (in_paren v s))
   unfolding head_mark
   heads_paren s us is = begun (mark LeftParen s us) is ∙ paren_opens s (at p.links us)
 
@@ -363,11 +363,11 @@ module _ (w : Room) (v : Level) (p : Place) where
 
   -- a word: a negation, a word for no value, or a name
   worded : (n : List ℕ) (s : Span) (us : Items) → p.tokens ≡ Token (Ident n) s us
-      → head_of (expr v.below) w p ≡ word_head (expr v.below) w (record { text = n; span = s }) (at p.links us)
-  worded n s us is = ap (λ us. head_in (expr v.below) w p.links us) is
+      → head_of (expr v.depth) w p ≡ word_head (expr v.depth) w (record { text = n; span = s }) (at p.links us)
+  worded n s us is = ap (λ us. head_in (expr v.depth) w p.links us) is
 
   pub heads_name : (n : List ℕ) (s : Span) (us : Items) → p.tokens ≡ Token (Ident n) s us → is_none n ≡ false → is_not n ≡ false
-      → head_of (expr v.below) w p ≡ chain_of (expr v.below) w (record { text = n; span = s }) (at p.links us)
+      → head_of (expr v.depth) w p ≡ chain_of (expr v.depth) w (record { text = n; span = s }) (at p.links us)
   unfolding word_head
   heads_name n s us is none other = worded n s us is ∙ rw (none, other) refl
 
@@ -377,7 +377,7 @@ module _ (w : Room) (v : Level) (p : Place) where
   heads_nothing n s us is none = ap behind (worded n s us is) ∙ rw none refl
 
   negates : (n : List ℕ) (s : Span) (us : Items) → p.tokens ≡ Token (Ident n) s us → is_none n ≡ false → is_not n ≡ true
-      → head_of (expr v.below) w p ≡ prefix_of (expr v.below) w (Negates s) (at p.links us)
+      → head_of (expr v.depth) w p ≡ prefix_of (expr v.depth) w (Negates s) (at p.links us)
   unfolding word_head
   negates n s us is none other = worded n s us is ∙ rw (none, other) refl
 
@@ -390,25 +390,25 @@ module _ (w : Room) (v : Level) (p : Place) where
   not_refused n s us is none other h = ap behind (negates n s us is none other) ∙ prefix_refused (Negates s) (at p.links us) h
 
   pub heads_array : (s : Span) (us : Items) → p.tokens ≡ mark LeftBracket s us
-      → head_of (expr v.below) w p ≡ array_of (expr v.below) w s (at p.links us)
+      → head_of (expr v.depth) w p ≡ array_of (expr v.depth) w s (at p.links us)
   unfolding head_mark
-  heads_array s us is = ap (λ us. head_in (expr v.below) w p.links us) is
+  heads_array s us is = ap (λ us. head_in (expr v.depth) w p.links us) is
 
   pub heads_map : (s : Span) (us : Items) → p.tokens ≡ mark LeftBrace s us
-      → head_of (expr v.below) w p ≡ map_of (expr v.below) w s (at p.links us)
+      → head_of (expr v.depth) w p ≡ map_of (expr v.depth) w s (at p.links us)
   unfolding head_mark
-  heads_map s us is = ap (λ us. head_in (expr v.below) w p.links us) is
+  heads_map s us is = ap (λ us. head_in (expr v.depth) w p.links us) is
 
   pub heads_component : (s : Span) (us : Items) → p.tokens ≡ mark (Operation LessThan) s us
-      → head_of (expr v.below) w p ≡ component_of (expr v.below) w s (at p.links us)
+      → head_of (expr v.depth) w p ≡ component_of (expr v.depth) w s (at p.links us)
   unfolding head_mark
-  heads_component s us is = ap (λ us. head_in (expr v.below) w p.links us) is
+  heads_component s us is = ap (λ us. head_in (expr v.depth) w p.links us) is
 
   -- what no operand begins with
   pub heads_no_mark : (o : List ℕ) (s : Span) (us : Items) → p.tokens ≡ Token (Symbol o) s us → head_mark (Symbol o) ≡ Other
       → heading w v p ≡ None
   heads_no_mark o s us is h =
-      begun (Token (Symbol o) s us) is ∙ ap (λ m. behind (mark_head (expr v.below) w m s (at p.links us))) h
+      begun (Token (Symbol o) s us) is ∙ ap (λ m. behind (mark_head (expr v.depth) w m s (at p.links us))) h
 
   pub heads_end : p.tokens ≡ Ended → heading w v p ≡ None
   heads_end is = begun Ended is
@@ -428,14 +428,14 @@ module _ (w : Room) (v : Level) (p : Place) where
 
   -- a head that a function of its own has read, and one that it has not
   pub head_given : {E : Type 0} (view : E → tree.Expr) (e : E) (here : Span) (q : Place) (k : Tok) (s : Span) (us : Items)
-      → p.tokens ≡ Token k s us → HeadGives view w.in_loop (Ok e) here q (head_of (expr v.below) w p)
+      → p.tokens ≡ Token k s us → HeadGives view w.in_loop (Ok e) here q (head_of (expr v.depth) w p)
       → going w v (view e, spanning s here) q ≡ heading w v p
   head_given view e here q k s us is (t, read, shows, ends) =
       ap (λ x. going w v (x, spanning s here) q) shows ∙ ap (λ z. going w v (output w.in_loop t, spanning s z) q) ends
       ∙ sym (heads_at k s us is t q read)
 
   pub head_missed : {E : Type 0} (view : E → tree.Expr) (e : Error) (here : Span) (q : Place)
-      → HeadGives view w.in_loop (Err e) here q (head_of (expr v.below) w p) → IsMemory e ⊎ (heading w v p ≡ None)
+      → HeadGives view w.in_loop (Err e) here q (head_of (expr v.depth) w p) → IsMemory e ⊎ (heading w v p ≡ None)
   head_missed view e here q (inl memory) = inl memory
   head_missed view e here q (inr none) = inr (heads_badly none)
 

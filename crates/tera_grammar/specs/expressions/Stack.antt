@@ -76,11 +76,11 @@ grown_operand l a (by_suffix s) = suffixed l a s
 
 -- an open expression: how many more may open inside, and its least power
 pub record Level : Type 0 where
-  pub below : ℕ
+  pub depth : ℕ
   pub least : ℕ
 
 abbrev pub level : ℕ → ℕ → Level
-level d m = record { below = d; least = m }
+level d m = record { depth = d; least = m }
 
 -- an open expression with what is read of it, where a part of it is read inside
 pub data Frame : Type 0 where
@@ -102,7 +102,7 @@ pub data State : Type 0 where
 
 -- what an expression comes to where its operand so far is this
 abbrev pub going : Room → Level → Operand → Place → Shows
-going w v a p = loop_with (grown_operand w.in_loop) v.below w v.least a p
+going w v a p = loop_with (grown_operand w.in_loop) v.depth w v.least a p
 
 -- what an expression comes to that is read from here
 abbrev pub coming : ℕ → Room → ℕ → Place → Shows
@@ -114,7 +114,7 @@ resume w (in_paren v s) x = skip RightParen x.1 >>= λ c. going w v (enclosed s 
 resume w (in_prefix v s) x = going w v (signed s x.0) x.1
 resume w (in_binary v o n a) x = cond (refuses o x.0.0) None (going w v (joined o n a x.0) x.1)
 resume w (in_condition v a) x =
-    skip Else x.1 >>= λ t. coming v.below w 0 t.1 >>= λ r. going w v (chosen x.0.0 a r.0) r.1
+    skip Else x.1 >>= λ t. coming v.depth w 0 t.1 >>= λ r. going w v (chosen x.0.0 a r.0) r.1
 resume w (in_last v a c) x = going w v (chosen c a x.0) x.1
 
 -- what does not go on with an operand, at a least power
@@ -126,21 +126,21 @@ stops m misplaced = ltb 5 m
 
 -- what an open expression comes to at its first token
 abbrev pub heading : Room → Level → Place → Shows
-heading w v p = outcome w.in_loop (head_of (expr v.below) w p) >>= λ h. going w v h.0 h.1
+heading w v p = outcome w.in_loop (head_of (expr v.depth) w p) >>= λ h. going w v h.0 h.1
 
 -- what it comes to behind a prefix, a binary operator, and the `if` of a ternary
 abbrev pub prefixing : Room → Level → Sign → Place → Shows
-prefixing w v s p = coming v.below w (sign_power s) p >>= resume w (in_prefix v s)
+prefixing w v s p = coming v.depth w (sign_power s) p >>= resume w (in_prefix v s)
 
 abbrev pub joining : Room → Level → BinaryOperator → Bool → Operand → Place → Shows
-joining w v o n a p = bump p >>= λ q. coming v.below w (right_of o) q >>= resume w (in_binary v o n a)
+joining w v o n a p = bump p >>= λ q. coming v.depth w (right_of o) q >>= resume w (in_binary v o n a)
 
 abbrev pub choosing : Room → Level → Operand → Place → Shows
-choosing w v a p = coming v.below w 0 p >>= resume w (in_condition v a)
+choosing w v a p = coming v.depth w 0 p >>= resume w (in_condition v a)
 
 -- a suffix with its link, and what an operand comes to behind it
 abbrev pub suffix_of : Room → Level → Ending → Place → Reads Suffix
-suffix_of w v e p = bump p >>= λ q. suffix_in (expr v.below) w e q
+suffix_of w v e p = bump p >>= λ q. suffix_in (expr v.depth) w e q
 
 abbrev pub closing : Room → Level → Ending → Operand → Place → Shows
 closing w v e a p = suffix_of w v e p >>= λ s. going w v (suffixed w.in_loop a s.0) s.1

@@ -26,8 +26,8 @@ bodies::item_node-item-requires t c = (omega arith, λ none. not_both _ none c.r
 pub items::item-tag-requires : goal.items::item-tag-requires
 items::item-tag-requires t c = (omega arith, c.requires)
 
-pub bodies::body-returns-then-below-eq0-clause-gives : goal.bodies::body-returns-then-below-eq0-clause-gives
-bodies::body-returns-then-below-eq0-clause-gives t c = bodies.bodies::body-returns-then-below-eq0-clause-gives t c
+pub bodies::body-returns-then-depth-eq0-clause-gives : goal.bodies::body-returns-then-depth-eq0-clause-gives
+bodies::body-returns-then-depth-eq0-clause-gives t c = bodies.bodies::body-returns-then-depth-eq0-clause-gives t c
 
 pub bodies::body-items-init : goal.bodies::body-items-init
 bodies::body-items-init t c = bodies.bodies::body-items-init t c

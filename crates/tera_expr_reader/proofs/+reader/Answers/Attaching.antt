@@ -22,18 +22,18 @@ use Rattle.tera_expr_reader.proofs.+reader.Goals as goal
 
 pub component_calls::component-returns-then-not-begins_name-clause-gives : goal.component_calls::component-returns-then-not-begins_name-clause-gives
 component_calls::component-returns-then-not-begins_name-clause-gives t c =
-    inr (unnamed_component (expr c.args.below) (room_of c.args.room) c.args.first.now c.args.links.now c.args.cursor.now.left (sym c.begins_name.ensures ∙ c.if-not-begins_name.true))
+    inr (unnamed_component (expr c.args.depth) (room_of c.args.room) c.args.first.now c.args.links.now c.args.cursor.now.left (sym c.begins_name.ensures ∙ c.if-not-begins_name.true))
 
 pub component_calls::component-returns-in_err-name-clause-gives : goal.component_calls::component-returns-in_err-name-clause-gives
 component_calls::component-returns-in_err-name-clause-gives t c =
     let p = err_from_is_err_and c.from_residual.result c.from_residual.ensures.1 in
-    rw (p.1, p.2) (component_no_path (expr c.args.below) (room_of c.args.room) c.args.first.now c.args.links.now c.args.cursor.now.left _ c.in_err-name.ensures.gives)
+    rw (p.1, p.2) (component_no_path (expr c.args.depth) (room_of c.args.room) c.args.first.now c.args.links.now c.args.cursor.now.left _ c.in_err-name.ensures.gives)
 
 pub component_calls::component-returns-in_err-kwargs-clause-gives : goal.component_calls::component-returns-in_err-kwargs-clause-gives
 component_calls::component-returns-in_err-kwargs-clause-gives t c =
     let p = err_from_is_err_and c.from_residual-in_err-kwargs.result c.from_residual-in_err-kwargs.ensures.1 in
     let (x, path, named) = c.in_ok-name.ensures.gives in
-    rw (p.1, p.2) (component_no_attributes (expr c.args.below) (room_of c.args.room) c.args.first.now c.args.links.now c.args.cursor.now.left c.dotted_name.new.cursor.left x _
+    rw (p.1, p.2) (component_no_attributes (expr c.args.depth) (room_of c.args.room) c.args.first.now c.args.links.now c.args.cursor.now.left c.dotted_name.new.cursor.left x _
     path c.in_err-kwargs.ensures.gives)
 
 pub component_calls::component-returns-in_err-close_component-clause-gives : goal.component_calls::component-returns-in_err-close_component-clause-gives
@@ -41,7 +41,7 @@ component_calls::component-returns-in_err-close_component-clause-gives t c =
     let p = err_from_is_err_and c.from_residual-in_err-close_component.result c.from_residual-in_err-close_component.ensures.1 in
     let (x, path, named) = c.in_ok-name.ensures.gives in
     let (r, read, lists) = c.in_ok-kwargs.ensures.gives in
-    rw (p.1, p.2) (component_unclosed (expr c.args.below) (room_of c.args.room) c.args.first.now c.args.links.now c.args.cursor.now.left c.dotted_name.new.cursor.left
+    rw (p.1, p.2) (component_unclosed (expr c.args.depth) (room_of c.args.room) c.args.first.now c.args.links.now c.args.cursor.now.left c.dotted_name.new.cursor.left
     c.attributes.new.cursor.left c.attributes.new.links x r _ path read c.in_err-close_component.ensures.gives)
 
 pub component_calls::component-returns-clause-gives : goal.component_calls::component-returns-clause-gives
@@ -52,7 +52,7 @@ component_calls::component-returns-clause-gives t c =
     let s = c.args.first.now in
     let u = c.close_component.new.cursor.span in (
       Atomic (Component s x.name x.further r t u),
-      component_given (expr c.args.below) (room_of c.args.room) s c.args.links.now c.args.cursor.now.left c.dotted_name.new.cursor.left c.attributes.new.cursor.left
+      component_given (expr c.args.depth) (room_of c.args.room) s c.args.links.now c.args.cursor.now.left c.dotted_name.new.cursor.left c.attributes.new.cursor.left
           c.close_component.new.cursor.left c.attributes.new.links x r t u path read closed,
       c.in_ok-component_call.ensures ∙ component_shown c.args.room.scope.in_loop s t u x r _ _ _ _ named lists (ap nodes_view c.new-body.ensures.items)
           (c.spanning-span.ensures ∙ ap (spanning s) c.current_span.ensures.span),

@@ -25,7 +25,7 @@ use Rattle.tera_expr_reader.proofs.+reader.Goals as goal
 
 pub calls::suffix-returns-in_ok-with_subscript-in-Subscript-clause-gives : goal.calls::suffix-returns-in_ok-with_subscript-in-Subscript-clause-gives
 calls::suffix-returns-in_ok-with_subscript-in-Subscript-clause-gives t c =
-    let f = expr c.args.below in
+    let f = expr c.args.depth in
     let w = room_of c.args.room in
     let s = c.args.cursor.now.span in
     let p = at c.args.links.now c.args.cursor.now.left in
@@ -184,6 +184,6 @@ arguments::arguments-returns-clause-gives t c =
 pub rows::value-returns-in-Some-clause-gives : goal.rows::value-returns-in-Some-clause-gives
 rows::value-returns-in-Some-clause-gives t c =
     subst (λ o. Gives expression_view c.args.values.room.scope.in_loop c.expression.result (at c.args.links.now c.expression.new.cursor.left)
-    (reader_by c.args.values.below o (room_of c.args.values.room) c.args.least (at c.args.links.now c.args.cursor.now.left))) (sym c.in-Some.is)
+    (reader_by c.args.values.depth o (room_of c.args.values.room) c.args.least (at c.args.links.now c.args.cursor.now.left))) (sym c.in-Some.is)
     (fresh_given c.args.values.room.scope.in_loop c.expression.result c.in-Some.all c.args.links.now c.expression.new.links c.args.cursor.now.left c.expression.new.cursor.left
-    c.args.values.below (room_of c.args.values.room) c.args.least c.expression.ensures.gives)
+    c.args.values.depth (room_of c.args.values.room) c.args.least c.expression.ensures.gives)

@@ -18,15 +18,15 @@ use Rattle.tera_expect.proofs.TakingLemmas.{took_size, goes_further, stays, took
 use Rattle.tera_expect.proofs.Steps.{failed_as}
 use Rattle.tera_statements.proofs.+bodies.Goals as goal
 
-pub bodies::body-returns-then-below-eq0-clause-gives : goal.bodies::body-returns-then-below-eq0-clause-gives
-bodies::body-returns-then-below-eq0-clause-gives t c = λ path stands. inr (no_depth c.args.below (limits_of c.args.setting.now.limits) _ _ c.if-below-eq0.true)
+pub bodies::body-returns-then-depth-eq0-clause-gives : goal.bodies::body-returns-then-depth-eq0-clause-gives
+bodies::body-returns-then-depth-eq0-clause-gives t c = λ path stands. inr (no_depth c.args.depth (limits_of c.args.setting.now.limits) _ _ c.if-depth-eq0.true)
 
 pub bodies::body-items-init : goal.bodies::body-items-init
 bodies::body-items-init t c = record {
   going = λ path stands.
       let inside = context_of c.args.opening.now.context ∷ path in
       let start = here c.args.names.now c.args.cursor.now in
-      going_starts (limits_of c.args.setting.now.limits) (c.args.below - 1) inside (in_loop inside) start start (map node_view c.new-nodes.result.items)
+      going_starts (limits_of c.args.setting.now.limits) (c.args.depth - 1) inside (in_loop inside) start start (map node_view c.new-nodes.result.items)
       (ap (map node_view) c.new-nodes.ensures.items) refl;
   later = stays c.args.cursor.now;
 }
@@ -37,10 +37,10 @@ bodies::body-returns-in_err-later-clause-gives t c = λ path stands.
     let inside = context_of c.args.opening.now.context ∷ path in
     let start = here c.args.names.now c.args.cursor.now in
     let p = err_from_is_err_and c.from_residual.result c.from_residual.ensures.1 in
-    let deep : c.args.below ≡ suc (c.args.below - 1) = omega arith in
+    let deep : c.args.depth ≡ suc (c.args.depth - 1) = omega arith in
     let fact = c.in_err-later.ensures.gives inside (c.inside-inside.ensures.stands path stands) in
     rw (p.1, p.2) (failed_as _ _ _ (λ h. ap (λ n. body n l inside start) deep
-    ∙ going_refused l (c.args.below - 1) inside (in_loop inside) start (here c.items.names c.items.cursor) (map node_view c.items.nodes.items) (c.items.invariant.going path stands) h) fact)
+    ∙ going_refused l (c.args.depth - 1) inside (in_loop inside) start (here c.items.names c.items.cursor) (map node_view c.items.nodes.items) (c.items.invariant.going path stands) h) fact)
 
 pub bodies::body-items-preserved : goal.bodies::body-items-preserved
 bodies::body-items-preserved t c = record {
@@ -50,7 +50,7 @@ bodies::body-items-preserved t c = record {
       let start = here c.args.names.now c.args.cursor.now in
       let gives = rw c.in-Some.is at c.in_ok-later.ensures.gives in
       let (i, read, shows) = gives inside (c.inside-inside.ensures.stands path stands) in
-      going_on l (c.args.below - 1) inside (in_loop inside) start (here c.items.names c.items.cursor) (map node_view c.items.nodes.items) i (here c.next_node.new.names c.next_node.new.cursor)
+      going_on l (c.args.depth - 1) inside (in_loop inside) start (here c.items.names c.items.cursor) (map node_view c.items.nodes.items) i (here c.next_node.new.names c.next_node.new.cursor)
       (map node_view c.next_node.new.nodes.items) (c.items.invariant.going path stands) read shows;
   later = goes_further _ _ _ c.items.invariant.later (took_goes _ _ (rw c.in-Some.is at c.in_ok-later.ensures.later));
 }
@@ -63,10 +63,10 @@ bodies::body-returns-clause-gives t c = λ path stands.
     let l = limits_of c.args.setting.now.limits in
     let inside = context_of c.args.opening.now.context ∷ path in
     let start = here c.args.names.now c.args.cursor.now in
-    let deep : c.args.below ≡ suc (c.args.below - 1) = omega arith in
+    let deep : c.args.depth ≡ suc (c.args.depth - 1) = omega arith in
     let gives = rw c.in_default.is at c.in_ok-later.ensures.gives in
     let none = gives inside (c.inside-inside.ensures.stands path stands) in
-    let (b, read, shows) = going_ends l (c.args.below - 1) inside (in_loop inside) start (here c.items.names c.items.cursor) (map node_view c.items.nodes.items) (c.items.invariant.going path stands) none.0 in
+    let (b, read, shows) = going_ends l (c.args.depth - 1) inside (in_loop inside) start (here c.items.names c.items.cursor) (map node_view c.items.nodes.items) (c.items.invariant.going path stands) none.0 in
     (b, ap (λ n. body n l inside start) deep ∙ read ∙ ap (λ p. Some (b, p)) (sym none.1), none.2 ∙ shows)
 
 pub bodies::body-returns-clause-later : goal.bodies::body-returns-clause-later
@@ -80,7 +80,7 @@ bodies::next_node-returns-in_ok-push_text-in-Some-clause-gives t c = λ path sta
     let text = c.in-Some.text.now in
     let behind = c.eat_text.new.cursor in (
       Single (Text text behind.span),
-      step_holds l (body c.args.below l) path (seen_of c.args.names.now) (front c.args.cursor.now.left) text behind.span behind.left c.in-Some.ensures.0,
+      step_holds l (body c.args.depth l) path (seen_of c.args.names.now) (front c.args.cursor.now.left) text behind.span behind.left c.in-Some.ensures.0,
       c.in_ok-push_text-in-Some.ensures.pushed,
     )
 

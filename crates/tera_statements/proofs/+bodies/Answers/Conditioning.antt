@@ -51,13 +51,13 @@ pub conditions::read_branch-returns-in_err-condition-clause-gives : goal.conditi
 conditions::read_branch-returns-in_err-condition-clause-gives t c = λ path stands.
     let p = err_from_is_err_and c.from_residual.result c.from_residual.ensures.1 in
     let fact = rw stands.loop at c.in_err-condition.ensures.gives in
-    rw (p.1, p.2) (failed_as _ _ _ (λ h. no_condition (limits_of c.args.setting.now.limits) c.args.below (InIf ∷ path) (seen_of c.args.names.now) c.args.cursor.now.left h) fact)
+    rw (p.1, p.2) (failed_as _ _ _ (λ h. no_condition (limits_of c.args.setting.now.limits) c.args.depth (InIf ∷ path) (seen_of c.args.names.now) c.args.cursor.now.left h) fact)
 
 pub conditions::read_branch-returns-in_err-body-clause-gives : goal.conditions::read_branch-returns-in_err-body-clause-gives
 conditions::read_branch-returns-in_err-body-clause-gives t c = λ path stands.
     let p = err_from_is_err_and c.from_residual-in_err-body.result c.from_residual-in_err-body.ensures.1 in
     let (x, read, is) = rw stands.loop at c.in_ok-condition.ensures.gives in
-    rw (p.1, p.2) (failed_as _ _ _ (λ h. condition_empty (limits_of c.args.setting.now.limits) c.args.below (InIf ∷ path) (seen_of c.args.names.now) c.args.cursor.now.left
+    rw (p.1, p.2) (failed_as _ _ _ (λ h. condition_empty (limits_of c.args.setting.now.limits) c.args.depth (InIf ∷ path) (seen_of c.args.names.now) c.args.cursor.now.left
     x c.expression_to_end.new.cursor.left read h) (c.in_err-body.ensures.gives path stands))
 
 pub conditions::read_branch-returns-clause-gives : goal.conditions::read_branch-returns-clause-gives
@@ -65,7 +65,7 @@ conditions::read_branch-returns-clause-gives t c = λ path stands.
     let (x, read, is) = rw stands.loop at c.in_ok-condition.ensures.gives in
     let (b, inside, shows) = c.in_ok-body.ensures.gives path stands in (
       (x.0, x.1, b),
-      condition_given (limits_of c.args.setting.now.limits) c.args.below (InIf ∷ path) (seen_of c.args.names.now) c.args.cursor.now.left x c.expression_to_end.new.cursor.left read b _ inside,
+      condition_given (limits_of c.args.setting.now.limits) c.args.depth (InIf ∷ path) (seen_of c.args.names.now) c.args.cursor.now.left x c.expression_to_end.new.cursor.left read b _ inside,
       (is, shows),
     )
 
@@ -74,7 +74,7 @@ conditions::other_branches-branches-init t c = record {
   branching = λ path stands.
       let l = limits_of c.args.setting.now.limits in
       let none : map branch_view c.new-branches.result.items ≡ [] = ap (map branch_view) c.new-branches.ensures.items in
-      branching_starts l c.args.below (InIf ∷ path) (in_loop path) (here c.args.names.now c.args.cursor.now) (here c.args.names.now c.args.cursor.now) (map branch_view c.new-branches.result.items) none refl;
+      branching_starts l c.args.depth (InIf ∷ path) (in_loop path) (here c.args.names.now c.args.cursor.now) (here c.args.names.now c.args.cursor.now) (map branch_view c.new-branches.result.items) none refl;
   later = stays c.args.cursor.now;
 }
 
@@ -90,8 +90,8 @@ conditions::other_branches-returns-in_err-branch-clause-gives t c = λ path stan
     let p = err_from_is_err_and c.from_residual-in_err-branch.result c.from_residual-in_err-branch.ensures.1 in
     let (x, there) = c.in_ok-take_closer.ensures.gives in
     let so_far = c.branches.invariant.branching path stands in
-    rw (p.1, p.2) (failed_as _ _ _ (λ h. branching_refused l c.args.below (InIf ∷ path) (in_loop path) (here c.args.names.now c.args.cursor.now) (here c.branches.names c.branches.cursor) _ so_far
-    (no_elif_branch l c.args.below (InIf ∷ path) seen c.branches.cursor.left c.take_closer.new.cursor.left x there h)) (c.in_err-branch.ensures.gives path stands))
+    rw (p.1, p.2) (failed_as _ _ _ (λ h. branching_refused l c.args.depth (InIf ∷ path) (in_loop path) (here c.args.names.now c.args.cursor.now) (here c.branches.names c.branches.cursor) _ so_far
+    (no_elif_branch l c.args.depth (InIf ∷ path) seen c.branches.cursor.left c.take_closer.new.cursor.left x there h)) (c.in_err-branch.ensures.gives path stands))
 
 pub conditions::other_branches-branches-preserved : goal.conditions::other_branches-branches-preserved
 conditions::other_branches-branches-preserved t c = record {
@@ -103,9 +103,9 @@ conditions::other_branches-branches-preserved t c = record {
       let so_far = c.branches.invariant.branching path stands in
       let one : c.push.new.self.items ≡ c.branches.branches.items ++ c.in_ok-branch.branch ∷ [] = search rules in
       let pushed = ap (map branch_view) one ∙ map-append branch_view c.branches.branches.items (c.in_ok-branch.branch ∷ []) in
-      branching_on l c.args.below (InIf ∷ path) (in_loop path) (here c.args.names.now c.args.cursor.now) (here c.branches.names c.branches.cursor) (map branch_view c.branches.branches.items)
+      branching_on l c.args.depth (InIf ∷ path) (in_loop path) (here c.args.names.now c.args.cursor.now) (here c.branches.names c.branches.cursor) (map branch_view c.branches.branches.items)
       (record { tag = tag x.0 x.1 b.1; condition = b.0; body = b.2 }) (here c.read_branch.new.names c.read_branch.new.cursor) (map branch_view c.push.new.self.items) so_far
-      (elif_branch l c.args.below (InIf ∷ path) seen c.branches.cursor.left c.take_closer.new.cursor.left x there b _ read)
+      (elif_branch l c.args.depth (InIf ∷ path) seen c.branches.cursor.left c.take_closer.new.cursor.left x there b _ read)
       (pushed ∙ (λ i. map branch_view c.branches.branches.items ++ (is.0 i, is.1 i) ∷ []));
   later = goes_further _ _ _ c.branches.invariant.later (took_goes _ _ (took_all _ _ _ c.in_ok-take_closer.ensures.later c.in_ok-branch.ensures.later));
 }
@@ -119,7 +119,7 @@ conditions::other_branches-returns-in_err-otherwise-clause-gives t c = λ path s
     let p = err_from_is_err_and c.from_residual-in_err-otherwise.result c.from_residual-in_err-otherwise.ensures.1 in
     let so_far = c.branches.invariant.branching path stands in
     let none = no_elif_there c.branches.cursor.left (sym c.closes.ensures ∙ c.branches-test.false) in
-    rw (p.1, p.2) (failed_as _ _ _ (λ h. branching_end_refused l c.args.below (InIf ∷ path) (in_loop path) (here c.args.names.now c.args.cursor.now) (here c.branches.names c.branches.cursor) _ so_far none h)
+    rw (p.1, p.2) (failed_as _ _ _ (λ h. branching_end_refused l c.args.depth (InIf ∷ path) (in_loop path) (here c.args.names.now c.args.cursor.now) (here c.branches.names c.branches.cursor) _ so_far none h)
     (c.in_err-otherwise.ensures.gives path stands))
 
 pub conditions::other_branches-returns-clause-gives : goal.conditions::other_branches-returns-clause-gives
@@ -128,5 +128,5 @@ conditions::other_branches-returns-clause-gives t c = λ path stands.
     let so_far = c.branches.invariant.branching path stands in
     let none = no_elif_there c.branches.cursor.left (sym c.closes.ensures ∙ c.branches-test.false) in
     let (o, other, otherwise) = c.in_ok-otherwise.ensures.gives path stands in
-    let (bs, read, shows) = branching_ends l c.args.below (InIf ∷ path) (in_loop path) (here c.args.names.now c.args.cursor.now) (here c.branches.names c.branches.cursor) _ (o, _) so_far none other in
+    let (bs, read, shows) = branching_ends l c.args.depth (InIf ∷ path) (in_loop path) (here c.args.names.now c.args.cursor.now) (here c.branches.names c.branches.cursor) _ (o, _) so_far none other in
     ends_by (in_loop path) c.nested.result _ _ bs _ read (ap (nest (map branch_view c.branches.branches.items)) otherwise ∙ shows) c.nested.ensures.nested c.nested.ensures.refusal

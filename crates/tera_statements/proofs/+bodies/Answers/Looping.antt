@@ -75,7 +75,7 @@ loops::else_body-returns-clause-gives t c = λ path stands.
     let (x, there) = c.in_ok-take_closer.ensures.gives in
     let (f, ended) = c.in_ok-finish.ensures.gives in
     let l = limits_of c.args.setting.now.limits in
-    otherwise_given (body c.args.below l) (context_of c.args.opening.now.context ∷ path) (seen_of c.args.names.now) c.args.cursor.now.left x c.take_closer.new.cursor.left there f c.finish.new.cursor.left ended
+    otherwise_given (body c.args.depth l) (context_of c.args.opening.now.context ∷ path) (seen_of c.args.names.now) c.args.cursor.now.left x c.take_closer.new.cursor.left there f c.finish.new.cursor.left ended
     c.body.result (here c.body.new.names c.body.new.cursor) (c.body.ensures.gives path stands)
 
 pub loops::else_body-returns-clause-later : goal.loops::else_body-returns-clause-later
