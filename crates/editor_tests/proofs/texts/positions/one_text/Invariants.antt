@@ -1,5 +1,5 @@
 use Rattle.text_edits.specs.Walks.{IsReached}
-use Rattle.text_edits_tests.proofs.positions.one_text.Given as goal
+use Rattle.editor_tests.proofs.texts.positions.one_text.Given as goal
 
 -- the walk has come to a place in the text
 abbrev pub invariant-loop-byte : goal.invariant-loop-byte

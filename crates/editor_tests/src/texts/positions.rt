@@ -1,6 +1,6 @@
 //! Each byte of random texts, by its position and by a walk.
 
-use crate::slow::{ENCODINGS, Random, slow_byte};
+use crate::texts::slow::{ENCODINGS, Random, slow_byte};
 use std::alloc::Global;
 use std::process::Abort;
 use std::test::Fail;

@@ -1,6 +1,6 @@
 //! Random edits, beside a slow way to make them.
 
-use crate::slow::{ENCODINGS, Random, slow_change};
+use crate::texts::slow::{ENCODINGS, Random, slow_change};
 use std::alloc::{AllocError, Global};
 use std::test::Fail;
 use text_edits::{Encoding, edited};

@@ -1,6 +1,6 @@
 //! What is a header, and what is none.
 
-use crate::next::{gives, is_bad, waits};
+use crate::frames::next::{gives, is_bad, waits};
 use message_frames::Frames;
 use std::alloc::{AllocError, Global};
 use std::test::Fail;

@@ -1,6 +1,6 @@
 //! Messages of the limit and beyond it, and one that is passed over.
 
-use crate::next::{gives, is_too_long, waits};
+use crate::frames::next::{gives, is_too_long, waits};
 use message_frames::{Frames, write_frame};
 use std::alloc::{AllocError, Global};
 use std::test::Fail;
