@@ -15,7 +15,7 @@ use std::marker::Model;
 use tera_base::Error;
 use tera_expr::Limits;
 use tera_lexer::{Cursor, Delimiters, tokenize};
-use tera_statements::{Names, ParserOutput, read_template};
+use tera_statements::{Names, ParserOutput, read_output};
 
 /// A template that is to be parsed.
 #[derive(Drop)]
@@ -123,7 +123,7 @@ impl<'a> Parser<'a> {
     {
         let tokens = tokenize(self.alloc, self.source, self.delimiters);
         let cursor = Cursor::new(tokens);
-        match read_template(cursor, self.limits) {
+        match read_output(cursor, self.limits) {
             Ok(read) => Ok(read),
             Err(error) => Err(in_file(self.alloc, error, self.filename)),
         }

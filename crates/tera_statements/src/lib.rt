@@ -31,4 +31,4 @@ mod templates;
 
 pub use names::Names;
 pub use outputs::ParserOutput;
-pub use templates::read_template;
+pub use templates::read_output;

@@ -169,7 +169,7 @@ fn text_weight(text: &str) -> Weight
 ///
 /// An error is the first fault that is met from left to right: the lexical fault, the end of the input, or a syntax
 /// error, whose notes name no file; or it is `Memory`. Empty texts, as comments are, take no memory.
-pub fn read_template(mut cursor: Cursor<'_>, limits: Limits) -> Result<(ParserOutput, Names), Error>
+pub fn read_output(mut cursor: Cursor<'_>, limits: Limits) -> Result<(ParserOutput, Names), Error>
     requires { AreValid (limits_of limits) }
     ensures gives { GivesTemplate (limits_of limits) result cursor.entry.left }
     ensures refusal { IfErr result (RefusesIn cursor.entry) }
