@@ -5,4 +5,3 @@ pub mod JudgedLemmas
 pub mod Pending
 pub mod PassedLemmas
 pub mod SpansLemmas
-pub mod Unknown

@@ -12,10 +12,10 @@ ghost use Rattle.tera_check.specs.Passed.{passed_view, named_view, is_in, AreNam
 
 use crate::catalogue::Known;
 use crate::finding::{Finding, Kind, Note};
-use crate::messages::{missing, unknown, wrong_type};
 use crate::passed::{Named, Names, Passed};
 use std::alloc::{AllocError, Global};
 use tera_parser::ast::ComponentArgument;
+use tera_parser::refusals::{missing_argument, unknown_arguments, wrong_type};
 use tera_parser::value::{Span, Value};
 
 /// Adds a finding for each argument that is passed and refused, at the place of its value, from the last to the first.
@@ -231,7 +231,7 @@ fn refused_name(alloc: Global, known: &Known<'_>, name: &str) -> Result<Option<R
         Some(_) => Ok(None),
         None => Ok(Some(Remark {
             kind: Kind::UnknownArgument,
-            message: unknown(alloc, known.definition, name)?,
+            message: unknown_arguments(alloc, &[name], known.definition)?,
         })),
     }
 }
@@ -284,7 +284,7 @@ fn missed(
     if is_missing(passed, name, argument) {
         Ok(Some(Remark {
             kind: Kind::MissingArgument,
-            message: missing(alloc, name, argument.typ)?,
+            message: missing_argument(alloc, name, argument.typ, false)?,
         }))
     } else {
         Ok(None)

@@ -6,7 +6,7 @@
 //!
 //! In the order of reading: specs `Findings`, `Calls`, `Passed`, `Judged`, `Named`, `OrderAndStatus`, `Objects`, `Faults`,
 //! `Alike`; `templates`, which reads, and `spans`; `catalogue`; `calls`, over a stack of parts (specs `Pending`);
-//! `passed`, `arguments` and `messages`, of one call; `checked`, of a template; `finding`, `faults`, `lines` and
+//! `passed` and `arguments`, of one call; `checked`, of a template; `finding`, `faults`, `lines` and
 //! `objects`; `laws`.
 #![tactic(auto)]
 
@@ -18,7 +18,6 @@ mod faults;
 mod finding;
 pub mod laws;
 mod lines;
-mod messages;
 mod objects;
 mod passed;
 mod spans;

@@ -37,6 +37,11 @@ pub mod ast {
     };
 }
 
+/// The texts on calls of components that are refused.
+pub mod refusals {
+    pub use tera_tree::refusals::{missing_argument, unknown_arguments, wrong_type};
+}
+
 /// The markers of a template, its tokens, and the cursor over them.
 pub mod lexer {
     pub use tera_lexer::{Cursor, Delimiters, Token, Tokens, tokenize};

@@ -1,13 +1,14 @@
-//! The arguments of a component: what one takes, and the texts of its refusals.
+//! The arguments of a component: what one takes.
 
 ghost use Rattle.std.specs.Prelude.{◌≡◌, ℕ, List, IfOk, string_bytes};
 ghost use Rattle.tera_base.specs.Errors.{Says};
 ghost use Rattle.tera_base.specs.ValueView.{value_view};
-ghost use Rattle.tera_tree.specs.Calls.{is_of, type_text, wrong_type_text, missing_text, of_type, default_of};
+ghost use Rattle.tera_tree.specs.Calls.{is_of, of_type, default_of};
 ghost use Rattle.tera_tree.specs.Outcomes.{ComesTo};
 ghost use Rattle.tera_tree.specs.View.{argument_view};
 
-use crate::ast::{ArgType, ComponentArgument};
+use crate::ast::ComponentArgument;
+use crate::refusals::{missing_argument, wrong_type};
 use std::alloc::{AllocError, Global};
 use tera_base::{Error, ErrorKind, Value};
 
@@ -32,7 +33,7 @@ impl ComponentArgument {
                 if typ.matches_value(&value) {
                     Ok(value)
                 } else {
-                    let message = wrong_type_message(alloc, name, &value, *typ);
+                    let message = wrong_type(alloc, name, &value, *typ);
                     Err(told(message))
                 }
             }
@@ -48,7 +49,7 @@ impl ComponentArgument {
         match &self.default {
             Some(value) => Ok(value.clone()?),
             None => {
-                let message = missing_message(alloc, name, self.typ, self.implicit);
+                let message = missing_argument(alloc, name, self.typ, self.implicit);
                 Err(told(message))
             }
         }
@@ -64,51 +65,5 @@ pub(crate) fn told(message: Result<String, AllocError>) -> Error
             kind: ErrorKind::Message(message),
         },
         Err(error) => Error::from(error),
-    }
-}
-
-fn wrong_type_message(
-    alloc: Global,
-    name: &str,
-    value: &Value,
-    typ: ArgType,
-) -> Result<String, AllocError>
-    ensures { IfOk result (λ m.
-        string_bytes m ≡ wrong_type_text name.now (value_view value.now) typ) }
-{
-    let kind = value.name();
-    let wanted = typ.as_str();
-    format!(in alloc;
-        "Component argument `{name}` (type: `{kind}`) does not match expected type: `{wanted}`"
-    )
-}
-
-fn missing_message(
-    alloc: Global,
-    name: &str,
-    typ: Option<ArgType>,
-    implicit: bool,
-) -> Result<String, AllocError>
-    ensures { IfOk result (λ m. string_bytes m ≡ missing_text name.now typ implicit) }
-{
-    let typ = type_message(alloc, typ)?;
-    if implicit {
-        format!(in alloc;
-            "Implicit argument `{name}`{typ} not found in context or passed directly."
-        )
-    } else {
-        format!(in alloc; "Argument `{name}`{typ} missing.")
-    }
-}
-
-fn type_message(alloc: Global, typ: Option<ArgType>) -> Result<String, AllocError>
-    ensures { IfOk result (λ m. string_bytes m ≡ type_text typ) }
-{
-    match typ {
-        Some(typ) => {
-            let name = typ.as_str();
-            format!(in alloc; " (type: `{name}`)")
-        }
-        None => Ok(String::new(alloc)),
     }
 }

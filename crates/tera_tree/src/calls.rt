@@ -1,6 +1,6 @@
 //! The contexts of calls of components.
 
-ghost use Rattle.std.specs.Prelude.{◌≡◌, ℕ, List, [], ◌++◌, map, length, IfOk, OnOk, MatchResult, Result, Option, string_bytes};
+ghost use Rattle.std.specs.Prelude.{◌≡◌, ℕ, List, [], map, length, IfOk, MatchResult, Result, Option};
 ghost use Rattle.std.specs.Borrow.{Bor};
 ghost use Rattle.std.specs.Cmp.Lexicographic.{slice_cmp};
 ghost use Rattle.std.specs.Fn.{FnReturnsAt};
@@ -15,12 +15,12 @@ ghost use Rattle.tera_base.specs.declared.errors.Error.{Error};
 ghost use Rattle.tera_base.specs.declared.values.Value.{Value};
 ghost use Rattle.tera_nodes.specs.View.{name_view};
 ghost use Rattle.tera_tree.specs.View.{argument_view, definition_view};
-ghost use Rattle.tera_tree.specs.Calls.{arguments_view, texts, unknown, names_text, unknown_text, no_value_text, found_outcome, RestNameComesTo, RestMapComesTo, RestComesTo, ArgumentComesTo, ArgumentsComeTo, BuildsContext, passed_pairs, body_pairs, once_each, quoted, possible_text, IsAmong, IsAsked, argument_names};
+ghost use Rattle.tera_tree.specs.Calls.{arguments_view, texts, unknown, found_outcome, RestNameComesTo, RestMapComesTo, RestComesTo, ArgumentComesTo, ArgumentsComeTo, BuildsContext, passed_pairs, body_pairs, IsAmong, IsAsked, argument_names};
 
 use crate::arguments::told;
 use crate::ast::{ComponentArgument, ComponentDefinition};
+use crate::refusals::{no_value, unknown_arguments};
 use std::alloc::{AllocError, Global};
-use std::collections::BTreeSet;
 use tera_base::{Context, Error, Key, Map, Value};
 
 impl ComponentArgument {
@@ -87,14 +87,8 @@ where
 {
     match get_value(name)? {
         Some(value) => Ok(value),
-        None => Err(told(no_value_message(alloc, name))),
+        None => Err(told(no_value(alloc, name))),
     }
-}
-
-fn no_value_message(alloc: Global, name: &str) -> Result<String, AllocError>
-    ensures { IfOk result (λ m. string_bytes m ≡ no_value_text name.now) }
-{
-    format!(in alloc; "Argument `{name}` was given without a value.")
 }
 
 // What is passed under the names that are no arguments, each name in the place where it came first.
@@ -187,28 +181,15 @@ impl ComponentDefinition {
                 if unknown.is_empty() {
                     Ok(None)
                 } else {
-                    let message = self.unknown_message(alloc, unknown);
+                    let message = unknown_arguments(alloc, unknown, self);
                     Err(told(message))
                 }
             }
         }
     }
 
-    fn unknown_message(&self, alloc: Global, unknown: &[&str]) -> Result<String, AllocError>
-        ensures { IfOk result (λ m. string_bytes m
-            ≡ unknown_text (texts unknown.now) (arguments_view self.now.kwargs.entries)) }
-    {
-        let arguments = self.listed_arguments(alloc)?;
-        let names = sorted_names(alloc, unknown)?;
-        let mut message = String::from_str(alloc, "Unknown argument(s) ")?;
-        push_names(&mut message, &names)?;
-        message.push_str(" in component call.")?;
-        push_possible(&mut message, &arguments)?;
-        Ok(message)
-    }
-
     // The names of the arguments, in byte order.
-    fn listed_arguments(&self, alloc: Global) -> Result<Vec<&str>, AllocError>
+    pub(crate) fn listed_arguments(&self, alloc: Global) -> Result<Vec<&str>, AllocError>
         ensures names { IfOk result (λ v.
             texts v.items ≡ map (λ a. a.0) (arguments_view self.now.kwargs.entries)) }
         ensures ordered { IfOk result (λ v.
@@ -285,62 +266,4 @@ fn named_body(body: Option<Value>) -> Option<(&'static str, Value)>
         Some(value) => Some(("body", value)),
         None => None,
     }
-}
-
-// The names once each, in byte order.
-#[tactic(auto, using(crate::proofs::CallNames::texts_insert))]
-fn sorted_names<'a>(alloc: Global, names: &[&'a str]) -> Result<Vec<&'a str>, AllocError>
-    ensures { IfOk result (λ v. texts v.items ≡ once_each (texts names.now)) }
-{
-    let mut sorted = BTreeSet::new(alloc);
-    for name in names {
-        sorted.insert(*name)?;
-    }
-    listed_names(alloc, &sorted)
-}
-
-// The names of a set, in its order.
-fn listed_names<'a>(alloc: Global, sorted: &BTreeSet<&'a str>) -> Result<Vec<&'a str>, AllocError>
-    ensures { IfOk result (λ v. v.items ≡ sorted.now.keys) }
-{
-    let mut names = Vec::new(alloc);
-    for name in sorted {
-        names.push(*name)?;
-    }
-    Ok(names)
-}
-
-#[tactic(auto, using(crate::proofs::CallNames::possible_texts))]
-fn push_possible(text: &mut String, names: &[&str]) -> Result<(), AllocError>
-    ensures { OnOk result (string_bytes text.new
-        ≡ string_bytes text.old ++ possible_text (texts names.now)) }
-{
-    if names.is_empty() {
-        return Ok(());
-    }
-    text.push_str(" Possible argument(s) are: ")?;
-    push_names(text, names)?;
-    Ok(())
-}
-
-fn push_names(text: &mut String, names: &[&str]) -> Result<(), AllocError>
-    ensures { OnOk result (string_bytes text.new
-        ≡ string_bytes text.old ++ names_text (texts names.now)) }
-{
-    if let Some((first, others)) = names.split_first() {
-        push_quoted(text, first)?;
-        for name in others {
-            text.push_str(", ")?;
-            push_quoted(text, name)?;
-        }
-    }
-    Ok(())
-}
-
-fn push_quoted(text: &mut String, name: &str) -> Result<(), AllocError>
-    ensures { OnOk result (string_bytes text.new ≡ string_bytes text.old ++ quoted name.now) }
-{
-    text.push_str("`")?;
-    text.push_str(name)?;
-    text.push_str("`")
 }

@@ -5,9 +5,9 @@
 //! is none (`BuildsContext`), and what a catalogue of components is told. It stands on `tera_nodes`, and passes its
 //! public names on.
 //!
-//! In the order of reading: `ast` and `types`; `arguments`, what one takes; `calls`, the contexts; `infos` and
-//! `argument_infos`, for a catalogue; `definitions`, copies and equality; specs `Tree`, `View`, `Calls` and `Outcomes`.
-//! Then `laws`.
+//! In the order of reading: `ast` and `types`; `arguments`, what one takes; `refusals`, texts; `calls`, the contexts;
+//! `infos` and `argument_infos`, for a catalogue; `definitions`, copies and equality; specs `Tree`, `View`, `Calls` and
+//! `Outcomes`. Then `laws`.
 #![tactic(auto)]
 
 mod argument_infos;
@@ -17,6 +17,7 @@ mod calls;
 mod definitions;
 mod infos;
 pub mod laws;
+pub mod refusals;
 mod types;
 
 pub use argument_infos::{ComponentArg, ComponentArgType};

@@ -1,5 +1,5 @@
 use Rattle.std.proofs.Common.{◌++◌, sym, ap, ◌∙◌, append_assoc, append-nil}
-use Rattle.tera_tree.proofs.calls.listed_names.Goals as goal
+use Rattle.tera_tree.proofs.refusals.listed_names.Goals as goal
 
 pub loop-name-preserved : goal.loop-name-preserved
 loop-name-preserved c =

@@ -1,7 +1,7 @@
 use Rattle.std.proofs.Common.{◌++◌, codes, string_bytes, sym, ap, ◌∙◌, append_assoc}
 use Rattle.tera_tree.specs.Calls.{texts, names_text}
 use Rattle.tera_tree.proofs.CallNames.{possible_some}
-use Rattle.tera_tree.proofs.calls.push_possible.Goals as goal
+use Rattle.tera_tree.proofs.refusals.push_possible.Goals as goal
 
 pub returns : goal.returns
 returns c =

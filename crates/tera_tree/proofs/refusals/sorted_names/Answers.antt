@@ -1,7 +1,7 @@
 use Rattle.std.proofs.Common.{◌+◌, [], drop, ap, ◌∙◌, arith}
 use Rattle.tera_tree.specs.Calls.{texts, place_names}
 use Rattle.tera_tree.proofs.CallNames.{Name, place_next}
-use Rattle.tera_tree.proofs.calls.sorted_names.Goals as goal
+use Rattle.tera_tree.proofs.refusals.sorted_names.Goals as goal
 
 -- what stands in no list
 no_name : Name
