@@ -3,7 +3,7 @@
 //!
 //! Each call takes a source, six markers of two bytes, one behind the other, and limits; parses anew; and answers the
 //! number of a [`Status`]. `TellsTree`, `TellsJson`, `TellsFault` and `TellsNote` say what it leaves in the buffer and
-//! tells beside it, by the words of `tera_parser`, `tera_show` and `tera_tree_json`, on which it stands.
+//! tells beside it, by the words of `tera_parser`, `tera_tree_text` and `tera_tree_json`, on which it stands.
 //!
 //! In the order of reading: `status` and `shapes`, the types; specs `Statuses`, what a buffer holds, `Asked`, what can
 //! be read, and `Told`. Then `buffer`; `markers`; `parsed`, with specs `WithoutTree`; `trees`; `faults`.

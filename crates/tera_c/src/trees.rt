@@ -12,8 +12,8 @@ use crate::parsed::{Refusal, parsed};
 use crate::shapes::AskedLimits;
 use crate::status::Status;
 use std::alloc::Global;
-use tera_show::tree_text;
 use tera_tree_json::tree_json;
+use tera_tree_text::tree_text;
 
 /// The text of the tree of the source, between the markers that stand in these bytes.
 pub(crate) fn tree_of(
@@ -56,17 +56,10 @@ pub(crate) fn json_of(
         × HasFault (limits_at limits.now) markers.now source.now report))) }
 {
     match parsed(alloc, source, markers, limits) {
-        Ok(output) => {
-            match tree_json(
-                alloc,
-                &output.parent,
-                &output.component_definitions,
-                &output.nodes,
-            ) {
-                Ok(json) => Ok(json),
-                Err(_) => Err(Status::Memory),
-            }
-        }
+        Ok(output) => match tree_json(alloc, &output) {
+            Ok(json) => Ok(json),
+            Err(_) => Err(Status::Memory),
+        },
         Err(Refusal::Fault(_)) => Err(Status::Faulty),
         Err(Refusal::Untold(status)) => Err(status),
     }

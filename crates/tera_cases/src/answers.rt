@@ -120,10 +120,8 @@ fn detail_of(shown: Shown) -> Detail {
 }
 
 fn lines(alloc: Global, options: &Options, output: &ParserOutput) -> Result<String, AllocError> {
-    match tree_text(alloc, output) {
-        Ok(text) => String::from_str(alloc, told_lines(options, text.as_str())),
-        Err(_) => Err(AllocError),
-    }
+    let text = tree_text(alloc, output)?;
+    String::from_str(alloc, told_lines(options, text.as_str()))
 }
 
 // Whether six markers are valid, or the rule that they break.

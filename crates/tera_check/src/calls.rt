@@ -10,7 +10,7 @@ ghost use Rattle.tera_nodes.specs.declared.ast.ComponentCall.{out-ComponentCall}
 ghost use Rattle.tera_nodes.specs.declared.ast.FilterSection.{out-FilterSection};
 ghost use Rattle.tera_nodes.specs.declared.ast.ForLoop.{out-ForLoop};
 ghost use Rattle.tera_nodes.specs.declared.ast.If.{out-If};
-ghost use Rattle.tera_statements.specs.Outputs.{output_view};
+ghost use Rattle.tera_tree.specs.Outputs.{output_view};
 ghost use Rattle.tera_tree.specs.View.{definition_view};
 ghost use Rattle.tera_check.specs.Calls.{calls_in, calls_in_maybe, calls_in_filters, calls_in_args, calls_in_item, calls_in_items, calls_in_entry, calls_in_entries, calls_in_node, calls_in_nodes, calls_in_definition, calls_of};
 ghost use Rattle.tera_check.specs.Pending.{seen, calls_in_part, to_come};

@@ -10,7 +10,7 @@ ghost use Rattle.tera_check.specs.declared.finding.Finding.{Finding};
 ghost use Rattle.tera_base.specs.Spanned.{node_of, span_of};
 ghost use Rattle.tera_nodes.specs.View.{call_view, entries_view};
 ghost use Rattle.tera_nodes.specs.declared.ast.ComponentCall.{out-ComponentCall};
-ghost use Rattle.tera_statements.specs.Outputs.{output_view};
+ghost use Rattle.tera_tree.specs.Outputs.{output_view};
 ghost use Rattle.tera_tree.specs.View.{definition_view};
 ghost use Rattle.tera_check.specs.Calls.{calls_of};
 ghost use Rattle.tera_check.specs.Findings.{NoteOf, place_of};

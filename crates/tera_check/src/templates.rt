@@ -9,7 +9,7 @@ ghost use Rattle.tera_grammar.specs.statements.Top.{Derives, DerivesNames};
 ghost use Rattle.tera_parser.specs.Notes.{NotesName};
 ghost use Rattle.tera_parser.specs.Refusal.{Refuses};
 ghost use Rattle.tera_statements.specs.Known.{AreNames};
-ghost use Rattle.tera_statements.specs.Outputs.{output_view};
+ghost use Rattle.tera_tree.specs.Outputs.{output_view};
 ghost use Rattle.tera_tree.specs.Tree.{Output};
 ghost use Rattle.tera_check.specs.Faults.{IsSyntaxError, is_memory};
 

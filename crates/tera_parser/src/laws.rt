@@ -23,7 +23,7 @@ ghost use Rattle.tera_source.specs.Outermost.{EachOfBody};
 ghost use Rattle.tera_source.specs.Nodes as trees;
 ghost use Rattle.tera_source.specs.Subexpressions.{EachPart};
 ghost use Rattle.tera_source.specs.Printing.{PrintsBack};
-ghost use Rattle.tera_statements.specs.Outputs.{output_view};
+ghost use Rattle.tera_tree.specs.Outputs.{output_view};
 
 use tera_statements::ParserOutput;
 

@@ -70,18 +70,9 @@ fn shown<R: Print + Eprint + AllocGlobal>(
 
 fn tree_of(alloc: Global, json: bool, output: &ParserOutput) -> Result<String, AllocError> {
     if !json {
-        return match tree_text(alloc, output) {
-            Ok(text) => Ok(text),
-            Err(_) => Err(AllocError),
-        };
+        return tree_text(alloc, output);
     }
-    let ParserOutput {
-        parent,
-        component_definitions,
-        nodes,
-        ..
-    } = output;
-    let mut text = tree_json(alloc, parent, component_definitions, nodes)?;
+    let mut text = tree_json(alloc, output)?;
     text.push('\n')?;
     Ok(text)
 }

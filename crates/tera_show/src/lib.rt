@@ -3,11 +3,10 @@
 //! It takes a reader and a writer. What it writes is the text of the tree, or the line of the fault (`IsShown`). It
 //! stands on `tera_parser` and `tera_tree_text`.
 //!
-//! In the order of reading: specs `Shown`; `stream`, from what is read to what is written; `text`, of the tree.
+//! In the order of reading: specs `Shown`; `stream`, from what is read to what is written.
 #![tactic(auto)]
 
 mod stream;
-mod text;
 
 pub use stream::{Outcome, ShowFault, show, show_with, status};
-pub use text::tree_text;
+pub use tera_tree_text::tree_text;

@@ -7,13 +7,13 @@ ghost use Rattle.tera_expr_parts.specs.Rooms.{AreValid, limits_of};
 ghost use Rattle.tera_tree_text.specs.TreeText.{text_of};
 ghost use Rattle.tera_show.specs.Shown.{IsShown, IsAnswer, fault_line, status_of};
 
-use crate::text::tree_text;
 use std::alloc::{AllocError, AllocFailed, Global};
 use std::io::{Read, Write};
 use tera_parser::Parser;
 use tera_parser::expr::Limits;
 use tera_parser::lexer::Delimiters;
 use tera_parser::value::{Error, ErrorKind, Span};
+use tera_tree_text::tree_text;
 
 /// What was shown.
 #[derive(Clone, Copy, Debug, PartialEq, Eq)]
@@ -145,10 +145,10 @@ fn answer(alloc: Global, input: &[u8], limits: Limits) -> Result<(Outcome, Strin
     };
     let parser = Parser::with_limits(alloc, "input", source, Delimiters::default(), limits);
     match parser.parse() {
-        Ok(output) => match tree_text(alloc, &output) {
-            Ok(text) => Ok((Outcome::Tree, text)),
-            Err(_) => Err(ShowFault::Memory),
-        },
+        Ok(output) => {
+            let text = tree_text(alloc, &output)?;
+            Ok((Outcome::Tree, text))
+        }
         Err(error) => match error.kind {
             ErrorKind::SyntaxError(report) => {
                 let line = fault_line(alloc, report.message.as_str(), &report.span)?;

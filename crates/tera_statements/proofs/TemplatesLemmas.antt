@@ -33,7 +33,7 @@ use Rattle.tera_statements.specs.declared.fronts.Front.TheVariants as fronts
 use Rattle.tera_statements.specs.declared.fronts.Opener.TheVariants as openers
 use Rattle.tera_statements.specs.declared.templates.Phase.{Phase}
 use Rattle.tera_statements.specs.declared.names.Names.{Names}
-use Rattle.tera_statements.specs.declared.outputs.ParserOutput.{ParserOutput}
+use Rattle.tera_tree.specs.declared.outputs.ParserOutput.{ParserOutput}
 use Rattle.tera_statements.proofs.ItemsLemmas.{opens_tag, step_holds}
 
 -- a body may open

@@ -13,4 +13,3 @@ pub mod Items
 pub mod Parameters
 pub mod Components
 pub mod Templates
-pub mod Outputs

@@ -23,8 +23,8 @@ use Rattle.tera_expect.specs.Taking.{Fails}
 use Rattle.tera_statements.specs.Known.{AreNames}
 use Rattle.tera_statements.specs.declared.added.Added.{Added}
 use Rattle.tera_statements.specs.declared.names.Names.{Names}
-use Rattle.tera_statements.specs.Outputs.{output_view}
-use Rattle.tera_statements.specs.declared.outputs.ParserOutput.{ParserOutput}
+use Rattle.tera_tree.specs.Outputs.{output_view}
+use Rattle.tera_tree.specs.declared.outputs.ParserOutput.{ParserOutput}
 use Rattle.tera_statements.specs.declared.templates.Phase.{Phase}
 use Rattle.tera_statements.specs.declared.templates.Phase.TheVariants.{Starting, Standing, Extending}
 use Rattle.tera_statements.specs.declared.templates.Weight.{Weight}

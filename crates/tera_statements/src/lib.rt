@@ -1,12 +1,12 @@
 //! The statements of the template engine Tera, and whole templates.
 //!
-//! It takes a cursor and limits, and gives a `ParserOutput` (`output_view`) with its `Names` (`seen_of`), as `template` of
-//! `tera_grammar` reads it. It stands on `tera_expr_reader`. Items and bodies hold one another: their functions are proved together, as the
-//! cycle `bodies`, and the answers to their goals stand in `proofs/+bodies`.
+//! It takes a cursor and limits, and gives a `ParserOutput` with its `Names` (`seen_of`), as `template` of `tera_grammar`
+//! reads it. It stands on `tera_expr_reader`. Items and bodies hold one another: their functions are proved together, as
+//! the cycle `bodies`, and the answers to their goals stand in `proofs/+bodies`.
 //!
 //! In the order of reading: `templates`, the top level; `bodies`; `items`, which `fronts` tells apart; the tags:
 //! `simple`, `blocks`, `loops`, `conditions`, `captures`, and `components` with `parameters`; `heads` and `parts`, what
-//! stands in tags; `settings`, `around`, `names`, `added` and `outputs`, what these hand on; `faults`.
+//! stands in tags; `settings`, `around`, `names` and `added`, what these hand on; `faults`.
 #![tactic(auto)]
 
 mod added;
@@ -22,7 +22,6 @@ mod heads;
 mod items;
 mod loops;
 mod names;
-mod outputs;
 mod parameters;
 mod parts;
 mod settings;
@@ -30,5 +29,5 @@ mod simple;
 mod templates;
 
 pub use names::Names;
-pub use outputs::ParserOutput;
 pub use templates::read_output;
+pub use tera_tree::ParserOutput;

@@ -9,7 +9,7 @@ ghost use Rattle.tera_grammar.specs.statements.Reading.Meeting.{Seen};
 ghost use Rattle.tera_grammar.specs.statements.Reading.Loops.{node_weight, turn, weight, with_added};
 ghost use Rattle.tera_grammar.specs.statements.Reading.TagParts.{front};
 ghost use Rattle.tera_statements.specs.Adding.{added_view, here};
-ghost use Rattle.tera_statements.specs.Outputs.{output_view};
+ghost use Rattle.tera_tree.specs.Outputs.{output_view};
 ghost use Rattle.tera_statements.specs.Items.{AreEmptyTexts, GivesStep, GoesByItem};
 ghost use Rattle.tera_statements.specs.Kinds.{kind_of};
 ghost use Rattle.tera_expr_parts.specs.Rooms.{AreValid, limits_of};
@@ -26,7 +26,6 @@ use crate::faults::{again_extended, ignored, late_extended};
 use crate::fronts::{Front, Opener};
 use crate::items::{eat_text, enter, item};
 use crate::names::Names;
-use crate::outputs::ParserOutput;
 use crate::parts::{quote, unknown_tag};
 use crate::settings::Setting;
 use crate::simple::Extension;
@@ -34,49 +33,47 @@ use std::alloc::Global;
 use tera_base::{Error, Span};
 use tera_expr_parts::Limits;
 use tera_lexer::Cursor;
-use tera_tree::Node;
+use tera_tree::{Node, ParserOutput};
 
-impl ParserOutput {
-    // The name of the template that it extends, as far as it is known.
-    fn parent(&self) -> Option<&str> {
-        match &self.parent {
-            Some(name) => Some(name.as_str()),
-            None => None,
+// The name of the template that this one extends, as far as it is known.
+fn parent_of(output: &ParserOutput) -> Option<&str> {
+    match &output.parent {
+        Some(name) => Some(name.as_str()),
+        None => None,
+    }
+}
+
+// Adds a text.
+fn add_text(output: &mut ParserOutput, alloc: Global, text: &str) -> Result<(), Error>
+    ensures added { OnOk result (output_view output.new ≡
+        with_added (output_view output.old) (text_adds text.now)) }
+    ensures refusal { IfErr result IsMemory }
+    ensures empty { IfErr result (λ _. text.now ≡ [] → ⊥) }
+{
+    push_text(&mut output.nodes, alloc, text)?;
+    Ok(())
+}
+
+// Adds what an item does.
+fn add(output: &mut ParserOutput, added: Added) -> Result<(), Error>
+    ensures added { OnOk result (output_view output.new
+        ≡ with_added (output_view output.old) (added_view added)) }
+    ensures refusal { IfErr result IsMemory }
+    ensures nothing { IfErr result (λ _. added_view added ≡ AddsNothing → ⊥) }
+{
+    match added {
+        Added::Nothing => Ok(()),
+        Added::Node(node) => {
+            output.nodes.push(node)?;
+            Ok(())
         }
-    }
-
-    // Takes a text.
-    fn add_text(&mut self, alloc: Global, text: &str) -> Result<(), Error>
-        ensures added { OnOk result (output_view self.new ≡
-            with_added (output_view self.old) (text_adds text.now)) }
-        ensures refusal { IfErr result IsMemory }
-        ensures empty { IfErr result (λ _. text.now ≡ [] → ⊥) }
-    {
-        push_text(&mut self.nodes, alloc, text)?;
-        Ok(())
-    }
-
-    // Takes what an item adds.
-    fn add(&mut self, added: Added) -> Result<(), Error>
-        ensures added { OnOk result (output_view self.new
-            ≡ with_added (output_view self.old) (added_view added)) }
-        ensures refusal { IfErr result IsMemory }
-        ensures nothing { IfErr result (λ _. added_view added ≡ AddsNothing → ⊥) }
-    {
-        match added {
-            Added::Nothing => Ok(()),
-            Added::Node(node) => {
-                self.nodes.push(node)?;
-                Ok(())
-            }
-            Added::Parent(name) => {
-                self.parent = Some(name);
-                Ok(())
-            }
-            Added::Definition(definition) => {
-                self.component_definitions.push(definition)?;
-                Ok(())
-            }
+        Added::Parent(name) => {
+            output.parent = Some(name);
+            Ok(())
+        }
+        Added::Definition(definition) => {
+            output.component_definitions.push(definition)?;
+            Ok(())
         }
     }
 }
@@ -238,7 +235,7 @@ fn text_phase(
     let Some(next) = phase.behind_text(text) else {
         return Err(ignored(cursor, None));
     };
-    output.add_text(cursor.alloc(), text)?;
+    add_text(output, cursor.alloc(), text)?;
     Ok(Some(next))
 }
 
@@ -257,10 +254,10 @@ fn item_phase(
     ensures empty { IfErr result (λ _. AreEmptyTexts cursor.old.left → ⊥) }
     ensures later { GoesByItem result cursor.old cursor.new }
 {
-    let Some((added, next)) = next_item(setting, cursor, names, output.parent(), phase)? else {
+    let Some((added, next)) = next_item(setting, cursor, names, parent_of(output), phase)? else {
         return Ok(None);
     };
-    output.add(added)?;
+    add(output, added)?;
     Ok(Some(next))
 }
 

@@ -1,5 +1,6 @@
 pub mod Tree
 pub mod View
+pub mod Outputs
 pub mod Types
 pub mod Definitions
 pub mod DefinitionLaws

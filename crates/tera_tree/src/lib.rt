@@ -1,13 +1,13 @@
-//! The tree of a template of the engine Tera: definitions of components, with the expressions and nodes of
-//! `tera_nodes`.
+//! The tree of a template of the engine Tera: a `ParserOutput` of definitions of components, with the expressions and
+//! nodes of `tera_nodes`.
 //!
 //! It takes the arguments of a call and names, and gives definitions of components, the context of a call or why there
-//! is none (`BuildsContext`), and what a catalogue of components is told. It stands on `tera_nodes`, and passes its
-//! public names on.
+//! is none (`BuildsContext`), what a catalogue of components is told, and what a template is read as (`output_view`). It
+//! stands on `tera_nodes`, and passes its public names on.
 //!
 //! In the order of reading: `ast` and `types`; `arguments`, what one takes; `refusals`, texts; `calls`, the contexts;
-//! `infos` and `argument_infos`, for a catalogue; `definitions`, copies and equality; specs `Tree`, `View`, `Calls` and
-//! `Outcomes`. Then `laws`.
+//! `infos` and `argument_infos`, for a catalogue; `definitions`, copies and equality; `outputs`, whole trees; specs `Tree`,
+//! `View`, `Outputs`, `Calls` and `Outcomes`. Then `laws`.
 #![tactic(auto)]
 
 mod argument_infos;
@@ -17,12 +17,14 @@ mod calls;
 mod definitions;
 mod infos;
 pub mod laws;
+mod outputs;
 pub mod refusals;
 mod types;
 
 pub use argument_infos::{ComponentArg, ComponentArgType};
 pub use ast::{ArgType, ComponentArgument, ComponentDefinition};
 pub use infos::ComponentInfo;
+pub use outputs::ParserOutput;
 pub use tera_nodes::{
     Array, ArrayEntry, ArrayEntryOf, ArrayOf, BinaryOperation, BinaryOperationOf, BinaryOperator,
     Block, BlockOf, BlockSet, ComponentCall, Expression, Filter, FilterOf, FilterSection, ForLoop,

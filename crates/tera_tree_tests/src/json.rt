@@ -4,7 +4,7 @@ use crate::making::{Made, both, constant, one};
 use std::alloc::{AllocError, Global};
 use std::test::Fail;
 use tera_base::Value;
-use tera_tree::{ComponentDefinition, Expression, Node};
+use tera_tree::{ComponentDefinition, Expression, Node, ParserOutput};
 use tera_tree_json::tree_json;
 
 const DEFINITION: &str =
@@ -20,10 +20,14 @@ fn shown(expression: Made<Expression>) -> Made<Node> {
 fn written(alloc: Global, value: Value) -> Result<String, AllocError> {
     let nodes = one(alloc, shown(constant(alloc, value)));
     let definitions = one(alloc, Ok(ComponentDefinition::empty(alloc)));
-    let (nodes, definitions) = both(nodes, definitions)?;
-    let json = tree_json(alloc, &None, &definitions, &nodes);
-    drop(nodes);
-    drop(definitions);
+    let (nodes, component_definitions) = both(nodes, definitions)?;
+    let output = ParserOutput {
+        parent: None,
+        nodes,
+        component_definitions,
+    };
+    let json = tree_json(alloc, &output);
+    drop(output);
     json
 }
 

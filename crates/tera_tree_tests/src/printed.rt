@@ -4,8 +4,10 @@ use crate::making::{Made, both, constant, one, variable};
 use std::alloc::{AllocError, Global};
 use std::test::Fail;
 use tera_base::{Span, Value};
-use tera_tree::{BinaryOperator, ComponentArgument, ComponentDefinition, Expression, Node, build};
-use tera_tree_text::push_definition;
+use tera_tree::{
+    BinaryOperator, ComponentArgument, ComponentDefinition, Expression, Node, ParserOutput, build,
+};
+use tera_tree_text::tree_text;
 
 // An operation on the variables `a` and `b`.
 fn operation(alloc: Global, operator: BinaryOperator) -> Made<Expression> {
@@ -74,11 +76,15 @@ fn definition(alloc: Global) -> Result<ComponentDefinition, AllocError> {
 
 #[test]
 fn an_argument_whose_name_is_no_name(rt: HostRuntime) -> Result<(), Fail> {
-    let definition = definition(rt.alloc())?;
-    let mut lines = String::new(rt.alloc());
-    let written = push_definition(&mut lines, &definition);
-    drop(definition);
-    written?;
+    let component_definitions = one(rt.alloc(), definition(rt.alloc()))?;
+    let output = ParserOutput {
+        parent: None,
+        nodes: Vec::new(rt.alloc()),
+        component_definitions,
+    };
+    let lines = tree_text(rt.alloc(), &output);
+    drop(output);
+    let lines = lines?;
     assert!(rt;
         lines.as_str() == "component \n  arg z\n  arg é\n",
         "{lines}"

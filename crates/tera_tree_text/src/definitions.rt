@@ -17,7 +17,10 @@ use tera_base::Value;
 use tera_tree::{ArgType, ComponentArgument, ComponentDefinition, Node};
 
 /// The lines of a definition.
-pub fn push_definition(out: &mut String, definition: &ComponentDefinition) -> Result<(), AllocError>
+pub(crate) fn push_definition(
+    out: &mut String,
+    definition: &ComponentDefinition,
+) -> Result<(), AllocError>
     ensures { OnOk result (string_bytes out.new
         ≡ string_bytes out.old ++ definition_text (definition_view definition.now)) }
 {

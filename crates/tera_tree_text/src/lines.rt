@@ -56,7 +56,12 @@ pub(crate) fn push_worded(
 }
 
 /// A line of a word and a text between quotes.
-pub fn push_named(out: &mut String, indent: &str, word: &str, name: &str) -> Result<(), AllocError>
+pub(crate) fn push_named(
+    out: &mut String,
+    indent: &str,
+    word: &str,
+    name: &str,
+) -> Result<(), AllocError>
     ensures { OnOk result (string_bytes out.new
         ≡ string_bytes out.old ++ line indent.now (word.now ++ quoted name.now)) }
 {
@@ -242,7 +247,7 @@ fn deeper(out: &String, indent: &str) -> Result<String, AllocError>
 
 /// The lines of the nodes; an `If` begins with the word.
 #[cycle(lines)]
-pub fn push_nodes(
+pub(crate) fn push_nodes(
     out: &mut String,
     word: &str,
     indent: &str,

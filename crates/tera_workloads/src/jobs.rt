@@ -15,8 +15,8 @@ use tera_parser::expr::source_of;
 use tera_parser::lexer::Delimiters;
 use tera_parser::value::Error;
 use tera_parser::{Parser, ParserOutput};
-use tera_show::tree_text;
 use tera_tree_json::tree_json;
+use tera_tree_text::tree_text;
 
 /// A job.
 #[derive(Clone, Copy)]
@@ -108,7 +108,7 @@ fn read(
         Ok(output) => {
             put_output(digest, &output);
             if is_whole {
-                put_text(alloc, digest, &output);
+                put_text(alloc, digest, &output)?;
             }
         }
         Err(error) => put_error(digest, &error),
@@ -116,11 +116,10 @@ fn read(
     Ok(())
 }
 
-fn put_text(alloc: Global, digest: &mut Digest, output: &ParserOutput) {
-    match tree_text(alloc, output) {
-        Ok(text) => digest.put_bytes(text.as_bytes()),
-        Err(error) => put_error(digest, &error),
-    }
+fn put_text(alloc: Global, digest: &mut Digest, output: &ParserOutput) -> Result<(), AllocError> {
+    let text = tree_text(alloc, output)?;
+    digest.put_bytes(text.as_bytes());
+    Ok(())
 }
 
 fn laid_out(
@@ -158,7 +157,7 @@ fn handed_on(
 fn hand_on(alloc: Global, digest: &mut Digest, source: &str) -> Result<(), AllocError> {
     match parsed(alloc, source) {
         Ok(output) => {
-            put_text(alloc, digest, &output);
+            put_text(alloc, digest, &output)?;
             put_json(alloc, digest, &output)?;
             put_sources(alloc, digest, &output.nodes);
         }
@@ -168,12 +167,7 @@ fn hand_on(alloc: Global, digest: &mut Digest, source: &str) -> Result<(), Alloc
 }
 
 fn put_json(alloc: Global, digest: &mut Digest, output: &ParserOutput) -> Result<(), AllocError> {
-    let json = tree_json(
-        alloc,
-        &output.parent,
-        &output.component_definitions,
-        &output.nodes,
-    )?;
+    let json = tree_json(alloc, output)?;
     digest.put_bytes(json.as_bytes());
     Ok(())
 }

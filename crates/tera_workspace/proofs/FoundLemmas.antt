@@ -4,8 +4,8 @@ use Rattle.std.specs.List.Sorted.{IsPermutation}
 use Rattle.std.specs.declared.alloc.Global.{Global}
 use Rattle.tera_base.specs.ErrorView.{error_view}
 use Rattle.tera_base.specs.declared.errors.Error.{Error}
-use Rattle.tera_statements.specs.Outputs.{output_view}
-use Rattle.tera_statements.specs.declared.outputs.ParserOutput.{ParserOutput}
+use Rattle.tera_tree.specs.Outputs.{output_view}
+use Rattle.tera_tree.specs.declared.outputs.ParserOutput.{ParserOutput}
 use Rattle.tera_check.specs.Alike.{names_in, AreAlikeIfAny}
 use Rattle.tera_check.specs.Findings.{finding_view, IsOfError}
 use Rattle.tera_check.specs.Judged.{KnownVal}

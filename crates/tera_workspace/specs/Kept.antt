@@ -6,7 +6,7 @@ use Rattle.std.specs.List.{AllByRecursion, list_any}
 use Rattle.std.specs.Ordering.{nat_cmp, is_gt}
 use Rattle.std.specs.Str.{bytes_eq}
 use Rattle.std.specs.declared.alloc.Global.{Global}
-use Rattle.tera_statements.specs.Outputs.{output_view}
+use Rattle.tera_tree.specs.Outputs.{output_view}
 use Rattle.tera_check.specs.Alike.{names_in}
 use Rattle.tera_check.specs.declared.templates.Template.{Template}
 use Rattle.text_edits.specs.declared.positions.Encoding.{Encoding}

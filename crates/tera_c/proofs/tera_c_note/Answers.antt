@@ -1,5 +1,5 @@
 use Rattle.std.proofs.Common.{refl, inl, inr}
-use Rattle.tera_statements.specs.Outputs.{output_view}
+use Rattle.tera_tree.specs.Outputs.{output_view}
 use Rattle.tera_c.specs.declared.status.Status.TheVariants.{Nothing}
 use Rattle.tera_c.proofs.tera_c_note.Goals as goal
 

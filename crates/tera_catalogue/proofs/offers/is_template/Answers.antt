@@ -3,8 +3,8 @@ use Rattle.std.specs.Bool.{OnTrue}
 use Rattle.tera_grammar.specs.Limits.{usual}
 use Rattle.tera_grammar.specs.statements.Top.{Derives}
 use Rattle.tera_lexer.specs.grammar.Marks.{default_marks}
-use Rattle.tera_statements.specs.Outputs.{output_view}
-use Rattle.tera_statements.specs.declared.outputs.ParserOutput.{ParserOutput}
+use Rattle.tera_tree.specs.Outputs.{output_view}
+use Rattle.tera_tree.specs.declared.outputs.ParserOutput.{ParserOutput}
 use Rattle.tera_catalogue.specs.Offered.{IsTemplateText}
 use Rattle.tera_catalogue.proofs.offers.is_template.Goals as goal
 

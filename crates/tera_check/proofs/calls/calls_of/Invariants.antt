@@ -1,5 +1,5 @@
 use Rattle.std.proofs.Common.{◌≡◌, ◌++◌, map, reverse}
-use Rattle.tera_statements.specs.Outputs.{output_view}
+use Rattle.tera_tree.specs.Outputs.{output_view}
 use Rattle.tera_check.specs.Calls.{calls_of}
 use Rattle.tera_check.specs.Pending.{seen, to_come}
 use Rattle.tera_check.proofs.calls.calls_of.Given as goal

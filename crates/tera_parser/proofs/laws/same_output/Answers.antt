@@ -1,4 +1,4 @@
-use Rattle.tera_statements.specs.Outputs.{output_view}
+use Rattle.tera_tree.specs.Outputs.{output_view}
 use Rattle.tera_tree.specs.DefinitionLaws.{output_decides}
 use Rattle.tera_parser.proofs.laws.same_output.Goals as goal
 

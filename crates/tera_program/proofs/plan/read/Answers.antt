@@ -6,7 +6,7 @@ use Rattle.tera_grammar.specs.statements.Top.{Derives}
 use Rattle.tera_parser.specs.Job.{Job}
 use Rattle.tera_parser.specs.Notes.{NotesName}
 use Rattle.tera_parser.specs.Refusal.{Refuses}
-use Rattle.tera_statements.specs.Outputs.{output_view}
+use Rattle.tera_tree.specs.Outputs.{output_view}
 use Rattle.tera_tree.specs.Tree.{Output}
 use Rattle.tera_program.proofs.plan.read.Goals as goal
 

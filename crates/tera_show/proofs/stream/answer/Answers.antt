@@ -4,7 +4,7 @@ use Rattle.tera_grammar.specs.Limits.{Limits}
 use Rattle.tera_expr_parts.specs.Rooms.{limits_of}
 use Rattle.tera_parser.specs.Job.{Job}
 use Rattle.tera_grammar.specs.statements.Top.{Derives}
-use Rattle.tera_statements.specs.Outputs.{output_view}
+use Rattle.tera_tree.specs.Outputs.{output_view}
 use Rattle.tera_tree.specs.Tree.{Output}
 use Rattle.tera_base.specs.Errors.{IsMemoryKind}
 use Rattle.tera_parser.specs.Refusal.{Refuses}
@@ -22,11 +22,11 @@ job l name a b s t j is marks source P =
       λ p. subst (λ i. P i j.marks j.source) (sym within) (subst (λ m. P l m j.source) (sym first) (subst (λ x. P l b x) (sym second) p)),
     )
 
-pub returns-in-Ok-tree_text-clause-ok : goal.returns-in-Ok-tree_text-clause-ok
-returns-in-Ok-tree_text-clause-ok c =
+pub returns-in-Ok-parse-clause-ok : goal.returns-in-Ok-parse-clause-ok
+returns-in-Ok-parse-clause-ok c =
     let text = c.in-Ok.ensures.cases in
     let same = job (limits_of c.args.limits) _ _ default_marks _ c.args.input.now c.with_limits-parser.result c.with_limits-parser.ensures c.default.ensures.0 text.0 in
-    (text.1, (output_view c.in-Ok-parse.output, (same (λ l m s. Derives l m s (output_view c.in-Ok-parse.output))).0 c.in-Ok-parse.ensures.sound, c.in-Ok-tree_text.ensures.ok))
+    (text.1, (output_view c.in-Ok-parse.output, (same (λ l m s. Derives l m s (output_view c.in-Ok-parse.output))).0 c.in-Ok-parse.ensures.sound, c.in_ok-text.ensures))
 
 pub returns-in-SyntaxError-clause-ok : goal.returns-in-SyntaxError-clause-ok
 returns-in-SyntaxError-clause-ok c =

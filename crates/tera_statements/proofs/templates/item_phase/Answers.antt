@@ -4,7 +4,7 @@ use Rattle.tera_grammar.specs.statements.Reading.{body}
 use Rattle.tera_grammar.specs.statements.Reading.Loops.{with_added}
 use Rattle.tera_expr_parts.specs.Rooms.{limits_of}
 use Rattle.tera_statements.specs.Adding.{seen_of}
-use Rattle.tera_statements.specs.Outputs.{output_view}
+use Rattle.tera_tree.specs.Outputs.{output_view}
 use Rattle.tera_statements.specs.Templates.{below_top}
 use Rattle.tera_statements.proofs.RefusalLemmas.{empty_adds}
 use Rattle.tera_statements.proofs.templates.item_phase.Goals as goal

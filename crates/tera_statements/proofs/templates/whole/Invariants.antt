@@ -3,7 +3,7 @@ use Rattle.tera_statements.specs.Adding.{here}
 use Rattle.tera_expr_parts.specs.Rooms.{limits_of}
 use Rattle.tera_expect.specs.Taking.{GoesOn}
 use Rattle.tera_statements.specs.Templates.{TopOf, phase_of}
-use Rattle.tera_statements.specs.Outputs.{output_view}
+use Rattle.tera_tree.specs.Outputs.{output_view}
 use Rattle.tera_statements.proofs.templates.whole.Given as goal
 
 abbrev pub invariant-items : goal.invariant-items

@@ -11,7 +11,7 @@ use Rattle.tera_lexer.specs.code.Cursors.{RefusesFrom}
 use Rattle.tera_lexer.specs.grammar.Marks.{IsValid}
 use Rattle.tera_lexer.specs.grammar.Tokens.{AreTokensOf}
 use Rattle.tera_statements.specs.Known.{AreNames}
-use Rattle.tera_statements.specs.Outputs.{output_view}
+use Rattle.tera_tree.specs.Outputs.{output_view}
 use Rattle.tera_statements.specs.Templates.{GivesTemplate}
 use Rattle.tera_parser.specs.Job.{Job}
 use Rattle.tera_parser.specs.Notes.{error_about}

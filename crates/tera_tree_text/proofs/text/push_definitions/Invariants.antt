@@ -2,7 +2,7 @@ use Rattle.std.proofs.Common.{◌≡◌, ◌++◌, drop, map, string_bytes}
 use Rattle.std.specs.List.{flat_map}
 use Rattle.tera_tree.specs.View.{definition_view}
 use Rattle.tera_tree_text.specs.TreeText.{definition_text}
-use Rattle.tera_show.proofs.text.push_definitions.Given as goal
+use Rattle.tera_tree_text.proofs.text.push_definitions.Given as goal
 
 abbrev pub invariant-loop-definition : goal.invariant-loop-definition
 invariant-loop-definition l =

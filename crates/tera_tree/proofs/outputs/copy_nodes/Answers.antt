@@ -1,6 +1,6 @@
 use Rattle.tera_nodes.specs.View.{node_view}
 use Rattle.tera_tree.proofs.Defined.{seen_alike}
-use Rattle.tera_statements.proofs.outputs.copy_nodes.Goals as goal
+use Rattle.tera_tree.proofs.outputs.copy_nodes.Goals as goal
 
 pub returns : goal.returns
 returns c = seen_alike node_view _ (λ x y same. same) c.args.nodes.now.items c.in_ok-copies.copies.items c.in_ok-copies.ensures.cases.0

@@ -1,23 +1,20 @@
 //! The text of a tree.
 
-ghost use Rattle.std.specs.Prelude.{◌≡◌, ◌++◌, map, string_bytes, IfOk, IfErr, OnOk};
+ghost use Rattle.std.specs.Prelude.{◌≡◌, ◌++◌, map, string_bytes, IfOk, OnOk};
 ghost use Rattle.std.specs.List.{flat_map};
-ghost use Rattle.tera_base.specs.Errors.{IsMemory};
 ghost use Rattle.tera_nodes.specs.View.{name_view};
+ghost use Rattle.tera_tree.specs.Outputs.{output_view};
 ghost use Rattle.tera_tree.specs.View.{definition_view};
-ghost use Rattle.tera_statements.specs.Outputs.{output_view};
 ghost use Rattle.tera_tree_text.specs.TreeText.{parent_text, definition_text, text_of};
 
+use crate::definitions::push_definition;
+use crate::lines::{push_named, push_nodes};
 use std::alloc::{AllocError, Global};
-use tera_parser::ParserOutput;
-use tera_parser::ast::ComponentDefinition;
-use tera_parser::value::Error;
-use tera_tree_text::{push_definition, push_named, push_nodes};
+use tera_tree::{ComponentDefinition, ParserOutput};
 
-/// The text of the tree: its parent, its definitions and its nodes, line by line. The one error is `Memory`.
-pub fn tree_text(alloc: Global, output: &ParserOutput) -> Result<String, Error>
-    ensures ok { IfOk result (λ text. string_bytes text ≡ text_of (output_view output.now)) }
-    ensures err { IfErr result IsMemory }
+/// The text of the tree: its parent, its definitions and its nodes, line by line.
+pub fn tree_text(alloc: Global, output: &ParserOutput) -> Result<String, AllocError>
+    ensures { IfOk result (λ text. string_bytes text ≡ text_of (output_view output.now)) }
 {
     let mut text = String::new(alloc);
     push_parent(&mut text, &output.parent)?;
