@@ -1,8 +1,8 @@
 //! The statements of the template engine Tera, and whole templates.
 //!
-//! It takes a cursor and limits, and gives a `ParserOutput` with its `Names` (`seen_of`), as `template` of `tera_grammar`
-//! reads it. It stands on `tera_expr_reader`. Items and bodies hold one another: their functions are proved together, as
-//! the cycle `bodies`, and the answers to their goals stand in `proofs/+bodies`.
+//! It takes a cursor and limits, and gives a `ParserOutput` with its `Names` (`seen_of`), as `template` of
+//! `tera_grammar` reads it. It stands on `tera_expr_reader`. Items and bodies hold one another: their functions are
+//! proved together, as the cycle `bodies`, and the answers to their goals stand in `proofs/+bodies`.
 //!
 //! In the order of reading: `templates`, the top level; `bodies`; `items`, which `fronts` tells apart; the tags:
 //! `simple`, `blocks`, `loops`, `conditions`, `captures`, and `components` with `parameters`; `heads` and `parts`, what

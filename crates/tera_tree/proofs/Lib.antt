@@ -4,3 +4,4 @@ pub mod Coming
 pub mod RefusedArguments
 pub mod CallNames
 pub mod CallSteps
+pub mod PartLemmas

@@ -3,6 +3,7 @@ pub mod View
 pub mod Outputs
 pub mod Types
 pub mod Definitions
+pub mod Parts
 pub mod DefinitionLaws
 pub mod Outcomes
 pub mod Calls

@@ -2,12 +2,12 @@
 //! nodes of `tera_nodes`.
 //!
 //! It takes the arguments of a call and names, and gives definitions of components, the context of a call or why there
-//! is none (`BuildsContext`), what a catalogue of components is told, and what a template is read as (`output_view`). It
-//! stands on `tera_nodes`, and passes its public names on.
+//! is none (`BuildsContext`), what a catalogue of components is told, what a template is read as (`output_view`), and the
+//! parts of a tree (`children`). It stands on `tera_nodes`, and passes its public names on.
 //!
 //! In the order of reading: `ast` and `types`; `arguments`, what one takes; `refusals`, texts; `calls`, the contexts;
-//! `infos` and `argument_infos`, for a catalogue; `definitions`, copies and equality; `outputs`, whole trees; specs `Tree`,
-//! `View`, `Outputs`, `Calls` and `Outcomes`. Then `laws`.
+//! `infos` and `argument_infos`, for a catalogue; `parts`, for a walk over a tree; `definitions`, copies and equality;
+//! `outputs`, whole trees; specs `Tree`, `View`, `Outputs`, `Calls`, `Outcomes` and `Parts`. Then `laws`.
 #![tactic(auto)]
 
 mod argument_infos;
@@ -18,6 +18,7 @@ mod definitions;
 mod infos;
 pub mod laws;
 mod outputs;
+pub mod parts;
 pub mod refusals;
 mod types;
 

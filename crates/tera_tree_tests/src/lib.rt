@@ -1,4 +1,4 @@
-//! Tests of trees and definitions that are made by hand: printed texts, JSON, long chains, types, and contexts.
+//! Tests of trees and definitions that are made by hand: printed texts, JSON, long chains, types, contexts, and parts.
 #![tactic(auto)]
 
 #[cfg(test)]
@@ -9,6 +9,8 @@ mod components;
 mod json;
 #[cfg(test)]
 mod making;
+#[cfg(test)]
+mod parts;
 #[cfg(test)]
 mod printed;
 #[cfg(test)]
