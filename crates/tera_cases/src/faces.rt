@@ -1,9 +1,9 @@
 //! What holds of each tree that is read: an expression has the text of what stands in it, and a copy equals the tree.
 
-use crate::parts::{Part, parts_of, push_inner};
 use std::alloc::{AllocError, Global};
 use tera_parser::ParserOutput;
 use tera_tree::Expression;
+use tera_tree::parts::{Part, top_parts};
 
 /// What does not hold of the tree, if anything.
 pub(crate) fn broken(
@@ -13,7 +13,7 @@ pub(crate) fn broken(
     if !equals_its_copy(output)? {
         return Ok(Some("a copy that is another tree"));
     }
-    let mut left = parts_of(alloc, output)?;
+    let mut left = top_parts(alloc, &output.component_definitions, &output.nodes)?;
     for _part in 0..u64::MAX {
         let Some(part) = left.pop() else {
             break;
@@ -21,7 +21,7 @@ pub(crate) fn broken(
         if !has_one_face(alloc, part)? {
             return Ok(Some("an expression with another text than what stands in it"));
         }
-        push_inner(&mut left, part)?;
+        part.push_inside(&mut left)?;
     }
     Ok(None)
 }

@@ -1,11 +1,11 @@
 //! That each expression that stands by itself in a tree is written so that it is read again.
 
-use crate::parts::{Part, parts_of, push_inner};
 use crate::settings::Setting;
 use crate::written::is_kept;
 use std::alloc::{AllocError, Global};
 use tera_base::Key;
 use tera_parser::ParserOutput;
+use tera_tree::parts::{Part, top_parts};
 use tera_tree::{Expression, MapEntry, Node};
 
 /// Whether each expression that stands by itself in the tree is kept.
@@ -14,7 +14,7 @@ pub(crate) fn are_kept(
     setting: &Setting<'_>,
     output: &ParserOutput,
 ) -> Result<bool, AllocError> {
-    let mut left = parts_of(alloc, output)?;
+    let mut left = top_parts(alloc, &output.component_definitions, &output.nodes)?;
     for _part in 0..u64::MAX {
         let Some(part) = left.pop() else {
             break;
@@ -24,7 +24,7 @@ pub(crate) fn are_kept(
                 return Ok(false);
             }
         }
-        push_inner(&mut left, part)?;
+        part.push_inside(&mut left)?;
     }
     Ok(true)
 }

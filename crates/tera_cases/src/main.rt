@@ -13,7 +13,6 @@ mod fronts;
 mod kept;
 mod layouts;
 mod parameters;
-mod parts;
 mod refusals;
 mod settings;
 mod shown;

@@ -1,23 +1,34 @@
 //! The places of a tree: of each expression, and of each name that has one.
 
-use crate::parts::{Part, parts_of, push_inner};
 use std::alloc::{AllocError, Global};
 use tera_base::Span;
 use tera_parser::ParserOutput;
+use tera_tree::parts::{Part, Parts, top_parts};
 use tera_tree::{Expression, Node};
 
 /// A line for each expression and for each name of an included template or of a block, from left to right.
 pub(crate) fn spans(alloc: Global, output: &ParserOutput) -> Result<String, AllocError> {
     let mut text = String::new(alloc);
-    let mut left = parts_of(alloc, output)?;
+    let mut left = top_parts(alloc, &output.component_definitions, &output.nodes)?;
+    left.reverse();
     for _part in 0..u64::MAX {
         let Some(part) = left.pop() else {
             break;
         };
         show(alloc, &mut text, part)?;
-        push_inner(&mut left, part)?;
+        push_first(alloc, &mut left, part)?;
     }
     Ok(text)
+}
+
+// Puts what stands in the part where it is taken next, from left to right.
+fn push_first<'a>(alloc: Global, left: &mut Parts<'a>, part: Part<'a>) -> Result<(), AllocError> {
+    let mut inside = Vec::new(alloc);
+    part.push_inside(&mut inside)?;
+    for next in inside.iter().rev() {
+        left.push(*next)?;
+    }
+    Ok(())
 }
 
 // The line of the part, if it has one.

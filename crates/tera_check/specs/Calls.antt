@@ -3,10 +3,6 @@
 use Rattle.std.specs.Prelude.{List, [], ◌∷◌, ◌++◌}
 use Rattle.std.specs.List.{flat_map}
 use Rattle.tera_nodes.specs.View.{nodes_of}
-use Rattle.tera_nodes.specs.declared.ast.ArrayEntryOf.{ArrayEntryOf}
-use Rattle.tera_nodes.specs.declared.ast.ArrayEntryOf.TheVariants as items
-use Rattle.tera_nodes.specs.declared.ast.MapEntryOf.{MapEntryOf}
-use Rattle.tera_nodes.specs.declared.ast.MapEntryOf.TheVariants as entries
 use Rattle.tera_nodes.specs.Tree.{Expr, Const, Array, Map, Var, GetAttr, GetItem, Slice, Filter, Test, Ternary, ListComprehension, ComponentCall, FunctionCall, UnaryOperation, BinaryOperation}
 use Rattle.tera_nodes.specs.Tree.{MaybeExpr, NoExpr, OneExpr, Filters, NoFilters, OneFilter, Args, NoArgs, Arg, Items, NoItems, Item, SpreadItem, Entries, NoEntries, Entry, SpreadEntry}
 use Rattle.tera_nodes.specs.Tree.{Stmt, Content, Shown, Set, BlockSet, Include, Block, ForLoop, Break, Continue, If, FilterSection, Nodes, NoNodes, OneNode}
@@ -71,15 +67,6 @@ abbrev mutual
   pub calls_in_nodes : Nodes → List Expr
   calls_in_nodes NoNodes = []
   calls_in_nodes (OneNode n ns) = calls_in_node n ++ calls_in_nodes ns
-
--- in an item and an entry by itself
-abbrev pub calls_in_item : ArrayEntryOf Expr → List Expr
-calls_in_item (items.Item e) = calls_in e
-calls_in_item (items.Spread e) = calls_in e
-
-abbrev pub calls_in_entry : MapEntryOf Expr → List Expr
-calls_in_entry (entries.KeyValue k e) = calls_in e
-calls_in_entry (entries.Spread e) = calls_in e
 
 -- in the bodies of the definitions, and then in the nodes
 abbrev pub calls_in_definition : Definition → List Expr

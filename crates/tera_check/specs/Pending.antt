@@ -4,21 +4,25 @@ use Rattle.std.specs.Borrow.{Bor}
 use Rattle.std.specs.List.{flat_map}
 use Rattle.tera_base.specs.Spanned.{node_of, span_of}
 use Rattle.tera_base.specs.declared.utils.Spanned.{Spanned}
-use Rattle.tera_nodes.specs.Tree.{Expr}
-use Rattle.tera_nodes.specs.View.{expression_view, node_view, call_view}
-use Rattle.tera_nodes.specs.declared.ast.ComponentCall.{ComponentCall}
+use Rattle.tera_nodes.specs.Tree.{Expr, ComponentCall}
+use Rattle.tera_nodes.specs.View.{call_view}
+use Rattle.tera_nodes.specs.declared.ast.ComponentCall.{ComponentCall as Call}
+use Rattle.tera_tree.specs.Parts.{PartVal, NodePart, ExpressionPart, parts_view}
+use Rattle.tera_tree.specs.declared.parts.Part.{Part}
 use Rattle.tera_check.specs.Calls.{calls_in, calls_in_node}
-use Rattle.tera_check.specs.declared.calls.Part.{Part}
-use Rattle.tera_check.specs.declared.calls.Part.TheVariants as parts
 
 -- a call, as the tree has it
-abbrev pub seen : Bor (Spanned ComponentCall) → Expr
+abbrev pub seen : Bor (Spanned Call) → Expr
 seen c = call_view (node_of c.now) (span_of c.now)
 
-abbrev pub calls_in_part : Part → List Expr
-calls_in_part (parts.Node n) = calls_in_node (node_view n.now)
-calls_in_part (parts.Expression e) = calls_in (expression_view e.now)
-calls_in_part (parts.Call c) = seen c ∷ []
+abbrev pub calls_in_part : PartVal → List Expr
+calls_in_part (NodePart n) = calls_in_node n
+calls_in_part (ExpressionPart e) = calls_in e
+
+-- the part by itself, if it is a call
+abbrev pub itself : PartVal → List Expr
+itself (ExpressionPart (ComponentCall name es body closed span)) = ComponentCall name es body closed span ∷ []
+itself _ = []
 
 abbrev pub to_come : List Part → List Expr
-to_come ps = flat_map calls_in_part ps
+to_come ps = flat_map calls_in_part (parts_view ps)

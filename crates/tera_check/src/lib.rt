@@ -5,7 +5,7 @@
 //! `tera_parser`, and names nothing below that in its code; of the kit on `json`.
 //!
 //! In the order of reading: specs `Findings`, `Calls`, `Passed`, `Judged`, `Named`, `OrderAndStatus`, `Objects`, `Faults`,
-//! `Alike`; `templates`, which reads, and `spans`; `catalogue`; `calls`, over a stack of parts (specs `Pending`);
+//! `Alike`; `templates`, which reads, and `spans`; `catalogue`; `calls`, over the parts of a tree (specs `Pending`);
 //! `passed` and `arguments`, of one call; `checked`, of a template; `finding`, `faults`, `lines` and
 //! `objects`; `laws`.
 #![tactic(auto)]

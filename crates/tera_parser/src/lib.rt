@@ -35,6 +35,7 @@ pub mod ast {
         ListComprehensionOf, Map, MapEntry, MapEntryOf, MapOf, Node, Set, SetOf, Slice, SliceOf,
         Ternary, TernaryOf, Test, TestOf, UnaryOperation, UnaryOperationOf, UnaryOperator, Var,
     };
+    pub use tera_tree::parts::{Part, Parts, top_parts};
 }
 
 /// The texts on calls of components that are refused.

@@ -1,5 +1,11 @@
-use Rattle.tera_check.proofs.Pending.{all_found, emptied}
+use Rattle.tera_tree.specs.Outputs.{output_view}
+use Rattle.tera_check.proofs.Pending.{all_found, begun, emptied}
 use Rattle.tera_check.proofs.calls.calls_of.Goals as goal
+
+pub loop-part-init : goal.loop-part-init
+loop-part-init c =
+    let o = output_view c.args.output.now in
+    begun _ _ o.definitions o.nodes c.in_ok-left.ensures c.new-calls.ensures.items
 
 pub returns-in-None : goal.returns-in-None
 returns-in-None c =
