@@ -11,7 +11,7 @@ use Rattle.tera_nodes.specs.Tree.{Stmt, Content, Shown, Set, BlockSet, Include, 
 use Rattle.tera_nodes.specs.View.{nodes_of, call_view}
 use Rattle.tera_nodes.specs.declared.ast.ComponentCall.{ComponentCall as Call}
 use Rattle.tera_nodes.proofs.Views.{call_out}
-use Rattle.tera_tree.specs.Parts.{PartVal, NodePart, ExpressionPart, part_view, parts_view, parts_of_maybe, parts_of_filters, parts_of_args, parts_of_items, parts_of_entries, parts_of_nodes, parts_in_expression, parts_in_node, children, top_parts}
+use Rattle.tera_tree.specs.Parts.{PartVal, NodePart, ExpressionPart, parts_view, parts_of_maybe, parts_of_filters, parts_of_args, parts_of_items, parts_of_entries, parts_of_nodes, parts_in_expression, parts_in_node, children, top_parts}
 use Rattle.tera_tree.specs.Tree.{Definition}
 use Rattle.tera_tree.specs.declared.parts.Part.{Part}
 use Rattle.tera_check.specs.Calls.{calls_in, calls_in_maybe, calls_in_filters, calls_in_args, calls_in_items, calls_in_entries, calls_in_node, calls_in_nodes, calls_in_definition}

@@ -26,6 +26,7 @@ pub mod value {
 
 /// The tree of a template.
 pub mod ast {
+    pub use tera_tree::parts::{Part, Parts, top_parts};
     pub use tera_tree::{
         ArgType as Type, Array, ArrayEntry, ArrayEntryOf, ArrayOf, BinaryOperation,
         BinaryOperationOf, BinaryOperator, Block, BlockOf, BlockSet, ComponentArg,
@@ -35,7 +36,6 @@ pub mod ast {
         ListComprehensionOf, Map, MapEntry, MapEntryOf, MapOf, Node, Set, SetOf, Slice, SliceOf,
         Ternary, TernaryOf, Test, TestOf, UnaryOperation, UnaryOperationOf, UnaryOperator, Var,
     };
-    pub use tera_tree::parts::{Part, Parts, top_parts};
 }
 
 /// The texts on calls of components that are refused.

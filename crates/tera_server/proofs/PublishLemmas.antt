@@ -13,9 +13,8 @@ use Rattle.tera_workspace.specs.Workspaces.{told_of_name, IsKept, IsSettled, Are
 use Rattle.tera_workspace.specs.declared.workspace.Workspace.{Workspace}
 use Rattle.text_documents.specs.Stored.{AreSame}
 use Rattle.tera_server.specs.Editors.{stand_of}
-use Rattle.tera_server.specs.Sending.{with_all, found_message, unless_lost, messages_in, messages_of, SendsFirst, untold_of, names_beside}
+use Rattle.tera_server.specs.Sending.{with_all, found_message, unless_lost, messages_in, SendsFirst, names_beside}
 use Rattle.tera_server.specs.Settling.{due_of, IsSettling, ArePublished, ArePublishedInPart, OnlyTells}
-use Rattle.tera_server.specs.States.{edited_of}
 use Rattle.tera_server.specs.declared.editor.Editor.{Editor}
 use Rattle.tera_server.specs.declared.server.Phase.{Phase}
 use Rattle.tera_server.specs.declared.server.Phase.TheVariants.{New, Running, ShutDown}

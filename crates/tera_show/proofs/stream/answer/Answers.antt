@@ -26,7 +26,7 @@ pub returns-in-Ok-parse-clause-ok : goal.returns-in-Ok-parse-clause-ok
 returns-in-Ok-parse-clause-ok c =
     let text = c.in-Ok.ensures.cases in
     let same = job (limits_of c.args.limits) _ _ default_marks _ c.args.input.now c.with_limits-parser.result c.with_limits-parser.ensures c.default.ensures.0 text.0 in
-    (text.1, (output_view c.in-Ok-parse.output, (same (λ l m s. Derives l m s (output_view c.in-Ok-parse.output))).0 c.in-Ok-parse.ensures.sound, c.in_ok-text.ensures))
+    (text.1, (output_view c.in-Ok-parse.output, (same (λ l m s. Derives l m s (output_view c.in-Ok-parse.output))).0 c.in-Ok-parse.ensures.sound, c.in_ok-text-in-Ok-parse.ensures))
 
 pub returns-in-SyntaxError-clause-ok : goal.returns-in-SyntaxError-clause-ok
 returns-in-SyntaxError-clause-ok c =

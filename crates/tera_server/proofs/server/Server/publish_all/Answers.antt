@@ -1,8 +1,7 @@
-use Rattle.std.proofs.Common.{◌≡◌, ◌∙◌, ◌++◌, [], map, string_bytes, sym, ap, subst, refl}
+use Rattle.std.proofs.Common.{◌≡◌, ◌∙◌, ◌++◌, map, string_bytes, sym, ap, subst, refl}
 use Rattle.std.proofs.lemmas.List.{map-append, append-nil}
-use Rattle.json_rpc.specs.Outgoing.{Outgoing}
 use Rattle.tera_server.specs.Sending.{with_all, messages_in, messages_of, SendsFirst, untold_of, names_beside}
-use Rattle.tera_server.specs.Settling.{due_of, ArePublished, ArePublishedInPart, OnlyTells}
+use Rattle.tera_server.specs.Settling.{due_of, ArePublished, ArePublishedInPart}
 use Rattle.tera_server.specs.States.{edited_of}
 use Rattle.tera_server.specs.declared.server.Server.{Server}
 use Rattle.tera_server.proofs.PublishLemmas.{Names, names_of, with_found, part_unfound, part_due, part_others, published_whole, on_any_err, only_tells}
