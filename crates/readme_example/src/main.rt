@@ -1,5 +1,5 @@
-//! The example of the README: the variables that templates show by themselves, each with its line, or where a template is
-//! wrong: `readme_example FILE..`.
+//! The example of the README: the variables that templates show by themselves, each with its line, or where a template
+//! is wrong: `readme_example FILE..`.
 //!
 //! `tools/readme_example` compares `told` with the README.
 #![tactic(auto)]

@@ -7,9 +7,9 @@ use Rattle.tera_lexer.specs.code.Cursors.{nowhere}
 use Rattle.tera_lexer.specs.grammar.Tokens as toks
 use Rattle.tera_lexer.specs.grammar.Tokens.{Items, Token}
 use Rattle.tera_lexer.specs.declared.lexer.delimiters.Kind.TheVariants as kind
-use Rattle.tera_nodes.specs.Tree as tree
-use Rattle.tera_nodes.specs.Tree.{Expr, Stmt, Nodes}
-use Rattle.tera_nodes.specs.View.{nodes_of, filters_of}
+use Rattle.tera_ast.specs.Tree as tree
+use Rattle.tera_ast.specs.Tree.{Expr, Stmt, Nodes}
+use Rattle.tera_ast.specs.View.{nodes_of, filters_of}
 use Rattle.tera_tree.specs.Tree.{Argument, Definition}
 use Rattle.tera_grammar.specs.expressions.Operators.{GreaterThan, In}
 use Rattle.tera_grammar.specs.expressions.Marks.{mark, LeftParen, RightParen, Comma, Operation}

@@ -5,8 +5,8 @@ use Rattle.tera_base.specs.Values.{Pairs}
 use Rattle.tera_base.specs.declared.utils.Span.{Span}
 use Rattle.tera_lexer.specs.code.Cursors.{nowhere}
 use Rattle.tera_lexer.specs.grammar.Tokens.{Items, Token}
-use Rattle.tera_nodes.specs.Tree as tree
-use Rattle.tera_nodes.specs.Tree.{Expr}
+use Rattle.tera_ast.specs.Tree as tree
+use Rattle.tera_ast.specs.Tree.{Expr}
 use Rattle.tera_grammar.specs.expressions.Marks.{mark, Comma, RightBrace}
 use Rattle.tera_grammar.specs.expressions.Concrete.{Name, Truth, Second, no_second, second, Dotted, no_dots, dots, Kind, of_arguments, of_items, of_entries, closing, Tree, Atomic, Suffixed, Literal, Call, Array, Map, Row, ended, only, then, Element, plain, spread, pair, argument, Attributes, no_attributes, bare, quoted, valued, spreading, Filter, Args, no_args, args, second_yield, dotted_yield, row_yield, attributes_yield, args_yield}
 use Rattle.tera_grammar.specs.expressions.Conditions.{AreVariables, IsRow, AreAttributes, AreArgs}

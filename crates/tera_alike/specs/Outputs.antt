@@ -1,8 +1,8 @@
 -- Outputs apart from where they stand.
 use Rattle.std.specs.Prelude.{◌≡◌, false, List, map}
 use Rattle.tera_lexer.specs.code.Cursors.{nowhere}
-use Rattle.tera_nodes.specs.Tree as tree
-use Rattle.tera_nodes.specs.Tree.{Stmt, Filters, Nodes, NoNodes, OneNode}
+use Rattle.tera_ast.specs.Tree as tree
+use Rattle.tera_ast.specs.Tree.{Stmt, Filters, Nodes, NoNodes, OneNode}
 use Rattle.tera_tree.specs.Tree.{Definition, Output}
 use Rattle.tera_grammar.specs.statements.Grammar.{Body}
 use Rattle.tera_grammar.specs.statements.Output.{output_of}

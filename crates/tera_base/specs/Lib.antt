@@ -11,3 +11,4 @@ pub mod SameLaws
 pub mod Kinds
 pub mod ErrorView
 pub mod Contexts
+pub mod Lanes

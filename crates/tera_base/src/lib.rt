@@ -5,8 +5,8 @@
 //! the kit; all other crates stand on it.
 //!
 //! In the order of reading: `utils`, spans, and nodes with spans; `errors`; `kinds`, of values; `values`, with their
-//! maps, and `keys`; `contexts`, names with values; `show`, values as text; specs `Values`, `ValueView`, `Errors`,
-//! `ErrorView` and `Pairs`. Then `copies`, `equality` and `laws`.
+//! maps, and `keys`; `contexts`, names with values; `show`, values as text; `lanes`, of bytes; specs `Values`,
+//! `ValueView`, `Errors`, `ErrorView` and `Pairs`. Then `copies`, `equality` and `laws`.
 #![tactic(auto)]
 
 mod contexts;
@@ -15,6 +15,7 @@ mod equality;
 mod errors;
 mod keys;
 mod kinds;
+pub mod lanes;
 pub mod laws;
 mod show;
 mod utils;

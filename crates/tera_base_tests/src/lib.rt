@@ -4,4 +4,6 @@
 #[cfg(test)]
 mod errors;
 #[cfg(test)]
+mod lanes;
+#[cfg(test)]
 mod values;

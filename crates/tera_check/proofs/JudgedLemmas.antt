@@ -15,9 +15,9 @@ use Rattle.tera_base.specs.Contexts.{found}
 use Rattle.tera_base.specs.Spanned.{node_of, span_of}
 use Rattle.tera_base.specs.declared.utils.Span.{Span}
 use Rattle.tera_base.specs.declared.utils.Spanned.{Spanned}
-use Rattle.tera_nodes.specs.View.{call_view, entries_view}
-use Rattle.tera_nodes.specs.declared.ast.ComponentCall.{ComponentCall, out-ComponentCall}
-use Rattle.tera_nodes.proofs.Views.{call_out}
+use Rattle.tera_ast.specs.View.{call_view, entries_view}
+use Rattle.tera_ast.specs.declared.ast.ComponentCall.{ComponentCall, out-ComponentCall}
+use Rattle.tera_ast.proofs.Views.{call_out}
 use Rattle.tera_tree.specs.View.{argument_view}
 use Rattle.tera_tree.specs.declared.ast.ComponentArgument.{ComponentArgument}
 use Rattle.tera_check.specs.Findings.{FindingVal, finding_view}

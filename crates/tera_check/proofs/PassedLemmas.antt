@@ -6,10 +6,10 @@ use Rattle.tera_base.specs.ValueView.{key_view, value_view, pairs_view}
 use Rattle.tera_base.specs.declared.utils.Span.{Span}
 use Rattle.tera_base.specs.declared.values.Key.{Key}
 use Rattle.tera_base.specs.declared.values.Value.{Value}
-use Rattle.tera_nodes.specs.View.{entries_of}
-use Rattle.tera_nodes.specs.Tree.{Expr}
-use Rattle.tera_nodes.specs.declared.ast.MapEntryOf.{MapEntryOf}
-use Rattle.tera_nodes.specs.declared.ast.MapEntryOf.TheVariants as entries
+use Rattle.tera_ast.specs.View.{entries_of}
+use Rattle.tera_ast.specs.Tree.{Expr}
+use Rattle.tera_ast.specs.declared.ast.MapEntryOf.{MapEntryOf}
+use Rattle.tera_ast.specs.declared.ast.MapEntryOf.TheVariants as entries
 use Rattle.std.proofs.Common.{Some}
 use Rattle.tera_check.specs.Passed.{PassedVal, passed_view, under_key, by_pairs, passed_by, passed_by_one}
 use Rattle.tera_check.specs.declared.passed.Passed.{Passed}

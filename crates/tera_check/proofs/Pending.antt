@@ -5,12 +5,12 @@ use Rattle.std.proofs.lemmas.List.{reverse-append, map-append}
 use Rattle.std.proofs.lemmas.List.Concat.{flat_map-append}
 use Rattle.tera_base.specs.declared.utils.Span.{Span}
 use Rattle.tera_base.specs.declared.utils.Spanned.{Spanned}
-use Rattle.tera_nodes.specs.Tree.{Expr, Const, Array, Map, Var, GetAttr, GetItem, Slice, Filter, Test, Ternary, ListComprehension, ComponentCall, FunctionCall, UnaryOperation, BinaryOperation}
-use Rattle.tera_nodes.specs.Tree.{MaybeExpr, NoExpr, OneExpr, Filters, NoFilters, OneFilter, Args, NoArgs, Arg, Items, NoItems, Item, SpreadItem, Entries, NoEntries, Entry, SpreadEntry}
-use Rattle.tera_nodes.specs.Tree.{Stmt, Content, Shown, Set, BlockSet, Include, Block, ForLoop, Break, Continue, If, FilterSection, Nodes, NoNodes, OneNode}
-use Rattle.tera_nodes.specs.View.{nodes_of, call_view}
-use Rattle.tera_nodes.specs.declared.ast.ComponentCall.{ComponentCall as Call}
-use Rattle.tera_nodes.proofs.Views.{call_out}
+use Rattle.tera_ast.specs.Tree.{Expr, Const, Array, Map, Var, GetAttr, GetItem, Slice, Filter, Test, Ternary, ListComprehension, ComponentCall, FunctionCall, UnaryOperation, BinaryOperation}
+use Rattle.tera_ast.specs.Tree.{MaybeExpr, NoExpr, OneExpr, Filters, NoFilters, OneFilter, Args, NoArgs, Arg, Items, NoItems, Item, SpreadItem, Entries, NoEntries, Entry, SpreadEntry}
+use Rattle.tera_ast.specs.Tree.{Stmt, Content, Shown, Set, BlockSet, Include, Block, ForLoop, Break, Continue, If, FilterSection, Nodes, NoNodes, OneNode}
+use Rattle.tera_ast.specs.View.{nodes_of, call_view}
+use Rattle.tera_ast.specs.declared.ast.ComponentCall.{ComponentCall as Call}
+use Rattle.tera_ast.proofs.Views.{call_out}
 use Rattle.tera_tree.specs.Parts.{PartVal, NodePart, ExpressionPart, parts_view, parts_of_maybe, parts_of_filters, parts_of_args, parts_of_items, parts_of_entries, parts_of_nodes, parts_in_expression, parts_in_node, children, top_parts}
 use Rattle.tera_tree.specs.Tree.{Definition}
 use Rattle.tera_tree.specs.declared.parts.Part.{Part}

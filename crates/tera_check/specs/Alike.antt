@@ -1,7 +1,7 @@
 -- What is known under the names of a tree, alike for what is found in it.
 use Rattle.std.specs.Prelude.{◌≡◌, ℕ, List, [], ◌∷◌, ◌++◌, map, Option, None, Some, nat_eq}
 use Rattle.std.specs.List.{flat_map, AllByRecursion}
-use Rattle.tera_nodes.specs.Tree.{Expr, ComponentCall}
+use Rattle.tera_ast.specs.Tree.{Expr, ComponentCall}
 use Rattle.tera_tree.specs.Tree.{Output}
 use Rattle.tera_check.specs.Calls.{calls_of}
 use Rattle.tera_check.specs.Judged.{KnownVal}

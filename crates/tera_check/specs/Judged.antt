@@ -6,7 +6,7 @@ use Rattle.tera_base.specs.Contexts.{found}
 use Rattle.tera_base.specs.Kinds.{kind_of}
 use Rattle.tera_base.specs.Values.{Val}
 use Rattle.tera_base.specs.declared.utils.Span.{Span}
-use Rattle.tera_nodes.specs.Tree.{Expr, ComponentCall}
+use Rattle.tera_ast.specs.Tree.{Expr, ComponentCall}
 use Rattle.tera_tree.specs.Calls.{wrong_type_text, missing_text, unknown_text}
 use Rattle.tera_tree.specs.Tree.{Argument, Definition}
 use Rattle.tera_tree.specs.Types.{is_of_type}

@@ -6,10 +6,10 @@ use Rattle.std.specs.Str.{bytes_eq}
 use Rattle.tera_base.specs.Values.{KeyVal, TextKey, Val, Map, Pairs, NoPairs, OnePair}
 use Rattle.tera_base.specs.ValueView.{key_view, value_view}
 use Rattle.tera_base.specs.declared.utils.Span.{Span}
-use Rattle.tera_nodes.specs.Spans.{expr_span}
-use Rattle.tera_nodes.specs.Tree.{Expr, Const, Entries, NoEntries, Entry, SpreadEntry}
-use Rattle.tera_nodes.specs.declared.ast.MapEntryOf.{MapEntryOf}
-use Rattle.tera_nodes.specs.declared.ast.MapEntryOf.TheVariants as entries
+use Rattle.tera_ast.specs.Spans.{expr_span}
+use Rattle.tera_ast.specs.Tree.{Expr, Const, Entries, NoEntries, Entry, SpreadEntry}
+use Rattle.tera_ast.specs.declared.ast.MapEntryOf.{MapEntryOf}
+use Rattle.tera_ast.specs.declared.ast.MapEntryOf.TheVariants as entries
 use Rattle.tera_check.specs.declared.passed.Named.{Named}
 use Rattle.tera_check.specs.declared.passed.Names.{Names}
 use Rattle.tera_check.specs.declared.passed.Passed.{Passed}

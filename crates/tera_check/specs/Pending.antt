@@ -4,9 +4,9 @@ use Rattle.std.specs.Borrow.{Bor}
 use Rattle.std.specs.List.{flat_map}
 use Rattle.tera_base.specs.Spanned.{node_of, span_of}
 use Rattle.tera_base.specs.declared.utils.Spanned.{Spanned}
-use Rattle.tera_nodes.specs.Tree.{Expr, ComponentCall}
-use Rattle.tera_nodes.specs.View.{call_view}
-use Rattle.tera_nodes.specs.declared.ast.ComponentCall.{ComponentCall as Call}
+use Rattle.tera_ast.specs.Tree.{Expr, ComponentCall}
+use Rattle.tera_ast.specs.View.{call_view}
+use Rattle.tera_ast.specs.declared.ast.ComponentCall.{ComponentCall as Call}
 use Rattle.tera_tree.specs.Parts.{PartVal, NodePart, ExpressionPart, parts_view}
 use Rattle.tera_tree.specs.declared.parts.Part.{Part}
 use Rattle.tera_check.specs.Calls.{calls_in, calls_in_node}

@@ -3,8 +3,8 @@
 ghost use Rattle.std.specs.Prelude.{◌≡◌, ◌++◌, ◌∷◌, [], map, IfOk, OnOk};
 ghost use Rattle.std.specs.Option.{option_map};
 ghost use Rattle.tera_base.specs.ValueView.{key_view, value_view, pairs_view};
-ghost use Rattle.tera_nodes.specs.Spans.{expr_span};
-ghost use Rattle.tera_nodes.specs.View.{expression_view, entry_view, entries_view};
+ghost use Rattle.tera_ast.specs.Spans.{expr_span};
+ghost use Rattle.tera_ast.specs.View.{expression_view, entry_view, entries_view};
 ghost use Rattle.tera_check.specs.Passed.{Whatever, passed_view, constant_of, under_key, by_pairs, by_constant, by_spread, passed_by, passed_by_one};
 
 use std::alloc::{AllocError, Global};

@@ -11,9 +11,9 @@ use Rattle.tera_base.specs.declared.errors.Error.{Error}
 use Rattle.tera_base.specs.declared.values.Value.{Value}
 use Rattle.tera_lexer.specs.code.Cursors.{Position}
 use Rattle.tera_lexer.specs.grammar.Tokens.{Items}
-use Rattle.tera_nodes.specs.View.{args_view, entries_view, expression_view}
-use Rattle.tera_nodes.specs.declared.ast.Expression.{Expression}
-use Rattle.tera_nodes.specs.declared.ast.MapEntryOf.{MapEntryOf}
+use Rattle.tera_ast.specs.View.{args_view, entries_view, expression_view}
+use Rattle.tera_ast.specs.declared.ast.Expression.{Expression}
+use Rattle.tera_ast.specs.declared.ast.MapEntryOf.{MapEntryOf}
 use Rattle.tera_grammar.specs.Limits.{Limits}
 use Rattle.tera_grammar.specs.expressions.Concrete.{Attributes, Tree, attributes_yield, yield}
 use Rattle.tera_grammar.specs.expressions.Companions.{AreKwargs, ArrayWithin, EachArgs, Filtering, IsArray, IsMap, Opened, Path, array_yield, filter_output, filter_yield, kwargs_output, kwargs_yield, map_yield, path_output, path_yield}

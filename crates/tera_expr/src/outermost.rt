@@ -7,7 +7,7 @@ ghost use Rattle.tera_base.specs.Values.{Pairs, Vals};
 ghost use Rattle.tera_base.specs.ValueView.{value_view};
 ghost use Rattle.tera_lexer.specs.code.Cursors.{IsLater, RefusesFrom};
 ghost use Rattle.tera_lexer.specs.grammar.Tokens.{Items};
-ghost use Rattle.tera_nodes.specs.View.{args_view, entries_view, expression_view};
+ghost use Rattle.tera_ast.specs.View.{args_view, entries_view, expression_view};
 ghost use Rattle.tera_grammar.specs.expressions.Concrete.{Attributes, attributes_yield};
 ghost use Rattle.tera_grammar.specs.expressions.Companions.{
   AreKwargs,

@@ -3,7 +3,7 @@
 ghost use Rattle.std.specs.Prelude.{◌≡◌, IfErr, IfOk};
 ghost use Rattle.tera_lexer.specs.code.Cursors.{IsLater, RefusesFrom};
 ghost use Rattle.tera_lexer.specs.grammar.Tokens.{Items};
-ghost use Rattle.tera_nodes.specs.View.{expression_view};
+ghost use Rattle.tera_ast.specs.View.{expression_view};
 ghost use Rattle.tera_grammar.specs.expressions.Concrete.{Tree, yield};
 ghost use Rattle.tera_grammar.specs.expressions.Conditions.{IsExpression};
 ghost use Rattle.tera_grammar.specs.expressions.Ends.{IsStop};

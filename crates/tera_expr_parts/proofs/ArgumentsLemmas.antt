@@ -7,9 +7,9 @@ use Rattle.std.specs.Cmp.Lexicographic.{slice_cmp}
 use Rattle.std.specs.BTreeMap.{is_at, insert_entry}
 use Rattle.std.specs.Map.{lookup}
 use Rattle.std.proofs.lemmas.Map.Text.{is_eq-slice_cmp}
-use Rattle.tera_nodes.specs.Tree.{Arg}
-use Rattle.tera_nodes.specs.View.{args_view, expression_view}
-use Rattle.tera_nodes.specs.declared.ast.Expression.{Expression}
+use Rattle.tera_ast.specs.Tree.{Arg}
+use Rattle.tera_ast.specs.View.{args_view, expression_view}
+use Rattle.tera_ast.specs.declared.ast.Expression.{Expression}
 use Rattle.tera_grammar.specs.expressions.Output.{put_arg}
 use Rattle.tera_expr_parts.specs.CommaLists.{has_argument}
 

@@ -15,12 +15,12 @@ use Rattle.tera_base.specs.declared.utils.Span.{Span}
 use Rattle.tera_base.specs.declared.errors.Error.{Error}
 use Rattle.tera_base.specs.declared.values.Key.{Key}
 use Rattle.tera_base.specs.declared.values.Value.{Value}
-use Rattle.tera_nodes.specs.Tree as tree
-use Rattle.tera_nodes.specs.Tree.{Expr, Entries}
-use Rattle.tera_nodes.specs.View.{entries_of, entry_view, entries_view, expression_view}
-use Rattle.tera_nodes.specs.declared.ast.MapEntryOf.{MapEntryOf}
-use Rattle.tera_nodes.specs.declared.ast.MapEntryOf.TheVariants.{KeyValue, Spread}
-use Rattle.tera_nodes.specs.declared.ast.Expression.{Expression}
+use Rattle.tera_ast.specs.Tree as tree
+use Rattle.tera_ast.specs.Tree.{Expr, Entries}
+use Rattle.tera_ast.specs.View.{entries_of, entry_view, entries_view, expression_view}
+use Rattle.tera_ast.specs.declared.ast.MapEntryOf.{MapEntryOf}
+use Rattle.tera_ast.specs.declared.ast.MapEntryOf.TheVariants.{KeyValue, Spread}
+use Rattle.tera_ast.specs.declared.ast.Expression.{Expression}
 use Rattle.tera_grammar.specs.expressions.Output.{same_number, same_truth, same_key, put_pair, constant_entries, map_made, map_of}
 use Rattle.tera_expr_parts.specs.Folding.{constant_of, put_entry, is_constant_entry}
 use Rattle.tera_expr_parts.specs.Literals.{MayBeNegated}

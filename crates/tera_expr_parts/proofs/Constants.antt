@@ -5,12 +5,12 @@ use Rattle.tera_base.specs.Values as values
 use Rattle.tera_base.specs.Values.{Val}
 use Rattle.tera_base.specs.ValueView.{vals_of}
 use Rattle.tera_base.specs.declared.utils.Span.{Span}
-use Rattle.tera_nodes.specs.Tree as tree
-use Rattle.tera_nodes.specs.Tree.{Expr}
-use Rattle.tera_nodes.specs.View.{items_of, item_view, items_view}
-use Rattle.tera_nodes.specs.declared.ast.ArrayEntryOf.{ArrayEntryOf}
-use Rattle.tera_nodes.specs.declared.ast.ArrayEntryOf.TheVariants.{Item, Spread}
-use Rattle.tera_nodes.specs.declared.ast.Expression.{Expression}
+use Rattle.tera_ast.specs.Tree as tree
+use Rattle.tera_ast.specs.Tree.{Expr}
+use Rattle.tera_ast.specs.View.{items_of, item_view, items_view}
+use Rattle.tera_ast.specs.declared.ast.ArrayEntryOf.{ArrayEntryOf}
+use Rattle.tera_ast.specs.declared.ast.ArrayEntryOf.TheVariants.{Item, Spread}
+use Rattle.tera_ast.specs.declared.ast.Expression.{Expression}
 use Rattle.tera_grammar.specs.expressions.Output.{with_value, constant_items, array_made, array_of}
 use Rattle.tera_expr_parts.specs.Folding.{item_values, is_constant_item}
 

@@ -2,12 +2,12 @@
 use Rattle.std.specs.Prelude.{Bool, true, false, List, [], ◌∷◌, Option, Some, None}
 use Rattle.tera_base.specs.Values.{Val, Pairs}
 use Rattle.tera_base.specs.ValueView.{key_view}
-use Rattle.tera_nodes.specs.Tree as tree
-use Rattle.tera_nodes.specs.Tree.{Expr}
-use Rattle.tera_nodes.specs.declared.ast.ArrayEntryOf.{ArrayEntryOf}
-use Rattle.tera_nodes.specs.declared.ast.ArrayEntryOf.TheVariants as items
-use Rattle.tera_nodes.specs.declared.ast.MapEntryOf.{MapEntryOf}
-use Rattle.tera_nodes.specs.declared.ast.MapEntryOf.TheVariants as entries
+use Rattle.tera_ast.specs.Tree as tree
+use Rattle.tera_ast.specs.Tree.{Expr}
+use Rattle.tera_ast.specs.declared.ast.ArrayEntryOf.{ArrayEntryOf}
+use Rattle.tera_ast.specs.declared.ast.ArrayEntryOf.TheVariants as items
+use Rattle.tera_ast.specs.declared.ast.MapEntryOf.{MapEntryOf}
+use Rattle.tera_ast.specs.declared.ast.MapEntryOf.TheVariants as entries
 use Rattle.tera_grammar.specs.expressions.Output.{put_pair}
 
 -- the value of a constant

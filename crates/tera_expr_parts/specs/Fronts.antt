@@ -3,8 +3,8 @@ use Rattle.std.specs.Prelude.{◌≡◌, ℕ, Bool, true, false, ltb, List, code
 use Rattle.std.specs.Str.{bytes_eq}
 use Rattle.tera_base.specs.declared.utils.Span.{Span}
 use Rattle.tera_lexer.specs.grammar.Tokens.{Tok, Items, Token, Ident}
-use Rattle.tera_nodes.specs.declared.ast.UnaryOperator.{UnaryOperator}
-use Rattle.tera_nodes.specs.declared.ast.UnaryOperator.TheVariants as unary
+use Rattle.tera_ast.specs.declared.ast.UnaryOperator.{UnaryOperator}
+use Rattle.tera_ast.specs.declared.ast.UnaryOperator.TheVariants as unary
 use Rattle.tera_grammar.specs.Words.{is_not}
 use Rattle.tera_grammar.specs.expressions.Operators as operators
 use Rattle.tera_grammar.specs.expressions.Operators.{BinaryOperator}

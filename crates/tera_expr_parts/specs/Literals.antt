@@ -5,9 +5,9 @@ use Rattle.tera_base.specs.declared.errors.Error.{Error}
 use Rattle.tera_base.specs.Values as values
 use Rattle.tera_base.specs.declared.utils.Span.{Span}
 use Rattle.tera_lexer.specs.grammar.Tokens.{Tok}
-use Rattle.tera_nodes.specs.Tree as tree
-use Rattle.tera_nodes.specs.View.{expression_view}
-use Rattle.tera_nodes.specs.declared.ast.Expression.{Expression}
+use Rattle.tera_ast.specs.Tree as tree
+use Rattle.tera_ast.specs.View.{expression_view}
+use Rattle.tera_ast.specs.declared.ast.Expression.{Expression}
 use Rattle.tera_grammar.specs.expressions.Concrete.{Lit}
 use Rattle.tera_grammar.specs.expressions.Output.{literal_value}
 use Rattle.tera_grammar.specs.expressions.Constants.{HoldsOf}

@@ -1,7 +1,7 @@
 -- The names of variables.
 use Rattle.std.specs.Prelude.{◌≡◌, Option, String, string_bytes}
 use Rattle.std.specs.declared.alloc.Global.{Global}
-use Rattle.tera_nodes.specs.View.{name_view}
+use Rattle.tera_ast.specs.View.{name_view}
 use Rattle.tera_grammar.specs.expressions.Concrete.{Name, Second}
 use Rattle.tera_grammar.specs.expressions.Output.{key_variable, value_variable}
 

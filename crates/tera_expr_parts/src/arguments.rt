@@ -2,7 +2,7 @@
 
 ghost use Rattle.std.specs.Prelude.{◌≡◌, IfErr, IfOk, OnOk};
 ghost use Rattle.tera_base.specs.Errors.{IsMemory};
-ghost use Rattle.tera_nodes.specs.View.{args_view, expression_view};
+ghost use Rattle.tera_ast.specs.View.{args_view, expression_view};
 ghost use Rattle.tera_grammar.specs.expressions.Output.{put_arg};
 ghost use Rattle.tera_expr_parts.specs.CommaLists.{new_name_at};
 ghost use Rattle.tera_expect.specs.Taking.{GivesAs, Refuses, Took, name_at};

@@ -2,8 +2,8 @@
 
 ghost use Rattle.std.specs.Prelude.{◌≡◌, IfOk, string_bytes};
 ghost use Rattle.tera_base.specs.Values as values;
-ghost use Rattle.tera_nodes.specs.Tree as tree;
-ghost use Rattle.tera_nodes.specs.View.{expression_view};
+ghost use Rattle.tera_ast.specs.Tree as tree;
+ghost use Rattle.tera_ast.specs.View.{expression_view};
 
 use std::alloc::{AllocError, Global};
 use tera_base::{Span, Spanned, Value};

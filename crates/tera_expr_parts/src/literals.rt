@@ -6,7 +6,7 @@ ghost use Rattle.std.specs.Option.{option_map};
 ghost use Rattle.tera_base.specs.Errors.{IsMemory};
 ghost use Rattle.tera_base.specs.Values.{NoPairs};
 ghost use Rattle.tera_base.specs.ValueView.{pairs_view, value_view};
-ghost use Rattle.tera_nodes.specs.View.{entries_view, entry_view, expression_view, item_view, items_view};
+ghost use Rattle.tera_ast.specs.View.{entries_view, entry_view, expression_view, item_view, items_view};
 ghost use Rattle.tera_grammar.specs.expressions.Output.{array_of, map_of};
 ghost use Rattle.tera_expr_parts.specs.Folding.{constant_of, is_constant_entry, is_constant_item, item_values, option_list, put_entry};
 

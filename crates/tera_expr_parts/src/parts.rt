@@ -4,9 +4,9 @@ ghost use Rattle.std.specs.Prelude.{◌≡◌, ◌⊎◌, IfErr, IfOk, false, tr
 ghost use Rattle.tera_base.specs.Errors.{IsMemory};
 ghost use Rattle.tera_base.specs.declared.utils.Span.{Span};
 ghost use Rattle.tera_lexer.specs.code.Seen.{seen};
-ghost use Rattle.tera_nodes.specs.Tree as tree;
-ghost use Rattle.tera_nodes.specs.View.{expression_view};
-ghost use Rattle.tera_nodes.specs.declared.ast.UnaryOperator.TheVariants as unary;
+ghost use Rattle.tera_ast.specs.Tree as tree;
+ghost use Rattle.tera_ast.specs.View.{expression_view};
+ghost use Rattle.tera_ast.specs.declared.ast.UnaryOperator.TheVariants as unary;
 ghost use Rattle.tera_grammar.specs.expressions.Output.{prefixed};
 ghost use Rattle.tera_grammar.specs.expressions.Spans.{spanning};
 ghost use Rattle.tera_grammar.specs.expressions.Stack.{binary_output, refuses};

@@ -5,7 +5,7 @@ use Rattle.tera_base.specs.declared.utils.Span.{Span}
 use Rattle.tera_base.specs.declared.errors.Error.{Error}
 use Rattle.tera_lexer.specs.code.Cursors.{Position}
 use Rattle.tera_lexer.specs.grammar.Tokens.{Items}
-use Rattle.tera_nodes.specs.Tree.{Expr, Args}
+use Rattle.tera_ast.specs.Tree.{Expr, Args}
 use Rattle.tera_grammar.specs.Words.{are_distinct}
 use Rattle.tera_grammar.specs.expressions.Marks.{RightParen, Comma, Assign}
 use Rattle.tera_grammar.specs.expressions.Concrete.{Name, Tree, Row, of_arguments, Element, only, then, argument}

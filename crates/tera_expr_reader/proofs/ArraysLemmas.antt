@@ -4,9 +4,9 @@ use Rattle.tera_base.specs.Values.{Vals}
 use Rattle.tera_base.specs.declared.utils.Span.{Span}
 use Rattle.tera_base.specs.declared.errors.Error.{Error}
 use Rattle.tera_lexer.specs.grammar.Tokens.{Items as Left}
-use Rattle.tera_nodes.specs.Tree as tree
-use Rattle.tera_nodes.specs.View.{expression_view}
-use Rattle.tera_nodes.specs.declared.ast.Expression.{Expression}
+use Rattle.tera_ast.specs.Tree as tree
+use Rattle.tera_ast.specs.View.{expression_view}
+use Rattle.tera_ast.specs.declared.ast.Expression.{Expression}
 use Rattle.tera_grammar.specs.expressions.Marks.{RightBracket, For}
 use Rattle.tera_grammar.specs.expressions.Marks as marks
 use Rattle.tera_grammar.specs.expressions.Concrete.{Tree, Atomic, Array, of_items, ended, Element, plain, spread}

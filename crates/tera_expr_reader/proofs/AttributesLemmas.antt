@@ -7,11 +7,11 @@ use Rattle.tera_base.specs.declared.errors.Error.{Error}
 use Rattle.tera_base.specs.declared.utils.Span.{Span}
 use Rattle.tera_lexer.specs.grammar.Tokens.{Items}
 use Rattle.tera_lexer.specs.code.Cursors.{Position}
-use Rattle.tera_nodes.specs.Tree as tree
-use Rattle.tera_nodes.specs.View.{entries_view, entry_view, expression_view}
-use Rattle.tera_nodes.specs.declared.ast.Expression.{Expression}
-use Rattle.tera_nodes.specs.declared.ast.MapEntryOf.{MapEntryOf}
-use Rattle.tera_nodes.specs.declared.ast.MapEntryOf.TheVariants as entries
+use Rattle.tera_ast.specs.Tree as tree
+use Rattle.tera_ast.specs.View.{entries_view, entry_view, expression_view}
+use Rattle.tera_ast.specs.declared.ast.Expression.{Expression}
+use Rattle.tera_ast.specs.declared.ast.MapEntryOf.{MapEntryOf}
+use Rattle.tera_ast.specs.declared.ast.MapEntryOf.TheVariants as entries
 use Rattle.tera_grammar.specs.Options.{◌>>=◌}
 use Rattle.tera_grammar.specs.expressions.Marks.{Assign, LeftBrace, RightBrace, Spread}
 use Rattle.tera_grammar.specs.expressions.Concrete.{Name, Quote, Tree, Attributes, no_attributes, bare, quoted, valued, spreading}

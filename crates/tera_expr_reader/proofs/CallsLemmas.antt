@@ -3,10 +3,10 @@ use Rattle.std.proofs.Common.{◌≡◌, ℕ, Bool, true, false, Option, Some, N
 use Rattle.std.specs.Prelude.{String}
 use Rattle.std.specs.declared.alloc.Global.{Global}
 use Rattle.std.specs.BTreeMap.{BTreeMap}
-use Rattle.tera_nodes.specs.Tree as tree
-use Rattle.tera_nodes.specs.Tree.{Expr}
-use Rattle.tera_nodes.specs.View.{args_view}
-use Rattle.tera_nodes.specs.declared.ast.Expression.{Expression}
+use Rattle.tera_ast.specs.Tree as tree
+use Rattle.tera_ast.specs.Tree.{Expr}
+use Rattle.tera_ast.specs.View.{args_view}
+use Rattle.tera_ast.specs.declared.ast.Expression.{Expression}
 use Rattle.tera_lexer.specs.code.Cursors.{Position}
 use Rattle.tera_grammar.specs.expressions.Spans.{spanning}
 use Rattle.tera_grammar.specs.expressions.Output.{args_output}

@@ -7,8 +7,8 @@ use Rattle.tera_lexer.specs.grammar.Tokens as toks
 use Rattle.tera_lexer.specs.grammar.Tokens.{Tok, Items, Ended, Failed, Token}
 use Rattle.tera_lexer.specs.code.Seen.{seen}
 use Rattle.tera_lexer.specs.code.Cursors.{Position, Skips, Sight, SeesTwo, size}
-use Rattle.tera_nodes.specs.Tree as tree
-use Rattle.tera_nodes.specs.Tree.{Expr}
+use Rattle.tera_ast.specs.Tree as tree
+use Rattle.tera_ast.specs.Tree.{Expr}
 use Rattle.tera_grammar.specs.Options.{◌>>=◌}
 use Rattle.tera_grammar.specs.expressions.Marks.{Mark, Dot, QuestionDot, LeftBracket, QuestionBracket, LeftParen}
 use Rattle.tera_grammar.specs.expressions.Concrete.{Name, Joint, plain_dot, optional_dot, Bracket, plain_bracket, optional_bracket, Sub, index, slice, Links, no_links, field, item, Row}
@@ -25,8 +25,8 @@ use Rattle.tera_grammar.proofs.expressions.Steps.{links_steps}
 use Rattle.tera_expr_reader.specs.Chains.{link_kind, LinkAt, taken_field, Adds, Lacks, LinkedGives, IsChain, IsCallOf}
 use Rattle.tera_expr_parts.specs.Literals.{MayBeNegated}
 use Rattle.tera_expr_reader.specs.declared.chains.Linked.TheVariants.{Whole, Longer}
-use Rattle.tera_nodes.specs.View.{expression_view}
-use Rattle.tera_nodes.specs.declared.ast.Expression.{Expression}
+use Rattle.tera_ast.specs.View.{expression_view}
+use Rattle.tera_ast.specs.declared.ast.Expression.{Expression}
 use Rattle.tera_expect.specs.Taking.{Fails, GivesBy, Took}
 use Rattle.tera_expr_reader.specs.declared.chains.Link.TheVariants.{Nothing, Field, Item}
 use Rattle.tera_expr_parts.proofs.FrontsLemmas.{took_token, unseen}

@@ -4,7 +4,7 @@ use Rattle.tera_base.specs.declared.errors.Error.{Error}
 use Rattle.tera_base.specs.declared.utils.Span.{Span}
 use Rattle.tera_lexer.specs.grammar.Tokens.{Tok, Ident, Items, Token}
 use Rattle.tera_lexer.specs.code.Cursors.{Position, size}
-use Rattle.tera_nodes.specs.Tree as tree
+use Rattle.tera_ast.specs.Tree as tree
 use Rattle.tera_grammar.specs.Options.{◌>>=◌}
 use Rattle.tera_grammar.specs.expressions.Operators.{Div, GreaterThan}
 use Rattle.tera_grammar.specs.expressions.Marks.{Dot, Operation}

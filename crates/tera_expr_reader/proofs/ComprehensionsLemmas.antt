@@ -2,7 +2,7 @@
 use Rattle.std.proofs.Common.{◌≡◌, ℕ, List, Option, Some, None, refl, ap, ◌∙◌}
 use Rattle.tera_base.specs.declared.utils.Span.{Span}
 use Rattle.tera_lexer.specs.grammar.Tokens.{Items}
-use Rattle.tera_nodes.specs.Tree.{Expr, MaybeExpr, ListComprehension}
+use Rattle.tera_ast.specs.Tree.{Expr, MaybeExpr, ListComprehension}
 use Rattle.tera_grammar.specs.expressions.Operators.{In}
 use Rattle.tera_grammar.specs.expressions.Marks.{Mark, RightBracket, If, Operation}
 use Rattle.tera_grammar.specs.expressions.Concrete.{Name, Second, Tree, Atomic, Comprehension, Extra, no_extra, extra}

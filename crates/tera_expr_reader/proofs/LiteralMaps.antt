@@ -6,7 +6,7 @@ use Rattle.tera_base.specs.Values.{Val, Pairs, NoPairs}
 use Rattle.tera_base.specs.declared.utils.Span.{Span}
 use Rattle.tera_base.specs.declared.errors.Error.{Error}
 use Rattle.tera_lexer.specs.grammar.Tokens.{Items}
-use Rattle.tera_nodes.specs.Tree as tree
+use Rattle.tera_ast.specs.Tree as tree
 use Rattle.tera_grammar.specs.Limits.{Limits}
 use Rattle.tera_grammar.specs.expressions.Companions.{Opened, map_value}
 use Rattle.tera_grammar.specs.expressions.Concrete.{Tree, Atomic, Map, Row, of_entries}

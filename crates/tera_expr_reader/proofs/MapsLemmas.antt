@@ -7,12 +7,12 @@ use Rattle.tera_base.specs.declared.utils.Span.{Span}
 use Rattle.tera_base.specs.declared.errors.Error.{Error}
 use Rattle.tera_lexer.specs.code.Cursors.{Position}
 use Rattle.tera_lexer.specs.grammar.Tokens.{Items as Left}
-use Rattle.tera_nodes.specs.Tree as tree
-use Rattle.tera_nodes.specs.Tree.{Expr, Entries, NoEntries}
-use Rattle.tera_nodes.specs.View.{expression_view, entry_view, entries_of, entries_view}
-use Rattle.tera_nodes.specs.declared.ast.MapEntryOf.{MapEntryOf}
-use Rattle.tera_nodes.specs.declared.ast.MapEntryOf.TheVariants.{KeyValue, Spread}
-use Rattle.tera_nodes.specs.declared.ast.Expression.{Expression}
+use Rattle.tera_ast.specs.Tree as tree
+use Rattle.tera_ast.specs.Tree.{Expr, Entries, NoEntries}
+use Rattle.tera_ast.specs.View.{expression_view, entry_view, entries_of, entries_view}
+use Rattle.tera_ast.specs.declared.ast.MapEntryOf.{MapEntryOf}
+use Rattle.tera_ast.specs.declared.ast.MapEntryOf.TheVariants.{KeyValue, Spread}
+use Rattle.tera_ast.specs.declared.ast.Expression.{Expression}
 use Rattle.tera_grammar.specs.expressions.Marks as marks
 use Rattle.tera_grammar.specs.expressions.Marks.{Colon}
 use Rattle.tera_grammar.specs.expressions.Concrete.{Lit, Tree, Atomic, Map, of_entries, Row, ended, only, then, Element, plain, spread, pair, argument}

@@ -9,11 +9,11 @@ use Rattle.tera_base.specs.declared.errors.Error.{Error}
 use Rattle.tera_base.specs.declared.utils.Span.{Span}
 use Rattle.tera_base.specs.declared.values.Value.{Value}
 use Rattle.tera_lexer.specs.grammar.Tokens.{Items}
-use Rattle.tera_nodes.specs.Tree as tree
-use Rattle.tera_nodes.specs.Tree.{Expr}
-use Rattle.tera_nodes.specs.View.{expression_view}
-use Rattle.tera_nodes.specs.declared.ast.Expression.{Expression}
-use Rattle.tera_nodes.specs.declared.ast.MapEntryOf.{MapEntryOf}
+use Rattle.tera_ast.specs.Tree as tree
+use Rattle.tera_ast.specs.Tree.{Expr}
+use Rattle.tera_ast.specs.View.{expression_view}
+use Rattle.tera_ast.specs.declared.ast.Expression.{Expression}
+use Rattle.tera_ast.specs.declared.ast.MapEntryOf.{MapEntryOf}
 use Rattle.tera_grammar.specs.Limits.{Limits}
 use Rattle.tera_grammar.specs.Options.{◌>>=◌}
 use Rattle.tera_grammar.specs.expressions.Marks.{LeftParen}

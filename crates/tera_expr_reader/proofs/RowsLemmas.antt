@@ -4,8 +4,8 @@ use Rattle.tera_base.specs.declared.utils.Span.{Span}
 use Rattle.tera_base.specs.declared.errors.Error.{Error}
 use Rattle.tera_lexer.specs.code.Cursors.{Position}
 use Rattle.tera_lexer.specs.grammar.Tokens.{Items}
-use Rattle.tera_nodes.specs.View.{expression_view}
-use Rattle.tera_nodes.specs.declared.ast.Expression.{Expression}
+use Rattle.tera_ast.specs.View.{expression_view}
+use Rattle.tera_ast.specs.declared.ast.Expression.{Expression}
 use Rattle.tera_grammar.specs.expressions.Marks.{Mark, Comma, mark}
 use Rattle.tera_grammar.specs.expressions.Concrete.{Kind, of_arguments, of_items, of_entries, closing, Row, ended, only, then, Element}
 use Rattle.tera_grammar.specs.expressions.Measures.{links}

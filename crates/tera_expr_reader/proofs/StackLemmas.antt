@@ -11,7 +11,7 @@ use Rattle.tera_base.specs.declared.utils.Span.{Span}
 use Rattle.tera_base.specs.declared.errors.Error.{Error}
 use Rattle.tera_lexer.specs.grammar.Tokens as toks
 use Rattle.tera_lexer.specs.grammar.Tokens.{Tok, Items, Token, Ident, Symbol}
-use Rattle.tera_nodes.specs.Tree as tree
+use Rattle.tera_ast.specs.Tree as tree
 use Rattle.tera_grammar.specs.Words.{is_none, is_not}
 use Rattle.tera_grammar.specs.Options.{◌>>=◌}
 use Rattle.tera_grammar.specs.expressions.Operators.{BinaryOperator, Minus}

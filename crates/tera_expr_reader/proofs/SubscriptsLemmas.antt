@@ -9,9 +9,9 @@ use Rattle.tera_grammar.specs.expressions.Marks.{Mark, RightBracket, Colon}
 use Rattle.tera_grammar.specs.expressions.Concrete.{Tree, Sub, index, slice, Part, absent, present, Extra, no_extra, extra}
 use Rattle.tera_grammar.specs.expressions.Reading.Front.{Place, at, Reads, begins, takes, skip}
 use Rattle.tera_grammar.specs.expressions.Reading.Bracketed.{Reader, Room, inside_subscript, part_of, extra_of, slice_of, index_at, sub_of}
-use Rattle.tera_nodes.specs.Tree.{Expr}
-use Rattle.tera_nodes.specs.View.{expression_view}
-use Rattle.tera_nodes.specs.declared.ast.Expression.{Expression}
+use Rattle.tera_ast.specs.Tree.{Expr}
+use Rattle.tera_ast.specs.View.{expression_view}
+use Rattle.tera_ast.specs.declared.ast.Expression.{Expression}
 use Rattle.tera_grammar.specs.expressions.Output.{output, sub_output}
 use Rattle.tera_expect.specs.Taking.{Fails, GivesBy}
 use Rattle.tera_expr_reader.specs.Chains.{IsPart, IsSubscript, subscripted}

@@ -5,10 +5,10 @@ use Rattle.tera_base.specs.declared.errors.Error.{Error}
 use Rattle.tera_base.specs.declared.utils.Span.{Span}
 use Rattle.tera_lexer.specs.grammar.Tokens.{Items}
 use Rattle.tera_lexer.specs.code.Cursors.{Position}
-use Rattle.tera_nodes.specs.Tree as tree
-use Rattle.tera_nodes.specs.Tree.{Expr}
-use Rattle.tera_nodes.specs.View.{expression_view, maybe_view}
-use Rattle.tera_nodes.specs.declared.ast.Expression.{Expression}
+use Rattle.tera_ast.specs.Tree as tree
+use Rattle.tera_ast.specs.Tree.{Expr}
+use Rattle.tera_ast.specs.View.{expression_view, maybe_view}
+use Rattle.tera_ast.specs.declared.ast.Expression.{Expression}
 use Rattle.tera_grammar.specs.Options.{◌>>=◌}
 use Rattle.tera_grammar.specs.expressions.Concrete.{Name, Joint, plain_dot, optional_dot, plain_bracket, optional_bracket, Sub, Part, Links, no_links, Row}
 use Rattle.tera_grammar.specs.expressions.Conditions.{is_field_of}

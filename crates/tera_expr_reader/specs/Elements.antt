@@ -1,12 +1,12 @@
 -- The elements of arrays and maps, and the parts of a comprehension.
 use Rattle.std.specs.Prelude.{◌≡◌, Bool, Option}
 use Rattle.tera_base.specs.ValueView.{key_view}
-use Rattle.tera_nodes.specs.View.{expression_view, maybe_view}
-use Rattle.tera_nodes.specs.declared.ast.ArrayEntryOf.{ArrayEntryOf}
-use Rattle.tera_nodes.specs.declared.ast.ArrayEntryOf.TheVariants as items
-use Rattle.tera_nodes.specs.declared.ast.MapEntryOf.{MapEntryOf}
-use Rattle.tera_nodes.specs.declared.ast.MapEntryOf.TheVariants as entries
-use Rattle.tera_nodes.specs.declared.ast.Expression.{Expression}
+use Rattle.tera_ast.specs.View.{expression_view, maybe_view}
+use Rattle.tera_ast.specs.declared.ast.ArrayEntryOf.{ArrayEntryOf}
+use Rattle.tera_ast.specs.declared.ast.ArrayEntryOf.TheVariants as items
+use Rattle.tera_ast.specs.declared.ast.MapEntryOf.{MapEntryOf}
+use Rattle.tera_ast.specs.declared.ast.MapEntryOf.TheVariants as entries
+use Rattle.tera_ast.specs.declared.ast.Expression.{Expression}
 use Rattle.tera_grammar.specs.expressions.Concrete.{Extra, Element, plain, spread, pair}
 use Rattle.tera_grammar.specs.expressions.Output.{key_of, output, extra_output}
 

@@ -2,10 +2,10 @@
 use Rattle.std.specs.Prelude.{cond, ℕ, List, None, Result}
 use Rattle.tera_base.specs.declared.errors.Error.{Error}
 use Rattle.tera_base.specs.declared.utils.Span.{Span}
-use Rattle.tera_nodes.specs.declared.ast.Expression.{Expression}
+use Rattle.tera_ast.specs.declared.ast.Expression.{Expression}
 use Rattle.tera_grammar.specs.expressions.Concrete.{Name, Sign}
 use Rattle.tera_lexer.specs.code.Cursors.{Position}
-use Rattle.tera_nodes.specs.View.{expression_view}
+use Rattle.tera_ast.specs.View.{expression_view}
 use Rattle.tera_grammar.specs.expressions.Reading.Front.{Place, begins_sign}
 use Rattle.tera_grammar.specs.expressions.Reading.Atoms.{word_head}
 use Rattle.tera_grammar.specs.expressions.Reading.Loop.{expr}

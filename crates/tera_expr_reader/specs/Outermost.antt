@@ -5,9 +5,9 @@ use Rattle.tera_base.specs.Values as values
 use Rattle.tera_base.specs.ValueView.{value_view}
 use Rattle.tera_base.specs.declared.utils.Span.{Span}
 use Rattle.tera_base.specs.declared.values.Value.{Value}
-use Rattle.tera_nodes.specs.View.{args_view, entries_view, expression_view}
-use Rattle.tera_nodes.specs.declared.ast.Expression.{Expression}
-use Rattle.tera_nodes.specs.declared.ast.MapEntryOf.{MapEntryOf}
+use Rattle.tera_ast.specs.View.{args_view, entries_view, expression_view}
+use Rattle.tera_ast.specs.declared.ast.Expression.{Expression}
+use Rattle.tera_ast.specs.declared.ast.MapEntryOf.{MapEntryOf}
 use Rattle.tera_grammar.specs.expressions.Companions.{Opened, kwargs_output}
 use Rattle.tera_grammar.specs.statements.Expressions as expressions
 use Rattle.tera_grammar.specs.statements.Expressions.{Filtering, Attributes, ComponentName, LiteralArray, LiteralMap, expression_output, filter_output, attributes_output, component_text, array_output, map_output}

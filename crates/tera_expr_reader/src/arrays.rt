@@ -1,7 +1,7 @@
 //! Arrays and comprehensions.
 
 ghost use Rattle.std.specs.Prelude.{◌≡◌, IfErr, IfOk};
-ghost use Rattle.tera_nodes.specs.View.{expression_view};
+ghost use Rattle.tera_ast.specs.View.{expression_view};
 ghost use Rattle.tera_grammar.specs.expressions.Concrete.{Element, Tree, of_items};
 ghost use Rattle.tera_grammar.specs.expressions.Marks.{RightBracket};
 ghost use Rattle.tera_grammar.specs.expressions.Output.{output};

@@ -1,7 +1,7 @@
 //! Names with arguments: tests and filters.
 
 ghost use Rattle.std.specs.Prelude.{IfErr, IfOk};
-ghost use Rattle.tera_nodes.specs.View.{expression_view};
+ghost use Rattle.tera_ast.specs.View.{expression_view};
 ghost use Rattle.tera_grammar.specs.expressions.Reading.Front.{at, ends_test};
 ghost use Rattle.tera_grammar.specs.expressions.Reading.Bracketed.{args_of};
 ghost use Rattle.tera_grammar.specs.expressions.Reading.Loop.{expr, suffix_in};

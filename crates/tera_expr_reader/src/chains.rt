@@ -1,7 +1,7 @@
 //! Chains and calls of functions.
 
 ghost use Rattle.std.specs.Prelude.{◌≡◌, ◌≢◌, ◌&&◌, IfErr, IfOk};
-ghost use Rattle.tera_nodes.specs.View.{expression_view};
+ghost use Rattle.tera_ast.specs.View.{expression_view};
 ghost use Rattle.tera_grammar.specs.Words.{is_loop, is_loop_field};
 ghost use Rattle.tera_grammar.specs.expressions.Output.{of_loop};
 ghost use Rattle.tera_grammar.specs.expressions.Reading.Front as reading;

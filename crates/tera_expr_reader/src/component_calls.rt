@@ -1,7 +1,7 @@
 //! Calls of components that close themselves, and their attributes.
 
 ghost use Rattle.std.specs.Prelude.{IfErr, IfOk};
-ghost use Rattle.tera_nodes.specs.View.{expression_view};
+ghost use Rattle.tera_ast.specs.View.{expression_view};
 ghost use Rattle.tera_grammar.specs.expressions.Marks.{Assign, LeftBrace};
 ghost use Rattle.tera_grammar.specs.expressions.Reading.Atoms.{component_of};
 ghost use Rattle.tera_grammar.specs.expressions.Reading.Front.{at, name_of, skip};

@@ -4,7 +4,7 @@ ghost use Rattle.std.specs.Prelude.{◌≡◌, ◌<◌, IfOk};
 ghost use Rattle.std.specs.Option.{option_map};
 ghost use Rattle.tera_lexer.specs.code.Seen.{seen};
 ghost use Rattle.tera_lexer.specs.grammar.Tokens.{Ident};
-ghost use Rattle.tera_nodes.specs.View.{expression_view};
+ghost use Rattle.tera_ast.specs.View.{expression_view};
 ghost use Rattle.tera_expr_reader.specs.Lone.{GivesLone, is_stop, leaf_of, second_is_stop};
 
 use std::alloc::{AllocError, Global};

@@ -1,7 +1,7 @@
 //! Maps.
 
 ghost use Rattle.std.specs.Prelude.{IfErr, IfOk};
-ghost use Rattle.tera_nodes.specs.View.{expression_view};
+ghost use Rattle.tera_ast.specs.View.{expression_view};
 ghost use Rattle.tera_grammar.specs.expressions.Concrete.{of_entries};
 ghost use Rattle.tera_grammar.specs.expressions.Reading.Atoms.{map_of};
 ghost use Rattle.tera_grammar.specs.expressions.Reading.Front.{at};

@@ -1,7 +1,7 @@
 //! What stands between brackets, parted by commas.
 
 ghost use Rattle.std.specs.Prelude.{IfErr, IfOk};
-ghost use Rattle.tera_nodes.specs.View.{expression_view};
+ghost use Rattle.tera_ast.specs.View.{expression_view};
 ghost use Rattle.tera_grammar.specs.expressions.Reading.Front.{at};
 ghost use Rattle.tera_grammar.specs.expressions.Stack.{Gives};
 ghost use Rattle.tera_expr_parts.specs.Rooms.{room_of};

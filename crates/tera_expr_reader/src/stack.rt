@@ -1,7 +1,7 @@
 //! Reads expressions over a stack of those that are open.
 
 ghost use Rattle.std.specs.Prelude.{◌≡◌, ◌+◌, ℕ, IfErr, IfOk, Some};
-ghost use Rattle.tera_nodes.specs.View.{expression_view};
+ghost use Rattle.tera_ast.specs.View.{expression_view};
 ghost use Rattle.tera_grammar.specs.expressions.Spans.{spanning};
 ghost use Rattle.tera_grammar.specs.expressions.Reading.Front.{at};
 ghost use Rattle.tera_grammar.specs.expressions.Reading.Loop.{expr};

@@ -2,7 +2,7 @@
 
 ghost use Rattle.std.specs.Prelude.{◌≡◌, IfErr, IfOk};
 ghost use Rattle.tera_base.specs.declared.utils.Span.{Span};
-ghost use Rattle.tera_nodes.specs.View.{expression_view};
+ghost use Rattle.tera_ast.specs.View.{expression_view};
 ghost use Rattle.tera_grammar.specs.expressions.Concrete.{Part};
 ghost use Rattle.tera_grammar.specs.expressions.Marks.{Colon};
 ghost use Rattle.tera_grammar.specs.expressions.Reading.Front.{at};

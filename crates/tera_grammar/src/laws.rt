@@ -35,7 +35,7 @@ ghost use Rattle.tera_grammar.specs.expressions.Reading.Whole.{
   literal_array_of,
   literal_map_of,
 };
-ghost use Rattle.tera_nodes.specs.View.{nodes_of};
+ghost use Rattle.tera_ast.specs.View.{nodes_of};
 ghost use Rattle.tera_tree.specs.Tree.{Output};
 ghost use Rattle.tera_grammar.specs.statements.Constants.{EachOfOutput};
 ghost use Rattle.tera_grammar.specs.statements.Grammar.{Body};

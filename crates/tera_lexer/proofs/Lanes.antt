@@ -8,7 +8,7 @@ use Rattle.std.proofs.lemmas.List.Sums.{prefix_len_passes, prefix_len-le-length}
 use Rattle.std.proofs.lemmas.Simd.{map-map, mask_l-mod, first_set_mask_l}
 use lib.Lanes.{Each1, mask_l, top}
 use Rattle.tera_lexer.specs.code.Counting.{ArePrintable, is_printable_byte}
-use Rattle.tera_lexer.specs.code.Found.{first_set}
+use Rattle.tera_base.specs.Lanes.{first_set}
 use Rattle.tera_lexer.proofs.Runs.{run_grows, run_ends}
 
 -- two tests of bytes that agree pass as many

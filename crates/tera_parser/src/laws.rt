@@ -6,7 +6,7 @@ ghost use Rattle.tera_base.specs.Same.{key_eq};
 ghost use Rattle.tera_base.specs.Values.{KeyVal, Val, Pairs};
 ghost use Rattle.tera_lexer.specs.code.Cursors as cursors;
 ghost use Rattle.tera_lexer.specs.grammar.Marks.{Marks, IsValid};
-ghost use Rattle.tera_nodes.specs.Spans as nodes;
+ghost use Rattle.tera_ast.specs.Spans as nodes;
 ghost use Rattle.tera_tree.specs.Calls as calls;
 ghost use Rattle.tera_tree.specs.Infos.{shown_type, shown_type_name};
 ghost use Rattle.tera_tree.specs.Tree.{Output};

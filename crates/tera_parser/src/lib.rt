@@ -1,8 +1,8 @@
 //! The parser of the template engine Tera: from the text of one template to its tree.
 //!
 //! It takes a file's name, a source, markers and limits, and gives the tree (`Derives`) or the fault (`Refuses`), whose
-//! notes name the file. It stands on `tera_statements` and `tera_expr`, and passes all public names of the crates below
-//! on.
+//! notes name the file. It stands on `tera_statements` and `tera_expr`, and passes the public names on that a user of it
+//! needs.
 //!
 //! In the order of reading: `parsing`, the parser; the modules below, its names; `notes`; specs `Job`, `Refusal`,
 //! `Notes` and `Comments`. Then `laws`.

@@ -1,12 +1,12 @@
 //! The program `tera`: its command line, and what each subcommand does.
 //!
-//! It takes a runtime and answers the status that the process ends with (`run`), so that a program is no more than that
-//! call. It stands on `clap` for the command line, on `tera_files` for files, and on `tera_report` and `terminal_text` for
-//! what is told.
+//! It takes a runtime and answers the status that the process ends with (`run`), so that a program is no more than
+//! that call. It stands on `clap` for the command line, on `tera_files` for files, and on `tera_report` and
+//! `terminal_text` for what is told.
 //!
 //! In the order of reading: `options`, the words; `job`, what they ask; `status`, how it ends; `colours` and `output`;
-//! `reading`, the templates; `found`, `forms`, `writing` and `telling`, what is found in them as text; `counting`, the last line;
-//! `plan` and `markers`, what a file becomes; then a module for each subcommand.
+//! `reading`, the templates; `found`, `forms`, `writing` and `telling`, what is found in them as text; `counting`, the
+//! last line; `plan` and `markers`, what a file becomes; then a module for each subcommand.
 #![tactic(auto)]
 
 mod check;
@@ -41,8 +41,8 @@ pub use plan::{Plan, plan_of};
 use std::rt::{Env, Files};
 use std::{env, io};
 
-/// Does what the arguments of the process ask, and answers the status that it ends with: 0 where nothing was found and all
-/// was done, 1 where something was found, and 2 where not all could be done or told.
+/// Does what the arguments of the process ask, and answers the status that it ends with: 0 where nothing was found and
+/// all was done, 1 where something was found, and 2 where not all could be done or told.
 pub fn run<R: Files + Env + Input + Print + Eprint + AllocGlobal + Clone + Drop>(
     rt: &R,
     terminals: Terminals,

@@ -1,9 +1,9 @@
 //! A language server for templates: from messages of the Language Server Protocol to messages.
 //!
 //! It takes the bytes of messages as they come (`Server::handle`), and the texts of files that it asks for
-//! (`Server::load`); when no message waits it tells what is found in the texts as they are (`Server::settle`). It does no
-//! input or output. It stands on `json_rpc` for messages, on `tera_workspace` for documents and what is found in them, on
-//! `tera_layout`, and on `tera_outline` for outlines, names, coloured tokens and what may be typed.
+//! (`Server::load`); when no message waits it tells what is found in the texts as they are (`Server::settle`). It does
+//! no input or output. It stands on `json_rpc` for messages, on `tera_workspace` for documents and what is found in
+//! them, on `tera_layout`, and on `tera_outline` for outlines, names, coloured tokens and what may be typed.
 //!
 //! In the order of reading: specs `States`, `Requests`, `Notes`, `Steps`, `Settling`; `server`, and `requests` and `notes`,
 //! which a message may be; `client` and `editor`, what is known of them; `abilities`, `layouts`, `symbols`,

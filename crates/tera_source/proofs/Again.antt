@@ -3,9 +3,9 @@ use Rattle.std.proofs.Common.{◌≡◌, List, ℕ, false, refl, sym, ap, ap₂,
 use Rattle.tera_base.specs.Values as values
 use Rattle.tera_lexer.specs.code.Cursors.{nowhere}
 use Rattle.tera_lexer.specs.grammar.Tokens.{Ended}
-use Rattle.tera_nodes.specs.declared.ast.UnaryOperator.TheVariants as unary
-use Rattle.tera_nodes.specs.Tree as tree
-use Rattle.tera_nodes.specs.Tree.{Expr}
+use Rattle.tera_ast.specs.declared.ast.UnaryOperator.TheVariants as unary
+use Rattle.tera_ast.specs.Tree as tree
+use Rattle.tera_ast.specs.Tree.{Expr}
 use Rattle.tera_grammar.specs.expressions.Concrete.{Negative, plainly, Single, Tree, Atomic, Prefix, Suffixed, Infix, Call, Array, Map, Component, index, present, extra, plain, spread, pair, argument, Attributes, spreading, Test, Filter, args, Binary, yield}
 use Rattle.tera_spelling.specs.Spelling.{tokens_text}
 use Rattle.tera_source.specs.Source.{word, key_literal, in_front, with_field, with_sub, negation_of, operator_for, path_from, key_text, attribute, tree_of, part_of, extra_of, arguments_row, args_of, items_row, entries_row, attributes_of, paren, source_text}

@@ -5,11 +5,11 @@ use Rattle.tera_base.specs.Values as values
 use Rattle.tera_base.specs.Values.{Val}
 use Rattle.tera_base.specs.declared.utils.Span.{Span}
 use Rattle.tera_lexer.specs.code.Cursors.{nowhere}
-use Rattle.tera_nodes.specs.Tree as tree
-use Rattle.tera_nodes.specs.Tree.{Expr}
-use Rattle.tera_nodes.specs.declared.ast.BinaryOperator.{BinaryOperator}
-use Rattle.tera_nodes.specs.declared.ast.BinaryOperator.TheVariants as binary
-use Rattle.tera_nodes.specs.declared.ast.UnaryOperator.TheVariants as unary
+use Rattle.tera_ast.specs.Tree as tree
+use Rattle.tera_ast.specs.Tree.{Expr}
+use Rattle.tera_ast.specs.declared.ast.BinaryOperator.{BinaryOperator}
+use Rattle.tera_ast.specs.declared.ast.BinaryOperator.TheVariants as binary
+use Rattle.tera_ast.specs.declared.ast.UnaryOperator.TheVariants as unary
 use Rattle.tera_grammar.specs.expressions.Operators.{In}
 use Rattle.tera_grammar.specs.expressions.Concrete.{Negates, plainly, Single, Tree, Atomic, Prefix, Suffixed, Infix, Chain, Sub, Test, Binary}
 use Rattle.tera_source.specs.declared.context.Context.{Context}

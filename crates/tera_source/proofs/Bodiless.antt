@@ -1,8 +1,8 @@
 -- An expression that has a source text holds no call of a component with a body.
 use Rattle.std.proofs.Common.{◌≡◌, Bool, true, false, ◌||◌, not, refl, sym, true≢false}
 use Rattle.tera_base.specs.Values.{KeyVal, TextKey}
-use Rattle.tera_nodes.specs.Tree as tree
-use Rattle.tera_nodes.specs.Tree.{Expr}
+use Rattle.tera_ast.specs.Tree as tree
+use Rattle.tera_ast.specs.Tree.{Expr}
 use Rattle.tera_source.specs.Bodies.{has_body, maybe_has_body, args_have_body, items_have_body, entries_have_body}
 use Rattle.tera_source.specs.Writing.{is_bare}
 use Rattle.tera_source.specs.Writable.{IsWritable, MaybeWritable, AreWritableArgs, AreWritableItems, AreWritableEntries, AreWritableAttributes}

@@ -6,8 +6,8 @@ use Rattle.tera_lexer.specs.grammar.Marks.{Marks, default_marks}
 use Rattle.tera_lexer.specs.grammar.Tokens.{Items, Ended, Token, Start, Finish, AreTokensOf, tokens_of}
 use Rattle.tera_lexer.specs.grammar.Division.{Complete}
 use Rattle.tera_lexer.specs.declared.lexer.delimiters.Kind.TheVariants.{Variable}
-use Rattle.tera_nodes.specs.Tree as tree
-use Rattle.tera_nodes.specs.Tree.{Expr}
+use Rattle.tera_ast.specs.Tree as tree
+use Rattle.tera_ast.specs.Tree.{Expr}
 use Rattle.tera_tree.specs.Tree.{Output}
 use Rattle.tera_grammar.specs.Limits.{Limits}
 use Rattle.tera_grammar.specs.expressions.Concrete as concrete

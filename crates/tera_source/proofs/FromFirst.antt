@@ -6,8 +6,8 @@ use denote.Param.Weighed.{most}
 use Rattle.tera_base.specs.ValueView.{key_view, value_view, pairs_view}
 use Rattle.tera_base.specs.declared.values.Key.{Key}
 use Rattle.tera_base.specs.declared.values.Value.{Value, size-Value}
-use Rattle.tera_nodes.specs.View.{args_view}
-use Rattle.tera_nodes.specs.declared.ast.Expression.{Expression}
+use Rattle.tera_ast.specs.View.{args_view}
+use Rattle.tera_ast.specs.declared.ast.Expression.{Expression}
 use Rattle.tera_source.specs.Writing.{comma_text, key_source, constant_text, pairs_text, has_args}
 
 abbrev pub Argument : Type 0

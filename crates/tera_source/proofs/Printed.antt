@@ -8,12 +8,12 @@ use Rattle.tera_base.specs.Values as values
 use Rattle.tera_base.specs.Values.{KeyVal, TextKey, I64Key, TruthKey, Val, Vals, Pairs}
 use Rattle.tera_lexer.specs.grammar.Tokens.{Items, Ended}
 use Rattle.tera_lexer.specs.code.Cursors.{nowhere}
-use Rattle.tera_nodes.specs.Text.{binary_text}
-use Rattle.tera_nodes.specs.Tree as tree
-use Rattle.tera_nodes.specs.Tree.{Expr}
-use Rattle.tera_nodes.specs.declared.ast.BinaryOperator.{BinaryOperator}
-use Rattle.tera_nodes.specs.declared.ast.BinaryOperator.TheVariants as binary
-use Rattle.tera_nodes.specs.declared.ast.UnaryOperator.TheVariants as unary
+use Rattle.tera_ast.specs.Text.{binary_text}
+use Rattle.tera_ast.specs.Tree as tree
+use Rattle.tera_ast.specs.Tree.{Expr}
+use Rattle.tera_ast.specs.declared.ast.BinaryOperator.{BinaryOperator}
+use Rattle.tera_ast.specs.declared.ast.BinaryOperator.TheVariants as binary
+use Rattle.tera_ast.specs.declared.ast.UnaryOperator.TheVariants as unary
 use Rattle.tera_grammar.specs.expressions.Marks.{mark, RightParen, RightBracket, RightBrace, Colon, If}
 use Rattle.tera_grammar.specs.expressions.Concrete.{Simple, Escaped, Single, of_arguments, of_items, of_entries, Tree, Atomic, Chain, Links, no_links, field, item, Sub, index, slice, plain, spread, pair, argument, Attributes, bare, valued, literal_token, quote_token, yield, name_yield, joint_yield, bracket_yield, op_yield, links_yield, sub_yield, part_yield, extra_yield, attributes_yield, args_yield}
 use Rattle.tera_source.specs.declared.context.Context.{Context}

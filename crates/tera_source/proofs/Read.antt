@@ -1,6 +1,6 @@
 -- What an expression of the grammar is read as.
 use Rattle.std.proofs.Common.{◌≡◌, Bool, false, sym, subst}
-use Rattle.tera_nodes.specs.Tree.{Expr}
+use Rattle.tera_ast.specs.Tree.{Expr}
 use Rattle.tera_grammar.specs.expressions.Concrete.{Tree}
 use Rattle.tera_grammar.specs.expressions.Output.{output}
 use Rattle.tera_source.specs.Bodies.{has_body}

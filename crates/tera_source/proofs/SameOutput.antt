@@ -4,10 +4,10 @@ use Rattle.tera_base.specs.Values as values
 use Rattle.tera_base.specs.declared.utils.Span.{Span}
 use Rattle.tera_lexer.specs.grammar.Tokens.{Items}
 use Rattle.tera_lexer.specs.code.Cursors.{nowhere}
-use Rattle.tera_nodes.specs.declared.ast.BinaryOperator.TheVariants as binary
-use Rattle.tera_nodes.specs.declared.ast.UnaryOperator.TheVariants as unary
-use Rattle.tera_nodes.specs.Tree as tree
-use Rattle.tera_nodes.specs.Tree.{Expr}
+use Rattle.tera_ast.specs.declared.ast.BinaryOperator.TheVariants as binary
+use Rattle.tera_ast.specs.declared.ast.UnaryOperator.TheVariants as unary
+use Rattle.tera_ast.specs.Tree as tree
+use Rattle.tera_ast.specs.Tree.{Expr}
 use Rattle.tera_grammar.specs.expressions.Operators.{Div, GreaterThan, In, operator_made}
 use Rattle.tera_grammar.specs.expressions.Marks.{Mark, mark, RightParen, RightBracket, RightBrace, Comma, Colon, If, Else, For, Operation}
 use Rattle.tera_grammar.specs.expressions.Concrete.{Name, Sign, Negative, Negates, Joint, plain_dot, optional_dot, Bracket, plain_bracket, optional_bracket, plainly, negated, Second, no_second, second, Dotted, no_dots, dots, Single, NotIn, Kind, of_arguments, of_items, of_entries, closing, Tree, Atomic, Prefix, Suffixed, Infix, Atom, Literal, Null, Chain, Call, Paren, Array, Comprehension, Map, Component, Links, no_links, field, item, Sub, index, slice, Part, absent, present, Extra, no_extra, extra, Row, ended, only, then, Element, plain, spread, pair, argument, Attributes, no_attributes, bare, quoted, valued, spreading, Suffix, Test, Filter, Subscript, Args, no_args, args, Operator, Binary, Condition, name_yield, second_yield, yield, links_yield, sub_yield, part_yield, extra_yield, row_yield, attributes_yield, suffix_yield, operator_yield}

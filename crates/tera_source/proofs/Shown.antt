@@ -1,10 +1,10 @@
 -- What holds of the output of each outermost expression of a template holds of the expressions of its tree.
 use Rattle.std.proofs.Common.{◌≡◌, ℕ, Bool, true, false, List, [], ◌∷◌, ◌++◌}
 use Rattle.std.specs.List.{AllByRecursion}
-use Rattle.tera_nodes.specs.Tree as tree
-use Rattle.tera_nodes.specs.Tree.{Expr, Stmt}
+use Rattle.tera_ast.specs.Tree as tree
+use Rattle.tera_ast.specs.Tree.{Expr, Stmt}
 use Rattle.tera_tree.specs.Tree.{Definition}
-use Rattle.tera_nodes.specs.View.{nodes_of}
+use Rattle.tera_ast.specs.View.{nodes_of}
 use Rattle.tera_grammar.specs.expressions.Concrete.{Tree, Atomic, Prefix, Suffixed, Infix}
 use Rattle.tera_grammar.specs.expressions.Output as outputs
 use Rattle.tera_grammar.specs.statements.Expressions.{expression_output}

@@ -4,10 +4,10 @@ use Rattle.std.specs.Prelude.{ltb, ℤ, pos, negsuc, neg_ℤ}
 use Rattle.tera_base.specs.declared.utils.Span.{Span}
 use Rattle.tera_lexer.specs.code.Cursors.{nowhere}
 use Rattle.tera_base.specs.Values as values
-use Rattle.tera_nodes.specs.Tree as tree
+use Rattle.tera_ast.specs.Tree as tree
 use Rattle.tera_base.specs.Values.{Vals, Pairs}
 use Rattle.tera_grammar.specs.expressions.Operators.{BinaryOperator, Mul, Div, Mod, Plus, Minus, FloorDiv, Power, LessThan, GreaterThan, LessThanOrEqual, GreaterThanOrEqual, Equal, NotEqual, And, Or, StrConcat, In, operator_made}
-use Rattle.tera_nodes.specs.Tree.{Expr}
+use Rattle.tera_ast.specs.Tree.{Expr}
 use Rattle.tera_grammar.specs.expressions.Concrete.{Name, Lit, Number, Quoted, Truth, Sign, Negative, Negates, Joint, plainly, negated, Single, NotIn, Tree, Atomic, Prefix, Suffixed, Infix, Atom, Literal, Null, Chain, Call, Paren, Array, Comprehension, Map, Component, Links, no_links, field, item, Sub, index, slice, Row, plain, Suffix, Test, Filter, Subscript, Operator, Binary, Condition}
 use Rattle.tera_grammar.specs.expressions.Spans.{sign_span, last, spanning}
 use Rattle.tera_grammar.specs.expressions.Powers.{sign_power, left_power, right_power}

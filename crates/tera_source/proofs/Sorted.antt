@@ -6,7 +6,7 @@ use Rattle.std.specs.List.{AllByRecursion}
 use Rattle.std.proofs.lemmas.Slice.Eq.{bytes_eq-Decides}
 use Rattle.std.proofs.lemmas.Cmp.{nat_list_cmp_total}
 use Rattle.std.proofs.lemmas.Map.Text.{is_eq-slice_cmp}
-use Rattle.tera_nodes.specs.Tree.{Expr, Args, NoArgs, Arg}
+use Rattle.tera_ast.specs.Tree.{Expr, Args, NoArgs, Arg}
 use Rattle.tera_grammar.specs.Words.{AreDistinct}
 use Rattle.tera_grammar.specs.expressions.Output.{put_arg}
 

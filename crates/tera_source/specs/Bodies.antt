@@ -1,10 +1,10 @@
 -- Whether a component is called with a body in an expression.
 use Rattle.std.specs.Prelude.{Bool, false, not, ◌||◌}
-use Rattle.tera_nodes.specs.declared.ast.ArrayEntryOf.{ArrayEntryOf}
-use Rattle.tera_nodes.specs.declared.ast.ArrayEntryOf.TheVariants as items
-use Rattle.tera_nodes.specs.declared.ast.MapEntryOf.{MapEntryOf}
-use Rattle.tera_nodes.specs.declared.ast.MapEntryOf.TheVariants as entries
-use Rattle.tera_nodes.specs.Tree.{Expr, Const, Array, Map, Var, GetAttr, GetItem, Slice, Filter, Test, Ternary, ListComprehension, ComponentCall, FunctionCall, UnaryOperation, BinaryOperation, MaybeExpr, NoExpr, OneExpr, Args, NoArgs, Arg, Items, NoItems, Item, SpreadItem, Entries, NoEntries, Entry, SpreadEntry}
+use Rattle.tera_ast.specs.declared.ast.ArrayEntryOf.{ArrayEntryOf}
+use Rattle.tera_ast.specs.declared.ast.ArrayEntryOf.TheVariants as items
+use Rattle.tera_ast.specs.declared.ast.MapEntryOf.{MapEntryOf}
+use Rattle.tera_ast.specs.declared.ast.MapEntryOf.TheVariants as entries
+use Rattle.tera_ast.specs.Tree.{Expr, Const, Array, Map, Var, GetAttr, GetItem, Slice, Filter, Test, Ternary, ListComprehension, ComponentCall, FunctionCall, UnaryOperation, BinaryOperation, MaybeExpr, NoExpr, OneExpr, Args, NoArgs, Arg, Items, NoItems, Item, SpreadItem, Entries, NoEntries, Entry, SpreadEntry}
 
 abbrev mutual
   pub has_body : Expr → Bool

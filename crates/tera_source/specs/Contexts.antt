@@ -2,12 +2,12 @@
 use Rattle.std.specs.Prelude.{ℕ, negsuc, Bool, true, false, ◌&&◌, ◌||◌, ltb}
 use Rattle.tera_base.specs.Values as values
 use Rattle.tera_base.specs.Values.{Val}
-use Rattle.tera_nodes.specs.declared.ast.BinaryOperator.{BinaryOperator}
-use Rattle.tera_nodes.specs.declared.ast.BinaryOperator.TheVariants as binary
-use Rattle.tera_nodes.specs.declared.ast.UnaryOperator.{UnaryOperator}
-use Rattle.tera_nodes.specs.declared.ast.UnaryOperator.TheVariants as unary
-use Rattle.tera_nodes.specs.Tree as tree
-use Rattle.tera_nodes.specs.Tree.{Expr}
+use Rattle.tera_ast.specs.declared.ast.BinaryOperator.{BinaryOperator}
+use Rattle.tera_ast.specs.declared.ast.BinaryOperator.TheVariants as binary
+use Rattle.tera_ast.specs.declared.ast.UnaryOperator.{UnaryOperator}
+use Rattle.tera_ast.specs.declared.ast.UnaryOperator.TheVariants as unary
+use Rattle.tera_ast.specs.Tree as tree
+use Rattle.tera_ast.specs.Tree.{Expr}
 use Rattle.tera_grammar.specs.expressions.Powers as powers
 use Rattle.tera_source.specs.Source.{operator_for}
 use Rattle.tera_source.specs.declared.context.Context.{Context}

@@ -1,9 +1,9 @@
 -- Something holds of each expression that a node of a tree shows, sets, goes over or asks, at any depth of bodies.
 use Rattle.std.specs.Prelude.{false}
 use Rattle.std.specs.List.{AllByRecursion}
-use Rattle.tera_nodes.specs.Tree.{Expr, ComponentCall, Stmt, Shown, Set, BlockSet, Block, ForLoop, If, FilterSection, Nodes, NoNodes, OneNode}
+use Rattle.tera_ast.specs.Tree.{Expr, ComponentCall, Stmt, Shown, Set, BlockSet, Block, ForLoop, If, FilterSection, Nodes, NoNodes, OneNode}
 use Rattle.tera_tree.specs.Tree.{Output}
-use Rattle.tera_nodes.specs.View.{nodes_of}
+use Rattle.tera_ast.specs.View.{nodes_of}
 
 module _ (P : Expr → Type 0) where
   abbrev mutual

@@ -1,7 +1,7 @@
 -- An expression apart from where it and its parts stand.
 use Rattle.tera_lexer.specs.code.Cursors.{nowhere}
-use Rattle.tera_nodes.specs.Tree as tree
-use Rattle.tera_nodes.specs.Tree.{Expr}
+use Rattle.tera_ast.specs.Tree as tree
+use Rattle.tera_ast.specs.Tree.{Expr}
 
 abbrev mutual
   pub placeless : Expr → Expr

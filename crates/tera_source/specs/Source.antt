@@ -7,11 +7,11 @@ use Rattle.tera_lexer.specs.grammar.Tokens.{Ended}
 use Rattle.tera_lexer.specs.code.Cursors.{nowhere}
 use Rattle.tera_base.specs.Values as values
 use Rattle.tera_base.specs.Values.{KeyVal, TextKey, I64Key, TruthKey, Val, Vals, Pairs}
-use Rattle.tera_nodes.specs.declared.ast.BinaryOperator as declared
-use Rattle.tera_nodes.specs.declared.ast.BinaryOperator.TheVariants as binary
-use Rattle.tera_nodes.specs.declared.ast.UnaryOperator.TheVariants as unary
-use Rattle.tera_nodes.specs.Tree as tree
-use Rattle.tera_nodes.specs.Tree.{Expr}
+use Rattle.tera_ast.specs.declared.ast.BinaryOperator as declared
+use Rattle.tera_ast.specs.declared.ast.BinaryOperator.TheVariants as binary
+use Rattle.tera_ast.specs.declared.ast.UnaryOperator.TheVariants as unary
+use Rattle.tera_ast.specs.Tree as tree
+use Rattle.tera_ast.specs.Tree.{Expr}
 use Rattle.tera_grammar.specs.expressions.Operators.{BinaryOperator, Mul, Div, Mod, Plus, Minus, FloorDiv, Power, LessThan, GreaterThan, LessThanOrEqual, GreaterThanOrEqual, Equal, NotEqual, And, Or, StrConcat, In}
 use Rattle.tera_grammar.specs.expressions.Concrete.{Name, Quote, Simple, Escaped, Lit, Number, Quoted, Truth, Negative, Negates, Joint, plain_dot, optional_dot, Bracket, plain_bracket, optional_bracket, plainly, negated, Second, no_second, second, no_dots, dots, Single, NotIn, Tree, Atomic, Prefix, Suffixed, Infix, Atom, Literal, Null, Chain, Call, Paren, Array, Comprehension, Map, Component, Links, no_links, field, item, Sub, index, slice, Part, absent, present, Extra, no_extra, extra, Row, ended, only, then, Element, plain, spread, pair, argument, Attributes, no_attributes, bare, quoted, valued, spreading, Suffix, Test, Filter, Subscript, Args, no_args, args, Operator, Binary, Condition, yield}
 use Rattle.tera_grammar.specs.expressions.Powers.{test_power, filter_power, sign_power, left_power, right_power}

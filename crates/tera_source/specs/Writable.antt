@@ -3,9 +3,9 @@
 use Rattle.std.specs.Prelude.{◌≡◌, Bool, true, false}
 use Rattle.tera_base.specs.Values as values
 use Rattle.tera_base.specs.Values.{KeyVal, TextKey, I64Key, TruthKey, Val, Vals, Pairs}
-use Rattle.tera_nodes.specs.declared.ast.BinaryOperator.{BinaryOperator}
-use Rattle.tera_nodes.specs.declared.ast.BinaryOperator.TheVariants as binary
-use Rattle.tera_nodes.specs.Tree.{Expr, Const, Array, Map, Var, GetAttr, GetItem, Slice, Filter, Test, Ternary, ListComprehension, ComponentCall, FunctionCall, UnaryOperation, BinaryOperation, MaybeExpr, NoExpr, OneExpr, Args, NoArgs, Arg, Items, NoItems, Item, SpreadItem, Entries, NoEntries, Entry, SpreadEntry}
+use Rattle.tera_ast.specs.declared.ast.BinaryOperator.{BinaryOperator}
+use Rattle.tera_ast.specs.declared.ast.BinaryOperator.TheVariants as binary
+use Rattle.tera_ast.specs.Tree.{Expr, Const, Array, Map, Var, GetAttr, GetItem, Slice, Filter, Test, Ternary, ListComprehension, ComponentCall, FunctionCall, UnaryOperation, BinaryOperation, MaybeExpr, NoExpr, OneExpr, Args, NoArgs, Arg, Items, NoItems, Item, SpreadItem, Entries, NoEntries, Entry, SpreadEntry}
 
 -- a variable with its links
 abbrev pub IsChain : Expr → Type 0

@@ -2,7 +2,7 @@
 
 ghost use Rattle.std.specs.Prelude.{◌≡◌, suc};
 ghost use Rattle.tera_base.specs.ValueView.{value_view};
-ghost use Rattle.tera_nodes.specs.View.{expression_view};
+ghost use Rattle.tera_ast.specs.View.{expression_view};
 ghost use Rattle.tera_source.specs.Contexts as at;
 ghost use Rattle.tera_source.specs.Contexts.{left_of, right_of, prefix_breaks, operator_breaks, is_negative, takes_negation, unary_breaks, breaks};
 
@@ -88,7 +88,7 @@ impl Context {
     }
 
     /// Whether the expression, by itself, breaks what is asked.
-    #[tactic(auto, using(tera_nodes::proofs::Views::view_const, tera_nodes::proofs::Views::view_array, tera_nodes::proofs::Views::view_var, tera_nodes::proofs::Views::view_get_attr, tera_nodes::proofs::Views::view_get_item, tera_nodes::proofs::Views::view_slice, tera_nodes::proofs::Views::view_filter, tera_nodes::proofs::Views::view_test, tera_nodes::proofs::Views::view_ternary, tera_nodes::proofs::Views::view_comprehension, tera_nodes::proofs::Views::view_call, tera_nodes::proofs::Views::view_function_call, tera_nodes::proofs::Views::view_unary, tera_nodes::proofs::Views::view_binary, tera_nodes::proofs::Views::view_map))]
+    #[tactic(auto, using(tera_ast::proofs::Views::view_const, tera_ast::proofs::Views::view_array, tera_ast::proofs::Views::view_var, tera_ast::proofs::Views::view_get_attr, tera_ast::proofs::Views::view_get_item, tera_ast::proofs::Views::view_slice, tera_ast::proofs::Views::view_filter, tera_ast::proofs::Views::view_test, tera_ast::proofs::Views::view_ternary, tera_ast::proofs::Views::view_comprehension, tera_ast::proofs::Views::view_call, tera_ast::proofs::Views::view_function_call, tera_ast::proofs::Views::view_unary, tera_ast::proofs::Views::view_binary, tera_ast::proofs::Views::view_map))]
     pub(crate) fn bars(self, e: &Expression) -> bool
         ensures { result ≡ breaks (expression_view e.now) self }
     {

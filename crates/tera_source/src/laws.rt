@@ -3,7 +3,7 @@
 ghost use Rattle.std.specs.Prelude.{◌≡◌, ◌≤◌, ℕ, List, Bool, false, Some};
 ghost use Rattle.tera_lexer.specs.grammar.Marks.{Marks};
 ghost use Rattle.tera_lexer.specs.grammar.Tokens.{Items, Ended};
-ghost use Rattle.tera_nodes.specs.Tree.{Expr};
+ghost use Rattle.tera_ast.specs.Tree.{Expr};
 ghost use Rattle.tera_tree.specs.Tree.{Output};
 ghost use Rattle.tera_grammar.specs.Limits.{Limits};
 ghost use Rattle.tera_grammar.specs.expressions.Concrete.{Tree, yield};

@@ -4,7 +4,7 @@ ghost use Rattle.std.specs.Prelude.{◌≡◌, Bool, false, IfOk, IfErr, MatchRe
 ghost use Rattle.tera_base.specs.Errors.{IsMemory, Says};
 ghost use Rattle.tera_grammar.specs.expressions.Concrete.{Tree};
 ghost use Rattle.tera_grammar.specs.expressions.Output.{output};
-ghost use Rattle.tera_nodes.specs.View.{expression_view};
+ghost use Rattle.tera_ast.specs.View.{expression_view};
 ghost use Rattle.tera_source.specs.Bodies.{has_body};
 ghost use Rattle.tera_source.specs.Source.{source_text};
 ghost use Rattle.tera_source.specs.Writable.{IsWritable};

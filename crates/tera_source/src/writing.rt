@@ -2,8 +2,8 @@
 
 ghost use Rattle.std.specs.Prelude.{◌≡◌, ◌++◌, ◌||◌, ℕ, suc, not, false, codes, string_bytes, OnOk};
 ghost use Rattle.tera_base.specs.ValueView.{key_view, value_view};
-ghost use Rattle.tera_nodes.specs.View.{expression_view, name_view, maybe_view, args_view, item_view, items_view, entry_view, entries_view};
-ghost use Rattle.tera_nodes.specs.declared.ast.ComponentCall.{out-ComponentCall};
+ghost use Rattle.tera_ast.specs.View.{expression_view, name_view, maybe_view, args_view, item_view, items_view, entry_view, entries_view};
+ghost use Rattle.tera_ast.specs.declared.ast.ComponentCall.{out-ComponentCall};
 ghost use Rattle.tera_source.specs.Bodies.{has_body, maybe_has_body, args_have_body, item_has_body, items_have_body, entry_has_body, entries_have_body};
 ghost use Rattle.tera_source.specs.Contexts as at;
 ghost use Rattle.tera_source.specs.Contexts.{before, behind, behind_prefix, above, left_of, right_of};
@@ -47,7 +47,7 @@ pub(crate) fn push_expression(
 
 // An expression without parentheses around it. A test and `in` may be negated.
 #[cycle(writing)]
-#[tactic(auto, using(tera_nodes::proofs::Views::view_const, tera_nodes::proofs::Views::view_array, tera_nodes::proofs::Views::view_var, tera_nodes::proofs::Views::view_get_attr, tera_nodes::proofs::Views::view_get_item, tera_nodes::proofs::Views::view_slice, tera_nodes::proofs::Views::view_filter, tera_nodes::proofs::Views::view_test, tera_nodes::proofs::Views::view_ternary, tera_nodes::proofs::Views::view_comprehension, tera_nodes::proofs::Views::view_call, tera_nodes::proofs::Views::view_function_call, tera_nodes::proofs::Views::view_unary, tera_nodes::proofs::Views::view_binary, tera_nodes::proofs::Views::view_map))]
+#[tactic(auto, using(tera_ast::proofs::Views::view_const, tera_ast::proofs::Views::view_array, tera_ast::proofs::Views::view_var, tera_ast::proofs::Views::view_get_attr, tera_ast::proofs::Views::view_get_item, tera_ast::proofs::Views::view_slice, tera_ast::proofs::Views::view_filter, tera_ast::proofs::Views::view_test, tera_ast::proofs::Views::view_ternary, tera_ast::proofs::Views::view_comprehension, tera_ast::proofs::Views::view_call, tera_ast::proofs::Views::view_function_call, tera_ast::proofs::Views::view_unary, tera_ast::proofs::Views::view_binary, tera_ast::proofs::Views::view_map))]
 fn push_bare(
     out: &mut String,
     e: &Expression,
@@ -520,7 +520,7 @@ fn push_named(out: &mut String, name: &Key, value: &Expression) -> Result<(), Re
     push_attribute_value(out, value)
 }
 
-#[tactic(auto, using(tera_nodes::proofs::Views::view_var))]
+#[tactic(auto, using(tera_ast::proofs::Views::view_var))]
 fn is_bare(name: &Key, value: &Expression) -> bool
     ensures { result ≡ is_bare (key_view name.now) (expression_view value.now) }
 {

@@ -6,7 +6,7 @@ use Rattle.tera_base.specs.Values.{Val}
 use Rattle.tera_base.specs.declared.utils.Span.{Span}
 use Rattle.tera_lexer.specs.code.Cursors.{Passes, Position, size}
 use Rattle.tera_lexer.specs.grammar.Tokens.{Items, Ended, Failed, Token}
-use Rattle.tera_nodes.specs.Tree.{Stmt}
+use Rattle.tera_ast.specs.Tree.{Stmt}
 use Rattle.tera_tree.specs.Tree.{Argument, Definition}
 use Rattle.tera_grammar.specs.Options.{◌>>=◌, guard}
 use Rattle.tera_grammar.proofs.Options.{bound}

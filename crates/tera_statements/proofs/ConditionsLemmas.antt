@@ -14,11 +14,11 @@ use Rattle.tera_grammar.specs.statements.Reading.Heads.{loop_of}
 use Rattle.tera_grammar.specs.statements.Reading.TagParts.{Front, Ends, Closes, Holds, Shows, Opens, Wrong, closed, closed_at, closed_tag, finish_of, front, tag}
 use Rattle.std.proofs.Common.{Result, Ok, Err, IfOk, IfErr, Global, Vec, inl}
 use Rattle.tera_base.specs.Errors.{IsMemory}
-use Rattle.tera_nodes.specs.Tree.{Stmt}
-use Rattle.tera_nodes.specs.View.{node_view}
+use Rattle.tera_ast.specs.Tree.{Stmt}
+use Rattle.tera_ast.specs.View.{node_view}
 use Rattle.tera_grammar.specs.statements.Output.{branch_output}
 use Rattle.tera_base.specs.declared.errors.Error.{Error}
-use Rattle.tera_nodes.specs.declared.ast.Node.{Node}
+use Rattle.tera_ast.specs.declared.ast.Node.{Node}
 use Rattle.tera_statements.specs.Adding.{AreBranches, IsBody, IsElse}
 use Rattle.tera_statements.specs.Conditions.{Conditional, conditional_of}
 use Rattle.tera_statements.specs.Heads.{expression_to_end, loop_to_end}

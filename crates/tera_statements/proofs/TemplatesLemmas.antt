@@ -10,7 +10,7 @@ use Rattle.tera_lexer.specs.code.Cursors.{Passes, Position, size}
 use Rattle.tera_lexer.specs.grammar.Faults.{BeginsWith, Covers, EndsIn, EndsWith, Faults}
 use Rattle.tera_lexer.specs.grammar.Place.{IsWithin}
 use Rattle.tera_lexer.specs.grammar.Tokens.{Tok, Items, Ended, Failed, Token}
-use Rattle.tera_nodes.specs.Tree.{Stmt}
+use Rattle.tera_ast.specs.Tree.{Stmt}
 use Rattle.tera_tree.specs.Tree.{Output}
 use Rattle.tera_grammar.specs.statements.Expressions.{Limits}
 use Rattle.tera_grammar.specs.statements.Grammar.{Body, Item, Single, Text}

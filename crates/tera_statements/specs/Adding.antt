@@ -2,9 +2,9 @@
 use Rattle.std.specs.Prelude.{◌≡◌, Bool, List, map, Option, Some, Result, Ok, Err, string_bytes}
 use Rattle.tera_base.specs.declared.errors.Error.{Error}
 use Rattle.tera_lexer.specs.code.Cursors.{Position}
-use Rattle.tera_nodes.specs.View.{node_view}
+use Rattle.tera_ast.specs.View.{node_view}
 use Rattle.tera_tree.specs.View.{definition_view}
-use Rattle.tera_nodes.specs.declared.ast.Node.{Node}
+use Rattle.tera_ast.specs.declared.ast.Node.{Node}
 use Rattle.tera_grammar.specs.statements.Grammar.{Item, Path, Body, Branches, Else, in_loop}
 use Rattle.tera_grammar.specs.statements.Output.{Adds, AddsNothing, AddsNode, AddsParent, AddsDefinition, added_by, branch_output, else_output, output}
 use Rattle.tera_grammar.specs.statements.TagParts.{Edge}

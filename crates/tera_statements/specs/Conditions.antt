@@ -1,8 +1,8 @@
 -- Conditions, as they are read.
 use Rattle.std.specs.Prelude.{ℕ, Bool, List, map, Some, Result}
 use Rattle.tera_base.specs.declared.errors.Error.{Error}
-use Rattle.tera_nodes.specs.Tree.{Expr, Stmt}
-use Rattle.tera_nodes.specs.View.{expression_view, node_view}
+use Rattle.tera_ast.specs.Tree.{Expr, Stmt}
+use Rattle.tera_ast.specs.View.{expression_view, node_view}
 use Rattle.tera_grammar.specs.Options.{◌>>=◌}
 use Rattle.tera_grammar.specs.statements.Expressions as expressions
 use Rattle.tera_grammar.specs.statements.Expressions.{Limits}

@@ -6,7 +6,7 @@ use Rattle.tera_base.specs.Values.{Val}
 use Rattle.tera_base.specs.declared.values.Value.{Value}
 use Rattle.tera_tree.specs.Definitions.{named_argument, named_value}
 use Rattle.tera_tree.specs.Tree.{Argument}
-use Rattle.tera_nodes.specs.View.{name_view}
+use Rattle.tera_ast.specs.View.{name_view}
 use Rattle.tera_tree.specs.View.{argument_view, default_view}
 use Rattle.tera_tree.specs.declared.ast.ArgType.{ArgType}
 use Rattle.tera_tree.specs.declared.ast.ComponentArgument.{ComponentArgument}

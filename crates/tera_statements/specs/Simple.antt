@@ -1,7 +1,7 @@
 -- The statements that hold no body.
 use Rattle.std.specs.Prelude.{Bool, true, false}
-use Rattle.tera_nodes.specs.Tree as tree
-use Rattle.tera_nodes.specs.Tree.{Stmt}
+use Rattle.tera_ast.specs.Tree as tree
+use Rattle.tera_ast.specs.Tree.{Stmt}
 use Rattle.tera_grammar.specs.statements.Grammar as grammar
 use Rattle.tera_grammar.specs.statements.Grammar.{Plain}
 use Rattle.tera_grammar.specs.statements.TagParts.{Tag}

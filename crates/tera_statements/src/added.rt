@@ -5,7 +5,7 @@ ghost use Rattle.tera_base.specs.Errors.{IsMemory};
 ghost use Rattle.tera_grammar.specs.statements.Output.{added_nodes, text_adds};
 ghost use Rattle.tera_grammar.specs.statements.Top.{is_blank};
 ghost use Rattle.tera_statements.specs.Adding.{added_view};
-ghost use Rattle.tera_nodes.specs.View.{node_view};
+ghost use Rattle.tera_ast.specs.View.{node_view};
 
 use std::alloc::Global;
 use tera_base::Error;

@@ -7,7 +7,7 @@ ghost use Rattle.tera_statements.specs.Items.{GivesNode, GoesByItem};
 ghost use Rattle.tera_statements.specs.Around.{Stands, context_of};
 ghost use Rattle.tera_statements.specs.Settings.{bodies_under, limits_under};
 ghost use Rattle.tera_expect.specs.Taking.{GivesBy, GoesOn, Refuses, RefusesIn};
-ghost use Rattle.tera_nodes.specs.View.{node_view};
+ghost use Rattle.tera_ast.specs.View.{node_view};
 
 use crate::added::{push_node, push_text};
 use crate::around::{Around, Opening};

@@ -11,8 +11,8 @@ ghost use Rattle.tera_statements.specs.Captures.{GivesSetBody, GivesSetValue, Is
 ghost use Rattle.tera_statements.specs.Reading.{IsComponent};
 ghost use Rattle.tera_statements.specs.Settings.{bodies_under, limits_under};
 ghost use Rattle.tera_expect.specs.Taking.{GivesBy, Refuses, Took};
-ghost use Rattle.tera_nodes.specs.Tree as tree;
-ghost use Rattle.tera_nodes.specs.View.{expression_view, node_view};
+ghost use Rattle.tera_ast.specs.Tree as tree;
+ghost use Rattle.tera_ast.specs.View.{expression_view, node_view};
 
 use crate::added::Added;
 use crate::around::{Around, Context, Opening};

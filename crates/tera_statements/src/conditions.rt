@@ -10,7 +10,7 @@ ghost use Rattle.tera_statements.specs.Around.{Stands};
 ghost use Rattle.tera_statements.specs.Conditions.{GivesBranch, branch_view};
 ghost use Rattle.tera_statements.specs.Settings.{bodies_under, limits_under};
 ghost use Rattle.tera_expect.specs.Taking.{GivesBy, GoesOn, Refuses, Took};
-ghost use Rattle.tera_nodes.specs.View.{node_view};
+ghost use Rattle.tera_ast.specs.View.{node_view};
 
 use crate::added::Added;
 use crate::around::{Around, Context, Opening};

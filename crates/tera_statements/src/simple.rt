@@ -7,7 +7,7 @@ ghost use Rattle.tera_statements.specs.Adding.{AddsAlone};
 ghost use Rattle.tera_statements.specs.Around.{holds_breaks};
 ghost use Rattle.tera_statements.specs.Simple.{is_free, jump_item, jump_output};
 ghost use Rattle.tera_expect.specs.Taking.{Refuses, Took};
-ghost use Rattle.tera_nodes.specs.View.{node_view};
+ghost use Rattle.tera_ast.specs.View.{node_view};
 
 use crate::added::{Added, is_blank};
 use crate::around::{Around, Breaks};

@@ -18,7 +18,7 @@ ghost use Rattle.tera_statements.specs.Settings.{bodies_under, limits_under};
 ghost use Rattle.tera_statements.specs.Templates.{Excludes, GivesPhase, GivesTemplate, GivesTextPhase, GivesTop, ReadsTemplate, StandsNext, below_top, phase_if_any, phase_of, weight_of};
 ghost use Rattle.tera_statements.specs.declared.fronts.Front.TheVariants as fronts;
 ghost use Rattle.tera_statements.specs.declared.fronts.Opener.TheVariants as openers;
-ghost use Rattle.tera_nodes.specs.View.{node_view};
+ghost use Rattle.tera_ast.specs.View.{node_view};
 
 use crate::added::{Added, is_blank, push_text};
 use crate::around::Around;

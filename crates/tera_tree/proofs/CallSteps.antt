@@ -11,7 +11,7 @@ use Rattle.tera_tree.proofs.Coming.{gave, stopped, next}
 use Rattle.tera_base.proofs.ValueViews.{view_map}
 use Rattle.tera_tree.specs.Calls.{Pair, arguments_view, texts, unknown, unknown_text, passed_pairs, body_pairs, RestMapComesTo, RestComesTo, ArgumentsComeTo, ContextComesTo, BuildsContext}
 use Rattle.tera_tree.specs.Tree.{Argument}
-use Rattle.tera_nodes.specs.View.{name_view}
+use Rattle.tera_ast.specs.View.{name_view}
 use Rattle.tera_tree.specs.View.{definition_view}
 use Rattle.tera_tree.specs.declared.ast.ComponentDefinition.{ComponentDefinition}
 use Rattle.tera_tree.proofs.CallNames.{Name, no_names, some_names}

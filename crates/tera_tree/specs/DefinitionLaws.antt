@@ -9,8 +9,8 @@ use Rattle.std.proofs.lemmas.Bool.Decides.{Decides-eqb}
 use Rattle.std.proofs.lemmas.Slice.Eq.{bytes_eq-Decides, slice_eq-Decides}
 use Rattle.tera_base.specs.Same.{value_eq}
 use Rattle.tera_base.specs.SameLaws.{value_decides}
-use Rattle.tera_nodes.specs.Same.{stmt_eq}
-use Rattle.tera_nodes.specs.SameLaws.{stmt_decides}
+use Rattle.tera_ast.specs.Same.{stmt_eq}
+use Rattle.tera_ast.specs.SameLaws.{stmt_decides}
 use Rattle.tera_tree.specs.Tree.{Argument, Definition, Output}
 use Rattle.tera_tree.specs.Definitions.{type_place, type_eq, argument_eq, named_argument_eq, named_value_eq, definition_eq, output_eq}
 use Rattle.tera_tree.specs.declared.ast.ArgType.{ArgType}

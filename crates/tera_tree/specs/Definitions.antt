@@ -9,7 +9,7 @@ use Rattle.tera_base.specs.Same.{value_eq}
 use Rattle.tera_base.specs.Values.{Val}
 use Rattle.tera_base.specs.ValueView.{value_view}
 use Rattle.tera_base.specs.declared.values.Value.{Value}
-use Rattle.tera_nodes.specs.Same.{stmt_eq}
+use Rattle.tera_ast.specs.Same.{stmt_eq}
 use Rattle.tera_tree.specs.Tree.{Argument, Definition, Output}
 use Rattle.tera_tree.specs.View.{argument_view}
 use Rattle.tera_tree.specs.declared.ast.ComponentArgument.{ComponentArgument}

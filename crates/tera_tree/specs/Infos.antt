@@ -4,7 +4,7 @@ use Rattle.std.specs.Option.{option_map, is_some}
 use Rattle.tera_base.specs.Values.{Val}
 use Rattle.tera_tree.specs.Tree.{Argument, Definition}
 use Rattle.tera_tree.specs.Definitions.{named_value}
-use Rattle.tera_nodes.specs.View.{name_view}
+use Rattle.tera_ast.specs.View.{name_view}
 use Rattle.tera_tree.specs.View.{default_view}
 use Rattle.tera_tree.specs.declared.ast.ArgType.{ArgType}
 use Rattle.tera_tree.specs.declared.ast.ArgType.TheVariants as types

@@ -1,6 +1,6 @@
 -- What a template is read as, without where it lies in memory.
 use Rattle.std.specs.Prelude.{map}
-use Rattle.tera_nodes.specs.View.{name_view, node_view}
+use Rattle.tera_ast.specs.View.{name_view, node_view}
 use Rattle.tera_tree.specs.Tree.{Output}
 use Rattle.tera_tree.specs.View.{definition_view}
 use Rattle.tera_tree.specs.declared.outputs.ParserOutput.{ParserOutput}

@@ -2,14 +2,14 @@
 -- order of the names.
 use Rattle.std.specs.Prelude.{List, [], ◌∷◌, ◌++◌, map}
 use Rattle.std.specs.List.{flat_map}
-use Rattle.tera_nodes.specs.View.{nodes_of, node_view, expression_view}
-use Rattle.tera_nodes.specs.declared.ast.ArrayEntryOf.{ArrayEntryOf}
-use Rattle.tera_nodes.specs.declared.ast.ArrayEntryOf.TheVariants as items
-use Rattle.tera_nodes.specs.declared.ast.MapEntryOf.{MapEntryOf}
-use Rattle.tera_nodes.specs.declared.ast.MapEntryOf.TheVariants as entries
-use Rattle.tera_nodes.specs.Tree.{Expr, Const, Array, Map, Var, GetAttr, GetItem, Slice, Filter, Test, Ternary, ListComprehension, ComponentCall, FunctionCall, UnaryOperation, BinaryOperation}
-use Rattle.tera_nodes.specs.Tree.{MaybeExpr, NoExpr, OneExpr, Filters, NoFilters, OneFilter, Args, NoArgs, Arg, Items, NoItems, Item, SpreadItem, Entries, NoEntries, Entry, SpreadEntry}
-use Rattle.tera_nodes.specs.Tree.{Stmt, Content, Shown, Set, BlockSet, Include, Block, ForLoop, Break, Continue, If, FilterSection, Nodes, NoNodes, OneNode}
+use Rattle.tera_ast.specs.View.{nodes_of, node_view, expression_view}
+use Rattle.tera_ast.specs.declared.ast.ArrayEntryOf.{ArrayEntryOf}
+use Rattle.tera_ast.specs.declared.ast.ArrayEntryOf.TheVariants as items
+use Rattle.tera_ast.specs.declared.ast.MapEntryOf.{MapEntryOf}
+use Rattle.tera_ast.specs.declared.ast.MapEntryOf.TheVariants as entries
+use Rattle.tera_ast.specs.Tree.{Expr, Const, Array, Map, Var, GetAttr, GetItem, Slice, Filter, Test, Ternary, ListComprehension, ComponentCall, FunctionCall, UnaryOperation, BinaryOperation}
+use Rattle.tera_ast.specs.Tree.{MaybeExpr, NoExpr, OneExpr, Filters, NoFilters, OneFilter, Args, NoArgs, Arg, Items, NoItems, Item, SpreadItem, Entries, NoEntries, Entry, SpreadEntry}
+use Rattle.tera_ast.specs.Tree.{Stmt, Content, Shown, Set, BlockSet, Include, Block, ForLoop, Break, Continue, If, FilterSection, Nodes, NoNodes, OneNode}
 use Rattle.tera_tree.specs.Tree.{Definition}
 use Rattle.tera_tree.specs.declared.parts.Part.{Part}
 use Rattle.tera_tree.specs.declared.parts.Part.TheVariants as parts

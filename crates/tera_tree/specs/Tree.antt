@@ -1,7 +1,7 @@
 -- Definitions of components, and what a template is read as, without where they lie in memory.
 use Rattle.std.specs.Prelude.{ℕ, Bool, List, Option}
 use Rattle.tera_base.specs.Values.{Val}
-use Rattle.tera_nodes.specs.Tree.{Stmt}
+use Rattle.tera_ast.specs.Tree.{Stmt}
 use Rattle.tera_tree.specs.declared.ast.ArgType.{ArgType}
 
 -- an argument of a component

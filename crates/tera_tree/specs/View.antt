@@ -3,7 +3,7 @@ use Rattle.std.specs.Prelude.{map, Option, None, Some, string_bytes}
 use Rattle.tera_base.specs.Values.{Val}
 use Rattle.tera_base.specs.ValueView.{value_view}
 use Rattle.tera_base.specs.declared.values.Value.{Value}
-use Rattle.tera_nodes.specs.View.{name_view, node_view}
+use Rattle.tera_ast.specs.View.{name_view, node_view}
 use Rattle.tera_tree.specs.Tree.{Argument, Definition}
 use Rattle.tera_tree.specs.declared.ast.ComponentArgument.{ComponentArgument}
 use Rattle.tera_tree.specs.declared.ast.ComponentDefinition.{ComponentDefinition}

@@ -1,8 +1,8 @@
 //! Definitions of components.
 
 use std::collections::BTreeMap;
+use tera_ast::Node;
 use tera_base::Value;
-use tera_nodes::Node;
 
 /// What an argument of a component may be. Outside this crate it is `Type`, a word that contracts have for
 /// themselves.

@@ -13,7 +13,7 @@ ghost use Rattle.tera_base.specs.Contexts.{context_view, put_all};
 ghost use Rattle.tera_base.specs.ValueView.{value_view, pairs_view};
 ghost use Rattle.tera_base.specs.declared.errors.Error.{Error};
 ghost use Rattle.tera_base.specs.declared.values.Value.{Value};
-ghost use Rattle.tera_nodes.specs.View.{name_view};
+ghost use Rattle.tera_ast.specs.View.{name_view};
 ghost use Rattle.tera_tree.specs.View.{argument_view, definition_view};
 ghost use Rattle.tera_tree.specs.Calls.{arguments_view, texts, unknown, found_outcome, RestNameComesTo, RestMapComesTo, RestComesTo, ArgumentComesTo, ArgumentsComeTo, BuildsContext, passed_pairs, body_pairs, IsAmong, IsAsked, argument_names};
 

@@ -3,17 +3,17 @@
 ghost use Rattle.std.specs.Prelude.{◌≡◌, IfOk, map};
 ghost use Rattle.std.specs.Cmp.Lexicographic.{pointwise};
 ghost use Rattle.std.specs.Cmp.{on_equiv, on_per, partial_equiv_from_equiv};
-ghost use Rattle.tera_nodes.specs.View.{node_view};
+ghost use Rattle.tera_ast.specs.View.{node_view};
 ghost use Rattle.tera_tree.specs.View.{argument_view, definition_view};
 ghost use Rattle.tera_tree.specs.Definitions.{argument_eq, named_argument, named_argument_eq, named_value, named_value_eq, definition_eq, empty_definition};
 ghost use Rattle.tera_tree.specs.DefinitionLaws.{argument_equivalence, definition_equivalence};
-ghost use Rattle.tera_nodes.specs.Same.{stmt_eq};
+ghost use Rattle.tera_ast.specs.Same.{stmt_eq};
 
 use crate::ast::{ComponentArgument, ComponentDefinition};
 use std::alloc::{AllocError, Global};
 use std::collections::BTreeMap;
+use tera_ast::Node;
 use tera_base::Value;
-use tera_nodes::Node;
 
 impl ComponentDefinition {
     /// A definition whose name is empty, and that has nothing else.

@@ -5,8 +5,8 @@ ghost use Rattle.tera_tree.specs.View.{definition_view};
 
 use crate::ast::{ArgType, ComponentDefinition};
 use std::alloc::Global;
+pub use tera_ast::laws::{same_expression, same_node};
 use tera_base::Error;
-pub use tera_nodes::laws::{same_expression, same_node};
 
 /// The name of a type gives the type back.
 pub fn type_of_its_name(alloc: Global, typ: ArgType) -> Result<ArgType, Error>

@@ -1,9 +1,9 @@
 //! The tree of a template of the engine Tera: a `ParserOutput` of definitions of components, with the expressions and
-//! nodes of `tera_nodes`.
+//! nodes of `tera_ast`.
 //!
 //! It takes the arguments of a call and names, and gives definitions of components, the context of a call or why there
 //! is none (`BuildsContext`), what a catalogue of components is told, what a template is read as (`output_view`), and the
-//! parts of a tree (`children`). It stands on `tera_nodes`, and passes its public names on.
+//! parts of a tree (`children`). It stands on `tera_ast`, and passes its public names on.
 //!
 //! In the order of reading: `ast` and `types`; `arguments`, what one takes; `refusals`, texts; `calls`, the contexts;
 //! `infos` and `argument_infos`, for a catalogue; `parts`, for a walk over a tree; `definitions`, copies and equality;
@@ -26,7 +26,7 @@ pub use argument_infos::{ComponentArg, ComponentArgType};
 pub use ast::{ArgType, ComponentArgument, ComponentDefinition};
 pub use infos::ComponentInfo;
 pub use outputs::ParserOutput;
-pub use tera_nodes::{
+pub use tera_ast::{
     Array, ArrayEntry, ArrayEntryOf, ArrayOf, BinaryOperation, BinaryOperationOf, BinaryOperator,
     Block, BlockOf, BlockSet, ComponentCall, Expression, Filter, FilterOf, FilterSection, ForLoop,
     FunctionCall, FunctionCallOf, GetAttr, GetAttrOf, GetItem, GetItemOf, If, Include,

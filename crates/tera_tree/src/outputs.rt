@@ -3,8 +3,8 @@
 ghost use Rattle.std.specs.Prelude.{◌≡◌, IfOk, map};
 ghost use Rattle.std.specs.Cmp.Lexicographic.{pointwise};
 ghost use Rattle.std.specs.Cmp.{on_equiv, on_per, partial_equiv_from_equiv};
-ghost use Rattle.tera_nodes.specs.Same.{stmt_eq};
-ghost use Rattle.tera_nodes.specs.View.{node_view};
+ghost use Rattle.tera_ast.specs.Same.{stmt_eq};
+ghost use Rattle.tera_ast.specs.View.{node_view};
 ghost use Rattle.tera_tree.specs.DefinitionLaws.{output_equivalence};
 ghost use Rattle.tera_tree.specs.Definitions.{definition_eq, empty_output, output_eq};
 ghost use Rattle.tera_tree.specs.Outputs.{output_view};
@@ -12,7 +12,7 @@ ghost use Rattle.tera_tree.specs.View.{definition_view};
 
 use crate::ast::ComponentDefinition;
 use std::alloc::{AllocError, Global};
-use tera_nodes::Node;
+use tera_ast::Node;
 
 /// What a template is read as.
 #[derive(Debug, Drop)]

@@ -4,19 +4,19 @@
 
 ghost use Rattle.std.specs.Prelude.{◌≡◌, [], ◌∷◌, ◌++◌, map, IfOk, OnOk};
 ghost use Rattle.std.specs.List.{flat_map};
-ghost use Rattle.tera_nodes.specs.View.{expression_view, node_view, maybe_view, filters_view, args_view, item_view, items_view, entry_view, entries_view, nodes_of, nodes_view};
-ghost use Rattle.tera_nodes.specs.declared.ast.BlockSet.{out-BlockSet};
-ghost use Rattle.tera_nodes.specs.declared.ast.ComponentCall.{out-ComponentCall};
-ghost use Rattle.tera_nodes.specs.declared.ast.FilterSection.{out-FilterSection};
-ghost use Rattle.tera_nodes.specs.declared.ast.ForLoop.{out-ForLoop};
-ghost use Rattle.tera_nodes.specs.declared.ast.If.{out-If};
+ghost use Rattle.tera_ast.specs.View.{expression_view, node_view, maybe_view, filters_view, args_view, item_view, items_view, entry_view, entries_view, nodes_of, nodes_view};
+ghost use Rattle.tera_ast.specs.declared.ast.BlockSet.{out-BlockSet};
+ghost use Rattle.tera_ast.specs.declared.ast.ComponentCall.{out-ComponentCall};
+ghost use Rattle.tera_ast.specs.declared.ast.FilterSection.{out-FilterSection};
+ghost use Rattle.tera_ast.specs.declared.ast.ForLoop.{out-ForLoop};
+ghost use Rattle.tera_ast.specs.declared.ast.If.{out-If};
 ghost use Rattle.tera_tree.specs.View.{definition_view};
 ghost use Rattle.tera_tree.specs.Parts.{NodePart, ExpressionPart, part_view, parts_view, parts_of_maybe, parts_of_filters, parts_of_args, in_item, parts_of_items, in_entry, parts_of_entries, parts_of_nodes, parts_in_expression, parts_in_node, children, top_parts};
 
 use crate::ast::ComponentDefinition;
 use std::alloc::{AllocError, Global};
 use std::collections::BTreeMap;
-use tera_nodes::{
+use tera_ast::{
     ArrayEntry, BlockSet, ComponentCall, Expression, FilterSection, ForLoop, If, ListComprehension,
     MapEntry, Node, Slice, Ternary,
 };
@@ -28,7 +28,7 @@ pub enum Part<'a> {
     Expression(&'a Expression),
 }
 
-/// Parts of a tree, from left to right. Of those that are to come, the last is taken next.
+/// Parts of a tree, from left to right. A walk that takes the last goes from right to left.
 pub type Parts<'a> = Vec<Part<'a>>;
 
 /// The parts at the top of a tree: the nodes in the bodies of its definitions, and then its own.

@@ -4,11 +4,11 @@ use Rattle.std.proofs.lemmas.List.{append-nil}
 use Rattle.json.specs.Json.{array}
 use Rattle.json.specs.Token.{Token, begin_object, begin_array, end_array, end_object, key, string}
 use Rattle.json.specs.Tree.{json_tokens}
-use Rattle.tera_nodes.specs.View.{expression_view, node_view, nodes_view}
-use Rattle.tera_nodes.specs.declared.ast.Node as nodes
-use Rattle.tera_nodes.specs.declared.ast.Node.{Node}
-use Rattle.tera_nodes.specs.declared.ast.If.{If, out-If}
-use Rattle.tera_nodes.proofs.Views.{view_if, if_out}
+use Rattle.tera_ast.specs.View.{expression_view, node_view, nodes_view}
+use Rattle.tera_ast.specs.declared.ast.Node as nodes
+use Rattle.tera_ast.specs.declared.ast.Node.{Node}
+use Rattle.tera_ast.specs.declared.ast.If.{If, out-If}
+use Rattle.tera_ast.proofs.Views.{view_if, if_out}
 use Rattle.tera_tree_json.specs.Elifs.{elifs, elifs_at, ends}
 use Rattle.tera_tree_json.specs.Forms.{if_json}
 use Rattle.tera_tree_json.specs.TreeJson.{expr_json, nodes_json}

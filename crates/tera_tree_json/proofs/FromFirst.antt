@@ -3,12 +3,12 @@ use Rattle.std.proofs.Common.{◌≡◌, ℕ, ◌+◌, ◌<◌, List, ◌∷◌,
 use Rattle.std.proofs.lemmas.List.{at_drop_more}
 use Rattle.json.specs.Token.{Token}
 use Rattle.json.specs.Tree.{json_tokens, items_tokens}
-use Rattle.tera_nodes.specs.View.{item_view, items_view, entry_view, entries_view}
-use Rattle.tera_nodes.specs.declared.ast.Expression.{Expression}
-use Rattle.tera_nodes.specs.declared.ast.ArrayEntryOf.{ArrayEntryOf}
-use Rattle.tera_nodes.specs.declared.ast.ArrayEntryOf.TheVariants.{Item, Spread}
-use Rattle.tera_nodes.specs.declared.ast.MapEntryOf.{MapEntryOf}
-use Rattle.tera_nodes.specs.declared.ast.MapEntryOf.TheVariants as entries
+use Rattle.tera_ast.specs.View.{item_view, items_view, entry_view, entries_view}
+use Rattle.tera_ast.specs.declared.ast.Expression.{Expression}
+use Rattle.tera_ast.specs.declared.ast.ArrayEntryOf.{ArrayEntryOf}
+use Rattle.tera_ast.specs.declared.ast.ArrayEntryOf.TheVariants.{Item, Spread}
+use Rattle.tera_ast.specs.declared.ast.MapEntryOf.{MapEntryOf}
+use Rattle.tera_ast.specs.declared.ast.MapEntryOf.TheVariants as entries
 use Rattle.tera_tree_json.specs.TreeJson.{item_json, items_json, entry_json, entries_json}
 
 abbrev pub items_row : List (ArrayEntryOf Expression) → List Token

@@ -1,7 +1,7 @@
 -- How deep the JSON of an `if` nests: an `elif` is an `If` that stands alone in the body of the one before.
 use Rattle.std.specs.Prelude.{ℕ, zero, suc, List, [], ◌∷◌}
 use Rattle.json.specs.Token.{Token}
-use Rattle.tera_nodes.specs.Tree.{Stmt, Content, Shown, Set, BlockSet, Include, Block, ForLoop, Break, Continue, If, FilterSection, Nodes, NoNodes, OneNode}
+use Rattle.tera_ast.specs.Tree.{Stmt, Content, Shown, Set, BlockSet, Include, Block, ForLoop, Break, Continue, If, FilterSection, Nodes, NoNodes, OneNode}
 
 -- how many `elif`s begin in this body
 abbrev mutual

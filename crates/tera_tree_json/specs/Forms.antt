@@ -2,10 +2,10 @@
 use Rattle.std.specs.Prelude.{ℕ, List, Bool, Option, None, Some, codes}
 use Rattle.json.specs.Json.{Json, null, boolean, string, array, object, Items, Members, no_members, member}
 use Rattle.tera_base.specs.declared.utils.Span.{Span}
-use Rattle.tera_nodes.specs.declared.ast.UnaryOperator.{UnaryOperator}
-use Rattle.tera_nodes.specs.declared.ast.UnaryOperator.TheVariants as unary
-use Rattle.tera_nodes.specs.declared.ast.BinaryOperator.{BinaryOperator}
-use Rattle.tera_nodes.specs.declared.ast.BinaryOperator.TheVariants as binary
+use Rattle.tera_ast.specs.declared.ast.UnaryOperator.{UnaryOperator}
+use Rattle.tera_ast.specs.declared.ast.UnaryOperator.TheVariants as unary
+use Rattle.tera_ast.specs.declared.ast.BinaryOperator.{BinaryOperator}
+use Rattle.tera_ast.specs.declared.ast.BinaryOperator.TheVariants as binary
 use Rattle.tera_tree_json.specs.Constants.{count_json}
 
 -- a place: lines from 1, columns from 0 in characters, and the range in bytes

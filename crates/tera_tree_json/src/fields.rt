@@ -3,7 +3,7 @@
 ghost use Rattle.std.specs.Prelude.{◌≡◌, ◌∷◌, [], codes};
 ghost use Rattle.json.specs.Token.{begin_object, key, string, boolean};
 ghost use Rattle.json.specs.Tree.{json_tokens};
-ghost use Rattle.tera_nodes.specs.View.{name_view};
+ghost use Rattle.tera_ast.specs.View.{name_view};
 ghost use Rattle.tera_tree_json.specs.Constants.{count_json};
 ghost use Rattle.tera_tree_json.specs.Forms.{span_json, name_json, unary_name, binary_name};
 ghost use Rattle.tera_tree_json.specs.WrittenJson.{Puts, PutsJson};

@@ -1,12 +1,12 @@
 -- Bodies that are one `If` alone, or empty, and the text of a chain of them.
 use Rattle.std.proofs.Common.{◌≡◌, ℕ, List, [], ◌∷◌, ◌++◌, length, Bool, true, false, not, codes, refl, sym, ap, ◌∙◌, append_assoc}
 use Rattle.std.proofs.lemmas.List.{append-nil}
-use Rattle.tera_nodes.specs.View.{expression_view, node_view, nodes_view, if_view}
-use Rattle.tera_nodes.specs.Text.{text}
-use Rattle.tera_nodes.specs.declared.ast.Node as nodes
-use Rattle.tera_nodes.specs.declared.ast.Node.{Node}
-use Rattle.tera_nodes.specs.declared.ast.If.{If, out-If}
-use Rattle.tera_nodes.proofs.Views.{view_if, if_out}
+use Rattle.tera_ast.specs.View.{expression_view, node_view, nodes_view, if_view}
+use Rattle.tera_ast.specs.Text.{text}
+use Rattle.tera_ast.specs.declared.ast.Node as nodes
+use Rattle.tera_ast.specs.declared.ast.Node.{Node}
+use Rattle.tera_ast.specs.declared.ast.If.{If, out-If}
+use Rattle.tera_ast.proofs.Views.{view_if, if_out}
 use Rattle.tera_tree_text.specs.TreeText.{line, deeper, is_if, has_nodes, is_lone_if, else_text, node_text, nodes_text}
 
 pub not_lone : (xs : List Node) → (length xs ≡ 1 → ⊥) → is_lone_if (nodes_view xs) ≡ false

@@ -13,7 +13,8 @@ use Rattle.std.proofs.lemmas.Simd.{map-map, mask_l-mod, first_set_mask_l}
 use Rattle.std.proofs.lemmas.Str.{encode_ascii, encodes-chars, inside_one}
 use lib.Lanes.{mask_l, top}
 use Rattle.tera_tree_text.specs.Quoted.{escaped}
-use Rattle.tera_tree_text.specs.QuotedBytes.{is_plain, escaped_byte, first_set}
+use Rattle.tera_tree_text.specs.QuotedBytes.{is_plain, escaped_byte}
+use Rattle.tera_base.specs.Lanes.{first_set}
 
 -- a character has the escapes of its bytes: one beyond ASCII has none, and no byte of it has any
 high_kept : (c : ℕ) → 128 ≤ c → escaped c ≡ encode c

@@ -2,11 +2,11 @@
 use Rattle.std.specs.Prelude.{ℕ, List, [], ◌∷◌, ◌++◌, Bool, true, false, if◌then◌else◌, Option, None, Some, codes}
 use Rattle.tera_base.specs.Values.{Val}
 use Rattle.tera_base.specs.Text.{const_text}
-use Rattle.tera_nodes.specs.Tree.{Expr, Filter, ComponentCall, Filters, NoFilters, OneFilter, Entries, Stmt, Content, Shown, Set, BlockSet, Include, Block, ForLoop, Break, Continue, If, FilterSection, Nodes, NoNodes, OneNode}
+use Rattle.tera_ast.specs.Tree.{Expr, Filter, ComponentCall, Filters, NoFilters, OneFilter, Entries, Stmt, Content, Shown, Set, BlockSet, Include, Block, ForLoop, Break, Continue, If, FilterSection, Nodes, NoNodes, OneNode}
 use Rattle.tera_tree.specs.Tree.{Argument, Definition, Output}
-use Rattle.tera_nodes.specs.View.{nodes_of}
+use Rattle.tera_ast.specs.View.{nodes_of}
 use Rattle.std.specs.List.{flat_map}
-use Rattle.tera_nodes.specs.Text.{text, names_text, call_text, args_text, entries_text}
+use Rattle.tera_ast.specs.Text.{text, names_text, call_text, args_text, entries_text}
 use Rattle.tera_tree.specs.Types.{type_name}
 use Rattle.tera_tree.specs.declared.ast.ArgType.{ArgType}
 use Rattle.tera_tree_text.specs.Quoted.{quoted}

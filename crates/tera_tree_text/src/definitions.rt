@@ -4,7 +4,7 @@ ghost use Rattle.std.specs.Prelude.{◌≡◌, ◌++◌, [], map, if◌then◌el
 ghost use Rattle.std.specs.List.{flat_map};
 ghost use Rattle.tera_base.specs.ValueView.{value_view};
 ghost use Rattle.tera_base.specs.Text.{const_text, value_text};
-ghost use Rattle.tera_nodes.specs.View.{name_view, node_view};
+ghost use Rattle.tera_ast.specs.View.{name_view, node_view};
 ghost use Rattle.tera_tree.specs.View.{default_view, argument_view, definition_view};
 ghost use Rattle.tera_tree_text.specs.TreeText.{typed_text, default_text, argument_text, rest_text, meta_text, body_text, definition_text};
 

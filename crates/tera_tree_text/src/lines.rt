@@ -1,13 +1,13 @@
 //! The lines of nodes, at the end of a text.
 
 ghost use Rattle.std.specs.Prelude.{◌≡◌, ◌++◌, [], ◌∷◌, false, true, not, if◌then◌else◌, codes, string_bytes, IfOk, OnOk, IfSome, IfNone};
-ghost use Rattle.tera_nodes.specs.View.{expression_view, node_view, if_view, name_view, filters_view, args_view, entries_view, nodes_view};
-ghost use Rattle.tera_nodes.specs.Text.{text, names_text, call_text, args_text, entries_text};
+ghost use Rattle.tera_ast.specs.View.{expression_view, node_view, if_view, name_view, filters_view, args_view, entries_view, nodes_view};
+ghost use Rattle.tera_ast.specs.Text.{text, names_text, call_text, args_text, entries_text};
 ghost use Rattle.tera_base.specs.Spanned.{node_of};
-ghost use Rattle.tera_nodes.specs.declared.ast.BlockSet.{out-BlockSet};
-ghost use Rattle.tera_nodes.specs.declared.ast.ComponentCall.{out-ComponentCall};
-ghost use Rattle.tera_nodes.specs.declared.ast.FilterSection.{out-FilterSection};
-ghost use Rattle.tera_nodes.specs.declared.ast.ForLoop.{out-ForLoop};
+ghost use Rattle.tera_ast.specs.declared.ast.BlockSet.{out-BlockSet};
+ghost use Rattle.tera_ast.specs.declared.ast.ComponentCall.{out-ComponentCall};
+ghost use Rattle.tera_ast.specs.declared.ast.FilterSection.{out-FilterSection};
+ghost use Rattle.tera_ast.specs.declared.ast.ForLoop.{out-ForLoop};
 ghost use Rattle.tera_tree_text.specs.Quoted.{quoted};
 ghost use Rattle.tera_tree_text.specs.TreeText.{line, deeper, filter_text, filters_text, set_text, is_lone_if, has_nodes, else_text, node_text, shown_text, nodes_text};
 

@@ -4,10 +4,11 @@ ghost use Rattle.std.specs.Prelude.{◌≡◌, ◌++◌, ◌∷◌, ◌≤◌, l
 ghost use Rattle.std.specs.Bool.{OnTrue};
 ghost use Rattle.std.specs.List.{flat_map, prefix_len};
 ghost use Rattle.tera_tree_text.specs.Quoted.{quoted, escaped};
-ghost use Rattle.tera_tree_text.specs.QuotedBytes.{is_plain, escaped_byte, first_set};
+ghost use Rattle.tera_tree_text.specs.QuotedBytes.{is_plain, escaped_byte};
 
 use std::alloc::AllocError;
 use std::simd::prelude::*;
+use tera_base::lanes::first_set;
 
 /// The text between quotes with its escapes, at the end.
 pub fn push_quoted(text: &mut String, content: &str) -> Result<(), AllocError>
@@ -102,19 +103,7 @@ fn plain_lanes(bytes: &[u8]) -> usize
         | lanes.simd_eq(u8x16::splat(b'\n'))
         | lanes.simd_eq(u8x16::splat(b'\r'))
         | lanes.simd_eq(u8x16::splat(b'\t'));
-    first_set(stops.to_bitmask())
-}
-
-// The place of the lowest bit that is set, or behind the lanes where none is.
-#[inline(always)]
-fn first_set(mask: u64) -> usize
-    ensures { result ≡ first_set 16 mask }
-{
-    if mask == 0 {
-        LANES
-    } else {
-        mask.trailing_zeros() as usize
-    }
+    first_set(stops.to_bitmask(), LANES)
 }
 
 // Most bytes are greater than each that is escaped but the backslash.

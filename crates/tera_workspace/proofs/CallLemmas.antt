@@ -3,9 +3,9 @@ use Rattle.std.proofs.Common.{◌≡◌, ◌∙◌, ℕ, List, [], ◌∷◌, �
 use Rattle.std.proofs.lemmas.List.{map-append}
 use Rattle.tera_base.specs.declared.utils.Span.{Span}
 use Rattle.tera_check.specs.Alike.{name_called}
-use Rattle.tera_nodes.specs.View.{call_view}
-use Rattle.tera_nodes.specs.declared.ast.ComponentCall.{ComponentCall, out-ComponentCall}
-use Rattle.tera_nodes.proofs.Views.{call_out}
+use Rattle.tera_ast.specs.View.{call_view}
+use Rattle.tera_ast.specs.declared.ast.ComponentCall.{ComponentCall, out-ComponentCall}
+use Rattle.tera_ast.proofs.Views.{call_out}
 
 called : (c : ComponentCall) (span : Span) → name_called (call_view c span) ≡ string_bytes (out-ComponentCall c).name ∷ []
 called c span = ap name_called (call_out c span)

@@ -3,7 +3,7 @@
 ghost use Rattle.std.specs.Prelude.{◌≡◌, ◌++◌, IfOk, OnOk, map, length, string_bytes, MatchOption};
 ghost use Rattle.std.specs.List.{flat_map};
 ghost use Rattle.tera_base.specs.Spanned.{node_of, span_of};
-ghost use Rattle.tera_nodes.specs.View.{call_view};
+ghost use Rattle.tera_ast.specs.View.{call_view};
 ghost use Rattle.tera_tree.specs.Outputs.{output_view};
 ghost use Rattle.tera_tree.specs.View.{definition_view};
 ghost use Rattle.tera_check.specs.Alike.{name_called, names_in};

@@ -1,6 +1,6 @@
 use Rattle.std.proofs.Common.{◌≡◌, ◌+◌, ◌*◌}
 use Rattle.tera_lexer.specs.code.Cursors.{size}
-use Rattle.tera_nodes.specs.View.{args_view, expression_view}
+use Rattle.tera_ast.specs.View.{args_view, expression_view}
 use Rattle.tera_grammar.specs.expressions.Concrete.{of_arguments, Element, of_items, of_entries}
 use Rattle.tera_grammar.specs.expressions.Output.{of_loop}
 use Rattle.tera_grammar.specs.expressions.Reading.Front.{at}

@@ -2,8 +2,8 @@
 use Rattle.std.proofs.Common.{◌≡◌, Bool, true, false, Option, Some, None, refl}
 use Rattle.tera_base.specs.Values as values
 use Rattle.tera_base.specs.declared.utils.Span.{Span}
-use Rattle.tera_nodes.specs.Tree as tree
-use Rattle.tera_nodes.specs.Tree.{Expr}
+use Rattle.tera_ast.specs.Tree as tree
+use Rattle.tera_ast.specs.Tree.{Expr}
 use Rattle.tera_grammar.specs.expressions.Concrete.{Sign, Negative, Negates, plainly, negated, Single, NotIn, Tree, Atomic, Prefix, Suffixed, Infix, Atom, Literal, Null, Chain, Call, Paren, Array, Comprehension, Map, Component, Links, no_links, field, item, Sub, index, slice, Suffix, Test, Filter, Subscript, Operator, Binary, Condition}
 use Rattle.tera_grammar.specs.expressions.Output.{output, atom_output, links_output, sub_output, field_output, suffix_output, operator_output, prefixed, array_made, map_made, is_optional_bracket, constant_items, constant_entries, items_output, entries_output, of_loop}
 

@@ -6,11 +6,11 @@ use Rattle.tera_base.specs.declared.utils.Span.{Span}
 use Rattle.tera_lexer.specs.grammar.Tokens as toks
 use Rattle.tera_lexer.specs.grammar.Tokens.{Items, Ended, Token, Ident, Symbol}
 use Rattle.tera_lexer.specs.code.Cursors.{nowhere}
-use Rattle.tera_nodes.specs.declared.ast.UnaryOperator.TheVariants as unary
-use Rattle.tera_nodes.specs.Tree as tree
+use Rattle.tera_ast.specs.declared.ast.UnaryOperator.TheVariants as unary
+use Rattle.tera_ast.specs.Tree as tree
 use Rattle.tera_base.specs.Values.{TextKey, NoPairs}
-use Rattle.tera_nodes.specs.Tree.{Expr}
-use Rattle.tera_nodes.specs.declared.ast.BinaryOperator.TheVariants.{Mul, Plus, Power, StrConcat, In, And}
+use Rattle.tera_ast.specs.Tree.{Expr}
+use Rattle.tera_ast.specs.declared.ast.BinaryOperator.TheVariants.{Mul, Plus, Power, StrConcat, In, And}
 use Rattle.tera_grammar.specs.expressions.Operators as written
 use Rattle.tera_grammar.specs.expressions.Operators.{BinaryOperator}
 use Rattle.tera_grammar.specs.expressions.Marks.{mark, Operation}

@@ -7,7 +7,7 @@ use Rattle.tera_base.specs.declared.utils.Span.{Span}
 use Rattle.tera_lexer.specs.code.Cursors.{Position, TakesOne, size}
 use Rattle.tera_lexer.specs.code.Steps.{Stops}
 use Rattle.tera_lexer.specs.grammar.Tokens.{Tok, Items, Token, Ended, Failed, Ident, Symbol}
-use Rattle.tera_nodes.specs.Tree as tree
+use Rattle.tera_ast.specs.Tree as tree
 use Rattle.tera_base.specs.Values as values
 use Rattle.tera_grammar.specs.expressions.Operators.{BinaryOperator, StrConcat, Minus, LessThan}
 use Rattle.tera_grammar.specs.expressions.Marks.{mark, LeftParen, RightParen, LeftBracket, LeftBrace, Else, Operation, Other}

@@ -6,13 +6,13 @@ use Rattle.tera_lexer.specs.grammar.Tokens as toks
 use Rattle.tera_lexer.specs.grammar.Tokens.{Tok, Items, Ended, Token, Ident, Symbol}
 use Rattle.tera_lexer.specs.declared.lexer.delimiters.Kind.TheVariants as kind
 use Rattle.tera_base.specs.Values as values
-use Rattle.tera_nodes.specs.View as view
+use Rattle.tera_ast.specs.View as view
 use Rattle.tera_tree.specs.declared.ast.ArgType.{ArgType}
 use Rattle.tera_tree.specs.declared.ast.ArgType.TheVariants as types
-use Rattle.tera_nodes.specs.Tree as tree
-use Rattle.tera_nodes.specs.Tree.{Stmt}
+use Rattle.tera_ast.specs.Tree as tree
+use Rattle.tera_ast.specs.Tree.{Stmt}
 use Rattle.tera_tree.specs.Tree.{Output, Argument}
-use Rattle.tera_nodes.specs.View.{nodes_of}
+use Rattle.tera_ast.specs.View.{nodes_of}
 use Rattle.tera_grammar.specs.Words.{is_none, is_reserved, is_loop_field}
 use Rattle.tera_grammar.specs.expressions.Reading.Front.{skip, bump, name_of, literal_at, quote_at, link_of, front_of_token, head_mark, begins_sign}
 use Rattle.tera_grammar.specs.expressions.Reading.Bracketed.{inside_subscript, inside_array, extra_of, part_of, slice_of, sub_of, element_of, after_element, row_by, row_of, arguments_of, args_of, links_by, links_of, dotted_by, dotted_of, attributes_by, attributes_of}

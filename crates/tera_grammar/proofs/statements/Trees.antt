@@ -3,10 +3,10 @@ use Rattle.std.proofs.Common.{◌≡◌, ℕ, Bool, true, false, List, [], ◌�
 use Rattle.std.specs.List.{AllByRecursion}
 use Rattle.std.proofs.lemmas.List.{map-append}
 use Rattle.tera_lexer.specs.grammar.Tokens.{Items}
-use Rattle.tera_nodes.specs.Tree as tree
-use Rattle.tera_nodes.specs.Tree.{Expr, Stmt}
+use Rattle.tera_ast.specs.Tree as tree
+use Rattle.tera_ast.specs.Tree.{Expr, Stmt}
 use Rattle.tera_tree.specs.Tree.{Definition, Output}
-use Rattle.tera_nodes.specs.View.{nodes_of}
+use Rattle.tera_ast.specs.View.{nodes_of}
 use Rattle.tera_grammar.proofs.Options.{none_some}
 use Rattle.tera_grammar.proofs.expressions.Bodiless.{has_body}
 use Rattle.tera_grammar.specs.Words.{AreDistinct}

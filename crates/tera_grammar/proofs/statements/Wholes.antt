@@ -4,7 +4,7 @@ use Rattle.tera_lexer.specs.grammar.Marks.{Marks, IsValid}
 use Rattle.tera_lexer.specs.grammar.Division.{Complete, IsDivision}
 use Rattle.tera_lexer.specs.grammar.Tokens.{Items, tokens_of, AreTokensOf}
 use Rattle.tera_lexer.proofs.Lefts.{tokens_one}
-use Rattle.tera_nodes.specs.View.{nodes_of}
+use Rattle.tera_ast.specs.View.{nodes_of}
 use Rattle.tera_tree.specs.Tree.{Output}
 use Rattle.tera_grammar.specs.statements.Expressions.{Limits}
 use Rattle.tera_grammar.specs.statements.Grammar.{Body}

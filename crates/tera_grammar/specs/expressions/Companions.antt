@@ -4,9 +4,9 @@ use Rattle.std.specs.Prelude.{◌≡◌, ℕ, ◌+◌, ◌≤◌, Bool, false, L
 use Rattle.tera_base.specs.Values as values
 use Rattle.tera_base.specs.declared.utils.Span.{Span}
 use Rattle.tera_lexer.specs.grammar.Tokens.{Items}
-use Rattle.tera_nodes.specs.Tree as tree
+use Rattle.tera_ast.specs.Tree as tree
 use Rattle.tera_base.specs.Values.{NoPairs}
-use Rattle.tera_nodes.specs.Tree.{Expr}
+use Rattle.tera_ast.specs.Tree.{Expr}
 use Rattle.tera_grammar.specs.expressions.Marks.{mark, LeftParen, LeftBracket, LeftBrace}
 use Rattle.tera_grammar.specs.expressions.Concrete.{Name, Dotted, Tree, Row, Args, no_args, args, of_arguments, of_items, of_entries, name_yield, dotted_yield, row_yield, args_yield}
 use Rattle.tera_grammar.specs.Words.{AreDistinct}

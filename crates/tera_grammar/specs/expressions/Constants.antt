@@ -3,8 +3,8 @@
 use Rattle.std.specs.Prelude.{◌≤◌, ℤ, nat_abs}
 use Rattle.tera_base.specs.Values as values
 use Rattle.tera_base.specs.Values.{Val, Vals, Pairs}
-use Rattle.tera_nodes.specs.Tree as tree
-use Rattle.tera_nodes.specs.Tree.{Expr}
+use Rattle.tera_ast.specs.Tree as tree
+use Rattle.tera_ast.specs.Tree.{Expr}
 pub use Rattle.tera_lexer.specs.grammar.Lexed.{EachNumber}
 
 -- a number that a literal may be, with either sign: at most the greatest `i64`, greater than the least

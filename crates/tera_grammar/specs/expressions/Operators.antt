@@ -1,6 +1,6 @@
 -- The operators between two operands, as they are written, and what each is in the tree.
-use Rattle.tera_nodes.specs.declared.ast.BinaryOperator as declared
-use Rattle.tera_nodes.specs.declared.ast.BinaryOperator.TheVariants as binary
+use Rattle.tera_ast.specs.declared.ast.BinaryOperator as declared
+use Rattle.tera_ast.specs.declared.ast.BinaryOperator.TheVariants as binary
 
 -- a test and a filter are forms of their own
 pub data BinaryOperator : Type 0 where

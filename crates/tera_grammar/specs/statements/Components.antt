@@ -7,7 +7,7 @@ use Rattle.tera_lexer.specs.grammar.Tokens.{Items, Token, Ident}
 use Rattle.tera_base.specs.Values as values
 use Rattle.tera_base.specs.Values.{Val, Pairs, NoPairs, OnePair}
 use Rattle.tera_base.specs.Text.{key_text}
-use Rattle.tera_nodes.specs.Tree.{Stmt}
+use Rattle.tera_ast.specs.Tree.{Stmt}
 use Rattle.tera_tree.specs.Tree.{Argument, Definition}
 use Rattle.tera_tree.specs.declared.ast.ArgType.{ArgType}
 use Rattle.tera_grammar.specs.expressions.Output.{literal_value}

@@ -2,10 +2,10 @@
 use Rattle.std.specs.Prelude.{ℤ, false, Option, Some, None}
 use Rattle.std.specs.List.{AllByRecursion}
 use Rattle.tera_base.specs.Values.{Val}
-use Rattle.tera_nodes.specs.Tree as tree
-use Rattle.tera_nodes.specs.Tree.{Stmt, Filters, Nodes}
+use Rattle.tera_ast.specs.Tree as tree
+use Rattle.tera_ast.specs.Tree.{Stmt, Filters, Nodes}
 use Rattle.tera_tree.specs.Tree.{Definition, Output}
-use Rattle.tera_nodes.specs.View.{nodes_of}
+use Rattle.tera_ast.specs.View.{nodes_of}
 use Rattle.tera_grammar.specs.expressions.Constants.{EachOfValue, EachConstant, EachOfEntries}
 
 abbrev pub EachOfFilters : (ℤ → Type 0) → Filters → Type 0

@@ -5,7 +5,7 @@ use Rattle.std.specs.Prelude.{ℕ, Bool, List}
 use Rattle.tera_base.specs.Values.{Vals, Pairs}
 use Rattle.tera_base.specs.declared.utils.Span.{Span}
 use Rattle.tera_lexer.specs.grammar.Tokens.{Items}
-use Rattle.tera_nodes.specs.Tree.{Expr, Entries}
+use Rattle.tera_ast.specs.Tree.{Expr, Entries}
 use Rattle.tera_grammar.specs.expressions.Concrete as concrete
 use Rattle.tera_grammar.specs.expressions.Concrete.{Tree}
 use Rattle.tera_grammar.specs.expressions.Measures.{Within, EachRow, EachAttribute}

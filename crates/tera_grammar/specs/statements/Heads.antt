@@ -3,9 +3,9 @@ use Rattle.std.specs.Prelude.{◌≡◌, Bool, true, false, List, [], ◌∷◌}
 use Rattle.std.specs.Str.{bytes_eq}
 use Rattle.tera_base.specs.declared.utils.Span.{Span}
 use Rattle.tera_lexer.specs.grammar.Tokens.{Items}
-use Rattle.tera_nodes.specs.Tree as tree
-use Rattle.tera_nodes.specs.Tree.{Expr, Stmt, Nodes}
-use Rattle.tera_nodes.specs.View.{filters_of}
+use Rattle.tera_ast.specs.Tree as tree
+use Rattle.tera_ast.specs.Tree.{Expr, Stmt, Nodes}
+use Rattle.tera_ast.specs.View.{filters_of}
 use Rattle.tera_grammar.specs.expressions.Operators.{GreaterThan, In}
 use Rattle.tera_grammar.specs.expressions.Marks.{mark, Bar, Operation}
 use Rattle.tera_grammar.specs.Words.{is_reserved}

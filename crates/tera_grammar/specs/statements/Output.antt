@@ -1,9 +1,9 @@
 -- What a template is read as: its nodes, what it extends and what it defines.
 use Rattle.std.specs.Prelude.{ℕ, Bool, true, false, List, [], ◌∷◌, ◌++◌, Option, Some, None}
-use Rattle.tera_nodes.specs.Tree as tree
-use Rattle.tera_nodes.specs.Tree.{Stmt}
+use Rattle.tera_ast.specs.Tree as tree
+use Rattle.tera_ast.specs.Tree.{Stmt}
 use Rattle.tera_tree.specs.Tree.{Definition, Output}
-use Rattle.tera_nodes.specs.View.{nodes_of}
+use Rattle.tera_ast.specs.View.{nodes_of}
 use Rattle.tera_grammar.specs.expressions.Output.{quote_text}
 use Rattle.tera_grammar.specs.statements.Expressions.{expression_output}
 use Rattle.tera_grammar.specs.statements.Components.{definition_of}

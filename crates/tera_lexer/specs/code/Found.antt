@@ -1,7 +1,6 @@
 -- What the program finds at a place in a tag, against what stands there.
 use Rattle.std.specs.Prelude.{◌≡◌, ◌==◌, if◌then◌else◌, true, false, not, ℕ, Bool, List, [], ◌∷◌, length, take, Option, Some, None}
 use Rattle.std.specs.List.{list_any}
-use Rattle.std.specs.Int.{w64, trailing_zeros}
 use Rattle.std.specs.Char.{is_ascii_digit, is_ascii_whitespace}
 use Rattle.tera_lexer.specs.grammar.Bytes.{backslash}
 use Rattle.tera_lexer.specs.grammar.Lexeme.{goes_on_name, spelled, told, quoted, Inner, IsQuoted, written, has_escape, has_unknown_escape}
@@ -19,10 +18,6 @@ abbrev pub passes : Class → ℕ → Bool
 passes Space b = is_ascii_whitespace b
 passes Name b = goes_on_name b
 passes Digit b = is_ascii_digit b
-
--- the place of the lowest bit of a mask that is set, or behind its bits where none is
-abbrev pub first_set : ℕ → ℕ → ℕ
-first_set bits mask = if mask == 0 then bits else trailing_zeros w64 mask
 
 -- the byte goes on a string without escapes
 abbrev pub goes_on_string : ℕ → ℕ → Bool

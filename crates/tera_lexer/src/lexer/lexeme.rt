@@ -10,12 +10,13 @@ ghost use Rattle.tera_lexer.specs.code.Counting.{ArePrintable, is_printable_byte
 ghost use Rattle.tera_lexer.specs.code.Seen.{seen};
 ghost use Rattle.std.specs.Str.{IsCharBoundary};
 ghost use Rattle.tera_lexer.specs.reading.Front.{front_of, begins_long_operator, closing_at, is_plain, unescaped, unknown_in};
-ghost use Rattle.tera_lexer.specs.code.Found.{passes, first_set, goes_on_string, BeginsBy, IsClosing, IsFound, IsOperatorOf, IsTokenOf};
+ghost use Rattle.tera_lexer.specs.code.Found.{passes, goes_on_string, BeginsBy, IsClosing, IsFound, IsOperatorOf, IsTokenOf};
 
 use crate::lexer::tokens::Token;
 use memchr::memchr2;
 use std::alloc::{AllocError, Global};
 use std::simd::prelude::*;
+use tera_base::lanes::first_set;
 
 /// What was found: a token that is no string, or the inside of a string without or with escapes, with how many bytes
 /// it takes; or a fault.
@@ -98,19 +99,7 @@ fn name_lanes(bytes: &[u8]) -> usize
     let no_letter = from_a.simd_ge(u8x16::splat(26));
     let no_digit = from_0.simd_ge(u8x16::splat(10));
     let stops = no_letter & no_digit & lanes.simd_ne(u8x16::splat(b'_'));
-    first_set(stops.to_bitmask())
-}
-
-// The place of the lowest bit that is set, or behind the lanes where none is.
-#[inline(always)]
-fn first_set(mask: u64) -> usize
-    ensures { result ≡ first_set 16 mask }
-{
-    if mask == 0 {
-        LANES
-    } else {
-        mask.trailing_zeros() as usize
-    }
+    first_set(stops.to_bitmask(), LANES)
 }
 
 /// Whether so many bytes at the front are printable, where one look at the lanes tells it.
@@ -130,7 +119,7 @@ fn printable_lanes(bytes: &[u8]) -> usize
     let lanes = u8x16::from_slice(bytes);
     let from_space = lanes - u8x16::splat(b' ');
     let stops = from_space.simd_ge(u8x16::splat(0x60));
-    first_set(stops.to_bitmask())
+    first_set(stops.to_bitmask(), LANES)
 }
 
 fn is_quote(b: u8) -> bool
@@ -280,7 +269,7 @@ fn string_lanes(bytes: &[u8], quote: u8) -> usize
 {
     let lanes = u8x16::from_slice(bytes);
     let stops = lanes.simd_eq(u8x16::splat(quote)) | lanes.simd_eq(u8x16::splat(b'\\'));
-    first_set(stops.to_bitmask())
+    first_set(stops.to_bitmask(), LANES)
 }
 
 // Whether a backslash stands before a byte that makes no escape with it.

@@ -1,6 +1,6 @@
 use Rattle.std.proofs.Common.{◌∷◌, ◌-◌, suc, map, ◌+◌, ◌*◌}
 use Rattle.tera_lexer.specs.code.Cursors.{size}
-use Rattle.tera_nodes.specs.View.{node_view}
+use Rattle.tera_ast.specs.View.{node_view}
 use Rattle.tera_grammar.specs.statements.Grammar.{Path, in_loop, InIf}
 use Rattle.tera_grammar.specs.statements.Reading.{body, branches}
 use Rattle.tera_grammar.specs.statements.Reading.Loops.{Going, Branching}

@@ -1,7 +1,7 @@
 use Rattle.std.proofs.Common.{rules, ◌≤◌, refl, ◌∙◌, arith}
-use Rattle.tera_nodes.specs.declared.ast.Expression.{the_lemmas}
-use Rattle.tera_nodes.specs.declared.ast.If.{size-If}
-use Rattle.tera_nodes.proofs.Views.{view_const, view_array, view_map, view_var, view_get_attr, view_get_item, view_slice, view_filter, view_test, view_ternary, view_comprehension, view_call, view_function_call, view_unary, view_binary, view_shown, view_set, view_block, view_block_set, view_for, view_if, view_section, block_set_out, for_out, if_out, section_out}
+use Rattle.tera_ast.specs.declared.ast.Expression.{the_lemmas}
+use Rattle.tera_ast.specs.declared.ast.If.{size-If}
+use Rattle.tera_ast.proofs.Views.{view_const, view_array, view_map, view_var, view_get_attr, view_get_item, view_slice, view_filter, view_test, view_ternary, view_comprehension, view_call, view_function_call, view_unary, view_binary, view_shown, view_set, view_block, view_block_set, view_for, view_if, view_section, block_set_out, for_out, if_out, section_out}
 use Rattle.tera_tree_json.proofs.Elifs.{whole, opened, opened_more, closed}
 use Rattle.tera_tree_json.proofs.FromFirst.{items_row, one_item, entries_row, one_entry, row_more}
 use Rattle.tera_tree_json.proofs.Views.{view_content, view_include}

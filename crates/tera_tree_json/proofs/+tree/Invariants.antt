@@ -1,7 +1,7 @@
 use Rattle.std.proofs.Common.{◌≡◌, ◌++◌, drop, ◌*◌, ◌+◌, ◌≤◌}
 use Rattle.json.specs.Tree.{items_tokens, members_tokens}
-use Rattle.tera_nodes.specs.View.{args_view, items_view, entries_view, filters_view, nodes_view}
-use Rattle.tera_nodes.specs.declared.ast.If.{size-If}
+use Rattle.tera_ast.specs.View.{args_view, items_view, entries_view, filters_view, nodes_view}
+use Rattle.tera_ast.specs.declared.ast.If.{size-If}
 use Rattle.tera_tree_json.specs.TreeJson.{args_json, items_json, entries_json, filters_json, nodes_json}
 use Rattle.tera_tree_json.proofs.Elifs.{IsOpen}
 use Rattle.tera_tree_json.proofs.+tree.Given as goal

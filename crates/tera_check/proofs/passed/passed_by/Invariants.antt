@@ -1,5 +1,5 @@
 use Rattle.std.proofs.Common.{◌≡◌, ◌++◌, drop, map}
-use Rattle.tera_nodes.specs.View.{entries_view}
+use Rattle.tera_ast.specs.View.{entries_view}
 use Rattle.tera_check.specs.Passed.{passed_view, passed_by}
 use Rattle.tera_check.proofs.passed.passed_by.Given as goal
 

@@ -1,5 +1,5 @@
 use Rattle.std.proofs.Common.{inr, cond, Some, None, ap, sym, ◌∙◌}
-use Rattle.tera_nodes.specs.View.{args_view}
+use Rattle.tera_ast.specs.View.{args_view}
 use Rattle.tera_grammar.specs.Options.{◌>>=◌}
 use Rattle.tera_expect.specs.Taking.{name_at}
 use Rattle.tera_expr_parts.specs.CommaLists.{has_argument}

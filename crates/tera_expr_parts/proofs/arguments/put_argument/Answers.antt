@@ -1,5 +1,5 @@
 use Rattle.std.proofs.Common.{ap, ◌∙◌}
-use Rattle.tera_nodes.specs.View.{args_view, expression_view}
+use Rattle.tera_ast.specs.View.{args_view, expression_view}
 use Rattle.tera_grammar.specs.expressions.Output.{put_arg}
 use Rattle.tera_expr_parts.proofs.ArgumentsLemmas.{put_view}
 use Rattle.tera_expr_parts.proofs.arguments.put_argument.Goals as goal

@@ -1,6 +1,6 @@
 use Rattle.std.proofs.Common.{Some, ap, sym, ◌∙◌, string_bytes}
 use Rattle.tera_base.specs.Values as values
-use Rattle.tera_nodes.specs.Tree as tree
+use Rattle.tera_ast.specs.Tree as tree
 use Rattle.tera_lexer.specs.grammar.Tokens.{Token}
 use Rattle.tera_lexer.specs.code.Seen.{seen}
 use Rattle.tera_grammar.specs.expressions.Concrete.{Simple, Escaped}

@@ -2,8 +2,8 @@ use Rattle.std.proofs.Common.{rules, ◌∙◌, map, ap, sym}
 use Rattle.std.specs.List.{list_all}
 use Rattle.tera_base.specs.ValueView.{value_view}
 use Rattle.tera_base.proofs.ValueViews.{view_array}
-use Rattle.tera_nodes.specs.Tree as tree
-use Rattle.tera_nodes.specs.View.{item_view}
+use Rattle.tera_ast.specs.Tree as tree
+use Rattle.tera_ast.specs.View.{item_view}
 use Rattle.tera_expr_parts.specs.Folding.{is_constant_item}
 use Rattle.tera_expr_parts.proofs.Constants.{array_folds, array_stays}
 use Rattle.tera_expr_parts.proofs.literals.array_or_constant.Goals as goal

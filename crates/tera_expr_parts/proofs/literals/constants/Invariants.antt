@@ -1,7 +1,7 @@
 use Rattle.std.specs.Prelude.{◌≡◌, map}
 use Rattle.std.specs.List.{flat_map}
 use Rattle.tera_base.specs.ValueView.{value_view}
-use Rattle.tera_nodes.specs.View.{item_view}
+use Rattle.tera_ast.specs.View.{item_view}
 use Rattle.tera_expr_parts.specs.Folding.{item_values}
 use Rattle.tera_expr_parts.proofs.literals.constants.Given as goal
 

@@ -1,8 +1,8 @@
 use Rattle.std.proofs.Common.{◌∙◌, ap, sym}
 use Rattle.std.specs.List.{list_all}
 use Rattle.tera_base.proofs.ValueViews.{view_map}
-use Rattle.tera_nodes.specs.Tree as tree
-use Rattle.tera_nodes.specs.View.{entry_view}
+use Rattle.tera_ast.specs.Tree as tree
+use Rattle.tera_ast.specs.View.{entry_view}
 use Rattle.tera_expr_parts.specs.Folding.{is_constant_entry}
 use Rattle.tera_expr_parts.proofs.ConstantMaps.{map_folds, map_stays}
 use Rattle.tera_expr_parts.proofs.literals.map_or_constant.Goals as goal

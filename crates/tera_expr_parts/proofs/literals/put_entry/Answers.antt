@@ -1,7 +1,7 @@
 use Rattle.std.proofs.Common.{◌≡◌, ◌∙◌, Some, ap, sym}
 use Rattle.std.specs.Option.{option_map}
 use Rattle.tera_base.specs.ValueView.{pairs_view, value_view}
-use Rattle.tera_nodes.specs.View.{entry_view, expression_view}
+use Rattle.tera_ast.specs.View.{entry_view, expression_view}
 use Rattle.tera_expr_parts.specs.Folding.{constant_of, put_entry}
 use Rattle.tera_expr_parts.proofs.ConstantMaps.{put_view, pair_put}
 use Rattle.tera_expr_parts.proofs.literals.put_entry.Goals as goal

@@ -4,8 +4,8 @@ use Rattle.std.proofs.lemmas.Result.{err_from_is_err_and}
 use Rattle.tera_base.specs.Values.{TextKey}
 use Rattle.tera_base.specs.declared.values.Key.TheVariants.{String}
 use Rattle.tera_lexer.specs.code.Cursors.{Position}
-use Rattle.tera_nodes.specs.Tree as tree
-use Rattle.tera_nodes.specs.View.{nodes_view}
+use Rattle.tera_ast.specs.Tree as tree
+use Rattle.tera_ast.specs.View.{nodes_view}
 use Rattle.tera_grammar.specs.expressions.Concrete.{Atomic, Component}
 use Rattle.tera_grammar.specs.expressions.Reading.Front.{at, taken_quote}
 use Rattle.tera_grammar.specs.expressions.Reading.Loop.{expr}

@@ -2,8 +2,8 @@
 use Rattle.std.proofs.Common.{rules, ◌≡◌, ap, sym, subst, ◌∙◌, arith}
 use Rattle.std.proofs.lemmas.Result.{err_from_is_err_and}
 use Rattle.tera_lexer.specs.code.Cursors.{Position}
-use Rattle.tera_nodes.specs.Tree as tree
-use Rattle.tera_nodes.specs.View.{expression_view}
+use Rattle.tera_ast.specs.Tree as tree
+use Rattle.tera_ast.specs.View.{expression_view}
 use Rattle.tera_grammar.specs.expressions.Concrete.{field, item}
 use Rattle.tera_grammar.specs.expressions.Output.{of_loop, links_output, sub_output}
 use Rattle.tera_grammar.specs.expressions.Reading.Front.{at, link_of}

@@ -2,7 +2,7 @@
 use Rattle.std.proofs.Common.{◌≡◌, ap, sym, subst, ◌∙◌, Some, refl, rules, [], None}
 use Rattle.std.proofs.lemmas.Result.{err_from_is_err_and}
 use Rattle.tera_lexer.specs.code.Cursors.{Position}
-use Rattle.tera_nodes.specs.Tree.{OneExpr}
+use Rattle.tera_ast.specs.Tree.{OneExpr}
 use Rattle.tera_grammar.specs.expressions.Concrete.{ended, no_extra, extra, Atomic, Array, plain, spread, of_items, Comprehension}
 use Rattle.tera_grammar.specs.expressions.Marks as marks
 use Rattle.tera_grammar.specs.expressions.Marks.{RightBracket, If, Operation}

@@ -2,7 +2,7 @@
 use Rattle.std.proofs.Common.{rules, ◌≡◌, [], ◌∙◌, ap, sym, subst, Some, None}
 use Rattle.std.proofs.lemmas.Result.{err_from_is_err_and}
 use Rattle.tera_lexer.specs.code.Cursors.{Position}
-use Rattle.tera_nodes.specs.View.{entries_view}
+use Rattle.tera_ast.specs.View.{entries_view}
 use Rattle.tera_grammar.specs.expressions.Concrete.{of_entries, ended, pair, spread}
 use Rattle.tera_grammar.specs.expressions.Marks.{Colon}
 use Rattle.tera_grammar.specs.expressions.Reading.Front.{at, takes}

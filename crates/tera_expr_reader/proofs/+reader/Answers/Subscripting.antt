@@ -1,7 +1,7 @@
 -- Of subscripts.
 use Rattle.std.proofs.Common.{◌≡◌, ap, sym, subst, ◌∙◌, Some, refl}
 use Rattle.std.proofs.lemmas.Result.{err_from_is_err_and}
-use Rattle.tera_nodes.specs.Tree.{OneExpr}
+use Rattle.tera_ast.specs.Tree.{OneExpr}
 use Rattle.tera_grammar.specs.expressions.Concrete.{absent, present, index, slice, no_extra, extra}
 use Rattle.tera_grammar.specs.expressions.Marks.{RightBracket}
 use Rattle.tera_grammar.specs.expressions.Reading.Front.{at, takes}

@@ -1,9 +1,9 @@
 -- Of suffixes and their arguments.
 use Rattle.std.proofs.Common.{◌≡◌, ap, sym, subst, ◌∙◌, arith, false, Some, ap₂, refl, rules, []}
 use Rattle.std.proofs.lemmas.Result.{err_from_is_err_and}
-use Rattle.tera_nodes.specs.Tree as tree
-use Rattle.tera_nodes.specs.View.{expression_view, args_view}
-use Rattle.tera_nodes.specs.declared.ast.UnaryOperator.TheVariants as unary
+use Rattle.tera_ast.specs.Tree as tree
+use Rattle.tera_ast.specs.View.{expression_view, args_view}
+use Rattle.tera_ast.specs.declared.ast.UnaryOperator.TheVariants as unary
 use Rattle.tera_grammar.specs.Options.{◌>>=◌}
 use Rattle.tera_grammar.specs.expressions.Concrete.{Subscript, Test, plainly, negated, no_args, of_arguments, ended}
 use Rattle.tera_grammar.specs.expressions.Reading.Front.{at}

@@ -2,7 +2,7 @@
 use Rattle.std.proofs.Common.{◌≡◌, length, ap, sym, subst, ◌∙◌, inr, arith}
 use Rattle.std.proofs.lemmas.Result.{err_from_is_err_and}
 use Rattle.tera_lexer.specs.code.Cursors.{Position}
-use Rattle.tera_nodes.specs.View.{expression_view}
+use Rattle.tera_ast.specs.View.{expression_view}
 use Rattle.tera_grammar.proofs.expressions.Stack.{unframed, pushed, unwind_none, keeps_as, refuses_all}
 use Rattle.tera_grammar.specs.expressions.Reading.Front.{at}
 use Rattle.tera_grammar.specs.expressions.Stack.{comes_to, coming, unwind}

@@ -1,6 +1,6 @@
 use Rattle.std.proofs.Common.{rules, ◌≡◌, refl, sym, ap, ◌∙◌, ◌++◌, codes}
-use Rattle.tera_nodes.specs.Tree as tree
-use Rattle.tera_nodes.specs.View.{expression_view}
+use Rattle.tera_ast.specs.Tree as tree
+use Rattle.tera_ast.specs.View.{expression_view}
 use Rattle.tera_grammar.specs.expressions.Conditions.{is_field_of}
 use Rattle.tera_expect.specs.Taking.{name_at}
 use Rattle.tera_expr_reader.proofs.ChainsLemmas.{field_read, plain_field, loop_field}

@@ -1,5 +1,5 @@
 use Rattle.std.proofs.Common.{◌≡◌, ◌++◌, drop, false, string_bytes, ◌*◌, ◌+◌}
-use Rattle.tera_nodes.specs.View.{args_view, items_view, entries_view}
+use Rattle.tera_ast.specs.View.{args_view, items_view, entries_view}
 use Rattle.tera_source.specs.Bodies.{args_have_body, items_have_body, entries_have_body}
 use Rattle.tera_source.specs.Writing.{args_text, items_text, entries_text, attributes_text}
 use Rattle.tera_source.proofs.writing.+writing.Given as goal

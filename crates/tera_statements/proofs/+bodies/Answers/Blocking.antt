@@ -1,8 +1,8 @@
 -- Of blocks and definitions.
 use Rattle.std.proofs.Common.{◌∙◌, ap, sym, string_bytes}
 use Rattle.std.proofs.lemmas.Result.{err_from_is_err_and}
-use Rattle.tera_nodes.specs.Tree as tree
-use Rattle.tera_nodes.specs.View.{nodes_of}
+use Rattle.tera_ast.specs.Tree as tree
+use Rattle.tera_ast.specs.View.{nodes_of}
 use Rattle.tera_grammar.specs.statements.Grammar.{Block, Define}
 use Rattle.tera_grammar.specs.statements.Output.{AddsNode, AddsDefinition}
 use Rattle.tera_grammar.specs.statements.Reading.TagParts.{tag}

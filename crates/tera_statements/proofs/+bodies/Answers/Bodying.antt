@@ -2,7 +2,7 @@
 use Rattle.std.proofs.Common.{◌≡◌, ◌∙◌, ◌∷◌, ◌-◌, suc, Some, inr, map, refl, sym, ap, subst, arith, ◌++◌}
 use Rattle.std.proofs.lemmas.Result.{err_from_is_err_and}
 use Rattle.tera_lexer.specs.code.Cursors.{Position}
-use Rattle.tera_nodes.specs.View.{node_view}
+use Rattle.tera_ast.specs.View.{node_view}
 use Rattle.tera_grammar.specs.statements.Grammar.{Single, Text, in_loop}
 use Rattle.tera_grammar.specs.statements.Output.{added_nodes}
 use Rattle.tera_grammar.specs.statements.Reading.{body}

@@ -5,8 +5,8 @@ use Rattle.tera_statements.specs.Adding.{seen_of}
 use Rattle.tera_expect.specs.Taking.{name_at}
 use Rattle.tera_statements.proofs.CapturesLemmas.{set_unnamed, set_named, set_without, set_unended, set_empty, set_unclosed, set_given, section_unended, section_empty, section_unclosed, section_given, uncalled, call_unended, call_empty, call_unclosed, call_given}
 use Rattle.tera_expect.proofs.Steps.{failed_as}
-use Rattle.tera_nodes.specs.Tree as tree
-use Rattle.tera_nodes.specs.View.{filters_of, nodes_of}
+use Rattle.tera_ast.specs.Tree as tree
+use Rattle.tera_ast.specs.View.{filters_of, nodes_of}
 use Rattle.tera_grammar.specs.statements.Grammar.{Capturing}
 use Rattle.tera_grammar.specs.statements.Heads.{SetBody, Section, CallBody}
 use Rattle.tera_grammar.specs.statements.Output.{AddsNode}

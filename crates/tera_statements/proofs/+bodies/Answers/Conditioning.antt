@@ -1,8 +1,8 @@
 -- Of conditions.
 use Rattle.std.proofs.Common.{◌≡◌, ◌∙◌, ap, ◌∷◌, rules, [], ◌++◌, map, inl, refl, sym}
 use Rattle.std.proofs.lemmas.Result.{err_from_is_err_and}
-use Rattle.tera_nodes.specs.Tree as tree
-use Rattle.tera_nodes.specs.View.{nodes_of}
+use Rattle.tera_ast.specs.Tree as tree
+use Rattle.tera_ast.specs.View.{nodes_of}
 use Rattle.tera_grammar.specs.statements.Grammar.{If, InIf, in_loop}
 use Rattle.tera_grammar.specs.statements.Output.{AddsNode}
 use Rattle.tera_grammar.specs.statements.Reading.TagParts.{tag}

@@ -1,8 +1,8 @@
 -- Of loops.
 use Rattle.std.proofs.Common.{◌∙◌, ap, ◌∷◌, inl, map, sym}
 use Rattle.std.proofs.lemmas.Result.{err_from_is_err_and}
-use Rattle.tera_nodes.specs.Tree as tree
-use Rattle.tera_nodes.specs.View.{nodes_of, node_view}
+use Rattle.tera_ast.specs.Tree as tree
+use Rattle.tera_ast.specs.View.{nodes_of, node_view}
 use Rattle.tera_grammar.specs.statements.Grammar.{For, NoElse}
 use Rattle.tera_grammar.specs.statements.Output.{AddsNode}
 use Rattle.tera_grammar.specs.statements.Reading.TagParts.{tag}

@@ -1,6 +1,6 @@
 use Rattle.std.proofs.Common.{rules, ◌≡◌, ◌∷◌, [], ◌++◌, map, sym, ap, ◌∙◌}
 use Rattle.std.proofs.lemmas.List.{map-append}
-use Rattle.tera_nodes.specs.View.{node_view}
+use Rattle.tera_ast.specs.View.{node_view}
 use Rattle.tera_grammar.specs.statements.Reading.Loops.{nest}
 use Rattle.tera_grammar.proofs.statements.Loops.{nest_pop}
 use Rattle.tera_statements.specs.Conditions.{branch_view}

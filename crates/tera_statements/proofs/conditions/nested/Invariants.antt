@@ -1,5 +1,5 @@
 use Rattle.std.proofs.Common.{◌≡◌, length, map}
-use Rattle.tera_nodes.specs.View.{node_view}
+use Rattle.tera_ast.specs.View.{node_view}
 use Rattle.tera_grammar.specs.statements.Reading.Loops.{nest}
 use Rattle.tera_statements.specs.Conditions.{branch_view}
 use Rattle.tera_statements.proofs.conditions.nested.Given as goal

@@ -1,5 +1,5 @@
 use Rattle.std.proofs.Common.{map}
-use Rattle.tera_nodes.specs.View.{node_view}
+use Rattle.tera_ast.specs.View.{node_view}
 use Rattle.tera_tree.specs.Outputs.{output_view}
 use Rattle.tera_statements.proofs.TemplatesLemmas.{with_text}
 use Rattle.tera_statements.proofs.templates.add_text.Goals as goal

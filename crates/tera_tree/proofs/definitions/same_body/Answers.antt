@@ -1,7 +1,7 @@
 use Rattle.std.proofs.Common.{sym, ◌∙◌}
 use Rattle.std.specs.Cmp.Derive.Mapped.{pointwise-map}
-use Rattle.tera_nodes.specs.View.{node_view}
-use Rattle.tera_nodes.specs.Same.{stmt_eq}
+use Rattle.tera_ast.specs.View.{node_view}
+use Rattle.tera_ast.specs.Same.{stmt_eq}
 use Rattle.tera_tree.proofs.definitions.same_body.Goals as goal
 
 pub returns : goal.returns

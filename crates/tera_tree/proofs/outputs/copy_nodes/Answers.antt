@@ -1,4 +1,4 @@
-use Rattle.tera_nodes.specs.View.{node_view}
+use Rattle.tera_ast.specs.View.{node_view}
 use Rattle.tera_tree.proofs.Defined.{seen_alike}
 use Rattle.tera_tree.proofs.outputs.copy_nodes.Goals as goal
 

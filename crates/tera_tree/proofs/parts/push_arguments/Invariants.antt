@@ -1,5 +1,5 @@
 use Rattle.std.proofs.Common.{◌≡◌, ◌++◌}
-use Rattle.tera_nodes.specs.View.{args_view}
+use Rattle.tera_ast.specs.View.{args_view}
 use Rattle.tera_tree.specs.Parts.{parts_view, parts_of_args}
 use Rattle.tera_tree.proofs.parts.push_arguments.Given as goal
 

@@ -1,6 +1,6 @@
 use Rattle.std.proofs.Common.{◌≡◌, ◌++◌, drop, map}
 use Rattle.std.specs.List.{flat_map}
-use Rattle.tera_nodes.specs.View.{nodes_of}
+use Rattle.tera_ast.specs.View.{nodes_of}
 use Rattle.tera_tree.specs.View.{definition_view}
 use Rattle.tera_tree.specs.Parts.{parts_view, parts_of_nodes}
 use Rattle.tera_tree.proofs.parts.push_definitions.Given as goal

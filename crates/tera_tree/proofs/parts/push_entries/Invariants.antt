@@ -1,5 +1,5 @@
 use Rattle.std.proofs.Common.{◌≡◌, ◌++◌, drop}
-use Rattle.tera_nodes.specs.View.{entries_view}
+use Rattle.tera_ast.specs.View.{entries_view}
 use Rattle.tera_tree.specs.Parts.{parts_view, parts_of_entries}
 use Rattle.tera_tree.proofs.parts.push_entries.Given as goal
 

@@ -1,5 +1,5 @@
 use Rattle.std.proofs.Common.{◌≡◌, ◌++◌, drop}
-use Rattle.tera_nodes.specs.View.{nodes_view}
+use Rattle.tera_ast.specs.View.{nodes_view}
 use Rattle.tera_tree.specs.Parts.{parts_view, parts_of_nodes}
 use Rattle.tera_tree.proofs.parts.push_nodes.Given as goal
 

@@ -1,9 +1,9 @@
 use Rattle.std.proofs.Common.{rules, ◌≡◌, ◌++◌, ◌≤◌, false, codes, string_bytes, IsUtf8, OnOk, ap, sym, ◌∙◌, refl, arith}
 use Rattle.std.proofs.Math.Utf8.{encode}
 use Rattle.tera_base.specs.Spanned.{node_of}
-use Rattle.tera_nodes.specs.declared.ast.ComponentCall.{out-ComponentCall}
-use Rattle.tera_nodes.specs.declared.ast.Expression.{the_lemmas}
-use Rattle.tera_nodes.specs.declared.ast.If.{size-If}
+use Rattle.tera_ast.specs.declared.ast.ComponentCall.{out-ComponentCall}
+use Rattle.tera_ast.specs.declared.ast.Expression.{the_lemmas}
+use Rattle.tera_ast.specs.declared.ast.If.{size-If}
 use Rattle.tera_tree_text.proofs.Calls.{shown_open}
 use Rattle.tera_tree_text.proofs.Elifs.{elif_text, last_text, chain_more}
 use Rattle.tera_tree_text.proofs.lines.+lines.Goals as goal

@@ -1,7 +1,7 @@
 use Rattle.std.proofs.Common.{◌≡◌, ◌++◌, drop, string_bytes, ◌*◌, ◌+◌, ◌≤◌, IsUtf8}
-use Rattle.tera_nodes.specs.View.{nodes_view, if_view}
+use Rattle.tera_ast.specs.View.{nodes_view, if_view}
 use Rattle.tera_tree_text.specs.TreeText.{nodes_text, node_text}
-use Rattle.tera_nodes.specs.declared.ast.If.{size-If}
+use Rattle.tera_ast.specs.declared.ast.If.{size-If}
 use Rattle.tera_tree_text.proofs.lines.+lines.Given as goal
 
 abbrev pub invariant-push_nodes-loop-node : goal.invariant-push_nodes-loop-node

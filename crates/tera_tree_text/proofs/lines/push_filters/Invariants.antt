@@ -1,5 +1,5 @@
 use Rattle.std.proofs.Common.{◌≡◌, ◌++◌, drop, string_bytes}
-use Rattle.tera_nodes.specs.View.{filters_view}
+use Rattle.tera_ast.specs.View.{filters_view}
 use Rattle.tera_tree_text.specs.TreeText.{filters_text}
 use Rattle.tera_tree_text.proofs.lines.push_filters.Given as goal
 

@@ -1,6 +1,6 @@
 use Rattle.std.proofs.Common.{◌≡◌, ◌∙◌, ap, rules, string_bytes}
 use Rattle.tera_base.specs.Spanned.{node_of, span_of}
-use Rattle.tera_nodes.specs.declared.ast.ComponentCall.{out-ComponentCall}
+use Rattle.tera_ast.specs.declared.ast.ComponentCall.{out-ComponentCall}
 use Rattle.tera_workspace.proofs.CallLemmas.{call_pushed}
 use Rattle.tera_workspace.proofs.judged.push_call.Goals as goal
 
