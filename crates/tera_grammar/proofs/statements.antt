@@ -12,5 +12,6 @@ pub mod Closed
 pub mod Wholes
 pub mod Loops
 pub mod Trees
+pub mod Parameters
 mod Examples
 pub mod Numbers

@@ -43,7 +43,7 @@ ghost use Rattle.tera_grammar.specs.statements.Output.{output_of};
 ghost use Rattle.tera_grammar.specs.statements.Places.{Places, texts};
 ghost use Rattle.tera_grammar.specs.statements.Reading.{template};
 ghost use Rattle.tera_grammar.specs.statements.Top.{IsTemplate, Derives, DerivesNames};
-ghost use Rattle.tera_grammar.specs.statements.Trees.{IsRight, blocks};
+ghost use Rattle.tera_grammar.specs.statements.Trees.{IsRight, blocks, definition_tells, group_tells};
 
 /// What is read as an expression is one, within the limits, and its tokens are those that were taken. Each
 /// expression within the limits is read before a token that ends it. So no other has the same tokens.
@@ -170,7 +170,8 @@ pub fn one_output()
 {}
 
 /// Each derivation of a source defines names at places, and no source has derivations with two lists of them. They are
-/// the names of the blocks of its tree, and those of the definitions of its components, in order.
+/// the names of the blocks of its tree, and those of the definitions of its components, in order; and with the name of
+/// each of these the names of its arguments and that of its rest parameter, and no others.
 pub fn placed_names()
     ensures some { (l : Limits) (m : Marks) (source : List ℕ) (output : Output) →
         Derives l m source output ↔ ((names : Places) × DerivesNames l m source output names) }
@@ -181,6 +182,9 @@ pub fn placed_names()
         DerivesNames l m source output names →
         (texts names.blocks ≡ blocks (nodes_of output.nodes))
         × (texts names.components ≡ map (λ d. d.name) output.definitions) }
+    ensures parameters { (l : Limits) (m : Marks) (source : List ℕ) (output : Output)
+        (names : Places) → DerivesNames l m source output names →
+        map group_tells names.parameters ≡ map definition_tells output.definitions }
 {}
 
 /// The tree of a source has no two blocks and no two components of one name, each `break` and `continue` in a

@@ -110,7 +110,7 @@ impl<'a> Parser<'a> {
     }
 
     /// The tree of the source as [`Parser::parse`] gives it, and where the names stand of the blocks and of the
-    /// components that it defines.
+    /// components that it defines, and those of the parameters of these.
     pub fn parse_with_names(self) -> Result<(ParserOutput, Names), Error>
         ensures sound { IfOk result (λ p. (names : Places) × DerivesNames self.entry.limits
             self.entry.marks self.entry.source (output_view p.0) names × AreNames p.1 names) }

@@ -7,7 +7,7 @@ use tera_parser::value::{Error, Span};
 use tera_parser::{Names, Parser};
 
 const SOURCE: &str = "é{% block head %}{% endblock head %}
-{% component ui . button() %}{% endcomponent %}{% component b() %}{% endcomponent %}
+{% component ui . button() %}{% endcomponent %}{% component b(title, @n = 1, ...rest) %}{% endcomponent %}
 {% if w %}{% block head_end %}x{% endblock %}{% endif %}";
 
 fn names_of(alloc: Global, source: &str) -> Result<Names, Error> {
@@ -43,6 +43,26 @@ fn each_name_has_its_place(rt: HostRuntime) -> Result<(), Fail> {
         "{names:?}"
     );
     assert!(rt; stands_at(names.components.get("b"), 2, 60, 1), "{names:?}");
+    Ok(())
+}
+
+#[test]
+fn each_parameter_has_its_place(rt: HostRuntime) -> Result<(), Fail> {
+    let names = names_of(rt.alloc(), SOURCE)?;
+    assert_eq!(rt; names.parameters.len(), 2);
+    match names.parameters.get("ui.button") {
+        Some(none) => assert_eq!(rt; none.len(), 0),
+        None => assert!(rt; false, "{names:?}"),
+    }
+    match names.parameters.get("b") {
+        Some(parameters) => {
+            assert_eq!(rt; parameters.len(), 3);
+            assert!(rt; stands_at(parameters.get("title"), 2, 62, 5), "{names:?}");
+            assert!(rt; stands_at(parameters.get("n"), 2, 70, 1), "{names:?}");
+            assert!(rt; stands_at(parameters.get("rest"), 2, 80, 4), "{names:?}");
+        }
+        None => assert!(rt; false, "{names:?}"),
+    }
     Ok(())
 }
 

@@ -5,11 +5,11 @@ use Rattle.tera_lexer.specs.grammar.Tokens.{Items}
 use Rattle.tera_grammar.specs.Options.{◌>>=◌}
 use Rattle.tera_grammar.specs.expressions.Reading.Front.{taken_name}
 use Rattle.tera_grammar.specs.statements.Components.{Head}
-use Rattle.tera_grammar.specs.statements.Expressions.{ComponentName, Limits}
+use Rattle.tera_grammar.specs.statements.Expressions.{Limits}
 use Rattle.tera_grammar.specs.statements.Grammar.{Body, Item, Block, Define, InBlock, InComponent, Path, is_outermost, may_block, text_if_any}
 use Rattle.tera_grammar.specs.statements.Names.{agrees}
 use Rattle.tera_grammar.specs.statements.TagParts.{AtEndBlock, Edge, Name, Tag}
-use Rattle.tera_grammar.specs.statements.Places.{block_placed, component_placed, placed_name}
+use Rattle.tera_grammar.specs.statements.Places.{block_placed, component_placed}
 use Rattle.tera_grammar.specs.statements.Reading.{Place, Reader, Reads, at, block_end, block_of, component_def_of}
 use Rattle.tera_grammar.specs.statements.Reading.Components.{Opened, ending_of, opened_of}
 use Rattle.tera_grammar.specs.statements.Reading.Meeting.{Located, Seen, locate, met, ◌having◌}
@@ -17,14 +17,10 @@ use Rattle.tera_grammar.specs.statements.Reading.TagParts.{closed, finish_of, na
 use Rattle.tera_statements.specs.Blocks.{new_block_of}
 use Rattle.tera_expect.proofs.Steps.{kept_by}
 
--- the names with one more
-pub block_kept : (b c more : Located) (n : Name) → more ≡ locate n b
-    → record { blocks = more; components = c } ≡ (record { blocks = b; components = c } having block_placed n)
-block_kept b c more n h = λ i. record { blocks = h i; components = c }
-
-pub component_kept : (b c more : Located) (n : ComponentName) → more ≡ locate (placed_name n) c
-    → record { blocks = b; components = more } ≡ (record { blocks = b; components = c } having component_placed n)
-component_kept b c more n h = λ i. record { blocks = b; components = h i }
+-- the names with that of one block more
+pub block_kept : (seen : Seen) (more : Located) (n : Name) → more ≡ locate n seen.blocks
+    → record { blocks = more; components = seen.components; parameters = seen.parameters } ≡ (seen having block_placed n)
+block_kept seen more n h = λ i. record { blocks = h i; components = seen.components; parameters = seen.parameters }
 
 module _ (self : Reader) (path : Path) (start : Edge) (first : Span) (seen : Seen) (ts : Items) where
   abbrev behind_name : Name × Items → Reads Item
@@ -74,11 +70,11 @@ module _ (l : Limits) (self : Reader) (path : Path) (start : Edge) (first : Span
     unopened h = rw (may, h) refl
 
     module _ (o : Opened) (us : Items) (open_tag : opened_of l (met seen.components) ts ≡ Some (o, us)) where
-      pub definition_empty : self (InComponent ∷ path) (at (seen having component_placed o.name) us) ≡ None → component_def_of l self path start first seen ts ≡ None
+      pub definition_empty : self (InComponent ∷ path) (at (seen having component_placed o.name o.parameters) us) ≡ None → component_def_of l self path start first seen ts ≡ None
       unfolding component_def_of
       definition_empty h = rw (may, open_tag, h) refl
 
-      module _ (b : Body) (p : Place) (inside : self (InComponent ∷ path) (at (seen having component_placed o.name) us) ≡ Some (b, p)) where
+      module _ (b : Body) (p : Place) (inside : self (InComponent ∷ path) (at (seen having component_placed o.name o.parameters) us) ≡ Some (b, p)) where
         pub definition_unclosed : ending_of start first o p.tokens ≡ None → component_def_of l self path start first seen ts ≡ None
         unfolding component_def_of
         definition_unclosed h = rw (may, open_tag, inside, h) refl

@@ -21,7 +21,8 @@ use Rattle.tera_grammar.specs.statements.Names.{agrees}
 use Rattle.tera_grammar.specs.statements.TagParts.{AtEndComponent, Edge}
 use Rattle.tera_grammar.specs.statements.Reading.Components.{Opened, end_name_in, ending_of, head, is_name, metadata_in, opened_of, parameters_of}
 use Rattle.tera_grammar.specs.statements.Reading.TagParts.{closed, finish_of}
-use Rattle.tera_grammar.specs.statements.Reading.Meeting.{Met, nothing_met}
+use Rattle.tera_grammar.specs.statements.Reading.Meeting.{Grouped, Located, Met, group, locate, locate_all, nothing_located, nothing_met, ◌having◌}
+use Rattle.tera_grammar.specs.statements.Places.{component_placed, parameters_placed, placed_name}
 use Rattle.tera_grammar.specs.statements.Types.{Sorted}
 use Rattle.tera_statements.specs.Components.{agreeing_name, new_component_of}
 use Rattle.tera_expect.specs.Taking.{Took}
@@ -63,6 +64,12 @@ module _ (l : Limits) (seen : Met) (ts : Items) where
           pub opened_given : (f : Edge) (ys : Items) → finish_of xs ≡ Some (f, ys)
               → opened_of l seen ts ≡ Some (record { name = n; paren = paren; parameters = ps; metadata = m; finish = f }, ys)
           opened_given f ys h = opened_behind ∙ rw (there, listed, given, h) refl
+
+-- the names with those of one component more
+pub component_kept : (b c more : Located) (g grown : Grouped) (n : ComponentName) (ps : Parameters) → more ≡ locate (placed_name n) c
+    → grown ≡ group (component_text n) (locate_all (parameters_placed ps) nothing_located) g
+    → record { blocks = b; components = more; parameters = grown } ≡ (record { blocks = b; components = c; parameters = g } having component_placed n ps)
+component_kept b c more g grown n ps named placed = λ i. record { blocks = b; components = named i; parameters = placed i }
 
 -- the closing tag
 module _ (start : Edge) (first : Span) (o : Opened) (ts : Items) where

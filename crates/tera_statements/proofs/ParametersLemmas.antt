@@ -32,7 +32,7 @@ use Rattle.tera_grammar.specs.statements.Components as components
 use Rattle.tera_grammar.specs.statements.Expressions.{Limits}
 use Rattle.tera_grammar.specs.statements.Reading.Expressions.{array_of, map_of}
 use Rattle.tera_grammar.specs.statements.TagParts.{Name}
-use Rattle.tera_grammar.specs.statements.Reading.Meeting.{Met, meet}
+use Rattle.tera_grammar.specs.statements.Reading.Meeting.{Located, Met, locate, meet, met}
 use Rattle.tera_grammar.specs.statements.Reading.Components.{annotation_in, assigned_in, at_in, default_at, default_by, default_of, fresh_name, minus_of, parameter, parameter_behind, parameter_of, parameters_at, parameters_behind, parameters_in, parameters_of}
 use Rattle.tera_grammar.specs.statements.Reading.Loops.{Listing}
 use Rattle.tera_grammar.specs.statements.Types.{Sorted, put_name, type_named}
@@ -326,12 +326,12 @@ module _ (l : Limits) (seen : Met) (ts : Items) where
         no_comma none h = behind_it ∙ ap (parameters_behind (parameters_of l) seen p us) none ∙ ap (λ o. o >>= λ c. parameters_of l (meet p.name.text seen) c.1 >>= λ ps. Some (components.More p c.0 ps.0, ps.1)) h
 
 -- one parameter more
-pub listing_more : (l : Limits) (start here : Items) (seen more : Met) (gathered grown : Sorted Argument) → Listing l start here seen gathered
-    → takes RightParen here ≡ None → takes Spread here ≡ None → (p : Parameter) (us : Items) → parameter_of l seen here ≡ Some (p, us)
+pub listing_more : (l : Limits) (start here : Items) (seen more : Located) (gathered grown : Sorted Argument) → Listing l start here seen gathered
+    → takes RightParen here ≡ None → takes Spread here ≡ None → (p : Parameter) (us : Items) → parameter_of l (met seen) here ≡ Some (p, us)
     → takes RightParen us ≡ None → (comma : Span) (vs : Items) → takes Comma us ≡ Some (comma, vs)
-    → more ≡ meet p.name.text seen → grown ≡ put_name p.name.text (argument_of p) gathered → Listing l start vs more grown
+    → more ≡ locate p.name seen → grown ≡ put_name p.name.text (argument_of p) gathered → Listing l start vs more grown
 listing_more l start here seen more gathered grown g no_end no_dots p us read no_last comma vs stands named put =
-    subst (λ s. Listing l start vs s grown) (sym named) (subst (λ a. Listing l start vs (meet p.name.text seen) a) (sym put)
+    subst (λ s. Listing l start vs s grown) (sym named) (subst (λ a. Listing l start vs (locate p.name seen) a) (sym put)
     (listing_on l start here seen gathered g no_end no_dots (p, us) read no_last (comma, vs) stands))
 
 -- where a token was not taken, the same stands there

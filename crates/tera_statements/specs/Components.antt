@@ -1,9 +1,5 @@
 -- The tags of a component's definition, as they are read.
 use Rattle.std.specs.Prelude.{◌≡◌, ℕ, not, List, Option, Some}
-use Rattle.std.specs.BTreeMap.{BTreeMap}
-use Rattle.std.specs.declared.alloc.Global.{Global}
-use Rattle.std.specs.declared.string.String.{String}
-use Rattle.tera_base.specs.declared.utils.Span.{Span}
 use Rattle.tera_lexer.specs.grammar.Tokens.{Items}
 use Rattle.tera_grammar.specs.Options.{◌>>=◌, guard}
 use Rattle.tera_grammar.specs.expressions.Reading.Front.{Takes}
@@ -11,22 +7,23 @@ use Rattle.tera_grammar.specs.statements.Components.{component_texts}
 use Rattle.tera_grammar.specs.statements.Expressions.{ComponentName, component_text}
 use Rattle.tera_grammar.specs.statements.Reading.Expressions.{component_of}
 use Rattle.tera_grammar.specs.statements.Names.{agrees}
-use Rattle.tera_grammar.specs.statements.Reading.Meeting.{Met, locate}
-use Rattle.tera_grammar.specs.statements.Places.{placed_name}
+use Rattle.tera_grammar.specs.statements.Reading.Meeting.{Met, ◌having◌}
+use Rattle.tera_grammar.specs.statements.Places.{component_placed}
 use Rattle.tera_grammar.specs.statements.Reading.Components as reading
 use Rattle.tera_grammar.specs.statements.Reading.Components.{end_name_in, is_name}
-use Rattle.tera_statements.specs.Known.{located_of}
+use Rattle.tera_statements.specs.Known.{seen_of}
 use Rattle.tera_statements.specs.Parameters.{AreParameters, IsMetadata}
 use Rattle.tera_statements.specs.Reading.{IsComponent}
 use Rattle.tera_statements.specs.declared.components.Opened.{Opened}
+use Rattle.tera_statements.specs.declared.names.Names.{Names}
 
 -- the name of a component that was not met
 abbrev pub new_component_of : Met → Items → Takes ComponentName
 new_component_of seen items = component_of items >>= λ n. guard (not (seen (component_text n.0))) >>= λ u. Some n
 
--- the name of a component is kept, with the place of its last part
-abbrev pub Keeps : BTreeMap (String Global) Span → BTreeMap (String Global) Span → ComponentName → Type 0
-Keeps old new n = located_of new ≡ locate (placed_name n) (located_of old)
+-- the component is kept: its name, and the names of its parameters
+abbrev pub Defines : Names → Names → reading.Opened → Type 0
+Defines old new x = seen_of new ≡ seen_of old having component_placed x.name x.parameters
 
 -- what the opening tag says
 abbrev pub IsOpened : Opened → reading.Opened → Type 0

@@ -1,13 +1,13 @@
 -- Names that were met, each with where it stands.
-use Rattle.std.specs.Prelude.{◌≡◌, ℕ, List, map, string_bytes}
+use Rattle.std.specs.Prelude.{◌≡◌}
+use Rattle.std.specs.Option.{option_map}
 use Rattle.std.specs.BTreeMap.{BTreeMap, get_by_text}
 use Rattle.std.specs.declared.alloc.Global.{Global}
 use Rattle.std.specs.declared.string.String.{String}
 use Rattle.tera_base.specs.declared.utils.Span.{Span}
 use Rattle.tera_grammar.specs.expressions.Concrete.{Name}
 use Rattle.tera_grammar.specs.statements.Places.{Places}
-use Rattle.tera_grammar.specs.statements.Reading.Meeting.{Located, Met, Seen, met, nothing_seen, ◌having◌}
-use Rattle.tera_expect.specs.Taking.{name_in}
+use Rattle.tera_grammar.specs.statements.Reading.Meeting.{Grouped, Located, Met, Seen, locate, met, nothing_seen, ◌having◌}
 use Rattle.tera_statements.specs.declared.names.Names.{Names}
 
 -- where a name that is kept stands, if it is one of these
@@ -18,13 +18,17 @@ located_of names = λ name. get_by_text names name
 abbrev pub met_of : BTreeMap (String Global) Span → Met
 met_of names = met (located_of names)
 
--- these names, in their order
-abbrev pub listed : List (String Global × Span) → List Name
-listed entries = map (λ e. name_in (string_bytes e.0) e.1) entries
+-- a name is kept, where it stands
+abbrev pub Keeps : BTreeMap (String Global) Span → BTreeMap (String Global) Span → Name → Type 0
+Keeps old new n = located_of new ≡ locate n (located_of old)
 
--- of blocks, and of components
+-- of a component that is kept, where the names of its parameters stand
+abbrev pub grouped_of : BTreeMap (String Global) (BTreeMap (String Global) Span) → Grouped
+grouped_of groups = λ name. option_map located_of (get_by_text groups name)
+
+-- of blocks, of components, and of the parameters of these
 abbrev pub seen_of : Names → Seen
-seen_of n = record { blocks = located_of n.blocks; components = located_of n.components }
+seen_of n = record { blocks = located_of n.blocks; components = located_of n.components; parameters = grouped_of n.parameters }
 
 -- these names stand at these places, and there are no others
 abbrev pub AreNames : Names → Places → Type 0

@@ -1,8 +1,10 @@
 -- The parameters of components, as they are read.
 use Rattle.std.specs.Prelude.{◌≡◌, Bool, List, [], map, Option, Some, None, String, string_bytes}
+use Rattle.std.specs.BTreeMap.{BTreeMap}
 use Rattle.std.specs.declared.alloc.Global.{Global}
 use Rattle.tera_base.specs.ValueView.{value_view}
 use Rattle.tera_base.specs.Values.{Val}
+use Rattle.tera_base.specs.declared.utils.Span.{Span}
 use Rattle.tera_base.specs.declared.values.Value.{Value}
 use Rattle.tera_tree.specs.Definitions.{named_argument, named_value}
 use Rattle.tera_tree.specs.Tree.{Argument}
@@ -18,9 +20,11 @@ use Rattle.tera_grammar.specs.expressions.Concrete.{Name}
 use Rattle.tera_grammar.specs.expressions.Marks.{RightParen}
 use Rattle.tera_grammar.specs.expressions.Reading.Front.{Takes, takes}
 use Rattle.tera_grammar.specs.statements.Reading.Components.{fresh_name}
-use Rattle.tera_grammar.specs.statements.Reading.Meeting.{Met}
+use Rattle.tera_grammar.specs.statements.Places.{parameters_placed}
+use Rattle.tera_grammar.specs.statements.Reading.Meeting.{Met, locate_all, nothing_located}
 use Rattle.tera_grammar.specs.statements.Types.{Sorted, type_named, type_of}
 use Rattle.tera_lexer.specs.grammar.Tokens.{Items}
+use Rattle.tera_statements.specs.Known.{located_of}
 use Rattle.tera_statements.specs.declared.parameters.Parameters.{Parameters}
 
 -- the type that is written
@@ -47,6 +51,10 @@ arguments_view es = map named_argument es
 
 abbrev pub AreParameters : Parameters → components.Parameters → Type 0
 AreParameters p ps = (arguments_view p.arguments.entries ≡ put_arguments ps []) × (name_view p.rest ≡ rest_of ps)
+
+-- with where the names of all of them stand
+abbrev pub ArePlaced : Parameters × BTreeMap (String Global) Span → components.Parameters → Type 0
+ArePlaced p ps = AreParameters p.0 ps × (located_of p.1 ≡ locate_all (parameters_placed ps) nothing_located)
 
 -- an argument with the type that is written, or else that of the default
 abbrev pub typed : Option ArgType → Option Val → Option ArgType

@@ -128,7 +128,7 @@ pub(crate) fn definition(
         at: cursor.current_span().copied(),
     };
     check_definition(cursor, around)?;
-    let opened = opening_tag(setting, cursor, &mut names.components)?;
+    let opened = opening_tag(setting, cursor, names)?;
     let inside = body(setting, cursor, names, around, &opening, depth)?;
     closing_tag(cursor, opened.name.as_str())?;
     Ok(Added::Definition(ComponentDefinition {

@@ -8,11 +8,12 @@ ghost use Rattle.tera_grammar.specs.expressions.Reading.Front.{begins};
 ghost use Rattle.tera_grammar.specs.statements.Components.{put_pairs};
 ghost use Rattle.tera_grammar.specs.statements.Types.{put_name};
 ghost use Rattle.tera_grammar.specs.statements.Expressions.{component_text};
+ghost use Rattle.tera_grammar.specs.statements.Places.{placed_name};
 ghost use Rattle.tera_grammar.specs.statements.TagParts.{Edge};
 ghost use Rattle.tera_grammar.specs.statements.Reading.Components as reading;
 ghost use Rattle.tera_grammar.specs.statements.Reading.Components.{ending_of, metadata_in, opened_of};
-ghost use Rattle.tera_statements.specs.Components.{IsOpened, Keeps, agreeing_name, new_component_of};
-ghost use Rattle.tera_statements.specs.Known.{met_of};
+ghost use Rattle.tera_statements.specs.Components.{Defines, IsOpened, agreeing_name, new_component_of};
+ghost use Rattle.tera_statements.specs.Known.{Keeps, met_of};
 ghost use Rattle.tera_statements.specs.Parameters.{IsMetadata};
 ghost use Rattle.tera_statements.specs.Reading.{IsComponent};
 ghost use Rattle.tera_statements.specs.Settings.{limits_under};
@@ -21,7 +22,7 @@ ghost use Rattle.tera_tree.specs.Definitions.{named_value};
 
 use crate::faults::{renamed, repeated_component};
 use crate::fronts::Closer;
-use crate::names::{Known, keep_name, place_of};
+use crate::names::{Known, Names, keep_name, keep_parameters, place_of};
 use crate::parameters::{Parameters, read_parameters};
 use crate::parts::{closed, finish};
 use crate::settings::Setting;
@@ -40,22 +41,24 @@ pub(crate) struct Opened {
     pub metadata: BTreeMap<String, Value>,
 }
 
-/// Reads the opening tag of a component's definition, behind its first word. The name is kept.
+/// Reads the opening tag of a component's definition, behind its first word. The component is kept.
 #[tactic(auto, using(crate::proofs::OnTheWay::through_tags))]
 pub(crate) fn opening_tag(
     setting: &Setting<'_>,
     cursor: &mut Cursor<'_>,
-    seen: &mut Known,
+    names: &mut Names,
 ) -> Result<Opened, Error>
-    ensures gives { GivesBy (λ o x. IsOpened o x × Keeps seen.old seen.new x.name)
+    ensures gives { GivesBy (λ o x. IsOpened o x × Defines names.old names.new x)
         result cursor.new.left
-        (opened_of (limits_under setting.now) (met_of seen.old) cursor.old.left) }
+        (opened_of (limits_under setting.now) (met_of names.old.components) cursor.old.left) }
     ensures refusal { IfErr result (Refuses cursor.old) }
     ensures later { IfOk result (λ _. Took cursor.old cursor.new) }
 {
-    let name = new_component(cursor, seen)?;
+    let alloc = cursor.alloc();
+    let name = new_component(cursor, &mut names.components)?;
     expect(cursor, Fixed::LeftParen)?;
-    let parameters = read_parameters(setting, cursor)?;
+    let (parameters, places) = read_parameters(setting, cursor)?;
+    keep_parameters(alloc, &mut names.parameters, name.as_str(), places)?;
     let metadata = metadata(setting, cursor)?;
     finish(cursor)?;
     Ok(Opened {
@@ -68,7 +71,7 @@ pub(crate) fn opening_tag(
 // The name of a component that the template did not define before. It is kept.
 #[tactic(auto, using(tera_expect::proofs::TakingLemmas::behind_tokens))]
 fn new_component(cursor: &mut Cursor<'_>, seen: &mut Known) -> Result<String, Error>
-    ensures gives { GivesBy (λ s n. IsComponent s n × Keeps seen.old seen.new n)
+    ensures gives { GivesBy (λ s n. IsComponent s n × Keeps seen.old seen.new (placed_name n))
         result cursor.new.left (new_component_of (met_of seen.old) cursor.old.left) }
     ensures refusal { IfErr result (Refuses cursor.old) }
     ensures later { IfOk result (λ _. Took cursor.old cursor.new) }

@@ -4,8 +4,8 @@ ghost use Rattle.std.specs.Prelude.{◌≡◌, IfErr, IfOk, OnOk};
 ghost use Rattle.std.specs.Option.{option_copied};
 ghost use Rattle.tera_base.specs.Errors.{IsMemory};
 ghost use Rattle.tera_expect.specs.Taking.{name_in};
-ghost use Rattle.tera_grammar.specs.statements.Reading.Meeting.{locate, nothing_seen};
-ghost use Rattle.tera_statements.specs.Known.{located_of, seen_of};
+ghost use Rattle.tera_grammar.specs.statements.Reading.Meeting.{group, locate, nothing_seen};
+ghost use Rattle.tera_statements.specs.Known.{grouped_of, located_of, seen_of};
 
 use std::alloc::{AllocError, Global};
 use std::collections::BTreeMap;
@@ -14,6 +14,9 @@ use tera_base::{Error, Span};
 
 /// Names that were met, each with where it stands.
 pub(crate) type Known = BTreeMap<String, Span>;
+
+/// Names of parameters, under those of their components.
+pub(crate) type Groups = BTreeMap<String, Known>;
 
 /// Where the name stands, if it was met.
 pub(crate) fn place_of<'b>(names: &'b Known, name: &str) -> Option<&'b Span>
@@ -38,6 +41,22 @@ pub(crate) fn keep_name(
     Ok(())
 }
 
+/// Keeps the names of the parameters of a component.
+pub(crate) fn keep_parameters(
+    alloc: Global,
+    groups: &mut Groups,
+    component: &str,
+    names: Known,
+) -> Result<(), Error>
+    ensures kept { OnOk result (grouped_of groups.new
+        ≡ group component.now (located_of names) (grouped_of groups.old)) }
+    ensures refusal { IfErr result IsMemory }
+{
+    let component = String::from_str(alloc, component)?;
+    let _before = groups.insert(component, names)?;
+    Ok(())
+}
+
 /// The names that a template defines, each with where it stands in the tag that opens its block or its definition.
 #[derive(Debug, PartialEq, Eq, Drop)]
 pub struct Names {
@@ -45,6 +64,8 @@ pub struct Names {
     pub blocks: BTreeMap<String, Span>,
     /// Of each component its name, at the place of the last part: for `ui.button` that of `button`.
     pub components: BTreeMap<String, Span>,
+    /// Under the name of each component the names of its parameters, that of the rest parameter among them.
+    pub parameters: BTreeMap<String, BTreeMap<String, Span>>,
 }
 
 impl Names {
@@ -55,6 +76,7 @@ impl Names {
         Names {
             blocks: Known::new(alloc),
             components: Known::new(alloc),
+            parameters: Groups::new(alloc),
         }
     }
 }
@@ -66,6 +88,7 @@ impl Clone for Names {
         Ok(Names {
             blocks: copy(&self.blocks)?,
             components: copy(&self.components)?,
+            parameters: copy_groups(&self.parameters)?,
         })
     }
 }
@@ -76,6 +99,17 @@ fn copy(names: &Known) -> Result<Known, AllocError>
     let mut copies = Known::emptied(names)?;
     'entries: for (name, span) in names.iter() {
         let _before = copies.insert(name.clone()?, span.copied())?;
+    }
+    Ok(copies)
+}
+
+fn copy_groups(groups: &Groups) -> Result<Groups, AllocError>
+    ensures { IfOk result (λ c. grouped_of c ≡ grouped_of groups.now) }
+{
+    let mut copies = Groups::emptied(groups)?;
+    'entries: for (component, names) in groups.iter() {
+        let component = component.clone()?;
+        let _before = copies.insert(component, copy(names)?)?;
     }
     Ok(copies)
 }

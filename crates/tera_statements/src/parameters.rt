@@ -10,9 +10,9 @@ ghost use Rattle.tera_grammar.specs.expressions.Reading.Front.{takes};
 ghost use Rattle.tera_grammar.specs.statements.Components.{is_nothing};
 ghost use Rattle.tera_grammar.specs.statements.Reading.Components.{annotation_in, assigned_in, default_of, fresh_name, minus_of, parameter_of, parameters_of};
 ghost use Rattle.tera_grammar.specs.statements.Types.{has_type, put_name, type_named};
-ghost use Rattle.tera_grammar.specs.statements.Reading.Meeting.{meet, nothing_met};
-ghost use Rattle.tera_statements.specs.Known.{met_of};
-ghost use Rattle.tera_statements.specs.Parameters.{AreParameters, IsAssigned, IsDefault, IsParameter, IsType, argument_as, arguments_view, has_default, taken_rest};
+ghost use Rattle.tera_grammar.specs.statements.Reading.Meeting.{nothing_met};
+ghost use Rattle.tera_statements.specs.Known.{Keeps, met_of};
+ghost use Rattle.tera_statements.specs.Parameters.{ArePlaced, IsAssigned, IsDefault, IsParameter, IsType, argument_as, arguments_view, has_default, taken_rest};
 ghost use Rattle.tera_statements.specs.Settings.{limits_under};
 ghost use Rattle.tera_expect.specs.Taking.{Fails, GivesAs, GivesBy, GoesOn, Refuses, Took, name_at};
 ghost use Rattle.tera_tree.specs.View.{argument_view, default_view};
@@ -38,13 +38,13 @@ pub(crate) struct Parameters {
     pub rest: Option<String>,
 }
 
-/// Reads the parameters of a component, behind their opening parenthesis.
+/// Reads the parameters of a component, behind their opening parenthesis, with where the names of all of them stand.
 #[tactic(auto, using(tera_expect::proofs::TakingLemmas::on_the_way))]
 pub(crate) fn read_parameters(
     setting: &Setting<'_>,
     cursor: &mut Cursor<'_>,
-) -> Result<Parameters, Error>
-    ensures gives { GivesBy AreParameters result cursor.new.left
+) -> Result<(Parameters, Known), Error>
+    ensures gives { GivesBy ArePlaced result cursor.new.left
         (parameters_of (limits_under setting.now) nothing_met cursor.old.left) }
     ensures refusal { IfErr result (Refuses cursor.old) }
     ensures later { IfOk result (λ _. Took cursor.old cursor.new) }
@@ -54,22 +54,18 @@ pub(crate) fn read_parameters(
     let mut seen = Known::new(alloc);
     'parameters: loop {
         if eat(cursor, Fixed::RightParen) {
-            return Ok(Parameters {
-                arguments,
-                rest: None,
-            });
+            let rest = None;
+            return Ok((Parameters { arguments, rest }, seen));
         }
         if eat(cursor, Fixed::Spread) {
-            let rest = Some(rest_parameter(cursor, &seen)?);
-            return Ok(Parameters { arguments, rest });
+            let rest = Some(rest_parameter(cursor, &mut seen)?);
+            return Ok((Parameters { arguments, rest }, seen));
         }
         let (name, argument) = parameter(setting, cursor, &mut seen)?;
         put_argument(&mut arguments, name, argument)?;
         if eat(cursor, Fixed::RightParen) {
-            return Ok(Parameters {
-                arguments,
-                rest: None,
-            });
+            let rest = None;
+            return Ok((Parameters { arguments, rest }, seen));
         }
         expect(cursor, Fixed::Comma)?;
     }
@@ -202,15 +198,16 @@ fn repeated(cursor: &Cursor<'_>, name: &str, first: &Span, rest: bool) -> Error
     }
 }
 
-// The name of the rest parameter, behind its dots, and the closing parenthesis.
+// The name of the rest parameter, behind its dots, and the closing parenthesis. The name is kept.
 #[tactic(auto, using(tera_expect::proofs::TakingLemmas::behind_tokens))]
-fn rest_parameter(cursor: &mut Cursor<'_>, seen: &Known) -> Result<String, Error>
-    ensures gives { GivesBy (λ s n. string_bytes s ≡ n.text) result cursor.new.left
-        (taken_rest (met_of seen.now) cursor.old.left) }
+fn rest_parameter(cursor: &mut Cursor<'_>, seen: &mut Known) -> Result<String, Error>
+    ensures gives { GivesBy (λ s n. (string_bytes s ≡ n.text) × Keeps seen.old seen.new n)
+        result cursor.new.left (taken_rest (met_of seen.old) cursor.old.left) }
     ensures refusal { IfErr result (Refuses cursor.old) }
     ensures later { IfOk result (λ _. Took cursor.old cursor.new) }
 {
     let name = fresh_name(cursor, seen, true)?;
+    keep_name(cursor.alloc(), seen, name, cursor.current_span())?;
     if !eat(cursor, Fixed::RightParen) {
         return Err(rest_is_not_last(cursor));
     }
@@ -224,9 +221,9 @@ fn parameter(
     cursor: &mut Cursor<'_>,
     seen: &mut Known,
 ) -> Result<(String, ComponentArgument), Error>
-    ensures gives { GivesBy IsParameter result cursor.new.left
+    ensures gives { GivesBy (λ p q. IsParameter p q × Keeps seen.old seen.new q.name)
+        result cursor.new.left
         (parameter_of (limits_under setting.now) (met_of seen.old) cursor.old.left) }
-    ensures kept { IfOk result (λ p. met_of seen.new ≡ meet (string_bytes p.0) (met_of seen.old)) }
     ensures refusal { IfErr result (Refuses cursor.old) }
     ensures later { IfOk result (λ _. Took cursor.old cursor.new) }
 {

@@ -87,7 +87,7 @@ module _ (l : Limits) (f : Reader) (path : Path) (seen : Seen) where
   block_found new t n b e m r may fresh agreed read = step_opens OpensBlock t _ _ (rw (may, fresh, read, block_end_found n m e r agreed) refl)
 
   define_found : (new : Seen) (h : Head) (b : Body) (r : Items) → is_outermost path ≡ true → met seen.components (component_text h.name) ≡ false → FitsHead l h →
-      f (InComponent ∷ path) (at (seen having component_placed h.name) (yield b (ending_yield h r))) ≡ Some (b, at new (ending_yield h r)) →
+      f (InComponent ∷ path) (at (seen having component_placed h.name h.parameters) (yield b (ending_yield h r))) ≡ Some (b, at new (ending_yield h r)) →
       step l f path seen (front (item_yield (Define h b) r)) ≡ Some (Some (Define h b, at new r))
   unfolding component_def_of
   define_found new h b r may fresh fits read =
@@ -191,9 +191,9 @@ mutual
       (whole b l d (InBlock ∷ path) (seen having block_placed n) (closing AtEndBlock e (name_if_any_yield m (finish e r))) fits.2 low (then_names seen (block_placed n) (places b) apart) tt)
       ∙ ap (λ s. Some (Some (Block t n b e m, at s r))) (having_both seen (block_placed n) (places b))
   item_found (Define h b) l d path seen r fits low apart =
-      define_found l (body d l) path seen ((seen having component_placed h.name) having places b) h b r fits.0 apart.1.0 fits.1
-      (whole b l d (InComponent ∷ path) (seen having component_placed h.name) (ending_yield h r) fits.2 low (then_names seen (component_placed h.name) (places b) apart) tt)
-      ∙ ap (λ s. Some (Some (Define h b, at s r))) (having_both seen (component_placed h.name) (places b))
+      define_found l (body d l) path seen ((seen having component_placed h.name h.parameters) having places b) h b r fits.0 apart.1.0 fits.1
+      (whole b l d (InComponent ∷ path) (seen having component_placed h.name h.parameters) (ending_yield h r) fits.2 low (then_names seen (component_placed h.name h.parameters) (places b) apart) tt)
+      ∙ ap (λ s. Some (Some (Define h b, at s r))) (having_both seen (component_placed h.name h.parameters) (places b))
   item_found (Capturing c b) l d path seen r fits low apart =
       capture_found l (body d l) path seen (seen having places b) c b r fits.0 (whole b l d (InCapture ∷ path) seen (capture_end c r) fits.1 low apart (capture_ends c r))
   item_found (For t lp b o e) l d path seen r fits low apart =

@@ -408,6 +408,7 @@ module _ (l : Limits) where
     pub opened : (items : Items) → start_yield start (Token (opener_token OpensComponent) first (opened_yield o items)) ≡ head_yield x.0 items
     pub fits : FitParameters l o.parameters → FitsMetadata l o.metadata → FitsHead l x.0
     pub name : x.0.name ≡ o.name
+    pub parameters : x.0.parameters ≡ o.parameters
 
   pub ending_stands : (start : Edge) (first : Span) (o : Opened) (ts : Items) (x : Head × Items) → ending_of start first o ts ≡ Some x → EndingStands start first o ts x
   unfolding ending_of
@@ -419,6 +420,7 @@ module _ (l : Limits) where
         opened = λ items. refl;
         fits = λ parameters metadata. (parameters, metadata, guard_ok _ u agreed);
         name = refl;
+        parameters = refl;
       })))))
 
   pub ending_found : (h : Head) (rest : Items) → agrees (component_text h.name) (component_texts h.end_name) ≡ true → ending_of h.tag.start h.tag.first (opened_part h) (ending_yield h rest) ≡ Some (h, rest)

@@ -213,11 +213,12 @@ module _ (l : Limits) (d : ℕ) (f : Reader) (sound : Sound l d f) where
   define_found path start first seen ts us x is h =
       bound _ _ _ h (λ u may rest1. bound _ _ _ rest1 (λ o opened rest2. bound _ _ _ rest2 (λ b read more. bound _ _ _ more (λ e closed made.
       let head = opened_stands l (met seen.components) us o opened in
-      let found = sound (InComponent ∷ path) (at (seen having component_placed o.0.name) o.1) b read in
+      let found = sound (InComponent ∷ path) (at (seen having component_placed o.0.name o.0.parameters) o.1) b read in
       let end = ending_stands l start first o.0 b.1.tokens e closed in
       subst (Finds path seen ts) (same_Some (Define e.0 b.0, at b.1.seen e.1) x made) (record {
         tokens = is ∙ ap (begun start OpensComponent first) (head.tokens ∙ ap (opened_yield o.0) (found.tokens ∙ ap (yield b.0) end.tokens)) ∙ end.opened _;
-        named = subst (λ n. Named (component_placed n followed_by places b.0) seen b.1.seen) (sym end.name) (named_component o.0.name (places b.0) head.fresh found.named);
+        named = subst (λ p. Named (p followed_by places b.0) seen b.1.seen) (λ i. component_placed (sym end.name i) (sym end.parameters i))
+            (named_component o.0.name o.0.parameters (places b.0) head.fresh found.named);
         fits = (guard_ok _ u may, end.fits head.parameters head.metadata, found.fits);
         height = found.height;
       })))))

@@ -14,7 +14,8 @@ use Rattle.tera_grammar.specs.expressions.Marks.{RightParen, Comma, Spread, Bar}
 use Rattle.tera_grammar.specs.statements.Types.{Sorted, put_name}
 use Rattle.tera_grammar.specs.Options.{◌>>=◌, guard}
 use Rattle.tera_grammar.specs.statements.Places.{places}
-use Rattle.tera_grammar.specs.statements.Reading.Meeting.{Met, Seen, meet, nothing_met, nothing_seen, ◌having◌}
+use Rattle.tera_grammar.specs.statements.Places.{parameters_placed}
+use Rattle.tera_grammar.specs.statements.Reading.Meeting.{Located, Seen, locate, locate_all, meet, met, nothing_located, nothing_met, nothing_seen, ◌having◌}
 use Rattle.tera_grammar.specs.statements.TagParts.{Edge, AtElif, OpensExtends}
 use Rattle.tera_grammar.specs.statements.Expressions.{Limits, expression_output, Filtering, filter_output}
 use Rattle.tera_grammar.specs.statements.Reading.Expressions.{filter_of}
@@ -30,6 +31,7 @@ use Rattle.tera_grammar.specs.statements.Reading.TagParts.{Front, Closes, Opens,
 use Rattle.tera_grammar.specs.statements.Top.{is_blank, join}
 use Rattle.tera_grammar.proofs.Options.{bound}
 use Rattle.tera_grammar.proofs.statements.Heads.{filters_steps}
+use Rattle.tera_grammar.proofs.statements.Names.{met_located}
 use Rattle.tera_grammar.proofs.statements.Components.{parameters_steps}
 use Rattle.tera_grammar.proofs.statements.Found.{body_sound}
 use Rattle.tera_grammar.proofs.statements.Unrolled.{body_steps, branches_steps}
@@ -242,43 +244,47 @@ pub rest_of-list : (before : List (Parameter × Span)) (ps : Parameters) → res
 rest_of-list [] ps = refl
 rest_of-list (p ∷ before) ps = rest_of-list before ps
 
-module _ (l : Limits) (start here : Items) (seen : Met) (gathered : Sorted Argument) where
-  pub listing_starts : gathered ≡ [] → seen ≡ nothing_met → start ≡ here → Listing l start here seen gathered
+module _ (l : Limits) (start here : Items) (seen : Located) (gathered : Sorted Argument) where
+  pub listing_starts : gathered ≡ [] → seen ≡ nothing_located → start ≡ here → Listing l start here seen gathered
   listing_starts none nothing same = record {
     before = [];
-    reads = bind_again (parameters_of l nothing_met start) _ (λ x. refl) ∙ ap (λ v. parameters_of l v start >>= λ ps. Some (ps.0, ps.1)) (sym nothing) ∙ ap (λ p. parameters_of l seen p >>= λ ps. Some (ps.0, ps.1)) same;
+    reads = bind_again (parameters_of l nothing_met start) _ (λ x. refl) ∙ ap (λ v. parameters_of l (met v) start >>= λ ps. Some (ps.0, ps.1)) (sym nothing) ∙ ap (λ p. parameters_of l (met seen) p >>= λ ps. Some (ps.0, ps.1)) same;
     shows = λ ps. ap (put_arguments ps) (sym none);
+    stand = λ ps. ap (locate_all (parameters_placed ps)) (sym nothing);
   }
 
   -- what is left comes to what stands next
-  pub listing_steps : (g : Listing l start here seen gathered) → parameters_of l nothing_met start ≡ (parameters_in (parameters_of l) l seen here (takes RightParen here) >>= λ ps. Some (list g.before ps.0, ps.1))
-  listing_steps g = g.reads ∙ ap (λ o. o >>= λ ps. Some (list g.before ps.0, ps.1)) (parameters_steps l seen here)
+  pub listing_steps : (g : Listing l start here seen gathered) → parameters_of l nothing_met start ≡ (parameters_in (parameters_of l) l (met seen) here (takes RightParen here) >>= λ ps. Some (list g.before ps.0, ps.1))
+  listing_steps g = g.reads ∙ ap (λ o. o >>= λ ps. Some (list g.before ps.0, ps.1)) (parameters_steps l (met seen) here)
 
-  pub listing_ends : (x : Parameters × Items) (g : Listing l start here seen gathered) → parameters_in (parameters_of l) l seen here (takes RightParen here) ≡ Some x
+  pub listing_ends : (x : Parameters × Items) (g : Listing l start here seen gathered) → parameters_in (parameters_of l) l (met seen) here (takes RightParen here) ≡ Some x
       → (ps : Parameters) × (parameters_of l nothing_met start ≡ Some (ps, x.1)) × (put_arguments x.0 gathered ≡ put_arguments ps []) × (rest_of ps ≡ rest_of x.0)
+      × (locate_all (parameters_placed x.0) seen ≡ locate_all (parameters_placed ps) nothing_located)
   listing_ends x g read =
-      (list g.before x.0, listing_steps g ∙ ap (λ o. o >>= λ ps. Some (list g.before ps.0, ps.1)) read, sym (g.shows x.0), rest_of-list g.before x.0)
+      (list g.before x.0, listing_steps g ∙ ap (λ o. o >>= λ ps. Some (list g.before ps.0, ps.1)) read, sym (g.shows x.0), rest_of-list g.before x.0, sym (g.stand x.0))
 
-  pub listing_refused : (g : Listing l start here seen gathered) → parameters_in (parameters_of l) l seen here (takes RightParen here) ≡ None → parameters_of l nothing_met start ≡ None
+  pub listing_refused : (g : Listing l start here seen gathered) → parameters_in (parameters_of l) l (met seen) here (takes RightParen here) ≡ None → parameters_of l nothing_met start ≡ None
   listing_refused g none = listing_steps g ∙ ap (λ o. o >>= λ ps. Some (list g.before ps.0, ps.1)) none
 
-  pub listing_on : (g : Listing l start here seen gathered) → takes RightParen here ≡ None → takes Spread here ≡ None → (p : Parameter × Items) → parameter_of l seen here ≡ Some p
+  pub listing_on : (g : Listing l start here seen gathered) → takes RightParen here ≡ None → takes Spread here ≡ None → (p : Parameter × Items) → parameter_of l (met seen) here ≡ Some p
       → takes RightParen p.1 ≡ None → (comma : Span × Items) → takes Comma p.1 ≡ Some comma
-      → Listing l start comma.1 (meet p.0.name.text seen) (put_name p.0.name.text (argument_of p.0) gathered)
+      → Listing l start comma.1 (locate p.0.name seen) (put_name p.0.name.text (argument_of p.0) gathered)
   unfolding parameters_in parameters_at parameters_behind
   listing_on g no_end no_dots p read no_last comma stands = record {
     before = g.before ++ (p.0, comma.0) ∷ [];
     reads =
-        let next = meet p.0.name.text seen in
-        let steps : parameters_in (parameters_of l) l seen here (takes RightParen here) ≡ (parameters_of l next comma.1 >>= λ ps. Some (More p.0 comma.0 ps.0, ps.1)) =
-        ap (parameters_in (parameters_of l) l seen here) no_end ∙ ap (parameters_at (parameters_of l) l seen here) no_dots
-        ∙ ap (λ o. o >>= λ q. parameters_behind (parameters_of l) seen q.0 q.1 (takes RightParen q.1)) read
-        ∙ ap (parameters_behind (parameters_of l) seen p.0 p.1) no_last
-        ∙ ap (λ o. o >>= λ c. parameters_of l next c.1 >>= λ ps. Some (More p.0 c.0 ps.0, ps.1)) stands in
+        let next = met (locate p.0.name seen) in
+        let steps : parameters_in (parameters_of l) l (met seen) here (takes RightParen here) ≡ (parameters_of l next comma.1 >>= λ ps. Some (More p.0 comma.0 ps.0, ps.1)) =
+        ap (parameters_in (parameters_of l) l (met seen) here) no_end ∙ ap (parameters_at (parameters_of l) l (met seen) here) no_dots
+        ∙ ap (λ o. o >>= λ q. parameters_behind (parameters_of l) (met seen) q.0 q.1 (takes RightParen q.1)) read
+        ∙ ap (parameters_behind (parameters_of l) (met seen) p.0 p.1) no_last
+        ∙ ap (λ o. o >>= λ c. parameters_of l (meet p.0.name.text (met seen)) c.1 >>= λ ps. Some (More p.0 c.0 ps.0, ps.1)) stands
+        ∙ ap (λ v. parameters_of l v comma.1 >>= λ ps. Some (More p.0 comma.0 ps.0, ps.1)) (sym (met_located p.0.name seen)) in
         listing_steps g ∙ ap (λ o. o >>= λ ps. Some (list g.before ps.0, ps.1)) steps
         ∙ bind_assoc (parameters_of l next comma.1) _ _
         ∙ bind_same (parameters_of l next comma.1) _ _ (λ ps. ap (λ v. Some (v, ps.1)) (sym (list-more g.before (p.0, comma.0) ps.0)));
     shows = λ ps. ap (λ v. put_arguments v []) (list-more g.before (p.0, comma.0) ps) ∙ g.shows (More p.0 comma.0 ps);
+    stand = λ ps. ap (λ v. locate_all (parameters_placed v) nothing_located) (list-more g.before (p.0, comma.0) ps) ∙ g.stand (More p.0 comma.0 ps);
   }
 
 -- The top level, in its loop: the phase turns by what an item adds.

@@ -5,11 +5,12 @@ use Rattle.std.specs.List.{AllByRecursion}
 use Rattle.tera_grammar.specs.Words.{AreDistinct}
 use Rattle.tera_base.specs.declared.utils.Span.{Span}
 use Rattle.tera_grammar.specs.statements.Expressions.{ComponentName, component_text}
+use Rattle.tera_grammar.specs.statements.Components.{Parameters}
 use Rattle.tera_grammar.specs.statements.Grammar.{Body, Done, Then, Item, Single, Block, Define, Capturing, For, If, Branches, Elif, Last, Else, NoElse, Otherwise, names, item_names, branch_names, else_names}
 use Rattle.tera_grammar.specs.statements.Names.{Names, NamesAreDistinct, ◌and_then◌}
 use Rattle.tera_grammar.specs.statements.TagParts.{Name}
 use Rattle.tera_grammar.specs.statements.Places.{Places, no_places, block_placed, component_placed, ◌followed_by◌, texts, texts_of, places, item_places, branch_places, else_places}
-use Rattle.tera_grammar.specs.statements.Reading.Meeting.{Met, Seen, Located, locate, locate_all, nothing_located, meet, met, nothing_met, nothing_seen, ◌having◌}
+use Rattle.tera_grammar.specs.statements.Reading.Meeting.{Met, Seen, Located, Grouped, locate, locate_all, group, group_all, nothing_located, meet, met, nothing_met, nothing_seen, ◌having◌}
 use Rattle.tera_grammar.proofs.Options.{or_false, bytes_apart, bytes_differ}
 
 -- no name was met before
@@ -80,6 +81,10 @@ locate_append : (xs ys : List Name) (located : Located) → locate_all ys (locat
 locate_append [] ys located = refl
 locate_append (x ∷ xs) ys located = locate_append xs ys (locate x located)
 
+group_append : (gs hs : List (List ℕ × List Name)) (grouped : Grouped) → group_all hs (group_all gs grouped) ≡ group_all (gs ++ hs) grouped
+group_append [] hs grouped = refl
+group_append (g ∷ gs) hs grouped = group_append gs hs (group g.0 (locate_all g.1 nothing_located) grouped)
+
 unmet_first : (located : Located) (xs ys : List Name) → AreUnmet located (xs ++ ys) → AreUnmet located xs
 unmet_first located [] ys new = tt
 unmet_first located (x ∷ xs) ys new = (new.0, unmet_first (locate x located) xs ys new.1)
@@ -109,7 +114,11 @@ names_new n distinct = (
 )
 
 pub having_both : (seen : Seen) (a b : Places) → (seen having a) having b ≡ seen having (a followed_by b)
-having_both seen a b = λ i. record { blocks = locate_append a.blocks b.blocks seen.blocks i; components = locate_append a.components b.components seen.components i }
+having_both seen a b = λ i. record {
+  blocks = locate_append a.blocks b.blocks seen.blocks i;
+  components = locate_append a.components b.components seen.components i;
+  parameters = group_append a.parameters b.parameters seen.parameters i;
+}
 
 pub first_names : (seen : Seen) (a b : Places) → NamesAreNew seen (a followed_by b) → NamesAreNew seen a
 first_names seen a b new = (unmet_first seen.blocks a.blocks b.blocks new.0, unmet_first seen.components a.components b.components new.1)
@@ -140,11 +149,11 @@ named_block n ns {old = old} unmet a = record {
   fresh = both_names old (block_placed n) ns ((unmet, tt), tt) a.fresh;
 }
 
-pub named_component : (n : ComponentName) (ns : Places) {old new : Seen} → met old.components (component_text n) ≡ false → Named ns (old having component_placed n) new
-    → Named (component_placed n followed_by ns) old new
-named_component n ns {old = old} unmet a = record {
-  grown = a.grown ∙ having_both old (component_placed n) ns;
-  fresh = both_names old (component_placed n) ns (tt, (unmet, tt)) a.fresh;
+pub named_component : (n : ComponentName) (ps : Parameters) (ns : Places) {old new : Seen} → met old.components (component_text n) ≡ false
+    → Named ns (old having component_placed n ps) new → Named (component_placed n ps followed_by ns) old new
+named_component n ps ns {old = old} unmet a = record {
+  grown = a.grown ∙ having_both old (component_placed n ps) ns;
+  fresh = both_names old (component_placed n ps) ns (tt, (unmet, tt)) a.fresh;
 }
 
 -- The names with their places are the names.
@@ -164,7 +173,7 @@ mutual
   same_item_names : (i : Item) → texts_of (item_places i) ≡ item_names i
   same_item_names (Single p) = refl
   same_item_names (Block t n b e m) = both_texts (block_placed n) (places b) _ _ refl (same_names b)
-  same_item_names (Define h b) = both_texts (component_placed h.name) (places b) _ _ refl (same_names b)
+  same_item_names (Define h b) = both_texts (component_placed h.name h.parameters) (places b) _ _ refl (same_names b)
   same_item_names (Capturing c b) = same_names b
   same_item_names (For t lp b o e) = both_texts (places b) (else_places o) _ _ (same_names b) (same_else_names o)
   same_item_names (If t c b bs e) = both_texts (places b) (branch_places bs) _ _ (same_names b) (same_branch_names bs)

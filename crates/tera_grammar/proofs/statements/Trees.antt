@@ -19,7 +19,7 @@ use Rattle.tera_grammar.specs.statements.Trees.{blocks, stmt_blocks, BreaksStand
 use Rattle.tera_grammar.proofs.statements.Expressions.{expression_plain}
 use Rattle.tera_grammar.proofs.statements.Loops.{output-join}
 
-both_empty : {A : Type 0} (xs ys : List A) → xs ≡ [] → ys ≡ [] → xs ++ ys ≡ []
+pub both_empty : {A : Type 0} (xs ys : List A) → xs ≡ [] → ys ≡ [] → xs ++ ys ≡ []
 both_empty xs ys a b = ap (λ v. v ++ ys) a ∙ b
 
 -- where no block may stand there is none
@@ -46,7 +46,7 @@ mutual
 
 -- inside of another tag no component is defined
 mutual
-  no_components : (b : Body) (l : Limits) (path : Path) → is_outermost path ≡ false → Fits l path b → (names b).components ≡ []
+  pub no_components : (b : Body) (l : Limits) (path : Path) → is_outermost path ≡ false → Fits l path b → (names b).components ≡ []
   no_components Done l path inside fits = refl
   no_components (Then i b) l path inside fits = both_empty (item_names i).components (names b).components (no_component i l path inside fits.0) (no_components b l path inside fits.1)
 
@@ -60,12 +60,12 @@ mutual
   no_component (If t c b bs e) l path inside fits =
       both_empty (names b).components (branch_names bs).components (no_components b l (InIf ∷ path) refl fits.1) (no_branch_components bs l (InIf ∷ path) refl fits.2)
 
-  no_branch_components : (bs : Branches) (l : Limits) (path : Path) → is_outermost path ≡ false → FitsBranches l path bs → (branch_names bs).components ≡ []
+  pub no_branch_components : (bs : Branches) (l : Limits) (path : Path) → is_outermost path ≡ false → FitsBranches l path bs → (branch_names bs).components ≡ []
   no_branch_components (Elif t c b bs) l path inside fits =
       both_empty (names b).components (branch_names bs).components (no_components b l path inside fits.1) (no_branch_components bs l path inside fits.2)
   no_branch_components (Last o) l path inside fits = no_else_components o l path inside fits
 
-  no_else_components : (o : Else) (l : Limits) (path : Path) → is_outermost path ≡ false → FitsElse l path o → (else_names o).components ≡ []
+  pub no_else_components : (o : Else) (l : Limits) (path : Path) → is_outermost path ≡ false → FitsElse l path o → (else_names o).components ≡ []
   no_else_components NoElse l path inside fits = refl
   no_else_components (Otherwise t b) l path inside fits = no_components b l path inside fits
 
@@ -168,7 +168,7 @@ definition_name d = d.name
 abbrev StandsAlone : Definition → Type 0
 StandsAlone d = BreaksStand false (nodes_of d.body)
 
-text_defines : (text : List ℕ) → definitions_by (text_adds text) ≡ []
+pub text_defines : (text : List ℕ) → definitions_by (text_adds text) ≡ []
 text_defines [] = refl
 text_defines (b ∷ bs) = refl
 

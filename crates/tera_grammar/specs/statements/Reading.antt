@@ -110,7 +110,7 @@ block_of self path start first seen items =
 unfoldable pub component_def_of : Limits → Reader → Path → Edge → Span → Seen → Items → Reads Item
 component_def_of l self path start first seen items =
     guard (is_outermost path) >>= λ u. opened_of l (met seen.components) items >>= λ o.
-    self (InComponent ∷ path) (at (seen having component_placed o.0.name) o.1) >>= λ b.
+    self (InComponent ∷ path) (at (seen having component_placed o.0.name o.0.parameters) o.1) >>= λ b.
     ending_of start first o.0 b.1.tokens >>= λ h.
     Some (Define h.0 b.0, at b.1.seen h.1)
 

@@ -1,11 +1,13 @@
 -- Words of a law: what holds of the tree of every template.
-use Rattle.std.specs.Prelude.{◌≡◌, ℕ, Bool, true, false, List, [], ◌∷◌, ◌++◌, map, Some}
-use Rattle.std.specs.List.{AllByRecursion}
+use Rattle.std.specs.Prelude.{◌≡◌, ℕ, Bool, true, false, ◌||◌, List, [], ◌∷◌, ◌++◌, map, Option, Some, None}
+use Rattle.std.specs.List.{AllByRecursion, list_any}
+use Rattle.std.specs.Str.{bytes_eq}
 use Rattle.tera_ast.specs.Tree as tree
 use Rattle.tera_ast.specs.Tree.{Stmt, Nodes, NoNodes, OneNode}
-use Rattle.tera_tree.specs.Tree.{Output}
+use Rattle.tera_tree.specs.Tree.{Argument, Definition, Output}
 use Rattle.tera_ast.specs.View.{nodes_of}
 use Rattle.tera_grammar.specs.Words.{AreDistinct}
+use Rattle.tera_grammar.specs.statements.TagParts.{Name}
 use Rattle.tera_grammar.specs.statements.Top.{is_blank}
 
 -- The names of the blocks, in order. A call of a component holds nodes where it is a node itself and does not
@@ -23,6 +25,20 @@ abbrev mutual
   stmt_blocks (tree.FilterSection fs body) = blocks body
   stmt_blocks (tree.Shown (tree.ComponentCall name es body false span)) = blocks body
   stmt_blocks s = []
+
+-- The name of a component, and which names are those of its parameters: by where these stand, and by its definition.
+abbrev pub group_tells : List ℕ × List Name → List ℕ × (List ℕ → Bool)
+group_tells g = (g.0, λ name. list_any (λ n. bytes_eq n.text name) g.1)
+
+abbrev pub is_rest : Option (List ℕ) → List ℕ → Bool
+is_rest None name = false
+is_rest (Some rest) name = bytes_eq rest name
+
+abbrev pub has_argument : List (List ℕ × Argument) → List ℕ → Bool
+has_argument arguments name = list_any (λ a. bytes_eq a.0 name) arguments
+
+abbrev pub definition_tells : Definition → List ℕ × (List ℕ → Bool)
+definition_tells d = (d.name, λ name. has_argument d.arguments name || is_rest d.rest name)
 
 -- Each `break` and `continue` stands in the body of a loop, with no capture between; around the whole there is
 -- such a loop, or none.

@@ -11,13 +11,14 @@ use Rattle.tera_grammar.specs.Options.{◌>>=◌}
 use Rattle.tera_grammar.specs.statements.TagParts.{Tag}
 use Rattle.tera_grammar.specs.statements.Expressions.{Limits, Expression, expression_output, Filtering, filter_output}
 use Rattle.tera_grammar.specs.statements.Components.{Parameter, Parameters, More, put_arguments}
+use Rattle.tera_grammar.specs.statements.Places.{parameters_placed}
 use Rattle.tera_grammar.specs.statements.Heads.{Filters, Piped}
 use Rattle.tera_grammar.specs.statements.Grammar.{Body, Branches, Elif}
 use Rattle.tera_grammar.specs.statements.Output.{Adds, AddsNothing, AddsNode, AddsParent, AddsDefinition, added_nodes, later, parent_by, definitions_by, output, parent_of, definitions_of}
 use Rattle.tera_grammar.specs.statements.Reading.{Place, Reads, body, Phase, Starting, Standing, Extending, phases}
 use Rattle.tera_grammar.specs.statements.Reading.Heads.{filters_of}
 use Rattle.tera_grammar.specs.statements.Reading.Components.{parameters_of}
-use Rattle.tera_grammar.specs.statements.Reading.Meeting.{Met, nothing_met}
+use Rattle.tera_grammar.specs.statements.Reading.Meeting.{Located, locate_all, met, nothing_located, nothing_met}
 use Rattle.tera_grammar.specs.statements.Top.{is_blank, join}
 
 -- Some items of a body have been read, and its reading comes to what follows from here.
@@ -73,10 +74,11 @@ list [] ps = ps
 list (p ∷ before) ps = More p.0 p.1 (list before ps)
 
 -- likewise some parameters of a component, with their names and their arguments
-pub record Listing (l : Limits) (start here : Items) (seen : Met) (gathered : Sorted Argument) : Type 0 where
+pub record Listing (l : Limits) (start here : Items) (seen : Located) (gathered : Sorted Argument) : Type 0 where
   pub before : List (Parameter × Span)
-  pub reads : parameters_of l nothing_met start ≡ (parameters_of l seen here >>= λ ps. Some (list before ps.0, ps.1))
+  pub reads : parameters_of l nothing_met start ≡ (parameters_of l (met seen) here >>= λ ps. Some (list before ps.0, ps.1))
   pub shows : (ps : Parameters) → put_arguments (list before ps) [] ≡ put_arguments ps gathered
+  pub stand : (ps : Parameters) → locate_all (parameters_placed (list before ps)) nothing_located ≡ locate_all (parameters_placed ps) seen
 
 -- what is gathered of a template, with what an item adds
 abbrev pub with_added : Output → Adds → Output

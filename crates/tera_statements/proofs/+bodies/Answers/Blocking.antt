@@ -8,7 +8,7 @@ use Rattle.tera_grammar.specs.statements.Output.{AddsNode, AddsDefinition}
 use Rattle.tera_grammar.specs.statements.Reading.TagParts.{tag}
 use Rattle.tera_statements.specs.Adding.{here, seen_of}
 use Rattle.tera_statements.specs.Known.{located_of}
-use Rattle.tera_statements.proofs.BlocksLemmas.{barred, block_unnamed, block_unfinished, block_empty, block_unclosed, block_given, block_kept, component_kept, definition_empty, definition_given, definition_unclosed, nested, unopened}
+use Rattle.tera_statements.proofs.BlocksLemmas.{barred, block_unnamed, block_unfinished, block_empty, block_unclosed, block_given, block_kept, definition_empty, definition_given, definition_unclosed, nested, unopened}
 use Rattle.tera_expect.proofs.Steps.{failed_as, fails_by}
 use Rattle.tera_statements.proofs.ComponentsLemmas.{ending_keeps, same_definition}
 use Rattle.tera_statements.proofs.KnownLemmas.{same_place}
@@ -39,7 +39,7 @@ blocks::block-returns-in_err-inside-clause-gives t c = λ path stands start.
     let (n, named, is) = c.in_ok-name.ensures.gives in
     let (f, ended) = c.in_ok-finish.ensures.gives in
     let seen = seen_of c.args.names.now in
-    let kept = block_kept seen.blocks seen.components (located_of c.new_block.new.blocks) n (c.in_ok-name.ensures.kept ∙ same_place seen.blocks is.0 is.1) in
+    let kept = block_kept seen (located_of c.new_block.new.blocks) n (c.in_ok-name.ensures.kept ∙ same_place seen.blocks is.0 is.1) in
     rw (p.1, p.2) (failed_as _ _ _ (λ h. block_empty _ path start _ seen _ may n _ named f _ ended (rw (sym kept) h)) (c.in_err-inside.ensures.gives path stands))
 
 pub blocks::block-returns-in_err-block_end-clause-gives : goal.blocks::block-returns-in_err-block_end-clause-gives
@@ -49,7 +49,7 @@ blocks::block-returns-in_err-block_end-clause-gives t c = λ path stands start.
     let (n, named, is) = c.in_ok-name.ensures.gives in
     let (f, ended) = c.in_ok-finish.ensures.gives in
     let seen = seen_of c.args.names.now in
-    let kept = block_kept seen.blocks seen.components (located_of c.new_block.new.blocks) n (c.in_ok-name.ensures.kept ∙ same_place seen.blocks is.0 is.1) in
+    let kept = block_kept seen (located_of c.new_block.new.blocks) n (c.in_ok-name.ensures.kept ∙ same_place seen.blocks is.0 is.1) in
     let (b, inside, shows) = c.in_ok-inside.ensures.gives path stands in
     rw (p.1, p.2) (failed_as _ _ _ (λ h. block_unclosed _ path start _ seen _ may n _ named f _ ended b (here c.body.new.names c.body.new.cursor) (rw (sym kept) inside) h) (c.in_err-block_end.ensures.gives n (sym is.0)))
 
@@ -59,7 +59,7 @@ blocks::block-returns-clause-gives t c = λ path stands start.
     let (n, named, is) = c.in_ok-name.ensures.gives in
     let (f, ended) = c.in_ok-finish.ensures.gives in
     let seen = seen_of c.args.names.now in
-    let kept = block_kept seen.blocks seen.components (located_of c.new_block.new.blocks) n (c.in_ok-name.ensures.kept ∙ same_place seen.blocks is.0 is.1) in
+    let kept = block_kept seen (located_of c.new_block.new.blocks) n (c.in_ok-name.ensures.kept ∙ same_place seen.blocks is.0 is.1) in
     let (b, inside, shows) = c.in_ok-inside.ensures.gives path stands in
     let (e, closed) = c.in_ok-block_end.ensures.gives n (sym is.0) in
     let text = ap string_bytes c.in_ok-name-3.ensures.node ∙ c.in_ok-name-2.ensures.ok ∙ is.0 in
@@ -86,8 +86,7 @@ blocks::definition-returns-in_err-inside-clause-gives t c = λ path stands start
     let may = sym stands.outermost ∙ c.in_ok-check_definition.ensures.stands in
     let (o, named, (is, keeps)) = c.in_ok-opened.ensures.gives in
     let seen = seen_of c.args.names.now in
-    let kept = component_kept seen.blocks seen.components (located_of c.opening_tag.new.seen) o.name keeps in
-    rw (p.1, p.2) (failed_as _ _ _ (λ h. definition_empty _ _ path start _ seen _ may o _ named (rw (sym kept) h)) (c.in_err-inside.ensures.gives path stands))
+    rw (p.1, p.2) (failed_as _ _ _ (λ h. definition_empty _ _ path start _ seen _ may o _ named (rw (sym keeps) h)) (c.in_err-inside.ensures.gives path stands))
 
 pub blocks::definition-returns-in_err-closing_tag-clause-gives : goal.blocks::definition-returns-in_err-closing_tag-clause-gives
 blocks::definition-returns-in_err-closing_tag-clause-gives t c = λ path stands start.
@@ -95,9 +94,8 @@ blocks::definition-returns-in_err-closing_tag-clause-gives t c = λ path stands 
     let may = sym stands.outermost ∙ c.in_ok-check_definition.ensures.stands in
     let (o, named, (is, keeps)) = c.in_ok-opened.ensures.gives in
     let seen = seen_of c.args.names.now in
-    let kept = component_kept seen.blocks seen.components (located_of c.opening_tag.new.seen) o.name keeps in
     let (b, inside, shows) = c.in_ok-inside.ensures.gives path stands in
-    rw (p.1, p.2) (failed_as _ _ _ (λ h. definition_unclosed _ _ path start _ seen _ may o _ named b (here c.body.new.names c.body.new.cursor) (rw (sym kept) inside) h)
+    rw (p.1, p.2) (failed_as _ _ _ (λ h. definition_unclosed _ _ path start _ seen _ may o _ named b (here c.body.new.names c.body.new.cursor) (rw (sym keeps) inside) h)
     (c.in_err-closing_tag.ensures.gives start c.args.cursor.now.span o (sym is.0 ∙ sym c.as_str.ensures.value)))
 
 pub blocks::definition-returns-clause-gives : goal.blocks::definition-returns-clause-gives
@@ -105,11 +103,10 @@ blocks::definition-returns-clause-gives t c = λ path stands start.
     let may = sym stands.outermost ∙ c.in_ok-check_definition.ensures.stands in
     let (o, named, (is, keeps)) = c.in_ok-opened.ensures.gives in
     let seen = seen_of c.args.names.now in
-    let kept = component_kept seen.blocks seen.components (located_of c.opening_tag.new.seen) o.name keeps in
     let (b, inside, shows) = c.in_ok-inside.ensures.gives path stands in
     let (h, ended) = c.in_ok-closing_tag.ensures.gives start c.args.cursor.now.span o (sym is.0 ∙ sym c.as_str.ensures.value) in
     let whole = same_definition o _ _ _ _ _ _ is.0 is.1.0 is.1.1 is.2 shows ∙ ending_keeps start _ o _ _ h _ ended in (
       Define h b,
-      definition_given _ _ path start c.args.cursor.now.span seen _ may o _ named b (here c.body.new.names c.body.new.cursor) (rw (sym kept) inside) h _ ended,
+      definition_given _ _ path start c.args.cursor.now.span seen _ may o _ named b (here c.body.new.names c.body.new.cursor) (rw (sym keeps) inside) h _ ended,
       ap AddsDefinition whole,
     )

@@ -1,5 +1,8 @@
+use Rattle.std.proofs.Common.{◌∙◌}
 use Rattle.std.proofs.lemmas.Result.{err_from_is_err_and}
-use Rattle.tera_statements.proofs.ComponentsLemmas.{no_new_name, no_paren, no_parameters, no_metadata, head_unfinished, opened_given}
+use Rattle.tera_statements.proofs.ComponentsLemmas.{no_new_name, no_paren, no_parameters, no_metadata, component_kept, head_unfinished, opened_given}
+use Rattle.tera_statements.proofs.KnownLemmas.{same_group}
+use Rattle.tera_statements.specs.Known.{grouped_of, located_of}
 use Rattle.tera_expect.proofs.Steps.{failed_as}
 use Rattle.tera_statements.proofs.components.opening_tag.Goals as goal
 
@@ -40,8 +43,10 @@ returns-clause-gives c =
     let (n, named, is) = c.in_ok-name.ensures.gives in
     let (ps, listed, are) = c.in_ok-parameters.ensures.gives in
     let (m, given, holds) = c.in_ok-metadata.ensures.gives in
-    let (f, ended) = c.in_ok-finish.ensures.gives in (
+    let (f, ended) = c.in_ok-finish.ensures.gives in
+    let names = c.args.names.now in
+    let kept = c.in_ok-keep_parameters.ensures.kept ∙ same_group (grouped_of names.parameters) (c.as_str.ensures.value ∙ is.0) are.1 in (
       record { name = n; paren = c.expect.new.cursor.span; parameters = ps; metadata = m; finish = f },
       opened_given _ _ _ n _ named _ _ c.in_ok-expect.ensures.gives ps _ listed m _ given f _ ended,
-      ((is.0, are, holds), is.1),
+      ((is.0, are.0, holds), component_kept (located_of names.blocks) (located_of names.components) _ (grouped_of names.parameters) _ n ps is.1 kept),
     )

@@ -1,14 +1,13 @@
-use Rattle.std.proofs.Common.{sym, ap, ◌∙◌}
+use Rattle.std.proofs.Common.{refl, sym, ap, ◌∙◌}
 use Rattle.std.proofs.lemmas.Result.{err_from_is_err_and}
 use Rattle.tera_grammar.specs.statements.Reading.Components as reading
-use Rattle.tera_grammar.specs.statements.Reading.Meeting.{meet}
-use Rattle.tera_statements.specs.Known.{met_of}
+use Rattle.tera_statements.specs.Known.{located_of, met_of}
 use Rattle.tera_statements.specs.Parameters.{has_default}
 use Rattle.tera_expr_parts.specs.Rooms.{limits_of}
-use Rattle.tera_expect.specs.Taking.{name_at, name_in}
+use Rattle.tera_expect.specs.Taking.{name_at}
 use Rattle.tera_statements.proofs.ParametersLemmas.{annotation_known, argument_is, at_behind, at_read, mistyped, no_annotation, no_assigned, no_fresh_name, parameter_given}
 use Rattle.tera_expect.proofs.Steps.{failed_as, fails_by}
-use Rattle.tera_statements.proofs.KnownLemmas.{kept_met}
+use Rattle.tera_statements.proofs.KnownLemmas.{same_place}
 use Rattle.tera_statements.proofs.parameters.parameter.Goals as goal
 
 pub returns-in_err-name-clause-gives : goal.returns-in_err-name-clause-gives
@@ -66,8 +65,5 @@ returns-clause-gives c =
     let same = c.argument-argument.ensures ∙ argument_is at n t d _ _ _ is written (annotation_known _ _ _ typed) value in (
       reading.parameter at n t d,
       at_behind l seen ts _ at opens ∙ parameter_given l seen at _ n _ c.in_ok-name.ensures.gives t _ typed d _ assigned (sym (ap has_default same) ∙ c.in_ok-check_default.ensures.fits),
-      (c.in_ok-from_str.ensures.ok, same),
+      ((c.in_ok-from_str.ensures.ok, same), c.in_ok-keep_name.ensures.kept ∙ same_place (located_of c.args.seen.now) refl c.current_span.ensures.span),
     )
-
-pub returns-clause-kept : goal.returns-clause-kept
-returns-clause-kept c = kept_met c.args.seen.now c.keep_name.new.names (name_in c.in_ok-name.name.now c.current_span.result.now) c.in_ok-keep_name.ensures.kept ∙ ap (λ t. meet t (met_of c.args.seen.now)) (sym c.in_ok-from_str.ensures.ok)

@@ -1,6 +1,6 @@
 use Rattle.tera_lexer.specs.code.Cursors.{size}
 use Rattle.tera_grammar.specs.statements.Reading.Loops.{Listing}
-use Rattle.tera_statements.specs.Known.{met_of}
+use Rattle.tera_statements.specs.Known.{located_of}
 use Rattle.tera_statements.specs.Parameters.{arguments_view}
 use Rattle.tera_expr_parts.specs.Rooms.{limits_of}
 use Rattle.tera_expect.specs.Taking.{GoesOn}
@@ -8,7 +8,7 @@ use Rattle.tera_statements.proofs.parameters.read_parameters.Given as goal
 
 abbrev pub invariant-parameters : goal.invariant-parameters
 invariant-parameters l = record {
-  listing : Listing (limits_of l.setting.limits) l.fn.cursor.left l.cursor.left (met_of l.seen) (arguments_view l.arguments.entries);
+  listing : Listing (limits_of l.setting.limits) l.fn.cursor.left l.cursor.left (located_of l.seen) (arguments_view l.arguments.entries);
   later : GoesOn l.fn.cursor l.cursor;
 }
 
