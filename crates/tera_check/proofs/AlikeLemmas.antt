@@ -1,5 +1,5 @@
 -- What is found by components that are alike.
-use Rattle.std.proofs.Common.{◌≡◌, ◌∙◌, ℕ, suc, List, [], ◌∷◌, ◌++◌, Bool, Option, None, Some, map, refl, ap}
+use Rattle.std.proofs.Common.{◌≡◌, ◌∙◌, ℕ, suc, List, [], ◌∷◌, ◌++◌, Bool, Option, None, Some, map, string_bytes, refl, ap}
 use Rattle.std.proofs.Common.{if◌then◌else◌}
 use Rattle.std.specs.List.{flat_map, AllByRecursion}
 use Rattle.tera_base.specs.Contexts.{found}
@@ -10,7 +10,7 @@ use Rattle.tera_tree.specs.Tree.{Argument, Definition, Output}
 use Rattle.tera_check.specs.Alike.{name_called, names_in, AreAlike, AreAlikeIfAny, AgreeOn}
 use Rattle.tera_check.specs.Calls.{calls_of}
 use Rattle.tera_check.specs.Findings.{FindingVal}
-use Rattle.tera_check.specs.Judged.{KnownVal, RemarkVal, about, told, refused_for, unless_rest, unknown, refusal, counted, refused, refused_one, is_again, refused_findings, missed, missing_findings, missing_in, judged, call_findings, again, defined_again, again_findings}
+use Rattle.tera_check.specs.Judged.{KnownVal, RemarkVal, about, told, refused_for, unless_rest, unknown, refusal, counted, refused, refused_one, is_again, refused_findings, missed, missing_findings, missing_in, judged, repeated_findings, call_findings, again, defined_again, again_findings}
 use Rattle.tera_check.specs.Named.{span_at, tree_findings}
 use Rattle.tera_check.specs.Passed.{NamedVal, PassedVal, OneNamed, Whatever, has_whatever, is_passed, passed_by}
 use Rattle.tera_check.specs.declared.templates.Template.{Template}
@@ -78,28 +78,30 @@ module _ (number other : ℕ) where
   defined_alike (Some k) (Some j) h span = defined_some number other k j h span
 
 module _ (number other : ℕ) (known others : List ℕ → Option KnownVal) where
-  call_alike : (e : Expr) → AgreeOn (name_called e) number other known others → call_findings known e ≡ call_findings others e
-  call_alike (ComponentCall name es body closed span) h = judged_alike number other (known name) (others name) h.0 name span (passed_by es)
-  call_alike (Const v span) h = refl
-  call_alike (Array es span) h = refl
-  call_alike (Map es span) h = refl
-  call_alike (Var name span) h = refl
-  call_alike (GetAttr e name optional span) h = refl
-  call_alike (GetItem e sub optional span) h = refl
-  call_alike (Slice e start end step optional span) h = refl
-  call_alike (Filter e name args span) h = refl
-  call_alike (Test e name args span) h = refl
-  call_alike (Ternary e given otherwise span) h = refl
-  call_alike (ListComprehension e key value target condition span) h = refl
-  call_alike (FunctionCall name args span) h = refl
-  call_alike (UnaryOperation op e span) h = refl
-  call_alike (BinaryOperation op l r span) h = refl
+  call_alike : (file : List ℕ) (e : Expr) → AgreeOn (name_called e) number other known others → call_findings file known e ≡ call_findings file others e
+  call_alike file (ComponentCall name es body closed span) h =
+      ap (λ fs. repeated_findings file es ++ fs) (judged_alike number other (known name) (others name) h.0 name span (passed_by es))
+  call_alike file (Const v span) h = refl
+  call_alike file (Array es span) h = refl
+  call_alike file (Map es span) h = refl
+  call_alike file (Var name span) h = refl
+  call_alike file (GetAttr e name optional span) h = refl
+  call_alike file (GetItem e sub optional span) h = refl
+  call_alike file (Slice e start end step optional span) h = refl
+  call_alike file (Filter e name args span) h = refl
+  call_alike file (Test e name args span) h = refl
+  call_alike file (Ternary e given otherwise span) h = refl
+  call_alike file (ListComprehension e key value target condition span) h = refl
+  call_alike file (FunctionCall name args span) h = refl
+  call_alike file (UnaryOperation op e span) h = refl
+  call_alike file (BinaryOperation op l r span) h = refl
 
-  calls_alike : (es : List Expr) → AgreeOn (flat_map name_called es) number other known others → flat_map (call_findings known) es ≡ flat_map (call_findings others) es
-  calls_alike [] h = refl
-  calls_alike (e ∷ es) h =
+  calls_alike : (file : List ℕ) (es : List Expr) → AgreeOn (flat_map name_called es) number other known others
+      → flat_map (call_findings file known) es ≡ flat_map (call_findings file others) es
+  calls_alike file [] h = refl
+  calls_alike file (e ∷ es) h =
       let (first, more) = all_append (λ n. AreAlikeIfAny number other (known n) (others n)) (name_called e) (flat_map name_called es) h in
-      λ i. call_alike e first i ++ calls_alike es more i
+      λ i. call_alike file e first i ++ calls_alike file es more i
 
   definitions_alike : (spans : ℕ → Span) (at : ℕ) (ds : List Definition) → AgreeOn (map (λ d. d.name) ds) number other known others
       → again_findings known number spans at ds ≡ again_findings others other spans at ds
@@ -110,4 +112,4 @@ module _ (number other : ℕ) (known others : List ℕ → Option KnownVal) wher
   pub tree_alike : (t : Template) (o : Output) → AgreeOn (names_in o) number other known others → tree_findings known number t o ≡ tree_findings others other t o
   tree_alike t o h =
       let (defined, called) = all_append (λ n. AreAlikeIfAny number other (known n) (others n)) (map (λ d. d.name) o.definitions) (flat_map name_called (calls_of o)) h in
-      λ i. definitions_alike (span_at t) 0 o.definitions defined i ++ calls_alike (calls_of o) called i
+      λ i. definitions_alike (span_at t) 0 o.definitions defined i ++ calls_alike (string_bytes t.file) (calls_of o) called i

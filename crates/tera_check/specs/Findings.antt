@@ -10,6 +10,8 @@ use Rattle.tera_check.specs.declared.finding.Kind.TheVariants as kinds
 use Rattle.tera_check.specs.declared.finding.Place.{Place}
 use Rattle.tera_check.specs.declared.finding.Note.{Note}
 use Rattle.tera_check.specs.declared.finding.Finding.{Finding}
+use Rattle.tera_check.specs.declared.finding.Severity.{Severity}
+use Rattle.tera_check.specs.declared.finding.Severity.TheVariants as severities
 
 -- where a span begins, with its column counted from 1
 abbrev pub place_of : Span → Place
@@ -26,7 +28,23 @@ kind_name kinds.UndefinedComponent = codes "undefined-component"
 kind_name kinds.MissingArgument = codes "missing-argument"
 kind_name kinds.UnknownArgument = codes "unknown-argument"
 kind_name kinds.WrongType = codes "wrong-type"
+kind_name kinds.RepeatedArgument = codes "repeated-argument"
 kind_name kinds.DefinedAgain = codes "defined-again"
+
+-- all kinds
+abbrev pub all_kinds : List Kind
+all_kinds =
+    kinds.Fault ∷ kinds.UndefinedComponent ∷ kinds.MissingArgument ∷ kinds.UnknownArgument ∷ kinds.WrongType ∷ kinds.RepeatedArgument ∷ kinds.DefinedAgain ∷ []
+
+-- how grave a kind is: what a call does not use is a warning, all else an error
+abbrev pub severity_of : Kind → Severity
+severity_of kinds.RepeatedArgument = severities.Warning
+severity_of _ = severities.Error
+
+-- the word for that
+abbrev pub severity_name : Severity → List ℕ
+severity_name severities.Error = codes "error"
+severity_name severities.Warning = codes "warning"
 
 -- a note: its file, the span there that it is about, and its text
 pub data NoteVal : Type 0 where
@@ -62,14 +80,14 @@ shown_byte b = if nat_eq b 10 then 92 ∷ 110 ∷ [] else (if nat_eq b 13 then 9
 abbrev pub shown : List ℕ → List ℕ
 shown text = flat_map shown_byte text
 
--- a line: where, of what kind, and what
+-- a line: where, how grave, and what
 abbrev pub line_of : List ℕ → Place → List ℕ → List ℕ → List ℕ
-line_of file place kind text =
-    shown file ++ ((codes ":" ++ (decimal place.line ++ (codes ":" ++ (decimal place.column ++ (codes ": " ++ (kind ++ codes ": ")))))) ++ (shown text ++ 10 ∷ []))
+line_of file place severity text =
+    shown file ++ ((codes ":" ++ (decimal place.line ++ (codes ":" ++ (decimal place.column ++ (codes ": " ++ (severity ++ codes ": ")))))) ++ (shown text ++ 10 ∷ []))
 
 abbrev pub note_line : NoteVal → List ℕ
 note_line (NoteOf file span text) = line_of file (place_of span) (codes "note") text
 
 -- the lines of a finding in a file: its own, and one for each of its notes
 abbrev pub lines_of : List ℕ → FindingVal → List ℕ
-lines_of file (FindingOf kind span text notes) = line_of file (place_of span) (codes "error") text ++ flat_map note_line notes
+lines_of file (FindingOf kind span text notes) = line_of file (place_of span) (severity_name (severity_of kind)) text ++ flat_map note_line notes

@@ -1,12 +1,21 @@
 -- What is found of a call of a component.
-use Rattle.std.specs.Prelude.{ℕ, List, [], ◌∷◌, ◌++◌, Bool, false, not, ◌&&◌, if◌then◌else◌, nat_eq, Option, None, Some, codes, suc, string_bytes}
+use Rattle.std.specs.Prelude.{ℕ, List, [], ◌∷◌, ◌++◌, Bool, false, not, ◌&&◌, cond, if◌then◌else◌, nat_eq, Option, None, Some, codes, suc, string_bytes}
+use Rattle.std.specs.BTreeMap.{BTreeMap, get_by}
+use Rattle.std.specs.Borrow.{Bor}
+use Rattle.std.specs.Cmp.Lexicographic.{slice_cmp}
 use Rattle.std.specs.List.{flat_map}
-use Rattle.std.specs.Option.{is_some}
+use Rattle.std.specs.Option.{is_some, option_map}
+use Rattle.std.specs.Ordering.{nat_cmp}
+use Rattle.std.specs.Str.{bytes_eq}
 use Rattle.tera_base.specs.Contexts.{found}
 use Rattle.tera_base.specs.Kinds.{kind_of}
-use Rattle.tera_base.specs.Values.{Val}
+use Rattle.tera_base.specs.Values.{KeyVal, TextKey, Val}
+use Rattle.tera_base.specs.ValueView.{key_view}
 use Rattle.tera_base.specs.declared.utils.Span.{Span}
-use Rattle.tera_ast.specs.Tree.{Expr, ComponentCall}
+use Rattle.tera_ast.specs.Spans.{expr_span}
+use Rattle.tera_ast.specs.Tree.{Expr, ComponentCall, Entries, NoEntries, Entry, SpreadEntry}
+use Rattle.tera_ast.specs.declared.ast.MapEntryOf.{MapEntryOf}
+use Rattle.tera_ast.specs.declared.ast.MapEntryOf.TheVariants as entries
 use Rattle.tera_tree.specs.Calls.{wrong_type_text, missing_text, unknown_text}
 use Rattle.tera_tree.specs.Tree.{Argument, Definition}
 use Rattle.tera_tree.specs.Types.{is_of_type}
@@ -35,8 +44,11 @@ known_view k = record {
 }
 
 -- a finding about a call of it, with a note that says where it is defined
+abbrev pub here_text : List ℕ → List ℕ
+here_text name = codes "`" ++ (name ++ codes "` is defined here")
+
 abbrev pub defined_here : KnownVal → NoteVal
-defined_here k = NoteOf k.file k.span (codes "`" ++ (k.definition.name ++ codes "` is defined here"))
+defined_here k = NoteOf k.file k.span (here_text k.definition.name)
 
 -- of what kind a finding is, and its text
 pub record RemarkVal : Type 0 where
@@ -118,27 +130,84 @@ missing_findings k passed span = flat_map (λ a. told k span (missed passed a)) 
 abbrev pub missing_in : KnownVal → Span → List PassedVal → List FindingVal
 missing_in k span ps = if has_whatever ps then [] else missing_findings k (λ n. is_passed n ps) span
 
+-- ---- a value that does not count, since its argument is written again behind it, with a note where that stands next:
+-- whatever the component, and whatever is spread between
+
+abbrev pub repeated_text : List ℕ → List ℕ
+repeated_text name =
+    codes "Argument `" ++ (name ++ codes "` is given more than once in component call. This value does not count.")
+
+abbrev pub next_text : List ℕ
+next_text = codes "given again here"
+
+abbrev pub repeated : List ℕ → List ℕ → Span → Span → FindingVal
+repeated file name span next = FindingOf kinds.RepeatedArgument span (repeated_text name) (NoteOf file next next_text ∷ [])
+
+abbrev pub repeated_if : List ℕ → List ℕ → Span → Option Span → List FindingVal
+repeated_if file name span None = []
+repeated_if file name span (Some next) = repeated file name span next ∷ []
+
+-- by where the next value stands under each name
+abbrev pub repeated_under : List ℕ → KeyVal → Span → (List ℕ → Option Span) → List FindingVal
+repeated_under file (TextKey n) span next = repeated_if file n span (next n)
+repeated_under file _ span next = []
+
+abbrev pub next_under_key : List ℕ → KeyVal → Span → Option Span → Option Span
+next_under_key n (TextKey m) span behind = cond (bytes_eq m n) (Some span) behind
+next_under_key n _ span behind = behind
+
+-- where the first value stands that is written under a name
+abbrev pub next_in : List ℕ → Entries → Option Span
+next_in n NoEntries = None
+next_in n (Entry k e es) = next_under_key n k (expr_span e) (next_in n es)
+next_in n (SpreadEntry e es) = next_in n es
+
+abbrev pub repeated_findings : List ℕ → Entries → List FindingVal
+repeated_findings file NoEntries = []
+repeated_findings file (Entry k e es) = repeated_findings file es ++ repeated_under file k (expr_span e) (λ n. next_in n es)
+repeated_findings file (SpreadEntry e es) = repeated_findings file es
+
+-- the same of one attribute, before others
+abbrev pub next_by_one : List ℕ → MapEntryOf Expr → Option Span → Option Span
+next_by_one n (entries.KeyValue k e) behind = next_under_key n (key_view k) (expr_span e) behind
+next_by_one n (entries.Spread e) behind = behind
+
+abbrev pub repeated_by_one : List ℕ → MapEntryOf Expr → (List ℕ → Option Span) → List FindingVal
+repeated_by_one file (entries.KeyValue k e) next = repeated_under file (key_view k) (expr_span e) next
+repeated_by_one file (entries.Spread e) next = []
+
+-- what is in a map of spans
+abbrev pub span_under : BTreeMap (Bor (List ℕ)) (Bor Span) → List ℕ → Option Span
+span_under spans n = option_map (λ s. s.now) (get_by (λ k. slice_cmp nat_cmp n k.now) spans)
+
 -- ---- a call at a span, with what it passes: of a component that is known, or not
 
+abbrev pub undefined_text : List ℕ → List ℕ
+undefined_text name = codes "No template defines a component named `" ++ (name ++ codes "`")
+
 abbrev pub undefined : Span → List ℕ → FindingVal
-undefined span name =
-    FindingOf kinds.UndefinedComponent span (codes "No template defines a component named `" ++ (name ++ codes "`")) []
+undefined span name = FindingOf kinds.UndefinedComponent span (undefined_text name) []
 
 abbrev pub judged : Option KnownVal → List ℕ → Span → List PassedVal → List FindingVal
 judged None name span ps = undefined span name ∷ []
 judged (Some k) name span ps = refused_findings k ps ++ missing_in k span ps
 
-abbrev pub call_findings : (List ℕ → Option KnownVal) → Expr → List FindingVal
-call_findings known (ComponentCall name es body closed span) = judged (known name) name span (passed_by es)
-call_findings known _ = []
+-- .. in a file
+abbrev pub call_findings : List ℕ → (List ℕ → Option KnownVal) → Expr → List FindingVal
+call_findings file known (ComponentCall name es body closed span) =
+    repeated_findings file es ++ judged (known name) name span (passed_by es)
+call_findings file known _ = []
 
 -- ---- a definition whose name stands at a span, of a component that another template defines first
 
+abbrev pub again_text : List ℕ → List ℕ
+again_text name = codes "Another template already contains a component named `" ++ (name ++ codes "`")
+
+abbrev pub first_text : List ℕ
+first_text = codes "first defined here"
+
 abbrev pub again : KnownVal → Span → FindingVal
-again k span =
-    FindingOf kinds.DefinedAgain span
-    (codes "Another template already contains a component named `" ++ (k.definition.name ++ codes "`"))
-    (NoteOf k.file k.span (codes "first defined here") ∷ [])
+again k span = FindingOf kinds.DefinedAgain span (again_text k.definition.name) (NoteOf k.file k.span first_text ∷ [])
 
 abbrev pub defined_again : ℕ → Span → Option KnownVal → List FindingVal
 defined_again number span None = []

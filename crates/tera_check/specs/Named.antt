@@ -64,4 +64,4 @@ or_else (Some k) other = Some k
 -- calls
 abbrev pub tree_findings : (List ℕ → Option KnownVal) → ℕ → Template → Output → List FindingVal
 tree_findings known number t o =
-    again_findings known number (span_at t) 0 o.definitions ++ flat_map (call_findings known) (calls_of o)
+    again_findings known number (span_at t) 0 o.definitions ++ flat_map (call_findings (string_bytes t.file) known) (calls_of o)

@@ -14,8 +14,8 @@ place_cmp p q = ordering_then (nat_cmp p.line q.line) (nat_cmp p.column q.column
 abbrev pub IsInOrder : List Finding → Type 0
 IsInOrder fs = IsSortedByKey (λ f. place_of f.span) place_cmp fs
 
--- the status: 2 where a template could not be read, or else 1 where something was found
+-- the status: 2 where a template could not be read, or else 1 where an error was found
 abbrev pub status_of : Bool → Bool → ℕ
-status_of found true = 2
+status_of errors true = 2
 status_of true false = 1
 status_of false false = 0

@@ -12,6 +12,7 @@ ghost use Rattle.tera_check.specs.Passed.{passed_view, named_view, is_in, AreNam
 
 use crate::catalogue::Known;
 use crate::finding::{Finding, Kind, Note};
+use crate::messages;
 use crate::passed::{Named, Names, Passed};
 use std::alloc::{AllocError, Global};
 use tera_parser::ast::ComponentArgument;
@@ -156,7 +157,7 @@ fn defined_here(alloc: Global, known: &Known<'_>) -> Result<Note, AllocError>
     Ok(Note {
         file: String::from_str(alloc, known.file)?,
         span: known.span.copied(),
-        message: format!(in alloc; "`{name}` is defined here")?,
+        message: messages::defined_here(alloc, name)?,
     })
 }
 

@@ -1,6 +1,6 @@
 //! What is found in a template beside others.
 
-ghost use Rattle.std.specs.Prelude.{◌≡◌, ◌∷◌, [], ◌++◌, map, codes, string_bytes, Some, IfOk, IfErr, OnOk};
+ghost use Rattle.std.specs.Prelude.{◌≡◌, ◌∷◌, [], ◌++◌, map, Some, IfOk, IfErr, OnOk};
 ghost use Rattle.std.specs.List.{flat_map};
 ghost use Rattle.std.specs.Option.{option_map};
 ghost use Rattle.std.specs.List.Sorted.{IsPermutation};
@@ -8,28 +8,27 @@ ghost use Rattle.tera_base.specs.ErrorView.{error_view};
 ghost use Rattle.tera_check.specs.Findings.{finding_view, note_view, IsOfError};
 ghost use Rattle.tera_check.specs.declared.finding.Finding.{Finding};
 ghost use Rattle.tera_base.specs.Spanned.{node_of, span_of};
-ghost use Rattle.tera_ast.specs.View.{call_view, entries_view};
-ghost use Rattle.tera_ast.specs.declared.ast.ComponentCall.{out-ComponentCall};
+ghost use Rattle.tera_ast.specs.View.{call_view};
 ghost use Rattle.tera_tree.specs.Outputs.{output_view};
 ghost use Rattle.tera_tree.specs.View.{definition_view};
 ghost use Rattle.tera_check.specs.Calls.{calls_of};
 ghost use Rattle.tera_check.specs.Findings.{NoteOf, place_of};
-ghost use Rattle.tera_check.specs.Judged.{known_view, undefined, judged, call_findings, again, defined_again, again_findings, refused_findings, missing_in};
+ghost use Rattle.tera_check.specs.Judged.{known_view, call_findings, again, defined_again, first_text, again_findings};
 ghost use Rattle.tera_check.specs.Named.{known_in, span_at, tree_findings};
 ghost use Rattle.tera_check.specs.Pending.{seen};
-ghost use Rattle.tera_check.specs.Passed.{passed_view, passed_by};
 ghost use Rattle.tera_check.specs.OrderAndStatus.{IsInOrder, status_of};
 
-use crate::arguments::{push_missing, push_refused};
 use crate::calls::calls_of;
 use crate::catalogue::{Catalogue, Known, defined_at};
 use crate::faults::finding_of_fault;
 use crate::finding::{Finding, Kind, Note};
-use crate::passed::passed_by;
+use crate::judged::push_call;
+use crate::messages;
+use crate::messages::defined_again;
 use crate::templates::Template;
 use std::alloc::{AllocError, Global};
 use tera_parser::ParserOutput;
-use tera_parser::ast::{ComponentCall, MapEntry};
+use tera_parser::ast::ComponentCall;
 use tera_parser::value::{Error, Span, Spanned};
 
 /// What is found in the template of this number, in the order of the places: its fault; or the components that a
@@ -77,7 +76,13 @@ fn findings_of_tree(
 {
     let mut findings = Vec::new(alloc);
     push_all_again(alloc, &mut findings, catalogue, number, template, output)?;
-    push_calls(alloc, &mut findings, catalogue, output)?;
+    push_calls(
+        alloc,
+        &mut findings,
+        catalogue,
+        template.file.as_str(),
+        output,
+    )?;
     put_in_order(&mut findings)?;
     Ok(findings)
 }
@@ -97,14 +102,14 @@ fn order_of(finding: &Finding) -> (usize, usize)
     (place.line, place.column)
 }
 
-/// The status of a program that checked some templates: 2 where one of them could not be read, or else 1 where
-/// something was found.
-pub fn status(found: bool, unread: bool) -> u8
-    ensures { result ≡ status_of found unread }
+/// The status of a program that checked some templates: 2 where one of them could not be read, or else 1 where an error
+/// was found. Warnings leave it 0.
+pub fn status(errors: bool, unread: bool) -> u8
+    ensures { result ≡ status_of errors unread }
 {
     if unread {
         2
-    } else if found {
+    } else if errors {
         1
     } else {
         0
@@ -177,20 +182,18 @@ fn again(alloc: Global, known: &Known<'_>, span: &Span) -> Result<Finding, Alloc
 {
     let name = known.definition.name.as_str();
     let note = first_defined(alloc, known)?;
-    let message = format!(in alloc;
-        "Another template already contains a component named `{name}`"
-    )?;
+    let message = defined_again(alloc, name)?;
     Finding::with_note(alloc, Kind::DefinedAgain, span, message, note)
 }
 
 fn first_defined(alloc: Global, known: &Known<'_>) -> Result<Note, AllocError>
     ensures { IfOk result (λ n. note_view n
-        ≡ NoteOf known.now.file.now known.now.span (codes "first defined here")) }
+        ≡ NoteOf known.now.file.now known.now.span first_text) }
 {
     Ok(Note {
         file: String::from_str(alloc, known.file)?,
         span: known.span.copied(),
-        message: String::from_str(alloc, "first defined here")?,
+        message: messages::first_defined(alloc)?,
     })
 }
 
@@ -198,106 +201,43 @@ fn push_calls(
     alloc: Global,
     findings: &mut Vec<Finding>,
     catalogue: &Catalogue<'_>,
+    file: &str,
     output: &ParserOutput,
 ) -> Result<(), AllocError>
     ensures { OnOk result (map finding_view findings.new.items ≡ map finding_view findings.old.items
-        ++ flat_map (call_findings (known_in catalogue.now)) (calls_of (output_view output.now))) }
+        ++ flat_map (call_findings file.now (known_in catalogue.now)) (calls_of (output_view output.now))) }
 {
     let calls = calls_of(alloc, output)?;
-    push_found(alloc, findings, catalogue, &calls)
+    push_found(alloc, findings, catalogue, file, &calls)
 }
 
 fn push_found(
     alloc: Global,
     findings: &mut Vec<Finding>,
     catalogue: &Catalogue<'_>,
+    file: &str,
     calls: &Vec<&Spanned<ComponentCall>>,
 ) -> Result<(), AllocError>
     ensures { OnOk result (map finding_view findings.new.items ≡ map finding_view findings.old.items
-        ++ flat_map (call_findings (known_in catalogue.now)) (map seen calls.now.items)) }
+        ++ flat_map (call_findings file.now (known_in catalogue.now)) (map seen calls.now.items)) }
 {
     for call in calls {
-        push_call(alloc, findings, catalogue, call)?;
+        push_found_in_call(alloc, findings, catalogue, file, call)?;
     }
     Ok(())
 }
 
-// Adds what is found in the call.
-fn push_call(
+fn push_found_in_call(
     alloc: Global,
     findings: &mut Vec<Finding>,
     catalogue: &Catalogue<'_>,
+    file: &str,
     call: &Spanned<ComponentCall>,
 ) -> Result<(), AllocError>
     ensures { OnOk result (map finding_view findings.new.items ≡ map finding_view findings.old.items
-        ++ call_findings (known_in catalogue.now) (call_view (node_of call.now) (span_of
-        call.now))) }
+        ++ call_findings file.now (known_in catalogue.now)
+        (call_view (node_of call.now) (span_of call.now))) }
 {
     let known = known_as(catalogue, call.node().name.as_str());
-    push_judged(alloc, findings, known, call)
-}
-
-fn push_judged(
-    alloc: Global,
-    findings: &mut Vec<Finding>,
-    known: Option<&Known<'_>>,
-    call: &Spanned<ComponentCall>,
-) -> Result<(), AllocError>
-    ensures { let c = out-ComponentCall (node_of call.now) in
-        OnOk result (map finding_view findings.new.items ≡ map finding_view findings.old.items
-        ++ judged (option_map
-        (λ k. known_view k.now) known.entry) (string_bytes c.name) (span_of call.now)
-        (passed_by (entries_view c.kwargs.items))) }
-{
-    let span = call.span();
-    match known {
-        Some(known) => push_arguments(alloc, findings, known, span, &call.node().kwargs),
-        None => push_undefined(alloc, findings, span, call.node().name.as_str()),
-    }
-}
-
-// Adds what is found in the arguments of a call of the component.
-fn push_arguments(
-    alloc: Global,
-    findings: &mut Vec<Finding>,
-    known: &Known<'_>,
-    span: &Span,
-    attributes: &Vec<MapEntry>,
-) -> Result<(), AllocError>
-    ensures { let ps = passed_by (entries_view attributes.now.items) in
-        OnOk result (map finding_view findings.new.items ≡ map finding_view findings.old.items
-        ++ (refused_findings (known_view known.now) ps
-        ++ missing_in (known_view known.now) span.now ps)) }
-{
-    let passed = passed_by(alloc, attributes)?;
-    let names = push_refused(alloc, findings, known, passed)?;
-    push_missing(alloc, findings, known, &names, span)?;
-    Ok(())
-}
-
-#[tactic(auto, using(crate::proofs::JudgedLemmas::finding_more))]
-fn push_undefined(
-    alloc: Global,
-    findings: &mut Vec<Finding>,
-    span: &Span,
-    name: &str,
-) -> Result<(), AllocError>
-    ensures { OnOk result (map finding_view findings.new.items ≡ map finding_view findings.old.items
-        ++ (undefined span.now name.now ∷ [])) }
-{
-    let finding = undefined(alloc, span, name)?;
-    findings.push(finding)?;
-    Ok(())
-}
-
-fn undefined(alloc: Global, span: &Span, name: &str) -> Result<Finding, AllocError>
-    ensures { IfOk result (λ f. finding_view f ≡ undefined span.now name.now) }
-{
-    let message = format!(in alloc; "No template defines a component named `{name}`")?;
-    Ok(Finding {
-        kind: Kind::UndefinedComponent,
-        span: span.copied(),
-        message,
-        notes: Vec::new(alloc),
-    })
+    push_call(alloc, findings, file, known, call)
 }

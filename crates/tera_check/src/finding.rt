@@ -23,19 +23,31 @@ pub enum Kind {
     UnknownArgument,
     /// A constant of another type than its argument.
     WrongType,
+    /// A value whose argument is given again in the same call, so that it does not count.
+    RepeatedArgument,
     /// A component that another template defines first.
     DefinedAgain,
 }
 
 /// All kinds of findings.
-pub const KINDS: [Kind; 6] = [
+pub const KINDS: [Kind; 7] = [
     Kind::Fault,
     Kind::UndefinedComponent,
     Kind::MissingArgument,
     Kind::UnknownArgument,
     Kind::WrongType,
+    Kind::RepeatedArgument,
     Kind::DefinedAgain,
 ];
+
+/// How grave a finding is.
+#[derive(Clone, Copy, Debug, PartialEq, Eq)]
+pub enum Severity {
+    /// The template, or a call in it, is refused.
+    Error,
+    /// It is taken, but it may not be what was meant.
+    Warning,
+}
 
 /// What is found in a template, the span there that it is about, and what explains it.
 #[derive(Debug, Drop)]
@@ -78,7 +90,7 @@ impl Place {
 
 impl Kind {
     ghost use Rattle.std.specs.Prelude.{◌≡◌};
-    ghost use Rattle.tera_check.specs.Findings.{kind_name};
+    ghost use Rattle.tera_check.specs.Findings.{kind_name, severity_of};
 
     /// The word for the kind, which stays the same from version to version.
     pub fn name(self) -> &'static str
@@ -90,7 +102,38 @@ impl Kind {
             Kind::MissingArgument => "missing-argument",
             Kind::UnknownArgument => "unknown-argument",
             Kind::WrongType => "wrong-type",
+            Kind::RepeatedArgument => "repeated-argument",
             Kind::DefinedAgain => "defined-again",
+        }
+    }
+
+    /// How grave each finding of the kind is.
+    pub fn severity(self) -> Severity
+        ensures { result ≡ severity_of self }
+    {
+        match self {
+            Kind::Fault
+            | Kind::UndefinedComponent
+            | Kind::MissingArgument
+            | Kind::UnknownArgument
+            | Kind::WrongType
+            | Kind::DefinedAgain => Severity::Error,
+            Kind::RepeatedArgument => Severity::Warning,
+        }
+    }
+}
+
+impl Severity {
+    ghost use Rattle.std.specs.Prelude.{◌≡◌};
+    ghost use Rattle.tera_check.specs.Findings.{severity_name};
+
+    /// The word for it, as lines tell it.
+    pub fn name(self) -> &'static str
+        ensures { result.now ≡ severity_name self }
+    {
+        match self {
+            Severity::Error => "error",
+            Severity::Warning => "warning",
         }
     }
 }

@@ -6,7 +6,7 @@
 //!
 //! In the order of reading: specs `Findings`, `Calls`, `Passed`, `Judged`, `Named`, `OrderAndStatus`, `Objects`, `Faults`,
 //! `Alike`; `templates`, which reads, and `spans`; `catalogue`; `calls`, over the parts of a tree (specs `Pending`);
-//! `passed` and `arguments`, of one call; `checked`, of a template; `finding`, `faults`, `lines` and
+//! `passed`, `arguments` and `judged`, of one call; `checked`, of a template; `messages`, texts; `finding`, `faults`, `lines` and
 //! `objects`; `laws`.
 #![tactic(auto)]
 
@@ -16,8 +16,10 @@ mod catalogue;
 mod checked;
 mod faults;
 mod finding;
+mod judged;
 pub mod laws;
 mod lines;
+mod messages;
 mod objects;
 mod passed;
 mod spans;
@@ -27,7 +29,7 @@ pub use calls::calls_of;
 pub use catalogue::{Catalogue, Known, catalogue_of, known_at};
 pub use checked::{findings_of, status};
 pub use faults::finding_of_fault;
-pub use finding::{Finding, KINDS, Kind, Note, Place};
+pub use finding::{Finding, KINDS, Kind, Note, Place, Severity};
 pub use lines::lines_of;
 pub use objects::object_of;
 pub use templates::{Template, read_template};

@@ -8,14 +8,15 @@ ghost use Rattle.tera_check.specs.Findings.{finding_view, note_view, note_line, 
 use crate::finding::{Finding, Note, Place};
 use std::alloc::{AllocError, Global};
 
-/// The line of the finding, `FILE:LINE:COLUMN: error: MESSAGE`, and below it a line for each of its notes. A line feed
-/// or a carriage return in a text is written as `\n` or `\r`.
+/// The line of the finding, `FILE:LINE:COLUMN: error: MESSAGE` or `.. warning: ..`, and below it a line for each of its
+/// notes. A line feed or a carriage return in a text is written as `\n` or `\r`.
 pub fn lines_of(alloc: Global, file: &str, finding: &Finding) -> Result<Vec<u8>, AllocError>
     ensures { IfOk result (λ v. v.items ≡ lines_of file.now (finding_view finding.now)) }
 {
     let mut lines = Vec::new(alloc);
+    let severity = finding.kind.severity().name();
     let message = finding.message.as_str();
-    push_line(alloc, &mut lines, file, finding.place(), "error", message)?;
+    push_line(alloc, &mut lines, file, finding.place(), severity, message)?;
     push_notes(alloc, &mut lines, &finding.notes)?;
     Ok(lines)
 }
@@ -42,13 +43,13 @@ fn push_line(
     lines: &mut Vec<u8>,
     file: &str,
     place: Place,
-    kind: &str,
+    severity: &str,
     message: &str,
 ) -> Result<(), AllocError>
     ensures { OnOk result (lines.new.items
-        ≡ lines.old.items ++ line_of file.now place kind.now message.now) }
+        ≡ lines.old.items ++ line_of file.now place severity.now message.now) }
 {
-    let between = between(alloc, place, kind)?;
+    let between = between(alloc, place, severity)?;
     push_shown(lines, file)?;
     lines.extend_from_slice(between.as_bytes())?;
     push_shown(lines, message)?;
@@ -57,14 +58,14 @@ fn push_line(
 }
 
 // What stands between the file and the message.
-fn between(alloc: Global, place: Place, kind: &str) -> Result<String, AllocError>
+fn between(alloc: Global, place: Place, severity: &str) -> Result<String, AllocError>
     ensures { IfOk result (λ t. string_bytes t
         ≡ codes ":" ++ (decimal place.line
         ++ (codes ":" ++ (decimal place.column
-        ++ (codes ": " ++ (kind.now ++ codes ": ")))))) }
+        ++ (codes ": " ++ (severity.now ++ codes ": ")))))) }
 {
     let Place { line, column } = place;
-    format!(in alloc; ":{line}:{column}: {kind}: ")
+    format!(in alloc; ":{line}:{column}: {severity}: ")
 }
 
 // The text, on one line.

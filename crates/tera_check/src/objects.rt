@@ -4,14 +4,14 @@ ghost use Rattle.std.specs.Prelude.{◌≡◌, ◌++◌, [], ◌∷◌, map, IfO
 ghost use Rattle.std.specs.List.{flat_map};
 ghost use Rattle.json.specs.Print.{print};
 ghost use Rattle.tera_check.specs.Findings.{finding_view, note_view};
-ghost use Rattle.tera_check.specs.Objects.{text_member, number_member, members, note_object, notes_member, object_of};
+ghost use Rattle.tera_check.specs.Objects.{text_member, number_member, members, note_object, notes_member, severity_member, object_of};
 
-use crate::finding::{Finding, Note, Place};
+use crate::finding::{Finding, Kind, Note, Place};
 use json::Writer;
 use std::alloc::{AllocError, Global};
 
-/// The finding as an object of JSON, on one line, with the members `file`, `line`, `column`, `message` and `notes`, of
-/// which each has the first four too.
+/// The finding as an object of JSON, on one line, with the members `file`, `line`, `column`, `message`, `severity` and
+/// `notes`, of which each has the first four too.
 pub fn object_of(alloc: Global, file: &str, finding: &Finding) -> Result<Vec<u8>, AllocError>
     ensures { IfOk result (λ v. v.items
         ≡ print (object_of file.now (finding_view finding.now)) ++ 10 ∷ []) }
@@ -19,11 +19,19 @@ pub fn object_of(alloc: Global, file: &str, finding: &Finding) -> Result<Vec<u8>
     let mut writer = Writer::new(Vec::new(alloc));
     writer.begin_object()?;
     write_members(&mut writer, file, finding.place(), finding.message.as_str())?;
+    write_severity(&mut writer, finding.kind)?;
     write_notes(&mut writer, &finding.notes)?;
     writer.end_object()?;
     let mut object = writer.into_inner();
     object.push(b'\n')?;
     Ok(object)
+}
+
+fn write_severity(writer: &mut Writer, kind: Kind) -> Result<(), AllocError>
+    ensures tokens { OnOk result (writer.new.tokens ≡ writer.old.tokens ++ severity_member kind) }
+    ensures before { writer.new.before ≡ writer.old.before }
+{
+    write_text(writer, "severity", kind.severity().name())
 }
 
 fn write_notes(writer: &mut Writer, notes: &Vec<Note>) -> Result<(), AllocError>

@@ -2,11 +2,13 @@
 
 use std::alloc::{AllocError, Global};
 use std::test::Fail;
-use tera_check::{Finding, KINDS, Kind, Note, Place, finding_of_fault, object_of};
+use tera_check::{
+    Finding, KINDS, Kind, Note, Place, Severity, finding_of_fault, lines_of, object_of,
+};
 use tera_parser::value::{Error, Span};
 
 const OBJECT: &str =
-    r#"{"file":"a","line":3,"column":4,"message":"\"x\"\n","notes":[{"file":"b","line":1,"column":2,"message":"h"}]}
+    r#"{"file":"a","line":3,"column":4,"message":"\"x\"\n","severity":"error","notes":[{"file":"b","line":1,"column":2,"message":"h"}]}
 "#;
 
 fn span(line: usize, column: usize) -> Span {
@@ -17,7 +19,7 @@ fn span(line: usize, column: usize) -> Span {
     }
 }
 
-fn finding(alloc: Global) -> Result<Finding, AllocError> {
+fn finding(alloc: Global, kind: Kind) -> Result<Finding, AllocError> {
     let mut notes = Vec::new(alloc);
     notes.push(Note {
         file: String::from_str(alloc, "b")?,
@@ -25,7 +27,7 @@ fn finding(alloc: Global) -> Result<Finding, AllocError> {
         message: String::from_str(alloc, "h")?,
     })?;
     Ok(Finding {
-        kind: Kind::WrongType,
+        kind,
         span: span(3, 3),
         message: String::from_str(alloc, "\"x\"\n")?,
         notes,
@@ -34,9 +36,30 @@ fn finding(alloc: Global) -> Result<Finding, AllocError> {
 
 #[test]
 fn a_finding_is_an_object(rt: HostRuntime) -> Result<(), Fail> {
-    let object = object_of(rt.alloc(), "a", &finding(rt.alloc())?)?;
+    let object = object_of(rt.alloc(), "a", &finding(rt.alloc(), Kind::WrongType)?)?;
     assert!(rt; object.as_slice() == OBJECT.as_bytes());
     Ok(())
+}
+
+#[test]
+fn a_line_says_how_grave_it_is(rt: HostRuntime) -> Result<(), Fail> {
+    for kind in &KINDS {
+        let lines = lines_of(rt.alloc(), "a", &finding(rt.alloc(), *kind)?)?;
+        let word = kind.severity().name();
+        let line = format!(in rt.alloc(); "a:3:4: {word}: \"x\"\\n\nb:1:2: note: h\n")?;
+        assert!(rt; lines.as_slice() == line.as_bytes(), "{kind:?}");
+    }
+    Ok(())
+}
+
+#[test]
+fn an_argument_that_is_given_again_is_a_warning(rt: HostRuntime) {
+    for kind in &KINDS {
+        let grave = *kind != Kind::RepeatedArgument;
+        assert!(rt; (kind.severity() == Severity::Error) == grave, "{kind:?}");
+    }
+    assert_eq!(&rt; Severity::Error.name(), "error");
+    assert_eq!(&rt; Severity::Warning.name(), "warning");
 }
 
 fn is_at_the_beginning(finding: &Finding, message: &str) -> bool {

@@ -1,16 +1,18 @@
 -- What is found in templates.
-use Rattle.std.specs.Prelude.{◌≡◌, ◌<◌, ◌≤◌, ℕ, suc, ◌^◌, ◌-◌, min, List, [], ◌∷◌, Bool, nat_lt, map, length, Option, MatchResult, string_bytes}
+use Rattle.std.specs.Prelude.{◌≡◌, ◌<◌, ◌≤◌, ℕ, suc, ◌^◌, ◌-◌, min, List, [], ◌∷◌, Bool, true, false, nat_lt, map, length, Option, MatchResult, string_bytes}
 use Rattle.std.specs.List.Sorted.{IsPermutation}
-use Rattle.std.specs.List.{count_by, sum_by}
+use Rattle.std.specs.List.{count_by, list_any, sum_by}
 use Rattle.tera_base.specs.ErrorView.{error_view}
 use Rattle.tera_base.specs.declared.errors.Error.{Error}
 use Rattle.tera_tree.specs.Outputs.{output_view}
 use Rattle.tera_tree.specs.declared.outputs.ParserOutput.{ParserOutput}
-use Rattle.tera_check.specs.Findings.{FindingVal, finding_view, IsOfError}
+use Rattle.tera_check.specs.Findings.{FindingVal, finding_view, IsOfError, severity_of}
 use Rattle.tera_check.specs.Judged.{KnownVal}
 use Rattle.tera_check.specs.Named.{tree_findings, first_named, defined_by}
 use Rattle.tera_check.specs.OrderAndStatus.{IsInOrder}
 use Rattle.tera_check.specs.declared.finding.Finding.{Finding}
+use Rattle.tera_check.specs.declared.finding.Severity.{Severity}
+use Rattle.tera_check.specs.declared.finding.Severity.TheVariants as severities
 use Rattle.tera_check.specs.declared.templates.Template.{Template}
 use Rattle.tera_program.specs.declared.found.Found.{Found}
 
@@ -54,6 +56,17 @@ found_view found = (found.file.now, map finding_view found.findings.items)
 
 abbrev pub is_faulty : Found → Bool
 is_faulty found = nat_lt 0 (length found.findings.items)
+
+-- whether there is an error
+abbrev pub is_grave : Severity → Bool
+is_grave severities.Error = true
+is_grave severities.Warning = false
+
+abbrev pub is_error : Finding → Bool
+is_error finding = is_grave (severity_of finding.kind)
+
+abbrev pub is_wrong : Found → Bool
+is_wrong found = list_any is_error found.findings.items
 
 -- how many findings there are, and in how many files, as far as a number goes
 abbrev pub count_in : List Found → ℕ

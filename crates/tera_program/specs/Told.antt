@@ -7,7 +7,7 @@ use Rattle.std.specs.declared.io.Error.{Error}
 use Rattle.tera_check.specs.declared.templates.Template.{Template}
 use Rattle.terminal_text.specs.declared.style.Style.{Style}
 use Rattle.tera_program.specs.Forms.{text_of}
-use Rattle.tera_program.specs.Found.{AreFound, defined_in, count_in, faulty_in, found_view, is_faulty}
+use Rattle.tera_program.specs.Found.{AreFound, defined_in, count_in, faulty_in, found_view, is_wrong}
 use Rattle.tera_program.specs.Sources.{Known, nothing, with_sources}
 use Rattle.tera_program.specs.declared.found.Found.{Found}
 use Rattle.tera_program.specs.declared.job.Form.{Form}
@@ -25,13 +25,13 @@ pub record IsTold (form : Form) (style : Style) (known : Known) (templates : Lis
   pub all : List Found
   pub are : AreFound (defined_in templates) checked 0 templates all
   pub written : Takes old new (text_of form style known (map found_view all)) told.stopped
-  pub found : told.found ≡ list_any is_faulty all
+  pub errors : told.errors ≡ list_any is_wrong all
   pub findings : told.findings ≡ count_in all
   pub faulty : told.faulty ≡ faulty_in all
 
 -- how the program ends where so many files could not be read
 abbrev pub ended_of : Result Told AllocError → ℕ → Ended
-ended_of (Ok told) unread = record { found = told.found; failed = nat_lt 0 unread || is_some told.stopped }
+ended_of (Ok told) unread = record { found = told.errors; failed = nat_lt 0 unread || is_some told.stopped }
 ended_of (Err error) unread = record { found = false; failed = true }
 
 -- what was found in the templates was told, and the program ends as that and the files that could not be read say; or

@@ -105,7 +105,7 @@ fn ended(told: &Result<Told, AllocError>, unread: usize) -> Ended
 {
     match told {
         Ok(told) => Ended {
-            found: told.found,
+            found: told.errors,
             failed: unread > 0 || told.stopped.is_some(),
         },
         Err(_) => Ended::failed(),

@@ -3,10 +3,10 @@
 ghost use Rattle.std.specs.Prelude.{◌≡◌, IfOk, List, ℕ};
 ghost use Rattle.std.specs.List.{list_any};
 ghost use Rattle.tera_check.specs.Named.{known_in};
-ghost use Rattle.tera_program.specs.Found.{AreFound, IsFoundOf, defined_in, is_faulty, count_in, faulty_in};
+ghost use Rattle.tera_program.specs.Found.{AreFound, IsFoundOf, defined_in, is_grave, is_error, is_wrong, count_in, faulty_in};
 
 use std::alloc::{AllocError, Global};
-use tera_check::{Catalogue, Finding, Template, catalogue_of, findings_of};
+use tera_check::{Catalogue, Finding, Severity, Template, catalogue_of, findings_of};
 
 /// What is found in one template.
 #[derive(Drop)]
@@ -55,16 +55,36 @@ fn found_in(
     }
 }
 
-/// Whether something is found.
-pub(crate) fn is_any(all: &[Found<'_>]) -> bool
-    ensures { result ≡ list_any is_faulty all.now }
+/// Whether an error is found.
+pub(crate) fn has_error(all: &[Found<'_>]) -> bool
+    ensures { result ≡ list_any is_wrong all.now }
 {
     for found in all {
-        if !found.findings.is_empty() {
+        if is_wrong(&found.findings) {
             return true;
         }
     }
     false
+}
+
+fn is_wrong(findings: &Vec<Finding>) -> bool
+    ensures { result ≡ list_any is_error findings.now.items }
+{
+    for finding in findings {
+        if is_error(finding.kind.severity()) {
+            return true;
+        }
+    }
+    false
+}
+
+fn is_error(severity: Severity) -> bool
+    ensures { result ≡ is_grave severity }
+{
+    match severity {
+        Severity::Error => true,
+        Severity::Warning => false,
+    }
 }
 
 /// How many findings there are, as far as a number goes.

@@ -22,8 +22,8 @@ Examples:
   tera components templates > ui.json    which components they define
 
 Exit status:
-  0  nothing was found, and all was done
-  1  something was found
+  0  nothing but warnings was found, and all was done
+  1  something else was found
   2  not all could be done: a file could not be read or written, or the arguments are wrong
 
 `tera help COMMAND` tells more of a command.";
@@ -38,7 +38,7 @@ Examples:
   tera check --output-format github templates
   tera check --stdin-filename page.html --library templates - < page.html
 
-Exit status: 0 where nothing was found, 1 where something was, 2 where a file could not be read.";
+Exit status: 0 where nothing but warnings was found, 1 where an error was, 2 where a file could not be read.";
 
 const OF_FORMAT: &str = "\
 A file is rewritten in its layout, and its name is told where that changed it. A file with a fault stays as it is. The

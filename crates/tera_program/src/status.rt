@@ -8,7 +8,7 @@ use tera_check::status;
 /// What was met while the job was done.
 #[derive(Clone, Copy, Debug, PartialEq, Eq)]
 pub(crate) struct Ended {
-    /// Whether something was found.
+    /// Whether something was found that is no warning.
     pub(crate) found: bool,
     /// Whether not all could be done or told.
     pub(crate) failed: bool,
@@ -26,7 +26,8 @@ impl Ended {
     }
 }
 
-/// The status of the program: 2 where not all could be done or told, or else 1 where something was found.
+/// The status of the program: 2 where not all could be done or told, or else 1 where something was found that is
+/// no warning.
 pub(crate) fn status_of(ended: Ended) -> u8
     ensures { result ≡ status_at ended }
 {

@@ -6,7 +6,7 @@ ghost use Rattle.terminal_text.specs.Files.{source_of};
 ghost use Rattle.tera_program.specs.Told.{IsTold};
 
 use crate::forms::text_of;
-use crate::found::{all_found, count_of, faulty_of, is_any};
+use crate::found::{all_found, count_of, faulty_of, has_error};
 use crate::job::Form;
 use crate::writing::write_all;
 use std::alloc::{AllocError, Global};
@@ -18,8 +18,8 @@ use terminal_text::{Sources, Style};
 /// What was told.
 #[derive(Clone, Copy, Debug)]
 pub(crate) struct Told {
-    /// Whether something was found.
-    pub(crate) found: bool,
+    /// Whether an error was found.
+    pub(crate) errors: bool,
     /// How many findings there are.
     pub(crate) findings: usize,
     /// In how many templates.
@@ -46,7 +46,7 @@ pub(crate) fn tell_findings<W: Write>(
     let all = all_found(alloc, templates, checked)?;
     let text = text_of(alloc, form, style, sources, all.as_slice())?;
     Ok(Told {
-        found: is_any(all.as_slice()),
+        errors: has_error(all.as_slice()),
         findings: count_of(all.as_slice()),
         faulty: faulty_of(all.as_slice()),
         stopped: write_all(writer, text.as_slice()).err(),

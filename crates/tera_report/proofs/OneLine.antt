@@ -11,8 +11,10 @@ use Rattle.std.specs.Str.Parse.{AllDigits}
 use Rattle.tera_base.specs.declared.utils.Span.{Span}
 use Rattle.tera_check.specs.declared.finding.Kind.{Kind}
 use Rattle.tera_check.specs.declared.finding.Kind.TheVariants as kinds
-use Rattle.tera_check.specs.Findings.{NoteVal, FindingOf, kind_name}
-use Rattle.tera_report.specs.Annotations.{escaped_character, property_character, escaped, property, column_of, span_text, annotation, IsOneLine}
+use Rattle.tera_check.specs.declared.finding.Severity.{Severity}
+use Rattle.tera_check.specs.declared.finding.Severity.TheVariants.{Error, Warning}
+use Rattle.tera_check.specs.Findings.{NoteVal, FindingOf, kind_name, severity_of}
+use Rattle.tera_report.specs.Annotations.{command_of, escaped_character, property_character, escaped, property, column_of, span_text, annotation, IsOneLine}
 
 abbrev Lacks : List ℕ → Type 0
 Lacks bs = AllByRecursion (λ b. b ≢ 10) bs
@@ -73,7 +75,12 @@ named kinds.UndefinedComponent = literal (kind_name kinds.UndefinedComponent) re
 named kinds.MissingArgument = literal (kind_name kinds.MissingArgument) refl
 named kinds.UnknownArgument = literal (kind_name kinds.UnknownArgument) refl
 named kinds.WrongType = literal (kind_name kinds.WrongType) refl
+named kinds.RepeatedArgument = literal (kind_name kinds.RepeatedArgument) refl
 named kinds.DefinedAgain = literal (kind_name kinds.DefinedAgain) refl
+
+commanded : (severity : Severity) → Lacks (command_of severity)
+commanded Error = literal (command_of Error) refl
+commanded Warning = literal (command_of Warning) refl
 
 placed : (s : Span) → s.start_line < 2 ^ 64 → s.end_line < 2 ^ 64 → Lacks (span_text s)
 placed s start end =
@@ -92,10 +99,10 @@ ends a b c d e f g h = simp append_assoc
 pub one_line : (file : List ℕ) (kind : Kind) (s : Span) (text : List ℕ) (notes : List NoteVal) → s.start_line < 2 ^ 64 → s.end_line < 2 ^ 64 → IsOneLine (annotation file (FindingOf kind s text notes))
 unfolding annotation
 one_line file kind s text notes start end =
-    let line = codes "::error file=" ++ (property file ++ (span_text s ++ (codes ",title=" ++ (kind_name kind ++ (codes "::" ++ escaped text))))) in (
+    let line = command_of (severity_of kind) ++ (property file ++ (span_text s ++ (codes ",title=" ++ (kind_name kind ++ (codes "::" ++ escaped text))))) in (
       line,
-      ends (codes "::error file=") (property file) (span_text s) (codes ",title=") (kind_name kind) (codes "::") (escaped text) (codes "\n"),
-      joined (codes "::error file=") _ (literal (codes "::error file=") refl)
+      ends (command_of (severity_of kind)) (property file) (span_text s) (codes ",title=") (kind_name kind) (codes "::") (escaped text) (codes "\n"),
+      joined (command_of (severity_of kind)) _ (commanded (severity_of kind))
           (joined (property file) _ (each property_character property_lacks (chars file))
           (joined (span_text s) _ (placed s start end)
           (joined (codes ",title=") _ (literal (codes ",title=") refl)

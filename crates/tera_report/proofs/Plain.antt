@@ -8,11 +8,11 @@ use Rattle.std.proofs.lemmas.List.Concat.{flat_map-append}
 use Rattle.std.proofs.lemmas.List.Elements.{All-nil, All-cons, All-head, All-tail}
 use Rattle.std.proofs.lemmas.Str.{encodes-append, encodes-chars}
 use Rattle.tera_base.specs.declared.utils.Span.{Span}
-use Rattle.tera_check.specs.Findings.{NoteVal, NoteOf, FindingVal, FindingOf, place_of, shown_byte, shown, line_of, note_line, lines_of}
+use Rattle.tera_check.specs.Findings.{NoteVal, NoteOf, FindingVal, FindingOf, place_of, shown_byte, shown, line_of, note_line, lines_of, severity_of}
 use Rattle.tera_report.specs.Laws.{IsOrdinary, NotesAreOrdinary, FindingIsOrdinary}
 use Rattle.tera_report.specs.Told.{line, word_of, message, message_line, note_told, told}
-use Rattle.tera_report.specs.declared.severity.Severity.{Severity}
-use Rattle.tera_report.specs.declared.severity.Severity.TheVariants.{Error, Note}
+use Rattle.tera_report.specs.declared.role.Role.{Role}
+use Rattle.tera_report.specs.declared.role.Role.TheVariants.{Finding, Note}
 use Rattle.terminal_text.specs.Laws.{IsSeen}
 use Rattle.terminal_text.specs.Shown.{turns_direction, seen, told_as}
 use Rattle.terminal_text.specs.declared.style.Style.TheVariants.{Plain}
@@ -66,12 +66,12 @@ regroup : (f l c w t : List ℕ)
     ≡ f ++ ((codes ":" ++ (l ++ (codes ":" ++ (c ++ (codes ": " ++ (w ++ codes ": ")))))) ++ (t ++ 10 ∷ []))
 regroup f l c w t = simp append_assoc
 
-plain_message : (severity : Severity) (file : List ℕ) (span : Span) (text : List ℕ) → IsOrdinary file → IsOrdinary text
-    → message Plain (λ _. None) severity file span text ≡ line_of file (place_of span) (word_of severity) text
-plain_message severity file span text named said =
-    append-nil (message_line Plain severity file span text)
-    ∙ regroup (line file) (decimal (place_of span).line) (decimal (place_of span).column) (word_of severity) (line text)
-    ∙ (λ i. plain_line file named i ++ ((codes ":" ++ (decimal (place_of span).line ++ (codes ":" ++ (decimal (place_of span).column ++ (codes ": " ++ (word_of severity ++ codes ": ")))))) ++ (plain_line text said i ++ 10 ∷ [])))
+plain_message : (role : Role) (file : List ℕ) (span : Span) (text : List ℕ) → IsOrdinary file → IsOrdinary text
+    → message Plain (λ _. None) role file span text ≡ line_of file (place_of span) (word_of role) text
+plain_message role file span text named said =
+    append-nil (message_line Plain role file span text)
+    ∙ regroup (line file) (decimal (place_of span).line) (decimal (place_of span).column) (word_of role) (line text)
+    ∙ (λ i. plain_line file named i ++ ((codes ":" ++ (decimal (place_of span).line ++ (codes ":" ++ (decimal (place_of span).column ++ (codes ": " ++ (word_of role ++ codes ": ")))))) ++ (plain_line text said i ++ 10 ∷ [])))
 
 plain_notes : (notes : List NoteVal) → NotesAreOrdinary notes → flat_map (note_told Plain (λ _. None)) notes ≡ flat_map note_line notes
 plain_notes [] is = refl
@@ -81,4 +81,4 @@ plain_notes (NoteOf file span text ∷ notes) is =
 pub plain_is : (file : List ℕ) (finding : FindingVal) → FindingIsOrdinary file finding → told Plain (λ _. None) file finding ≡ lines_of file finding
 unfolding told
 plain_is file (FindingOf kind span text notes) is =
-    λ i. plain_message Error file span text is.0 is.1.0 i ++ plain_notes notes is.1.1 i
+    λ i. plain_message (Finding (severity_of kind)) file span text is.0 is.1.0 i ++ plain_notes notes is.1.1 i

@@ -3,7 +3,9 @@ use Rattle.std.specs.Prelude.{◌≡◌, ◌≢◌, ◌+◌, ◌-◌, ◌^◌, �
 use Rattle.std.specs.Fmt.{decimal}
 use Rattle.std.specs.List.{flat_map, AllByRecursion}
 use Rattle.tera_base.specs.declared.utils.Span.{Span}
-use Rattle.tera_check.specs.Findings.{FindingVal, FindingOf, kind_name}
+use Rattle.tera_check.specs.Findings.{FindingVal, FindingOf, kind_name, severity_of}
+use Rattle.tera_check.specs.declared.finding.Severity.{Severity}
+use Rattle.tera_check.specs.declared.finding.Severity.TheVariants.{Error, Warning}
 
 -- a character of a message
 abbrev pub escaped_character : ℕ → List ℕ
@@ -36,10 +38,15 @@ span_text s =
     ++ (codes ",endLine=" ++ (decimal s.end_line
     ++ (codes ",endColumn=" ++ decimal (column_of s.end_col)))))))
 
+-- a command, up to the file
+abbrev pub command_of : Severity → List ℕ
+command_of Error = codes "::error file="
+command_of Warning = codes "::warning file="
+
 -- the command of a finding in a file, on one line
 unfoldable pub annotation : List ℕ → FindingVal → List ℕ
 annotation file (FindingOf kind span text notes) =
-    codes "::error file=" ++ (property file
+    command_of (severity_of kind) ++ (property file
     ++ (span_text span
     ++ (codes ",title=" ++ (kind_name kind
     ++ (codes "::" ++ (escaped text ++ codes "\n"))))))

@@ -4,10 +4,9 @@ use Rattle.std.specs.List.{flat_map}
 use Rattle.file_uris.specs.Encoding.{encoded_path}
 use Rattle.json.specs.Token.{Token, begin_object, end_object, begin_array, end_array, key}
 use Rattle.tera_base.specs.declared.utils.Span.{Span}
-use Rattle.tera_check.specs.Findings.{NoteVal, NoteOf, FindingVal, FindingOf, kind_name}
+use Rattle.tera_check.specs.Findings.{NoteVal, NoteOf, FindingVal, FindingOf, kind_name, all_kinds, severity_of, severity_name}
 use Rattle.tera_check.specs.Objects.{text_member, number_member}
 use Rattle.tera_check.specs.declared.finding.Kind.{Kind}
-use Rattle.tera_check.specs.declared.finding.Kind.TheVariants.{Fault, UndefinedComponent, MissingArgument, UnknownArgument, WrongType, DefinedAgain}
 use Rattle.tera_report.specs.Annotations.{column_of}
 
 -- where a member begins that is an object, and one that is an array
@@ -69,7 +68,7 @@ kind_member name kind = text_member name (kind_name kind)
 
 -- what a result says
 abbrev pub head : Kind → List ℕ → List Token
-head kind text = kind_member (codes "ruleId") kind ++ (text_member (codes "level") (codes "error") ++ message text)
+head kind text = kind_member (codes "ruleId") kind ++ (text_member (codes "level") (severity_name (severity_of kind)) ++ message text)
 
 abbrev pub members : List ℕ → FindingVal → List Token
 members file (FindingOf kind span text notes) = head kind text ++ (locations file span ++ notes_member notes)
@@ -79,9 +78,6 @@ unfoldable pub result_object : List ℕ → FindingVal → List Token
 result_object file finding = object (members file finding)
 
 -- the kinds of what is found
-abbrev pub all_kinds : List Kind
-all_kinds = Fault ∷ UndefinedComponent ∷ MissingArgument ∷ UnknownArgument ∷ WrongType ∷ DefinedAgain ∷ []
-
 abbrev pub rule : Kind → List Token
 rule kind = object (kind_member (codes "id") kind)
 

@@ -1,11 +1,11 @@
 -- A finding as people read it.
 use Rattle.std.specs.Prelude.{ℕ, ◌==◌, if◌then◌else◌, List, [], ◌∷◌, ◌++◌, flat_map, Option, Some, None, codes, chars, decimal, encode_utf8_all}
 use Rattle.tera_base.specs.declared.utils.Span.{Span}
-use Rattle.tera_check.specs.Findings.{NoteVal, NoteOf, FindingVal, FindingOf, place_of}
-use Rattle.tera_check.specs.declared.finding.Kind.{Kind}
+use Rattle.tera_check.specs.Findings.{NoteVal, NoteOf, FindingVal, FindingOf, place_of, severity_of, severity_name}
 use Rattle.tera_check.specs.declared.finding.Place.{Place}
-use Rattle.tera_report.specs.declared.severity.Severity.{Severity}
-use Rattle.tera_report.specs.declared.severity.Severity.TheVariants.{Error, Note}
+use Rattle.tera_check.specs.declared.finding.Severity.TheVariants as severities
+use Rattle.tera_report.specs.declared.role.Role.{Role}
+use Rattle.tera_report.specs.declared.role.Role.TheVariants.{Finding, Note}
 use Rattle.terminal_text.specs.Excerpt.{excerpt}
 use Rattle.terminal_text.specs.Lines.{line_at}
 use Rattle.terminal_text.specs.Shown.{on_one_line}
@@ -15,16 +15,14 @@ use Rattle.terminal_text.specs.declared.style.Part.{Part}
 use Rattle.terminal_text.specs.declared.style.Part.TheVariants as parts
 use Rattle.terminal_text.specs.declared.style.Style.{Style}
 
--- each finding is an error
-abbrev pub severity_of : Kind → Severity
-severity_of kind = Error
-
-abbrev pub word_of : Severity → List ℕ
-word_of Error = codes "error"
+-- a message by what it is: its word, and its colour
+abbrev pub word_of : Role → List ℕ
+word_of (Finding severity) = severity_name severity
 word_of Note = codes "note"
 
-abbrev pub part_of : Severity → Part
-part_of Error = parts.Error
+abbrev pub part_of : Role → Part
+part_of (Finding severities.Error) = parts.Error
+part_of (Finding severities.Warning) = parts.Warning
 part_of Note = parts.Note
 
 -- a text on one line
@@ -40,14 +38,14 @@ abbrev pub marked_of : Span → Marked
 marked_of s = record { line = s.start_line; start = s.start_col; end = if s.end_line == s.start_line then Some s.end_col else None }
 
 -- a message: where, how grave, and what
-abbrev pub message_line : Style → Severity → List ℕ → Span → List ℕ → List ℕ
-message_line style severity file span text =
-    styled style parts.Place (place_text file (place_of span)) ++ (codes " " ++ (styled style (part_of severity) (word_of severity) ++ (codes ": " ++ (line text ++ 10 ∷ []))))
+abbrev pub message_line : Style → Role → List ℕ → Span → List ℕ → List ℕ
+message_line style role file span text =
+    styled style parts.Place (place_text file (place_of span)) ++ (codes " " ++ (styled style (part_of role) (word_of role) ++ (codes ": " ++ (line text ++ 10 ∷ []))))
 
 -- with the line that it is about, where the source of the file is known
-abbrev pub message : Style → (List ℕ → Option (List ℕ)) → Severity → List ℕ → Span → List ℕ → List ℕ
-message style known severity file span text =
-    message_line style severity file span text ++ excerpt style (part_of severity) (marked_of span) (line_at (known file) span.start_line)
+abbrev pub message : Style → (List ℕ → Option (List ℕ)) → Role → List ℕ → Span → List ℕ → List ℕ
+message style known role file span text =
+    message_line style role file span text ++ excerpt style (part_of role) (marked_of span) (line_at (known file) span.start_line)
 
 abbrev pub note_told : Style → (List ℕ → Option (List ℕ)) → NoteVal → List ℕ
 note_told style known (NoteOf file span text) = message style known Note file span text
@@ -55,4 +53,4 @@ note_told style known (NoteOf file span text) = message style known Note file sp
 -- the finding in a file, and its notes
 unfoldable pub told : Style → (List ℕ → Option (List ℕ)) → List ℕ → FindingVal → List ℕ
 told style known file (FindingOf kind span text notes) =
-    message style known (severity_of kind) file span text ++ flat_map (note_told style known) notes
+    message style known (Finding (severity_of kind)) file span text ++ flat_map (note_told style known) notes

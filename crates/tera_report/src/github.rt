@@ -2,14 +2,14 @@
 
 ghost use Rattle.std.specs.Prelude.{◌≡◌, ◌++◌, string_bytes, IfOk, OnOk};
 ghost use Rattle.tera_check.specs.Findings.{finding_view};
-ghost use Rattle.tera_report.specs.Annotations.{annotation, escaped_character, escaped, property_character, property, span_text, column_of};
+ghost use Rattle.tera_report.specs.Annotations.{annotation, command_of, escaped_character, escaped, property_character, property, span_text, column_of};
 
 use std::alloc::{AllocError, Global};
 use tera_base::Span;
-use tera_check::Finding;
+use tera_check::{Finding, Severity};
 
-/// Adds the line `::error file=..,line=..,col=..,endLine=..,endColumn=..,title=..::MESSAGE`, whose title is the name of the
-/// kind. Lines and columns count from 1, columns in characters, and `endColumn` is the one behind the last. Notes are
+/// Adds the line `::error file=..,line=..,col=..,endLine=..,endColumn=..,title=..::MESSAGE`, or `::warning ..`, whose title is
+/// the name of the kind. Lines and columns count from 1, columns in characters, and `endColumn` is the one behind the last. Notes are
 /// left out: a command has one place.
 pub fn push_annotation(
     alloc: Global,
@@ -21,7 +21,7 @@ pub fn push_annotation(
         ≡ string_bytes to.old ++ annotation file.now (finding_view finding.now)) }
 {
     let place = span_of(alloc, &finding.span)?;
-    to.push_str("::error file=")?;
+    to.push_str(command(finding.kind.severity()))?;
     push_property(to, file)?;
     to.push_str(place.as_str())?;
     to.push_str(",title=")?;
@@ -30,6 +30,16 @@ pub fn push_annotation(
     push_escaped(to, finding.message.as_str())?;
     to.push_str("\n")?;
     Ok(())
+}
+
+// The command up to the file.
+fn command(severity: Severity) -> &'static str
+    ensures { result.now ≡ command_of severity }
+{
+    match severity {
+        Severity::Error => "::error file=",
+        Severity::Warning => "::warning file=",
+    }
 }
 
 fn span_of(alloc: Global, span: &Span) -> Result<String, AllocError>

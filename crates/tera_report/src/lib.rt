@@ -3,17 +3,15 @@
 //! It takes findings of `tera_check`, and puts them at the end of a text (`told`, `github`) or into a log (`sarif`). It
 //! stands on `tera_check`, `terminal_text` and `file_uris`; of the kit on `json`.
 //!
-//! In the order of reading: spec `Told`, `severity` and `told`; specs `Annotations` and `github`; `Logs`
-//! and `sarif`; `laws`.
+//! In the order of reading: spec `Told`, `role` and `told`; specs `Annotations` and `github`; `Logs` and `sarif`; `laws`.
 #![tactic(auto)]
 
 mod github;
 pub mod laws;
+mod role;
 mod sarif;
-mod severity;
 mod told;
 
 pub use github::push_annotation;
 pub use sarif::{begin_log, end_log, put_result};
-pub use severity::Severity;
 pub use told::push_told;

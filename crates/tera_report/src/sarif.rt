@@ -155,7 +155,7 @@ fn put_head(out: &mut Writer, kind: Kind, text: &str) -> Result<(), AllocError>
     ensures before { out.new.before ≡ out.old.before }
 {
     put_kind(out, "ruleId", kind)?;
-    put_text(out, "level", "error")?;
+    put_text(out, "level", kind.severity().name())?;
     put_message(out, text)
 }
 

@@ -5,14 +5,15 @@ ghost use Rattle.tera_check.specs.Findings.{finding_view, note_view};
 ghost use Rattle.tera_report.specs.Told.{place_text as text_of_place, marked_of, message_line, message as message_text, note_told, told};
 ghost use Rattle.terminal_text.specs.Files.{source_of};
 
-use crate::severity::Severity;
+use crate::role::Role;
 use std::alloc::{AllocError, Global};
 use tera_base::Span;
 use tera_check::{Finding, Note, Place};
 use terminal_text::{Marked, Part, Sources, Style, push_excerpt, push_on_one_line};
 
-/// Adds the line of the finding, `FILE:LINE:COLUMN: error: MESSAGE`, and those of its notes, each with the line of the
-/// source below that it is about, where that is known. A text is on one line, as `push_on_one_line` has it.
+/// Adds the line of the finding, `FILE:LINE:COLUMN: error: MESSAGE` or `.. warning: ..`, and those of its notes, each with
+/// the line of the source below that it is about, where that is known. A text is on one line, as `push_on_one_line` has
+/// it.
 pub fn push_told(
     alloc: Global,
     to: &mut String,
@@ -26,7 +27,7 @@ pub fn push_told(
     ensures same { (other : List ℕ) → source_of sources.new other ≡ source_of sources.old other }
 {
     let message = Message {
-        severity: Severity::of(finding.kind),
+        role: Role::Finding(finding.kind.severity()),
         file,
         span: &finding.span,
         text: finding.message.as_str(),
@@ -64,7 +65,7 @@ fn push_note(
     ensures same { (other : List ℕ) → source_of sources.new other ≡ source_of sources.old other }
 {
     let message = Message {
-        severity: Severity::Note,
+        role: Role::Note,
         file: note.file.as_str(),
         span: &note.span,
         text: note.message.as_str(),
@@ -75,7 +76,7 @@ fn push_note(
 // What is told of a span of a file.
 #[derive(Drop)]
 struct Message<'a> {
-    severity: Severity,
+    role: Role,
     file: &'a str,
     span: &'a Span,
     text: &'a str,
@@ -90,11 +91,11 @@ fn push_message(
     message: &Message<'_>,
 ) -> Result<(), AllocError>
     ensures text { OnOk result (string_bytes to.new ≡ string_bytes to.old
-        ++ message_text style (source_of sources.old) message.now.severity message.now.file.now message.now.span.now message.now.text.now) }
+        ++ message_text style (source_of sources.old) message.now.role message.now.file.now message.now.span.now message.now.text.now) }
     ensures same { (other : List ℕ) → source_of sources.new other ≡ source_of sources.old other }
 {
     push_line(alloc, to, style, message)?;
-    let part = message.severity.part();
+    let part = message.role.part();
     let marked = marked(message.span);
     push_excerpt(alloc, to, style, part, sources, message.file, marked)
 }
@@ -106,12 +107,12 @@ fn push_line(
     message: &Message<'_>,
 ) -> Result<(), AllocError>
     ensures { OnOk result (string_bytes to.new ≡ string_bytes to.old
-        ++ message_line style message.now.severity message.now.file.now message.now.span.now message.now.text.now) }
+        ++ message_line style message.now.role message.now.file.now message.now.span.now message.now.text.now) }
 {
     let place = place_text(alloc, message.file, Place::of(message.span))?;
     style.push(to, Part::Place, place.as_str())?;
     to.push(' ')?;
-    style.push(to, message.severity.part(), message.severity.word())?;
+    style.push(to, message.role.part(), message.role.word())?;
     to.push_str(": ")?;
     push_on_one_line(to, message.text)?;
     to.push('\n')

@@ -4,7 +4,7 @@ use std::alloc::{AllocError, Global};
 use std::test::Fail;
 use tera_base::Span;
 use tera_check::{Finding, Kind, Note};
-use tera_report::{Severity, push_told};
+use tera_report::push_told;
 use terminal_text::{Sources, Style};
 
 fn span(line: usize, start: usize, end_line: usize, end: usize) -> Span {
@@ -79,8 +79,27 @@ fn without_sources(rt: HostRuntime) -> Result<(), Fail> {
 }
 
 #[test]
-fn severities(rt: HostRuntime) -> Result<(), Fail> {
-    assert_eq!(&rt; Severity::of(Kind::Fault).word(), "error");
-    assert_eq!(&rt; Severity::Note.word(), "note");
+fn warning_without_sources(rt: HostRuntime) -> Result<(), Fail> {
+    let alloc = rt.alloc();
+    let mut sources = Sources::new(alloc);
+    let mut text = String::new(alloc);
+    let finding = Finding {
+        kind: Kind::RepeatedArgument,
+        span: span(1, 2, 1, 3),
+        message: String::from_str(alloc, "Given again")?,
+        notes: Vec::new(alloc),
+    };
+    push_told(
+        alloc,
+        &mut text,
+        Style::Coloured,
+        "page.html",
+        &mut sources,
+        &finding,
+    )?;
+    assert_eq!(&rt;
+        text.as_str(),
+        "\u{1b}[1mpage.html:1:3:\u{1b}[0m \u{1b}[1;33mwarning\u{1b}[0m: Given again\n"
+    );
     Ok(())
 }

@@ -6,7 +6,9 @@ use Rattle.json.specs.Tree.{json_tokens}
 use Rattle.json.specs.Value.{items_of}
 use Rattle.json_rpc.specs.Writing.{notification}
 use Rattle.protocol_values.specs.Writing.{number_json, range_json, location_json, member_tokens}
-use Rattle.tera_check.specs.Findings.{kind_name}
+use Rattle.tera_check.specs.Findings.{kind_name, severity_of}
+use Rattle.tera_check.specs.declared.finding.Severity.{Severity}
+use Rattle.tera_check.specs.declared.finding.Severity.TheVariants.{Error, Warning}
 use Rattle.tera_workspace.specs.Diagnostics.{DiagnosticVal, RelatedVal}
 use Rattle.tera_server.specs.Editors.{seen_of, uri_in, version_in}
 use Rattle.tera_server.specs.declared.editor.Editor.{Editor}
@@ -29,11 +31,16 @@ related_members e told rs =
 abbrev pub related_tokens : Editor → Bool → List RelatedVal → List Token
 related_tokens e told rs = if told then member_tokens (codes "relatedInformation") (array (items_of (map (related_json e) rs))) else []
 
+-- how grave a finding is, as the protocol has it
+abbrev pub severity_number : Severity → ℕ
+severity_number Error = 1
+severity_number Warning = 2
+
 -- a finding
 abbrev pub diagnostic_json : Editor → Bool → DiagnosticVal → Json
 diagnostic_json e told d =
     object (member (codes "range") (range_json d.start d.end)
-    (member (codes "severity") (number_json 1)
+    (member (codes "severity") (number_json (severity_number (severity_of d.kind)))
     (member (codes "code") (string (kind_name d.kind))
     (member (codes "source") (string (codes "tera"))
     (member (codes "message") (string d.message) (related_members e told d.related))))))

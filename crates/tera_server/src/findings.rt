@@ -9,7 +9,7 @@ ghost use Rattle.json_rpc.specs.Writing.{body};
 ghost use Rattle.protocol_values.specs.Writing.{member_tokens, location_json};
 ghost use Rattle.tera_workspace.specs.Diagnostics.{diagnostic_view, related_view};
 ghost use Rattle.tera_server.specs.Editors.{seen_of, uri_in, version_in};
-ghost use Rattle.tera_server.specs.Findings.{related_json, one_related, related_tokens, one_found, found_json, published as message_of_found, version_tokens};
+ghost use Rattle.tera_server.specs.Findings.{related_json, one_related, related_tokens, severity_number, one_found, found_json, published as message_of_found, version_tokens};
 
 use crate::editor::Editor;
 use file_uris::uri_of;
@@ -17,6 +17,7 @@ use json::Writer;
 use json_rpc::{begin_notification, end_message};
 use protocol_values::{put_location, put_number, put_range, put_text};
 use std::alloc::{AllocError, Global};
+use tera_check::Severity;
 use tera_workspace::{Diagnostic, Related};
 
 /// How findings are told.
@@ -126,13 +127,23 @@ fn put_diagnostic(
 {
     out.begin_object()?;
     put_range(out, "range", diagnostic.start, diagnostic.end)?;
-    put_number(out, "severity", 1)?;
+    put_number(out, "severity", severity_number(diagnostic.kind.severity()))?;
     put_text(out, "code", diagnostic.kind.name())?;
     put_text(out, "source", "tera")?;
     put_text(out, "message", diagnostic.message.as_str())?;
     put_related(alloc, out, telling, diagnostic.related.as_slice())?;
     out.end_object()?;
     Ok(())
+}
+
+// How the protocol has it.
+fn severity_number(severity: Severity) -> usize
+    ensures { result ≡ severity_number severity }
+{
+    match severity {
+        Severity::Error => 1,
+        Severity::Warning => 2,
+    }
 }
 
 // What explains a finding, if that is told.

@@ -1,5 +1,5 @@
 -- What is found by components that are alike but for their spans in one file, where no place in that file is told.
-use Rattle.std.proofs.Common.{◌≡◌, ◌∙◌, ℕ, suc, List, [], ◌∷◌, ◌++◌, Bool, true, false, Option, None, Some, map, refl, ap, inl, inr, nat_eq}
+use Rattle.std.proofs.Common.{◌≡◌, ◌∙◌, ℕ, suc, List, [], ◌∷◌, ◌++◌, Bool, true, false, Option, None, Some, map, string_bytes, refl, ap, inl, inr, nat_eq}
 use Rattle.std.proofs.Common.{if◌then◌else◌}
 use Rattle.std.specs.List.{flat_map, AllByRecursion}
 use Rattle.tera_base.specs.Contexts.{found}
@@ -9,7 +9,7 @@ use Rattle.tera_ast.specs.Tree.{Expr, Const, Array, Map, Var, GetAttr, GetItem, 
 use Rattle.tera_tree.specs.Tree.{Argument, Definition, Output}
 use Rattle.tera_check.specs.Alike.{name_called, names_in}
 use Rattle.tera_check.specs.Calls.{calls_of}
-use Rattle.tera_check.specs.Judged.{KnownVal, RemarkVal, about, told, refused_for, unless_rest, unknown, refusal, counted, refused, refused_one, is_again, refused_findings, missed, missing_findings, missing_in, judged, call_findings, again, defined_again, again_findings}
+use Rattle.tera_check.specs.Judged.{KnownVal, RemarkVal, about, told, refused_for, unless_rest, unknown, refusal, counted, refused, refused_one, is_again, refused_findings, missed, missing_findings, missing_in, repeated_findings, judged, call_findings, again, defined_again, again_findings}
 use Rattle.tera_check.specs.Named.{span_at, tree_findings}
 use Rattle.tera_check.specs.Passed.{NamedVal, PassedVal, OneNamed, Whatever, has_whatever, is_passed, passed_by}
 use Rattle.tera_check.specs.declared.templates.Template.{Template}
@@ -106,30 +106,34 @@ module _ (file : List ℕ) (number : ℕ) where
   defined_any (Some k) (Some j) h span b = defined_but file number k j h span b
 
 module _ (file : List ℕ) (number : ℕ) (known others : List ℕ → Option KnownVal) where
-  call_but : (e : Expr) → AgreeBut (name_called e) file number known others → AllByRecursion (IsBeside file) (call_findings known e) → call_findings known e ≡ call_findings others e
-  call_but (ComponentCall name es body closed span) h b = judged_any file number (known name) (others name) h.0 name span (passed_by es) b
-  call_but (Const v span) h b = refl
-  call_but (Array es span) h b = refl
-  call_but (Map es span) h b = refl
-  call_but (Var name span) h b = refl
-  call_but (GetAttr e name optional span) h b = refl
-  call_but (GetItem e sub optional span) h b = refl
-  call_but (Slice e start end step optional span) h b = refl
-  call_but (Filter e name args span) h b = refl
-  call_but (Test e name args span) h b = refl
-  call_but (Ternary e given otherwise span) h b = refl
-  call_but (ListComprehension e key value target condition span) h b = refl
-  call_but (FunctionCall name args span) h b = refl
-  call_but (UnaryOperation op e span) h b = refl
-  call_but (BinaryOperation op l r span) h b = refl
+  call_but : (own : List ℕ) (e : Expr) → AgreeBut (name_called e) file number known others → AllByRecursion (IsBeside file) (call_findings own known e)
+      → call_findings own known e ≡ call_findings own others e
+  call_but own (ComponentCall name es body closed span) h b =
+      let (first, last) = all_append (IsBeside file) (repeated_findings own es) (judged (known name) name span (passed_by es)) b in
+      ap (λ fs. repeated_findings own es ++ fs) (judged_any file number (known name) (others name) h.0 name span (passed_by es) last)
+  call_but own (Const v span) h b = refl
+  call_but own (Array es span) h b = refl
+  call_but own (Map es span) h b = refl
+  call_but own (Var name span) h b = refl
+  call_but own (GetAttr e name optional span) h b = refl
+  call_but own (GetItem e sub optional span) h b = refl
+  call_but own (Slice e start end step optional span) h b = refl
+  call_but own (Filter e name args span) h b = refl
+  call_but own (Test e name args span) h b = refl
+  call_but own (Ternary e given otherwise span) h b = refl
+  call_but own (ListComprehension e key value target condition span) h b = refl
+  call_but own (FunctionCall name args span) h b = refl
+  call_but own (UnaryOperation op e span) h b = refl
+  call_but own (BinaryOperation op l r span) h b = refl
 
-  calls_but : (es : List Expr) → AgreeBut (flat_map name_called es) file number known others → AllByRecursion (IsBeside file) (flat_map (call_findings known) es)
-      → flat_map (call_findings known) es ≡ flat_map (call_findings others) es
-  calls_but [] h b = refl
-  calls_but (e ∷ es) h b =
+  calls_but : (own : List ℕ) (es : List Expr) → AgreeBut (flat_map name_called es) file number known others
+      → AllByRecursion (IsBeside file) (flat_map (call_findings own known) es)
+      → flat_map (call_findings own known) es ≡ flat_map (call_findings own others) es
+  calls_but own [] h b = refl
+  calls_but own (e ∷ es) h b =
       let (first, more) = all_append (λ n. AreAlikeButIfAny file number (known n) (others n)) (name_called e) (flat_map name_called es) h in
-      let (here, behind) = all_append (IsBeside file) (call_findings known e) (flat_map (call_findings known) es) b in
-      λ i. call_but e first here i ++ calls_but es more behind i
+      let (here, behind) = all_append (IsBeside file) (call_findings own known e) (flat_map (call_findings own known) es) b in
+      λ i. call_but own e first here i ++ calls_but own es more behind i
 
   definitions_but : (spans : ℕ → Span) (at : ℕ) (ds : List Definition) → AgreeBut (map (λ d. d.name) ds) file number known others
       → AllByRecursion (IsBeside file) (again_findings known number spans at ds)
@@ -144,5 +148,5 @@ module _ (file : List ℕ) (number : ℕ) (known others : List ℕ → Option Kn
       → tree_findings known number t o ≡ tree_findings others number t o
   tree_but t o h b =
       let (defined, called) = all_append (λ n. AreAlikeButIfAny file number (known n) (others n)) (map (λ d. d.name) o.definitions) (flat_map name_called (calls_of o)) h in
-      let (here, behind) = all_append (IsBeside file) (again_findings known number (span_at t) 0 o.definitions) (flat_map (call_findings known) (calls_of o)) b in
-      λ i. definitions_but (span_at t) 0 o.definitions defined here i ++ calls_but (calls_of o) called behind i
+      let (here, behind) = all_append (IsBeside file) (again_findings known number (span_at t) 0 o.definitions) (flat_map (call_findings (string_bytes t.file) known) (calls_of o)) b in
+      λ i. definitions_but (span_at t) 0 o.definitions defined here i ++ calls_but (string_bytes t.file) (calls_of o) called behind i

@@ -8,5 +8,5 @@ use Rattle.tera_check.proofs.checked.push_found.Given as goal
 
 abbrev pub invariant-loop-call : goal.invariant-loop-call
 invariant-loop-call l =
-    map finding_view l.initial.findings.items ++ flat_map (call_findings (known_in l.catalogue)) (map seen l.call-items)
-    ≡ map finding_view l.findings.items ++ flat_map (call_findings (known_in l.catalogue)) (map seen (drop l.call-index l.call-items))
+    map finding_view l.initial.findings.items ++ flat_map (call_findings l.file (known_in l.catalogue)) (map seen l.call-items)
+    ≡ map finding_view l.findings.items ++ flat_map (call_findings l.file (known_in l.catalogue)) (map seen (drop l.call-index l.call-items))

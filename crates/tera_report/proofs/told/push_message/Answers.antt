@@ -10,7 +10,7 @@ pub returns-clause-text : goal.returns-clause-text
 returns-clause-text c =
     let m = c.args.message.now in
     let before : List ℕ = string_bytes c.args.to.now in
-    let line : List ℕ = message_line c.args.style m.severity m.file.now m.span.now m.text.now in
+    let line : List ℕ = message_line c.args.style m.role m.file.now m.span.now m.text.now in
     IfOk-equal c.push_excerpt.result _ _ _ c.push_excerpt.ensures.text
     ((λ i. c.in_ok-push_line.ensures i ++ excerpt c.args.style (c.part-part.ensures i) (c.marked-marked.ensures i) (line_at (source_of c.args.sources.now m.file.now) (c.marked-marked.ensures i).line))
     ∙ append_assoc before line _)

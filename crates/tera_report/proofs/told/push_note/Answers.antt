@@ -1,7 +1,7 @@
 use Rattle.std.proofs.Common.{◌++◌, string_bytes}
 use Rattle.std.proofs.lemmas.Result.{IfOk-equal}
 use Rattle.tera_report.specs.Told.{message}
-use Rattle.tera_report.specs.declared.severity.Severity.TheVariants.{Note}
+use Rattle.tera_report.specs.declared.role.Role.TheVariants.{Note}
 use Rattle.terminal_text.specs.Files.{source_of}
 use Rattle.tera_report.proofs.told.push_note.Goals as goal
 

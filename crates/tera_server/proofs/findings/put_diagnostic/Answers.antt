@@ -9,4 +9,4 @@ unfolding one_found
 returns-clause-tokens c =
     rw (related_written c.args.telling.editor.now c.args.telling.related (map related_view c.args.diagnostic.now.related.items))
     (rw (c.in_ok-end_object.ensures.ok, c.in_ok-put_related.ensures.tokens, c.in_ok-put_text-3.ensures.tokens, c.in_ok-put_text-2.ensures.tokens, c.in_ok-put_text.ensures.tokens, c.in_ok-put_number.ensures.tokens, c.in_ok-put_range.ensures.tokens, c.in_ok-begin_object.ensures.ok)
-    (simp (append_assoc, c.name.ensures, c.as_str.ensures.value, c.as_slice.ensures.value) refl))
+    (simp (append_assoc, c.severity.ensures, c.severity_number.ensures, c.name.ensures, c.as_str.ensures.value, c.as_slice.ensures.value) refl))

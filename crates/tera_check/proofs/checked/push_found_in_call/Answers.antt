@@ -5,7 +5,7 @@ use Rattle.tera_ast.specs.declared.ast.ComponentCall.{out-ComponentCall}
 use Rattle.tera_check.specs.Judged.{known_view}
 use Rattle.tera_check.specs.Named.{known_in}
 use Rattle.tera_check.proofs.JudgedLemmas.{judged_call}
-use Rattle.tera_check.proofs.checked.push_call.Goals as goal
+use Rattle.tera_check.proofs.checked.push_found_in_call.Goals as goal
 
 pub returns : goal.returns
 returns c =
@@ -14,4 +14,4 @@ returns c =
     c.as_str.ensures.value ∙ ap (λ m. string_bytes (out-ComponentCall m).name) c.node.ensures in
     let known : option_map (λ k. known_view k.now) c.known_as-known.result ≡ catalogue (string_bytes (out-ComponentCall (node_of c.args.call.now)).name) =
     c.known_as-known.ensures ∙ ap catalogue named in
-    rw (judged_call catalogue c.args.call.now, ← known) c.push_judged.ensures
+    rw (judged_call c.args.file.now catalogue c.args.call.now, ← known) c.push_call.ensures

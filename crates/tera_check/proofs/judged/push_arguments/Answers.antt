@@ -1,6 +1,6 @@
 use Rattle.tera_check.specs.Judged.{known_view}
 use Rattle.tera_check.proofs.JudgedLemmas.{judged_known}
-use Rattle.tera_check.proofs.checked.push_arguments.Goals as goal
+use Rattle.tera_check.proofs.judged.push_arguments.Goals as goal
 
 pub returns : goal.returns
 returns c =

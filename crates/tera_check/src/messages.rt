@@ -1,0 +1,51 @@
+//! The texts of findings and of their notes, but of faults, and of arguments that are refused: those are told as the
+//! parser and the tree tell them.
+
+ghost use Rattle.std.specs.Prelude.{◌≡◌, IfOk, string_bytes};
+ghost use Rattle.tera_check.specs.Judged.{undefined_text, repeated_text, next_text, here_text, again_text, first_text};
+
+use std::alloc::{AllocError, Global};
+
+/// That there is no component of this name.
+pub(crate) fn undefined_component(alloc: Global, name: &str) -> Result<String, AllocError>
+    ensures { IfOk result (λ m. string_bytes m ≡ undefined_text name.now) }
+{
+    format!(in alloc; "No template defines a component named `{name}`")
+}
+
+/// That the value does not count, since the argument is given again.
+pub(crate) fn repeated_argument(alloc: Global, name: &str) -> Result<String, AllocError>
+    ensures { IfOk result (λ m. string_bytes m ≡ repeated_text name.now) }
+{
+    format!(in alloc;
+        "Argument `{name}` is given more than once in component call. This value does not count."
+    )
+}
+
+/// Where the argument is given again.
+pub(crate) fn given_again(alloc: Global) -> Result<String, AllocError>
+    ensures { IfOk result (λ m. string_bytes m ≡ next_text) }
+{
+    String::from_str(alloc, "given again here")
+}
+
+/// Where the component is defined that is called.
+pub(crate) fn defined_here(alloc: Global, name: &str) -> Result<String, AllocError>
+    ensures { IfOk result (λ m. string_bytes m ≡ here_text name.now) }
+{
+    format!(in alloc; "`{name}` is defined here")
+}
+
+/// That another template defines a component of this name first.
+pub(crate) fn defined_again(alloc: Global, name: &str) -> Result<String, AllocError>
+    ensures { IfOk result (λ m. string_bytes m ≡ again_text name.now) }
+{
+    format!(in alloc; "Another template already contains a component named `{name}`")
+}
+
+/// Where that is defined.
+pub(crate) fn first_defined(alloc: Global) -> Result<String, AllocError>
+    ensures { IfOk result (λ m. string_bytes m ≡ first_text) }
+{
+    String::from_str(alloc, "first defined here")
+}
