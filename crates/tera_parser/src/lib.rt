@@ -26,7 +26,7 @@ pub mod value {
 
 /// The tree of a template.
 pub mod ast {
-    pub use tera_tree::parts::{Part, Parts, top_parts};
+    pub use tera_tree::parts::{Part, Parts, push_nodes, top_parts};
     pub use tera_tree::{
         ArgType as Type, Array, ArrayEntry, ArrayEntryOf, ArrayOf, BinaryOperation,
         BinaryOperationOf, BinaryOperator, Block, BlockOf, BlockSet, ComponentArg,

@@ -73,7 +73,8 @@ fn push_definitions<'a>(
     Ok(())
 }
 
-fn push_nodes<'a>(parts: &mut Parts<'a>, nodes: &'a Vec<Node>) -> Result<(), AllocError>
+/// Puts the nodes behind the parts that are there.
+pub fn push_nodes<'a>(parts: &mut Parts<'a>, nodes: &'a Vec<Node>) -> Result<(), AllocError>
     ensures { OnOk result (parts_view parts.new.items ≡ parts_view parts.old.items
         ++ parts_of_nodes (nodes_view nodes.now.items)) }
 {
