@@ -28,7 +28,7 @@ use Rattle.tera_statements.specs.Items.{AreEmptyTexts, GoesByItem}
 use Rattle.tera_statements.specs.Kinds.{kind_of}
 use Rattle.tera_expr_parts.specs.Rooms.{AreValid}
 use Rattle.tera_expect.specs.Taking.{Fails, RefusesIn, Took}
-use Rattle.tera_statements.specs.Templates.{Excludes, GivesPhase, GivesTemplate, GivesTextPhase, ReadsTemplate, StandsNext, TopOf, below_top, phase_if_any, phase_of}
+use Rattle.tera_statements.specs.Templates.{Excludes, GivesPhase, GivesTemplate, GivesTextPhase, ReadsTemplate, StandsNext, TopOf, top_depth, phase_if_any, phase_of}
 use Rattle.tera_statements.specs.declared.fronts.Front.TheVariants as fronts
 use Rattle.tera_statements.specs.declared.fronts.Opener.TheVariants as openers
 use Rattle.tera_statements.specs.declared.templates.Phase.{Phase}
@@ -37,7 +37,7 @@ use Rattle.tera_tree.specs.declared.outputs.ParserOutput.{ParserOutput}
 use Rattle.tera_statements.proofs.ItemsLemmas.{opens_tag, step_holds}
 
 -- a body may open
-pub opens : (l : Limits) → AreValid l → l.bodies ≡ suc (below_top l)
+pub opens : (l : Limits) → AreValid l → l.bodies ≡ suc (top_depth l)
 opens l valid = let some : 1 ≤ l.bodies = valid.bodies.0 in omega arith
 
 -- what keeps tokens from being those of a template
@@ -45,13 +45,13 @@ module _ (l : Limits) (valid : AreValid l) (here : Place) (ph : reading.Phase) w
   pub late_excluded : turn ph loops.Parent ≡ None → fronts.Opens openers.Extends ≡ kind_of (front here.tokens) → Excludes l here ph
   late_excluded none next = λ ts out g.
       let there = opens_tag openers.Extends here.tokens next in
-      topping_extends l (below_top l) (opens l valid) ts here out ph g none there.start there.first there.behind there.is
+      topping_extends l (top_depth l) (opens l valid) ts here out ph g none there.start there.first there.behind there.is
 
-  pub step_excluded : step l (body (below_top l) l) [] here.seen (front here.tokens) ≡ None → Excludes l here ph
-  step_excluded h = λ ts out g. topping_refused l (below_top l) (opens l valid) ts here out ph g h
+  pub step_excluded : step l (body (top_depth l) l) [] here.seen (front here.tokens) ≡ None → Excludes l here ph
+  step_excluded h = λ ts out g. topping_refused l (top_depth l) (opens l valid) ts here out ph g h
 
-  pub turn_excluded : (i : Item) (new : Place) → step l (body (below_top l) l) [] here.seen (front here.tokens) ≡ Some (Some (i, new)) → turn ph (weight (added_by false i)) ≡ None → Excludes l here ph
-  turn_excluded i new read none = λ ts out g. topping_stops l (below_top l) (opens l valid) ts here out ph i new (with_added out (added_by false i)) g read refl none
+  pub turn_excluded : (i : Item) (new : Place) → step l (body (top_depth l) l) [] here.seen (front here.tokens) ≡ Some (Some (i, new)) → turn ph (weight (added_by false i)) ≡ None → Excludes l here ph
+  turn_excluded i new read none = λ ts out g. topping_stops l (top_depth l) (opens l valid) ts here out ph i new (with_added out (added_by false i)) g read refl none
 
 -- no phase is behind
 pub no_phase : (p : Option Phase) (q : Option reading.Phase) → phase_if_any p ≡ q → is_some p ≡ false → q ≡ None
@@ -100,7 +100,7 @@ pub excluded_fails : (l : Limits) (ts : Items) (here : Place) (out : Output) (ph
 excluded_fails l ts here out ph e top (inl memory) = inl memory
 excluded_fails l ts here out ph e top (inr excludes) = inr (excludes ts out top)
 
-pub fails_excluded : (l : Limits) (here : Place) (ph : reading.Phase) (e : Error) → AreValid l → Fails (step l (body (below_top l) l) [] here.seen (front here.tokens)) e → IsMemory e ⊎ Excludes l here ph
+pub fails_excluded : (l : Limits) (here : Place) (ph : reading.Phase) (e : Error) → AreValid l → Fails (step l (body (top_depth l) l) [] here.seen (front here.tokens)) e → IsMemory e ⊎ Excludes l here ph
 fails_excluded l here ph e valid (inl memory) = inl memory
 fails_excluded l here ph e valid (inr h) = inr (step_excluded l valid here ph h)
 
@@ -135,10 +135,10 @@ pub text_gives : (l : Limits) → AreValid l → (ph : Phase) (r : Result (Optio
     → front ts ≡ Holds text span us → GivesTextPhase text ph r out before → GivesPhase l ph r out before (at seen us) (at seen ts)
 text_gives l valid ph (Ok None) out before seen ts us text span is gives = absurd gives
 text_gives l valid ph (Ok (Some q)) out before seen ts us text span is (shows, turned) =
-    (Single (Text text span), step_holds l (body (below_top l) l) [] seen (front ts) text span us is, shows, turned)
+    (Single (Text text span), step_holds l (body (top_depth l) l) [] seen (front ts) text span us is, shows, turned)
 text_gives l valid ph (Err e) out before seen ts us text span is (inl memory) = inl memory
 text_gives l valid ph (Err e) out before seen ts us text span is (inr none) =
-    inr (turn_excluded l valid (at seen ts) (phase_of ph) (Single (Text text span)) (at seen us) (step_holds l (body (below_top l) l) [] seen (front ts) text span us is) none)
+    inr (turn_excluded l valid (at seen ts) (phase_of ph) (Single (Text text span)) (at seen us) (step_holds l (body (top_depth l) l) [] seen (front ts) text span us is) none)
 
 pub text_goes : (ph : Phase) (r : Result (Option Phase) Error) (out before : Output) (text : List ℕ) (old new : Position) → GivesTextPhase text ph r out before → Took old new → GoesByItem r old new
 text_goes ph (Ok None) out before text old new gives took = absurd gives

@@ -47,12 +47,12 @@ phase_if_any None = None
 phase_if_any (Some p) = Some (phase_of p)
 
 -- how many bodies may open inside of the items of a template
-abbrev pub below_top : Limits → ℕ
-below_top l = l.bodies - 1
+abbrev pub top_depth : Limits → ℕ
+top_depth l = l.bodies - 1
 
 -- so much of the tokens has been read, and what has been read so far comes to this
 abbrev pub TopOf : Limits → Items → Place → Output → reading.Phase → Type 0
-TopOf l ts here out ph = Topping l (below_top l) (at nothing_seen ts) here out ph
+TopOf l ts here out ph = Topping l (top_depth l) (at nothing_seen ts) here out ph
 
 -- no tokens of which so much has been read are those of a template
 abbrev pub Excludes : Limits → Place → reading.Phase → Type 0
@@ -60,17 +60,17 @@ Excludes l here ph = (ts : Items) (out : Output) → TopOf l ts here out ph → 
 
 -- the next item of the top level, and the phase behind it; or none is left
 abbrev pub GivesTop : Limits → Phase → Result (Option (Added × Phase)) Error → Place → Place → Type 0
-GivesTop l ph (Ok None) new old = (step l (body (below_top l) l) [] old.seen (front old.tokens) ≡ Some None) × (new ≡ old)
+GivesTop l ph (Ok None) new old = (step l (body (top_depth l) l) [] old.seen (front old.tokens) ≡ Some None) × (new ≡ old)
 GivesTop l ph (Ok (Some a)) new old =
-    (i : Item) × (step l (body (below_top l) l) [] old.seen (front old.tokens) ≡ Some (Some (i, new))) × IsAdded false a.0 i
+    (i : Item) × (step l (body (top_depth l) l) [] old.seen (front old.tokens) ≡ Some (Some (i, new))) × IsAdded false a.0 i
     × (turn (phase_of ph) (weight (added_by false i)) ≡ Some (phase_of a.1))
 GivesTop l ph (Err e) new old = IsMemory e ⊎ Excludes l old (phase_of ph)
 
 -- likewise, where what the item adds was taken
 abbrev pub GivesPhase : Limits → Phase → Result (Option Phase) Error → Output → Output → Place → Place → Type 0
-GivesPhase l ph (Ok None) out before new old = (step l (body (below_top l) l) [] old.seen (front old.tokens) ≡ Some None) × (new ≡ old) × (out ≡ before)
+GivesPhase l ph (Ok None) out before new old = (step l (body (top_depth l) l) [] old.seen (front old.tokens) ≡ Some None) × (new ≡ old) × (out ≡ before)
 GivesPhase l ph (Ok (Some q)) out before new old =
-    (i : Item) × (step l (body (below_top l) l) [] old.seen (front old.tokens) ≡ Some (Some (i, new))) × (out ≡ with_added before (added_by false i))
+    (i : Item) × (step l (body (top_depth l) l) [] old.seen (front old.tokens) ≡ Some (Some (i, new))) × (out ≡ with_added before (added_by false i))
     × (turn (phase_of ph) (weight (added_by false i)) ≡ Some (phase_of q))
 GivesPhase l ph (Err e) out before new old = IsMemory e ⊎ Excludes l old (phase_of ph)
 

@@ -7,8 +7,8 @@ ghost use Rattle.tera_statements.specs.Reading.{AreAttributes, IsExpression};
 ghost use Rattle.tera_statements.specs.Settings.{limits_under};
 ghost use Rattle.tera_expect.specs.Taking.{GivesBy, GoesOn, Refuses, Took};
 
-use crate::parts::{finish, tag_expression};
 use crate::settings::Setting;
+use crate::tag_parts::{finish, tag_expression};
 use tera_base::Error;
 use tera_expect::{Fixed, eat, expect};
 use tera_expr_parts::variables;

@@ -5,8 +5,8 @@
 //! proved together, as the cycle `bodies`, and the answers to their goals stand in `proofs/+bodies`.
 //!
 //! In the order of reading: `templates`, the top level; `bodies`; `items`, which `fronts` tells apart; the tags:
-//! `simple`, `blocks`, `loops`, `conditions`, `captures`, and `components` with `parameters`; `heads` and `parts`, what
-//! stands in tags; `settings`, `around`, `names` and `added`, what these hand on; `faults`.
+//! `simple`, `blocks`, `loops`, `conditions`, `captures`, and `components` with `parameters`; `heads` and `tag_parts`,
+//! what stands in tags; `settings`, `around`, `names` and `added`, what these hand on; `faults`.
 #![tactic(auto)]
 
 mod added;
@@ -23,9 +23,9 @@ mod items;
 mod loops;
 mod names;
 mod parameters;
-mod parts;
 mod settings;
 mod simple;
+mod tag_parts;
 mod templates;
 
 pub use names::Names;

@@ -15,7 +15,7 @@ ghost use Rattle.tera_statements.specs.Kinds.{kind_of};
 ghost use Rattle.tera_expr_parts.specs.Rooms.{AreValid, limits_of};
 ghost use Rattle.tera_expect.specs.Taking.{RefusesIn, Took};
 ghost use Rattle.tera_statements.specs.Settings.{bodies_under, limits_under};
-ghost use Rattle.tera_statements.specs.Templates.{Excludes, GivesPhase, GivesTemplate, GivesTextPhase, GivesTop, ReadsTemplate, StandsNext, below_top, phase_if_any, phase_of, weight_of};
+ghost use Rattle.tera_statements.specs.Templates.{Excludes, GivesPhase, GivesTemplate, GivesTextPhase, GivesTop, ReadsTemplate, StandsNext, top_depth, phase_if_any, phase_of, weight_of};
 ghost use Rattle.tera_statements.specs.declared.fronts.Front.TheVariants as fronts;
 ghost use Rattle.tera_statements.specs.declared.fronts.Opener.TheVariants as openers;
 ghost use Rattle.tera_ast.specs.View.{node_view};
@@ -26,9 +26,9 @@ use crate::faults::{again_extended, ignored, late_extended};
 use crate::fronts::{Front, Opener};
 use crate::items::{eat_text, enter, item};
 use crate::names::Names;
-use crate::parts::{quote, unknown_tag};
 use crate::settings::Setting;
 use crate::simple::Extension;
+use crate::tag_parts::{quote, unknown_tag};
 use std::alloc::Global;
 use tera_base::{Error, Span};
 use tera_expr_parts::Limits;
@@ -356,7 +356,7 @@ fn top_item(
 ) -> Result<Option<Added>, Error>
     ensures gives { GivesStep [] result (here names.new cursor.new) (here names.old cursor.old)
         (step (limits_under setting.now)
-        (bodies_under setting.now (below_top (limits_under setting.now))) []
+        (bodies_under setting.now (top_depth (limits_under setting.now))) []
         (here names.old cursor.old).seen (front cursor.old.left)) }
     ensures refusal { IfErr result (RefusesIn cursor.old) }
     ensures empty { IfErr result (λ _. AreEmptyTexts cursor.old.left → ⊥) }

@@ -4,6 +4,7 @@ use Rattle.tera_statements.proofs.ComponentsLemmas.{no_new_name, no_paren, no_pa
 use Rattle.tera_statements.proofs.KnownLemmas.{same_group}
 use Rattle.tera_statements.specs.Known.{grouped_of, located_of}
 use Rattle.tera_expect.proofs.Steps.{failed_as}
+use Rattle.tera_expect.proofs.TakingLemmas.{took_all, took_further}
 use Rattle.tera_statements.proofs.components.opening_tag.Goals as goal
 
 pub returns-in_err-name-clause-gives : goal.returns-in_err-name-clause-gives
@@ -50,3 +51,9 @@ returns-clause-gives c =
       opened_given _ _ _ n _ named _ _ c.in_ok-expect.ensures.gives ps _ listed m _ given f _ ended,
       ((is.0, are.0, holds), component_kept (located_of names.blocks) (located_of names.components) _ (grouped_of names.parameters) _ n ps is.1 kept),
     )
+
+pub returns-clause-later : goal.returns-clause-later
+returns-clause-later c =
+    took_all _ _ _
+    (took_further _ _ _ (took_all _ _ _ (took_all _ _ _ c.in_ok-name.ensures.later c.in_ok-expect.ensures.later) c.in_ok-parameters.ensures.later) c.in_ok-metadata.ensures.later)
+    c.in_ok-finish.ensures.later

@@ -5,7 +5,7 @@ use Rattle.tera_grammar.specs.statements.Reading.Loops.{with_added}
 use Rattle.tera_expr_parts.specs.Rooms.{limits_of}
 use Rattle.tera_statements.specs.Adding.{seen_of}
 use Rattle.tera_tree.specs.Outputs.{output_view}
-use Rattle.tera_statements.specs.Templates.{below_top}
+use Rattle.tera_statements.specs.Templates.{top_depth}
 use Rattle.tera_statements.proofs.RefusalLemmas.{empty_adds}
 use Rattle.tera_statements.proofs.templates.item_phase.Goals as goal
 
@@ -29,4 +29,4 @@ returns-in_err-add-clause-empty c =
     let p = err_from_is_err_and c.from_residual-in_err-add.result c.from_residual-in_err-add.ensures.1 in
     let l = limits_of c.args.setting.now.limits in
     let (i, read, shows, turned) = rw c.in-Some.is at c.in_ok-added.ensures.gives in
-    rw p.1 (λ empty. c.in_err-add.ensures.nothing (shows ∙ empty_adds l (body (below_top l) l) [] (seen_of c.args.names.now) false c.args.cursor.now.left i _ empty read))
+    rw p.1 (λ empty. c.in_err-add.ensures.nothing (shows ∙ empty_adds l (body (top_depth l) l) [] (seen_of c.args.names.now) false c.args.cursor.now.left i _ empty read))

@@ -4,7 +4,7 @@ use Rattle.tera_grammar.specs.statements.Reading.{body}
 use Rattle.tera_grammar.specs.statements.Reading.Loops.{turn, weight}
 use Rattle.tera_statements.specs.Adding.{here, seen_of}
 use Rattle.tera_expr_parts.specs.Rooms.{limits_of}
-use Rattle.tera_statements.specs.Templates.{below_top, phase_if_any, phase_of}
+use Rattle.tera_statements.specs.Templates.{top_depth, phase_if_any, phase_of}
 use Rattle.tera_statements.proofs.RefusalLemmas.{empty_adds, silent_turns}
 use Rattle.tera_statements.proofs.TemplatesLemmas.{fails_excluded, turn_excluded}
 use Rattle.tera_statements.proofs.templates.next_item.Goals as goal
@@ -52,6 +52,6 @@ pub returns-in_default-behind-clause-empty : goal.returns-in_default-behind-clau
 returns-in_default-behind-clause-empty c = λ empty.
     let l = limits_of c.args.setting.now.limits in
     let (i, read, shows) = rw c.in_ok-refuse_extends.ensures.stays at (rw c.in-Some.is at c.in_ok-added.ensures.gives) in
-    let nothing = empty_adds l (body (below_top l) l) [] (seen_of c.args.names.now) false c.args.cursor.now.left i _ empty read in
+    let nothing = empty_adds l (body (top_depth l) l) [] (seen_of c.args.names.now) false c.args.cursor.now.left i _ empty read in
     let turned = ap (turn (phase_of c.args.phase)) (sym (c.weigh.ensures ∙ ap weight shows)) ∙ sym c.behind.ensures ∙ ap phase_if_any c.in_default-behind.is in
     silent_turns (phase_of c.args.phase) (ap (λ a. turn (phase_of c.args.phase) (weight a)) (sym nothing) ∙ turned)

@@ -6,7 +6,7 @@ use Rattle.tera_grammar.proofs.statements.Loops.{topping_ends, topping_left, top
 use Rattle.tera_statements.specs.Adding.{here, seen_of}
 use Rattle.tera_expr_parts.specs.Rooms.{limits_of}
 use Rattle.tera_expect.specs.Taking.{GoesOn}
-use Rattle.tera_statements.specs.Templates.{below_top, phase_of}
+use Rattle.tera_statements.specs.Templates.{top_depth, phase_of}
 use Rattle.tera_tree.specs.Outputs.{output_view}
 use Rattle.tera_expect.proofs.TakingLemmas.{took_size, goes_further, stays, took_goes}
 use Rattle.tera_statements.proofs.RefusalLemmas.{empty_ends, goes_empty, goes_inside, not_both}
@@ -18,7 +18,7 @@ items-init c =
     let l = limits_of c.args.setting.now.limits in
     let ts = c.args.cursor.now.left in
     record {
-      top = topping_starts l (below_top l) (opens l c.args.setting.now.valid) ts (here c.new-names.result c.args.cursor.now) (output_view c.empty-output.result) Starting
+      top = topping_starts l (top_depth l) (opens l c.args.setting.now.valid) ts (here c.new-names.result c.args.cursor.now) (output_view c.empty-output.result) Starting
           c.empty-output.ensures (ap (λ n. at n ts) c.new-names.ensures) refl;
       later = stays c.args.cursor.now;
     }
@@ -35,7 +35,7 @@ items-preserved c =
     let (i, read, shows, turned) = rw c.in-Some.is at c.in_ok-next.ensures.gives in
     let took = rw c.in-Some.is at c.in_ok-next.ensures.later in
     record {
-      top = topping_on l (below_top l) (opens l c.args.setting.now.valid) c.args.cursor.now.left (here c.items.names c.items.cursor) (output_view c.items.output) (phase_of c.items.phase)
+      top = topping_on l (top_depth l) (opens l c.args.setting.now.valid) c.args.cursor.now.left (here c.items.names c.items.cursor) (output_view c.items.output) (phase_of c.items.phase)
           i (here c.next_phase.new.names c.next_phase.new.cursor) (output_view c.next_phase.new.output) c.items.invariant.top read
           shows (phase_of c.in-Some.next) turned;
       later = goes_further _ _ _ c.items.invariant.later (took_goes _ _ took);
@@ -49,7 +49,7 @@ returns-clause-gives c =
     let l = limits_of c.args.setting.now.limits in
     let none = rw c.in_default.is at c.in_ok-next.ensures.gives in
     let left = ap (λ (p : Place). is_end p.tokens) (sym none.1) ∙ sym c.at_end.ensures ∙ c.if-not-at_end.false in
-    let (b, read, shows, named) = topping_ends l (below_top l) (opens l c.args.setting.now.valid) c.args.cursor.now.left (here c.items.names c.items.cursor) (output_view c.items.output)
+    let (b, read, shows, named) = topping_ends l (top_depth l) (opens l c.args.setting.now.valid) c.args.cursor.now.left (here c.items.names c.items.cursor) (output_view c.items.output)
     (phase_of c.items.phase) c.items.invariant.top none.0 left in
     let stays = ap (λ (p : Place). p.seen) none.1 in
     (b, read, none.2 ∙ shows, stays ∙ named)
@@ -59,7 +59,7 @@ returns-then-not-at_end-clause-gives c =
     let l = limits_of c.args.setting.now.limits in
     let none = rw c.in_default.is at c.in_ok-next.ensures.gives in
     let left = ap (λ (p : Place). is_end p.tokens) (sym none.1) ∙ sym c.at_end.ensures ∙ c.if-not-at_end.true in
-    inr (topping_left l (below_top l) (opens l c.args.setting.now.valid) c.args.cursor.now.left (here c.items.names c.items.cursor) (output_view c.items.output) (phase_of c.items.phase)
+    inr (topping_left l (top_depth l) (opens l c.args.setting.now.valid) c.args.cursor.now.left (here c.items.names c.items.cursor) (output_view c.items.output) (phase_of c.items.phase)
     c.items.invariant.top none.0 left)
 
 pub returns-then-not-at_end-clause-refusal : goal.returns-then-not-at_end-clause-refusal
@@ -77,6 +77,6 @@ pub returns-then-not-at_end-clause-empty : goal.returns-then-not-at_end-clause-e
 returns-then-not-at_end-clause-empty c = λ empty.
     let l = limits_of c.args.setting.now.limits in
     let none = rw c.in_default.is at c.in_ok-next.ensures.gives in
-    let ended = empty_ends l (body (below_top l) l) [] (seen_of c.items.names) c.items.cursor.left (goes_empty _ _ c.items.invariant.later empty) none.0 in
+    let ended = empty_ends l (body (top_depth l) l) [] (seen_of c.items.names) c.items.cursor.left (goes_empty _ _ c.items.invariant.later empty) none.0 in
     let left = ap (λ (p : Place). is_end p.tokens) (sym none.1) ∙ sym c.at_end.ensures ∙ c.if-not-at_end.true in
     not_both (sym ended ∙ left)

@@ -1,5 +1,5 @@
 use Rattle.tera_statements.proofs.Tags.{closed_taken}
-use Rattle.tera_statements.proofs.parts.take_closer.Goals as goal
+use Rattle.tera_statements.proofs.tag_parts.take_closer.Goals as goal
 
 pub returns-clause-gives : goal.returns-clause-gives
 returns-clause-gives c =

@@ -3,7 +3,7 @@ use Rattle.tera_lexer.specs.grammar.Tokens.{Token}
 use Rattle.tera_lexer.specs.code.Seen.{seen}
 use Rattle.tera_grammar.specs.expressions.Concrete.{Simple, Escaped}
 use Rattle.tera_grammar.specs.expressions.Reading.Front.{taken_quote}
-use Rattle.tera_statements.proofs.parts.quote.Goals as goal
+use Rattle.tera_statements.proofs.tag_parts.quote.Goals as goal
 
 pub returns-in_ok-from_str-in-Str-clause-gives : goal.returns-in_ok-from_str-in-Str-clause-gives
 returns-in_ok-from_str-in-Str-clause-gives c =

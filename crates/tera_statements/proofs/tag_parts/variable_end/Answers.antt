@@ -1,4 +1,4 @@
-use Rattle.tera_statements.proofs.parts.variable_end.Goals as goal
+use Rattle.tera_statements.proofs.tag_parts.variable_end.Goals as goal
 
 pub returns-then-eat_variable_end-clause-gives : goal.returns-then-eat_variable_end-clause-gives
 returns-then-eat_variable_end-clause-gives c =

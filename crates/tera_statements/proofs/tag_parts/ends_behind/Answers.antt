@@ -2,7 +2,7 @@ use Rattle.std.proofs.Common.{subst}
 use Rattle.tera_lexer.specs.code.Cursors.{SecondIs}
 use Rattle.tera_lexer.specs.code.Seen.{seen}
 use Rattle.tera_lexer.specs.declared.lexer.delimiters.Kind.TheVariants as kind
-use Rattle.tera_statements.proofs.parts.ends_behind.Goals as goal
+use Rattle.tera_statements.proofs.tag_parts.ends_behind.Goals as goal
 
 pub returns-in-Some-VariableEnd : goal.returns-in-Some-VariableEnd
 returns-in-Some-VariableEnd c =

@@ -1,5 +1,5 @@
 use Rattle.std.proofs.lemmas.Result.{err_from_is_err_and}
-use Rattle.tera_statements.proofs.parts.pass.Goals as goal
+use Rattle.tera_statements.proofs.tag_parts.pass.Goals as goal
 
 pub returns-then-skip-clause-passes : goal.returns-then-skip-clause-passes
 returns-then-skip-clause-passes c = rw c.if-skip.true at c.skip.ensures.skips

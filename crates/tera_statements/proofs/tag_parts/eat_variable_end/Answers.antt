@@ -4,7 +4,7 @@ use Rattle.tera_lexer.specs.code.Seen.{seen}
 use Rattle.tera_lexer.specs.declared.lexer.delimiters.Kind.TheVariants as kind
 use Rattle.tera_grammar.specs.statements.Reading.TagParts.{variable_end_of}
 use Rattle.tera_statements.proofs.Tags.{end_eaten}
-use Rattle.tera_statements.proofs.parts.eat_variable_end.Goals as goal
+use Rattle.tera_statements.proofs.tag_parts.eat_variable_end.Goals as goal
 
 pub returns-in-Some-VariableEnd : goal.returns-in-Some-VariableEnd
 returns-in-Some-VariableEnd c =

@@ -1,6 +1,6 @@
 use Rattle.std.proofs.lemmas.Result.{err_from_is_err_and}
 use Rattle.tera_statements.proofs.RefusalLemmas.{untaken_inside}
-use Rattle.tera_statements.proofs.parts.begin_tag.Goals as goal
+use Rattle.tera_statements.proofs.tag_parts.begin_tag.Goals as goal
 
 pub returns-in_err-token-clause-inside : goal.returns-in_err-token-clause-inside
 returns-in_err-token-clause-inside c =

@@ -1,6 +1,6 @@
 use Rattle.tera_grammar.specs.statements.Reading.TagParts.{finish_of, tag}
 use Rattle.tera_expect.proofs.Steps.{passed}
-use Rattle.tera_statements.proofs.parts.closed_tag.Goals as goal
+use Rattle.tera_statements.proofs.tag_parts.closed_tag.Goals as goal
 
 pub returns-clause-gives : goal.returns-clause-gives
 returns-clause-gives c =
