@@ -27,7 +27,7 @@ end
 
 write("templates/base.html", { "<html>{% block body %}{% endblock body %}</html>" })
 write("templates/ui.html", {
-  "{# é 😀 #}{% component ui.box(label: string, size: integer = 3) %}{{ label }}{% endcomponent %}",
+  "{# é 😀 #}{% component ui.box(label: string, size: integer = 3) %}{{ label }}{{ size }}{% endcomponent %}",
 })
 write("templates/page.html", {
   '{% extends "base.html" %}',

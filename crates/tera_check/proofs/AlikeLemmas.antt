@@ -12,6 +12,7 @@ use Rattle.tera_check.specs.Calls.{calls_of}
 use Rattle.tera_check.specs.Findings.{FindingVal}
 use Rattle.tera_check.specs.Judged.{KnownVal, RemarkVal, about, told, refused_for, unless_rest, unknown, refusal, counted, refused, refused_one, is_again, refused_findings, missed, missing_findings, missing_in, judged, repeated_findings, call_findings, again, defined_again, again_findings}
 use Rattle.tera_check.specs.Named.{span_at, tree_findings}
+use Rattle.tera_check.specs.Parameters.{parameter_at, unused_in}
 use Rattle.tera_check.specs.Passed.{NamedVal, PassedVal, OneNamed, Whatever, has_whatever, is_passed, passed_by}
 use Rattle.tera_check.specs.declared.templates.Template.{Template}
 
@@ -112,4 +113,5 @@ module _ (number other : ℕ) (known others : List ℕ → Option KnownVal) wher
   pub tree_alike : (t : Template) (o : Output) → AgreeOn (names_in o) number other known others → tree_findings known number t o ≡ tree_findings others other t o
   tree_alike t o h =
       let (defined, called) = all_append (λ n. AreAlikeIfAny number other (known n) (others n)) (map (λ d. d.name) o.definitions) (flat_map name_called (calls_of o)) h in
-      λ i. definitions_alike (span_at t) 0 o.definitions defined i ++ calls_alike (string_bytes t.file) (calls_of o) called i
+      λ i. definitions_alike (span_at t) 0 o.definitions defined i
+      ++ (flat_map (unused_in (parameter_at t)) o.definitions ++ calls_alike (string_bytes t.file) (calls_of o) called i)

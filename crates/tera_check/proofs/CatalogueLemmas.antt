@@ -1,12 +1,20 @@
 -- The first component of each name, one by one.
 use Rattle.std.proofs.Common.{◌≡◌, ◌∙◌, ◌<◌, ◌+◌, ℕ, suc, List, [], ◌∷◌, ◌++◌, length, drop, get_or, Bool, true, false, cond, Option, None, Some, is_some, refl, sym, ap, arith, drop-cons}
-use Rattle.std.specs.Option.{option_map}
+use Rattle.std.proofs.Common.{Bor, Global, String}
+use Rattle.std.specs.BTreeMap.{BTreeMap}
+use Rattle.std.specs.Option.{option_map, option_copied}
+use Rattle.tera_base.specs.declared.utils.Span.{Span}
+use Rattle.tera_statements.specs.Known.{located_of}
 use Rattle.tera_check.specs.declared.catalogue.Known.{Known}
 use Rattle.std.specs.Str.{bytes_eq}
 use Rattle.std.proofs.lemmas.Slice.Eq.{bytes_eq-Decides}
 use Rattle.tera_check.specs.Judged.{KnownVal, known_view}
 use Rattle.tera_check.specs.Named.{defined_in, defined_by, first_named, or_else}
 use Rattle.tera_check.specs.declared.templates.Template.{Template}
+
+pub parameters_behind : (o : Option (Bor (BTreeMap (String Global) Span))) → option_map (λ names. located_of names.now) o ≡ option_map located_of (option_copied o)
+parameters_behind None = refl
+parameters_behind (Some names) = refl
 
 pub or_none : (o : Option KnownVal) → or_else o None ≡ o
 or_none None = refl
@@ -69,7 +77,7 @@ added known k n name now named none is =
 
 -- ---- a list from one of its places on
 
-drop_next : {X : Type 0} (xs : List X) (i : ℕ) (x : X) → i < length xs → x ≡ get_or xs i x → drop i xs ≡ x ∷ drop (suc i) xs
+pub drop_next : {X : Type 0} (xs : List X) (i : ℕ) (x : X) → i < length xs → x ≡ get_or xs i x → drop i xs ≡ x ∷ drop (suc i) xs
 drop_next xs i x h is = drop-cons xs i x h ∙ ap (λ y. y ∷ drop (suc i) xs) (sym is)
 
 -- templates

@@ -141,10 +141,12 @@ judged_call file known s = rw (call_out (node_of s) (span_of s)) refl
 
 -- ---- a template
 
-pub all_found_in : (start mid end sorted : List Finding) (before calls : List FindingVal)
-    → start ≡ [] → map finding_view mid ≡ map finding_view start ++ before → map finding_view end ≡ map finding_view mid ++ calls → IsPermutation end sorted
-    → IsPermutation (before ++ calls) (map finding_view sorted)
-all_found_in start mid end sorted before calls none first second same =
+pub all_found_in : (start mid more end sorted : List Finding) (before between calls : List FindingVal)
+    → start ≡ [] → map finding_view mid ≡ map finding_view start ++ before → map finding_view more ≡ map finding_view mid ++ between
+    → map finding_view end ≡ map finding_view more ++ calls → IsPermutation end sorted
+    → IsPermutation (before ++ (between ++ calls)) (map finding_view sorted)
+all_found_in start mid more end sorted before between calls none first second third same =
     subst (λ fs. IsPermutation fs (map finding_view sorted))
-    (second ∙ ap (λ fs. fs ++ calls) (first ∙ ap (λ fs. map finding_view fs ++ before) none))
+    (third ∙ ap (λ fs. fs ++ calls) (second ∙ ap (λ fs. fs ++ between) (first ∙ ap (λ fs. map finding_view fs ++ before) none))
+    ∙ append_assoc before between calls)
     (IsPermutation-map finding_view end sorted same)

@@ -22,18 +22,23 @@ use Rattle.tera_tree.specs.Types.{is_of_type}
 use Rattle.tera_tree.specs.View.{definition_view}
 use Rattle.tera_tree.specs.declared.ast.ArgType.{ArgType}
 use Rattle.tera_check.specs.Findings.{NoteVal, NoteOf, FindingVal, FindingOf}
+use Rattle.tera_grammar.specs.statements.Reading.Meeting.{Located}
+use Rattle.tera_statements.specs.Known.{located_of}
+use Rattle.tera_check.specs.Parameters.{located_if_any}
 use Rattle.tera_check.specs.Passed.{NamedVal, PassedVal, OneNamed, Whatever, is_passed, has_whatever, passed_by}
 use Rattle.tera_check.specs.declared.arguments.Remark.{Remark}
 use Rattle.tera_check.specs.declared.catalogue.Known.{Known}
 use Rattle.tera_check.specs.declared.finding.Kind.{Kind}
 use Rattle.tera_check.specs.declared.finding.Kind.TheVariants as kinds
 
--- a component that is known: its definition, the number and the file of its template, and the span of its name there
+-- a component that is known: its definition, the number and the file of its template, and where its name and its
+-- parameters stand there
 pub record KnownVal : Type 0 where
   pub definition : Definition
   pub template : ℕ
   pub file : List ℕ
   pub span : Span
+  pub parameters : Located
 
 abbrev pub known_view : Known → KnownVal
 known_view k = record {
@@ -41,6 +46,7 @@ known_view k = record {
   template = k.template;
   file = k.file.now;
   span = k.span;
+  parameters = located_if_any (option_map (λ names. located_of names.now) k.parameters);
 }
 
 -- a finding about a call of it, with a note that says where it is defined

@@ -8,3 +8,5 @@ pub mod Objects
 pub mod Pending
 pub mod Passed
 pub mod OrderAndStatus
+pub mod Parameters
+pub mod Scopes

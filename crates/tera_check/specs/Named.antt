@@ -13,6 +13,7 @@ use Rattle.tera_tree.specs.View.{definition_view}
 use Rattle.tera_check.specs.Calls.{calls_of}
 use Rattle.tera_check.specs.Findings.{FindingVal, first_span}
 use Rattle.tera_check.specs.Judged.{KnownVal, known_view, call_findings, again_findings}
+use Rattle.tera_check.specs.Parameters.{parameter_at, unused_in}
 use Rattle.tera_check.specs.declared.catalogue.Known.{Known}
 use Rattle.tera_check.specs.declared.templates.Template.{Template}
 
@@ -30,7 +31,13 @@ abbrev pub span_at : Template → ℕ → Span
 span_at t at = slice_index_or t.defined_at.items at first_span
 
 abbrev pub known_at : ℕ → Template → ℕ → Definition → KnownVal
-known_at number t at d = record { definition = d; template = number; file = string_bytes t.file; span = span_at t at }
+known_at number t at d = record {
+  definition = d;
+  template = number;
+  file = string_bytes t.file;
+  span = span_at t at;
+  parameters = parameter_at t d.name;
+}
 
 -- the components of a template: these definitions, from that of a number on
 abbrev pub defined_from : ℕ → Template → ℕ → List Definition → List KnownVal
@@ -60,8 +67,9 @@ abbrev pub or_else : Option KnownVal → Option KnownVal → Option KnownVal
 or_else None other = other
 or_else (Some k) other = Some k
 
--- what is found in a template of a number, by what is known under each name: components that are defined before, and
--- calls
+-- what is found in a template of a number, by what is known under each name: components that are defined before,
+-- parameters that are never used, and calls
 abbrev pub tree_findings : (List ℕ → Option KnownVal) → ℕ → Template → Output → List FindingVal
 tree_findings known number t o =
-    again_findings known number (span_at t) 0 o.definitions ++ flat_map (call_findings (string_bytes t.file) known) (calls_of o)
+    again_findings known number (span_at t) 0 o.definitions
+    ++ (flat_map (unused_in (parameter_at t)) o.definitions ++ flat_map (call_findings (string_bytes t.file) known) (calls_of o))

@@ -22,6 +22,8 @@ pub struct Known<'a> {
     pub file: &'a str,
     /// Where its name stands there: the last part.
     pub span: Span,
+    /// Where its parameters stand there, by their names.
+    pub parameters: Option<&'a BTreeMap<String, Span>>,
 }
 
 /// The components that some templates define, by their names. Of components with one name the first counts.
@@ -77,6 +79,7 @@ fn add_all<'a>(
 }
 
 /// What is known of the template's component of a number, which has this definition; the template has a number too.
+#[tactic(auto, using(crate::proofs::CatalogueLemmas::parameters_behind))]
 pub fn known_at<'a>(
     number: usize,
     template: &'a Template,
@@ -90,6 +93,7 @@ pub fn known_at<'a>(
         template: number,
         file: template.file.as_str(),
         span: defined_at(template, at),
+        parameters: template.parameters_at.get(definition.name.as_str()),
     }
 }
 

@@ -25,6 +25,7 @@ use crate::finding::{Finding, Kind, Note};
 use crate::judged::push_call;
 use crate::messages;
 use crate::messages::defined_again;
+use crate::parameters::push_all_unused;
 use crate::templates::Template;
 use std::alloc::{AllocError, Global};
 use tera_parser::ParserOutput;
@@ -32,7 +33,7 @@ use tera_parser::ast::ComponentCall;
 use tera_parser::value::{Error, Span, Spanned};
 
 /// What is found in the template of this number, in the order of the places: its fault; or the components that a
-/// template before it defines too, and the calls that no component takes.
+/// template before it defines too, the parameters that are never used, and the calls that no component takes.
 pub fn findings_of(
     alloc: Global,
     catalogue: &Catalogue<'_>,
@@ -76,6 +77,7 @@ fn findings_of_tree(
 {
     let mut findings = Vec::new(alloc);
     push_all_again(alloc, &mut findings, catalogue, number, template, output)?;
+    push_all_unused(alloc, &mut findings, template, output)?;
     push_calls(
         alloc,
         &mut findings,

@@ -25,18 +25,21 @@ pub enum Kind {
     WrongType,
     /// A value whose argument is given again in the same call, so that it does not count.
     RepeatedArgument,
+    /// A parameter that nothing in the body of its component names.
+    UnusedParameter,
     /// A component that another template defines first.
     DefinedAgain,
 }
 
 /// All kinds of findings.
-pub const KINDS: [Kind; 7] = [
+pub const KINDS: [Kind; 8] = [
     Kind::Fault,
     Kind::UndefinedComponent,
     Kind::MissingArgument,
     Kind::UnknownArgument,
     Kind::WrongType,
     Kind::RepeatedArgument,
+    Kind::UnusedParameter,
     Kind::DefinedAgain,
 ];
 
@@ -103,6 +106,7 @@ impl Kind {
             Kind::UnknownArgument => "unknown-argument",
             Kind::WrongType => "wrong-type",
             Kind::RepeatedArgument => "repeated-argument",
+            Kind::UnusedParameter => "unused-parameter",
             Kind::DefinedAgain => "defined-again",
         }
     }
@@ -118,7 +122,7 @@ impl Kind {
             | Kind::UnknownArgument
             | Kind::WrongType
             | Kind::DefinedAgain => Severity::Error,
-            Kind::RepeatedArgument => Severity::Warning,
+            Kind::RepeatedArgument | Kind::UnusedParameter => Severity::Warning,
         }
     }
 }

@@ -103,7 +103,7 @@ fn undefined(alloc: Global, span: &Span, name: &str) -> Result<Finding, AllocErr
 }
 
 // The spans of values by the names that are written with them, of each name the first of those that were seen.
-type Spans<'a> = BTreeMap<&'a str, &'a Span>;
+pub(crate) type Spans<'a> = BTreeMap<&'a str, &'a Span>;
 
 // Adds a finding for each value whose argument is written again behind it, at its place, from the last to the first.
 fn push_repeated(
@@ -171,7 +171,7 @@ fn push_under_key<'a>(
 }
 
 // Puts the span under the name, and answers the one that stood there.
-fn put_span<'a>(
+pub(crate) fn put_span<'a>(
     behind: &mut Spans<'a>,
     name: &'a str,
     span: &'a Span,
@@ -201,7 +201,7 @@ fn push_one_repeated(
 }
 
 #[tactic(auto, using(crate::proofs::JudgedLemmas::finding_more))]
-fn push_finding(findings: &mut Vec<Finding>, finding: Finding) -> Result<(), AllocError>
+pub(crate) fn push_finding(findings: &mut Vec<Finding>, finding: Finding) -> Result<(), AllocError>
     ensures { OnOk result (map finding_view findings.new.items
         ≡ map finding_view findings.old.items ++ (finding_view finding ∷ [])) }
 {

@@ -4,10 +4,10 @@
 //! (`tree_findings`); and it writes findings as lines (`lines_of`) or objects of JSON (`object_of`). It stands on
 //! `tera_parser`, and names nothing below that in its code; of the kit on `json`.
 //!
-//! In the order of reading: specs `Findings`, `Calls`, `Passed`, `Judged`, `Named`, `OrderAndStatus`, `Objects`, `Faults`,
-//! `Alike`; `templates`, which reads, and `spans`; `catalogue`; `calls`, over the parts of a tree (specs `Pending`);
-//! `passed`, `arguments` and `judged`, of one call; `checked`, of a template; `messages`, texts; `finding`, `faults`, `lines` and
-//! `objects`; `laws`.
+//! In the order of reading: specs `Findings`, `Calls`, `Passed`, `Judged`, `Parameters`, `Named`, `OrderAndStatus`,
+//! `Objects`, `Faults`, `Alike`; `templates`, which reads, and `spans`; `catalogue`; `calls`, over the parts of a tree
+//! (specs `Pending`); `passed`, `arguments` and `judged`, of one call; `parameters`, of one component (specs `Scopes`);
+//! `checked`, of a template; `messages`, texts; `finding`, `faults`, `lines` and `objects`; `laws`.
 #![tactic(auto)]
 
 mod arguments;
@@ -21,6 +21,7 @@ pub mod laws;
 mod lines;
 mod messages;
 mod objects;
+mod parameters;
 mod passed;
 mod spans;
 mod templates;

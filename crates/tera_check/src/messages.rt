@@ -3,6 +3,7 @@
 
 ghost use Rattle.std.specs.Prelude.{◌≡◌, IfOk, string_bytes};
 ghost use Rattle.tera_check.specs.Judged.{undefined_text, repeated_text, next_text, here_text, again_text, first_text};
+ghost use Rattle.tera_check.specs.Parameters.{unused_text};
 
 use std::alloc::{AllocError, Global};
 
@@ -27,6 +28,17 @@ pub(crate) fn given_again(alloc: Global) -> Result<String, AllocError>
     ensures { IfOk result (λ m. string_bytes m ≡ next_text) }
 {
     String::from_str(alloc, "given again here")
+}
+
+/// That nothing in the body of the component names the parameter.
+pub(crate) fn unused_parameter(
+    alloc: Global,
+    component: &str,
+    name: &str,
+) -> Result<String, AllocError>
+    ensures { IfOk result (λ m. string_bytes m ≡ unused_text component.now name.now) }
+{
+    format!(in alloc; "Parameter `{name}` is never used in the body of component `{component}`")
 }
 
 /// Where the component is defined that is called.

@@ -8,13 +8,15 @@ ghost use Rattle.tera_grammar.specs.statements.Places.{Places};
 ghost use Rattle.tera_grammar.specs.statements.Top.{Derives, DerivesNames};
 ghost use Rattle.tera_parser.specs.Notes.{NotesName};
 ghost use Rattle.tera_parser.specs.Refusal.{Refuses};
-ghost use Rattle.tera_statements.specs.Known.{AreNames};
+ghost use Rattle.tera_grammar.specs.statements.Reading.Meeting.{group_all, nothing_grouped};
+ghost use Rattle.tera_statements.specs.Known.{AreNames, grouped_of};
 ghost use Rattle.tera_tree.specs.Outputs.{output_view};
 ghost use Rattle.tera_tree.specs.Tree.{Output};
 ghost use Rattle.tera_check.specs.Faults.{IsSyntaxError, is_memory};
 
 use crate::spans::spans_of;
 use std::alloc::{AllocError, Global};
+use std::collections::BTreeMap;
 use tera_parser::lexer::Delimiters;
 use tera_parser::value::{Error, ErrorKind, Span};
 use tera_parser::{Names, Parser, ParserOutput};
@@ -29,6 +31,8 @@ pub struct Template {
     /// Where each of its components is defined: the last part of its name, for `ui.button` that is `button`. A template
     /// with a fault defines none.
     pub defined_at: Vec<Span>,
+    /// Where the parameters of each component stand, by the name of the component and their own.
+    pub parameters_at: BTreeMap<String, BTreeMap<String, Span>>,
 }
 
 /// Reads the template in the file of this name. Its fault stands in the answer; that no memory was found is the error.
@@ -43,8 +47,9 @@ pub fn read_template(alloc: Global, file: &str, source: &str) -> Result<Template
     ensures notes { IfOk result (λ t. IfErr t.parsed (NotesName file.now)) }
     ensures places { IfOk result (λ t. MatchResult t.parsed
         (λ o. (names : Places) × DerivesNames usual default_marks source.now (output_view o) names
-        × (t.defined_at.items ≡ map (λ n. n.span) names.components))
-        (λ _. t.defined_at.items ≡ [])) }
+        × (t.defined_at.items ≡ map (λ n. n.span) names.components)
+        × (grouped_of t.parameters_at ≡ group_all names.parameters nothing_grouped))
+        (λ _. (t.defined_at.items ≡ []) × (grouped_of t.parameters_at ≡ nothing_grouped))) }
 {
     let name = String::from_str(alloc, file)?;
     match parsed(alloc, file, source) {
@@ -54,6 +59,7 @@ pub fn read_template(alloc: Global, file: &str, source: &str) -> Result<Template
                 file: name,
                 parsed: Ok(output),
                 defined_at,
+                parameters_at: names.parameters,
             })
         }
         Err(error) => {
@@ -64,6 +70,7 @@ pub fn read_template(alloc: Global, file: &str, source: &str) -> Result<Template
                 file: name,
                 parsed: Err(error),
                 defined_at: Vec::new(alloc),
+                parameters_at: BTreeMap::new(alloc),
             })
         }
     }

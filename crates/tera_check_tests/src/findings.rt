@@ -53,10 +53,13 @@ fn a_line_says_how_grave_it_is(rt: HostRuntime) -> Result<(), Fail> {
 }
 
 #[test]
-fn an_argument_that_is_given_again_is_a_warning(rt: HostRuntime) {
+fn what_is_not_used_is_a_warning(rt: HostRuntime) {
     for kind in &KINDS {
-        let grave = *kind != Kind::RepeatedArgument;
-        assert!(rt; (kind.severity() == Severity::Error) == grave, "{kind:?}");
+        let unused = matches!(kind, Kind::RepeatedArgument | Kind::UnusedParameter);
+        assert!(rt;
+            (kind.severity() == Severity::Warning) == unused,
+            "{kind:?}"
+        );
     }
     assert_eq!(&rt; Severity::Error.name(), "error");
     assert_eq!(&rt; Severity::Warning.name(), "warning");

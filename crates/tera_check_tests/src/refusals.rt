@@ -31,7 +31,9 @@ impl Attempt for Reading<'_> {
 }
 
 fn are_same(one: &Template, other: &Template) -> bool {
-    one.parsed == other.parsed && one.defined_at == other.defined_at
+    one.parsed == other.parsed
+        && one.defined_at == other.defined_at
+        && one.parameters_at == other.parameters_at
 }
 
 fn is_refused(alloc: Global, source: &str) -> Result<bool, AllocError> {

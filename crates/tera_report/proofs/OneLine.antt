@@ -76,6 +76,7 @@ named kinds.MissingArgument = literal (kind_name kinds.MissingArgument) refl
 named kinds.UnknownArgument = literal (kind_name kinds.UnknownArgument) refl
 named kinds.WrongType = literal (kind_name kinds.WrongType) refl
 named kinds.RepeatedArgument = literal (kind_name kinds.RepeatedArgument) refl
+named kinds.UnusedParameter = literal (kind_name kinds.UnusedParameter) refl
 named kinds.DefinedAgain = literal (kind_name kinds.DefinedAgain) refl
 
 commanded : (severity : Severity) → Lacks (command_of severity)

@@ -2,10 +2,12 @@
 use Rattle.std.proofs.Common.{◌≡◌, ℕ, List, map, string_bytes, IfOk, IfErr, MatchResult, [], true, sym, subst}
 use Rattle.tera_grammar.specs.Limits.{usual}
 use Rattle.tera_grammar.specs.statements.Places.{Places}
+use Rattle.tera_grammar.specs.statements.Reading.Meeting.{group_all, nothing_grouped}
 use Rattle.tera_grammar.specs.statements.Top.{Derives, DerivesNames}
 use Rattle.tera_lexer.specs.grammar.Marks.{default_marks}
 use Rattle.tera_parser.specs.Notes.{NotesName}
 use Rattle.tera_parser.specs.Refusal.{Refuses}
+use Rattle.tera_statements.specs.Known.{grouped_of}
 use Rattle.tera_tree.specs.Outputs.{output_view}
 use Rattle.tera_tree.specs.Tree.{Output}
 use Rattle.tera_check.specs.Faults.{IsSyntaxError}
@@ -21,8 +23,9 @@ pub is_read : (name text : List ℕ) (t : Template) → string_bytes t.file ≡ 
     → ((output : Output) → Derives usual default_marks text output → MatchResult t.parsed (λ o. output_view o ≡ output) (λ _. ⊥))
     → IfErr t.parsed IsSyntaxError → IfErr t.parsed (Refuses default_marks text) → IfErr t.parsed (NotesName name)
     → MatchResult t.parsed
-    (λ o. (names : Places) × DerivesNames usual default_marks text (output_view o) names × (t.defined_at.items ≡ map (λ n. n.span) names.components))
-    (λ _. t.defined_at.items ≡ [])
+    (λ o. (names : Places) × DerivesNames usual default_marks text (output_view o) names × (t.defined_at.items ≡ map (λ n. n.span) names.components)
+    × (grouped_of t.parameters_at ≡ group_all names.parameters nothing_grouped))
+    (λ _. (t.defined_at.items ≡ []) × (grouped_of t.parameters_at ≡ nothing_grouped))
     → IsRead (record { name = name; text = text }) t
 is_read name text t file sound complete fault refusal notes places =
     record { file = file; sound = sound; complete = complete; fault = fault; refusal = refusal; notes = notes; places = places }

@@ -11,6 +11,7 @@ use Rattle.tera_check.specs.Alike.{name_called, names_in}
 use Rattle.tera_check.specs.Calls.{calls_of}
 use Rattle.tera_check.specs.Judged.{KnownVal, RemarkVal, about, told, refused_for, unless_rest, unknown, refusal, counted, refused, refused_one, is_again, refused_findings, missed, missing_findings, missing_in, repeated_findings, judged, call_findings, again, defined_again, again_findings}
 use Rattle.tera_check.specs.Named.{span_at, tree_findings}
+use Rattle.tera_check.specs.Parameters.{parameter_at, unused_in}
 use Rattle.tera_check.specs.Passed.{NamedVal, PassedVal, OneNamed, Whatever, has_whatever, is_passed, passed_by}
 use Rattle.tera_check.specs.declared.templates.Template.{Template}
 use Rattle.tera_workspace.specs.Beside.{IsBeside, AreAlikeBut, AreAlikeButIfAny, AgreeBut}
@@ -148,5 +149,8 @@ module _ (file : List ℕ) (number : ℕ) (known others : List ℕ → Option Kn
       → tree_findings known number t o ≡ tree_findings others number t o
   tree_but t o h b =
       let (defined, called) = all_append (λ n. AreAlikeButIfAny file number (known n) (others n)) (map (λ d. d.name) o.definitions) (flat_map name_called (calls_of o)) h in
-      let (here, behind) = all_append (IsBeside file) (again_findings known number (span_at t) 0 o.definitions) (flat_map (call_findings (string_bytes t.file) known) (calls_of o)) b in
-      λ i. definitions_but (span_at t) 0 o.definitions defined here i ++ calls_but (string_bytes t.file) (calls_of o) called behind i
+      let not_used = flat_map (unused_in (parameter_at t)) o.definitions in
+      let calls = flat_map (call_findings (string_bytes t.file) known) (calls_of o) in
+      let (here, more) = all_append (IsBeside file) (again_findings known number (span_at t) 0 o.definitions) (not_used ++ calls) b in
+      let (_, behind) = all_append (IsBeside file) not_used calls more in
+      λ i. definitions_but (span_at t) 0 o.definitions defined here i ++ (not_used ++ calls_but (string_bytes t.file) (calls_of o) called behind i)

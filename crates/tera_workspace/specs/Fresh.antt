@@ -4,10 +4,12 @@ use Rattle.std.specs.List.Sorted.{IsPermutation}
 use Rattle.tera_base.specs.ErrorView.{error_view}
 use Rattle.tera_grammar.specs.Limits.{usual}
 use Rattle.tera_grammar.specs.statements.Places.{Places}
+use Rattle.tera_grammar.specs.statements.Reading.Meeting.{group_all, nothing_grouped}
 use Rattle.tera_grammar.specs.statements.Top.{Derives, DerivesNames}
 use Rattle.tera_lexer.specs.grammar.Marks.{default_marks}
 use Rattle.tera_parser.specs.Notes.{NotesName}
 use Rattle.tera_parser.specs.Refusal.{Refuses}
+use Rattle.tera_statements.specs.Known.{grouped_of}
 use Rattle.tera_tree.specs.Outputs.{output_view}
 use Rattle.tera_tree.specs.Tree.{Output}
 use Rattle.tera_check.specs.Faults.{IsSyntaxError}
@@ -30,8 +32,9 @@ pub record IsRead (s : Source) (t : Template) : Type 0 where
   pub refusal : IfErr t.parsed (Refuses default_marks s.text)
   pub notes : IfErr t.parsed (NotesName s.name)
   pub places : MatchResult t.parsed
-      (λ o. (names : Places) × DerivesNames usual default_marks s.text (output_view o) names × (t.defined_at.items ≡ map (λ n. n.span) names.components))
-      (λ _. t.defined_at.items ≡ [])
+      (λ o. (names : Places) × DerivesNames usual default_marks s.text (output_view o) names × (t.defined_at.items ≡ map (λ n. n.span) names.components)
+      × (grouped_of t.parameters_at ≡ group_all names.parameters nothing_grouped))
+      (λ _. (t.defined_at.items ≡ []) × (grouped_of t.parameters_at ≡ nothing_grouped))
 
 -- what is found in the template of a number beside all of these, as `findings_of` gives it
 abbrev pub IsFound : List Template → ℕ → Template → List Finding → Type 0

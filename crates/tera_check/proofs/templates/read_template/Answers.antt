@@ -1,4 +1,5 @@
-use Rattle.std.proofs.Common.{◌∙◌}
+use Rattle.std.proofs.Common.{◌∙◌, ap}
+use Rattle.tera_grammar.specs.statements.Reading.Meeting.{Seen}
 use Rattle.tera_grammar.proofs.statements.Wholes.{names_derived}
 use Rattle.tera_check.proofs.FaultLemmas.{apart}
 use Rattle.tera_check.proofs.SpansLemmas.{spans_are}
@@ -17,4 +18,4 @@ returns-else-is_memory-clause-complete c = λ output d.
 pub returns-in_ok-defined_at-in-Ok-clause-places : goal.returns-in_ok-defined_at-in-Ok-clause-places
 returns-in_ok-defined_at-in-Ok-clause-places c =
     let (ns, read, named) = c.in-Ok.ensures.sound in
-    (ns, read, c.in_ok-defined_at-in-Ok.ensures ∙ spans_are _ _ _ _ ns c.in-Ok.names read named)
+    (ns, read, c.in_ok-defined_at-in-Ok.ensures ∙ spans_are _ _ _ _ ns c.in-Ok.names read named, ap (λ (s : Seen). s.parameters) named)
