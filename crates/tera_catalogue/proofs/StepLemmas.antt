@@ -6,7 +6,7 @@ pub on_ok : {T E P Q : Type 0} (r : Result T E) → OnOk r P → (P → Q) → O
 on_ok (Ok x) p f = f p
 on_ok (Err e) p f = p
 
-before : {A : Type 0} (start now last a rest : List A) → now ≡ start ++ a → last ≡ now ++ rest → last ≡ start ++ (a ++ rest)
+pub before : {A : Type 0} (start now last a rest : List A) → now ≡ start ++ a → last ≡ now ++ rest → last ≡ start ++ (a ++ rest)
 before start now last a rest first behind = behind ∙ ap (λ ts. ts ++ rest) first ∙ append_assoc start a rest
 
 pub three : {A : Type 0} (start t u v a b c : List A) → t ≡ start ++ a → u ≡ t ++ b → v ≡ u ++ c → v ≡ start ++ (a ++ (b ++ c))
@@ -28,6 +28,11 @@ pub seven : {A : Type 0} (start t u v w x y z a b c d e f g : List A) → t ≡ 
     → z ≡ start ++ (a ++ (b ++ (c ++ (d ++ (e ++ (f ++ g))))))
 seven start t u v w x y z a b c d e f g h1 h2 h3 h4 h5 h6 h7 =
     before start t z a (b ++ (c ++ (d ++ (e ++ (f ++ g))))) h1 (six t u v w x y z b c d e f g h2 h3 h4 h5 h6 h7)
+
+pub eight : {A : Type 0} (start s t u v w x y z a b c d e f g h : List A) → s ≡ start ++ a → t ≡ s ++ b → u ≡ t ++ c → v ≡ u ++ d → w ≡ v ++ e → x ≡ w ++ f → y ≡ x ++ g → z ≡ y ++ h
+    → z ≡ start ++ (a ++ (b ++ (c ++ (d ++ (e ++ (f ++ (g ++ h)))))))
+eight start s t u v w x y z a b c d e f g h h1 h2 h3 h4 h5 h6 h7 h8 =
+    before start s z a (b ++ (c ++ (d ++ (e ++ (f ++ (g ++ h)))))) h1 (seven s t u v w x y z b c d e f g h h2 h3 h4 h5 h6 h7 h8)
 
 -- one more of a list, of which the rest is to come
 pub map_next : {X Y A : Type 0} (f : Y → List A) (g : X → Y) (xs : List X) (i : ℕ) (x : X) (before now all : List A) → i < length xs → x ≡ get_or xs i x

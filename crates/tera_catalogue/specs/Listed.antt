@@ -1,31 +1,48 @@
 -- The components that are listed, and their order.
 use Rattle.std.specs.Prelude.{ℕ, List, [], ◌∷◌, Bool, true, false}
+use Rattle.std.specs.BTreeMap.{get_by_text}
 use Rattle.std.specs.Cmp.Lexicographic.{slice_cmp}
 use Rattle.std.specs.List.Sorted.{IsSortedByKey}
+use Rattle.std.specs.Option.{option_map}
 use Rattle.std.specs.Ordering.{nat_cmp, ordering_then}
 use Rattle.std.specs.declared.cmp.Ordering.{Ordering}
 use Rattle.tera_check.specs.Findings.{place_of}
 use Rattle.tera_check.specs.Judged.{KnownVal}
+use Rattle.tera_check.specs.Parameters.{located_if_any}
 use Rattle.tera_check.specs.declared.finding.Place.{Place}
+use Rattle.tera_grammar.specs.statements.Reading.Meeting.{Located}
 use Rattle.tera_tree.specs.Infos.{Info, info_of, info_view}
 use Rattle.tera_catalogue.specs.declared.components.Component.{Component}
 
--- a component: what is told of it, whether its body holds something, and where it is defined
+-- a component: what is told of it, whether its body holds something, where it is defined, and where its parameters stand
 pub record ListedVal : Type 0 where
   pub info : Info
   pub has_body : Bool
   pub file : List ℕ
   pub place : Place
+  pub parameters : Located
 
 abbrev pub has_some : {X : Type 0} → List X → Bool
 has_some [] = false
 has_some (x ∷ xs) = true
 
 abbrev pub listed : KnownVal → ListedVal
-listed k = record { info = info_of k.definition; has_body = has_some k.definition.body; file = k.file; place = place_of k.span }
+listed k = record {
+  info = info_of k.definition;
+  has_body = has_some k.definition.body;
+  file = k.file;
+  place = place_of k.span;
+  parameters = k.parameters;
+}
 
 abbrev pub listed_view : Component → ListedVal
-listed_view c = record { info = info_view c.info; has_body = c.has_body; file = c.file.now; place = c.place }
+listed_view c = record {
+  info = info_view c.info;
+  has_body = c.has_body;
+  file = c.file.now;
+  place = c.place;
+  parameters = located_if_any (option_map (λ spans name. get_by_text spans.now name) c.parameters);
+}
 
 -- by name, then by file, each in the order of bytes, then by line and column
 abbrev pub Rank : Type 0

@@ -13,9 +13,11 @@ ghost use Rattle.tera_catalogue.specs.Offered.{IsOffered};
 use crate::offers::offered;
 use std::alloc::{AllocError, Global};
 use std::cmp::Ordering;
+use std::collections::BTreeMap;
 use tera_check::{Known, Place, Template, known_at};
 use tera_parser::ParserOutput;
 use tera_parser::ast::{ComponentDefinition, ComponentInfo};
+use tera_parser::value::Span;
 
 /// A component that is listed.
 #[derive(Drop)]
@@ -28,6 +30,8 @@ pub struct Component<'a> {
     pub file: &'a str,
     /// Where it is defined there.
     pub place: Place,
+    /// Where its parameters stand there, by their names.
+    pub parameters: Option<&'a BTreeMap<String, Span>>,
     /// A call of it to copy, unless the parser refuses it.
     pub call: Option<String>,
 }
@@ -73,6 +77,7 @@ fn component_of<'a>(alloc: Global, known: &Known<'a>) -> Result<Component<'a>, A
         has_body: !known.definition.body.is_empty(),
         file: known.file,
         place: Place::of(&known.span),
+        parameters: known.parameters,
         call,
     })
 }

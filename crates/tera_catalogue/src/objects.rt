@@ -6,8 +6,9 @@ ghost use Rattle.json.specs.Layout.{pretty};
 ghost use Rattle.tera_base.specs.ValueView.{value_view};
 ghost use Rattle.tera_check.specs.Objects.{text_member, number_member};
 ghost use Rattle.tera_tree.specs.Definitions.{named_value};
-ghost use Rattle.tera_tree.specs.Infos.{arg_view, info_view, shown_type_name};
-ghost use Rattle.tera_catalogue.specs.Objects.{maybe_member, truth_member, default_member, parameter, parameters_member, named, metadata_member, place_members, info_members, object_of, catalogue_tokens};
+ghost use Rattle.tera_tree.specs.Infos.{arg_view, shown_type_name};
+ghost use Rattle.tera_catalogue.specs.Listed.{listed_view};
+ghost use Rattle.tera_catalogue.specs.Objects.{maybe_member, truth_member, place_members, parameter_place, default_member, parameter, parameters_member, rest_members, named, metadata_member, info_members, object_of, catalogue_tokens};
 
 use crate::components::Component;
 use crate::values::write_constant;
@@ -15,8 +16,8 @@ use json::{Pretty, Token};
 use std::alloc::{AllocError, Global};
 use std::collections::BTreeMap;
 use tera_check::Place;
-use tera_parser::ast::{ComponentArg, ComponentInfo};
-use tera_parser::value::Value;
+use tera_parser::ast::ComponentArg;
+use tera_parser::value::{Span, Value};
 
 /// The components as an array of JSON, an object for each, with a line for each member.
 pub fn json_of(alloc: Global, components: &[Component<'_>]) -> Result<Vec<u8>, AllocError>
@@ -42,46 +43,38 @@ fn write_component(
 {
     writer.token(Token::BeginObject)?;
     write_text(writer, "name", component.info.name())?;
-    write_place(alloc, writer, component.file, component.place)?;
-    write_info(alloc, writer, &component.info)?;
+    write_text(writer, "file", component.file)?;
+    write_place(alloc, writer, "line", "column", component.place)?;
+    write_info(alloc, writer, component)?;
     write_truth(writer, "body", component.has_body)?;
     write_maybe(writer, "call", call_to_copy(component))?;
     writer.token(Token::EndObject)
 }
 
-fn write_place(
+fn write_info(
     alloc: Global,
     writer: &mut Pretty,
-    file: &str,
-    place: Place,
+    component: &Component<'_>,
 ) -> Result<(), AllocError>
-    ensures { OnOk result (writer.new ≡ writer.old ++ place_members file.now place) }
+    ensures { OnOk result (writer.new ≡ writer.old ++ info_members (listed_view component.now)) }
 {
-    write_text(writer, "file", file)?;
-    write_number(alloc, writer, "line", place.line)?;
-    write_number(alloc, writer, "column", place.column)
-}
-
-fn write_info(alloc: Global, writer: &mut Pretty, info: &ComponentInfo) -> Result<(), AllocError>
-    ensures { OnOk result (writer.new ≡ writer.old ++ info_members (info_view info.now)) }
-{
-    write_parameters(alloc, writer, info.args())?;
-    write_maybe(writer, "rest", info.rest_param())?;
-    write_metadata(alloc, writer, info.metadata())
+    write_parameters(alloc, writer, component)?;
+    write_rest(alloc, writer, component, component.info.rest_param())?;
+    write_metadata(alloc, writer, component.info.metadata())
 }
 
 fn write_parameters(
     alloc: Global,
     writer: &mut Pretty,
-    arguments: &[ComponentArg],
+    component: &Component<'_>,
 ) -> Result<(), AllocError>
     ensures { OnOk result (writer.new
-        ≡ writer.old ++ parameters_member (map arg_view arguments.now)) }
+        ≡ writer.old ++ parameters_member (listed_view component.now)) }
 {
     writer.token(Token::Key("parameters"))?;
     writer.token(Token::BeginArray)?;
-    for argument in arguments {
-        write_parameter(alloc, writer, argument)?;
+    for argument in component.info.args() {
+        write_parameter(alloc, writer, component, argument)?;
     }
     writer.token(Token::EndArray)
 }
@@ -89,17 +82,56 @@ fn write_parameters(
 fn write_parameter(
     alloc: Global,
     writer: &mut Pretty,
+    component: &Component<'_>,
     argument: &ComponentArg,
 ) -> Result<(), AllocError>
-    ensures { OnOk result (writer.new ≡ writer.old ++ parameter (arg_view argument.now)) }
+    ensures { OnOk result (writer.new
+        ≡ writer.old ++ parameter (listed_view component.now) (arg_view argument.now)) }
 {
+    let place = parameter_place(component, argument.name());
     writer.token(Token::BeginObject)?;
     write_text(writer, "name", argument.name())?;
+    write_place(alloc, writer, "line", "column", place)?;
     write_maybe(writer, "type", type_name(argument))?;
     write_truth(writer, "required", argument.is_required())?;
     write_truth(writer, "implicit", argument.is_implicit())?;
     write_default(alloc, writer, argument.default())?;
     writer.token(Token::EndObject)
+}
+
+fn write_rest(
+    alloc: Global,
+    writer: &mut Pretty,
+    component: &Component<'_>,
+    rest: Option<&str>,
+) -> Result<(), AllocError>
+    ensures { OnOk result (writer.new ≡ writer.old
+        ++ rest_members (listed_view component.now) (option_map (λ t. t.now) rest.entry)) }
+{
+    match rest {
+        Some(name) => {
+            let place = parameter_place(component, name);
+            write_text(writer, "rest", name)?;
+            write_place(alloc, writer, "rest_line", "rest_column", place)
+        }
+        None => write_maybe(writer, "rest", None),
+    }
+}
+
+// Where the parameter of this name stands; where that is not known, where the file begins.
+fn parameter_place(component: &Component<'_>, name: &str) -> Place
+    ensures { result ≡ parameter_place (listed_view component.now) name.now }
+{
+    match parameter_span(component, name) {
+        Some(span) => Place::of(span),
+        None => Place::first(),
+    }
+}
+
+fn parameter_span<'c>(component: &'c Component<'_>, name: &str) -> Option<&'c Span>
+    ensures { option_map (λ s. s.now) result ≡ (listed_view component.now).parameters name.now }
+{
+    component.parameters?.get(name)
 }
 
 fn write_default(
@@ -190,6 +222,19 @@ fn write_truth(writer: &mut Pretty, name: &str, truth: bool) -> Result<(), Alloc
 {
     writer.token(Token::Key(name))?;
     writer.token(Token::Bool(truth))
+}
+
+fn write_place(
+    alloc: Global,
+    writer: &mut Pretty,
+    line: &str,
+    column: &str,
+    place: Place,
+) -> Result<(), AllocError>
+    ensures { OnOk result (writer.new ≡ writer.old ++ place_members line.now column.now place) }
+{
+    write_number(alloc, writer, line, place.line)?;
+    write_number(alloc, writer, column, place.column)
 }
 
 fn write_number(

@@ -57,6 +57,7 @@ fn a_value_that_is_no_constant_is_a_text(rt: HostRuntime) -> Result<(), Fail> {
         has_body: false,
         file: "by_hand.html",
         place: Place::first(),
+        parameters: None,
     };
     let json = json_of(rt.alloc(), &[component])?;
     assert_eq!(rt; json.as_slice(), WANTED.as_bytes());
