@@ -1,5 +1,5 @@
 //! Tests of what a server of editors stands on, and that knows nothing of templates: texts and their edits, documents,
-//! URIs of files, frames of a stream, messages, and the values in them.
+//! URIs of files, frames of a stream, and messages.
 #![tactic(auto)]
 
 #[cfg(test)]
@@ -12,5 +12,3 @@ mod messages;
 mod texts;
 #[cfg(test)]
 mod uris;
-#[cfg(test)]
-mod values;

@@ -1,5 +1,4 @@
-//! Messages: what bytes are read as, what is written, and with little memory.
+//! Messages with little memory, and the ids that are found then.
 
 mod memory;
 mod reading;
-mod writing;

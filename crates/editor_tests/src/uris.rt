@@ -1,3 +1,3 @@
-//! URIs of files: how names are written, and which names URIs give.
+//! URIs of files: how names are written.
 
 mod naming;

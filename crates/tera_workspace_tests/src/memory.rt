@@ -6,9 +6,9 @@ use std::test::Fail;
 use tera_workspace::Workspace;
 use text_edits::{Change, Encoding, Position};
 
-const DEFINING: &str = "{% component box(size) %}{{<lid/>}}{% endcomponent %}";
+const DEFINING: &str = "{% component box() %}{{<lid/>}}{% endcomponent %}";
 
-const CALLING: &str = "{{<box/>}}";
+const CALLING: &str = "{{<box x/>}}";
 
 // Opens two documents and changes the first.
 #[derive(Drop)]
@@ -41,6 +41,6 @@ fn told(alloc: Global) -> Result<(usize, usize), AllocError> {
 fn each_request_of_memory_may_be_refused(rt: HostRuntime) -> Result<(), Fail> {
     let verdict = refuse(rt.alloc(), &Telling)?;
     let is_refused = matches!(verdict, Verdict::Refused(n) if n > 0);
-    assert!(rt; is_refused);
+    assert!(rt; is_refused, "{verdict:?}");
     Ok(())
 }

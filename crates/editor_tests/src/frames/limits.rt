@@ -43,27 +43,6 @@ fn beyond_the_limit(rt: HostRuntime) -> Result<(), Fail> {
     Ok(())
 }
 
-// Whether the reader waits behind each of these bytes.
-fn waits_at_each(alloc: Global, frames: &mut Frames, bytes: &[u8]) -> Result<bool, AllocError> {
-    for byte in bytes {
-        frames.push(&[*byte])?;
-        if !waits(alloc, frames)? {
-            return Ok(false);
-        }
-    }
-    Ok(true)
-}
-
-#[test]
-fn behind_the_limit(rt: HostRuntime) -> Result<(), Fail> {
-    let mut frames = Frames::new(rt.alloc(), 1);
-    assert!(rt; waits_at_each(rt.alloc(), &mut frames, b"Content-Length: 2\r\n\r\n{")?);
-    frames.push(b"}Content-Length: 1\r\n\r\n!")?;
-    assert!(rt; is_too_long(rt.alloc(), &mut frames, 2)?);
-    assert!(rt; gives(rt.alloc(), &mut frames, b"!")?);
-    Ok(())
-}
-
 #[test]
 fn passed_over(rt: HostRuntime) -> Result<(), Fail> {
     let mut frames = Frames::new(rt.alloc(), 2);

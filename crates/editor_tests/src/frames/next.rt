@@ -7,10 +7,6 @@ pub(crate) fn waits(alloc: Global, frames: &mut Frames) -> Result<bool, AllocErr
     Ok(matches!(frames.next(alloc)?, Frame::Wait))
 }
 
-pub(crate) fn is_bad(alloc: Global, frames: &mut Frames) -> Result<bool, AllocError> {
-    Ok(matches!(frames.next(alloc)?, Frame::Bad))
-}
-
 /// Whether it is this message, and nothing more behind it.
 pub(crate) fn gives(
     alloc: Global,

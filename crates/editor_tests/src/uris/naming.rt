@@ -1,6 +1,6 @@
-//! Names, and their URIs.
+//! Names as URIs.
 
-use file_uris::{name_of, reference_of, uri_of};
+use file_uris::{reference_of, uri_of};
 use std::test::Fail;
 
 #[test]
@@ -11,24 +11,5 @@ fn names_are_written(rt: HostRuntime) -> Result<(), Fail> {
     assert_eq!(rt; other.as_str(), "untitled:One");
     let reference = reference_of(rt.alloc(), "a/b?.html")?;
     assert_eq!(rt; reference.as_str(), "a/b%3F.html");
-    Ok(())
-}
-
-#[test]
-fn uris_give_names(rt: HostRuntime) -> Result<(), Fail> {
-    for (uri, name) in [
-        ("file:///a%20b/%c3%A9.html", "/a b/é.html"),
-        ("file:///100%", "/100%"),
-        ("file:///%4", "/%4"),
-        ("file:///%zz%41", "/%zzA"),
-        // What is no path from the root, or no text, is the name itself.
-        ("file://host/a", "file://host/a"),
-        ("file:///%ff", "file:///%ff"),
-        ("untitled:One", "untitled:One"),
-        ("", ""),
-    ] {
-        let found = name_of(rt.alloc(), uri)?;
-        assert_eq!(rt; found.as_str(), name);
-    }
     Ok(())
 }
