@@ -5,8 +5,9 @@ use Rattle.std.specs.List.{list_any}
 use Rattle.std.proofs.lemmas.List.Folds.{list_any-append}
 use Rattle.std.proofs.Common.{◌<◌, ◌+◌, suc, length, drop, get_or, append_assoc, arith}
 use Rattle.std.specs.List.{flat_map}
-use Rattle.tera_tree.specs.Tree.{Definition}
-use Rattle.tera_tree.specs.View.{definition_view}
+use Rattle.tera_tree.specs.Tree.{Argument, Definition}
+use Rattle.tera_tree.specs.View.{argument_view, definition_view}
+use Rattle.tera_tree.specs.declared.ast.ComponentArgument.{ComponentArgument}
 use Rattle.tera_tree.specs.declared.ast.ComponentDefinition.{ComponentDefinition}
 use Rattle.tera_check.specs.Findings.{FindingVal}
 use Rattle.tera_check.proofs.CatalogueLemmas.{drop_next}
@@ -21,7 +22,6 @@ use Rattle.tera_ast.specs.declared.ast.Expression as expressions
 use Rattle.tera_ast.specs.declared.ast.Expression.{Expression, the_lemmas}
 use Rattle.tera_ast.specs.declared.ast.Node as nodes
 use Rattle.tera_ast.specs.declared.ast.Node.{Node}
-use Rattle.tera_ast.specs.declared.ast.ComponentCall.{ComponentCall as Call}
 use Rattle.tera_ast.specs.declared.ast.BlockSet.{BlockSet as CodeBlockSet}
 use Rattle.tera_ast.specs.declared.ast.If.{If as Choice}
 use Rattle.tera_ast.specs.declared.ast.FilterSection.{FilterSection as Section}
@@ -38,14 +38,14 @@ use Rattle.tera_ast.specs.declared.ast.UnaryOperationOf.{UnaryOperationOf}
 use Rattle.tera_ast.specs.declared.ast.BinaryOperationOf.{BinaryOperationOf}
 use Rattle.tera_ast.specs.declared.ast.SetOf.{SetOf}
 use Rattle.tera_ast.specs.declared.ast.BlockOf.{BlockOf}
-use Rattle.tera_ast.proofs.Views.{view_const, view_array, view_map, view_get_attr, view_get_item, view_slice, view_filter, view_test, view_ternary, view_component_call, call_out, view_function_call, view_unary, view_binary, view_set, view_block, view_block_set, block_set_out, view_if, if_out, view_section, section_out, view_shown}
+use Rattle.tera_ast.proofs.Views.{view_const, view_array, view_map, view_get_attr, view_get_item, view_slice, view_filter, view_test, view_ternary, view_function_call, view_unary, view_binary, view_set, view_block, view_block_set, block_set_out, view_if, if_out, view_section, section_out, view_shown}
 use Rattle.tera_tree.specs.declared.parts.Part.{Part}
 use Rattle.tera_ast.specs.Tree.{Expr, Const, Array, Map, Var, GetAttr, GetItem, Slice, Filter, Test, Ternary, ListComprehension, ComponentCall, FunctionCall, UnaryOperation, BinaryOperation}
 use Rattle.tera_ast.specs.Tree.{MaybeExpr, NoExpr, OneExpr, Filters, NoFilters, OneFilter, Args, NoArgs, Arg, Items, NoItems, Item, SpreadItem, Entries, NoEntries, Entry, SpreadEntry}
 use Rattle.tera_ast.specs.Tree.{Stmt, Content, Shown, Set, BlockSet, Include, Block, ForLoop, Break, Continue, If, FilterSection, Nodes, NoNodes, OneNode}
 use Rattle.tera_tree.specs.Parts.{part_view, PartVal, NodePart, ExpressionPart, parts_view, parts_of_maybe, parts_of_filters, parts_of_args, parts_of_items, parts_of_entries, parts_of_nodes, parts_in_expression, parts_in_node}
-use Rattle.tera_check.specs.Parameters.{names_in, names_in_maybe, names_in_filters, names_in_args, names_in_items, names_in_entries, names_in_node, names_in_nodes}
-use Rattle.tera_check.specs.Scopes.{is_hidden, names_in_part, names_in_parts, names_in_scope, is_to_come}
+use Rattle.tera_check.specs.Parameters.{named_in, named_in_maybe, named_in_filters, named_in_args, named_in_items, named_in_entries, named_in_node, named_in_nodes}
+use Rattle.tera_check.specs.Scopes.{is_hidden, named_in_part, named_in_parts, named_in_scope, is_to_come}
 use Rattle.tera_check.specs.declared.parameters.Scope.{Scope}
 
 -- ---- sums of truths
@@ -54,11 +54,7 @@ pub or_false : (a : Bool) → (a || false) ≡ a
 or_false true = refl
 or_false false = refl
 
-pub or_assoc : (a b c : Bool) → ((a || b) || c) ≡ (a || (b || c))
-or_assoc true b c = refl
-or_assoc false b c = refl
-
--- what a loop, a comprehension, a variable and an `include` add behind others
+-- what a loop adds behind others
 pub loop_sum : (s p t b o : Bool) → ((s || b) || ((p || t) || o)) ≡ (s || (p || (t || (b || o))))
 loop_sum true p t b o = refl
 loop_sum false true t true o = refl
@@ -68,36 +64,12 @@ loop_sum false false true false o = refl
 loop_sum false false false true o = refl
 loop_sum false false false false o = refl
 
-pub list_sum : (s p e t c : Bool) → ((s || (e || c)) || (p || t)) ≡ (s || (p || (e || (t || c))))
-list_sum true p e t c = refl
-list_sum false true true t c = refl
-list_sum false true false t true = refl
-list_sum false true false t false = refl
-list_sum false false true t c = refl
-list_sum false false false true true = refl
-list_sum false false false true false = refl
-list_sum false false false false true = refl
-list_sum false false false false false = refl
-
-pub variable_sum : (a v s p : Bool) → ((a || v) || (s || p)) ≡ (a || (s || (p || v)))
-variable_sum true v s p = refl
-variable_sum false true true p = refl
-variable_sum false true false true = refl
-variable_sum false true false false = refl
-variable_sum false false true p = refl
-variable_sum false false false p = sym (or_false p)
-
-pub include_sum : (a s p : Bool) → true ≡ (a || (s || (p || true)))
-include_sum true s p = refl
-include_sum false true p = refl
-include_sum false false true = refl
-include_sum false false false = refl
-
 -- ---- expressions and nodes that give no name and are none
 
 abbrev IsPlain : Expr → Type 0
 IsPlain (Var name span) = ⊥
 IsPlain (ListComprehension e key value target condition span) = ⊥
+IsPlain (ComponentCall name es body closed span) = ⊥
 IsPlain _ = Unit {0}
 
 abbrev IsPlainNode : Stmt → Type 0
@@ -126,10 +98,9 @@ PlainArm x =
     ⊎ (((s : Spanned (FilterOf Expression)) × (x ≡ expressions.Filter s))
     ⊎ (((s : Spanned (TestOf Expression)) × (x ≡ expressions.Test s))
     ⊎ (((s : Spanned (TernaryOf Expression)) × (x ≡ expressions.Ternary s))
-    ⊎ (((s : Spanned Call) × (x ≡ expressions.ComponentCall s))
     ⊎ (((s : Spanned (FunctionCallOf Expression)) × (x ≡ expressions.FunctionCall s))
     ⊎ (((s : Spanned (UnaryOperationOf Expression)) × (x ≡ expressions.UnaryOperation s))
-    ⊎ (((s : Spanned (BinaryOperationOf Expression)) × (x ≡ expressions.BinaryOperation s)))))))))))))))
+    ⊎ (((s : Spanned (BinaryOperationOf Expression)) × (x ≡ expressions.BinaryOperation s))))))))))))))
 
 is_plain : (x : Expression) → PlainArm x → IsPlain (expression_view x)
 is_plain x (inl (s, is)) = rw (is, view_const s) tt
@@ -141,10 +112,9 @@ is_plain x (inr (inr (inr (inr (inr (inl (s, is))))))) = rw (is, view_slice s) t
 is_plain x (inr (inr (inr (inr (inr (inr (inl (s, is)))))))) = rw (is, view_filter s) tt
 is_plain x (inr (inr (inr (inr (inr (inr (inr (inl (s, is))))))))) = rw (is, view_test s) tt
 is_plain x (inr (inr (inr (inr (inr (inr (inr (inr (inl (s, is)))))))))) = rw (is, view_ternary s) tt
-is_plain x (inr (inr (inr (inr (inr (inr (inr (inr (inr (inl (s, is))))))))))) = rw (is, view_component_call s, call_out (node_of s) (span_of s)) tt
-is_plain x (inr (inr (inr (inr (inr (inr (inr (inr (inr (inr (inl (s, is)))))))))))) = rw (is, view_function_call s) tt
-is_plain x (inr (inr (inr (inr (inr (inr (inr (inr (inr (inr (inr (inl (s, is))))))))))))) = rw (is, view_unary s) tt
-is_plain x (inr (inr (inr (inr (inr (inr (inr (inr (inr (inr (inr (inr (s, is))))))))))))) = rw (is, view_binary s) tt
+is_plain x (inr (inr (inr (inr (inr (inr (inr (inr (inr (inl (s, is))))))))))) = rw (is, view_function_call s) tt
+is_plain x (inr (inr (inr (inr (inr (inr (inr (inr (inr (inr (inl (s, is)))))))))))) = rw (is, view_unary s) tt
+is_plain x (inr (inr (inr (inr (inr (inr (inr (inr (inr (inr (inr (s, is)))))))))))) = rw (is, view_binary s) tt
 
 abbrev pub PlainNodeArm : Node → Type 0
 PlainNodeArm x =
@@ -173,82 +143,82 @@ is_plain_node x (inr (inr (inr (inr (inr (inr (inr (inr (s, is))))))))) = rw (is
 
 module _ (hidden : Bool) (n : List ℕ) where
   abbrev any : List PartVal → Bool
-  any ps = names_in_parts hidden n ps
+  any ps = named_in_parts hidden n ps
 
   pub both : (ps qs : List PartVal) (some more : Bool) → any ps ≡ some → any qs ≡ more → any (ps ++ qs) ≡ (some || more)
-  both ps qs some more h k = list_any-append (names_in_part hidden n) ps qs ∙ (λ i. h i || k i)
+  both ps qs some more h k = list_any-append (named_in_part hidden n) ps qs ∙ (λ i. h i || k i)
 
-  pub in_maybe : (e : MaybeExpr) → any (parts_of_maybe e) ≡ names_in_maybe hidden n e
+  pub in_maybe : (e : MaybeExpr) → any (parts_of_maybe e) ≡ named_in_maybe hidden n e
   in_maybe NoExpr = refl
-  in_maybe (OneExpr e) = or_false (names_in hidden n e)
+  in_maybe (OneExpr e) = or_false (named_in hidden n e)
 
-  in_filters : (es : Filters) → any (parts_of_filters es) ≡ names_in_filters hidden n es
+  in_filters : (es : Filters) → any (parts_of_filters es) ≡ named_in_filters hidden n es
   in_filters NoFilters = refl
-  in_filters (OneFilter e es) = ap (λ b. names_in hidden n e || b) (in_filters es)
+  in_filters (OneFilter e es) = ap (λ b. named_in hidden n e || b) (in_filters es)
 
-  in_args : (args : Args) → any (parts_of_args args) ≡ names_in_args hidden n args
+  in_args : (args : Args) → any (parts_of_args args) ≡ named_in_args hidden n args
   in_args NoArgs = refl
-  in_args (Arg name e more) = ap (λ b. names_in hidden n e || b) (in_args more)
+  in_args (Arg name e more) = ap (λ b. named_in hidden n e || b) (in_args more)
 
-  in_items : (es : Items) → any (parts_of_items es) ≡ names_in_items hidden n es
+  in_items : (es : Items) → any (parts_of_items es) ≡ named_in_items hidden n es
   in_items NoItems = refl
-  in_items (Item e es) = ap (λ b. names_in hidden n e || b) (in_items es)
-  in_items (SpreadItem e es) = ap (λ b. names_in hidden n e || b) (in_items es)
+  in_items (Item e es) = ap (λ b. named_in hidden n e || b) (in_items es)
+  in_items (SpreadItem e es) = ap (λ b. named_in hidden n e || b) (in_items es)
 
-  in_entries : (es : Entries) → any (parts_of_entries es) ≡ names_in_entries hidden n es
+  in_entries : (es : Entries) → any (parts_of_entries es) ≡ named_in_entries hidden n es
   in_entries NoEntries = refl
-  in_entries (Entry k e es) = ap (λ b. names_in hidden n e || b) (in_entries es)
-  in_entries (SpreadEntry e es) = ap (λ b. names_in hidden n e || b) (in_entries es)
+  in_entries (Entry k e es) = ap (λ b. named_in hidden n e || b) (in_entries es)
+  in_entries (SpreadEntry e es) = ap (λ b. named_in hidden n e || b) (in_entries es)
 
-  pub in_nodes : (ns : Nodes) → any (parts_of_nodes ns) ≡ names_in_nodes hidden n ns
+  pub in_nodes : (ns : Nodes) → any (parts_of_nodes ns) ≡ named_in_nodes hidden n ns
   in_nodes NoNodes = refl
-  in_nodes (OneNode s ss) = ap (λ b. names_in_node hidden n s || b) (in_nodes ss)
+  in_nodes (OneNode s ss) = ap (λ b. named_in_node hidden n s || b) (in_nodes ss)
 
-  in_filtered : (es : Filters) (ns : Nodes) → any (parts_of_filters es ++ parts_of_nodes ns) ≡ (names_in_filters hidden n es || names_in_nodes hidden n ns)
+  in_filtered : (es : Filters) (ns : Nodes) → any (parts_of_filters es ++ parts_of_nodes ns) ≡ (named_in_filters hidden n es || named_in_nodes hidden n ns)
   in_filtered es ns = both (parts_of_filters es) (parts_of_nodes ns) _ _ (in_filters es) (in_nodes ns)
 
-  in_bodies : (ns ms : Nodes) → any (parts_of_nodes ns ++ parts_of_nodes ms) ≡ (names_in_nodes hidden n ns || names_in_nodes hidden n ms)
+  in_bodies : (ns ms : Nodes) → any (parts_of_nodes ns ++ parts_of_nodes ms) ≡ (named_in_nodes hidden n ns || named_in_nodes hidden n ms)
   in_bodies ns ms = both (parts_of_nodes ns) (parts_of_nodes ms) _ _ (in_nodes ns) (in_nodes ms)
 
   -- an expression but a variable and a comprehension
-  in_plain : (e : Expr) → IsPlain e → any (parts_in_expression e) ≡ names_in hidden n e
+  in_plain : (e : Expr) → IsPlain e → any (parts_in_expression e) ≡ named_in hidden n e
   in_plain (Const v span) is = refl
   in_plain (Array es span) is = in_items es
   in_plain (Map es span) is = in_entries es
   in_plain (Var name span) is = absurd is
-  in_plain (GetAttr e name optional span) is = or_false (names_in hidden n e)
-  in_plain (GetItem e sub optional span) is = ap (λ c. names_in hidden n e || c) (or_false (names_in hidden n sub))
+  in_plain (GetAttr e name optional span) is = or_false (named_in hidden n e)
+  in_plain (GetItem e sub optional span) is = ap (λ c. named_in hidden n e || c) (or_false (named_in hidden n sub))
   in_plain (Slice e start end step optional span) is =
-      ap (λ c. names_in hidden n e || c)
+      ap (λ c. named_in hidden n e || c)
       (both (parts_of_maybe start) (parts_of_maybe end ++ parts_of_maybe step) _ _ (in_maybe start)
       (both (parts_of_maybe end) (parts_of_maybe step) _ _ (in_maybe end) (in_maybe step)))
-  in_plain (Filter e name args span) is = ap (λ c. names_in hidden n e || c) (in_args args)
-  in_plain (Test e name args span) is = ap (λ c. names_in hidden n e || c) (in_args args)
-  in_plain (Ternary e given other span) is = ap (λ c. names_in hidden n given || (names_in hidden n e || c)) (or_false (names_in hidden n other))
+  in_plain (Filter e name args span) is = ap (λ c. named_in hidden n e || c) (in_args args)
+  in_plain (Test e name args span) is = ap (λ c. named_in hidden n e || c) (in_args args)
+  in_plain (Ternary e given other span) is = ap (λ c. named_in hidden n given || (named_in hidden n e || c)) (or_false (named_in hidden n other))
   in_plain (ListComprehension e key value target condition span) is = absurd is
-  in_plain (ComponentCall name es body closed span) is = both (parts_of_entries es) (parts_of_nodes body) _ _ (in_entries es) (in_nodes body)
+  in_plain (ComponentCall name es body closed span) is = absurd is
   in_plain (FunctionCall name args span) is = in_args args
-  in_plain (UnaryOperation op e span) is = or_false (names_in hidden n e)
-  in_plain (BinaryOperation op l r span) is = ap (λ c. names_in hidden n l || c) (or_false (names_in hidden n r))
+  in_plain (UnaryOperation op e span) is = or_false (named_in hidden n e)
+  in_plain (BinaryOperation op l r span) is = ap (λ c. named_in hidden n l || c) (or_false (named_in hidden n r))
 
   -- a node but an `include` and a loop
-  in_plain_node : (s : Stmt) → IsPlainNode s → any (parts_in_node s) ≡ names_in_node hidden n s
+  in_plain_node : (s : Stmt) → IsPlainNode s → any (parts_in_node s) ≡ named_in_node hidden n s
   in_plain_node (Content t) is = refl
-  in_plain_node (Shown e) is = or_false (names_in hidden n e)
-  in_plain_node (Set name e global) is = or_false (names_in hidden n e)
+  in_plain_node (Shown e) is = or_false (named_in hidden n e)
+  in_plain_node (Set name e global) is = or_false (named_in hidden n e)
   in_plain_node (BlockSet name filters body global) is = in_filtered filters body
   in_plain_node (Include name span) is = absurd is
   in_plain_node (Block name span body) is = in_nodes body
   in_plain_node (ForLoop key value target body other) is = absurd is
   in_plain_node Break is = refl
   in_plain_node Continue is = refl
-  in_plain_node (If e body other) is = ap (λ c. names_in hidden n e || c) (in_bodies body other)
+  in_plain_node (If e body other) is = ap (λ c. named_in hidden n e || c) (in_bodies body other)
   in_plain_node (FilterSection filters body) is = in_filtered filters body
 
-  pub plain_expression : (x : Expression) → PlainArm x → any (parts_in_expression (expression_view x)) ≡ names_in hidden n (expression_view x)
+  pub plain_expression : (x : Expression) → PlainArm x → any (parts_in_expression (expression_view x)) ≡ named_in hidden n (expression_view x)
   plain_expression x arm = in_plain (expression_view x) (is_plain x arm)
 
-  pub plain_node : (x : Node) → PlainNodeArm x → any (parts_in_node (node_view x)) ≡ names_in_node hidden n (node_view x)
+  pub plain_node : (x : Node) → PlainNodeArm x → any (parts_in_node (node_view x)) ≡ named_in_node hidden n (node_view x)
   plain_node x arm = in_plain_node (node_view x) (is_plain_node x arm)
 
   -- what stands in a part is put behind others
@@ -260,14 +230,14 @@ module _ (hidden : Bool) (n : List ℕ) where
   pushed old new p b is h = ap (λ ps. any (parts_view ps)) is ∙ ap any (map-append part_view old (p ∷ [])) ∙ both (parts_view old) (parts_view (p ∷ [])) _ _ refl h
 
 -- one scope more
-pub scope_more : (n : List ℕ) (ss new : List Scope) (s : Scope) (b : Bool) → new ≡ ss ++ s ∷ [] → names_in_scope n s ≡ b → is_to_come n new ≡ (is_to_come n ss || b)
-scope_more n ss new s b is h = ap (is_to_come n) is ∙ list_any-append (names_in_scope n) ss (s ∷ []) ∙ ap (λ c. is_to_come n ss || c) (or_false _ ∙ h)
+pub scope_more : (n : List ℕ) (ss new : List Scope) (s : Scope) (b : Bool) → new ≡ ss ++ s ∷ [] → named_in_scope n s ≡ b → is_to_come n new ≡ (is_to_come n ss || b)
+scope_more n ss new s b is h = ap (is_to_come n) is ∙ list_any-append (named_in_scope n) ss (s ∷ []) ∙ ap (λ c. is_to_come n ss || c) (or_false _ ∙ h)
 
 -- where memory was found, what stands in a part is to come in place of it
 pub put_ok : {E : Type 0} (named to_come hidden : List ℕ → Bool) (old new : List Part) (more : List PartVal) (b : List ℕ → Bool) (r : Result (Unit {0}) E)
-    → OnOk r (parts_view new ≡ parts_view old ++ more) → ((n : List ℕ) → names_in_parts (hidden n) n more ≡ b n)
-    → OnOk r ((n : List ℕ) → (named n || (to_come n || names_in_parts (hidden n) n (parts_view new)))
-    ≡ (named n || (to_come n || (names_in_parts (hidden n) n (parts_view old) || b n))))
+    → OnOk r (parts_view new ≡ parts_view old ++ more) → ((n : List ℕ) → named_in_parts (hidden n) n more ≡ b n)
+    → OnOk r ((n : List ℕ) → (named n || (to_come n || named_in_parts (hidden n) n (parts_view new)))
+    ≡ (named n || (to_come n || (named_in_parts (hidden n) n (parts_view old) || b n))))
 put_ok named to_come hidden old new more b (Ok u) is h = λ n. ap (λ c. named n || (to_come n || c)) (put_behind (hidden n) n old new more (b n) is (h n))
 put_ok named to_come hidden old new more b (Err e) is h = is
 
@@ -282,3 +252,16 @@ definition_next found start now later ds i d h is held step =
     rw next
     (held ∙ ap (λ es. now ++ flat_map found (map definition_view es)) (drop_next ds i d h is)
     ∙ sym (append_assoc now (found (definition_view d)) more) ∙ ap (λ fs. fs ++ more) (sym step))
+
+-- ---- what is found of arguments, one by one
+
+abbrev pub CodeArgument : Type 0
+CodeArgument = String Global × ComponentArgument
+
+pub argument_next : (found : List ℕ × Argument → List FindingVal) (start now later : List FindingVal) (entries rest : List CodeArgument) (e : CodeArgument)
+    → entries ≡ e ∷ rest → start ≡ now ++ flat_map found (map (λ a. (string_bytes a.0, argument_view a.1)) entries) → later ≡ now ++ found (string_bytes e.0, argument_view e.1)
+    → start ≡ later ++ flat_map found (map (λ a. (string_bytes a.0, argument_view a.1)) rest)
+argument_next found start now later entries rest e is held step =
+    let more = flat_map found (map (λ (a : CodeArgument). (string_bytes a.0, argument_view a.1)) rest) in
+    held ∙ ap (λ es. now ++ flat_map found (map (λ (a : CodeArgument). (string_bytes a.0, argument_view a.1)) es)) is
+    ∙ sym (append_assoc now (found (string_bytes e.0, argument_view e.1)) more) ∙ ap (λ fs. fs ++ more) (sym step)

@@ -18,7 +18,7 @@ use Rattle.tera_grammar.specs.statements.Trees.{IsRight}
 use Rattle.tera_statements.specs.Known.{AreNames, located_of}
 use Rattle.tera_statements.specs.declared.names.Names.{Names}
 use Rattle.tera_tree.specs.Tree.{Output}
-use Rattle.tera_check.specs.Named.{span_if_any}
+use Rattle.tera_check.specs.Findings.{span_if_any}
 
 -- a name that is none of these stands where it stood
 untouched : (text : List ℕ) (ns : List Name) (f : Located) → AllByRecursion (λ t. text ≢ t) (texts ns) → locate_all ns f text ≡ f text

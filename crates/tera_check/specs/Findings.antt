@@ -1,5 +1,5 @@
 -- Findings, and the lines that are written of them.
-use Rattle.std.specs.Prelude.{◌≡◌, ◌+◌, ◌-◌, ◌^◌, ℕ, List, [], ◌∷◌, ◌++◌, map, codes, string_bytes, min, nat_eq, if◌then◌else◌}
+use Rattle.std.specs.Prelude.{Option, None, Some, ◌≡◌, ◌+◌, ◌-◌, ◌^◌, ℕ, List, [], ◌∷◌, ◌++◌, map, codes, string_bytes, min, nat_eq, if◌then◌else◌}
 use Rattle.std.specs.Fmt.{decimal}
 use Rattle.std.specs.List.{flat_map}
 use Rattle.tera_base.specs.ErrorView.{ErrorVal, NoMemory, Saying, Reporting, ReportVal, ReportOf}
@@ -20,6 +20,11 @@ place_of s = record { line = s.start_line; column = min (s.start_col + 1) (2 ^ 6
 -- the span of nothing, where a file begins
 abbrev pub first_span : Span
 first_span = record { start_line = 1; start_col = 0; end_line = 1; end_col = 0; range = record { start = 0; end = 0 } }
+
+-- the span of a name; the beginning of the file where that is not known
+abbrev pub span_if_any : Option Span → Span
+span_if_any None = first_span
+span_if_any (Some span) = span
 
 -- the word for a kind
 abbrev pub kind_name : Kind → List ℕ

@@ -21,11 +21,6 @@ use Rattle.tera_check.specs.declared.templates.Template.{Template}
 abbrev pub known_in : BTreeMap (String Global) Known → List ℕ → Option KnownVal
 known_in catalogue n = option_map known_view (get_by_text catalogue n)
 
--- the span of a name; the beginning of the file where that is not known
-abbrev pub span_if_any : Option Span → Span
-span_if_any None = first_span
-span_if_any (Some span) = span
-
 -- the span of the name of a template's component of a number, from 0; the beginning of the file where that is not known
 abbrev pub span_at : Template → ℕ → Span
 span_at t at = slice_index_or t.defined_at.items at first_span

@@ -10,7 +10,7 @@ use Rattle.tera_ast.specs.Tree.{Stmt, Content, Shown, Set, BlockSet, Include, Bl
 use Rattle.tera_statements.specs.Known.{grouped_of}
 use Rattle.tera_grammar.specs.statements.Reading.Meeting.{Located, nothing_located}
 use Rattle.tera_tree.specs.Tree.{Argument, Definition}
-use Rattle.tera_check.specs.Findings.{FindingVal, FindingOf}
+use Rattle.tera_check.specs.Findings.{FindingVal, FindingOf, span_if_any}
 use Rattle.tera_check.specs.declared.finding.Kind.TheVariants as kinds
 use Rattle.tera_check.specs.declared.templates.Template.{Template}
 
@@ -27,67 +27,68 @@ abbrev pub variable_names : Bool → List ℕ → List ℕ → Bool
 variable_names hidden n name = bytes_eq name all_variables || not hidden && bytes_eq name n
 
 -- A parameter of this name is named: by a variable of its name, but where a loop or a comprehension around gives that
--- name to its items (there it is hidden); by the variable that shows all; and by an `include`, since the template
--- that is included has the variables of this one. A `set` gives the variable another value, and names nothing.
+-- name to its items (there it is hidden); by the variable that shows all; by an `include`, since the template that is
+-- included has the variables of this one; and by a call of a component, which may take from them what it is not given.
+-- A `set` gives the variable another value, and names nothing.
 abbrev mutual
-  pub names_in : Bool → List ℕ → Expr → Bool
-  names_in hidden n (Const v span) = false
-  names_in hidden n (Array es span) = names_in_items hidden n es
-  names_in hidden n (Map es span) = names_in_entries hidden n es
-  names_in hidden n (Var name span) = variable_names hidden n name
-  names_in hidden n (GetAttr e name optional span) = names_in hidden n e
-  names_in hidden n (GetItem e sub optional span) = names_in hidden n e || names_in hidden n sub
-  names_in hidden n (Slice e start end step optional span) =
-      names_in hidden n e || (names_in_maybe hidden n start || (names_in_maybe hidden n end || names_in_maybe hidden n step))
-  names_in hidden n (Filter e name args span) = names_in hidden n e || names_in_args hidden n args
-  names_in hidden n (Test e name args span) = names_in hidden n e || names_in_args hidden n args
-  names_in hidden n (Ternary e given other span) = names_in hidden n given || (names_in hidden n e || names_in hidden n other)
-  names_in hidden n (ListComprehension e key value target condition span) =
-      names_in (hidden || binds key value n) n e || (names_in hidden n target || names_in_maybe (hidden || binds key value n) n condition)
-  names_in hidden n (ComponentCall name es body closed span) = names_in_entries hidden n es || names_in_nodes hidden n body
-  names_in hidden n (FunctionCall name args span) = names_in_args hidden n args
-  names_in hidden n (UnaryOperation op e span) = names_in hidden n e
-  names_in hidden n (BinaryOperation op l r span) = names_in hidden n l || names_in hidden n r
+  pub named_in : Bool → List ℕ → Expr → Bool
+  named_in hidden n (Const v span) = false
+  named_in hidden n (Array es span) = named_in_items hidden n es
+  named_in hidden n (Map es span) = named_in_entries hidden n es
+  named_in hidden n (Var name span) = variable_names hidden n name
+  named_in hidden n (GetAttr e name optional span) = named_in hidden n e
+  named_in hidden n (GetItem e sub optional span) = named_in hidden n e || named_in hidden n sub
+  named_in hidden n (Slice e start end step optional span) =
+      named_in hidden n e || (named_in_maybe hidden n start || (named_in_maybe hidden n end || named_in_maybe hidden n step))
+  named_in hidden n (Filter e name args span) = named_in hidden n e || named_in_args hidden n args
+  named_in hidden n (Test e name args span) = named_in hidden n e || named_in_args hidden n args
+  named_in hidden n (Ternary e given other span) = named_in hidden n given || (named_in hidden n e || named_in hidden n other)
+  named_in hidden n (ListComprehension e key value target condition span) =
+      named_in (hidden || binds key value n) n e || (named_in hidden n target || named_in_maybe (hidden || binds key value n) n condition)
+  named_in hidden n (ComponentCall name es body closed span) = true
+  named_in hidden n (FunctionCall name args span) = named_in_args hidden n args
+  named_in hidden n (UnaryOperation op e span) = named_in hidden n e
+  named_in hidden n (BinaryOperation op l r span) = named_in hidden n l || named_in hidden n r
 
-  pub names_in_maybe : Bool → List ℕ → MaybeExpr → Bool
-  names_in_maybe hidden n NoExpr = false
-  names_in_maybe hidden n (OneExpr e) = names_in hidden n e
+  pub named_in_maybe : Bool → List ℕ → MaybeExpr → Bool
+  named_in_maybe hidden n NoExpr = false
+  named_in_maybe hidden n (OneExpr e) = named_in hidden n e
 
-  pub names_in_filters : Bool → List ℕ → Filters → Bool
-  names_in_filters hidden n NoFilters = false
-  names_in_filters hidden n (OneFilter e es) = names_in hidden n e || names_in_filters hidden n es
+  pub named_in_filters : Bool → List ℕ → Filters → Bool
+  named_in_filters hidden n NoFilters = false
+  named_in_filters hidden n (OneFilter e es) = named_in hidden n e || named_in_filters hidden n es
 
-  pub names_in_args : Bool → List ℕ → Args → Bool
-  names_in_args hidden n NoArgs = false
-  names_in_args hidden n (Arg name e more) = names_in hidden n e || names_in_args hidden n more
+  pub named_in_args : Bool → List ℕ → Args → Bool
+  named_in_args hidden n NoArgs = false
+  named_in_args hidden n (Arg name e more) = named_in hidden n e || named_in_args hidden n more
 
-  pub names_in_items : Bool → List ℕ → Items → Bool
-  names_in_items hidden n NoItems = false
-  names_in_items hidden n (Item e es) = names_in hidden n e || names_in_items hidden n es
-  names_in_items hidden n (SpreadItem e es) = names_in hidden n e || names_in_items hidden n es
+  pub named_in_items : Bool → List ℕ → Items → Bool
+  named_in_items hidden n NoItems = false
+  named_in_items hidden n (Item e es) = named_in hidden n e || named_in_items hidden n es
+  named_in_items hidden n (SpreadItem e es) = named_in hidden n e || named_in_items hidden n es
 
-  pub names_in_entries : Bool → List ℕ → Entries → Bool
-  names_in_entries hidden n NoEntries = false
-  names_in_entries hidden n (Entry k e es) = names_in hidden n e || names_in_entries hidden n es
-  names_in_entries hidden n (SpreadEntry e es) = names_in hidden n e || names_in_entries hidden n es
+  pub named_in_entries : Bool → List ℕ → Entries → Bool
+  named_in_entries hidden n NoEntries = false
+  named_in_entries hidden n (Entry k e es) = named_in hidden n e || named_in_entries hidden n es
+  named_in_entries hidden n (SpreadEntry e es) = named_in hidden n e || named_in_entries hidden n es
 
-  pub names_in_node : Bool → List ℕ → Stmt → Bool
-  names_in_node hidden n (Content t) = false
-  names_in_node hidden n (Shown e) = names_in hidden n e
-  names_in_node hidden n (Set name e global) = names_in hidden n e
-  names_in_node hidden n (BlockSet name filters body global) = names_in_filters hidden n filters || names_in_nodes hidden n body
-  names_in_node hidden n (Include name span) = true
-  names_in_node hidden n (Block name span body) = names_in_nodes hidden n body
-  names_in_node hidden n (ForLoop key value target body other) =
-      names_in hidden n target || (names_in_nodes (hidden || binds key value n) n body || names_in_nodes hidden n other)
-  names_in_node hidden n Break = false
-  names_in_node hidden n Continue = false
-  names_in_node hidden n (If e body other) = names_in hidden n e || (names_in_nodes hidden n body || names_in_nodes hidden n other)
-  names_in_node hidden n (FilterSection filters body) = names_in_filters hidden n filters || names_in_nodes hidden n body
+  pub named_in_node : Bool → List ℕ → Stmt → Bool
+  named_in_node hidden n (Content t) = false
+  named_in_node hidden n (Shown e) = named_in hidden n e
+  named_in_node hidden n (Set name e global) = named_in hidden n e
+  named_in_node hidden n (BlockSet name filters body global) = named_in_filters hidden n filters || named_in_nodes hidden n body
+  named_in_node hidden n (Include name span) = true
+  named_in_node hidden n (Block name span body) = named_in_nodes hidden n body
+  named_in_node hidden n (ForLoop key value target body other) =
+      named_in hidden n target || (named_in_nodes (hidden || binds key value n) n body || named_in_nodes hidden n other)
+  named_in_node hidden n Break = false
+  named_in_node hidden n Continue = false
+  named_in_node hidden n (If e body other) = named_in hidden n e || (named_in_nodes hidden n body || named_in_nodes hidden n other)
+  named_in_node hidden n (FilterSection filters body) = named_in_filters hidden n filters || named_in_nodes hidden n body
 
-  pub names_in_nodes : Bool → List ℕ → Nodes → Bool
-  names_in_nodes hidden n NoNodes = false
-  names_in_nodes hidden n (OneNode s ss) = names_in_node hidden n s || names_in_nodes hidden n ss
+  pub named_in_nodes : Bool → List ℕ → Nodes → Bool
+  named_in_nodes hidden n NoNodes = false
+  named_in_nodes hidden n (OneNode s ss) = named_in_node hidden n s || named_in_nodes hidden n ss
 
 -- where a template has the parameters of a component, by the name of the component and their own
 abbrev pub located_if_any : Option Located → Located
@@ -105,12 +106,8 @@ unused_text component name =
 abbrev pub unused : List ℕ → List ℕ → Span → FindingVal
 unused component name span = FindingOf kinds.UnusedParameter span (unused_text component name) []
 
-abbrev pub unused_at : List ℕ → List ℕ → Option Span → List FindingVal
-unused_at component name None = []
-unused_at component name (Some span) = unused component name span ∷ []
-
 abbrev pub unused_if : Definition → (List ℕ → Bool) → Located → List ℕ → List FindingVal
-unused_if d named at name = if named name then [] else unused_at d.name name (at name)
+unused_if d named at name = if named name then [] else unused d.name name (span_if_any (at name)) ∷ []
 
 -- the arguments of a component, in the order of their names, and its rest parameter
 abbrev pub unused_rest : Definition → (List ℕ → Bool) → Located → Option (List ℕ) → List FindingVal
@@ -121,4 +118,4 @@ abbrev pub unused_of : Definition → (List ℕ → Bool) → Located → List F
 unused_of d named at = flat_map (λ a. unused_if d named at a.0) d.arguments ++ unused_rest d named at d.rest
 
 abbrev pub unused_in : (List ℕ → Located) → Definition → List FindingVal
-unused_in places d = unused_of d (λ n. names_in_nodes false n (nodes_of d.body)) (places d.name)
+unused_in places d = unused_of d (λ n. named_in_nodes false n (nodes_of d.body)) (places d.name)

@@ -33,7 +33,7 @@ use tera_parser::ast::ComponentCall;
 use tera_parser::value::{Error, Span, Spanned};
 
 /// What is found in the template of this number, in the order of the places: its fault; or the components that a
-/// template before it defines too, the parameters that are never used, and the calls that no component takes.
+/// template before it defines too, the parameters that are never used, and what is found of its calls.
 pub fn findings_of(
     alloc: Global,
     catalogue: &Catalogue<'_>,

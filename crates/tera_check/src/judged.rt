@@ -102,7 +102,7 @@ fn undefined(alloc: Global, span: &Span, name: &str) -> Result<Finding, AllocErr
     })
 }
 
-// The spans of values by the names that are written with them, of each name the first of those that were seen.
+// Spans under names: of each name that which was put there last.
 pub(crate) type Spans<'a> = BTreeMap<&'a str, &'a Span>;
 
 // Adds a finding for each value whose argument is written again behind it, at its place, from the last to the first.

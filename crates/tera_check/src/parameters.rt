@@ -8,13 +8,14 @@ ghost use Rattle.tera_ast.specs.View.{expression_view, node_view, nodes_view, na
 ghost use Rattle.tera_ast.specs.declared.ast.ForLoop.{out-ForLoop};
 ghost use Rattle.tera_tree.specs.Parts.{part_view, parts_view, parts_of_nodes, parts_of_maybe, ExpressionPart};
 ghost use Rattle.tera_tree.specs.View.{definition_view};
-ghost use Rattle.tera_check.specs.Findings.{finding_view};
-ghost use Rattle.tera_check.specs.Parameters.{binds, variable_names, names_in, names_in_node, names_in_nodes, names_in_maybe, parameter_at, unused, unused_at, unused_if, unused_of, unused_rest, unused_in};
-ghost use Rattle.tera_check.specs.Scopes.{is_hidden, names_in_part, names_in_parts, names_in_scope, is_to_come, is_named};
+ghost use Rattle.tera_check.specs.Findings.{finding_view, span_if_any};
+ghost use Rattle.tera_check.specs.Parameters.{binds, variable_names, named_in, named_in_node, named_in_nodes, named_in_maybe, parameter_at, unused, unused_if, unused_of, unused_rest, unused_in};
+ghost use Rattle.tera_check.specs.Scopes.{is_hidden, named_in_part, named_in_parts, named_in_scope, is_to_come, is_named};
 
 use crate::finding::{Finding, Kind};
 use crate::judged::{Spans, push_finding, put_span};
 use crate::messages::unused_parameter;
+use crate::spans::first_span;
 use crate::templates::Template;
 use std::alloc::{AllocError, Global};
 use std::collections::BTreeMap;
@@ -108,25 +109,32 @@ fn push_if_unused(
         return Ok(());
     }
     let component = definition.name.as_str();
+    let span = place_of(template, component, name);
+    push_finding(findings, unused(alloc, component, name, span)?)
+}
+
+// Where the parameter of the component stands; where the template has none, its beginning.
+fn place_of(template: &Template, component: &str, name: &str) -> Span
+    ensures { result ≡ span_if_any (parameter_at template.now component.now name.now) }
+{
     match parameter_at(template, component, name) {
-        Some(span) => push_finding(findings, unused(alloc, component, name, span)?),
-        None => Ok(()),
+        Some(span) => span.copied(),
+        None => first_span(),
     }
 }
 
-// Where the parameter of the component stands.
 fn parameter_at<'a>(template: &'a Template, component: &str, name: &str) -> Option<&'a Span>
     ensures { option_map (λ s. s.now) result ≡ parameter_at template.now component.now name.now }
 {
     template.parameters_at.get(component)?.get(name)
 }
 
-fn unused(alloc: Global, component: &str, name: &str, span: &Span) -> Result<Finding, AllocError>
-    ensures { IfOk result (λ f. finding_view f ≡ unused component.now name.now span.now) }
+fn unused(alloc: Global, component: &str, name: &str, span: Span) -> Result<Finding, AllocError>
+    ensures { IfOk result (λ f. finding_view f ≡ unused component.now name.now span) }
 {
     Ok(Finding {
         kind: Kind::UnusedParameter,
-        span: span.copied(),
+        span,
         message: unused_parameter(alloc, component, name)?,
         notes: Vec::new(alloc),
     })
@@ -157,7 +165,7 @@ struct Scope<'a> {
 // What the body names. One of more parts than a `u64` counts, which no memory holds, is answered as want of memory.
 fn naming_of<'a>(alloc: Global, body: &'a Vec<Node>) -> Result<Naming<'a>, AllocError>
     ensures { IfOk result (λ s. (n : List ℕ) → is_named s n
-        ≡ names_in_nodes false n (nodes_view body.now.items)) }
+        ≡ named_in_nodes false n (nodes_view body.now.items)) }
 {
     let mut naming = Naming {
         all: false,
@@ -179,8 +187,8 @@ fn scope_of<'a>(
     hidden: Vec<&'a str>,
     body: &'a Vec<Node>,
 ) -> Result<Scope<'a>, AllocError>
-    ensures { IfOk result (λ s. (n : List ℕ) → names_in_scope n s
-        ≡ names_in_nodes (is_hidden hidden.entry.items n) n (nodes_view body.now.items)) }
+    ensures { IfOk result (λ s. (n : List ℕ) → named_in_scope n s
+        ≡ named_in_nodes (is_hidden hidden.entry.items n) n (nodes_view body.now.items)) }
 {
     let mut parts = Vec::new(alloc);
     push_nodes(&mut parts, body)?;
@@ -196,7 +204,7 @@ fn take_last<'a>(
 ) -> Result<(), AllocError>
     ensures { OnOk result ((n : List ℕ) → (is_named naming.new n || is_to_come n scopes.new.items)
         ≡ (is_named naming.old n
-        || (is_to_come n scopes.old.items || names_in_scope n scope.entry))) }
+        || (is_to_come n scopes.old.items || named_in_scope n scope.entry))) }
 {
     let inside = &mut scope;
     match inside.parts.pop() {
@@ -227,10 +235,10 @@ fn take<'a>(
 ) -> Result<(), AllocError>
     ensures { OnOk result ((n : List ℕ) → (let h = is_hidden hidden.now.items n in
         (is_named naming.new n || (is_to_come n scopes.new.items
-        || names_in_parts h n (parts_view parts.new.items)))
+        || named_in_parts h n (parts_view parts.new.items)))
         ≡ (is_named naming.old n || (is_to_come n scopes.old.items
-        || (names_in_parts h n (parts_view parts.old.items)
-        || names_in_part h n (part_view part.entry)))))) }
+        || (named_in_parts h n (parts_view parts.old.items)
+        || named_in_part h n (part_view part.entry)))))) }
 {
     match part {
         Part::Node(node) => take_node(alloc, naming, scopes, hidden, parts, node),
@@ -250,10 +258,10 @@ fn take_node<'a>(
 ) -> Result<(), AllocError>
     ensures { OnOk result ((n : List ℕ) → (let h = is_hidden hidden.now.items n in
         (is_named naming.new n || (is_to_come n scopes.new.items
-        || names_in_parts h n (parts_view parts.new.items)))
+        || named_in_parts h n (parts_view parts.new.items)))
         ≡ (is_named naming.old n || (is_to_come n scopes.old.items
-        || (names_in_parts h n (parts_view parts.old.items)
-        || names_in_node h n (node_view node.now)))))) }
+        || (named_in_parts h n (parts_view parts.old.items)
+        || named_in_node h n (node_view node.now)))))) }
 {
     match node {
         Node::ForLoop(turns) => take_loop(alloc, scopes, hidden, parts, turns),
@@ -283,11 +291,11 @@ fn take_loop<'a>(
     ensures { let t = out-ForLoop turns.now in OnOk result ((n : List ℕ) →
         (let h = is_hidden hidden.now.items n in
         let inner = h || binds (name_view t.key) (string_bytes t.value) n in
-        (is_to_come n scopes.new.items || names_in_parts h n (parts_view parts.new.items))
-        ≡ (is_to_come n scopes.old.items || (names_in_parts h n (parts_view parts.old.items)
-        || (names_in h n (expression_view t.target)
-        || (names_in_nodes inner n (nodes_view t.body.items)
-        || names_in_nodes h n (nodes_view t.else_body.items))))))) }
+        (is_to_come n scopes.new.items || named_in_parts h n (parts_view parts.new.items))
+        ≡ (is_to_come n scopes.old.items || (named_in_parts h n (parts_view parts.old.items)
+        || (named_in h n (expression_view t.target)
+        || (named_in_nodes inner n (nodes_view t.body.items)
+        || named_in_nodes h n (nodes_view t.else_body.items))))))) }
 {
     parts.push(Part::Expression(&turns.target))?;
     push_nodes(parts, &turns.else_body)?;
@@ -306,16 +314,20 @@ fn take_expression<'a>(
 ) -> Result<(), AllocError>
     ensures { OnOk result ((n : List ℕ) → (let h = is_hidden hidden.now.items n in
         (is_named naming.new n || (is_to_come n scopes.new.items
-        || names_in_parts h n (parts_view parts.new.items)))
+        || named_in_parts h n (parts_view parts.new.items)))
         ≡ (is_named naming.old n || (is_to_come n scopes.old.items
-        || (names_in_parts h n (parts_view parts.old.items)
-        || names_in h n (expression_view expression.now)))))) }
+        || (named_in_parts h n (parts_view parts.old.items)
+        || named_in h n (expression_view expression.now)))))) }
 {
     match expression {
         Expression::ListComprehension(list) => {
             take_comprehension(alloc, scopes, hidden, parts, list.node())
         }
         Expression::Var(variable) => take_variable(naming, hidden, variable),
+        Expression::ComponentCall(_) => {
+            naming.all = true;
+            Ok(())
+        }
         Expression::Const(_)
         | Expression::Array(_)
         | Expression::Map(_)
@@ -325,7 +337,6 @@ fn take_expression<'a>(
         | Expression::Filter(_)
         | Expression::Test(_)
         | Expression::Ternary(_)
-        | Expression::ComponentCall(_)
         | Expression::FunctionCall(_)
         | Expression::UnaryOperation(_)
         | Expression::BinaryOperation(_) => Part::Expression(expression).push_inside(parts),
@@ -341,11 +352,11 @@ fn take_comprehension<'a>(
 ) -> Result<(), AllocError>
     ensures { OnOk result ((n : List ℕ) → (let h = is_hidden hidden.now.items n in
         let inner = h || binds (name_view list.now.key) (string_bytes list.now.value) n in
-        (is_to_come n scopes.new.items || names_in_parts h n (parts_view parts.new.items))
-        ≡ (is_to_come n scopes.old.items || (names_in_parts h n (parts_view parts.old.items)
-        || (names_in inner n (expression_view list.now.expr)
-        || (names_in h n (expression_view list.now.target)
-        || names_in_maybe inner n (maybe_view list.now.condition))))))) }
+        (is_to_come n scopes.new.items || named_in_parts h n (parts_view parts.new.items))
+        ≡ (is_to_come n scopes.old.items || (named_in_parts h n (parts_view parts.old.items)
+        || (named_in inner n (expression_view list.now.expr)
+        || (named_in h n (expression_view list.now.target)
+        || named_in_maybe inner n (maybe_view list.now.condition))))))) }
 {
     parts.push(Part::Expression(&list.target))?;
     let hidden = hidden_inside(alloc, hidden, &list.key, &list.value)?;

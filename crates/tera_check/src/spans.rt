@@ -3,8 +3,7 @@
 ghost use Rattle.std.specs.Prelude.{◌≡◌, IfOk, map};
 ghost use Rattle.tera_statements.specs.Known.{located_of};
 ghost use Rattle.tera_tree.specs.View.{definition_view};
-ghost use Rattle.tera_check.specs.Findings.{first_span};
-ghost use Rattle.tera_check.specs.Named.{span_if_any};
+ghost use Rattle.tera_check.specs.Findings.{first_span, span_if_any};
 
 use std::alloc::{AllocError, Global};
 use tera_parser::Names;

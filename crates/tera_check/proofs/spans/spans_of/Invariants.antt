@@ -1,7 +1,7 @@
 use Rattle.std.proofs.Common.{◌≡◌, ◌++◌, drop, map}
 use Rattle.tera_statements.specs.Known.{located_of}
 use Rattle.tera_tree.specs.View.{definition_view}
-use Rattle.tera_check.specs.Named.{span_if_any}
+use Rattle.tera_check.specs.Findings.{span_if_any}
 use Rattle.tera_check.proofs.spans.spans_of.Given as goal
 
 abbrev pub invariant-definitions : goal.invariant-definitions
