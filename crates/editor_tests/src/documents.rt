@@ -1,4 +1,3 @@
-//! Documents: on the way from a file to an editor and back, and with little memory.
+//! Documents with little memory: what is refused changes nothing.
 
 mod memory;
-mod opening;

@@ -1,5 +1,5 @@
-//! Tests of what a server of editors stands on, and that knows nothing of templates: texts and their edits, documents,
-//! URIs of files, frames of a stream, and messages.
+//! Tests of what a server of editors stands on, where no exchange with it shows them: a stream in each cut, messages at
+//! the limit and beyond it, ids that are found without a tree, and calls with little memory.
 #![tactic(auto)]
 
 #[cfg(test)]
@@ -9,6 +9,4 @@ mod frames;
 #[cfg(test)]
 mod messages;
 #[cfg(test)]
-mod texts;
-#[cfg(test)]
-mod uris;
+mod workspaces;

@@ -9,7 +9,7 @@ use protocol_values::{encoding_of, is_set, member};
 use text_edits::Encoding;
 
 /// What the client of a server can do.
-#[derive(Clone, Copy, Debug)]
+#[derive(Clone, Copy)]
 pub(crate) struct Client {
     /// What positions are counted in.
     pub(crate) encoding: Encoding,

@@ -8,7 +8,7 @@ use std::alloc::{AllocError, Global};
 use std::collections::BTreeMap;
 
 /// Whether an editor has a document open.
-#[derive(Clone, Copy, Debug, PartialEq, Eq)]
+#[derive(Clone, Copy)]
 pub(crate) enum Stand {
     Open,
     /// It has it open with another text than is known, since a change found no memory or was malformed.
@@ -17,7 +17,7 @@ pub(crate) enum Stand {
 }
 
 /// A document as an editor told of it.
-#[derive(Debug, Drop)]
+#[derive(Drop)]
 pub(crate) struct Seen {
     /// Its URI as the editor writes it.
     pub(crate) uri: String,
@@ -26,7 +26,7 @@ pub(crate) struct Seen {
 }
 
 /// The documents that an editor has or had open, by their names.
-#[derive(Debug, Drop)]
+#[derive(Drop)]
 pub(crate) struct Editor {
     seen: BTreeMap<String, Seen>,
 }

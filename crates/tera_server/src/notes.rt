@@ -33,7 +33,7 @@ use std::alloc::{AllocError, Global};
 use text_edits::Change;
 
 /// What a notification tells.
-#[derive(Clone, Copy, Debug, PartialEq, Eq)]
+#[derive(Clone, Copy)]
 pub(crate) enum Noted {
     Initialized,
     Opened,

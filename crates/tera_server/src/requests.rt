@@ -38,7 +38,7 @@ use tera_outline::Name;
 use tera_workspace::Workspace;
 
 /// What a request asks.
-#[derive(Clone, Copy, Debug, PartialEq, Eq)]
+#[derive(Clone, Copy)]
 pub(crate) enum Asked {
     Initialize,
     Shutdown,

@@ -31,7 +31,7 @@ use std::alloc::{AllocError, Global};
 use tera_workspace::Workspace;
 
 /// How far the exchange with a client has come.
-#[derive(Clone, Copy, Debug, PartialEq, Eq)]
+#[derive(Clone, Copy, PartialEq, Eq)]
 pub(crate) enum Phase {
     New,
     Running,

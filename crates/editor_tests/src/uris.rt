@@ -1,3 +1,0 @@
-//! URIs of files: how names are written.
-
-mod naming;
