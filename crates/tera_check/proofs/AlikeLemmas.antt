@@ -1,20 +1,22 @@
 -- What is found by components that are alike.
 use Rattle.std.proofs.Common.{◌≡◌, ◌∙◌, ℕ, suc, List, [], ◌∷◌, ◌++◌, Bool, Option, None, Some, map, string_bytes, refl, ap}
 use Rattle.std.proofs.Common.{if◌then◌else◌}
-use Rattle.std.specs.List.{flat_map, AllByRecursion}
+use Rattle.std.specs.List.{flat_map}
 use Rattle.tera_base.specs.Contexts.{found}
 use Rattle.tera_base.specs.Values.{Val}
 use Rattle.tera_base.specs.declared.utils.Span.{Span}
 use Rattle.tera_ast.specs.Tree.{Expr, Const, Array, Map, Var, GetAttr, GetItem, Slice, Filter, Test, Ternary, ListComprehension, ComponentCall, FunctionCall, UnaryOperation, BinaryOperation}
+use Rattle.tera_ast.specs.View.{nodes_of}
 use Rattle.tera_tree.specs.Tree.{Argument, Definition, Output}
 use Rattle.tera_check.specs.Alike.{name_called, names_in, AreAlike, AreAlikeIfAny, AgreeOn}
-use Rattle.tera_check.specs.Calls.{calls_of}
+use Rattle.tera_check.specs.Calls.{calls_in_definition, calls_in_nodes, calls_of}
 use Rattle.tera_check.specs.Findings.{FindingVal}
-use Rattle.tera_check.specs.Judged.{KnownVal, RemarkVal, about, told, refused_for, unless_rest, unknown, refusal, counted, refused, refused_one, is_again, refused_findings, missed, missing_findings, missing_in, judged, repeated_findings, call_findings, again, defined_again, again_findings}
-use Rattle.tera_check.specs.Named.{span_at, tree_findings}
-use Rattle.tera_check.specs.Parameters.{parameter_at, unused_in}
+use Rattle.tera_check.specs.Judged.{KnownVal, RemarkVal, taken_by, about, told, refused_for, unless_rest, unknown, refusal, counted, refused, refused_one, is_again, refused_findings, missed, missing_findings, missing_in, judged, repeated_findings, call_findings, again, defined_again, again_findings}
+use Rattle.tera_check.specs.Named.{span_at, taken_in, tree_findings}
+use Rattle.tera_check.specs.Parameters.{parameter_at}
 use Rattle.tera_check.specs.Passed.{NamedVal, PassedVal, OneNamed, Whatever, has_whatever, is_passed, passed_by}
 use Rattle.tera_check.specs.declared.templates.Template.{Template}
+use Rattle.tera_check.proofs.TakenLemmas.{all_append, agree_both, unused_alike, taken_by_arguments}
 
 -- ---- one component, and one that is told alike
 
@@ -61,16 +63,18 @@ module _ (number other : ℕ) (k j : KnownVal) (h : AreAlike number other k j) w
 
 -- ---- a tree
 
-all_append : {X : Type 0} (P : X → Type 0) (xs ys : List X) → AllByRecursion P (xs ++ ys) → AllByRecursion P xs × AllByRecursion P ys
-all_append P [] ys h = (tt, h)
-all_append P (x ∷ xs) ys h = let (first, second) = all_append P xs ys h.1 in ((h.0, first), second)
-
 module _ (number other : ℕ) where
   judged_alike : (o p : Option KnownVal) → AreAlikeIfAny number other o p → (name : List ℕ) (span : Span) (ps : List PassedVal) → judged o name span ps ≡ judged p name span ps
   judged_alike None None h name span ps = refl
   judged_alike None (Some j) h name span ps = absurd h
   judged_alike (Some k) None h name span ps = absurd h
   judged_alike (Some k) (Some j) h name span ps = judged_some number other k j h name span ps
+
+  taken_alike : (o p : Option KnownVal) → AreAlikeIfAny number other o p → (hidden : Bool) (n : List ℕ) → taken_by o hidden n ≡ taken_by p hidden n
+  taken_alike None None h hidden n = refl
+  taken_alike None (Some j) h hidden n = absurd h
+  taken_alike (Some k) None h hidden n = absurd h
+  taken_alike (Some k) (Some j) h hidden n = taken_by_arguments k j h.arguments hidden n
 
   defined_alike : (o p : Option KnownVal) → AreAlikeIfAny number other o p → (span : Span) → defined_again number span o ≡ defined_again other span p
   defined_alike None None h span = refl
@@ -110,8 +114,12 @@ module _ (number other : ℕ) (known others : List ℕ → Option KnownVal) wher
   definitions_alike spans at (d ∷ ds) h =
       λ i. defined_alike number other (known d.name) (others d.name) h.0 (spans at) i ++ definitions_alike spans (suc at) ds h.1 i
 
+  takes_alike : (name : List ℕ) → AreAlikeIfAny number other (known name) (others name) → (hidden : Bool) (n : List ℕ) → taken_in known name hidden n ≡ taken_in others name hidden n
+  takes_alike name h = taken_alike number other (known name) (others name) h
+
   pub tree_alike : (t : Template) (o : Output) → AgreeOn (names_in o) number other known others → tree_findings known number t o ≡ tree_findings others other t o
   tree_alike t o h =
       let (defined, called) = all_append (λ n. AreAlikeIfAny number other (known n) (others n)) (map (λ d. d.name) o.definitions) (flat_map name_called (calls_of o)) h in
+      let (bodies, nodes) = agree_both known others (λ n. AreAlikeIfAny number other (known n) (others n)) takes_alike (flat_map calls_in_definition o.definitions) (calls_in_nodes (nodes_of o.nodes)) called in
       λ i. definitions_alike (span_at t) 0 o.definitions defined i
-      ++ (flat_map (unused_in (parameter_at t)) o.definitions ++ calls_alike (string_bytes t.file) (calls_of o) called i)
+      ++ (unused_alike known others (λ n. AreAlikeIfAny number other (known n) (others n)) takes_alike (parameter_at t) o.definitions bodies i ++ calls_alike (string_bytes t.file) (calls_of o) called i)

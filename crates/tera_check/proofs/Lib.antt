@@ -6,3 +6,4 @@ pub mod ParametersLemmas
 pub mod Pending
 pub mod PassedLemmas
 pub mod SpansLemmas
+pub mod TakenLemmas

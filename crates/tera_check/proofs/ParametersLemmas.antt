@@ -1,6 +1,6 @@
 -- What names a parameter in a part of a body, by the parts that stand in it; and parts that are to come, in their scopes.
-use Rattle.std.proofs.Common.{◌≡◌, ◌∙◌, ℕ, List, [], ◌∷◌, ◌++◌, Bool, true, false, map, refl, sym, ap, Bor}
-use Rattle.std.specs.Prelude.{◌||◌, Result, Ok, Err, OnOk}
+use Rattle.std.proofs.Common.{◌≡◌, ◌∙◌, ℕ, List, [], ◌∷◌, ◌++◌, Bool, true, false, map, refl, sym, ap, subst}
+use Rattle.std.specs.Prelude.{◌||◌, ◌&&◌, not, Result, Ok, Err, OnOk}
 use Rattle.std.specs.List.{list_any}
 use Rattle.std.proofs.lemmas.List.Folds.{list_any-append}
 use Rattle.std.proofs.Common.{◌<◌, ◌+◌, suc, length, drop, get_or, append_assoc, arith}
@@ -11,13 +11,13 @@ use Rattle.tera_tree.specs.declared.ast.ComponentArgument.{ComponentArgument}
 use Rattle.tera_tree.specs.declared.ast.ComponentDefinition.{ComponentDefinition}
 use Rattle.tera_check.specs.Findings.{FindingVal}
 use Rattle.tera_check.proofs.CatalogueLemmas.{drop_next}
-use Rattle.std.proofs.Common.{◌⊎◌, String, Global, inl, inr, rules, string_bytes}
+use Rattle.std.proofs.Common.{◌⊎◌, String, Global, inl, inr, rules, string_bytes, bytes_eq}
 use Rattle.std.proofs.lemmas.List.{map-append}
 use Rattle.tera_base.specs.Spanned.{node_of, span_of}
 use Rattle.tera_base.specs.declared.utils.Span.{Span}
 use Rattle.tera_base.specs.declared.utils.Spanned.{Spanned}
 use Rattle.tera_base.specs.declared.values.Value.{Value}
-use Rattle.tera_ast.specs.View.{expression_view, node_view, name_view, nodes_view}
+use Rattle.tera_ast.specs.View.{expression_view, node_view, entries_view, nodes_view}
 use Rattle.tera_ast.specs.declared.ast.Expression as expressions
 use Rattle.tera_ast.specs.declared.ast.Expression.{Expression, the_lemmas}
 use Rattle.tera_ast.specs.declared.ast.Node as nodes
@@ -26,6 +26,7 @@ use Rattle.tera_ast.specs.declared.ast.BlockSet.{BlockSet as CodeBlockSet}
 use Rattle.tera_ast.specs.declared.ast.If.{If as Choice}
 use Rattle.tera_ast.specs.declared.ast.FilterSection.{FilterSection as Section}
 use Rattle.tera_ast.specs.declared.ast.ArrayOf.{ArrayOf}
+use Rattle.tera_ast.specs.declared.ast.ComponentCall.{ComponentCall as Call, out-ComponentCall}
 use Rattle.tera_ast.specs.declared.ast.MapOf.{MapOf}
 use Rattle.tera_ast.specs.declared.ast.GetAttrOf.{GetAttrOf}
 use Rattle.tera_ast.specs.declared.ast.GetItemOf.{GetItemOf}
@@ -38,14 +39,15 @@ use Rattle.tera_ast.specs.declared.ast.UnaryOperationOf.{UnaryOperationOf}
 use Rattle.tera_ast.specs.declared.ast.BinaryOperationOf.{BinaryOperationOf}
 use Rattle.tera_ast.specs.declared.ast.SetOf.{SetOf}
 use Rattle.tera_ast.specs.declared.ast.BlockOf.{BlockOf}
-use Rattle.tera_ast.proofs.Views.{view_const, view_array, view_map, view_get_attr, view_get_item, view_slice, view_filter, view_test, view_ternary, view_function_call, view_unary, view_binary, view_set, view_block, view_block_set, block_set_out, view_if, if_out, view_section, section_out, view_shown}
+use Rattle.tera_ast.proofs.Views.{view_const, view_array, view_map, view_get_attr, view_get_item, view_slice, view_filter, view_test, view_ternary, view_call, view_function_call, view_unary, view_binary, view_set, view_block, view_block_set, block_set_out, view_if, if_out, view_section, section_out, view_shown}
 use Rattle.tera_tree.specs.declared.parts.Part.{Part}
 use Rattle.tera_ast.specs.Tree.{Expr, Const, Array, Map, Var, GetAttr, GetItem, Slice, Filter, Test, Ternary, ListComprehension, ComponentCall, FunctionCall, UnaryOperation, BinaryOperation}
 use Rattle.tera_ast.specs.Tree.{MaybeExpr, NoExpr, OneExpr, Filters, NoFilters, OneFilter, Args, NoArgs, Arg, Items, NoItems, Item, SpreadItem, Entries, NoEntries, Entry, SpreadEntry}
 use Rattle.tera_ast.specs.Tree.{Stmt, Content, Shown, Set, BlockSet, Include, Block, ForLoop, Break, Continue, If, FilterSection, Nodes, NoNodes, OneNode}
-use Rattle.tera_tree.specs.Parts.{part_view, PartVal, NodePart, ExpressionPart, parts_view, parts_of_maybe, parts_of_filters, parts_of_args, parts_of_items, parts_of_entries, parts_of_nodes, parts_in_expression, parts_in_node}
-use Rattle.tera_check.specs.Parameters.{named_in, named_in_maybe, named_in_filters, named_in_args, named_in_items, named_in_entries, named_in_node, named_in_nodes}
-use Rattle.tera_check.specs.Scopes.{is_hidden, named_in_part, named_in_parts, named_in_scope, is_to_come}
+use Rattle.tera_tree.specs.Parts.{part_view, PartVal, parts_view, parts_of_maybe, parts_of_filters, parts_of_args, parts_of_items, parts_of_entries, parts_of_nodes, parts_in_expression, parts_in_node}
+use Rattle.tera_check.specs.Parameters.{Taking, named_in, named_in_maybe, named_in_filters, named_in_args, named_in_items, named_in_entries, named_in_node, named_in_nodes}
+use Rattle.tera_check.specs.Scopes.{is_named, named_in_part, named_in_parts, named_in_scope, is_to_come}
+use Rattle.tera_check.specs.declared.parameters.Naming.{Naming}
 use Rattle.tera_check.specs.declared.parameters.Scope.{Scope}
 
 -- ---- sums of truths
@@ -141,84 +143,94 @@ is_plain_node x (inr (inr (inr (inr (inr (inr (inr (inr (s, is))))))))) = rw (is
 
 -- ---- the parts that stand in a part
 
-module _ (hidden : Bool) (n : List ℕ) where
+module _ (takes : Taking) (hidden : Bool) (n : List ℕ) where
   abbrev any : List PartVal → Bool
-  any ps = named_in_parts hidden n ps
+  any ps = named_in_parts takes hidden n ps
 
   pub both : (ps qs : List PartVal) (some more : Bool) → any ps ≡ some → any qs ≡ more → any (ps ++ qs) ≡ (some || more)
-  both ps qs some more h k = list_any-append (named_in_part hidden n) ps qs ∙ (λ i. h i || k i)
+  both ps qs some more h k = list_any-append (named_in_part takes hidden n) ps qs ∙ (λ i. h i || k i)
 
-  pub in_maybe : (e : MaybeExpr) → any (parts_of_maybe e) ≡ named_in_maybe hidden n e
+  pub in_maybe : (e : MaybeExpr) → any (parts_of_maybe e) ≡ named_in_maybe takes hidden n e
   in_maybe NoExpr = refl
-  in_maybe (OneExpr e) = or_false (named_in hidden n e)
+  in_maybe (OneExpr e) = or_false (named_in takes hidden n e)
 
-  in_filters : (es : Filters) → any (parts_of_filters es) ≡ named_in_filters hidden n es
+  in_filters : (es : Filters) → any (parts_of_filters es) ≡ named_in_filters takes hidden n es
   in_filters NoFilters = refl
-  in_filters (OneFilter e es) = ap (λ b. named_in hidden n e || b) (in_filters es)
+  in_filters (OneFilter e es) = ap (λ b. named_in takes hidden n e || b) (in_filters es)
 
-  in_args : (args : Args) → any (parts_of_args args) ≡ named_in_args hidden n args
+  in_args : (args : Args) → any (parts_of_args args) ≡ named_in_args takes hidden n args
   in_args NoArgs = refl
-  in_args (Arg name e more) = ap (λ b. named_in hidden n e || b) (in_args more)
+  in_args (Arg name e more) = ap (λ b. named_in takes hidden n e || b) (in_args more)
 
-  in_items : (es : Items) → any (parts_of_items es) ≡ named_in_items hidden n es
+  in_items : (es : Items) → any (parts_of_items es) ≡ named_in_items takes hidden n es
   in_items NoItems = refl
-  in_items (Item e es) = ap (λ b. named_in hidden n e || b) (in_items es)
-  in_items (SpreadItem e es) = ap (λ b. named_in hidden n e || b) (in_items es)
+  in_items (Item e es) = ap (λ b. named_in takes hidden n e || b) (in_items es)
+  in_items (SpreadItem e es) = ap (λ b. named_in takes hidden n e || b) (in_items es)
 
-  in_entries : (es : Entries) → any (parts_of_entries es) ≡ named_in_entries hidden n es
+  in_entries : (es : Entries) → any (parts_of_entries es) ≡ named_in_entries takes hidden n es
   in_entries NoEntries = refl
-  in_entries (Entry k e es) = ap (λ b. named_in hidden n e || b) (in_entries es)
-  in_entries (SpreadEntry e es) = ap (λ b. named_in hidden n e || b) (in_entries es)
+  in_entries (Entry k e es) = ap (λ b. named_in takes hidden n e || b) (in_entries es)
+  in_entries (SpreadEntry e es) = ap (λ b. named_in takes hidden n e || b) (in_entries es)
 
-  pub in_nodes : (ns : Nodes) → any (parts_of_nodes ns) ≡ named_in_nodes hidden n ns
+  pub in_nodes : (ns : Nodes) → any (parts_of_nodes ns) ≡ named_in_nodes takes hidden n ns
   in_nodes NoNodes = refl
-  in_nodes (OneNode s ss) = ap (λ b. named_in_node hidden n s || b) (in_nodes ss)
+  in_nodes (OneNode s ss) = ap (λ b. named_in_node takes hidden n s || b) (in_nodes ss)
 
-  in_filtered : (es : Filters) (ns : Nodes) → any (parts_of_filters es ++ parts_of_nodes ns) ≡ (named_in_filters hidden n es || named_in_nodes hidden n ns)
+  in_filtered : (es : Filters) (ns : Nodes) → any (parts_of_filters es ++ parts_of_nodes ns) ≡ (named_in_filters takes hidden n es || named_in_nodes takes hidden n ns)
   in_filtered es ns = both (parts_of_filters es) (parts_of_nodes ns) _ _ (in_filters es) (in_nodes ns)
 
-  in_bodies : (ns ms : Nodes) → any (parts_of_nodes ns ++ parts_of_nodes ms) ≡ (named_in_nodes hidden n ns || named_in_nodes hidden n ms)
+  in_bodies : (ns ms : Nodes) → any (parts_of_nodes ns ++ parts_of_nodes ms) ≡ (named_in_nodes takes hidden n ns || named_in_nodes takes hidden n ms)
   in_bodies ns ms = both (parts_of_nodes ns) (parts_of_nodes ms) _ _ (in_nodes ns) (in_nodes ms)
 
   -- an expression but a variable and a comprehension
-  in_plain : (e : Expr) → IsPlain e → any (parts_in_expression e) ≡ named_in hidden n e
+  in_plain : (e : Expr) → IsPlain e → any (parts_in_expression e) ≡ named_in takes hidden n e
   in_plain (Const v span) is = refl
   in_plain (Array es span) is = in_items es
   in_plain (Map es span) is = in_entries es
   in_plain (Var name span) is = absurd is
-  in_plain (GetAttr e name optional span) is = or_false (named_in hidden n e)
-  in_plain (GetItem e sub optional span) is = ap (λ c. named_in hidden n e || c) (or_false (named_in hidden n sub))
+  in_plain (GetAttr e name optional span) is = or_false (named_in takes hidden n e)
+  in_plain (GetItem e sub optional span) is = ap (λ c. named_in takes hidden n e || c) (or_false (named_in takes hidden n sub))
   in_plain (Slice e start end step optional span) is =
-      ap (λ c. named_in hidden n e || c)
+      ap (λ c. named_in takes hidden n e || c)
       (both (parts_of_maybe start) (parts_of_maybe end ++ parts_of_maybe step) _ _ (in_maybe start)
       (both (parts_of_maybe end) (parts_of_maybe step) _ _ (in_maybe end) (in_maybe step)))
-  in_plain (Filter e name args span) is = ap (λ c. named_in hidden n e || c) (in_args args)
-  in_plain (Test e name args span) is = ap (λ c. named_in hidden n e || c) (in_args args)
-  in_plain (Ternary e given other span) is = ap (λ c. named_in hidden n given || (named_in hidden n e || c)) (or_false (named_in hidden n other))
+  in_plain (Filter e name args span) is = ap (λ c. named_in takes hidden n e || c) (in_args args)
+  in_plain (Test e name args span) is = ap (λ c. named_in takes hidden n e || c) (in_args args)
+  in_plain (Ternary e given other span) is = ap (λ c. named_in takes hidden n given || (named_in takes hidden n e || c)) (or_false (named_in takes hidden n other))
   in_plain (ListComprehension e key value target condition span) is = absurd is
   in_plain (ComponentCall name es body closed span) is = absurd is
   in_plain (FunctionCall name args span) is = in_args args
-  in_plain (UnaryOperation op e span) is = or_false (named_in hidden n e)
-  in_plain (BinaryOperation op l r span) is = ap (λ c. named_in hidden n l || c) (or_false (named_in hidden n r))
+  in_plain (UnaryOperation op e span) is = or_false (named_in takes hidden n e)
+  in_plain (BinaryOperation op l r span) is = ap (λ c. named_in takes hidden n l || c) (or_false (named_in takes hidden n r))
+
+  -- what stands in a call, beside what its component takes
+  pub in_call : (name : List ℕ) (es : Entries) (body : Nodes) (closed : Bool) (span : Span)
+      → (takes name hidden n || any (parts_in_expression (ComponentCall name es body closed span))) ≡ named_in takes hidden n (ComponentCall name es body closed span)
+  in_call name es body closed span = ap (λ c. takes name hidden n || c) (both (parts_of_entries es) (parts_of_nodes body) _ _ (in_entries es) (in_nodes body))
+
+  pub in_code_call : (call : Spanned Call)
+      → (takes (string_bytes (out-ComponentCall (node_of call)).name) hidden n || any (parts_in_expression (expression_view (expressions.ComponentCall call)))) ≡ named_in takes hidden n (expression_view (expressions.ComponentCall call))
+  in_code_call call = rw (view_call call) (in_call (string_bytes (out-ComponentCall (node_of call)).name) (entries_view (out-ComponentCall (node_of call)).kwargs.items)
+      (nodes_view (out-ComponentCall (node_of call)).body.items) (out-ComponentCall (node_of call)).self_closing (span_of call))
 
   -- a node but an `include` and a loop
-  in_plain_node : (s : Stmt) → IsPlainNode s → any (parts_in_node s) ≡ named_in_node hidden n s
+  in_plain_node : (s : Stmt) → IsPlainNode s → any (parts_in_node s) ≡ named_in_node takes hidden n s
   in_plain_node (Content t) is = refl
-  in_plain_node (Shown e) is = or_false (named_in hidden n e)
-  in_plain_node (Set name e global) is = or_false (named_in hidden n e)
+  in_plain_node (Shown e) is = or_false (named_in takes hidden n e)
+  in_plain_node (Set name e global) is = or_false (named_in takes hidden n e)
   in_plain_node (BlockSet name filters body global) is = in_filtered filters body
   in_plain_node (Include name span) is = absurd is
   in_plain_node (Block name span body) is = in_nodes body
   in_plain_node (ForLoop key value target body other) is = absurd is
   in_plain_node Break is = refl
   in_plain_node Continue is = refl
-  in_plain_node (If e body other) is = ap (λ c. named_in hidden n e || c) (in_bodies body other)
+  in_plain_node (If e body other) is = ap (λ c. named_in takes hidden n e || c) (in_bodies body other)
   in_plain_node (FilterSection filters body) is = in_filtered filters body
 
-  pub plain_expression : (x : Expression) → PlainArm x → any (parts_in_expression (expression_view x)) ≡ named_in hidden n (expression_view x)
+  pub plain_expression : (x : Expression) → PlainArm x → any (parts_in_expression (expression_view x)) ≡ named_in takes hidden n (expression_view x)
   plain_expression x arm = in_plain (expression_view x) (is_plain x arm)
 
-  pub plain_node : (x : Node) → PlainNodeArm x → any (parts_in_node (node_view x)) ≡ named_in_node hidden n (node_view x)
+  pub plain_node : (x : Node) → PlainNodeArm x → any (parts_in_node (node_view x)) ≡ named_in_node takes hidden n (node_view x)
   plain_node x arm = in_plain_node (node_view x) (is_plain_node x arm)
 
   -- what stands in a part is put behind others
@@ -230,16 +242,70 @@ module _ (hidden : Bool) (n : List ℕ) where
   pushed old new p b is h = ap (λ ps. any (parts_view ps)) is ∙ ap any (map-append part_view old (p ∷ [])) ∙ both (parts_view old) (parts_view (p ∷ [])) _ _ refl h
 
 -- one scope more
-pub scope_more : (n : List ℕ) (ss new : List Scope) (s : Scope) (b : Bool) → new ≡ ss ++ s ∷ [] → named_in_scope n s ≡ b → is_to_come n new ≡ (is_to_come n ss || b)
-scope_more n ss new s b is h = ap (is_to_come n) is ∙ list_any-append (named_in_scope n) ss (s ∷ []) ∙ ap (λ c. is_to_come n ss || c) (or_false _ ∙ h)
+pub scope_more : (takes : Taking) (n : List ℕ) (ss new : List Scope) (s : Scope) (b : Bool)
+    → new ≡ ss ++ s ∷ [] → named_in_scope takes n s ≡ b → is_to_come takes n new ≡ (is_to_come takes n ss || b)
+scope_more takes n ss new s b is h = ap (is_to_come takes n) is ∙ list_any-append (named_in_scope takes n) ss (s ∷ []) ∙ ap (λ c. is_to_come takes n ss || c) (or_false _ ∙ h)
 
 -- where memory was found, what stands in a part is to come in place of it
-pub put_ok : {E : Type 0} (named to_come hidden : List ℕ → Bool) (old new : List Part) (more : List PartVal) (b : List ℕ → Bool) (r : Result (Unit {0}) E)
-    → OnOk r (parts_view new ≡ parts_view old ++ more) → ((n : List ℕ) → named_in_parts (hidden n) n more ≡ b n)
-    → OnOk r ((n : List ℕ) → (named n || (to_come n || named_in_parts (hidden n) n (parts_view new)))
-    ≡ (named n || (to_come n || (named_in_parts (hidden n) n (parts_view old) || b n))))
-put_ok named to_come hidden old new more b (Ok u) is h = λ n. ap (λ c. named n || (to_come n || c)) (put_behind (hidden n) n old new more (b n) is (h n))
-put_ok named to_come hidden old new more b (Err e) is h = is
+pub put_ok : {E : Type 0} (takes : Taking) (named to_come hidden : List ℕ → Bool) (old new : List Part) (more : List PartVal) (b : List ℕ → Bool) (r : Result (Unit {0}) E)
+    → OnOk r (parts_view new ≡ parts_view old ++ more) → ((n : List ℕ) → named_in_parts takes (hidden n) n more ≡ b n)
+    → OnOk r ((n : List ℕ) → (named n || (to_come n || named_in_parts takes (hidden n) n (parts_view new)))
+    ≡ (named n || (to_come n || (named_in_parts takes (hidden n) n (parts_view old) || b n))))
+put_ok takes named to_come hidden old new more b (Ok u) is h = λ n. ap (λ c. named n || (to_come n || c)) (put_behind takes (hidden n) n old new more (b n) is (h n))
+put_ok takes named to_come hidden old new more b (Err e) is h = is
+
+-- the same for a call, of whose variables some are named before
+or_between : (s b p t a m : Bool) → a ≡ (s || m) → ((a || (t || (p || b))) ≡ (s || (t || (p || (m || b)))))
+or_between true b p t a m h = rw h refl
+or_between false b p t a true h = rw h (between p t)
+  where
+    between : (p t : Bool) → true ≡ (t || (p || true))
+    between p true = refl
+    between true false = refl
+    between false false = refl
+or_between false b p t a false h = rw h refl
+
+pub call_ok : {E : Type 0} (takes : Taking) (to_come hidden : List ℕ → Bool) (before behind : Naming) (old new : List Part) (x : Expression) (call : Spanned Call) (r : Result (Unit {0}) E)
+    → x ≡ expressions.ComponentCall call → OnOk r (parts_view new ≡ parts_view old ++ parts_in_expression (expression_view x))
+    → ((n : List ℕ) → is_named behind n ≡ (is_named before n || takes (string_bytes (out-ComponentCall (node_of call)).name) (hidden n) n))
+    → OnOk r ((n : List ℕ) → (is_named behind n || (to_come n || named_in_parts takes (hidden n) n (parts_view new)))
+    ≡ (is_named before n || (to_come n || (named_in_parts takes (hidden n) n (parts_view old) || named_in takes (hidden n) n (expression_view x)))))
+call_ok takes to_come hidden before behind old new x call (Err e) code is h = is
+call_ok takes to_come hidden before behind old new x call (Ok u) code is h = λ n.
+    let inside = named_in_parts takes (hidden n) n (parts_in_expression (expression_view x)) in
+    let p = named_in_parts takes (hidden n) n (parts_view old) in
+    ap (λ b. is_named behind n || (to_come n || b)) (put_behind takes (hidden n) n old new _ inside is refl)
+    ∙ or_between (is_named before n) inside p (to_come n) (is_named behind n) _ (h n)
+    ∙ ap (λ b. is_named before n || (to_come n || (p || b))) (subst (λ y. (takes (string_bytes (out-ComponentCall (node_of call)).name) (hidden n) n || named_in_parts takes (hidden n) n (parts_in_expression (expression_view y))) ≡ named_in takes (hidden n) n (expression_view y)) (sym code) (in_code_call takes (hidden n) n call))
+
+-- ---- what a call takes, argument by argument
+
+abbrev pub CodeArgument : Type 0
+CodeArgument = String Global × ComponentArgument
+
+abbrev pub takes_it : List ℕ → List ℕ × Argument → Bool
+takes_it n a = a.1.implicit && bytes_eq a.0 n
+
+one_more : (x h a r : Bool) → (x || not h && (a || r)) ≡ ((x || not h && a) || not h && r)
+one_more true h a r = refl
+one_more false true a r = refl
+one_more false false a r = refl
+
+no_more : (x h : Bool) → x ≡ (x || not h && false)
+no_more true h = refl
+no_more false true = refl
+no_more false false = refl
+
+pub implicit_next : (n : List ℕ) (start now later h : Bool) (entries rest : List CodeArgument) (e : CodeArgument) (implicit : Bool) → entries ≡ e ∷ rest
+    → start ≡ (now || not h && list_any (takes_it n) (map (λ a. (string_bytes a.0, argument_view a.1)) entries))
+    → (argument_view e.1).implicit ≡ implicit → later ≡ (now || not h && (implicit && bytes_eq (string_bytes e.0) n))
+    → start ≡ (later || not h && list_any (takes_it n) (map (λ a. (string_bytes a.0, argument_view a.1)) rest))
+implicit_next n start now later h entries rest e implicit is held it step =
+    let more = list_any (takes_it n) (map (λ (a : CodeArgument). (string_bytes a.0, argument_view a.1)) rest) in
+    held ∙ ap (λ es. now || not h && list_any (takes_it n) (map (λ (a : CodeArgument). (string_bytes a.0, argument_view a.1)) es)) is
+    ∙ one_more now h (takes_it n (string_bytes e.0, argument_view e.1)) more
+    ∙ ap (λ b. (now || not h && (b && bytes_eq (string_bytes e.0) n)) || not h && more) it
+    ∙ ap (λ b. b || not h && more) (sym step)
 
 -- ---- what is found of definitions, one by one
 
@@ -254,9 +320,6 @@ definition_next found start now later ds i d h is held step =
     ∙ sym (append_assoc now (found (definition_view d)) more) ∙ ap (λ fs. fs ++ more) (sym step))
 
 -- ---- what is found of arguments, one by one
-
-abbrev pub CodeArgument : Type 0
-CodeArgument = String Global × ComponentArgument
 
 pub argument_next : (found : List ℕ × Argument → List FindingVal) (start now later : List FindingVal) (entries rest : List CodeArgument) (e : CodeArgument)
     → entries ≡ e ∷ rest → start ≡ now ++ flat_map found (map (λ a. (string_bytes a.0, argument_view a.1)) entries) → later ≡ now ++ found (string_bytes e.0, argument_view e.1)

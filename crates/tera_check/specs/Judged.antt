@@ -1,9 +1,9 @@
 -- What is found of a call of a component.
-use Rattle.std.specs.Prelude.{ℕ, List, [], ◌∷◌, ◌++◌, Bool, false, not, ◌&&◌, cond, if◌then◌else◌, nat_eq, Option, None, Some, codes, suc, string_bytes}
+use Rattle.std.specs.Prelude.{ℕ, List, [], ◌∷◌, ◌++◌, Bool, true, false, not, ◌&&◌, cond, if◌then◌else◌, nat_eq, Option, None, Some, codes, suc, string_bytes}
 use Rattle.std.specs.BTreeMap.{BTreeMap, get_by}
 use Rattle.std.specs.Borrow.{Bor}
 use Rattle.std.specs.Cmp.Lexicographic.{slice_cmp}
-use Rattle.std.specs.List.{flat_map}
+use Rattle.std.specs.List.{flat_map, list_any}
 use Rattle.std.specs.Option.{is_some, option_map}
 use Rattle.std.specs.Ordering.{nat_cmp}
 use Rattle.std.specs.Str.{bytes_eq}
@@ -48,6 +48,12 @@ known_view k = record {
   span = k.span;
   parameters = located_if_any (option_map (λ names. located_of names.now) k.parameters);
 }
+
+-- which variables a call may take where they are not given: those of the parameters of its component that are implicit,
+-- but for one that a loop hides; of a component that no template defines whichever there are
+abbrev pub taken_by : Option KnownVal → Bool → List ℕ → Bool
+taken_by None hidden n = true
+taken_by (Some k) hidden n = not hidden && list_any (λ a. a.1.implicit && bytes_eq a.0 n) k.definition.arguments
 
 -- a finding about a call of it, with a note that says where it is defined
 abbrev pub here_text : List ℕ → List ℕ

@@ -12,8 +12,8 @@ use Rattle.tera_tree.specs.Tree.{Definition, Output}
 use Rattle.tera_tree.specs.View.{definition_view}
 use Rattle.tera_check.specs.Calls.{calls_of}
 use Rattle.tera_check.specs.Findings.{FindingVal, first_span}
-use Rattle.tera_check.specs.Judged.{KnownVal, known_view, call_findings, again_findings}
-use Rattle.tera_check.specs.Parameters.{parameter_at, unused_in}
+use Rattle.tera_check.specs.Judged.{KnownVal, known_view, taken_by, call_findings, again_findings}
+use Rattle.tera_check.specs.Parameters.{Taking, parameter_at, unused_in}
 use Rattle.tera_check.specs.declared.catalogue.Known.{Known}
 use Rattle.tera_check.specs.declared.templates.Template.{Template}
 
@@ -62,9 +62,13 @@ abbrev pub or_else : Option KnownVal → Option KnownVal → Option KnownVal
 or_else None other = other
 or_else (Some k) other = Some k
 
+-- which variables a call of a component of a name may take where they are not given
+abbrev pub taken_in : (List ℕ → Option KnownVal) → Taking
+taken_in known name = taken_by (known name)
+
 -- what is found in a template of a number, by what is known under each name: components that are defined before,
 -- parameters that are never used, and calls
 abbrev pub tree_findings : (List ℕ → Option KnownVal) → ℕ → Template → Output → List FindingVal
 tree_findings known number t o =
     again_findings known number (span_at t) 0 o.definitions
-    ++ (flat_map (unused_in (parameter_at t)) o.definitions ++ flat_map (call_findings (string_bytes t.file) known) (calls_of o))
+    ++ (flat_map (unused_in (taken_in known) (parameter_at t)) o.definitions ++ flat_map (call_findings (string_bytes t.file) known) (calls_of o))

@@ -9,7 +9,7 @@ use Rattle.tera_ast.specs.Tree.{MaybeExpr, NoExpr, OneExpr, Filters, NoFilters, 
 use Rattle.tera_ast.specs.Tree.{Stmt, Content, Shown, Set, BlockSet, Include, Block, ForLoop, Break, Continue, If, FilterSection, Nodes, NoNodes, OneNode}
 use Rattle.tera_statements.specs.Known.{grouped_of}
 use Rattle.tera_grammar.specs.statements.Reading.Meeting.{Located, nothing_located}
-use Rattle.tera_tree.specs.Tree.{Argument, Definition}
+use Rattle.tera_tree.specs.Tree.{Definition}
 use Rattle.tera_check.specs.Findings.{FindingVal, FindingOf, span_if_any}
 use Rattle.tera_check.specs.declared.finding.Kind.TheVariants as kinds
 use Rattle.tera_check.specs.declared.templates.Template.{Template}
@@ -26,69 +26,75 @@ all_variables = codes "__tera_context"
 abbrev pub variable_names : Bool → List ℕ → List ℕ → Bool
 variable_names hidden n name = bytes_eq name all_variables || not hidden && bytes_eq name n
 
+-- whether a call of a component of this name may take a variable where it is not given one: one that a loop or a
+-- comprehension hides, or does not, and has that name
+abbrev pub Taking : Type 0
+Taking = List ℕ → Bool → List ℕ → Bool
+
 -- A parameter of this name is named: by a variable of its name, but where a loop or a comprehension around gives that
 -- name to its items (there it is hidden); by the variable that shows all; by an `include`, since the template that is
--- included has the variables of this one; and by a call of a component, which may take from them what it is not given.
--- A `set` gives the variable another value, and names nothing.
+-- included has the variables of this one; and by a call of a component that may take the variable where it is not given
+-- one. A `set` gives the variable another value, and names nothing.
 abbrev mutual
-  pub named_in : Bool → List ℕ → Expr → Bool
-  named_in hidden n (Const v span) = false
-  named_in hidden n (Array es span) = named_in_items hidden n es
-  named_in hidden n (Map es span) = named_in_entries hidden n es
-  named_in hidden n (Var name span) = variable_names hidden n name
-  named_in hidden n (GetAttr e name optional span) = named_in hidden n e
-  named_in hidden n (GetItem e sub optional span) = named_in hidden n e || named_in hidden n sub
-  named_in hidden n (Slice e start end step optional span) =
-      named_in hidden n e || (named_in_maybe hidden n start || (named_in_maybe hidden n end || named_in_maybe hidden n step))
-  named_in hidden n (Filter e name args span) = named_in hidden n e || named_in_args hidden n args
-  named_in hidden n (Test e name args span) = named_in hidden n e || named_in_args hidden n args
-  named_in hidden n (Ternary e given other span) = named_in hidden n given || (named_in hidden n e || named_in hidden n other)
-  named_in hidden n (ListComprehension e key value target condition span) =
-      named_in (hidden || binds key value n) n e || (named_in hidden n target || named_in_maybe (hidden || binds key value n) n condition)
-  named_in hidden n (ComponentCall name es body closed span) = true
-  named_in hidden n (FunctionCall name args span) = named_in_args hidden n args
-  named_in hidden n (UnaryOperation op e span) = named_in hidden n e
-  named_in hidden n (BinaryOperation op l r span) = named_in hidden n l || named_in hidden n r
+  pub named_in : Taking → Bool → List ℕ → Expr → Bool
+  named_in takes hidden n (Const v span) = false
+  named_in takes hidden n (Array es span) = named_in_items takes hidden n es
+  named_in takes hidden n (Map es span) = named_in_entries takes hidden n es
+  named_in takes hidden n (Var name span) = variable_names hidden n name
+  named_in takes hidden n (GetAttr e name optional span) = named_in takes hidden n e
+  named_in takes hidden n (GetItem e sub optional span) = named_in takes hidden n e || named_in takes hidden n sub
+  named_in takes hidden n (Slice e start end step optional span) =
+      named_in takes hidden n e || (named_in_maybe takes hidden n start || (named_in_maybe takes hidden n end || named_in_maybe takes hidden n step))
+  named_in takes hidden n (Filter e name args span) = named_in takes hidden n e || named_in_args takes hidden n args
+  named_in takes hidden n (Test e name args span) = named_in takes hidden n e || named_in_args takes hidden n args
+  named_in takes hidden n (Ternary e given other span) = named_in takes hidden n given || (named_in takes hidden n e || named_in takes hidden n other)
+  named_in takes hidden n (ListComprehension e key value target condition span) =
+      named_in takes (hidden || binds key value n) n e || (named_in takes hidden n target || named_in_maybe takes (hidden || binds key value n) n condition)
+  named_in takes hidden n (ComponentCall name es body closed span) =
+      takes name hidden n || (named_in_entries takes hidden n es || named_in_nodes takes hidden n body)
+  named_in takes hidden n (FunctionCall name args span) = named_in_args takes hidden n args
+  named_in takes hidden n (UnaryOperation op e span) = named_in takes hidden n e
+  named_in takes hidden n (BinaryOperation op l r span) = named_in takes hidden n l || named_in takes hidden n r
 
-  pub named_in_maybe : Bool → List ℕ → MaybeExpr → Bool
-  named_in_maybe hidden n NoExpr = false
-  named_in_maybe hidden n (OneExpr e) = named_in hidden n e
+  pub named_in_maybe : Taking → Bool → List ℕ → MaybeExpr → Bool
+  named_in_maybe takes hidden n NoExpr = false
+  named_in_maybe takes hidden n (OneExpr e) = named_in takes hidden n e
 
-  pub named_in_filters : Bool → List ℕ → Filters → Bool
-  named_in_filters hidden n NoFilters = false
-  named_in_filters hidden n (OneFilter e es) = named_in hidden n e || named_in_filters hidden n es
+  pub named_in_filters : Taking → Bool → List ℕ → Filters → Bool
+  named_in_filters takes hidden n NoFilters = false
+  named_in_filters takes hidden n (OneFilter e es) = named_in takes hidden n e || named_in_filters takes hidden n es
 
-  pub named_in_args : Bool → List ℕ → Args → Bool
-  named_in_args hidden n NoArgs = false
-  named_in_args hidden n (Arg name e more) = named_in hidden n e || named_in_args hidden n more
+  pub named_in_args : Taking → Bool → List ℕ → Args → Bool
+  named_in_args takes hidden n NoArgs = false
+  named_in_args takes hidden n (Arg name e more) = named_in takes hidden n e || named_in_args takes hidden n more
 
-  pub named_in_items : Bool → List ℕ → Items → Bool
-  named_in_items hidden n NoItems = false
-  named_in_items hidden n (Item e es) = named_in hidden n e || named_in_items hidden n es
-  named_in_items hidden n (SpreadItem e es) = named_in hidden n e || named_in_items hidden n es
+  pub named_in_items : Taking → Bool → List ℕ → Items → Bool
+  named_in_items takes hidden n NoItems = false
+  named_in_items takes hidden n (Item e es) = named_in takes hidden n e || named_in_items takes hidden n es
+  named_in_items takes hidden n (SpreadItem e es) = named_in takes hidden n e || named_in_items takes hidden n es
 
-  pub named_in_entries : Bool → List ℕ → Entries → Bool
-  named_in_entries hidden n NoEntries = false
-  named_in_entries hidden n (Entry k e es) = named_in hidden n e || named_in_entries hidden n es
-  named_in_entries hidden n (SpreadEntry e es) = named_in hidden n e || named_in_entries hidden n es
+  pub named_in_entries : Taking → Bool → List ℕ → Entries → Bool
+  named_in_entries takes hidden n NoEntries = false
+  named_in_entries takes hidden n (Entry k e es) = named_in takes hidden n e || named_in_entries takes hidden n es
+  named_in_entries takes hidden n (SpreadEntry e es) = named_in takes hidden n e || named_in_entries takes hidden n es
 
-  pub named_in_node : Bool → List ℕ → Stmt → Bool
-  named_in_node hidden n (Content t) = false
-  named_in_node hidden n (Shown e) = named_in hidden n e
-  named_in_node hidden n (Set name e global) = named_in hidden n e
-  named_in_node hidden n (BlockSet name filters body global) = named_in_filters hidden n filters || named_in_nodes hidden n body
-  named_in_node hidden n (Include name span) = true
-  named_in_node hidden n (Block name span body) = named_in_nodes hidden n body
-  named_in_node hidden n (ForLoop key value target body other) =
-      named_in hidden n target || (named_in_nodes (hidden || binds key value n) n body || named_in_nodes hidden n other)
-  named_in_node hidden n Break = false
-  named_in_node hidden n Continue = false
-  named_in_node hidden n (If e body other) = named_in hidden n e || (named_in_nodes hidden n body || named_in_nodes hidden n other)
-  named_in_node hidden n (FilterSection filters body) = named_in_filters hidden n filters || named_in_nodes hidden n body
+  pub named_in_node : Taking → Bool → List ℕ → Stmt → Bool
+  named_in_node takes hidden n (Content t) = false
+  named_in_node takes hidden n (Shown e) = named_in takes hidden n e
+  named_in_node takes hidden n (Set name e global) = named_in takes hidden n e
+  named_in_node takes hidden n (BlockSet name filters body global) = named_in_filters takes hidden n filters || named_in_nodes takes hidden n body
+  named_in_node takes hidden n (Include name span) = true
+  named_in_node takes hidden n (Block name span body) = named_in_nodes takes hidden n body
+  named_in_node takes hidden n (ForLoop key value target body other) =
+      named_in takes hidden n target || (named_in_nodes takes (hidden || binds key value n) n body || named_in_nodes takes hidden n other)
+  named_in_node takes hidden n Break = false
+  named_in_node takes hidden n Continue = false
+  named_in_node takes hidden n (If e body other) = named_in takes hidden n e || (named_in_nodes takes hidden n body || named_in_nodes takes hidden n other)
+  named_in_node takes hidden n (FilterSection filters body) = named_in_filters takes hidden n filters || named_in_nodes takes hidden n body
 
-  pub named_in_nodes : Bool → List ℕ → Nodes → Bool
-  named_in_nodes hidden n NoNodes = false
-  named_in_nodes hidden n (OneNode s ss) = named_in_node hidden n s || named_in_nodes hidden n ss
+  pub named_in_nodes : Taking → Bool → List ℕ → Nodes → Bool
+  named_in_nodes takes hidden n NoNodes = false
+  named_in_nodes takes hidden n (OneNode s ss) = named_in_node takes hidden n s || named_in_nodes takes hidden n ss
 
 -- where a template has the parameters of a component, by the name of the component and their own
 abbrev pub located_if_any : Option Located → Located
@@ -117,5 +123,5 @@ unused_rest d named at (Some rest) = unused_if d named at rest
 abbrev pub unused_of : Definition → (List ℕ → Bool) → Located → List FindingVal
 unused_of d named at = flat_map (λ a. unused_if d named at a.0) d.arguments ++ unused_rest d named at d.rest
 
-abbrev pub unused_in : (List ℕ → Located) → Definition → List FindingVal
-unused_in places d = unused_of d (λ n. named_in_nodes false n (nodes_of d.body)) (places d.name)
+abbrev pub unused_in : Taking → (List ℕ → Located) → Definition → List FindingVal
+unused_in takes places d = unused_of d (λ n. named_in_nodes takes false n (nodes_of d.body)) (places d.name)

@@ -77,7 +77,7 @@ fn findings_of_tree(
 {
     let mut findings = Vec::new(alloc);
     push_all_again(alloc, &mut findings, catalogue, number, template, output)?;
-    push_all_unused(alloc, &mut findings, template, output)?;
+    push_all_unused(alloc, &mut findings, catalogue, template, output)?;
     push_calls(
         alloc,
         &mut findings,

@@ -103,7 +103,7 @@ fn undefined(alloc: Global, span: &Span, name: &str) -> Result<Finding, AllocErr
 }
 
 // Spans under names: of each name that which was put there last.
-pub(crate) type Spans<'a> = BTreeMap<&'a str, &'a Span>;
+pub(crate) type Spans<'n, 'a> = BTreeMap<&'n str, &'a Span>;
 
 // Adds a finding for each value whose argument is written again behind it, at its place, from the last to the first.
 fn push_repeated(
@@ -128,7 +128,7 @@ fn push_if_repeated<'a>(
     alloc: Global,
     findings: &mut Vec<Finding>,
     file: &str,
-    behind: &mut Spans<'a>,
+    behind: &mut Spans<'a, 'a>,
     attribute: &'a MapEntry,
 ) -> Result<(), AllocError>
     ensures findings { OnOk result (map finding_view findings.new.items
@@ -149,7 +149,7 @@ fn push_under_key<'a>(
     alloc: Global,
     findings: &mut Vec<Finding>,
     file: &str,
-    behind: &mut Spans<'a>,
+    behind: &mut Spans<'a, 'a>,
     key: &'a Key,
     span: &'a Span,
 ) -> Result<(), AllocError>
@@ -171,9 +171,9 @@ fn push_under_key<'a>(
 }
 
 // Puts the span under the name, and answers the one that stood there.
-pub(crate) fn put_span<'a>(
-    behind: &mut Spans<'a>,
-    name: &'a str,
+pub(crate) fn put_span<'n, 'a>(
+    behind: &mut Spans<'n, 'a>,
+    name: &'n str,
     span: &'a Span,
 ) -> Result<Option<&'a Span>, AllocError>
     ensures next { IfOk result (λ s. option_map (λ s. s.now) s ≡ span_under behind.old name.now) }

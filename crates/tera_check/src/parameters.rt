@@ -1,17 +1,21 @@
 //! The parameters of components that nothing in their bodies names.
 
-ghost use Rattle.std.specs.Prelude.{◌≡◌, ◌++◌, ◌∷◌, [], ◌||◌, ◌&&◌, not, false, ℕ, List, Bool, map, string_bytes, IfOk, OnOk};
+ghost use Rattle.std.specs.Prelude.{◌≡◌, ◌++◌, ◌∷◌, [], ◌||◌, ◌&&◌, not, false, ℕ, List, Bool, Some, map, string_bytes, bytes_eq, IfOk, OnOk};
 ghost use Rattle.std.specs.List.{flat_map};
 ghost use Rattle.std.specs.Option.{option_map};
 ghost use Rattle.tera_base.specs.Spanned.{node_of, span_of};
 ghost use Rattle.tera_ast.specs.View.{expression_view, node_view, nodes_view, name_view, maybe_view};
+ghost use Rattle.tera_ast.specs.declared.ast.ComponentCall.{out-ComponentCall};
 ghost use Rattle.tera_ast.specs.declared.ast.ForLoop.{out-ForLoop};
 ghost use Rattle.tera_tree.specs.Parts.{part_view, parts_view, parts_of_nodes, parts_of_maybe, ExpressionPart};
 ghost use Rattle.tera_tree.specs.View.{definition_view};
 ghost use Rattle.tera_check.specs.Findings.{finding_view, span_if_any};
-ghost use Rattle.tera_check.specs.Parameters.{binds, variable_names, named_in, named_in_node, named_in_nodes, named_in_maybe, parameter_at, unused, unused_if, unused_of, unused_rest, unused_in};
-ghost use Rattle.tera_check.specs.Scopes.{is_hidden, named_in_part, named_in_parts, named_in_scope, is_to_come, is_named};
+ghost use Rattle.tera_check.specs.Judged.{known_view, taken_by};
+ghost use Rattle.tera_check.specs.Named.{known_in, taken_in};
+ghost use Rattle.tera_check.specs.Parameters.{Taking, binds, variable_names, named_in, named_in_node, named_in_nodes, named_in_maybe, parameter_at, unused, unused_if, unused_of, unused_rest, unused_in};
+ghost use Rattle.tera_check.specs.Scopes.{is_hidden, named_in_part, named_in_parts, named_in_scope, is_to_come, is_named, AreTaken};
 
+use crate::catalogue::{Catalogue, Known};
 use crate::finding::{Finding, Kind};
 use crate::judged::{Spans, push_finding, put_span};
 use crate::messages::unused_parameter;
@@ -21,7 +25,8 @@ use std::alloc::{AllocError, Global};
 use std::collections::BTreeMap;
 use tera_parser::ParserOutput;
 use tera_parser::ast::{
-    ComponentDefinition, Expression, ForLoop, ListComprehension, Node, Part, Parts, Var, push_nodes,
+    ComponentCall, ComponentDefinition, Expression, ForLoop, ListComprehension, Node, Part, Parts,
+    Var, push_nodes,
 };
 use tera_parser::value::{Span, Spanned};
 
@@ -29,15 +34,16 @@ use tera_parser::value::{Span, Spanned};
 pub(crate) fn push_all_unused(
     alloc: Global,
     findings: &mut Vec<Finding>,
+    catalogue: &Catalogue<'_>,
     template: &Template,
     output: &ParserOutput,
 ) -> Result<(), AllocError>
     ensures { OnOk result (map finding_view findings.new.items ≡ map finding_view findings.old.items
-        ++ flat_map (unused_in (parameter_at template.now))
+        ++ flat_map (unused_in (taken_in (known_in catalogue.now)) (parameter_at template.now))
         (map definition_view output.now.component_definitions.items)) }
 {
     for definition in &output.component_definitions {
-        push_unused(alloc, findings, template, definition)?;
+        push_unused(alloc, findings, catalogue, template, definition)?;
     }
     Ok(())
 }
@@ -45,13 +51,14 @@ pub(crate) fn push_all_unused(
 fn push_unused(
     alloc: Global,
     findings: &mut Vec<Finding>,
+    catalogue: &Catalogue<'_>,
     template: &Template,
     definition: &ComponentDefinition,
 ) -> Result<(), AllocError>
     ensures { OnOk result (map finding_view findings.new.items ≡ map finding_view findings.old.items
-        ++ unused_in (parameter_at template.now) (definition_view definition.now)) }
+        ++ unused_in (taken_in (known_in catalogue.now)) (parameter_at template.now) (definition_view definition.now)) }
 {
-    let naming = naming_of(alloc, &definition.body)?;
+    let naming = naming_of(alloc, catalogue, &definition.body)?;
     push_unused_arguments(alloc, findings, template, definition, &naming)?;
     push_unused_rest(alloc, findings, template, definition, &naming)
 }
@@ -61,7 +68,7 @@ fn push_unused_arguments(
     findings: &mut Vec<Finding>,
     template: &Template,
     definition: &ComponentDefinition,
-    naming: &Naming<'_>,
+    naming: &Naming<'_, '_>,
 ) -> Result<(), AllocError>
     ensures { let d = definition_view definition.now in
         OnOk result (map finding_view findings.new.items ≡ map finding_view findings.old.items
@@ -79,7 +86,7 @@ fn push_unused_rest(
     findings: &mut Vec<Finding>,
     template: &Template,
     definition: &ComponentDefinition,
-    naming: &Naming<'_>,
+    naming: &Naming<'_, '_>,
 ) -> Result<(), AllocError>
     ensures { let d = definition_view definition.now in
         OnOk result (map finding_view findings.new.items ≡ map finding_view findings.old.items
@@ -98,7 +105,7 @@ fn push_if_unused(
     findings: &mut Vec<Finding>,
     template: &Template,
     definition: &ComponentDefinition,
-    naming: &Naming<'_>,
+    naming: &Naming<'_, '_>,
     name: &str,
 ) -> Result<(), AllocError>
     ensures { let d = definition_view definition.now in
@@ -140,18 +147,19 @@ fn unused(alloc: Global, component: &str, name: &str, span: Span) -> Result<Find
     })
 }
 
-// What variables name, each with where one of them stands; or whatever there is.
+// What variables name, and what calls may take, each with where one of them stands; or whatever there is.
 #[derive(Drop)]
-struct Naming<'a> {
+struct Naming<'a, 'c> {
     all: bool,
-    names: Spans<'a>,
+    names: Spans<'a, 'a>,
+    taken: Spans<'c, 'a>,
 }
 
-impl<'a> Naming<'a> {
+impl<'a, 'c> Naming<'a, 'c> {
     fn has(&self, name: &str) -> bool
         ensures { result ≡ is_named self.now name.now }
     {
-        self.all || self.names.contains_key(name)
+        self.all || self.names.contains_key(name) || self.taken.contains_key(name)
     }
 }
 
@@ -163,19 +171,27 @@ struct Scope<'a> {
 }
 
 // What the body names. One of more parts than a `u64` counts, which no memory holds, is answered as want of memory.
-fn naming_of<'a>(alloc: Global, body: &'a Vec<Node>) -> Result<Naming<'a>, AllocError>
+fn naming_of<'a, 'c>(
+    alloc: Global,
+    catalogue: &Catalogue<'c>,
+    body: &'a Vec<Node>,
+) -> Result<Naming<'a, 'c>, AllocError>
     ensures { IfOk result (λ s. (n : List ℕ) → is_named s n
-        ≡ named_in_nodes false n (nodes_view body.now.items)) }
+        ≡ named_in_nodes (taken_in (known_in catalogue.now)) false n (nodes_view body.now.items)) }
 {
     let mut naming = Naming {
         all: false,
         names: BTreeMap::new(alloc),
+        taken: BTreeMap::new(alloc),
     };
     let mut scopes = Vec::new(alloc);
     scopes.push(scope_of(alloc, Vec::new(alloc), body)?)?;
     for _part in 0..u64::MAX {
+        if naming.all {
+            return Ok(naming);
+        }
         match scopes.pop() {
-            Some(scope) => take_last(alloc, &mut naming, &mut scopes, scope)?,
+            Some(scope) => take_last(alloc, catalogue, &mut naming, &mut scopes, scope)?,
             None => return Ok(naming),
         }
     }
@@ -187,8 +203,8 @@ fn scope_of<'a>(
     hidden: Vec<&'a str>,
     body: &'a Vec<Node>,
 ) -> Result<Scope<'a>, AllocError>
-    ensures { IfOk result (λ s. (n : List ℕ) → named_in_scope n s
-        ≡ named_in_nodes (is_hidden hidden.entry.items n) n (nodes_view body.now.items)) }
+    ensures { IfOk result (λ s. (takes : Taking) (n : List ℕ) → named_in_scope takes n s
+        ≡ named_in_nodes takes (is_hidden hidden.entry.items n) n (nodes_view body.now.items)) }
 {
     let mut parts = Vec::new(alloc);
     push_nodes(&mut parts, body)?;
@@ -196,21 +212,24 @@ fn scope_of<'a>(
 }
 
 // Takes the last part of the scope, if there is one.
-fn take_last<'a>(
+fn take_last<'a, 'c>(
     alloc: Global,
-    naming: &mut Naming<'a>,
+    catalogue: &Catalogue<'c>,
+    naming: &mut Naming<'a, 'c>,
     scopes: &mut Vec<Scope<'a>>,
     mut scope: Scope<'a>,
 ) -> Result<(), AllocError>
-    ensures { OnOk result ((n : List ℕ) → (is_named naming.new n || is_to_come n scopes.new.items)
+    ensures { let takes = taken_in (known_in catalogue.now) in
+        OnOk result ((n : List ℕ) → (is_named naming.new n || is_to_come takes n scopes.new.items)
         ≡ (is_named naming.old n
-        || (is_to_come n scopes.old.items || named_in_scope n scope.entry))) }
+        || (is_to_come takes n scopes.old.items || named_in_scope takes n scope.entry))) }
 {
     let inside = &mut scope;
     match inside.parts.pop() {
         Some(part) => {
             take(
                 alloc,
+                catalogue,
                 naming,
                 scopes,
                 &inside.hidden,
@@ -225,43 +244,39 @@ fn take_last<'a>(
 }
 
 // Takes the part, behind whose scope others may stand then.
-fn take<'a>(
+fn take<'a, 'c>(
     alloc: Global,
-    naming: &mut Naming<'a>,
+    catalogue: &Catalogue<'c>,
+    naming: &mut Naming<'a, 'c>,
     scopes: &mut Vec<Scope<'a>>,
     hidden: &Vec<&'a str>,
     parts: &mut Parts<'a>,
     part: Part<'a>,
 ) -> Result<(), AllocError>
-    ensures { OnOk result ((n : List ℕ) → (let h = is_hidden hidden.now.items n in
-        (is_named naming.new n || (is_to_come n scopes.new.items
-        || named_in_parts h n (parts_view parts.new.items)))
-        ≡ (is_named naming.old n || (is_to_come n scopes.old.items
-        || (named_in_parts h n (parts_view parts.old.items)
-        || named_in_part h n (part_view part.entry)))))) }
+    ensures { let takes = taken_in (known_in catalogue.now) in OnOk result (AreTaken takes hidden.now.items
+        (λ h n. named_in_part takes h n (part_view part.entry))
+        naming.old scopes.old.items parts.old.items naming.new scopes.new.items parts.new.items) }
 {
     match part {
-        Part::Node(node) => take_node(alloc, naming, scopes, hidden, parts, node),
+        Part::Node(node) => take_node(alloc, catalogue, naming, scopes, hidden, parts, node),
         Part::Expression(expression) => {
-            take_expression(alloc, naming, scopes, hidden, parts, expression)
+            take_expression(alloc, catalogue, naming, scopes, hidden, parts, expression)
         }
     }
 }
 
-fn take_node<'a>(
+fn take_node<'a, 'c>(
     alloc: Global,
-    naming: &mut Naming<'a>,
+    catalogue: &Catalogue<'c>,
+    naming: &mut Naming<'a, 'c>,
     scopes: &mut Vec<Scope<'a>>,
     hidden: &Vec<&'a str>,
     parts: &mut Parts<'a>,
     node: &'a Node,
 ) -> Result<(), AllocError>
-    ensures { OnOk result ((n : List ℕ) → (let h = is_hidden hidden.now.items n in
-        (is_named naming.new n || (is_to_come n scopes.new.items
-        || named_in_parts h n (parts_view parts.new.items)))
-        ≡ (is_named naming.old n || (is_to_come n scopes.old.items
-        || (named_in_parts h n (parts_view parts.old.items)
-        || named_in_node h n (node_view node.now)))))) }
+    ensures { let takes = taken_in (known_in catalogue.now) in OnOk result (AreTaken takes hidden.now.items
+        (λ h n. named_in_node takes h n (node_view node.now))
+        naming.old scopes.old.items parts.old.items naming.new scopes.new.items parts.new.items) }
 {
     match node {
         Node::ForLoop(turns) => take_loop(alloc, scopes, hidden, parts, turns),
@@ -288,14 +303,14 @@ fn take_loop<'a>(
     parts: &mut Parts<'a>,
     turns: &'a ForLoop,
 ) -> Result<(), AllocError>
-    ensures { let t = out-ForLoop turns.now in OnOk result ((n : List ℕ) →
-        (let h = is_hidden hidden.now.items n in
+    ensures { let t = out-ForLoop turns.now in
+        OnOk result ((takes : Taking) (n : List ℕ) → (let h = is_hidden hidden.now.items n in
         let inner = h || binds (name_view t.key) (string_bytes t.value) n in
-        (is_to_come n scopes.new.items || named_in_parts h n (parts_view parts.new.items))
-        ≡ (is_to_come n scopes.old.items || (named_in_parts h n (parts_view parts.old.items)
-        || (named_in h n (expression_view t.target)
-        || (named_in_nodes inner n (nodes_view t.body.items)
-        || named_in_nodes h n (nodes_view t.else_body.items))))))) }
+        (is_to_come takes n scopes.new.items || named_in_parts takes h n (parts_view parts.new.items))
+        ≡ (is_to_come takes n scopes.old.items || (named_in_parts takes h n (parts_view parts.old.items)
+        || (named_in takes h n (expression_view t.target)
+        || (named_in_nodes takes inner n (nodes_view t.body.items)
+        || named_in_nodes takes h n (nodes_view t.else_body.items))))))) }
 {
     parts.push(Part::Expression(&turns.target))?;
     push_nodes(parts, &turns.else_body)?;
@@ -304,29 +319,27 @@ fn take_loop<'a>(
     Ok(())
 }
 
-fn take_expression<'a>(
+fn take_expression<'a, 'c>(
     alloc: Global,
-    naming: &mut Naming<'a>,
+    catalogue: &Catalogue<'c>,
+    naming: &mut Naming<'a, 'c>,
     scopes: &mut Vec<Scope<'a>>,
     hidden: &Vec<&'a str>,
     parts: &mut Parts<'a>,
     expression: &'a Expression,
 ) -> Result<(), AllocError>
-    ensures { OnOk result ((n : List ℕ) → (let h = is_hidden hidden.now.items n in
-        (is_named naming.new n || (is_to_come n scopes.new.items
-        || named_in_parts h n (parts_view parts.new.items)))
-        ≡ (is_named naming.old n || (is_to_come n scopes.old.items
-        || (named_in_parts h n (parts_view parts.old.items)
-        || named_in h n (expression_view expression.now)))))) }
+    ensures { let takes = taken_in (known_in catalogue.now) in OnOk result (AreTaken takes hidden.now.items
+        (λ h n. named_in takes h n (expression_view expression.now))
+        naming.old scopes.old.items parts.old.items naming.new scopes.new.items parts.new.items) }
 {
     match expression {
         Expression::ListComprehension(list) => {
             take_comprehension(alloc, scopes, hidden, parts, list.node())
         }
         Expression::Var(variable) => take_variable(naming, hidden, variable),
-        Expression::ComponentCall(_) => {
-            naming.all = true;
-            Ok(())
+        Expression::ComponentCall(call) => {
+            take_call(catalogue, naming, hidden, call)?;
+            Part::Expression(expression).push_inside(parts)
         }
         Expression::Const(_)
         | Expression::Array(_)
@@ -350,13 +363,13 @@ fn take_comprehension<'a>(
     parts: &mut Parts<'a>,
     list: &'a ListComprehension,
 ) -> Result<(), AllocError>
-    ensures { OnOk result ((n : List ℕ) → (let h = is_hidden hidden.now.items n in
+    ensures { OnOk result ((takes : Taking) (n : List ℕ) → (let h = is_hidden hidden.now.items n in
         let inner = h || binds (name_view list.now.key) (string_bytes list.now.value) n in
-        (is_to_come n scopes.new.items || named_in_parts h n (parts_view parts.new.items))
-        ≡ (is_to_come n scopes.old.items || (named_in_parts h n (parts_view parts.old.items)
-        || (named_in inner n (expression_view list.now.expr)
-        || (named_in h n (expression_view list.now.target)
-        || named_in_maybe inner n (maybe_view list.now.condition))))))) }
+        (is_to_come takes n scopes.new.items || named_in_parts takes h n (parts_view parts.new.items))
+        ≡ (is_to_come takes n scopes.old.items || (named_in_parts takes h n (parts_view parts.old.items)
+        || (named_in takes inner n (expression_view list.now.expr)
+        || (named_in takes h n (expression_view list.now.target)
+        || named_in_maybe takes inner n (maybe_view list.now.condition))))))) }
 {
     parts.push(Part::Expression(&list.target))?;
     let hidden = hidden_inside(alloc, hidden, &list.key, &list.value)?;
@@ -387,8 +400,8 @@ fn hidden_inside<'a>(
     Ok(names)
 }
 
-fn take_variable<'a>(
-    naming: &mut Naming<'a>,
+fn take_variable<'a, 'c>(
+    naming: &mut Naming<'a, 'c>,
     hidden: &Vec<&'a str>,
     variable: &'a Spanned<Var>,
 ) -> Result<(), AllocError>
@@ -399,8 +412,70 @@ fn take_variable<'a>(
     let name = variable.node().name.as_str();
     if name == "__tera_context" {
         naming.all = true;
-    } else if !hidden.contains(&name) {
+        Ok(())
+    } else if is_hidden(hidden, name) {
+        Ok(())
+    } else {
         put_span(&mut naming.names, name, variable.span())?;
+        Ok(())
+    }
+}
+
+// Takes the call by itself: what its component may take of the variables where it is not given.
+fn take_call<'a, 'c>(
+    catalogue: &Catalogue<'c>,
+    naming: &mut Naming<'a, 'c>,
+    hidden: &Vec<&'a str>,
+    call: &'a Spanned<ComponentCall>,
+) -> Result<(), AllocError>
+    ensures { OnOk result ((n : List ℕ) → is_named naming.new n ≡ (is_named naming.old n
+        || taken_in (known_in catalogue.now) (string_bytes (out-ComponentCall (node_of call.now)).name)
+        (is_hidden hidden.now.items n) n)) }
+{
+    match catalogue.get(call.node().name.as_str()) {
+        Some(known) => take_implicit(naming, hidden, known, call.span()),
+        None => {
+            naming.all = true;
+            Ok(())
+        }
+    }
+}
+
+fn take_implicit<'a, 'c>(
+    naming: &mut Naming<'a, 'c>,
+    hidden: &Vec<&'a str>,
+    known: &Known<'c>,
+    span: &'a Span,
+) -> Result<(), AllocError>
+    ensures { OnOk result ((n : List ℕ) → is_named naming.new n ≡ (is_named naming.old n
+        || taken_by (Some (known_view known.now)) (is_hidden hidden.now.items n) n)) }
+{
+    for (name, argument) in known.definition.kwargs.iter() {
+        if argument.implicit {
+            put_taken(naming, hidden, name.as_str(), span)?;
+        }
     }
     Ok(())
+}
+
+// Notes that the variable may be taken, unless it is hidden.
+fn put_taken<'a, 'c>(
+    naming: &mut Naming<'a, 'c>,
+    hidden: &Vec<&'a str>,
+    name: &'c str,
+    span: &'a Span,
+) -> Result<(), AllocError>
+    ensures { OnOk result ((n : List ℕ) → is_named naming.new n ≡ (is_named naming.old n
+        || not (is_hidden hidden.now.items n) && bytes_eq name.now n)) }
+{
+    if !is_hidden(hidden, name) {
+        put_span(&mut naming.taken, name, span)?;
+    }
+    Ok(())
+}
+
+fn is_hidden(hidden: &[&str], name: &str) -> bool
+    ensures { result ≡ is_hidden hidden.now name.now }
+{
+    hidden.iter().any(|one| *one == name)
 }

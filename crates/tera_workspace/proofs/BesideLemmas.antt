@@ -6,19 +6,17 @@ use Rattle.tera_base.specs.Contexts.{found}
 use Rattle.tera_base.specs.Values.{Val}
 use Rattle.tera_base.specs.declared.utils.Span.{Span}
 use Rattle.tera_ast.specs.Tree.{Expr, Const, Array, Map, Var, GetAttr, GetItem, Slice, Filter, Test, Ternary, ListComprehension, ComponentCall, FunctionCall, UnaryOperation, BinaryOperation}
+use Rattle.tera_ast.specs.View.{nodes_of}
 use Rattle.tera_tree.specs.Tree.{Argument, Definition, Output}
 use Rattle.tera_check.specs.Alike.{name_called, names_in}
-use Rattle.tera_check.specs.Calls.{calls_of}
-use Rattle.tera_check.specs.Judged.{KnownVal, RemarkVal, about, told, refused_for, unless_rest, unknown, refusal, counted, refused, refused_one, is_again, refused_findings, missed, missing_findings, missing_in, repeated_findings, judged, call_findings, again, defined_again, again_findings}
-use Rattle.tera_check.specs.Named.{span_at, tree_findings}
+use Rattle.tera_check.specs.Calls.{calls_in_definition, calls_in_nodes, calls_of}
+use Rattle.tera_check.specs.Judged.{KnownVal, RemarkVal, taken_by, about, told, refused_for, unless_rest, unknown, refusal, counted, refused, refused_one, is_again, refused_findings, missed, missing_findings, missing_in, repeated_findings, judged, call_findings, again, defined_again, again_findings}
+use Rattle.tera_check.specs.Named.{span_at, taken_in, tree_findings}
 use Rattle.tera_check.specs.Parameters.{parameter_at, unused_in}
 use Rattle.tera_check.specs.Passed.{NamedVal, PassedVal, OneNamed, Whatever, has_whatever, is_passed, passed_by}
 use Rattle.tera_check.specs.declared.templates.Template.{Template}
+use Rattle.tera_check.proofs.TakenLemmas.{all_append, agree_both, unused_alike, taken_by_arguments}
 use Rattle.tera_workspace.specs.Beside.{IsBeside, AreAlikeBut, AreAlikeButIfAny, AgreeBut}
-
-pub all_append : {X : Type 0} (P : X → Type 0) (xs ys : List X) → AllByRecursion P (xs ++ ys) → AllByRecursion P xs × AllByRecursion P ys
-all_append P [] ys h = (tt, h)
-all_append P (x ∷ xs) ys h = let (first, second) = all_append P xs ys h.1 in ((h.0, first), second)
 
 -- ---- one component, and one that is alike
 
@@ -99,6 +97,12 @@ module _ (file : List ℕ) (number : ℕ) where
   judged_any (Some k) None h name span ps b = absurd h
   judged_any (Some k) (Some j) h name span ps b = judged_but file number k j h name span ps b
 
+  taken_any : (o p : Option KnownVal) → AreAlikeButIfAny file number o p → (hidden : Bool) (n : List ℕ) → taken_by o hidden n ≡ taken_by p hidden n
+  taken_any None None h hidden n = refl
+  taken_any None (Some j) h hidden n = absurd h
+  taken_any (Some k) None h hidden n = absurd h
+  taken_any (Some k) (Some j) h hidden n = taken_by_arguments k j h.arguments hidden n
+
   defined_any : (o p : Option KnownVal) → AreAlikeButIfAny file number o p → (span : Span)
       → AllByRecursion (IsBeside file) (defined_again number span o) → defined_again number span o ≡ defined_again number span p
   defined_any None None h span b = refl
@@ -144,13 +148,18 @@ module _ (file : List ℕ) (number : ℕ) (known others : List ℕ → Option Kn
       let (here, behind) = all_append (IsBeside file) (defined_again number (spans at) (known d.name)) (again_findings known number spans (suc at) ds) b in
       λ i. defined_any file number (known d.name) (others d.name) h.0 (spans at) here i ++ definitions_but spans (suc at) ds h.1 behind i
 
+  takes_but : (name : List ℕ) → AreAlikeButIfAny file number (known name) (others name) → (hidden : Bool) (n : List ℕ) → taken_in known name hidden n ≡ taken_in others name hidden n
+  takes_but name h = taken_any file number (known name) (others name) h
+
   -- what is found in a tree that tells no place in the file is the same by what is known alike but for places in it
   pub tree_but : (t : Template) (o : Output) → AgreeBut (names_in o) file number known others → AllByRecursion (IsBeside file) (tree_findings known number t o)
       → tree_findings known number t o ≡ tree_findings others number t o
   tree_but t o h b =
       let (defined, called) = all_append (λ n. AreAlikeButIfAny file number (known n) (others n)) (map (λ d. d.name) o.definitions) (flat_map name_called (calls_of o)) h in
-      let not_used = flat_map (unused_in (parameter_at t)) o.definitions in
+      let (bodies, nodes) = agree_both known others (λ n. AreAlikeButIfAny file number (known n) (others n)) takes_but (flat_map calls_in_definition o.definitions) (calls_in_nodes (nodes_of o.nodes)) called in
+      let not_used = flat_map (unused_in (taken_in known) (parameter_at t)) o.definitions in
       let calls = flat_map (call_findings (string_bytes t.file) known) (calls_of o) in
       let (here, more) = all_append (IsBeside file) (again_findings known number (span_at t) 0 o.definitions) (not_used ++ calls) b in
       let (_, behind) = all_append (IsBeside file) not_used calls more in
-      λ i. definitions_but (span_at t) 0 o.definitions defined here i ++ (not_used ++ calls_but (string_bytes t.file) (calls_of o) called behind i)
+      λ i. definitions_but (span_at t) 0 o.definitions defined here i
+      ++ (unused_alike known others (λ n. AreAlikeButIfAny file number (known n) (others n)) takes_but (parameter_at t) o.definitions bodies i ++ calls_but (string_bytes t.file) (calls_of o) called behind i)
