@@ -58,15 +58,15 @@ abbrev pub is_faulty : Found → Bool
 is_faulty found = nat_lt 0 (length found.findings.items)
 
 -- whether there is an error
-abbrev pub is_grave : Severity → Bool
-is_grave severities.Error = true
-is_grave severities.Warning = false
+abbrev pub is_error : Severity → Bool
+is_error severities.Error = true
+is_error severities.Warning = false
 
-abbrev pub is_error : Finding → Bool
-is_error finding = is_grave (severity_of finding.kind)
+abbrev pub is_of_error : Finding → Bool
+is_of_error finding = is_error (severity_of finding.kind)
 
 abbrev pub is_wrong : Found → Bool
-is_wrong found = list_any is_error found.findings.items
+is_wrong found = list_any is_of_error found.findings.items
 
 -- how many findings there are, and in how many files, as far as a number goes
 abbrev pub count_in : List Found → ℕ

@@ -3,7 +3,7 @@
 ghost use Rattle.std.specs.Prelude.{◌≡◌, IfOk, List, ℕ};
 ghost use Rattle.std.specs.List.{list_any};
 ghost use Rattle.tera_check.specs.Named.{known_in};
-ghost use Rattle.tera_program.specs.Found.{AreFound, IsFoundOf, defined_in, is_grave, is_error, is_wrong, count_in, faulty_in};
+ghost use Rattle.tera_program.specs.Found.{AreFound, IsFoundOf, defined_in, is_error, is_of_error, is_wrong, count_in, faulty_in};
 
 use std::alloc::{AllocError, Global};
 use tera_check::{Catalogue, Finding, Severity, Template, catalogue_of, findings_of};
@@ -68,7 +68,7 @@ pub(crate) fn has_error(all: &[Found<'_>]) -> bool
 }
 
 fn is_wrong(findings: &Vec<Finding>) -> bool
-    ensures { result ≡ list_any is_error findings.now.items }
+    ensures { result ≡ list_any is_of_error findings.now.items }
 {
     for finding in findings {
         if is_error(finding.kind.severity()) {
@@ -79,7 +79,7 @@ fn is_wrong(findings: &Vec<Finding>) -> bool
 }
 
 fn is_error(severity: Severity) -> bool
-    ensures { result ≡ is_grave severity }
+    ensures { result ≡ is_error severity }
 {
     match severity {
         Severity::Error => true,

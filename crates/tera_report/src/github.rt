@@ -8,9 +8,9 @@ use std::alloc::{AllocError, Global};
 use tera_base::Span;
 use tera_check::{Finding, Severity};
 
-/// Adds the line `::error file=..,line=..,col=..,endLine=..,endColumn=..,title=..::MESSAGE`, or `::warning ..`, whose title is
-/// the name of the kind. Lines and columns count from 1, columns in characters, and `endColumn` is the one behind the last. Notes are
-/// left out: a command has one place.
+/// Adds the line `::error file=..,line=..,col=..,endLine=..,endColumn=..,title=..::MESSAGE`, or `::warning ..`, whose
+/// title is the name of the kind. Lines and columns count from 1, columns in characters, and `endColumn` is the one
+/// behind the last. Notes are left out: a command has one place.
 pub fn push_annotation(
     alloc: Global,
     to: &mut String,

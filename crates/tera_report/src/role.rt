@@ -6,7 +6,7 @@ ghost use Rattle.tera_report.specs.Told.{word_of, part_of};
 use tera_check::Severity;
 use terminal_text::Part;
 
-/// What a message is.
+/// A finding, or what explains one.
 #[derive(Clone, Copy)]
 pub(crate) enum Role {
     /// A finding, so grave.
