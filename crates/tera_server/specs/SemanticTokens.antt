@@ -128,6 +128,3 @@ AreApart p (t ∷ ts) = IsUpTo p t.start × AreApart (end_of t) ts
 
 unfoldable pub number_tokens : ℕ → List Token
 number_tokens n = json_tokens (number_json n)
-
-unfoldable pub kind_tokens : SemanticKind → List Token
-kind_tokens kind = json_tokens (kind_json kind)

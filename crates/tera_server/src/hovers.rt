@@ -8,8 +8,8 @@ ghost use Rattle.tera_workspace.specs.Definitions.{definition_view};
 ghost use Rattle.tera_server.specs.Hovers.{component_in, text_at, IsHead, IsHeadBy, hover_json};
 
 use crate::definitions::is_component;
-use json::Writer;
-use protocol_values::put_text;
+use crate::tokens::put_tokens;
+use json::{Token, Writer};
 use std::alloc::{AllocError, Global};
 use tera_outline::{Name, head_of};
 use tera_workspace::{Definition, Workspace};
@@ -36,14 +36,18 @@ fn put_head(out: &mut Writer, head: &str) -> Result<(), AllocError>
     ensures tokens { OnOk result (out.new.tokens ≡ out.old.tokens ++ json_tokens (hover_json (Some head.now))) }
     ensures before { out.new.before ≡ out.old.before }
 {
-    out.begin_object()?;
-    out.key("contents")?;
-    out.begin_object()?;
-    put_text(out, "kind", "plaintext")?;
-    put_text(out, "value", head)?;
-    out.end_object()?;
-    out.end_object()?;
-    Ok(())
+    let told = [
+        Token::BeginObject,
+        Token::Key("contents"),
+        Token::BeginObject,
+        Token::Key("kind"),
+        Token::String("plaintext"),
+        Token::Key("value"),
+        Token::String(head),
+        Token::EndObject,
+        Token::EndObject,
+    ];
+    put_tokens(out, &told)
 }
 
 fn head_meant<'w>(

@@ -1,6 +1,6 @@
 //! The tokens of a text that an editor colours.
 
-ghost use Rattle.std.specs.Prelude.{◌≡◌, ◌≤◌, ◌++◌, codes, OnOk};
+ghost use Rattle.std.specs.Prelude.{◌≡◌, ◌≤◌, ◌++◌, OnOk};
 ghost use Rattle.std.specs.List.{flat_map};
 ghost use Rattle.json.specs.Json.{Json};
 ghost use Rattle.json.specs.Tree.{json_tokens};
@@ -8,9 +8,8 @@ ghost use Rattle.tera_outline.specs.SemanticTokens.{IsOnLine, StandOnLines};
 ghost use Rattle.text_edits.specs.Laws.{IsUpTo};
 ghost use Rattle.text_edits.specs.Positions.{boundary_to};
 ghost use Rattle.text_edits.specs.Walks.{IsReached};
-ghost use Rattle.protocol_values.specs.Writing.{member_tokens};
 ghost use Rattle.tera_server.specs.SemanticTokens as specs;
-ghost use Rattle.tera_server.specs.SemanticTokens.{AreTokens, data_of, numbers, number_tokens, kind_tokens};
+ghost use Rattle.tera_server.specs.SemanticTokens.{AreTokens, data_of, numbers, number_tokens};
 
 use json::Writer;
 use std::alloc::{AllocError, Global};
@@ -119,72 +118,6 @@ fn put_number(out: &mut Writer, number: usize) -> Result<(), AllocError>
     ensures before { out.new.before ≡ out.old.before }
 {
     out.u64(number as u64)
-}
-
-/// Writes the member that tells what the numbers of kinds mean.
-pub(crate) fn put_legend(out: &mut Writer) -> Result<(), AllocError>
-    ensures tokens { OnOk result (out.new.tokens
-        ≡ out.old.tokens ++ member_tokens (codes "legend") specs.legend_json) }
-    ensures before { out.new.before ≡ out.old.before }
-{
-    out.key("legend")?;
-    out.begin_object()?;
-    out.key("tokenTypes")?;
-    out.begin_array()?;
-    put_kinds(out, &KINDS)?;
-    out.end_array()?;
-    out.key("tokenModifiers")?;
-    out.begin_array()?;
-    out.end_array()?;
-    out.end_object()?;
-    Ok(())
-}
-
-const KINDS: [SemanticKind; 12] = [
-    SemanticKind::Comment,
-    SemanticKind::Keyword,
-    SemanticKind::String,
-    SemanticKind::Number,
-    SemanticKind::Operator,
-    SemanticKind::Namespace,
-    SemanticKind::Class,
-    SemanticKind::Type,
-    SemanticKind::Function,
-    SemanticKind::Parameter,
-    SemanticKind::Property,
-    SemanticKind::Variable,
-];
-
-#[tactic(auto, unfolding(crate::specs::SemanticTokens::kind_tokens))]
-fn put_kinds(out: &mut Writer, kinds: &[SemanticKind]) -> Result<(), AllocError>
-    ensures tokens { OnOk result (out.new.tokens
-        ≡ out.old.tokens ++ flat_map kind_tokens kinds.now) }
-    ensures before { out.new.before ≡ out.old.before }
-{
-    for kind in kinds {
-        out.string(kind_name(*kind))?;
-    }
-    Ok(())
-}
-
-// As the protocol names it.
-fn kind_name(kind: SemanticKind) -> &'static str
-    ensures { result.now ≡ specs.kind_name kind }
-{
-    match kind {
-        SemanticKind::Comment => "comment",
-        SemanticKind::Keyword => "keyword",
-        SemanticKind::String => "string",
-        SemanticKind::Number => "number",
-        SemanticKind::Operator => "operator",
-        SemanticKind::Namespace => "namespace",
-        SemanticKind::Class => "class",
-        SemanticKind::Type => "type",
-        SemanticKind::Function => "function",
-        SemanticKind::Parameter => "parameter",
-        SemanticKind::Property => "property",
-        SemanticKind::Variable => "variable",
-    }
 }
 
 // Its place in the legend.
