@@ -1,7 +1,6 @@
 -- What names a parameter in a part of a body, by the parts that stand in it; and parts that are to come, in their scopes.
 use Rattle.std.proofs.Common.{◌≡◌, ◌∙◌, ℕ, List, [], ◌∷◌, ◌++◌, Bool, true, false, map, refl, sym, ap, subst}
-use Rattle.std.specs.Prelude.{◌||◌, ◌&&◌, not, Result, Ok, Err, OnOk}
-use Rattle.std.specs.List.{list_any}
+use Rattle.std.specs.Prelude.{◌||◌, Result, Ok, Err, OnOk}
 use Rattle.std.proofs.lemmas.List.Folds.{list_any-append}
 use Rattle.std.proofs.Common.{◌<◌, ◌+◌, suc, length, drop, get_or, append_assoc, arith}
 use Rattle.std.specs.List.{flat_map}
@@ -11,7 +10,7 @@ use Rattle.tera_tree.specs.declared.ast.ComponentArgument.{ComponentArgument}
 use Rattle.tera_tree.specs.declared.ast.ComponentDefinition.{ComponentDefinition}
 use Rattle.tera_check.specs.Findings.{FindingVal}
 use Rattle.tera_check.proofs.CatalogueLemmas.{drop_next}
-use Rattle.std.proofs.Common.{◌⊎◌, String, Global, inl, inr, rules, string_bytes, bytes_eq}
+use Rattle.std.proofs.Common.{◌⊎◌, String, Global, inl, inr, rules, string_bytes}
 use Rattle.std.proofs.lemmas.List.{map-append}
 use Rattle.tera_base.specs.Spanned.{node_of, span_of}
 use Rattle.tera_base.specs.declared.utils.Span.{Span}
@@ -278,35 +277,6 @@ call_ok takes to_come hidden before behind old new x call (Ok u) code is h = λ 
     ∙ or_between (is_named before n) inside p (to_come n) (is_named behind n) _ (h n)
     ∙ ap (λ b. is_named before n || (to_come n || (p || b))) (subst (λ y. (takes (string_bytes (out-ComponentCall (node_of call)).name) (hidden n) n || named_in_parts takes (hidden n) n (parts_in_expression (expression_view y))) ≡ named_in takes (hidden n) n (expression_view y)) (sym code) (in_code_call takes (hidden n) n call))
 
--- ---- what a call takes, argument by argument
-
-abbrev pub CodeArgument : Type 0
-CodeArgument = String Global × ComponentArgument
-
-abbrev pub takes_it : List ℕ → List ℕ × Argument → Bool
-takes_it n a = a.1.implicit && bytes_eq a.0 n
-
-one_more : (x h a r : Bool) → (x || not h && (a || r)) ≡ ((x || not h && a) || not h && r)
-one_more true h a r = refl
-one_more false true a r = refl
-one_more false false a r = refl
-
-no_more : (x h : Bool) → x ≡ (x || not h && false)
-no_more true h = refl
-no_more false true = refl
-no_more false false = refl
-
-pub implicit_next : (n : List ℕ) (start now later h : Bool) (entries rest : List CodeArgument) (e : CodeArgument) (implicit : Bool) → entries ≡ e ∷ rest
-    → start ≡ (now || not h && list_any (takes_it n) (map (λ a. (string_bytes a.0, argument_view a.1)) entries))
-    → (argument_view e.1).implicit ≡ implicit → later ≡ (now || not h && (implicit && bytes_eq (string_bytes e.0) n))
-    → start ≡ (later || not h && list_any (takes_it n) (map (λ a. (string_bytes a.0, argument_view a.1)) rest))
-implicit_next n start now later h entries rest e implicit is held it step =
-    let more = list_any (takes_it n) (map (λ (a : CodeArgument). (string_bytes a.0, argument_view a.1)) rest) in
-    held ∙ ap (λ es. now || not h && list_any (takes_it n) (map (λ (a : CodeArgument). (string_bytes a.0, argument_view a.1)) es)) is
-    ∙ one_more now h (takes_it n (string_bytes e.0, argument_view e.1)) more
-    ∙ ap (λ b. (now || not h && (b && bytes_eq (string_bytes e.0) n)) || not h && more) it
-    ∙ ap (λ b. b || not h && more) (sym step)
-
 -- ---- what is found of definitions, one by one
 
 pub definition_next : (found : Definition → List FindingVal) (start now later : List FindingVal) (ds : List ComponentDefinition) (i : ℕ) (d : ComponentDefinition)
@@ -320,6 +290,9 @@ definition_next found start now later ds i d h is held step =
     ∙ sym (append_assoc now (found (definition_view d)) more) ∙ ap (λ fs. fs ++ more) (sym step))
 
 -- ---- what is found of arguments, one by one
+
+abbrev pub CodeArgument : Type 0
+CodeArgument = String Global × ComponentArgument
 
 pub argument_next : (found : List ℕ × Argument → List FindingVal) (start now later : List FindingVal) (entries rest : List CodeArgument) (e : CodeArgument)
     → entries ≡ e ∷ rest → start ≡ now ++ flat_map found (map (λ a. (string_bytes a.0, argument_view a.1)) entries) → later ≡ now ++ found (string_bytes e.0, argument_view e.1)

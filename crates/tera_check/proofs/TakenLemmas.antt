@@ -2,7 +2,6 @@
 use Rattle.std.proofs.Common.{◌≡◌, ℕ, List, [], ◌∷◌, ◌++◌, Bool, Option, Some, refl, ap, subst}
 use Rattle.std.specs.Prelude.{◌||◌, ◌&&◌, not, false}
 use Rattle.std.specs.List.{flat_map, list_any, AllByRecursion}
-use Rattle.std.specs.Str.{bytes_eq}
 use Rattle.std.proofs.lemmas.List.Concat.{flat_map-append}
 use Rattle.tera_ast.specs.Tree.{Expr, Const, Array, Map, Var, GetAttr, GetItem, Slice, Filter, Test, Ternary, ListComprehension, ComponentCall, FunctionCall, UnaryOperation, BinaryOperation}
 use Rattle.tera_ast.specs.Tree.{MaybeExpr, NoExpr, OneExpr, Filters, NoFilters, OneFilter, Args, NoArgs, Arg, Items, NoItems, Item, SpreadItem, Entries, NoEntries, Entry, SpreadEntry}
@@ -12,7 +11,7 @@ use Rattle.tera_ast.specs.View.{nodes_of}
 use Rattle.tera_grammar.specs.statements.Reading.Meeting.{Located}
 use Rattle.tera_tree.specs.Tree.{Definition}
 use Rattle.tera_check.specs.Calls.{calls_in, calls_in_maybe, calls_in_filters, calls_in_args, calls_in_items, calls_in_entries, calls_in_node, calls_in_nodes, calls_in_definition}
-use Rattle.tera_check.specs.Judged.{KnownVal, taken_by}
+use Rattle.tera_check.specs.Judged.{KnownVal, takes_it, taken_by}
 use Rattle.tera_check.specs.Named.{taken_in}
 use Rattle.tera_check.specs.Parameters.{binds, named_in, named_in_maybe, named_in_filters, named_in_args, named_in_items, named_in_entries, named_in_node, named_in_nodes, unused_of, unused_in}
 
@@ -141,4 +140,4 @@ module _ (known others : List ℕ → Option KnownVal) (P : List ℕ → Type 0)
 
 -- components with the same arguments
 pub taken_by_arguments : (k j : KnownVal) → k.definition.arguments ≡ j.definition.arguments → (hidden : Bool) (n : List ℕ) → taken_by (Some k) hidden n ≡ taken_by (Some j) hidden n
-taken_by_arguments k j h hidden n = ap (λ arguments. not hidden && list_any (λ a. a.1.implicit && bytes_eq a.0 n) arguments) h
+taken_by_arguments k j h hidden n = ap (λ arguments. not hidden && list_any (takes_it n) arguments) h

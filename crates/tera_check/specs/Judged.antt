@@ -51,9 +51,12 @@ known_view k = record {
 
 -- which variables a call may take where they are not given: those of the parameters of its component that are implicit,
 -- but for one that a loop hides; of a component that no template defines whichever there are
+abbrev pub takes_it : List ℕ → List ℕ × Argument → Bool
+takes_it n a = a.1.implicit && bytes_eq a.0 n
+
 abbrev pub taken_by : Option KnownVal → Bool → List ℕ → Bool
 taken_by None hidden n = true
-taken_by (Some k) hidden n = not hidden && list_any (λ a. a.1.implicit && bytes_eq a.0 n) k.definition.arguments
+taken_by (Some k) hidden n = not hidden && list_any (takes_it n) k.definition.arguments
 
 -- a finding about a call of it, with a note that says where it is defined
 abbrev pub here_text : List ℕ → List ℕ

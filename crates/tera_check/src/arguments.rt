@@ -11,7 +11,7 @@ ghost use Rattle.tera_check.specs.Judged.{known_view, remark_view, defined_here,
 ghost use Rattle.tera_check.specs.Passed.{passed_view, named_view, is_in, AreNamesOf};
 
 use crate::catalogue::Known;
-use crate::finding::{Finding, Kind, Note};
+use crate::finding::{Finding, Kind, Note, push_finding};
 use crate::messages;
 use crate::passed::{Named, Names, Passed};
 use std::alloc::{AllocError, Global};
@@ -120,7 +120,6 @@ fn push_told(
     }
 }
 
-#[tactic(auto, using(crate::proofs::JudgedLemmas::finding_more))]
 fn push_about(
     alloc: Global,
     findings: &mut Vec<Finding>,
@@ -131,9 +130,7 @@ fn push_about(
     ensures { OnOk result (map finding_view findings.new.items ≡ map finding_view findings.old.items
         ++ (about (known_view known.now) span.now (remark_view remark) ∷ [])) }
 {
-    let finding = about(alloc, known, span, remark)?;
-    findings.push(finding)?;
-    Ok(())
+    push_finding(findings, about(alloc, known, span, remark)?)
 }
 
 // A finding about a call of the component, with a note that says where that is defined.

@@ -21,7 +21,7 @@ ghost use Rattle.tera_check.specs.OrderAndStatus.{IsInOrder, status_of};
 use crate::calls::calls_of;
 use crate::catalogue::{Catalogue, Known, defined_at};
 use crate::faults::finding_of_fault;
-use crate::finding::{Finding, Kind, Note};
+use crate::finding::{Finding, Kind, Note, push_finding};
 use crate::judged::push_call;
 use crate::messages;
 use crate::messages::defined_again;
@@ -161,7 +161,6 @@ fn push_again(
     }
 }
 
-#[tactic(auto, using(crate::proofs::JudgedLemmas::finding_more))]
 fn push_other(
     alloc: Global,
     findings: &mut Vec<Finding>,
@@ -175,8 +174,7 @@ fn push_other(
     if known.template == number {
         return Ok(());
     }
-    findings.push(again(alloc, known, span)?)?;
-    Ok(())
+    push_finding(findings, again(alloc, known, span)?)
 }
 
 fn again(alloc: Global, known: &Known<'_>, span: &Span) -> Result<Finding, AllocError>

@@ -61,10 +61,6 @@ fn placeless(alloc: Global, message: &str) -> Result<Finding, AllocError>
     ensures { IfOk result (λ f. finding_view f
         ≡ FindingOf kinds.Fault first_span message.now []) }
 {
-    Ok(Finding {
-        kind: Kind::Fault,
-        span: first_span(),
-        message: String::from_str(alloc, message)?,
-        notes: Vec::new(alloc),
-    })
+    let message = String::from_str(alloc, message)?;
+    Ok(Finding::new(alloc, Kind::Fault, &first_span(), message))
 }

@@ -1,5 +1,8 @@
 //! What is found in a template.
 
+ghost use Rattle.std.specs.Prelude.{◌≡◌, ◌∷◌, [], ◌++◌, map, OnOk};
+ghost use Rattle.tera_check.specs.Findings.{finding_view};
+
 use std::alloc::{AllocError, Global};
 use tera_parser::value::Span;
 
@@ -153,6 +156,18 @@ impl Finding {
         Place::of(&self.span)
     }
 
+    // A finding without notes.
+    pub(crate) fn new(alloc: Global, kind: Kind, span: &Span, message: String) -> Finding
+        ensures { finding_view result ≡ FindingOf kind span.now (string_bytes message) [] }
+    {
+        Finding {
+            kind,
+            span: span.copied(),
+            message,
+            notes: Vec::new(alloc),
+        }
+    }
+
     // A finding with one note.
     pub(crate) fn with_note(
         alloc: Global,
@@ -164,14 +179,9 @@ impl Finding {
         ensures { IfOk result (λ f. finding_view f
             ≡ FindingOf kind span.now (string_bytes message) (note_view note ∷ [])) }
     {
-        let mut notes = Vec::new(alloc);
-        notes.push(note)?;
-        Ok(Finding {
-            kind,
-            span: span.copied(),
-            message,
-            notes,
-        })
+        let mut finding = Finding::new(alloc, kind, span, message);
+        finding.notes.push(note)?;
+        Ok(finding)
     }
 }
 
@@ -185,4 +195,14 @@ impl Note {
     {
         Place::of(&self.span)
     }
+}
+
+// Adds the finding behind the others.
+#[tactic(auto, using(crate::proofs::JudgedLemmas::finding_more))]
+pub(crate) fn push_finding(findings: &mut Vec<Finding>, finding: Finding) -> Result<(), AllocError>
+    ensures { OnOk result (map finding_view findings.new.items
+        ≡ map finding_view findings.old.items ++ (finding_view finding ∷ [])) }
+{
+    findings.push(finding)?;
+    Ok(())
 }

@@ -12,7 +12,7 @@ ghost use Rattle.tera_check.specs.Passed.{passed_by};
 
 use crate::arguments::{push_missing, push_refused};
 use crate::catalogue::Known;
-use crate::finding::{Finding, Kind, Note};
+use crate::finding::{Finding, Kind, Note, push_finding};
 use crate::messages::{given_again, repeated_argument, undefined_component};
 use crate::passed::passed_by;
 use std::alloc::{AllocError, Global};
@@ -76,7 +76,6 @@ fn push_arguments(
     Ok(())
 }
 
-#[tactic(auto, using(crate::proofs::JudgedLemmas::finding_more))]
 fn push_undefined(
     alloc: Global,
     findings: &mut Vec<Finding>,
@@ -86,20 +85,14 @@ fn push_undefined(
     ensures { OnOk result (map finding_view findings.new.items ≡ map finding_view findings.old.items
         ++ (undefined span.now name.now ∷ [])) }
 {
-    let finding = undefined(alloc, span, name)?;
-    findings.push(finding)?;
-    Ok(())
+    push_finding(findings, undefined(alloc, span, name)?)
 }
 
 fn undefined(alloc: Global, span: &Span, name: &str) -> Result<Finding, AllocError>
     ensures { IfOk result (λ f. finding_view f ≡ undefined span.now name.now) }
 {
-    Ok(Finding {
-        kind: Kind::UndefinedComponent,
-        span: span.copied(),
-        message: undefined_component(alloc, name)?,
-        notes: Vec::new(alloc),
-    })
+    let message = undefined_component(alloc, name)?;
+    Ok(Finding::new(alloc, Kind::UndefinedComponent, span, message))
 }
 
 // Spans under names: of each name that which was put there last.
@@ -198,15 +191,6 @@ fn push_one_repeated(
         Some(next) => push_finding(findings, repeated(alloc, file, name, span, next)?),
         None => Ok(()),
     }
-}
-
-#[tactic(auto, using(crate::proofs::JudgedLemmas::finding_more))]
-pub(crate) fn push_finding(findings: &mut Vec<Finding>, finding: Finding) -> Result<(), AllocError>
-    ensures { OnOk result (map finding_view findings.new.items
-        ≡ map finding_view findings.old.items ++ (finding_view finding ∷ [])) }
-{
-    findings.push(finding)?;
-    Ok(())
 }
 
 // The value under the name does not count, and the next stands at this span.

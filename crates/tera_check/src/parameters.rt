@@ -16,8 +16,8 @@ ghost use Rattle.tera_check.specs.Parameters.{Taking, binds, variable_names, nam
 ghost use Rattle.tera_check.specs.Scopes.{is_hidden, named_in_part, named_in_parts, named_in_scope, is_to_come, is_named, AreTaken};
 
 use crate::catalogue::{Catalogue, Known};
-use crate::finding::{Finding, Kind};
-use crate::judged::{Spans, push_finding, put_span};
+use crate::finding::{Finding, Kind, push_finding};
+use crate::judged::{Spans, put_span};
 use crate::messages::unused_parameter;
 use crate::spans::first_span;
 use crate::templates::Template;
@@ -139,12 +139,8 @@ fn parameter_at<'a>(template: &'a Template, component: &str, name: &str) -> Opti
 fn unused(alloc: Global, component: &str, name: &str, span: Span) -> Result<Finding, AllocError>
     ensures { IfOk result (λ f. finding_view f ≡ unused component.now name.now span) }
 {
-    Ok(Finding {
-        kind: Kind::UnusedParameter,
-        span,
-        message: unused_parameter(alloc, component, name)?,
-        notes: Vec::new(alloc),
-    })
+    let message = unused_parameter(alloc, component, name)?;
+    Ok(Finding::new(alloc, Kind::UnusedParameter, &span, message))
 }
 
 // What variables name, and what calls may take, each with where one of them stands; or whatever there is.
