@@ -1,3 +1,4 @@
-//! Documents with little memory: what is refused changes nothing.
+//! Documents that are open, and those with little memory: what is refused changes nothing.
 
 mod memory;
+mod opening;

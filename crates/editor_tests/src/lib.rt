@@ -1,5 +1,6 @@
 //! Tests of what a server of editors stands on, where no exchange with it shows them: a stream in each cut, messages at
-//! the limit and beyond it, ids that are found without a tree, and calls with little memory.
+//! the limit and beyond it, ids that are found without a tree, what a server of templates does not call, and calls with
+//! little memory.
 #![tactic(auto)]
 
 #[cfg(test)]

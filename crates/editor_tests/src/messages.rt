@@ -1,4 +1,5 @@
-//! Messages with little memory, and the ids that are found then.
+//! Messages with little memory, the ids that are found then, and members that are written.
 
 mod memory;
 mod reading;
+mod writing;
