@@ -49,11 +49,12 @@ known_view k = record {
   parameters = located_if_any (option_map (λ names. located_of names.now) k.parameters);
 }
 
--- which variables a call may take where they are not given: those of the parameters of its component that are implicit,
--- but for one that a loop hides; of a component that no template defines whichever there are
+-- an implicit parameter of this name
 abbrev pub takes_it : List ℕ → List ℕ × Argument → Bool
 takes_it n a = a.1.implicit && bytes_eq a.0 n
 
+-- which variables a call may take by itself, whether it is given values for them or not: those of the implicit parameters
+-- of its component, but for one that a loop hides; of a component that no template defines whichever there are
 abbrev pub taken_by : Option KnownVal → Bool → List ℕ → Bool
 taken_by None hidden n = true
 taken_by (Some k) hidden n = not hidden && list_any (takes_it n) k.definition.arguments

@@ -26,15 +26,15 @@ all_variables = codes "__tera_context"
 abbrev pub variable_names : Bool → List ℕ → List ℕ → Bool
 variable_names hidden n name = bytes_eq name all_variables || not hidden && bytes_eq name n
 
--- whether a call of a component of this name may take a variable where it is not given one: one that a loop or a
--- comprehension hides, or does not, and has that name
+-- whether a call of a component of this name may take a variable by itself, whether it is given a value for it or not:
+-- one that a loop or a comprehension hides, or does not, and has that name
 abbrev pub Taking : Type 0
 Taking = List ℕ → Bool → List ℕ → Bool
 
 -- A parameter of this name is named: by a variable of its name, but where a loop or a comprehension around gives that
 -- name to its items (there it is hidden); by the variable that shows all; by an `include`, since the template that is
--- included has the variables of this one; and by a call of a component that may take the variable where it is not given
--- one. A `set` gives the variable another value, and names nothing.
+-- included has the variables of this one; and by a call of a component that may take the variable by itself. A `set`
+-- gives the variable another value, and names nothing.
 abbrev mutual
   pub named_in : Taking → Bool → List ℕ → Expr → Bool
   named_in takes hidden n (Const v span) = false
