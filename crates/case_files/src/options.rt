@@ -49,6 +49,22 @@ pub enum Shown {
     Markers,
     /// Whether the source names limits that a template can be read within.
     Limits,
+    /// The lines, a place or a byte of a text, or the text behind changes, with positions in UTF-8.
+    EditsInUtf8,
+    /// The same, in UTF-16.
+    EditsInUtf16,
+    /// The same, in UTF-32.
+    EditsInUtf32,
+}
+
+impl Shown {
+    /// Whether what is shown is a text that is written with the escapes of its source.
+    pub(crate) fn is_text(self) -> bool {
+        matches!(
+            self,
+            Shown::Layout | Shown::EditsInUtf8 | Shown::EditsInUtf16 | Shown::EditsInUtf32
+        )
+    }
 }
 
 /// Limits in place of the usual ones, where they are given.
@@ -80,7 +96,7 @@ pub struct Options {
     pub expressions: bool,
     /// What is read behind the first token stands in a loop.
     pub in_loop: bool,
-    /// The sources, and layouts, are written with escapes.
+    /// The sources, and layouts and texts behind edits, are written with escapes.
     pub escapes: bool,
     /// The sources are too long to try each of their beginnings.
     pub uncut: bool,
@@ -189,6 +205,9 @@ fn what_is_shown(line: usize, text: &str) -> Result<Shown, CaseError> {
         "map" => Shown::Map,
         "markers" => Shown::Markers,
         "limits" => Shown::Limits,
+        "edits in UTF-8" => Shown::EditsInUtf8,
+        "edits in UTF-16" => Shown::EditsInUtf16,
+        "edits in UTF-32" => Shown::EditsInUtf32,
         _ => return wrong(line, "an option that shows what is unknown"),
     })
 }

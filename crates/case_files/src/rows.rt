@@ -2,7 +2,7 @@
 
 use crate::case::{Case, CaseError, wrong};
 use crate::escapes::without_escapes;
-use crate::options::{Options, Shown};
+use crate::options::Options;
 use std::alloc::{AllocError, Global};
 
 /// A line of a file, with its number.
@@ -198,11 +198,11 @@ fn plain(alloc: Global, line: usize, text: &str) -> Result<String, CaseError> {
     }
 }
 
-// Takes the escapes out of the source, and of a layout, and puts in what is repeated.
+// Takes the escapes out of the source, and of a text that is shown of it, and puts in what is repeated.
 fn prepare(alloc: Global, options: &Options, case: &mut Case) -> Result<(), CaseError> {
     if options.escapes {
         case.source = plain(alloc, case.line, case.source.as_str())?;
-        if options.shown == Shown::Layout {
+        if options.shown.is_text() {
             case.wanted = plain(alloc, case.line, case.wanted.as_str())?;
         }
     }

@@ -9,5 +9,3 @@ mod documents;
 mod frames;
 #[cfg(test)]
 mod messages;
-#[cfg(test)]
-mod workspaces;

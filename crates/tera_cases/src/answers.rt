@@ -3,6 +3,7 @@
 use crate::beginnings::lengths;
 use crate::contexts::context;
 use crate::cursors::trace;
+use crate::edits::edits;
 use crate::faults::{Detail, error_text};
 use crate::fronts::front;
 use crate::layouts::layout;
@@ -18,6 +19,7 @@ use std::alloc::{AllocError, Global};
 use tera_base::Error;
 use tera_parser::ParserOutput;
 use tera_show::tree_text;
+use text_edits::Encoding;
 
 /// The answer to the source, without the line feed at its end.
 pub(crate) fn answer(
@@ -41,6 +43,9 @@ pub(crate) fn answer(
         Shown::Layout => layout(alloc, setting, source),
         Shown::Markers => are_markers(alloc, source),
         Shown::Limits => are_limits(alloc, setting.options, source),
+        Shown::EditsInUtf8 => edits(alloc, Encoding::Utf8, source),
+        Shown::EditsInUtf16 => edits(alloc, Encoding::Utf16, source),
+        Shown::EditsInUtf32 => edits(alloc, Encoding::Utf32, source),
         Shown::Tree if setting.options.markers.is_empty() => tree(alloc, setting, source),
         Shown::Tree
         | Shown::Ends

@@ -7,6 +7,7 @@ mod answers;
 mod beginnings;
 mod contexts;
 mod cursors;
+mod edits;
 mod faces;
 mod faults;
 mod fronts;

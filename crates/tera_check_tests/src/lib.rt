@@ -1,6 +1,6 @@
-//! Tests of findings that are made by hand, of the spans of definitions, and of templates that are read where each
-//! request of memory is refused in turn. The last take all memory that the process can get, and so are run as they are
-//! proved, by `rt test` or `rt ci`, and not by `rt try`.
+//! Tests of findings that are made by hand, of the spans of definitions, and of templates that are read, and documents
+//! that are changed and judged, where each request of memory is refused in turn. The last take all memory that the
+//! process can get, and so are run as they are proved, by `rt test` or `rt ci`, and not by `rt try`.
 #![tactic(auto)]
 
 #[cfg(test)]
@@ -9,3 +9,5 @@ mod definitions;
 mod findings;
 #[cfg(test)]
 mod refusals;
+#[cfg(test)]
+mod workspaces;

@@ -1,4 +1,4 @@
-//! A change with little memory, and what is told then.
+//! Documents of a workspace that are opened, changed and judged where memory is refused.
 
 use scarce_memory::{Attempt, Seen, Verdict, refuse};
 use std::alloc::{AllocError, Global};

@@ -1,24 +1,17 @@
-//! What is asked, and its answer.
+//! Lines, places and bytes of a text, and the text behind changes.
 
 use std::alloc::{AllocError, Global};
 use text_edits::{Change, Encoding, Lines, Position, byte_at, edited, position_at};
 
-/// The encoding that the title of a section ends with.
-pub(crate) fn encoding_of(title: &str) -> Option<Encoding> {
-    match title.rsplit(' ').next() {
-        Some("UTF-8") => Some(Encoding::Utf8),
-        Some("UTF-16") => Some(Encoding::Utf16),
-        Some("UTF-32") => Some(Encoding::Utf32),
-        _ => None,
+/// The answer to what is asked of a text, with positions in the encoding.
+pub(crate) fn edits(alloc: Global, encoding: Encoding, source: &str) -> Result<String, AllocError> {
+    match answer(alloc, encoding, source)? {
+        Some(answer) => Ok(answer),
+        None => String::from_str(alloc, "nothing that is known is asked"),
     }
 }
 
-/// The answer to what is asked of a text; none where that is not known.
-pub(crate) fn answer(
-    alloc: Global,
-    encoding: Encoding,
-    source: &str,
-) -> Result<Option<String>, AllocError> {
+fn answer(alloc: Global, encoding: Encoding, source: &str) -> Result<Option<String>, AllocError> {
     let Some((asked, text)) = source.split_once(" in ") else {
         return Ok(None);
     };
@@ -94,8 +87,7 @@ fn text_behind(
         };
         changes.push(change)?;
     }
-    let new = edited(alloc, text, encoding, changes.as_slice())?;
-    Ok(Some(shown(alloc, new.as_str())?))
+    Ok(Some(edited(alloc, text, encoding, changes.as_slice())?))
 }
 
 // A range and a new text behind `[`, or that alone.
@@ -106,17 +98,4 @@ fn change(word: &str) -> Option<Change<'_>> {
     }
     let (start, end) = range.strip_suffix(" ")?.split_once("-")?;
     Some(Change::Part(place(start)?, place(end)?, new))
-}
-
-// The text with escapes for what ends its lines.
-fn shown(alloc: Global, text: &str) -> Result<String, AllocError> {
-    let mut shown = String::new(alloc);
-    for c in text.chars() {
-        match c {
-            '\n' => shown.push_str("\\n")?,
-            '\r' => shown.push_str("\\r")?,
-            _ => shown.push(c)?,
-        }
-    }
-    Ok(shown)
 }

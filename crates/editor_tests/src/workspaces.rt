@@ -1,3 +1,0 @@
-//! Workspaces with little memory: a change, and what is told then.
-
-mod memory;
