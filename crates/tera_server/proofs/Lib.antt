@@ -15,6 +15,7 @@ pub mod RequestLemmas
 pub mod SelectionLemmas
 pub mod StayLemmas
 pub mod StepLemmas
+pub mod Tails
 pub mod TemplateNames
 pub mod TokenLemmas
 pub mod WithName

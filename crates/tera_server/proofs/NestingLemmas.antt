@@ -75,5 +75,5 @@ module _ (e : Encoding) (text : List ℕ) where
 
 -- ---- what is written piece by piece
 
-pub eight : (t a b c d e f g h : List Token) → (((((((t ++ a) ++ b) ++ c) ++ d) ++ e) ++ f) ++ g) ++ h ≡ t ++ (a ++ (b ++ (c ++ (d ++ (e ++ (f ++ (g ++ h)))))))
-eight t a b c d e f g h = simp append_assoc refl
+pub five : (t a b c d e : List Token) → ((((t ++ a) ++ b) ++ c) ++ d) ++ e ≡ t ++ (a ++ (b ++ (c ++ (d ++ e))))
+five t a b c d e = simp append_assoc refl

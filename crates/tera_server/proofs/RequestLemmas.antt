@@ -1,7 +1,7 @@
 -- What requests are given, by what they ask and when.
 use Rattle.std.proofs.Common.{◌≡◌, ◌∙◌, ◌++◌, ◌∷◌, [], ℕ, List, Option, Some, None, Result, Ok, Err, Vec, MatchResult, ◌⊎◌, inl, inr, refl, sym, ap, subst, append_assoc}
 use Rattle.std.specs.declared.alloc.Global.{Global}
-use Rattle.json.specs.Json.{Json, null}
+use Rattle.json.specs.Json.{Json}
 use Rattle.json.specs.Print.{print}
 use Rattle.json.specs.Token.{Token, end_object}
 use Rattle.json.specs.Tree.{json_tokens}
@@ -18,7 +18,7 @@ use Rattle.text_documents.specs.Stored.{document_of}
 use Rattle.text_edits.specs.declared.positions.Position.{Position}
 use Rattle.tera_server.specs.Editors.{stand_of}
 use Rattle.tera_server.specs.Notes.{document_in, uri_told}
-use Rattle.tera_server.specs.Requests.{IsBegun, HasRead, IsOffered, place_in, RefusesStand, RefusesPlace, Gives, Remains, IsAnsweredBy}
+use Rattle.tera_server.specs.Requests.{IsBegun, HasRead, IsOffered, place_in, RefusesStand, RefusesPlace, Gives, Remains, IsPut, IsAnsweredBy}
 use Rattle.tera_server.specs.declared.requests.Asked.{Asked}
 use Rattle.tera_server.specs.declared.requests.Asked.TheVariants.{Initialize, Shutdown, Formatting, Symbols, Definition, Hover, References, Completion, SemanticTokens, Other}
 use Rattle.tera_server.specs.declared.server.Phase.{Phase}
@@ -30,11 +30,6 @@ pub gives_begun : (phase : Phase) (asked : Asked) (params : Option Json) (s t : 
 gives_begun phase asked params s t e f h =
     let j = abilities_json (client_in params).encoding in
     subst (λ p. Gives p asked s params j t) (sym e) (subst (λ a. Gives New a s params j t) (sym f) (refl, h))
-
-pub gives_ended : (phase : Phase) (asked : Asked) (params : Option Json) (s t : Server) → phase ≡ Running → asked ≡ Shutdown → t ≡ record s { phase = ShutDown } →
-    Gives phase asked s params null t
-gives_ended phase asked params s t e f h =
-    subst (λ p. Gives p asked s params null t) (sym e) (subst (λ a. Gives Running a s params null t) (sym f) (refl, h))
 
 -- an answer that was begun, has its result written, and is ended
 completed : (id : IdVal) (j : Json) → answer_begin id ++ (json_tokens j ++ end_object ∷ []) ≡ json_tokens (answer id j)
@@ -62,14 +57,13 @@ refused_before (Some position) (Some uri) s t code h (name, is, r) = (
 )
 
 -- what may be typed, told by documents that were read
-pub offered_read : (id : IdVal) (params : Option Json) (s t : Server) (r : Result (Vec ℕ Global) Code) → (IsKept s.workspace → AreRead t.workspace) → HasRead s t
-    → MatchResult r (λ v. (j : Json) × IsOffered (place_in params) (uri_told (document_in params)) t j × (v.items ≡ body (answer id j)))
+pub offered_read : (params : Option Json) (s t : Server) (r : Result (Unit {0}) Code) (old now : List Token) → (IsKept s.workspace → AreRead t.workspace) → HasRead s t
+    → MatchResult r (λ _. (j : Json) × IsOffered (place_in params) (uri_told (document_in params)) t j × (now ≡ old ++ json_tokens j))
     (λ code. (code ≡ InternalError) ⊎ RefusesPlace (place_in params) (uri_told (document_in params)) t code)
-    → MatchResult r (λ v. (j : Json) × Gives Running Completion s params j t × (v.items ≡ body (answer id j)))
-    (λ code. HasRead s t × ((code ≡ InternalError) ⊎ RefusesPlace (place_in params) (uri_told (document_in params)) s code))
-offered_read id params s t (Ok v) read stays (j, offered, written) = (j, record { read = read; offered = offered; stays = stays }, written)
-offered_read id params s t (Err code) read stays (inl memory) = (stays, inl memory)
-offered_read id params s t (Err code) read stays (inr r) = (stays, inr (refused_before (place_in params) (uri_told (document_in params)) s t code stays r))
+    → IsPut Completion s params old r t now
+offered_read params s t (Ok v) old now read stays (j, offered, written) = (j, record { read = read; offered = offered; stays = stays }, written)
+offered_read params s t (Err code) old now read stays (inl memory) = (stays, inl memory)
+offered_read params s t (Err code) old now read stays (inr r) = (stays, inr (refused_before (place_in params) (uri_told (document_in params)) s t code stays r))
 
 -- ---- what is so of each workspace stays so
 

@@ -1,5 +1,5 @@
 -- What is found in a document, as it is published.
-use Rattle.std.specs.Prelude.{ℕ, List, [], ◌∷◌, Bool, if◌then◌else◌, codes, map, Option, None, Some}
+use Rattle.std.specs.Prelude.{ℕ, List, [], Bool, if◌then◌else◌, codes, map, Option, None, Some}
 use Rattle.json.specs.Json.{Json, string, array, object, Members, no_members, member}
 use Rattle.json.specs.Token.{Token}
 use Rattle.json.specs.Tree.{json_tokens}

@@ -4,6 +4,8 @@ use Rattle.std.specs.Str.{bytes_eq}
 use Rattle.std.specs.declared.alloc.Global.{Global}
 use Rattle.file_uris.specs.Names.{IsNameOf}
 use Rattle.json.specs.Json.{Json, null}
+use Rattle.json.specs.Token.{Token}
+use Rattle.json.specs.Tree.{json_tokens}
 use Rattle.json_rpc.specs.Ids.{IdVal}
 use Rattle.json_rpc.specs.Writing.{body, answer}
 use Rattle.json_rpc.specs.declared.code.Code.{Code}
@@ -198,6 +200,17 @@ Remains Running asks.Hover s t = HasRead s t
 Remains Running asks.References s t = HasRead s t
 Remains Running asks.Completion s t = HasRead s t
 Remains _ _ s t = t ≡ s
+
+-- what one that is told while the exchange runs has for its result, before `shutdown` ends the exchange
+abbrev pub Tells : Asked → Server → Option Json → Json → Server → Type 0
+Tells asks.Shutdown s params j t = (j ≡ null) × (t ≡ s)
+Tells asked s params j t = Gives Running asked s params j t
+
+-- its result is written, or why it has none is told
+abbrev pub IsPut : Asked → Server → Option Json → List Token → Result (Unit {0}) Code → Server → List Token → Type 0
+IsPut asked s params old r t now =
+    MatchResult r (λ _. (j : Json) × Tells asked s params j t × (now ≡ old ++ json_tokens j))
+    (λ code. Remains Running asked s t × ((code ≡ codes_of.InternalError) ⊎ IsDue Running asked s params code))
 
 -- it is answered by its result; or it is refused, and nothing changes: for a reason, or for want of memory
 abbrev pub IsAnsweredBy : Server → IdVal → Asked → Option Json → Result (Vec ℕ Global) Code → Server → Type 0

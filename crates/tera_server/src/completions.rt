@@ -11,8 +11,9 @@ ghost use Rattle.tera_tree.specs.Calls.{texts, once_each};
 ghost use Rattle.tera_workspace.specs.Components.{components_of, parameters_of_name};
 ghost use Rattle.tera_server.specs.Completions.{defined_names, behind, behind_first, name_in, name_below, template_name, offered, kind_number, item_tokens, items_json, IsCompletion};
 
-use json::Writer;
-use protocol_values::{put_edit, put_number, put_text};
+use crate::tokens::put_tokens;
+use json::{Token, Writer};
+use protocol_values::{put_edit, put_number};
 use std::alloc::{AllocError, Global};
 use std::collections::BTreeSet;
 use tera_outline::{CompletionKind, Name, NameKind, Piece, names_of, pieces_of, wanted};
@@ -105,8 +106,7 @@ fn put_offered(
     let sorted = once_each(alloc, names.as_slice())?;
     out.begin_array()?;
     put_items(out, place, &sorted)?;
-    out.end_array()?;
-    Ok(())
+    out.end_array()
 }
 
 // What may be typed of this kind, beside these names that stand in the text.
@@ -277,13 +277,14 @@ fn put_item(out: &mut Writer, place: Place, name: &str) -> Result<(), AllocError
         ++ item_tokens place.start place.end (kind_number place.kind) name.now) }
     ensures before { out.new.before ≡ out.old.before }
 {
-    out.begin_object()?;
-    put_text(out, "label", name)?;
+    put_tokens(
+        out,
+        &[Token::BeginObject, Token::Key("label"), Token::String(name)],
+    )?;
     put_number(out, "kind", kind_number(place.kind))?;
     out.key("textEdit")?;
     put_edit(out, place.start, place.end, name)?;
-    out.end_object()?;
-    Ok(())
+    out.end_object()
 }
 
 fn kind_number(kind: CompletionKind) -> usize

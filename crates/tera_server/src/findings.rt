@@ -12,8 +12,9 @@ ghost use Rattle.tera_server.specs.Editors.{seen_of, uri_in, version_in};
 ghost use Rattle.tera_server.specs.Findings.{related_json, one_related, related_tokens, severity_number, one_found, found_json, published as message_of_found, version_tokens};
 
 use crate::editor::Editor;
+use crate::tokens::put_tokens;
 use file_uris::uri_of;
-use json::Writer;
+use json::{Token, Writer};
 use json_rpc::{begin_notification, end_message};
 use protocol_values::{put_location, put_number, put_range, put_text};
 use std::alloc::{AllocError, Global};
@@ -58,12 +59,9 @@ fn put_published(
     out.begin_object()?;
     put_uri(alloc, out, telling.editor, name)?;
     put_version(out, telling.editor, name)?;
-    out.key("diagnostics")?;
-    out.begin_array()?;
+    put_tokens(out, &[Token::Key("diagnostics"), Token::BeginArray])?;
     put_diagnostics(alloc, out, telling, found)?;
-    out.end_array()?;
-    out.end_object()?;
-    Ok(())
+    put_tokens(out, &[Token::EndArray, Token::EndObject])
 }
 
 fn put_diagnostics(
@@ -128,12 +126,19 @@ fn put_diagnostic(
     out.begin_object()?;
     put_range(out, "range", diagnostic.start, diagnostic.end)?;
     put_number(out, "severity", severity_number(diagnostic.kind.severity()))?;
-    put_text(out, "code", diagnostic.kind.name())?;
-    put_text(out, "source", "tera")?;
-    put_text(out, "message", diagnostic.message.as_str())?;
+    put_tokens(
+        out,
+        &[
+            Token::Key("code"),
+            Token::String(diagnostic.kind.name()),
+            Token::Key("source"),
+            Token::String("tera"),
+            Token::Key("message"),
+            Token::String(diagnostic.message.as_str()),
+        ],
+    )?;
     put_related(alloc, out, telling, diagnostic.related.as_slice())?;
-    out.end_object()?;
-    Ok(())
+    out.end_object()
 }
 
 // How the protocol has it.
@@ -174,11 +179,9 @@ fn put_related_array(
         (array (items_of (map (related_json editor.now) (map related_view related.now))))) }
     ensures before { out.new.before ≡ out.old.before }
 {
-    out.key("relatedInformation")?;
-    out.begin_array()?;
+    put_tokens(out, &[Token::Key("relatedInformation"), Token::BeginArray])?;
     put_all(alloc, out, editor, related)?;
-    out.end_array()?;
-    Ok(())
+    out.end_array()
 }
 
 fn put_all(
@@ -209,9 +212,14 @@ fn put_one(
 {
     out.begin_object()?;
     put_place(alloc, out, editor, one)?;
-    put_text(out, "message", one.message.as_str())?;
-    out.end_object()?;
-    Ok(())
+    put_tokens(
+        out,
+        &[
+            Token::Key("message"),
+            Token::String(one.message.as_str()),
+            Token::EndObject,
+        ],
+    )
 }
 
 fn put_place(
@@ -227,6 +235,5 @@ fn put_place(
 {
     let uri = uri_by(alloc, editor, one.file.as_str())?;
     out.key("location")?;
-    put_location(out, uri.as_str(), one.start, one.end)?;
-    Ok(())
+    put_location(out, uri.as_str(), one.start, one.end)
 }

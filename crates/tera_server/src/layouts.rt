@@ -68,8 +68,7 @@ fn put_edits_to(
     let lines = Lines::of(alloc, text)?;
     out.begin_array()?;
     put_edits(out, encoding, text, &lines, edits.as_slice())?;
-    out.end_array()?;
-    Ok(())
+    out.end_array()
 }
 
 fn put_edits(

@@ -43,8 +43,7 @@ pub(crate) fn put_references(
 {
     out.begin_array()?;
     put_all(alloc, out, search, texts)?;
-    out.end_array()?;
-    Ok(())
+    out.end_array()
 }
 
 fn put_all(
@@ -77,8 +76,7 @@ fn put_in(
     let names = names_of(alloc, pieces.as_slice())?;
     let lines = Lines::of(alloc, text.text)?;
     let uri = uri_by(alloc, search.editor, text.file)?;
-    put_names(out, search, *text, &lines, uri.as_str(), names.as_slice())?;
-    Ok(())
+    put_names(out, search, *text, &lines, uri.as_str(), names.as_slice())
 }
 
 // Of the names in a text those that count.

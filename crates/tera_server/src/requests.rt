@@ -1,7 +1,7 @@
 //! Requests.
 
 ghost use Rattle.std.specs.Prelude.{◌≡◌, ◌⊎◌, ◌++◌, [], ◌∷◌, codes, IfOk, IfErr, OnOk, OnErr, MatchResult, option_map, map, string_bytes, Some};
-ghost use Rattle.json.specs.Json.{Json, null};
+ghost use Rattle.json.specs.Json.{Json};
 ghost use Rattle.json.specs.Tree.{json_tokens};
 ghost use Rattle.json.specs.Value.{value_view};
 ghost use Rattle.json_rpc.specs.Writing.{body, answer};
@@ -12,11 +12,10 @@ ghost use Rattle.tera_outline.specs.Names.{name_view};
 ghost use Rattle.tera_workspace.specs.Definitions.{AreRead};
 ghost use Rattle.tera_workspace.specs.Workspaces.{IsKept};
 ghost use Rattle.tera_server.specs.Clients.{client_in};
-ghost use Rattle.tera_server.specs.Definitions.{place_of, place_json};
 ghost use Rattle.tera_server.specs.Notes.{document_in, uri_told};
-ghost use Rattle.tera_server.specs.Requests.{asked_of, AreNames, AddsName, folder_uri, folders_by, folders_in, IsBegun, Gives, RefusesDocument, RefusesPlace, IsMeant, IsNamed, IsOffered, HasRead, IsExplained, AreListed, place_in, IsAnsweredBy};
+ghost use Rattle.tera_server.specs.Requests.{asked_of, AreNames, AddsName, folder_uri, folders_by, folders_in, IsBegun, RefusesDocument, RefusesPlace, IsMeant, IsNamed, IsOffered, HasRead, AreListed, place_in, IsPut, IsAnsweredBy};
 ghost use Rattle.tera_server.specs.declared.requests.Asked.TheVariants.{Formatting, Symbols, Definition, Hover, References, Completion, SemanticTokens};
-ghost use Rattle.tera_server.specs.declared.server.Phase.TheVariants.{New, Running, ShutDown as PhaseShutDown};
+ghost use Rattle.tera_server.specs.declared.server.Phase.TheVariants.{New, Running};
 
 use crate::abilities::put_abilities;
 use crate::client::Client;
@@ -103,19 +102,11 @@ impl Server {
     {
         match asked {
             Asked::Initialize => Ok(self.initialize(alloc, id, params)?),
-            Asked::Shutdown => Err(Code::ServerNotInitialized),
-            Asked::Formatting => Err(Code::ServerNotInitialized),
-            Asked::Symbols => Err(Code::ServerNotInitialized),
-            Asked::Definition => Err(Code::ServerNotInitialized),
-            Asked::Hover => Err(Code::ServerNotInitialized),
-            Asked::References => Err(Code::ServerNotInitialized),
-            Asked::Completion => Err(Code::ServerNotInitialized),
-            Asked::SemanticTokens => Err(Code::ServerNotInitialized),
-            Asked::Other => Err(Code::ServerNotInitialized),
+            _ => Err(Code::ServerNotInitialized),
         }
     }
 
-    // Once it has.
+    // Once it has. It ends when the answer to `shutdown` is there.
     fn result_within(
         &mut self,
         alloc: Global,
@@ -126,16 +117,36 @@ impl Server {
         requires { self.old.phase ≡ Running }
         ensures { IsAnsweredBy self.old id.now asked (seen params.entry) result self.new }
     {
+        let mut out = begin_answer(alloc, id)?;
+        self.put_result(alloc, &mut out, asked, params)?;
+        let answer = end_message(out)?;
+        if let Asked::Shutdown = asked {
+            self.phase = Phase::ShutDown;
+        }
+        Ok(answer)
+    }
+
+    // Writes the result of a request, or tells why there is none.
+    fn put_result(
+        &mut self,
+        alloc: Global,
+        out: &mut Writer,
+        asked: Asked,
+        params: Option<&Value<'_>>,
+    ) -> Result<(), Code>
+        ensures result { IsPut asked self.old (seen params.entry) out.old.tokens result self.new out.new.tokens }
+        ensures before { out.new.before ≡ out.old.before }
+    {
         match asked {
             Asked::Initialize => Err(Code::InvalidRequest),
-            Asked::Shutdown => Ok(self.shut_down(alloc, id)?),
-            Asked::Formatting => self.formatting(alloc, id, params),
-            Asked::Symbols => self.symbols(alloc, id, params),
-            Asked::Definition => self.definition(alloc, id, params),
-            Asked::Hover => self.hover(alloc, id, params),
-            Asked::References => self.references(alloc, id, params),
-            Asked::Completion => self.completion(alloc, id, params),
-            Asked::SemanticTokens => self.semantic_tokens(alloc, id, params),
+            Asked::Shutdown => Ok(out.null()?),
+            Asked::Formatting => self.formatting(alloc, out, params),
+            Asked::Symbols => self.symbols(alloc, out, params),
+            Asked::Definition => self.definition(alloc, out, params),
+            Asked::Hover => self.hover(alloc, out, params),
+            Asked::References => self.references(alloc, out, params),
+            Asked::Completion => self.completion(alloc, out, params),
+            Asked::SemanticTokens => self.semantic_tokens(alloc, out, params),
             Asked::Other => Err(Code::MethodNotFound),
         }
     }
@@ -164,107 +175,89 @@ impl Server {
         Ok(answer)
     }
 
-    fn shut_down(&mut self, alloc: Global, id: &Id<'_>) -> Result<Vec<u8>, AllocError>
-        ensures ended { IfOk result (λ v. (self.new ≡ record self.old { phase = PhaseShutDown })
-            × (v.items ≡ body (answer id.now null))) }
-        ensures err { OnErr result (self.new ≡ self.old) }
-    {
-        let mut writer = begin_answer(alloc, id)?;
-        writer.null()?;
-        let answer = end_message(writer)?;
-        self.phase = Phase::ShutDown;
-        Ok(answer)
-    }
-
     fn formatting(
         &self,
         alloc: Global,
-        id: &Id<'_>,
+        out: &mut Writer,
         params: Option<&Value<'_>>,
-    ) -> Result<Vec<u8>, Code>
-        requires { self.now.phase ≡ Running }
-        ensures { MatchResult result
-            (λ v. (j : Json) × Gives Running Formatting self.now (seen params.entry) j self.now
-            × (v.items ≡ body (answer id.now j)))
-            (λ code. (code ≡ InternalError) ⊎ RefusesDocument (uri_told (document_in (seen params.entry))) self.now code) }
+    ) -> Result<(), Code>
+        ensures result { IsPut Formatting self.now (seen params.entry) out.old.tokens result self.now out.new.tokens }
+        ensures before { out.new.before ≡ out.old.before }
     {
         let text = self.text_meant(alloc, params)?;
-        let mut writer = begin_answer(alloc, id)?;
-        put_layout(alloc, &mut writer, self.client.encoding, text)?;
-        Ok(end_message(writer)?)
+        put_layout(alloc, out, self.client.encoding, text)?;
+        Ok(())
     }
 
     fn symbols(
         &self,
         alloc: Global,
-        id: &Id<'_>,
+        out: &mut Writer,
         params: Option<&Value<'_>>,
-    ) -> Result<Vec<u8>, Code>
-        requires { self.now.phase ≡ Running }
-        ensures { MatchResult result
-            (λ v. (j : Json) × Gives Running Symbols self.now (seen params.entry) j self.now
-            × (v.items ≡ body (answer id.now j)))
-            (λ code. (code ≡ InternalError) ⊎ RefusesDocument (uri_told (document_in (seen params.entry))) self.now code) }
+    ) -> Result<(), Code>
+        ensures result { IsPut Symbols self.now (seen params.entry) out.old.tokens result self.now out.new.tokens }
+        ensures before { out.new.before ≡ out.old.before }
     {
         let text = self.text_meant(alloc, params)?;
-        let mut writer = begin_answer(alloc, id)?;
-        put_outline(alloc, &mut writer, self.client.encoding, text)?;
-        Ok(end_message(writer)?)
+        put_outline(alloc, out, self.client.encoding, text)?;
+        Ok(())
+    }
+
+    fn semantic_tokens(
+        &self,
+        alloc: Global,
+        out: &mut Writer,
+        params: Option<&Value<'_>>,
+    ) -> Result<(), Code>
+        ensures result { IsPut SemanticTokens self.now (seen params.entry) out.old.tokens result self.now out.new.tokens }
+        ensures before { out.new.before ≡ out.old.before }
+    {
+        let text = self.text_meant(alloc, params)?;
+        put_semantic_tokens(alloc, out, self.client.encoding, text)?;
+        Ok(())
     }
 
     fn definition(
         &mut self,
         alloc: Global,
-        id: &Id<'_>,
+        out: &mut Writer,
         params: Option<&Value<'_>>,
-    ) -> Result<Vec<u8>, Code>
-        requires { self.old.phase ≡ Running }
-        ensures { MatchResult result
-            (λ v. (j : Json) × Gives Running Definition self.old (seen params.entry) j self.new
-            × (v.items ≡ body (answer id.now j)))
-            (λ code. HasRead self.old self.new
-            × ((code ≡ InternalError) ⊎ RefusesPlace (place_in (seen params.entry))
-            (uri_told (document_in (seen params.entry))) self.old code)) }
+    ) -> Result<(), Code>
+        ensures result { IsPut Definition self.old (seen params.entry) out.old.tokens result self.new out.new.tokens }
+        ensures before { out.new.before ≡ out.old.before }
     {
         let name = self.name_read(alloc, params)?;
-        Ok(self.lead_to(alloc, id, &name)?)
+        put_definition(alloc, out, &self.workspace, &self.editor, &name)?;
+        Ok(())
     }
 
     fn hover(
         &mut self,
         alloc: Global,
-        id: &Id<'_>,
+        out: &mut Writer,
         params: Option<&Value<'_>>,
-    ) -> Result<Vec<u8>, Code>
-        requires { self.old.phase ≡ Running }
-        ensures { MatchResult result
-            (λ v. (j : Json) × Gives Running Hover self.old (seen params.entry) j self.new
-            × (v.items ≡ body (answer id.now j)))
-            (λ code. HasRead self.old self.new
-            × ((code ≡ InternalError) ⊎ RefusesPlace (place_in (seen params.entry))
-            (uri_told (document_in (seen params.entry))) self.old code)) }
+    ) -> Result<(), Code>
+        ensures result { IsPut Hover self.old (seen params.entry) out.old.tokens result self.new out.new.tokens }
+        ensures before { out.new.before ≡ out.old.before }
     {
         let name = self.name_read(alloc, params)?;
-        Ok(self.explain(alloc, id, &name)?)
+        put_hover(alloc, out, &self.workspace, &name)?;
+        Ok(())
     }
 
     fn references(
         &mut self,
         alloc: Global,
-        id: &Id<'_>,
+        out: &mut Writer,
         params: Option<&Value<'_>>,
-    ) -> Result<Vec<u8>, Code>
-        requires { self.old.phase ≡ Running }
-        ensures { MatchResult result
-            (λ v. (j : Json) × Gives Running References self.old (seen params.entry) j self.new
-            × (v.items ≡ body (answer id.now j)))
-            (λ code. HasRead self.old self.new
-            × ((code ≡ InternalError) ⊎ RefusesPlace (place_in (seen params.entry))
-            (uri_told (document_in (seen params.entry))) self.old code)) }
+    ) -> Result<(), Code>
+        ensures result { IsPut References self.old (seen params.entry) out.old.tokens result self.new out.new.tokens }
+        ensures before { out.new.before ≡ out.old.before }
     {
         let declared = is_set(member(member(params, "context"), "includeDeclaration"));
         let name = self.name_read(alloc, params)?;
-        Ok(self.list(alloc, id, declared, &name)?)
+        self.put_list(alloc, out, declared, &name)?;
+        Ok(())
     }
 
     // The name at the position that the parameters tell. Then the documents that changed are read, so that what is told of
@@ -305,49 +298,6 @@ impl Server {
         Ok(name_at(alloc, self.client.encoding, text, position)?)
     }
 
-    fn lead_to(
-        &self,
-        alloc: Global,
-        id: &Id<'_>,
-        name: &Option<Name>,
-    ) -> Result<Vec<u8>, AllocError>
-        ensures { IfOk result (λ v. v.items ≡ body (answer id.now
-            (place_json self.now.editor (place_of self.now.workspace (option_map name_view name.now))))) }
-    {
-        let mut writer = begin_answer(alloc, id)?;
-        put_definition(alloc, &mut writer, &self.workspace, &self.editor, name)?;
-        end_message(writer)
-    }
-
-    fn explain(
-        &self,
-        alloc: Global,
-        id: &Id<'_>,
-        name: &Option<Name>,
-    ) -> Result<Vec<u8>, AllocError>
-        ensures { IfOk result (λ v. (j : Json) × IsExplained (option_map name_view name.now) self.now j
-            × (v.items ≡ body (answer id.now j))) }
-    {
-        let mut writer = begin_answer(alloc, id)?;
-        put_hover(alloc, &mut writer, &self.workspace, name)?;
-        Ok(end_message(writer)?)
-    }
-
-    fn list(
-        &self,
-        alloc: Global,
-        id: &Id<'_>,
-        declared: bool,
-        name: &Option<Name>,
-    ) -> Result<Vec<u8>, AllocError>
-        ensures { IfOk result (λ v. (j : Json) × AreListed declared (option_map name_view name.now) self.now j
-            × (v.items ≡ body (answer id.now j))) }
-    {
-        let mut writer = begin_answer(alloc, id)?;
-        self.put_list(alloc, &mut writer, declared, name)?;
-        end_message(writer)
-    }
-
     fn put_list(
         &self,
         alloc: Global,
@@ -368,38 +318,34 @@ impl Server {
                     encoding: self.client.encoding,
                 };
                 let texts = self.workspace.texts(alloc)?;
-                put_references(alloc, out, search, texts.as_slice())?;
+                put_references(alloc, out, search, texts.as_slice())
             }
-            None => out.null()?,
+            None => out.null(),
         }
-        Ok(())
     }
 
     // Documents that changed are read first, so that what is offered is of the texts as they are.
     fn completion(
         &mut self,
         alloc: Global,
-        id: &Id<'_>,
+        out: &mut Writer,
         params: Option<&Value<'_>>,
-    ) -> Result<Vec<u8>, Code>
-        requires { self.old.phase ≡ Running }
-        ensures { MatchResult result
-            (λ v. (j : Json) × Gives Running Completion self.old (seen params.entry) j self.new
-            × (v.items ≡ body (answer id.now j)))
-            (λ code. HasRead self.old self.new
-            × ((code ≡ InternalError) ⊎ RefusesPlace (place_in (seen params.entry)) (uri_told (document_in (seen params.entry))) self.old code)) }
+    ) -> Result<(), Code>
+        ensures result { IsPut Completion self.old (seen params.entry) out.old.tokens result self.new out.new.tokens }
+        ensures before { out.new.before ≡ out.old.before }
     {
         self.read_documents(alloc)?;
-        self.offer(alloc, id, params)
+        self.offer(alloc, out, params)
     }
 
     // What may be typed at the position that the parameters tell.
-    fn offer(&self, alloc: Global, id: &Id<'_>, params: Option<&Value<'_>>) -> Result<Vec<u8>, Code>
-        ensures { MatchResult result
-            (λ v. (j : Json) × IsOffered (place_in (seen params.entry)) (uri_told (document_in (seen params.entry))) self.now j
-            × (v.items ≡ body (answer id.now j)))
+    fn offer(&self, alloc: Global, out: &mut Writer, params: Option<&Value<'_>>) -> Result<(), Code>
+        ensures result { MatchResult result
+            (λ _. (j : Json) × IsOffered (place_in (seen params.entry)) (uri_told (document_in (seen params.entry))) self.now j
+            × (out.new.tokens ≡ out.old.tokens ++ json_tokens j))
             (λ code. (code ≡ InternalError)
             ⊎ RefusesPlace (place_in (seen params.entry)) (uri_told (document_in (seen params.entry))) self.now code) }
+        ensures before { out.new.before ≡ out.old.before }
     {
         let Some(position) = position_of(member(params, "position")) else {
             return Err(Code::InvalidParams);
@@ -409,34 +355,8 @@ impl Server {
             workspace: &self.workspace,
             folders: &self.folders,
         };
-        let mut writer = begin_answer(alloc, id)?;
-        put_completion(
-            alloc,
-            &mut writer,
-            offering,
-            self.client.encoding,
-            text,
-            position,
-        )?;
-        Ok(end_message(writer)?)
-    }
-
-    fn semantic_tokens(
-        &self,
-        alloc: Global,
-        id: &Id<'_>,
-        params: Option<&Value<'_>>,
-    ) -> Result<Vec<u8>, Code>
-        requires { self.now.phase ≡ Running }
-        ensures { MatchResult result
-            (λ v. (j : Json) × Gives Running SemanticTokens self.now (seen params.entry) j self.now
-            × (v.items ≡ body (answer id.now j)))
-            (λ code. (code ≡ InternalError) ⊎ RefusesDocument (uri_told (document_in (seen params.entry))) self.now code) }
-    {
-        let text = self.text_meant(alloc, params)?;
-        let mut writer = begin_answer(alloc, id)?;
-        put_semantic_tokens(alloc, &mut writer, self.client.encoding, text)?;
-        Ok(end_message(writer)?)
+        put_completion(alloc, out, offering, self.client.encoding, text, position)?;
+        Ok(())
     }
 
     // The text of the document that the parameters name, which the editor has open.

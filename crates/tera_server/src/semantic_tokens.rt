@@ -11,7 +11,8 @@ ghost use Rattle.text_edits.specs.Walks.{IsReached};
 ghost use Rattle.tera_server.specs.SemanticTokens as specs;
 ghost use Rattle.tera_server.specs.SemanticTokens.{AreTokens, data_of, numbers, number_tokens};
 
-use json::Writer;
+use crate::tokens::put_tokens;
+use json::{Token, Writer};
 use std::alloc::{AllocError, Global};
 use tera_outline::{SemanticKind, SemanticToken, semantic_tokens_of};
 use text_edits::{Encoding, Position, Walk};
@@ -28,13 +29,12 @@ pub(crate) fn put_semantic_tokens(
     ensures before { out.new.before ≡ out.old.before }
 {
     let tokens = semantic_tokens_of(alloc, text)?;
-    out.begin_object()?;
-    out.key("data")?;
-    out.begin_array()?;
+    put_tokens(
+        out,
+        &[Token::BeginObject, Token::Key("data"), Token::BeginArray],
+    )?;
     put_data(out, encoding, text, tokens.as_slice())?;
-    out.end_array()?;
-    out.end_object()?;
-    Ok(())
+    put_tokens(out, &[Token::EndArray, Token::EndObject])
 }
 
 fn put_data(

@@ -10,8 +10,9 @@ ghost use Rattle.protocol_values.specs.Writing.{member_tokens, range_json};
 ghost use Rattle.tera_server.specs.Positions.{position_at};
 ghost use Rattle.tera_server.specs.Outlines.{IsOutline, nested, symbol_items, symbol_begin, end_tokens, open_at, all_ended, kind_name, kind_number};
 
-use json::Writer;
-use protocol_values::{put_number, put_range, put_text};
+use crate::tokens::put_tokens;
+use json::{Token, Writer};
+use protocol_values::{put_number, put_range};
 use std::alloc::{AllocError, Global};
 use tera_outline::{Symbol, SymbolKind, symbols_of};
 use text_edits::{Encoding, Lines, position_at};
@@ -30,8 +31,7 @@ pub(crate) fn put_outline(
     let symbols = symbols_of(alloc, text)?;
     let lines = Lines::of(alloc, text)?;
     out.begin_array()?;
-    put_nested(alloc, out, encoding, text, &lines, symbols.as_slice())?;
-    Ok(())
+    put_nested(alloc, out, encoding, text, &lines, symbols.as_slice())
 }
 
 // Writes them and ends the array in which they stand.
@@ -56,8 +56,7 @@ fn put_nested(
         open.push(symbol.end)?;
     }
     end_all(out, &mut open)?;
-    out.end_array()?;
-    Ok(())
+    out.end_array()
 }
 
 // Ends those that end at or before the byte.
@@ -100,23 +99,22 @@ fn begin_symbol(
         ≡ out.old.tokens ++ symbol_begin encoding text.now (outlined symbol.now)) }
     ensures before { out.new.before ≡ out.old.before }
 {
-    out.begin_object()?;
-    put_text(out, "name", symbol.name.as_str())?;
-    put_text(out, "detail", kind_name(symbol.kind))?;
-    put_number(out, "kind", kind_number(symbol.kind))?;
-    put_part(
+    put_tokens(
         out,
-        "range",
-        encoding,
-        text,
-        lines,
-        (symbol.start, symbol.end),
+        &[
+            Token::BeginObject,
+            Token::Key("name"),
+            Token::String(symbol.name.as_str()),
+            Token::Key("detail"),
+            Token::String(kind_name(symbol.kind)),
+        ],
     )?;
+    put_number(out, "kind", kind_number(symbol.kind))?;
+    let bytes = (symbol.start, symbol.end);
+    put_part(out, "range", encoding, text, lines, bytes)?;
     let name = (symbol.name_start, symbol.name_end);
     put_part(out, "selectionRange", encoding, text, lines, name)?;
-    out.key("children")?;
-    out.begin_array()?;
-    Ok(())
+    put_tokens(out, &[Token::Key("children"), Token::BeginArray])
 }
 
 // Writes the member that is the range between two bytes.
@@ -142,9 +140,7 @@ fn end_symbol(out: &mut Writer) -> Result<(), AllocError>
     ensures tokens { OnOk result (out.new.tokens ≡ out.old.tokens ++ end_array ∷ end_object ∷ []) }
     ensures before { out.new.before ≡ out.old.before }
 {
-    out.end_array()?;
-    out.end_object()?;
-    Ok(())
+    put_tokens(out, &[Token::EndArray, Token::EndObject])
 }
 
 fn kind_name(kind: SymbolKind) -> &'static str

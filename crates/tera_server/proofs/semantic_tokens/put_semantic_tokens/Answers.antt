@@ -4,6 +4,7 @@ use Rattle.tera_outline.proofs.SemanticLemmas.{tokens_stand}
 use Rattle.protocol_values.specs.Writing.{number_json}
 use Rattle.tera_server.specs.SemanticTokens.{data_of, tokens_json, number_tokens}
 use Rattle.tera_server.proofs.ArrayLemmas.{items_written}
+use Rattle.tera_server.proofs.Tails.{and_so}
 use Rattle.tera_server.proofs.semantic_tokens.put_semantic_tokens.Goals as goal
 
 pub put_data-requires : goal.put_data-requires
@@ -15,10 +16,12 @@ pub returns-clause-tokens : goal.returns-clause-tokens
 unfolding number_tokens
 returns-clause-tokens c =
     let (parts, are, same) = c.in_ok-tokens.ensures in
-    let tokens = semantic_tokens_of c.args.text.now parts in (
+    let tokens = semantic_tokens_of c.args.text.now parts in
+    and_so c.put_tokens-2.result c.put_tokens-2.ensures.tokens
+    (λ h. (
       tokens_json c.args.encoding c.args.text.now tokens,
       (parts, are, refl),
       rw (items_written number_json (data_of c.args.encoding c.args.text.now tokens))
-          (rw (c.in_ok-end_object.ensures.ok, c.in_ok-end_array.ensures.ok, c.in_ok-put_data.ensures.tokens, c.in_ok-begin_array.ensures.ok, c.in_ok-key.ensures.ok, c.in_ok-begin_object.ensures.ok, c.as_slice.ensures.value, same)
+          (rw (h, c.in_ok-put_data.ensures.tokens, c.in_ok-put_tokens.ensures.tokens, c.as_slice.ensures.value, same)
           (simp append_assoc refl)),
-    )
+    ))

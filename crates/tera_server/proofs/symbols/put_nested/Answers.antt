@@ -4,6 +4,7 @@ use Rattle.json.specs.Token.{end_array}
 use Rattle.tera_outline.specs.Symbols.{outlined}
 use Rattle.tera_server.specs.Outlines.{nested, all_ended}
 use Rattle.tera_server.proofs.NestingLemmas.{left, left_none, symbol_taken}
+use Rattle.tera_server.proofs.Tails.{and_so}
 use Rattle.tera_server.proofs.symbols.put_nested.Goals as goal
 
 pub loop-symbol-preserved : goal.loop-symbol-preserved
@@ -26,8 +27,9 @@ returns-clause-tokens c =
     let text = c.args.text.now in
     let ends = reverse c.loop-symbol.open.items in
     let none : drop c.loop-symbol.symbol-index c.args.symbols.now ≡ [] = drop_all c.loop-symbol.symbol-index c.args.symbols.now (omega arith) in
-    c.in_ok-end_array.ensures.ok ∙ ap (λ ts. ts ++ end_array ∷ []) c.in_ok-end_all.ensures.tokens
+    and_so c.end_array.result c.end_array.ensures.ok
+    (λ h. h ∙ ap (λ ts. ts ++ end_array ∷ []) c.in_ok-end_all.ensures.tokens
     ∙ append_assoc c.loop-symbol.out.tokens (all_ended ends) (end_array ∷ [])
     ∙ ap (λ ts. c.loop-symbol.out.tokens ++ ts) (sym (left_none e text ends))
     ∙ ap (λ xs. c.loop-symbol.out.tokens ++ left e text ends (nested (map outlined xs))) (sym none)
-    ∙ sym c.loop-symbol.invariant.tokens
+    ∙ sym c.loop-symbol.invariant.tokens)

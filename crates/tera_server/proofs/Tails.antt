@@ -1,0 +1,6 @@
+-- What the last call of a body promises, for what the body promises.
+use Rattle.std.proofs.Common.{Result, OnOk}
+use Rattle.std.proofs.lemmas.Result.{on_ok_weaker}
+
+pub and_so : {T E P Q : Type 0} (r : Result T E) → OnOk r P → (P → Q) → OnOk r Q
+and_so r p f = on_ok_weaker r f p
