@@ -1,9 +1,9 @@
 -- What is held stands for what has come, step by step.
-use Rattle.std.proofs.Common.{◌≡◌, ℕ, ◌+◌, ◌-◌, ◌<◌, ◌≤◌, true, false, leb, List, [], ◌∷◌, ◌++◌, length, take, drop, min, Some, None, refl, sym, ap, subst, ◌∙◌, append_assoc, arith, inl, inr}
+use Rattle.std.proofs.Common.{◌≡◌, ℕ, suc, ◌+◌, ◌-◌, ◌<◌, ◌≤◌, true, false, leb, List, [], ◌∷◌, ◌++◌, length, take, drop, min, Some, None, refl, sym, ap, subst, ◌∙◌, append_assoc, arith, inl, inr}
 use Rattle.std.specs.List.{AllByRecursion, flat_map}
 use Rattle.std.proofs.lemmas.Bool.{le-leb, cases_lt}
 use Rattle.std.proofs.lemmas.Bool.Decides.{leb_tells}
-use Rattle.std.proofs.lemmas.List.{length-append, length-take, length-drop, take-append-drop, drop-drop, nil_from_length}
+use Rattle.std.proofs.lemmas.List.{length-append, length-take, length-drop, take-append-drop, drop-drop, nil_from_length, get_or_append_left}
 use Rattle.message_frames.specs.declared.field.Told.{Told}
 use Rattle.message_frames.specs.declared.field.Told.TheVariants as told
 use Rattle.message_frames.specs.declared.framing.Stage.{Stage}
@@ -96,6 +96,34 @@ pub header_comes : (pending bytes : List ℕ) (t u : Told) (len : ℕ) → Lines
     → AreRead bytes t (lines.Ended len u) → HeadBefore pending u (drop len bytes)
 header_comes pending bytes t u len a (le, (ls, e, each, tell)) =
     head_comes pending bytes (drop len bytes) t u ls (read_from pending bytes t a) e each tell
+
+-- a head takes bytes from the front
+pub ended_less : (bytes : List ℕ) (t u : Told) (len : ℕ) → AreRead bytes t (lines.Ended len u)
+    → length (drop len bytes) < length bytes
+ended_less bytes t u len (le, (ls, e, each, tell)) =
+    omega (arith, ap length e, length-append (head_text ls) (drop len bytes), length-append (flat_map ended ls) line_end)
+
+-- ---- what was read is there
+
+pub open_held : (xs : List ℕ) (taken len searched : ℕ) (t u : Told) → taken ≤ length xs
+    → AreRead (drop taken xs) t (lines.Open len u searched)
+    → (taken + len ≤ length xs) × IsStage 0 (stages.Lines u searched) (drop (taken + len) xs)
+open_held xs taken len searched t u within (le, before, none, is) =
+    let all = length-drop taken xs in
+    let later = length-drop (taken + len) xs in
+    (omega (arith, le, all), (omega (arith, is, all, later), rw (← drop-drop len taken xs) (λ k lt. none k (omega (arith, lt, is, length-drop len (drop taken xs))))))
+
+pub ended_held : (xs : List ℕ) (taken len : ℕ) (t u : Told) → taken ≤ length xs
+    → AreRead (drop taken xs) t (lines.Ended len u) → taken + len ≤ length xs
+ended_held xs taken len t u within (le, _) = omega (arith, le, length-drop taken xs)
+
+pub beyond_held : (xs : List ℕ) (taken len n k : ℕ) (t u : Told) → taken ≤ length xs
+    → AreRead (drop taken xs) t (lines.Ended len u) → k ≡ min n (length (drop taken xs) - len)
+    → (taken + (len + k) ≤ length xs) × (0 < n - k → length (drop (taken + (len + k)) xs) ≡ 0)
+beyond_held xs taken len n k t u within (le, _) is =
+    let all = length-drop taken xs in
+    let later = length-drop (taken + (len + k)) xs in
+    (omega (arith, le, all, is), λ some. omega (arith, some, le, all, later, is))
 
 pub is_header : (pending rest : List ℕ) (n : ℕ) (h : HeadBefore pending (told.Length n) rest)
     → IsHeader (head_text h.lines) n
@@ -212,6 +240,20 @@ stands_grow limit (stages.TooLong len left) bytes pending more is (header, passe
               subst (λ (x : List ℕ). x ++ more ≡ take (min left (length more)) more ++ (x ++ drop (min left (length more)) more)) (sym none) (sym (take-append-drop (min left (length more)) more))
           | inr none ↦ let k : min left (length more) ≡ 0 = omega arith in rw k refl
         ]
+
+pub stage_grows : (limit : ℕ) (stage : Stage) (bytes more : List ℕ) → IsStage limit stage bytes
+    → IsStage limit (stage_behind stage (passed_of stage (length more))) (bytes ++ drop (passed_of stage (length more)) more)
+stage_grows limit (stages.Lines t searched) bytes more (le, none) = (
+  omega (arith, length-append bytes more),
+  λ k lt at.
+      let here : k < length bytes = omega arith in
+      let there : suc k < length bytes = omega arith in
+      none k lt (sym (get_or_append_left bytes more 0 k here) ∙ at.0, sym (get_or_append_left bytes more 0 (suc k) there) ∙ at.1),
+)
+stage_grows limit (stages.Message len) bytes more is = is
+stage_grows limit (stages.TooLong len left) bytes more is = λ some.
+    let some_left : 0 < left = omega arith in
+    omega (arith, some, is some_left, length-append bytes (drop (min left (length more)) more), length-drop (min left (length more)) more)
 
 -- ---- want of memory
 

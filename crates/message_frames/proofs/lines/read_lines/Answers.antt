@@ -1,8 +1,9 @@
-use Rattle.std.proofs.Common.{◌≡◌, ◌<◌, ◌++◌, length, take, drop, sym, ap, subst, ◌∙◌, arith}
+use Rattle.std.proofs.Common.{◌≡◌, ◌<◌, ◌≤◌, ◌+◌, ◌++◌, length, take, drop, sym, ap, subst, ◌∙◌, arith}
+use Rattle.std.specs.List.{flat_map}
 use Rattle.std.proofs.lemmas.Bool.{eqb-true, eqb-false}
-use Rattle.message_frames.specs.Header.{EndsAt, head_text}
+use Rattle.message_frames.specs.Header.{EndsAt, NoneEndsBefore, ended, head_text}
 use Rattle.message_frames.specs.Reading.{field_of, told_with}
-use Rattle.message_frames.proofs.LineEnds.{line_more, head_ended, left_by_length}
+use Rattle.message_frames.proofs.LineEnds.{end_fits, line_more, head_ended, left_by_length}
 use Rattle.message_frames.proofs.lines.read_lines.Goals as goal
 
 pub returns-then-is_empty : goal.returns-then-is_empty
@@ -37,3 +38,31 @@ lines-preserved c =
       within = omega arith;
       none = λ i lt. absurd (omega arith);
     }
+
+pub split_at-requires-in-Some : goal.split_at-requires-in-Some
+split_at-requires-in-Some c =
+    let rest = c.lines.rest.now in
+    let room : c.in-Some.len + 2 ≤ length rest = end_fits rest c.in-Some.len c.in-Some.ensures.0 in
+    omega (arith, room, c.split_at.ensures.back_len)
+
+pub overflow_sub-result : goal.overflow_sub-result
+overflow_sub-result c =
+    let bytes = c.args.bytes.now in
+    let rest = c.lines.rest.now in
+    let read = c.lines.invariant.read in
+    let left = left_by_length (flat_map ended read.lines) rest bytes read.whole in
+    omega (arith, left.0, c.split_at.ensures.back_len, c.split_at-in-Some.ensures.back_len)
+
+pub overflow_sub-result-2 : goal.overflow_sub-result-2
+overflow_sub-result-2 c =
+    let read = c.lines.invariant.read in
+    (left_by_length (flat_map ended read.lines) c.lines.rest.now c.args.bytes.now read.whole).0
+
+pub returns : goal.returns
+returns c =
+    let bytes = c.args.bytes.now in
+    let rest = c.lines.rest.now in
+    let read = c.lines.invariant.read in
+    let left = left_by_length (flat_map ended read.lines) rest bytes read.whole in
+    let none : NoneEndsBefore rest (length rest) = c.in_default.ensures in
+    (omega arith, rw left.1 read, rw left.1 none, omega (arith, c.saturating_sub.ensures, left.0))

@@ -40,3 +40,11 @@ returns-clause-only c =
     let pieces = c.args.pieces.now in
     let all : take c.pieces.piece-index pieces ≡ pieces = take_all c.pieces.piece-index pieces c.pieces-test.false in
     no_other c.args.limit (flat_map (λ piece. piece.items) pieces) c.pieces.frames.items c.pieces.stream (rw all at c.pieces.invariant.taken)
+
+pub returns-clause-split : goal.returns-clause-split
+returns-clause-split c =
+    let pieces = c.args.pieces.now in
+    let all : take c.pieces.piece-index pieces ≡ pieces = take_all c.pieces.piece-index pieces c.pieces-test.false in
+    let whole : AllTaken c.args.limit (flat_map (λ piece. piece.items) pieces) [] c.pieces.frames.items c.pieces.stream =
+    rw all at c.pieces.invariant.taken in
+    (whole.taken.items, whole.taken.rest, record { whole = whole.taken.begins; partial = whole.partial }, whole.taken.told)

@@ -1,11 +1,11 @@
-use Rattle.std.proofs.Common.{◌≡◌, ◌≤◌, ◌+◌, ◌-◌, length, drop, ap, subst, ◌∙◌, arith}
-use Rattle.std.proofs.lemmas.List.{drop-drop}
+use Rattle.std.proofs.Common.{◌≡◌, ◌<◌, ◌≤◌, ◌+◌, ◌-◌, List, ℕ, length, drop, min, refl, ap, subst, ◌∙◌, arith}
+use Rattle.std.proofs.lemmas.List.{drop-drop, length-drop}
 use Rattle.message_frames.specs.declared.field.Told.TheVariants as told
 use Rattle.message_frames.specs.declared.framing.Stage.TheVariants as stages
 use Rattle.message_frames.specs.declared.lines.Lines.TheVariants as lines
 use Rattle.message_frames.specs.Lines.{AreRead}
 use Rattle.message_frames.specs.Standing.{StandsAt}
-use Rattle.message_frames.proofs.StandingLaws.{message_stands, beyond_stands, open_stands, header_comes, takes_headless, starts}
+use Rattle.message_frames.proofs.StandingLaws.{message_stands, beyond_stands, open_stands, header_comes, ended_less, open_held, ended_held, beyond_held, takes_headless, starts}
 use Rattle.message_frames.proofs.framing.Frames.read_header.Goals as goal
 
 pub returns-in-Open-clause-read : goal.returns-in-Open-clause-read
@@ -60,3 +60,102 @@ returns-in_default-clause-read c =
     rw (← c.self.view_is, ← left) (λ pending h.
     takes_headless pending (drop len bytes) t (record { limit = f.limit; stage = stages.Lines told.Nothing 0; bytes = drop len bytes })
     (header_comes pending bytes c.in-Lines.told t len (subst (λ s. StandsAt f.limit s bytes pending) c.in-Lines.is h) read) c.in_default.not-Length (starts f.limit (drop len bytes)))
+
+pub returns-in-Open-clause-held : goal.returns-in-Open-clause-held
+returns-in-Open-clause-held c =
+    let f = c.self.inside in
+    let len = c.in-Open.len in
+    let bytes = drop f.taken f.held.items in
+    let rest : c.split_at.result.1.now ≡ bytes = c.split_at.ensures.back ∙ ap (drop f.taken) c.as_slice.ensures.value in
+    let read : AreRead bytes c.in-Lines.told (lines.Open len c.in-Open.told c.in-Open.searched) =
+    rw rest at c.in-Open.ensures in
+    let left : drop len bytes ≡ drop (f.taken + len) f.held.items = drop-drop len f.taken f.held.items in
+    rw (← left) read.2
+
+pub returns-in_default-clause-nearer : goal.returns-in_default-clause-nearer
+returns-in_default-clause-nearer c =
+    let f = c.self.inside in
+    let len = c.in-Ended.len in
+    let bytes = drop f.taken f.held.items in
+    let rest : c.split_at.result.1.now ≡ bytes = c.split_at.ensures.back ∙ ap (drop f.taken) c.as_slice.ensures.value in
+    let read : AreRead bytes c.in-Lines.told (lines.Ended len c.in-Ended.told) = rw rest at c.in-Ended.ensures in
+    let left : drop len bytes ≡ drop (f.taken + len) f.held.items = drop-drop len f.taken f.held.items in
+    let less : length (drop len bytes) < length bytes = ended_less bytes c.in-Lines.told c.in-Ended.told len read in
+    rw (← c.self.view_is, c.in-Lines.is, ← left) (omega (arith, less))
+
+pub returns-then-length-self-clause-nearer : goal.returns-then-length-self-clause-nearer
+returns-then-length-self-clause-nearer c =
+    let f = c.self.inside in
+    let len = c.in-Ended.len in
+    let bytes = drop f.taken f.held.items in
+    let rest : c.split_at.result.1.now ≡ bytes = c.split_at.ensures.back ∙ ap (drop f.taken) c.as_slice.ensures.value in
+    let read : AreRead bytes c.in-Lines.told (lines.Ended len c.in-Ended.told) = rw rest at c.in-Ended.ensures in
+    let left : drop len bytes ≡ drop (f.taken + len) f.held.items = drop-drop len f.taken f.held.items in
+    let less : length (drop len bytes) < length bytes = ended_less bytes c.in-Lines.told c.in-Ended.told len read in
+    rw (← c.self.view_is, c.in-Lines.is, ← left) (omega (arith, less))
+
+pub invariant_of-self : goal.invariant_of-self
+invariant_of-self c =
+    let f = c.self.inside in
+    let len = c.in-Open.len in
+    let bytes = drop f.taken f.held.items in
+    let rest : c.split_at.result.1.now ≡ bytes = c.split_at.ensures.back ∙ ap (drop f.taken) c.as_slice.ensures.value in
+    let read : AreRead bytes c.in-Lines.told (lines.Open len c.in-Open.told c.in-Open.searched) =
+    rw rest at c.in-Open.ensures in
+    open_held f.held.items f.taken len c.in-Open.searched c.in-Lines.told c.in-Open.told c.self.invariant.0 read
+
+pub invariant_of-self-in_default : goal.invariant_of-self-in_default
+invariant_of-self-in_default c =
+    let f = c.self.inside in
+    let len = c.in-Ended.len in
+    let bytes = drop f.taken f.held.items in
+    let rest : c.split_at.result.1.now ≡ bytes = c.split_at.ensures.back ∙ ap (drop f.taken) c.as_slice.ensures.value in
+    let read : AreRead bytes c.in-Lines.told (lines.Ended len c.in-Ended.told) = rw rest at c.in-Ended.ensures in
+    (ended_held f.held.items f.taken len c.in-Lines.told c.in-Ended.told c.self.invariant.0 read, (omega arith, λ k lt e. omega (arith, lt)))
+
+pub invariant_of-self-then-length-self : goal.invariant_of-self-then-length-self
+invariant_of-self-then-length-self c =
+    let f = c.self.inside in
+    let len = c.in-Ended.len in
+    let bytes = drop f.taken f.held.items in
+    let rest : c.split_at.result.1.now ≡ bytes = c.split_at.ensures.back ∙ ap (drop f.taken) c.as_slice.ensures.value in
+    let read : AreRead bytes c.in-Lines.told (lines.Ended len c.in-Ended.told) = rw rest at c.in-Ended.ensures in
+    (ended_held f.held.items f.taken len c.in-Lines.told c.in-Ended.told c.self.invariant.0 read, c.if-length-self.true)
+
+pub invariant_of-self-in-Ended : goal.invariant_of-self-in-Ended
+invariant_of-self-in-Ended c =
+    let f = c.self.inside in
+    let len = c.in-Ended.len in
+    let bytes = drop f.taken f.held.items in
+    let rest : c.split_at.result.1.now ≡ bytes = c.split_at.ensures.back ∙ ap (drop f.taken) c.as_slice.ensures.value in
+    let read : AreRead bytes c.in-Lines.told (lines.Ended len c.in-Ended.told) = rw rest at c.in-Ended.ensures in
+    let n = c.in-Length.length in
+    let k = c.min-passed.result in
+    let passed : k ≡ min n (length bytes - len) = c.min-passed.ensures ∙ ap (λ (x : List ℕ). min n (length x - len)) rest in
+    beyond_held f.held.items f.taken len n k c.in-Lines.told c.in-Ended.told c.self.invariant.0 read passed
+
+pub returns-else-length-self-clause-stage : goal.returns-else-length-self-clause-stage
+returns-else-length-self-clause-stage c =
+    let f = c.self.inside in
+    let len = c.in-Ended.len in
+    let bytes = drop f.taken f.held.items in
+    let rest : c.split_at.result.1.now ≡ bytes = c.split_at.ensures.back ∙ ap (drop f.taken) c.as_slice.ensures.value in
+    let read : AreRead bytes c.in-Lines.told (lines.Ended len c.in-Ended.told) = rw rest at c.in-Ended.ensures in
+    let n = c.in-Length.length in
+    let k = c.min-passed.result in
+    let passed : k ≡ min n (length bytes - len) = c.min-passed.ensures ∙ ap (λ (x : List ℕ). min n (length x - len)) rest in
+    (refl, (beyond_held f.held.items f.taken len n k c.in-Lines.told c.in-Ended.told c.self.invariant.0 read passed).1)
+
+pub returns-else-length-self-clause-nearer : goal.returns-else-length-self-clause-nearer
+returns-else-length-self-clause-nearer c =
+    let f = c.self.inside in
+    let len = c.in-Ended.len in
+    let bytes = drop f.taken f.held.items in
+    let rest : c.split_at.result.1.now ≡ bytes = c.split_at.ensures.back ∙ ap (drop f.taken) c.as_slice.ensures.value in
+    let read : AreRead bytes c.in-Lines.told (lines.Ended len c.in-Ended.told) = rw rest at c.in-Ended.ensures in
+    let k = c.min-passed.result in
+    let less : length (drop len bytes) < length bytes = ended_less bytes c.in-Lines.told c.in-Ended.told len read in
+    let here = length-drop f.taken f.held.items in
+    let kept = length-drop len bytes in
+    let left = length-drop (f.taken + (len + k)) f.held.items in
+    rw (← c.self.view_is, c.in-Lines.is) (omega (arith, less, here, kept, left))
