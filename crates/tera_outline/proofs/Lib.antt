@@ -6,6 +6,7 @@ mod NamePlaces
 mod Nesting
 mod OutlineSteps
 mod Outlines
+mod PieceSteps
 mod Rising
 pub mod SemanticLemmas
 mod Sides

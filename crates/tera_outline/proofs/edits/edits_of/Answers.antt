@@ -20,3 +20,20 @@ push_run-requires-in-words-clause-before c = λ some.
 pub returns-clause-applied : goal.returns-clause-applied
 returns-clause-applied c =
     all_edited c.args.old.now c.args.new.now c.words.edits.items (c.words.at.old + 1) c.words.at c.words.invariant.edits c.words.invariant.behind (omega arith)
+
+pub words-init : goal.words-init
+words-init c = record { edits = c.in_ok-at.ensures.edits; behind = c.in_ok-at.ensures.behind }
+
+pub words-preserved : goal.words-preserved
+words-preserved c = record { edits = c.in_ok-at-2.ensures.edits; behind = c.in_ok-at-2.ensures.behind }
+
+pub words-smaller : goal.words-smaller
+words-smaller c =
+    let stands = word_stands c.args.old.now c.args.new.now c.words.at c.words.invariant.edits.alike c.words.invariant.behind (omega arith) in
+    omega (arith, stands.0, stands.1, c.word_len.ensures.count, c.word_len-in-words.ensures.count, c.min-word.ensures, c.in_ok-at-2.ensures.onward, c.words-test.true)
+
+pub returns-clause-apart : goal.returns-clause-apart
+returns-clause-apart c = c.words.invariant.edits.apart
+
+pub returns-clause-white : goal.returns-clause-white
+returns-clause-white c = c.words.invariant.edits.replace
