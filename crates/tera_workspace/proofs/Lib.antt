@@ -6,6 +6,7 @@ pub mod CurrentLemmas
 pub mod FoundLemmas
 pub mod HeadLemmas
 pub mod KnownLemmas
+pub mod LeftLemmas
 pub mod MarkLemmas
 pub mod NameSets
 pub mod NewsLemmas
@@ -16,4 +17,5 @@ pub mod ReadingLemmas
 pub mod SettleLemmas
 pub mod TouchedLemmas
 pub mod WantedLemmas
+pub mod WantsLemmas
 pub mod WorkspaceLemmas

@@ -1,5 +1,5 @@
 -- Sets of names, to which one is added.
-use Rattle.std.proofs.Common.{◌≡◌, ◌∙◌, ◌<◌, ◌≤◌, ◌+◌, ℕ, zero, suc, List, [], ◌∷◌, ◌++◌, ◌||◌, length, drop, get_or, Bool, true, false, cond, String, string_bytes, refl, sym, ap, arith, drop-cons}
+use Rattle.std.proofs.Common.{◌≡◌, ◌∙◌, ◌<◌, ◌≤◌, ℕ, zero, suc, List, [], ◌∷◌, ◌++◌, ◌||◌, length, drop, get_or, Bool, true, false, cond, String, string_bytes, refl, sym, ap, arith, drop-cons}
 use Rattle.std.proofs.Common.{if◌then◌else◌}
 use Rattle.std.specs.BTreeSet as sorted
 use Rattle.std.specs.BTreeSet.{BTreeSet, contains_text}

@@ -4,6 +4,7 @@ use Rattle.tera_workspace.specs.Kept.{IsWhole}
 use Rattle.tera_workspace.specs.declared.judged.Judged.{Judged}
 use Rattle.tera_workspace.proofs.CurrentLemmas.{all_at}
 use Rattle.tera_workspace.proofs.NewsLemmas.{AreNewsSoFar, news_next, all_news}
+use Rattle.tera_workspace.proofs.WantsLemmas.{wants_at}
 use Rattle.tera_workspace.proofs.news.news_of.Goals as goal
 
 pub loop-number-preserved : goal.loop-number-preserved
@@ -25,3 +26,17 @@ pub returns-clause-news : goal.returns-clause-news
 returns-clause-news c = λ whole.
     let as_many : length c.loop-number.news.items ≡ length c.args.all.now.items = omega (arith, ap length c.deref-judged-items.ensures.value, c.loop-number.invariant.0) in
     all_news c.args.encoding c.args.all.now.items c.loop-number.news.items as_many (c.loop-number.invariant.1 whole)
+
+pub news_of_one-requires : goal.news_of_one-requires
+news_of_one-requires c = record {
+  known = λ stale n among.
+      let js = c.args.all.now.items in
+      let at = c.loop-number.number in
+      let j = c.judged-item.result in
+      let within : at < length js = omega (arith, ap length c.deref-judged-items.ensures.value) in
+      let is : j ≡ get_or js at j = c.judged-item.is ∙ ap (λ xs. get_or xs at j) c.deref-judged-items.ensures.value in
+      c.in_ok-catalogue.ensures n (wants_at c.in_ok-wanted.wanted js at j within is c.in_ok-wanted.ensures stale n among);
+}
+
+pub returns-clause-as_many : goal.returns-clause-as_many
+returns-clause-as_many c = omega (arith, ap length c.deref-judged-items.ensures.value, c.loop-number.invariant.0)
