@@ -1,5 +1,5 @@
 -- What is known of documents, behind a change of one of them.
-use Rattle.std.proofs.Common.{◌≡◌, ◌∙◌, if◌then◌else◌, ℕ, List, Bool, true, false, cond, Option, None, Some, Result, Ok, Err, OnOk, OnErr, refl, sym, ap, subst}
+use Rattle.std.proofs.Common.{◌≡◌, ◌∙◌, ◌++◌, if◌then◌else◌, ℕ, List, Bool, true, false, cond, Option, None, Some, Result, Ok, Err, OnOk, OnErr, refl, sym, ap, subst}
 use Rattle.std.specs.Option.{option_map}
 use Rattle.std.specs.Str.{bytes_eq}
 use Rattle.std.specs.declared.alloc.AllocError.{AllocError}
@@ -11,8 +11,8 @@ use Rattle.text_documents.specs.Stored.{document_of, IsChangedAt, AreSame}
 use Rattle.text_edits.specs.Edits.{ChangeView}
 use Rattle.text_edits.specs.declared.positions.Encoding.{Encoding}
 use Rattle.tera_server.specs.Editors.{SeenVal, seen_of, stand_in, stand_of, changed_to, lost, IsSeenAt}
-use Rattle.tera_server.specs.Notes.{IsNotedAt, are_taken, edited_behind, IsChanged, is_made, IsMade, IsHeldAside, IsHeldBut}
-use Rattle.tera_server.specs.States.{Known, known_of, IsKnownAt, with_lost, changed_as, wanted_of, edited_of}
+use Rattle.tera_server.specs.Notes.{IsNotedAt, are_taken, edited_behind, IsChanged, IsClosed, is_made, IsMade, IsHeldAside, IsHeldBut}
+use Rattle.tera_server.specs.States.{Known, known_of, IsKnownAt, with_lost, changed_as, closed_as, wanted_of, wants_file, edited_of, with_name}
 use Rattle.tera_server.specs.declared.editor.Editor.{Editor}
 use Rattle.tera_server.specs.declared.server.Server.{Server}
 
@@ -54,6 +54,16 @@ aside_err (Ok x) u uri name shown s q t is of same as_was h = h
 aside_err (Err x) u uri name shown s q t is of same as_was h =
     let aside_name = subst (λ m. IsHeldAside m q t) same h in
     subst (λ v. IsHeldBut v s t) is (aside_but uri name s t of (subst (λ (p : Server). IsHeldAside name p t) as_was aside_name))
+
+-- ---- where a document was closed
+
+pub closed_of : (r : Result (Unit {0}) AllocError) (u : Option (List ℕ)) (uri name shown : List ℕ) (s q t : Server) → Some uri ≡ u → IsNameOf uri name → shown ≡ name → q ≡ s →
+    OnOk r (IsNotedAt shown closed_as q t × (wanted_of t ≡ wanted_of q ++ wants_file shown) × (edited_of t ≡ with_name shown (edited_of q))) →
+    OnOk r (IsClosed u s t)
+closed_of (Ok x) u uri name shown s q t is of same as_was h =
+    subst (λ v. IsClosed v s t) is
+    (subst (λ (p : Server). IsClosed (Some uri) p t) as_was (shown, subst (λ m. IsNameOf uri m) (sym same) of, h.0, h.1, h.2))
+closed_of (Err x) u uri name shown s q t is of same as_was h = h
 
 -- ---- behind changes
 
