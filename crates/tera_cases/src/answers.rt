@@ -1,4 +1,4 @@
-//! What the parser answers to a source, as text.
+//! What is shown of a source, as text: what the parser answers to it, or what is asked of it as a text that is edited.
 
 use crate::beginnings::lengths;
 use crate::contexts::context;

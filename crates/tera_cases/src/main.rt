@@ -1,4 +1,4 @@
-//! Compares what the parser answers with files of cases: `tera_cases FILE..`.
+//! Compares what the parser answers, and what places and edits of texts are, with files of cases: `tera_cases FILE..`.
 //!
 //! `docs/CASES.md` says what stands in a file.
 #![tactic(auto)]
