@@ -1,4 +1,4 @@
--- What the last call of a body promises, for what the body promises.
+-- What the last call of a body promises, for what the body promises: `on_ok_weaker` with its last two arguments swapped.
 use Rattle.std.proofs.Common.{Result, OnOk}
 use Rattle.std.proofs.lemmas.Result.{on_ok_weaker}
 

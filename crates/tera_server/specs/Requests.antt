@@ -201,15 +201,15 @@ Remains Running asks.References s t = HasRead s t
 Remains Running asks.Completion s t = HasRead s t
 Remains _ _ s t = t ≡ s
 
--- what one that is told while the exchange runs has for its result, before `shutdown` ends the exchange
-abbrev pub Tells : Asked → Server → Option Json → Json → Server → Type 0
-Tells asks.Shutdown s params j t = (j ≡ null) × (t ≡ s)
-Tells asked s params j t = Gives Running asked s params j t
+-- what `Gives` says while the exchange runs, but that `shutdown` has not ended it yet
+abbrev pub IsResultWithin : Asked → Server → Option Json → Json → Server → Type 0
+IsResultWithin asks.Shutdown s params j t = (j ≡ null) × (t ≡ s)
+IsResultWithin asked s params j t = Gives Running asked s params j t
 
--- its result is written, or why it has none is told
+-- the result is written, or it is told why there is none
 abbrev pub IsPut : Asked → Server → Option Json → List Token → Result (Unit {0}) Code → Server → List Token → Type 0
 IsPut asked s params old r t now =
-    MatchResult r (λ _. (j : Json) × Tells asked s params j t × (now ≡ old ++ json_tokens j))
+    MatchResult r (λ _. (j : Json) × IsResultWithin asked s params j t × (now ≡ old ++ json_tokens j))
     (λ code. Remains Running asked s t × ((code ≡ codes_of.InternalError) ⊎ IsDue Running asked s params code))
 
 -- it is answered by its result; or it is refused, and nothing changes: for a reason, or for want of memory

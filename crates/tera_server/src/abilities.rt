@@ -18,6 +18,7 @@ pub(crate) fn put_abilities(out: &mut Writer, encoding: Encoding) -> Result<(), 
     put_tokens(out, &BEFORE_THE_ENCODING)?;
     out.string(encoding_name(encoding))?;
     put_tokens(out, &BEFORE_THE_CHANGES)?;
+    // Changes are told by parts.
     put_number(out, "change", 2)?;
     put_tokens(out, &BEHIND_THE_CHANGES)?;
     Ok(())
@@ -30,7 +31,7 @@ const BEFORE_THE_ENCODING: [Token<'static>; 4] = [
     Token::Key("positionEncoding"),
 ];
 
-// Texts are told when they are opened and closed, and their changes by parts.
+// Texts are told when they are opened and closed.
 const BEFORE_THE_CHANGES: [Token<'static>; 4] = [
     Token::Key("textDocumentSync"),
     Token::BeginObject,

@@ -126,7 +126,8 @@ impl Server {
         Ok(answer)
     }
 
-    // Writes the result of a request, or tells why there is none.
+    // Writes the result of a request, or tells why there is none. Where it tells so, part of a result may be written, and is to
+    // be dropped.
     fn put_result(
         &mut self,
         alloc: Global,

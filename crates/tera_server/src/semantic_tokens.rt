@@ -120,7 +120,7 @@ fn put_number(out: &mut Writer, number: usize) -> Result<(), AllocError>
     out.u64(number as u64)
 }
 
-// Its place in the legend.
+// Its place in the legend, which stands among the tokens of `abilities`.
 fn kind_number(kind: SemanticKind) -> usize
     ensures { result ≡ specs.kind_number kind }
 {

@@ -8,7 +8,7 @@ ghost use Rattle.json.specs.Reads.{token_of};
 use json::{Token, Writer};
 use std::alloc::AllocError;
 
-/// Writes the tokens. None of them is a number.
+/// Writes the tokens, one behind the other.
 pub(crate) fn put_tokens(out: &mut Writer, tokens: &[Token<'_>]) -> Result<(), AllocError>
     requires { AllByRecursion (λ t. IsPrintable (token_of t)) tokens.now }
     ensures tokens { OnOk result (out.new.tokens ≡ out.old.tokens ++ map token_of tokens.now) }
