@@ -42,8 +42,8 @@ use std::rt::{Env, Files};
 use std::{env, io};
 
 /// Does what the arguments of the process ask, and answers the status that it ends with: 0 where nothing but warnings
-/// was found and all was done, 1 where an error was found, or a file that would change under `--check` or `--diff`, and
-/// 2 where not all could be done or told.
+/// was found and all was done, 1 where an error was found, or under `--check` or `--diff` a file that would change, and 2
+/// where not all could be done or told.
 pub fn run<R: Files + Env + Input + Print + Eprint + AllocGlobal + Clone + Drop>(
     rt: &R,
     terminals: Terminals,

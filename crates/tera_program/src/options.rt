@@ -23,7 +23,7 @@ Examples:
 
 Exit status:
   0  nothing but warnings was found, and all was done
-  1  an error was found, or a file that would change under --check or --diff
+  1  an error was found, or under --check or --diff a file that would change
   2  not all could be done: a file could not be read or written, or the arguments are wrong
 
 `tera help COMMAND` tells more of a command.";
