@@ -20,7 +20,7 @@ use Rattle.tera_server.specs.Editors.{stand_of}
 use Rattle.tera_server.specs.Notes.{document_in, uri_told}
 use Rattle.tera_server.specs.Requests.{IsBegun, HasRead, IsOffered, place_in, RefusesStand, RefusesPlace, Gives, Remains, IsPut, IsAnsweredBy}
 use Rattle.tera_server.specs.declared.requests.Asked.{Asked}
-use Rattle.tera_server.specs.declared.requests.Asked.TheVariants.{Initialize, Shutdown, Formatting, Symbols, Definition, Hover, References, Completion, SemanticTokens, Other}
+use Rattle.tera_server.specs.declared.requests.Asked.TheVariants.{Initialize, Shutdown, OfText, OfName, Completion, Other}
 use Rattle.tera_server.specs.declared.server.Phase.{Phase}
 use Rattle.tera_server.specs.declared.server.Phase.TheVariants.{New, Running, ShutDown}
 use Rattle.tera_server.specs.declared.server.Server.{Server}
@@ -61,7 +61,7 @@ pub offered_read : (params : Option Json) (s t : Server) (r : Result (Unit {0}) 
     → MatchResult r (λ _. (j : Json) × IsOffered (place_in params) (uri_told (document_in params)) t j × (now ≡ old ++ json_tokens j))
     (λ code. (code ≡ InternalError) ⊎ RefusesPlace (place_in params) (uri_told (document_in params)) t code)
     → IsPut Completion s params old r t now
-offered_read params s t (Ok v) old now read stays (j, offered, written) = (j, record { read = read; offered = offered; stays = stays }, written)
+offered_read params s t (Ok v) old now read stays (j, offered, written) = (j, record { read = read; told = offered; stays = stays }, written)
 offered_read params s t (Err code) old now read stays (inl memory) = (stays, inl memory)
 offered_read params s t (Err code) old now read stays (inr r) = (stays, inr (refused_before (place_in params) (uri_told (document_in params)) s t code stays r))
 
@@ -73,23 +73,15 @@ same_kept s t same kept = subst (λ u. IsKept u.workspace) (sym same) kept
 given_kept : (phase : Phase) (asked : Asked) (params : Option Json) (s t : Server) (j : Json) → Gives phase asked s params j t → IsKept s.workspace → IsKept t.workspace
 given_kept New Initialize params s t j h kept = h.1.kept
 given_kept New Shutdown params s t j h kept = absurd h
-given_kept New Formatting params s t j h kept = absurd h
-given_kept New Symbols params s t j h kept = absurd h
-given_kept New Definition params s t j h kept = absurd h
-given_kept New Hover params s t j h kept = absurd h
-given_kept New References params s t j h kept = absurd h
+given_kept New (OfText request) params s t j h kept = absurd h
+given_kept New (OfName request) params s t j h kept = absurd h
 given_kept New Completion params s t j h kept = absurd h
-given_kept New SemanticTokens params s t j h kept = absurd h
 given_kept New Other params s t j h kept = absurd h
 given_kept Running Initialize params s t j h kept = absurd h
 given_kept Running Shutdown params s t j h kept = subst (λ u. IsKept u.workspace) (sym h.1) kept
-given_kept Running Formatting params s t j h kept = same_kept s t h.3 kept
-given_kept Running Symbols params s t j h kept = same_kept s t h.3 kept
-given_kept Running Definition params s t j h kept = h.2.stays.kept kept
-given_kept Running Hover params s t j h kept = h.2.stays.kept kept
-given_kept Running References params s t j h kept = h.2.stays.kept kept
+given_kept Running (OfText request) params s t j h kept = same_kept s t h.3 kept
+given_kept Running (OfName request) params s t j h kept = h.2.stays.kept kept
 given_kept Running Completion params s t j h kept = h.stays.kept kept
-given_kept Running SemanticTokens params s t j h kept = same_kept s t h.3 kept
 given_kept Running Other params s t j h kept = absurd h
 given_kept ShutDown asked params s t j h kept = absurd h
 
@@ -97,13 +89,9 @@ remains_kept : (phase : Phase) (asked : Asked) (s t : Server) → Remains phase 
 remains_kept New asked s t h kept = same_kept s t h kept
 remains_kept Running Initialize s t h kept = same_kept s t h kept
 remains_kept Running Shutdown s t h kept = same_kept s t h kept
-remains_kept Running Formatting s t h kept = same_kept s t h kept
-remains_kept Running Symbols s t h kept = same_kept s t h kept
-remains_kept Running Definition s t h kept = h.kept kept
-remains_kept Running Hover s t h kept = h.kept kept
-remains_kept Running References s t h kept = h.kept kept
+remains_kept Running (OfText request) s t h kept = same_kept s t h kept
+remains_kept Running (OfName request) s t h kept = h.kept kept
 remains_kept Running Completion s t h kept = h.kept kept
-remains_kept Running SemanticTokens s t h kept = same_kept s t h kept
 remains_kept Running Other s t h kept = same_kept s t h kept
 remains_kept ShutDown asked s t h kept = same_kept s t h kept
 

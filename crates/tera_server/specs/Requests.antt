@@ -17,6 +17,7 @@ use Rattle.tera_workspace.specs.Definitions.{texts_read, AreRead}
 use Rattle.tera_workspace.specs.Workspaces.{told_of_name, IsKept}
 use Rattle.text_documents.specs.Documents.{no_document, text_of}
 use Rattle.text_documents.specs.Stored.{document_of, AreSame}
+use Rattle.text_edits.specs.declared.positions.Encoding.{Encoding}
 use Rattle.text_edits.specs.declared.positions.Position.{Position}
 use Rattle.tera_server.specs.Abilities.{abilities_json}
 use Rattle.tera_server.specs.Clients.{client_in}
@@ -33,6 +34,10 @@ use Rattle.tera_server.specs.declared.editor.Stand.{Stand}
 use Rattle.tera_server.specs.declared.editor.Stand.TheVariants.{Open, Lost, Closed}
 use Rattle.tera_server.specs.declared.requests.Asked.{Asked}
 use Rattle.tera_server.specs.declared.requests.Asked.TheVariants as asks
+use Rattle.tera_server.specs.declared.requests.NameRequest.{NameRequest}
+use Rattle.tera_server.specs.declared.requests.NameRequest.TheVariants as of_name
+use Rattle.tera_server.specs.declared.requests.TextRequest.{TextRequest}
+use Rattle.tera_server.specs.declared.requests.TextRequest.TheVariants as of_text
 use Rattle.tera_server.specs.declared.server.Phase.{Phase}
 use Rattle.tera_server.specs.declared.server.Phase.TheVariants.{New, Running, ShutDown}
 use Rattle.tera_server.specs.declared.server.Server.{Server}
@@ -42,13 +47,13 @@ abbrev pub asked_of : List ℕ → Asked
 asked_of m =
     if bytes_eq m (codes "initialize") then asks.Initialize
     else (if bytes_eq m (codes "shutdown") then asks.Shutdown
-    else (if bytes_eq m (codes "textDocument/formatting") then asks.Formatting
-    else (if bytes_eq m (codes "textDocument/documentSymbol") then asks.Symbols
-    else (if bytes_eq m (codes "textDocument/definition") then asks.Definition
-    else (if bytes_eq m (codes "textDocument/hover") then asks.Hover
-    else (if bytes_eq m (codes "textDocument/references") then asks.References
+    else (if bytes_eq m (codes "textDocument/formatting") then asks.OfText of_text.Formatting
+    else (if bytes_eq m (codes "textDocument/documentSymbol") then asks.OfText of_text.Symbols
+    else (if bytes_eq m (codes "textDocument/definition") then asks.OfName of_name.Definition
+    else (if bytes_eq m (codes "textDocument/hover") then asks.OfName of_name.Hover
+    else (if bytes_eq m (codes "textDocument/references") then asks.OfName of_name.References
     else (if bytes_eq m (codes "textDocument/completion") then asks.Completion
-    else (if bytes_eq m (codes "textDocument/semanticTokens/full") then asks.SemanticTokens else asks.Other))))))))
+    else (if bytes_eq m (codes "textDocument/semanticTokens/full") then asks.OfText of_text.SemanticTokens else asks.Other))))))))
 
 -- the names of these URIs, but for what has none
 abbrev pub AreNames : List (Option (List ℕ)) → List (List ℕ) → Type 0
@@ -110,27 +115,28 @@ pub record HasRead (s t : Server) : Type 0 where
   pub kept : IsKept s.workspace → IsKept t.workspace
 
 -- the documents are read as they are, and this is told by them
-pub record IsTold (Tells : Server → Json → Type 0) (s : Server) (j : Json) (t : Server) : Type 0 where
+pub record IsTold (Holds : Server → Json → Type 0) (s : Server) (j : Json) (t : Server) : Type 0 where
   pub read : IsKept s.workspace → AreRead t.workspace
-  pub told : Tells t j
+  pub told : Holds t j
   pub stays : HasRead s t
 
--- .. of the name at the position that parameters tell
-abbrev pub IsToldOf : Option Json → (Option Named → Server → Json → Type 0) → Server → Json → Server → Type 0
-IsToldOf params Tells s j t =
-    (named : Option Named) × IsNamed (place_in params) (uri_told (document_in params)) s named × IsTold (Tells named) s j t
-
--- of a name: the place that it leads to; the head of its definition; the places that refer to what it stands for
-abbrev pub LeadsTo : Option Named → Server → Json → Type 0
-LeadsTo named t j = j ≡ place_json t.editor (place_of t.workspace named)
-
-abbrev pub IsExplained : Option Named → Server → Json → Type 0
-IsExplained named t j = (head : Option (List ℕ)) × IsHead t.workspace named head × (j ≡ hover_json head)
-
+-- the places that refer to what a name stands for
 abbrev pub AreListed : Bool → Option Named → Server → Json → Type 0
 AreListed declared None t j = j ≡ null
 AreListed declared (Some n) t j =
     IsList (record { named = n; declared = declared; editor = t.editor; encoding = t.client.encoding }) (texts_read t.workspace) j
+
+-- the result of a request of a text: its layout, its outline or its coloured tokens
+abbrev pub IsResultOfText : TextRequest → Encoding → List ℕ → Json → Type 0
+IsResultOfText of_text.Formatting encoding text j = IsLayout encoding text j
+IsResultOfText of_text.Symbols encoding text j = IsOutline encoding text j
+IsResultOfText of_text.SemanticTokens encoding text j = AreTokens encoding text j
+
+-- .. and of a name: the place that it leads to, the head of its definition, or the places that refer to what it stands for
+abbrev pub IsResultOfName : NameRequest → Option Json → Option Named → Server → Json → Type 0
+IsResultOfName of_name.Definition params named t j = j ≡ place_json t.editor (place_of t.workspace named)
+IsResultOfName of_name.Hover params named t j = (head : Option (List ℕ)) × IsHead t.workspace named head × (j ≡ hover_json head)
+IsResultOfName of_name.References params named t j = AreListed (declares params) named t j
 
 -- this may be typed at the position in the text of the document
 abbrev pub IsOffered : Option Position → Option (List ℕ) → Server → Json → Type 0
@@ -138,26 +144,15 @@ IsOffered None uri s j = ⊥
 IsOffered (Some position) uri s j =
     (text : List ℕ) × IsMeant uri s text × IsCompletion s.client.encoding s.workspace (map string_bytes s.folders.items) text position j
 
--- the documents are read as they are, and this may be typed
-pub record Offers (position : Option Position) (uri : Option (List ℕ)) (s : Server) (j : Json) (t : Server) : Type 0 where
-  pub read : IsKept s.workspace → AreRead t.workspace
-  pub offered : IsOffered position uri t j
-  pub stays : HasRead s t
-
 -- the result of a request
 abbrev pub Gives : Phase → Asked → Server → Option Json → Json → Server → Type 0
 Gives New asks.Initialize s params j t = (j ≡ abilities_json (client_in params).encoding) × IsBegun params s t
 Gives Running asks.Shutdown s params j t = (j ≡ null) × (t ≡ record s { phase = ShutDown })
-Gives Running asks.Formatting s params j t =
-    (text : List ℕ) × IsMeant (uri_told (document_in params)) s text × IsLayout s.client.encoding text j × (t ≡ s)
-Gives Running asks.Symbols s params j t =
-    (text : List ℕ) × IsMeant (uri_told (document_in params)) s text × IsOutline s.client.encoding text j × (t ≡ s)
-Gives Running asks.Definition s params j t = IsToldOf params LeadsTo s j t
-Gives Running asks.Hover s params j t = IsToldOf params IsExplained s j t
-Gives Running asks.References s params j t = IsToldOf params (AreListed (declares params)) s j t
-Gives Running asks.Completion s params j t = Offers (place_in params) (uri_told (document_in params)) s j t
-Gives Running asks.SemanticTokens s params j t =
-    (text : List ℕ) × IsMeant (uri_told (document_in params)) s text × AreTokens s.client.encoding text j × (t ≡ s)
+Gives Running (asks.OfText request) s params j t =
+    (text : List ℕ) × IsMeant (uri_told (document_in params)) s text × IsResultOfText request s.client.encoding text j × (t ≡ s)
+Gives Running (asks.OfName request) s params j t =
+    (named : Option Named) × IsNamed (place_in params) (uri_told (document_in params)) s named × IsTold (IsResultOfName request params named) s j t
+Gives Running asks.Completion s params j t = IsTold (IsOffered (place_in params) (uri_told (document_in params))) s j t
 Gives _ _ s params j t = ⊥
 
 -- why a document is refused: the editor has it not open, or with a text that is not known
@@ -182,22 +177,16 @@ IsDue New asks.Initialize s params code = ⊥
 IsDue New _ s params code = code ≡ codes_of.ServerNotInitialized
 IsDue Running asks.Initialize s params code = code ≡ codes_of.InvalidRequest
 IsDue Running asks.Shutdown s params code = ⊥
-IsDue Running asks.Formatting s params code = RefusesDocument (uri_told (document_in params)) s code
-IsDue Running asks.Symbols s params code = RefusesDocument (uri_told (document_in params)) s code
-IsDue Running asks.Definition s params code = RefusesPlace (place_in params) (uri_told (document_in params)) s code
-IsDue Running asks.Hover s params code = RefusesPlace (place_in params) (uri_told (document_in params)) s code
-IsDue Running asks.References s params code = RefusesPlace (place_in params) (uri_told (document_in params)) s code
+IsDue Running (asks.OfText request) s params code = RefusesDocument (uri_told (document_in params)) s code
+IsDue Running (asks.OfName request) s params code = RefusesPlace (place_in params) (uri_told (document_in params)) s code
 IsDue Running asks.Completion s params code = RefusesPlace (place_in params) (uri_told (document_in params)) s code
-IsDue Running asks.SemanticTokens s params code = RefusesDocument (uri_told (document_in params)) s code
 IsDue Running asks.Other s params code = code ≡ codes_of.MethodNotFound
 IsDue ShutDown _ s params code = code ≡ codes_of.InvalidRequest
 
 -- what one that has no result leaves as it is: everything; but where it asks what stands at a place documents may
 -- have been read
 abbrev pub Remains : Phase → Asked → Server → Server → Type 0
-Remains Running asks.Definition s t = HasRead s t
-Remains Running asks.Hover s t = HasRead s t
-Remains Running asks.References s t = HasRead s t
+Remains Running (asks.OfName request) s t = HasRead s t
 Remains Running asks.Completion s t = HasRead s t
 Remains _ _ s t = t ≡ s
 

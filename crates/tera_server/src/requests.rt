@@ -13,8 +13,8 @@ ghost use Rattle.tera_workspace.specs.Definitions.{AreRead};
 ghost use Rattle.tera_workspace.specs.Workspaces.{IsKept};
 ghost use Rattle.tera_server.specs.Clients.{client_in};
 ghost use Rattle.tera_server.specs.Notes.{document_in, uri_told};
-ghost use Rattle.tera_server.specs.Requests.{asked_of, AreNames, AddsName, folder_uri, folders_by, folders_in, IsBegun, RefusesDocument, RefusesPlace, IsMeant, IsNamed, IsOffered, HasRead, AreListed, place_in, IsPut, IsAnsweredBy};
-ghost use Rattle.tera_server.specs.declared.requests.Asked.TheVariants.{Formatting, Symbols, Definition, Hover, References, Completion, SemanticTokens};
+ghost use Rattle.tera_server.specs.Requests.{asked_of, AreNames, AddsName, folder_uri, folders_by, folders_in, IsBegun, RefusesDocument, RefusesPlace, IsMeant, IsNamed, IsOffered, HasRead, AreListed, IsResultOfText, IsResultOfName, place_in, IsPut, IsAnsweredBy};
+ghost use Rattle.tera_server.specs.declared.requests.Asked.TheVariants.{OfText, OfName, Completion};
 ghost use Rattle.tera_server.specs.declared.server.Phase.TheVariants.{New, Running};
 
 use crate::abilities::put_abilities;
@@ -35,20 +35,33 @@ use protocol_values::{is_set, items_of, member, position_of, text_of};
 use std::alloc::{AllocError, Global};
 use tera_outline::Name;
 use tera_workspace::Workspace;
+use text_edits::Encoding;
 
 /// What a request asks.
 #[derive(Clone, Copy)]
 pub(crate) enum Asked {
     Initialize,
     Shutdown,
+    OfText(TextRequest),
+    OfName(NameRequest),
+    Completion,
+    Other,
+}
+
+/// What a request asks of the text of a document.
+#[derive(Clone, Copy)]
+pub(crate) enum TextRequest {
     Formatting,
     Symbols,
+    SemanticTokens,
+}
+
+/// What a request asks of the name at a position.
+#[derive(Clone, Copy)]
+pub(crate) enum NameRequest {
     Definition,
     Hover,
     References,
-    Completion,
-    SemanticTokens,
-    Other,
 }
 
 impl Asked {
@@ -59,13 +72,13 @@ impl Asked {
         match method {
             "initialize" => Asked::Initialize,
             "shutdown" => Asked::Shutdown,
-            "textDocument/formatting" => Asked::Formatting,
-            "textDocument/documentSymbol" => Asked::Symbols,
-            "textDocument/definition" => Asked::Definition,
-            "textDocument/hover" => Asked::Hover,
-            "textDocument/references" => Asked::References,
+            "textDocument/formatting" => Asked::OfText(TextRequest::Formatting),
+            "textDocument/documentSymbol" => Asked::OfText(TextRequest::Symbols),
+            "textDocument/definition" => Asked::OfName(NameRequest::Definition),
+            "textDocument/hover" => Asked::OfName(NameRequest::Hover),
+            "textDocument/references" => Asked::OfName(NameRequest::References),
             "textDocument/completion" => Asked::Completion,
-            "textDocument/semanticTokens/full" => Asked::SemanticTokens,
+            "textDocument/semanticTokens/full" => Asked::OfText(TextRequest::SemanticTokens),
             _ => Asked::Other,
         }
     }
@@ -141,13 +154,9 @@ impl Server {
         match asked {
             Asked::Initialize => Err(Code::InvalidRequest),
             Asked::Shutdown => Ok(out.null()?),
-            Asked::Formatting => self.formatting(alloc, out, params),
-            Asked::Symbols => self.symbols(alloc, out, params),
-            Asked::Definition => self.definition(alloc, out, params),
-            Asked::Hover => self.hover(alloc, out, params),
-            Asked::References => self.references(alloc, out, params),
+            Asked::OfText(request) => self.put_text_result(alloc, out, request, params),
+            Asked::OfName(request) => self.put_name_result(alloc, out, request, params),
             Asked::Completion => self.completion(alloc, out, params),
-            Asked::SemanticTokens => self.semantic_tokens(alloc, out, params),
             Asked::Other => Err(Code::MethodNotFound),
         }
     }
@@ -176,88 +185,33 @@ impl Server {
         Ok(answer)
     }
 
-    fn formatting(
+    fn put_text_result(
         &self,
         alloc: Global,
         out: &mut Writer,
+        request: TextRequest,
         params: Option<&Value<'_>>,
     ) -> Result<(), Code>
-        ensures result { IsPut Formatting self.now (seen params.entry) out.old.tokens result self.now out.new.tokens }
+        ensures result { IsPut (OfText request) self.now (seen params.entry) out.old.tokens result self.now out.new.tokens }
         ensures before { out.new.before ≡ out.old.before }
     {
         let text = self.text_meant(alloc, params)?;
-        put_layout(alloc, out, self.client.encoding, text)?;
+        put_result_of_text(alloc, out, request, self.client.encoding, text)?;
         Ok(())
     }
 
-    fn symbols(
-        &self,
-        alloc: Global,
-        out: &mut Writer,
-        params: Option<&Value<'_>>,
-    ) -> Result<(), Code>
-        ensures result { IsPut Symbols self.now (seen params.entry) out.old.tokens result self.now out.new.tokens }
-        ensures before { out.new.before ≡ out.old.before }
-    {
-        let text = self.text_meant(alloc, params)?;
-        put_outline(alloc, out, self.client.encoding, text)?;
-        Ok(())
-    }
-
-    fn semantic_tokens(
-        &self,
-        alloc: Global,
-        out: &mut Writer,
-        params: Option<&Value<'_>>,
-    ) -> Result<(), Code>
-        ensures result { IsPut SemanticTokens self.now (seen params.entry) out.old.tokens result self.now out.new.tokens }
-        ensures before { out.new.before ≡ out.old.before }
-    {
-        let text = self.text_meant(alloc, params)?;
-        put_semantic_tokens(alloc, out, self.client.encoding, text)?;
-        Ok(())
-    }
-
-    fn definition(
+    fn put_name_result(
         &mut self,
         alloc: Global,
         out: &mut Writer,
+        request: NameRequest,
         params: Option<&Value<'_>>,
     ) -> Result<(), Code>
-        ensures result { IsPut Definition self.old (seen params.entry) out.old.tokens result self.new out.new.tokens }
+        ensures result { IsPut (OfName request) self.old (seen params.entry) out.old.tokens result self.new out.new.tokens }
         ensures before { out.new.before ≡ out.old.before }
     {
         let name = self.name_read(alloc, params)?;
-        put_definition(alloc, out, &self.workspace, &self.editor, &name)?;
-        Ok(())
-    }
-
-    fn hover(
-        &mut self,
-        alloc: Global,
-        out: &mut Writer,
-        params: Option<&Value<'_>>,
-    ) -> Result<(), Code>
-        ensures result { IsPut Hover self.old (seen params.entry) out.old.tokens result self.new out.new.tokens }
-        ensures before { out.new.before ≡ out.old.before }
-    {
-        let name = self.name_read(alloc, params)?;
-        put_hover(alloc, out, &self.workspace, &name)?;
-        Ok(())
-    }
-
-    fn references(
-        &mut self,
-        alloc: Global,
-        out: &mut Writer,
-        params: Option<&Value<'_>>,
-    ) -> Result<(), Code>
-        ensures result { IsPut References self.old (seen params.entry) out.old.tokens result self.new out.new.tokens }
-        ensures before { out.new.before ≡ out.old.before }
-    {
-        let declared = is_set(member(member(params, "context"), "includeDeclaration"));
-        let name = self.name_read(alloc, params)?;
-        self.put_list(alloc, out, declared, &name)?;
+        self.put_result_of_name(alloc, out, request, params, &name)?;
         Ok(())
     }
 
@@ -297,6 +251,34 @@ impl Server {
         };
         let text = self.text_meant(alloc, params)?;
         Ok(name_at(alloc, self.client.encoding, text, position)?)
+    }
+
+    fn put_result_of_name(
+        &self,
+        alloc: Global,
+        out: &mut Writer,
+        request: NameRequest,
+        params: Option<&Value<'_>>,
+        name: &Option<Name>,
+    ) -> Result<(), AllocError>
+        ensures tokens { OnOk result ((j : Json) × IsResultOfName request (seen params.entry) (option_map name_view name.now) self.now j
+            × (out.new.tokens ≡ out.old.tokens ++ json_tokens j)) }
+        ensures before { out.new.before ≡ out.old.before }
+    {
+        match request {
+            NameRequest::Definition => put_definition(
+                alloc,
+                out,
+                &self.workspace,
+                &self.editor,
+                name,
+            ),
+            NameRequest::Hover => put_hover(alloc, out, &self.workspace, name),
+            NameRequest::References => {
+                let declared = is_set(member(member(params, "context"), "includeDeclaration"));
+                self.put_list(alloc, out, declared, name)
+            }
+        }
     }
 
     fn put_list(
@@ -377,6 +359,24 @@ impl Server {
                 None => Err(Code::InvalidParams),
             },
         }
+    }
+}
+
+fn put_result_of_text(
+    alloc: Global,
+    out: &mut Writer,
+    request: TextRequest,
+    encoding: Encoding,
+    text: &str,
+) -> Result<(), AllocError>
+    ensures tokens { OnOk result ((j : Json) × IsResultOfText request encoding text.now j
+        × (out.new.tokens ≡ out.old.tokens ++ json_tokens j)) }
+    ensures before { out.new.before ≡ out.old.before }
+{
+    match request {
+        TextRequest::Formatting => put_layout(alloc, out, encoding, text),
+        TextRequest::Symbols => put_outline(alloc, out, encoding, text),
+        TextRequest::SemanticTokens => put_semantic_tokens(alloc, out, encoding, text),
     }
 }
 
