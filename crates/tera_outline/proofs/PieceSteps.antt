@@ -1,14 +1,10 @@
 -- What a step over the first of the pieces that are left adds to what was found in those before it.
-use Rattle.std.proofs.Common.{◌≡◌, ◌≤◌, ◌-◌, ◌++◌, ◌∷◌, ℕ, Bool, Option, Some, None, List, [], length, drop, get_or, map, take, refl, sym, ap, ◌∙◌, arith, append_assoc}
+use Rattle.std.proofs.Common.{◌≡◌, ◌≤◌, ◌-◌, ◌++◌, ◌∷◌, ℕ, Bool, Option, Some, None, List, length, drop, get_or, map, take, refl, sym, ap, ◌∙◌, arith, append_assoc}
 use Rattle.std.specs.Prelude.{if◌then◌else◌, slice_range, option_map}
 use Rattle.std.specs.List.{find}
 use Rattle.std.specs.Option.{option_to_list}
-use Rattle.std.proofs.lemmas.List.{drop_more, take_rest, map-append}
-use Rattle.tera_base.specs.declared.utils.Span.{Span}
+use Rattle.std.proofs.lemmas.List.{drop_more, take_rest}
 use Rattle.tera_lexer.specs.code.Seen.{seen}
-use Rattle.tera_lexer.specs.declared.lexer.tokens.Token.{Token}
-use Rattle.tera_lexer.specs.grammar.Tokens as toks
-use Rattle.tera_lexer.specs.grammar.Tokens.{Items}
 use Rattle.tera_outline.specs.declared.completions.Slot.{Slot}
 use Rattle.tera_outline.specs.declared.names.Before.{Before}
 use Rattle.tera_outline.specs.declared.names.Found.{Found}
@@ -16,7 +12,7 @@ use Rattle.tera_outline.specs.declared.pieces.Piece.{Piece}
 use Rattle.tera_outline.specs.declared.semantic_tokens.Context.{Context}
 use Rattle.tera_outline.specs.declared.semantic_tokens.SemanticKind.{SemanticKind}
 use Rattle.tera_outline.specs.declared.semantic_tokens.SemanticToken.{SemanticToken}
-use Rattle.tera_outline.specs.Pieces.{Part, part_of, parts_in}
+use Rattle.tera_outline.specs.Pieces.{part_of}
 use Rattle.tera_outline.specs.Completions.{holds, called, begins_call, either, argument_in}
 use Rattle.tera_outline.specs.Names.{Named, found_view, name_behind, behind_token, names_in}
 use Rattle.tera_outline.specs.SemanticTokens.{kind_of, kinded, behind, tokens_in}
@@ -63,10 +59,3 @@ pub argument_passed : (last byte : ℕ) (b next : Before) (x : Piece) (xs : List
     → argument_in last byte b (map part_of xs) ≡ all → argument_in last byte next (map part_of (take (length xs - 1) (drop 1 xs))) ≡ all
 argument_passed last byte b next x xs begun all is some told decides follows found =
     ap (λ d. argument_in last byte d (map part_of (take (length xs - 1) (drop 1 xs)))) follows ∙ (sym (argument_split last byte b x xs begun None is some told decides) ∙ found)
-
--- a token is kept
-pub token_kept : (t : Token) (span : Span) (before after : List Piece) (left behind : Items) (all : List Part) → left ≡ toks.Token (seen t) span behind
-    → after ≡ before ++ record { token = t; start = span.range.start; end = span.range.end } ∷ [] → map part_of before ++ parts_in left ≡ all → map part_of after ++ parts_in behind ≡ all
-token_kept t span before after left behind all told adds found =
-    let p : Piece = record { token = t; start = span.range.start; end = span.range.end } in
-    rw (adds, map-append part_of before (p ∷ []), append_assoc (map part_of before) (part_of p ∷ []) (parts_in behind)) (rw told at found)

@@ -1,37 +1,13 @@
 -- Where the tokens of a text stop.
-use Rattle.std.proofs.Common.{◌≡◌, ◌≢◌, ◌+◌, ◌<◌, ◌++◌, ℕ, Bool, false, List, [], ◌∷◌, length, length-append, map, refl, sym, ap, subst, ◌∙◌, arith}
-use Rattle.std.proofs.lemmas.List.{append-nil}
-use Rattle.tera_base.specs.Errors.{IsMemoryKind}
-use Rattle.tera_base.specs.declared.errors.Error.{Error}
-use Rattle.tera_base.specs.declared.errors.ErrorKind.{ErrorKind}
-use Rattle.tera_base.specs.declared.errors.ErrorKind.TheVariants.{Memory, Message, SyntaxError}
-use Rattle.tera_lexer.specs.grammar.Marks.{Marks, default_marks}
-use Rattle.tera_lexer.specs.grammar.Tokens.{Items, Ended, Failed, Token, AreTokensOf}
-use Rattle.tera_lexer.specs.code.Steps.{Stops}
+use Rattle.std.proofs.Common.{◌≡◌, ◌≢◌, ◌+◌, ◌<◌, ◌++◌, ℕ, Bool, false, List, [], ◌∷◌, length, length-append, refl, sym, ap, subst, ◌∙◌, arith}
+use Rattle.tera_lexer.specs.grammar.Marks.{default_marks}
+use Rattle.tera_lexer.specs.grammar.Tokens.{Items, Ended, Failed, Token}
 use Rattle.tera_lexer.specs.grammar.Place.{place_after}
 use Rattle.tera_lexer.specs.grammar.Tiling.{Tile, in_tag_behind}
 use Rattle.tera_base.specs.declared.utils.Span.{Span}
 use Rattle.tera_lexer.proofs.Tilings.{tokens_tile}
 use Rattle.tera_layout.proofs.Defaults.{default_valid}
-use Rattle.tera_outline.specs.declared.pieces.Piece.{Piece}
-use Rattle.tera_outline.specs.Pieces.{Part, part_of, parts_in, ArePartsOf, StandBetween}
-
-no_memory : (k : ErrorKind) → IsMemoryKind k → k ≢ Memory → ⊥
-no_memory Memory is other = other refl
-no_memory (Message s) is other = is
-no_memory (SyntaxError b) is other = is
-
--- at a fault none is left
-pub none_left : (source : List ℕ) (items : Items) (e : Error) → Stops source items e → e.kind ≢ Memory → parts_in items ≡ []
-none_left source Ended e stops other = absurd stops
-none_left source (Failed text span) e stops other = refl
-none_left source (Token t span items) e stops other = absurd (no_memory e.kind stops.1 other)
-
--- so those that were kept are all
-pub all_kept : (m : Marks) (text : List ℕ) (items left : Items) (pieces : List Piece) → m ≡ default_marks → AreTokensOf m text items
-    → map part_of pieces ++ parts_in left ≡ parts_in items → parts_in left ≡ [] → ArePartsOf text (map part_of pieces)
-all_kept m text items left pieces marks tokens kept none =
-    (items, subst (λ k. AreTokensOf k text items) marks tokens, sym (append-nil (map part_of pieces)) ∙ (ap (λ ps. map part_of pieces ++ ps) (sym none) ∙ kept))
+use Rattle.tera_outline.specs.Pieces.{Part, parts_in, ArePartsOf, StandBetween}
 
 -- the tokens of a text stand in it one behind the other
 tile_stands : (items : Items) (inside : Bool) (front rest : List ℕ) (to : ℕ) → length front + length rest ≡ to → Tile inside front rest items

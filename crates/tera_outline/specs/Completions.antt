@@ -28,18 +28,16 @@ abbrev pub dot_end : ℕ → List Part → ℕ
 dot_end end [] = end
 dot_end end (p ∷ ps) = if is_operator (codes ".") p.token then p.end else end
 
--- the place of a name of these parts before others; or that of the gap, where it has none
-abbrev pub place_of : CompletionKind → ℕ → ℕ → List Part → List Part → Slot
-place_of kind last from [] ps = record { kind = kind; from = from; start = gap_end last ps; end = gap_end last ps }
-place_of kind last from (n ∷ ns) ps = record {
-  kind = kind;
-  from = from;
-  start = n.start;
-  end = dot_end (end_of (n ∷ ns)) (drop (length (n ∷ ns)) ps);
-}
+-- the end of a name of these parts before others, with the dot behind it if one stands there; or that of the gap,
+-- where it has none
+abbrev pub place_end : ℕ → List Part → List Part → ℕ
+place_end last [] ps = gap_end last ps
+place_end last name ps = dot_end (end_of name) (drop (length name) ps)
 
+-- the place of a name with which these parts begin, or that of the gap before them
 abbrev pub name_slot : CompletionKind → ℕ → ℕ → List Part → Slot
-name_slot kind last from ps = place_of kind last from (dotted ps) ps
+name_slot kind last from ps =
+    record { kind = kind; from = from; start = gap_end last ps; end = place_end last (dotted ps) ps }
 
 -- the place between the quotes of a string that comes first
 abbrev pub string_slot : List Part → Option Slot

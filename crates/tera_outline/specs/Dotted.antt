@@ -14,11 +14,7 @@ abbrev pub is_operator : List ℕ → Tok → Bool
 is_operator op (Symbol other) = bytes_eq other op
 is_operator op t = false
 
--- a name comes first; a dot and a name do
-abbrev pub begins_name : List Part → Bool
-begins_name [] = false
-begins_name (name ∷ ps) = is_name name.token
-
+-- a dot and a name come first
 abbrev pub begins_link : List Part → Bool
 begins_link (dot ∷ name ∷ ps) = is_operator (codes ".") dot.token && is_name name.token
 begins_link ps = false

@@ -5,7 +5,7 @@ use Rattle.tera_outline.specs.declared.symbols.Open.{Open}
 use Rattle.tera_outline.specs.declared.symbols.Outline.{Outline}
 use Rattle.tera_outline.specs.declared.symbols.Mark as code
 use Rattle.tera_outline.specs.declared.symbols.Mark.TheVariants as tags
-use Rattle.tera_outline.specs.Pieces.{part_of}
+use Rattle.tera_outline.specs.Pieces.{Part, part_of}
 use Rattle.tera_outline.specs.Dotted.{text_of, start_of, end_of}
 use Rattle.tera_outline.specs.Symbols.{Outlined, outlined, Mark, Opens, Closes, same_kind, is_open}
 
@@ -44,17 +44,21 @@ unwound_in kind start end symbols (o ∷ os) =
 abbrev pub unwound : SymbolKind → ℕ → ℕ → State → State
 unwound kind start end s = unwound_in kind start end s.symbols s.opened
 
+-- one that is opened, which ends with its name until it is closed
+abbrev pub opened_with : SymbolKind → ℕ → List Part → Outlined
+opened_with kind start name = record {
+  kind = kind;
+  name = text_of name;
+  start = start;
+  end = end_of name;
+  name_start = start_of name;
+  name_end = end_of name;
+}
+
 -- one more tag is taken
 abbrev pub took : Mark → State → State
 took (Opens kind start name) s = record {
-  symbols = s.symbols ++ record {
-    kind = kind;
-    name = text_of name;
-    start = start;
-    end = end_of name;
-    name_start = start_of name;
-    name_end = end_of name;
-  } ∷ [];
+  symbols = s.symbols ++ opened_with kind start name ∷ [];
   opened = record { number = length s.symbols; kind = kind } ∷ s.opened;
 }
 took (Closes kind start end) s = if is_open kind (kinds_of s.opened) then unwound kind start end s else s

@@ -97,17 +97,10 @@ fn begins_call(before: Before, token: &Token<'_>) -> bool
 fn called_at(last: usize, behind: &[Piece<'_>], byte: usize) -> Option<Slot>
     ensures { result ≡ find (specs.holds byte) (specs.called last (map part_of behind.now)) }
 {
-    named_at(last, dotted(behind), behind, byte)
-}
-
-fn named_at(last: usize, name: &[Piece<'_>], behind: &[Piece<'_>], byte: usize) -> Option<Slot>
-    requires { length name.now ≤ length behind.now }
-    ensures { result ≡ find (specs.holds byte)
-        (specs.named last (map part_of name.now) (map part_of behind.now)) }
-{
+    let name = dotted(behind);
     match name {
         [] => None,
-        [first, ..] => { inside_at(last, first.start, end_of(name), &behind[name.len()..], byte) }
+        [first, ..] => inside_at(last, first.start, end_of(name), &behind[name.len()..], byte),
     }
 }
 
@@ -289,37 +282,22 @@ fn word_slot(word: &str, behind: &[Piece<'_>]) -> Option<Slot>
     }
 }
 
-// The place of a name behind the byte, with a dot behind it or none; or the gap, where no name stands.
+// The place of a name behind the byte, with a dot behind it or none; or the gap, where no name stands. A name begins
+// where the gap ends.
 fn name_slot(kind: CompletionKind, last: usize, from: usize, behind: &[Piece<'_>]) -> Slot
     ensures { result ≡ specs.name_slot kind last from (map part_of behind.now) }
 {
-    place_of(kind, last, from, dotted(behind), behind)
-}
-
-fn place_of(
-    kind: CompletionKind,
-    last: usize,
-    from: usize,
-    name: &[Piece<'_>],
-    behind: &[Piece<'_>],
-) -> Slot
-    requires { length name.now ≤ length behind.now }
-    ensures { result
-        ≡ specs.place_of kind last from (map part_of name.now) (map part_of behind.now) }
-{
-    match name {
-        [] => Slot {
-            kind,
-            from,
-            start: gap_end(last, behind),
-            end: gap_end(last, behind),
-        },
-        [first, ..] => Slot {
-            kind,
-            from,
-            start: first.start,
-            end: dot_end(end_of(name), &behind[name.len()..]),
-        },
+    let start = gap_end(last, behind);
+    let name = dotted(behind);
+    let end = match name {
+        [] => start,
+        name => dot_end(end_of(name), &behind[name.len()..]),
+    };
+    Slot {
+        kind,
+        from,
+        start,
+        end,
     }
 }
 

@@ -1,6 +1,6 @@
 //! Names of parts with dots between.
 
-ghost use Rattle.std.specs.Prelude.{◌≡◌, codes, map, string_bytes, IfOk};
+ghost use Rattle.std.specs.Prelude.{◌≡◌, ◌≤◌, codes, length, map, string_bytes, IfOk};
 ghost use Rattle.tera_lexer.specs.code.Seen.{seen};
 ghost use Rattle.tera_outline.specs.Pieces.{part_of};
 ghost use Rattle.tera_outline.specs.Dotted as specs;
@@ -12,26 +12,17 @@ use tera_lexer::Token;
 /// The dotted name with which the pieces begin, as long as it goes on; none where no name comes first. White space may
 /// stand around its dots.
 pub(crate) fn dotted<'p, 'a>(pieces: &'p [Piece<'a>]) -> &'p [Piece<'a>]
-    ensures { map part_of result.now ≡ specs.dotted (map part_of pieces.now) }
+    ensures name { map part_of result.now ≡ specs.dotted (map part_of pieces.now) }
+    ensures within { length result.now ≤ length pieces.now }
 {
-    if !begins_name(pieces) {
-        return &pieces[..0];
-    }
-    let mut len = 1;
+    let mut len = match pieces {
+        [name, ..] if matches!(name.token, Token::Ident(_)) => 1,
+        _ => return &pieces[..0],
+    };
     'links: while begins_link(&pieces[len..]) {
         len += 2;
     }
     &pieces[..len]
-}
-
-// Whether a name comes first.
-fn begins_name(pieces: &[Piece<'_>]) -> bool
-    ensures { result ≡ specs.begins_name (map part_of pieces.now) }
-{
-    match pieces {
-        [name, ..] => is_name(&name.token),
-        [] => false,
-    }
 }
 
 // Whether a dot and a name come first.
@@ -39,15 +30,9 @@ fn begins_link(pieces: &[Piece<'_>]) -> bool
     ensures { result ≡ specs.begins_link (map part_of pieces.now) }
 {
     match pieces {
-        [dot, name, ..] => is_dot(&dot.token) && is_name(&name.token),
+        [dot, name, ..] => is_dot(&dot.token) && matches!(name.token, Token::Ident(_)),
         _ => false,
     }
-}
-
-fn is_name(token: &Token<'_>) -> bool
-    ensures { result ≡ specs.is_name (seen token.now) }
-{
-    matches!(token, Token::Ident(_))
 }
 
 pub(crate) fn is_dot(token: &Token<'_>) -> bool

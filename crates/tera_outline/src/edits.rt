@@ -83,7 +83,9 @@ fn white_len(text: &str, at: usize) -> usize
     ensures within { at + result ≤ length text.now }
 {
     let (_, rest) = text.as_bytes().split_at(at);
-    rest.iter().take_while(|byte| is_white(**byte)).count()
+    rest.iter()
+        .take_while(|byte| byte.is_ascii_whitespace())
+        .count()
 }
 
 // How many other bytes do.
@@ -93,17 +95,7 @@ fn word_len(text: &str, at: usize) -> usize
     ensures within { at + result ≤ length text.now }
 {
     let (_, rest) = text.as_bytes().split_at(at);
-    rest.iter().take_while(|byte| is_black(**byte)).count()
-}
-
-fn is_white(byte: u8) -> bool
-    ensures { result ≡ is_ascii_whitespace byte }
-{
-    byte.is_ascii_whitespace()
-}
-
-fn is_black(byte: u8) -> bool
-    ensures { result ≡ is_black byte }
-{
-    !byte.is_ascii_whitespace()
+    rest.iter()
+        .take_while(|byte| !byte.is_ascii_whitespace())
+        .count()
 }

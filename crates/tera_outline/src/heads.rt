@@ -7,8 +7,9 @@ ghost use Rattle.tera_outline.specs.Pieces.{Part, part_of, ArePartsOf};
 ghost use Rattle.tera_outline.specs.Symbols.{outlined, outline_of};
 
 use crate::pieces::{Piece, pieces_of};
-use crate::symbols::{Symbol, SymbolKind, begins_tag, ends_tag, is_same, symbols_in};
+use crate::symbols::{Symbol, SymbolKind, symbols_in};
 use std::alloc::{AllocError, Global};
+use tera_lexer::Token;
 
 /// The head of the first definition of the component in the text, with a fault or without one: from its name to the
 /// end of its tag, as it stands there. The markers are the default ones.
@@ -43,17 +44,11 @@ fn definition_in<'s>(symbols: &'s [Symbol], name: &str) -> Option<&'s Symbol>
         ≡ find (specs.defines name.now) (map outlined symbols.now) }
 {
     for symbol in symbols {
-        if defines(name, symbol) {
+        if symbol.kind == SymbolKind::Component && symbol.name.as_str() == name {
             return Some(symbol);
         }
     }
     None
-}
-
-fn defines(name: &str, symbol: &Symbol) -> bool
-    ensures { result ≡ specs.defines name.now (outlined symbol.now) }
-{
-    is_same(symbol.kind, SymbolKind::Component) && symbol.name.as_str() == name
 }
 
 // The end of the last of the pieces that stands behind the byte in the same tag; or the byte, where none does.
@@ -64,7 +59,7 @@ fn head_end(byte: usize, pieces: &[Piece<'_>]) -> usize
     let mut rest = pieces;
     'pieces: while let [piece, behind @ ..] = rest {
         if end <= piece.start {
-            if ends_tag(&piece.token) || begins_tag(&piece.token) {
+            if matches!(piece.token, Token::TagStart(_) | Token::TagEnd(_)) {
                 return end;
             }
             end = piece.end;

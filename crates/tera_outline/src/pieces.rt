@@ -1,11 +1,11 @@
 //! The tokens of a text up to its lexical fault.
 
-ghost use Rattle.std.specs.Prelude.{map, IfOk};
-ghost use Rattle.tera_outline.specs.Pieces.{part_of, ArePartsOf};
+ghost use Rattle.std.specs.Prelude.{◌≡◌, map, IfOk};
+ghost use Rattle.tera_outline.specs.Pieces.{part_of, parts_in, ArePartsOf};
 
 use std::alloc::{AllocError, Global};
 use tera_base::ErrorKind;
-use tera_lexer::{Delimiters, Token, tokenize};
+use tera_lexer::{Delimiters, Token, Tokens, tokenize};
 
 /// A token of a text, and where it stands.
 #[derive(Debug, PartialEq, Eq, Drop)]
@@ -21,8 +21,13 @@ pub struct Piece<'a> {
 pub fn pieces_of(alloc: Global, text: &str) -> Result<Vec<Piece<'_>>, AllocError>
     ensures { IfOk result (λ pieces. ArePartsOf text.now (map part_of pieces.items)) }
 {
+    pieces_in(alloc, &mut tokenize(alloc, text, Delimiters::default()))
+}
+
+fn pieces_in<'a>(alloc: Global, tokens: &mut Tokens<'a>) -> Result<Vec<Piece<'a>>, AllocError>
+    ensures { IfOk result (λ pieces. map part_of pieces.items ≡ parts_in tokens.old.left) }
+{
     let mut pieces = Vec::new(alloc);
-    let mut tokens = tokenize(alloc, text, Delimiters::default());
     'tokens: while let Some(item) = tokens.next() {
         match item {
             Ok((token, span)) => pieces.push(Piece {

@@ -120,16 +120,7 @@ impl Context {
     fn behind(self, token: &Token<'_>, rest: &[Piece<'_>]) -> Context
         ensures { result ≡ specs.behind self (seen token.now) (map part_of rest.now) }
     {
-        Context {
-            before: behind_token(self.before, token),
-            lead: self.lead_behind(token, rest),
-        }
-    }
-
-    fn lead_behind(self, token: &Token<'_>, rest: &[Piece<'_>]) -> Lead
-        ensures { result ≡ specs.lead_behind self (seen token.now) (map part_of rest.now) }
-    {
-        match token {
+        let lead = match token {
             Token::TagStart(_) => Lead::Tag,
             Token::Ident(word) => word_lead(self.lead, word, rest),
             Token::LessThan if !matches!(self.before, Before::Operand) => Lead::Component,
@@ -140,6 +131,10 @@ impl Context {
             Token::LeftParen | Token::Comma | Token::At => Lead::Comma,
             Token::Colon if matches!(self.lead, Lead::Parameter) => Lead::Colon,
             _ => Lead::Other,
+        };
+        Context {
+            before: behind_token(self.before, token),
+            lead,
         }
     }
 }
@@ -179,23 +174,14 @@ fn kind_of(lead: Lead, token: &Token<'_>, bytes: &[u8], rest: &[Piece<'_>]) -> O
         Token::Str(_) | Token::String(_) => Some(SemanticKind::String),
         Token::Integer(_) => Some(SemanticKind::Number),
         Token::Bool(_) => Some(SemanticKind::Keyword),
-        Token::Content(_) => content_kind(bytes),
+        // Of what stands between tags, a comment is something.
+        Token::Content(_) if matches!(bytes, [b'{', b'#', ..]) => Some(SemanticKind::Comment),
         Token::Plus | Token::Minus | Token::Mul | Token::Div => Some(SemanticKind::Operator),
         Token::FloorDiv | Token::Mod | Token::Power => Some(SemanticKind::Operator),
         Token::LessThan | Token::LessThanOrEqual => Some(SemanticKind::Operator),
         Token::GreaterThan | Token::GreaterThanOrEqual => Some(SemanticKind::Operator),
         Token::Equal | Token::NotEqual | Token::Assign => Some(SemanticKind::Operator),
         Token::Tilde | Token::Pipe | Token::ClosingTagStart => Some(SemanticKind::Operator),
-        _ => None,
-    }
-}
-
-// Of what stands between tags, a comment is something.
-fn content_kind(bytes: &[u8]) -> Option<SemanticKind>
-    ensures { result ≡ specs.content_kind bytes.now }
-{
-    match bytes {
-        [b'{', b'#', ..] => Some(SemanticKind::Comment),
         _ => None,
     }
 }
@@ -231,20 +217,14 @@ fn name_kind(lead: Lead, rest: &[Piece<'_>]) -> SemanticKind
     ensures { result ≡ specs.name_kind lead (map part_of rest.now) }
 {
     match rest {
-        [next, ..] => kind_before(lead, &next.token),
+        [next, ..] => match (&next.token, lead) {
+            (Token::LeftParen, _) => SemanticKind::Function,
+            (Token::Assign, Lead::Statement) => SemanticKind::Variable,
+            (Token::Assign, _) => SemanticKind::Parameter,
+            (Token::Colon, Lead::Comma) => SemanticKind::Parameter,
+            _ => SemanticKind::Variable,
+        },
         [] => SemanticKind::Variable,
-    }
-}
-
-fn kind_before(lead: Lead, next: &Token<'_>) -> SemanticKind
-    ensures { result ≡ specs.kind_before lead (seen next.now) }
-{
-    match (next, lead) {
-        (Token::LeftParen, _) => SemanticKind::Function,
-        (Token::Assign, Lead::Statement) => SemanticKind::Variable,
-        (Token::Assign, _) => SemanticKind::Parameter,
-        (Token::Colon, Lead::Comma) => SemanticKind::Parameter,
-        _ => SemanticKind::Variable,
     }
 }
 

@@ -5,7 +5,7 @@ ghost use Rattle.tera_lexer.specs.code.Seen.{seen};
 ghost use Rattle.tera_outline.specs.Pieces.{Part, part_of, ArePartsOf};
 ghost use Rattle.tera_outline.specs.Symbols as specs;
 ghost use Rattle.tera_outline.specs.Symbols.{outlined, outline_of, same_kind};
-ghost use Rattle.tera_outline.specs.Opened.{mark_view, state_of, kinds_of, took, unwound, all_ended, AreNumbered};
+ghost use Rattle.tera_outline.specs.Opened.{mark_view, state_of, kinds_of, opened_with, took, unwound, all_ended, AreNumbered};
 
 use crate::dotted::{dotted, end_of, start_of, text_of};
 use crate::pieces::{Piece, pieces_of};
@@ -86,7 +86,7 @@ fn mark_of<'p, 'a>(pieces: &'p [Piece<'a>], last: usize) -> Option<Mark<'p, 'a>>
     ensures { option_map mark_view result ≡ specs.mark_of last (map part_of pieces.now) }
 {
     match pieces {
-        [tag, word, behind @ ..] if begins_tag(&tag.token) => {
+        [tag, word, behind @ ..] if matches!(tag.token, Token::TagStart(_)) => {
             word_mark(last, tag.start, &word.token, behind)
         }
         _ => None,
@@ -130,33 +130,38 @@ fn tag_end(last: usize, pieces: &[Piece<'_>]) -> usize
 {
     let mut rest = pieces;
     'pieces: while let [piece, behind @ ..] = rest {
-        if ends_tag(&piece.token) {
-            return piece.end;
+        match piece.token {
+            Token::TagEnd(_) => return piece.end,
+            Token::TagStart(_) => return piece.start,
+            _ => rest = behind,
         }
-        if begins_tag(&piece.token) {
-            return piece.start;
-        }
-        rest = behind;
     }
     last
 }
 
-pub(crate) fn begins_tag(token: &Token<'_>) -> bool
-    ensures { result ≡ specs.begins_tag (seen token.now) }
-{
-    matches!(token, Token::TagStart(_))
-}
-
-pub(crate) fn ends_tag(token: &Token<'_>) -> bool
-    ensures { result ≡ specs.ends_tag (seen token.now) }
-{
-    matches!(token, Token::TagEnd(_))
-}
-
-pub(crate) fn is_same(kind: SymbolKind, other: SymbolKind) -> bool
+fn is_same(kind: SymbolKind, other: SymbolKind) -> bool
     ensures { result ≡ same_kind kind other }
 {
     kind == other
+}
+
+// The symbol that is opened at the byte with the name, with which it ends until it is closed.
+fn opened(
+    alloc: Global,
+    kind: SymbolKind,
+    start: usize,
+    name: &[Piece<'_>],
+) -> Result<Symbol, AllocError>
+    ensures { IfOk result (λ symbol. outlined symbol ≡ opened_with kind start (map part_of name.now)) }
+{
+    Ok(Symbol {
+        kind,
+        name: text_of(alloc, name)?,
+        start,
+        end: end_of(name),
+        name_start: start_of(name),
+        name_end: end_of(name),
+    })
 }
 
 // A symbol that is open, by its number.
@@ -206,14 +211,7 @@ impl Outline {
         ensures numbered { OnOk result (AreNumbered self.new) }
     {
         let number = self.symbols.len();
-        self.symbols.push(Symbol {
-            kind,
-            name: text_of(alloc, name)?,
-            start,
-            end: end_of(name),
-            name_start: start_of(name),
-            name_end: end_of(name),
-        })?;
+        self.symbols.push(opened(alloc, kind, start, name)?)?;
         self.open.push(Open { number, kind })?;
         Ok(())
     }

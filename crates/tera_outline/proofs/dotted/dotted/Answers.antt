@@ -7,5 +7,5 @@ links-preserved c =
     let taken = link_taken c.args.pieces.now c.links.len c.links.invariant.within (sym c.begins_link.ensures ∙ c.links-test.true) c.links.invariant.whole in
     record { within = taken.0; whole = taken.1 }
 
-pub returns : goal.returns
-returns c = links_taken c.args.pieces.now c.links.len (sym c.begins_link.ensures ∙ c.links-test.false) c.links.invariant.whole
+pub returns-clause-name : goal.returns-clause-name
+returns-clause-name c = links_taken c.args.pieces.now c.links.len (sym c.begins_link.ensures ∙ c.links-test.false) c.links.invariant.whole

@@ -1,7 +1,7 @@
 use Rattle.std.proofs.Common.{◌≡◌, ◌++◌, map}
 use Rattle.tera_lexer.specs.code.Cursors.{size}
 use Rattle.tera_outline.specs.Pieces.{part_of, parts_in}
-use Rattle.tera_outline.proofs.pieces.pieces_of.Given as goal
+use Rattle.tera_outline.proofs.pieces.pieces_in.Given as goal
 
 -- those that were kept, and those of the tokens that are left, are all
 abbrev pub invariant-tokens : goal.invariant-tokens
