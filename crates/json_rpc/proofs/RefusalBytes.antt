@@ -3,7 +3,7 @@ use Rattle.std.proofs.Common.{◌≡◌, ℕ, ◌≤◌, List, ◌∷◌, ◌++�
 use Rattle.json.specs.Print.{escape, escape_byte, print_from, token_text}
 use Rattle.json_rpc.specs.Codes.{code_number, code_text}
 use Rattle.json_rpc.specs.Ids.{IdVal, NullId, NumberId, TextId}
-use Rattle.json_rpc.specs.Room.{code_member, text_member}
+use Rattle.json_rpc.specs.Room.{error_member}
 use Rattle.json_rpc.specs.Writing.{body, refusal, id_token}
 use Rattle.json_rpc.specs.declared.code.Code.{Code}
 use Rattle.json_rpc.specs.declared.code.Code.TheVariants.{ParseError, InvalidRequest, MethodNotFound, InvalidParams, InternalError, ServerNotInitialized, RequestFailed}
@@ -37,13 +37,13 @@ text-plain InternalError = refl
 text-plain ServerNotInitialized = refl
 text-plain RequestFailed = refl
 
-abbrev Behind : List ℕ → List ℕ → List ℕ
-Behind number text =
-    codes ",\"error\":{\"code\":" ++ (number ++ (codes ",\"message\":\"" ++ (text ++ codes "\"}}")))
+abbrev error_by : Code → List ℕ → List ℕ
+error_by code text =
+    codes ",\"error\":{\"code\":" ++ (code_number code ++ (codes ",\"message\":\"" ++ (text ++ codes "\"}}")))
 
 behind : (id : IdVal) (code : Code) →
     body (refusal id code)
-    ≡ codes "{\"jsonrpc\":\"2.0\",\"id\":" ++ (token_text (id_token id) ++ Behind (code_number code) (escape (code_text code)))
+    ≡ codes "{\"jsonrpc\":\"2.0\",\"id\":" ++ (token_text (id_token id) ++ error_by code (escape (code_text code)))
 unfolding escape_byte print_from
 behind NullId code = simp append_assoc
 behind (NumberId s) code = simp append_assoc
@@ -51,7 +51,7 @@ behind (TextId s) code = simp append_assoc
 
 pub refusal_text : (id : IdVal) (code : Code) →
     body (refusal id code)
-    ≡ codes "{\"jsonrpc\":\"2.0\",\"id\":" ++ (token_text (id_token id) ++ (code_member code ++ text_member code))
+    ≡ codes "{\"jsonrpc\":\"2.0\",\"id\":" ++ (token_text (id_token id) ++ error_member code)
 refusal_text id code = rw (text-plain code) at (behind id code)
 
 -- it begins with a brace

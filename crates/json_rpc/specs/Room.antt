@@ -17,8 +17,6 @@ abbrev pub id_room : ℕ
 id_room = 6 * max_id + 2
 
 -- what stands behind the id of a refusal
-abbrev pub code_member : Code → List ℕ
-code_member code = codes ",\"error\":{\"code\":" ++ code_number code
-
-abbrev pub text_member : Code → List ℕ
-text_member code = codes ",\"message\":\"" ++ (code_text code ++ codes "\"}}")
+abbrev pub error_member : Code → List ℕ
+error_member code =
+    codes ",\"error\":{\"code\":" ++ (code_number code ++ (codes ",\"message\":\"" ++ (code_text code ++ codes "\"}}")))

@@ -49,9 +49,6 @@ id_token NullId = tokens.null
 id_token (NumberId s) = tokens.number s
 id_token (TextId s) = tokens.string s
 
-abbrev pub version : List Token
-version = begin_object ∷ key (codes "jsonrpc") ∷ tokens.string (codes "2.0") ∷ []
-
 abbrev pub answer_begin : IdVal → List Token
 answer_begin id =
     begin_object ∷ key (codes "jsonrpc") ∷ tokens.string (codes "2.0") ∷ key (codes "id") ∷ id_token id ∷ key (codes "result") ∷ []

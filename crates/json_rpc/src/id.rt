@@ -1,9 +1,12 @@
 //! How requests are named.
 
 ghost use Rattle.std.specs.Prelude.{◌≡◌, ◌≤◌, length};
-ghost use Rattle.json.specs.Print.{IsNumber};
+ghost use Rattle.json.specs.Print.{IsNumber, IsPrintable};
+ghost use Rattle.json.specs.Reads.{token_of};
 ghost use Rattle.json_rpc.specs.Ids.{NullId, NumberId, TextId, max_id};
+ghost use Rattle.json_rpc.specs.Writing.{id_token};
 
+use json::Token;
 use std::marker::Model;
 
 /// How many bytes the number or the text of an id has at most.
@@ -59,6 +62,18 @@ impl<'a> Id<'a> {
     {
         Id {
             name: Name::Number(text),
+        }
+    }
+
+    // The token that is written for it.
+    pub(crate) fn token(&self) -> Token<'a>
+        ensures token { token_of result ≡ id_token self.now }
+        ensures printable { IsPrintable (token_of result) }
+    {
+        match self.name {
+            Name::Null => Token::Null,
+            Name::Number(text) => Token::Number(text),
+            Name::Text(text) => Token::String(text),
         }
     }
 }

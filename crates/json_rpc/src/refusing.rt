@@ -4,7 +4,7 @@ ghost use Rattle.std.specs.Prelude.{◌≡◌, ◌+◌, ◌*◌, ◌<◌, ◌++�
 ghost use Rattle.std.specs.Char.{digit_char};
 ghost use Rattle.json.specs.Print.{quoted, escape_byte, escape_letter, token_text};
 ghost use Rattle.json_rpc.specs.Codes.{code_number, code_text};
-ghost use Rattle.json_rpc.specs.Room.{Adds, code_member, text_member, id_room};
+ghost use Rattle.json_rpc.specs.Room.{Adds, error_member, id_room};
 ghost use Rattle.json_rpc.specs.Writing.{body, refusal, id_token};
 
 use crate::code::Code;
@@ -20,8 +20,7 @@ pub(crate) fn push_refusal(out: &mut Vec<u8>, id: &Id<'_>, code: Code) -> Result
 {
     push(out, b"{\"jsonrpc\":\"2.0\",\"id\":")?;
     push_id(out, id)?;
-    push_code(out, code)?;
-    push_text(out, code)
+    push_error(out, code)
 }
 
 fn push_id(out: &mut Vec<u8>, id: &Id<'_>) -> Result<(), AllocError>
@@ -87,16 +86,12 @@ fn digit(value: u8) -> u8
     }
 }
 
-fn push_code(out: &mut Vec<u8>, code: Code) -> Result<(), AllocError>
-    ensures { Adds result out.old out.new (code_member code) 32 }
+// What stands behind the id.
+fn push_error(out: &mut Vec<u8>, code: Code) -> Result<(), AllocError>
+    ensures { Adds result out.old out.new (error_member code) 96 }
 {
     push(out, b",\"error\":{\"code\":")?;
-    push(out, code.number().as_bytes())
-}
-
-fn push_text(out: &mut Vec<u8>, code: Code) -> Result<(), AllocError>
-    ensures { Adds result out.old out.new (text_member code) 64 }
-{
+    push(out, code.number().as_bytes())?;
     push(out, b",\"message\":\"")?;
     push(out, code.text().as_bytes())?;
     push(out, b"\"}}")

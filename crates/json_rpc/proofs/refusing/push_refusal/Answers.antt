@@ -6,6 +6,6 @@ use Rattle.json_rpc.proofs.refusing.push_refusal.Goals as goal
 
 pub returns : goal.returns
 returns c =
-    let all = adds_more c.in_ok-push.ensures (adds_more c.in_ok-push_id.ensures (adds_more c.in_ok-push_code.ensures c.push_text.ensures)) in
-    subst (λ l. Adds c.push_text.result c.args.out.now c.push_text.new.out l 1024) (sym (refusal_text c.args.id.now c.args.code))
+    let all = adds_more c.in_ok-push.ensures (adds_more c.in_ok-push_id.ensures c.push_error.ensures) in
+    subst (λ l. Adds c.push_error.result c.args.out.now c.push_error.new.out l 1024) (sym (refusal_text c.args.id.now c.args.code))
     (adds_within 1024 all (lit≤ tt))
