@@ -1,9 +1,8 @@
 //! What a line of a header tells.
 
-ghost use Rattle.std.specs.Prelude.{◌≡◌, Option, None, Some};
+ghost use Rattle.std.specs.Prelude.{◌≡◌};
 ghost use Rattle.std.specs.Option.{option_map};
-ghost use Rattle.message_frames.specs.Header.{names_length};
-ghost use Rattle.message_frames.specs.Reading.{behind_digit, behind, number_of, reads, cut, field_of, told_with};
+ghost use Rattle.message_frames.specs.Reading.{behind, reads, cut, field_of, told_with};
 ghost use Rattle.message_frames.specs.declared.field.Number.TheVariants.{Before as before_digits};
 
 use memchr::memchr;
@@ -25,7 +24,7 @@ pub(crate) enum Field {
 }
 
 /// What the lines so far tell together.
-#[derive(Clone, Copy, Debug)]
+#[derive(Clone, Copy)]
 pub(crate) enum Told {
     Nothing,
     Length(usize),
@@ -46,42 +45,28 @@ impl Told {
     }
 }
 
-// The number with one digit more, as long as it fits.
-fn with_digit(number: usize, byte: u8) -> Option<Number>
-    ensures { result ≡ behind_digit number byte }
-{
-    if !byte.is_ascii_digit() {
-        return None;
-    }
-    let number = number
-        .checked_mul(10)?
-        .checked_add(usize::from(byte - b'0'))?;
-    Some(Number::Within(number))
-}
-
 impl Number {
+    // With one byte more, as long as the number fits.
     fn with(self, byte: u8) -> Option<Number>
         ensures { result ≡ behind self byte }
     {
         let blank = byte == b' ' || byte == b'\t';
-        match self {
-            Number::Before if blank => Some(Number::Before),
+        let number = match self {
+            Number::Before if blank => return Some(Number::Before),
             Number::Within(number) | Number::Behind(number) if blank => {
-                Some(Number::Behind(number))
+                return Some(Number::Behind(number));
             }
-            Number::Before => with_digit(0, byte),
-            Number::Within(number) => with_digit(number, byte),
-            Number::Behind(_) => None,
+            Number::Before => 0,
+            Number::Within(number) => number,
+            Number::Behind(_) => return None,
+        };
+        if !byte.is_ascii_digit() {
+            return None;
         }
-    }
-
-    fn value(self) -> Option<usize>
-        ensures { result ≡ number_of self }
-    {
-        match self {
-            Number::Before => None,
-            Number::Within(number) | Number::Behind(number) => Some(number),
-        }
+        let number = number
+            .checked_mul(10)?
+            .checked_add(usize::from(byte - b'0'))?;
+        Some(Number::Within(number))
     }
 }
 
@@ -92,7 +77,10 @@ fn read_number(value: &[u8]) -> Option<usize>
     'bytes: for byte in value {
         number = number.with(*byte)?;
     }
-    number.value()
+    match number {
+        Number::Before => None,
+        Number::Within(number) | Number::Behind(number) => Some(number),
+    }
 }
 
 // What stands before the first colon, and what behind it.
@@ -103,12 +91,6 @@ fn cut(line: &[u8]) -> Option<(&[u8], &[u8])>
     let (name, rest) = line.split_at(colon);
     let (_, value) = rest.split_at(1);
     Some((name, value))
-}
-
-fn names_length(name: &[u8]) -> bool
-    ensures { result ≡ names_length name.now }
-{
-    name.eq_ignore_ascii_case(b"Content-Length")
 }
 
 /// Reads a line, without its end.
@@ -122,7 +104,7 @@ pub(crate) fn read_field(line: &[u8]) -> Field
     if name.is_empty() {
         return Field::Malformed;
     }
-    if !names_length(name) {
+    if !name.eq_ignore_ascii_case(b"Content-Length") {
         return Field::Other;
     }
     match read_number(value) {

@@ -9,6 +9,7 @@ ghost use Rattle.message_frames.specs.declared.framing.Stage.TheVariants as stag
 use crate::field::Told;
 use crate::lines::{Lines, read_lines};
 use std::alloc::{AllocError, Global};
+use std::fmt;
 use std::marker::Model;
 
 /// What stands next in the stream.
@@ -25,7 +26,7 @@ pub enum Frame {
 }
 
 /// What of the next message has come.
-#[derive(Clone, Copy, Debug)]
+#[derive(Clone, Copy)]
 enum Stage {
     /// Lines, which tell this. Before so many of the bytes that are held no line end stands.
     Lines { told: Told, searched: usize },
@@ -69,7 +70,7 @@ impl Stage {
 ///
 /// No byte is searched twice for the end of a line, and what is held is moved only where more was handed out than is
 /// left: so reading takes time by the bytes that come, in whatever pieces.
-#[derive(Debug, Drop)]
+#[derive(Drop)]
 pub struct Frames {
     limit: usize,
     stage: Stage,
@@ -87,6 +88,16 @@ impl Model for Frames {
     ghost view = { λ f. record { limit = f.limit; stage = f.stage; bytes = drop f.taken f.held.items } };
 
     ghost invariant = { λ f. (f.taken ≤ length f.held.items) × IsStage f.limit f.stage (drop f.taken f.held.items) };
+}
+
+// How many bytes are held, and not which.
+impl fmt::Debug for Frames {
+    fn fmt<W: fmt::Write>(&self, f: &mut fmt::Formatter<W>) -> fmt::Result {
+        f.debug_struct("Frames")
+            .field("limit", &self.limit)
+            .field("held", &self.held())
+            .finish()
+    }
 }
 
 // How far a header was read.
