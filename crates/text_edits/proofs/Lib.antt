@@ -5,4 +5,5 @@ pub mod Inverse
 pub mod Order
 pub mod Starts
 pub mod Steps
+pub mod Texts
 pub mod Widths

@@ -1,6 +1,6 @@
 //! Changes of a text.
 
-ghost use Rattle.std.specs.Prelude.{◌≡◌, map, string_bytes, IfOk};
+ghost use Rattle.std.specs.Prelude.{◌≡◌, map, string_bytes, IfOk, OnOk};
 ghost use Rattle.text_edits.specs.Edits.{after, change_view, edited as edited_text};
 
 use crate::lines::Lines;
@@ -29,34 +29,32 @@ pub fn edited(
 {
     let mut now = String::from_str(alloc, text)?;
     for change in changes {
-        now = changed(alloc, now.as_str(), encoding, *change)?;
+        make(alloc, &mut now, encoding, *change)?;
     }
+    now.shrink_to_fit();
     Ok(now)
 }
 
-// The text behind the change.
-fn changed(
+// Makes the change.
+fn make(
     alloc: Global,
-    text: &str,
+    text: &mut String,
     encoding: Encoding,
     change: Change<'_>,
-) -> Result<String, AllocError>
-    ensures { IfOk result (λ t.
-        string_bytes t ≡ after encoding text.now (change_view change.entry)) }
+) -> Result<(), AllocError>
+    ensures { OnOk result (string_bytes text.new
+        ≡ after encoding (string_bytes text.old) (change_view change.entry)) }
 {
     match change {
-        Change::Whole(new) => String::from_str(alloc, new),
+        Change::Whole(new) => {
+            text.clear();
+            text.push_str(new)
+        }
         Change::Part(start, end, new) => {
-            let lines = Lines::of(alloc, text)?;
-            let from = byte_at(text, &lines, encoding, start);
-            let to = byte_at(text, &lines, encoding, end).max(from);
-            let (front, _) = text.split_at(from);
-            let (_, behind) = text.split_at(to);
-            let mut now = String::with_capacity(alloc, front.len() + new.len() + behind.len())?;
-            now.push_str(front)?;
-            now.push_str(new)?;
-            now.push_str(behind)?;
-            Ok(now)
+            let lines = Lines::of(alloc, text.as_str())?;
+            let from = byte_at(text.as_str(), &lines, encoding, start);
+            let to = byte_at(text.as_str(), &lines, encoding, end).max(from);
+            text.replace_range(from..to, new)
         }
     }
 }
