@@ -55,6 +55,8 @@ pub enum Shown {
     EditsInUtf16,
     /// The same, in UTF-32.
     EditsInUtf32,
+    /// What is told of a stream of messages in pieces.
+    Frames,
 }
 
 impl Shown {
@@ -208,6 +210,7 @@ fn what_is_shown(line: usize, text: &str) -> Result<Shown, CaseError> {
         "edits in UTF-8" => Shown::EditsInUtf8,
         "edits in UTF-16" => Shown::EditsInUtf16,
         "edits in UTF-32" => Shown::EditsInUtf32,
+        "frames" => Shown::Frames,
         _ => return wrong(line, "an option that shows what is unknown"),
     })
 }

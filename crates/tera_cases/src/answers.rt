@@ -1,10 +1,12 @@
-//! What is shown of a source, as text: what the parser answers to it, or what is asked of it as a text that is edited.
+//! What is shown of a source, as text: what the parser answers to it, or what is asked of it as a text that is edited or as a
+//! stream of messages.
 
 use crate::beginnings::lengths;
 use crate::contexts::context;
 use crate::cursors::trace;
 use crate::edits::edits;
 use crate::faults::{Detail, error_text};
+use crate::frames::frames;
 use crate::fronts::front;
 use crate::layouts::layout;
 use crate::parameters::parameters;
@@ -46,6 +48,7 @@ pub(crate) fn answer(
         Shown::EditsInUtf8 => edits(alloc, Encoding::Utf8, source),
         Shown::EditsInUtf16 => edits(alloc, Encoding::Utf16, source),
         Shown::EditsInUtf32 => edits(alloc, Encoding::Utf32, source),
+        Shown::Frames => frames(alloc, source),
         Shown::Tree if setting.options.markers.is_empty() => tree(alloc, setting, source),
         Shown::Tree
         | Shown::Ends

@@ -1,4 +1,5 @@
-//! Compares what the parser answers, and what places and edits of texts are, with files of cases: `tera_cases FILE..`.
+//! Compares what the parser answers, what places and edits of texts are, and what is told of streams of messages, with files
+//! of cases: `tera_cases FILE..`.
 //!
 //! `docs/CASES.md` says what stands in a file.
 #![tactic(auto)]
@@ -10,6 +11,7 @@ mod cursors;
 mod edits;
 mod faces;
 mod faults;
+mod frames;
 mod fronts;
 mod kept;
 mod layouts;
