@@ -4,22 +4,13 @@ use Rattle.std.proofs.lemmas.Bool.{false≢true}
 use Rattle.std.proofs.lemmas.Bool.Decides.{nat_tests}
 use Rattle.std.specs.Option.{option_map, option_and_then}
 use Rattle.std.specs.Str.Parse.{AllDigits, IsNumeral, digits_value, without_leading_plus, ParsesUnsigned}
-use Rattle.json.specs.Json.{Json, Items}
-use Rattle.json.specs.Value.{items_of, items_view, value_view}
-use Rattle.json.specs.declared.value.Value.{Value}
-use Rattle.std.specs.Borrow.{Bor}
-use Rattle.std.specs.declared.alloc.Global.{Global}
+use Rattle.json.specs.Json.{Json}
+use Rattle.json.specs.Value.{items_of}
 use Rattle.protocol_values.specs.Members.{listed, all_decimal, is_numeral, natural_of}
 
 pub listed_items : (js : List Json) → listed (items_of js) ≡ js
 listed_items [] = refl
 listed_items (j ∷ js) = ap (λ l. j ∷ l) (listed_items js)
-
--- the items of an array, where there is one
-pub array_is : (array : Option Items) (r : Option (Bor (List (Value Global)))) → MatchOption r (array ≡ None) (λ items. array ≡ Some (items_view items.now)) →
-    option_map (λ items. map value_view items.now) r ≡ option_map listed array
-array_is array None h = sym (ap (option_map listed) h)
-array_is array (Some items) h = sym (ap (option_map listed) h ∙ ap Some (listed_items (map value_view items.now)))
 
 both : (p q : Bool) → p ≡ true → q ≡ true → (p && q) ≡ true
 both p q e f = rw (e, f) refl

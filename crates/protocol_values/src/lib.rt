@@ -13,5 +13,6 @@ pub use reading::{
     changes_of, encoding_of, is_set, items_of, member, number_of, position_of, text_of,
 };
 pub use writing::{
-    encoding_name, put_edit, put_location, put_number, put_position, put_range, put_text, put_truth,
+    encoding_name, put_edit, put_location, put_number, put_position, put_range, put_text,
+    put_tokens,
 };

@@ -1,13 +1,28 @@
 //! Values that are written.
 
-ghost use Rattle.std.specs.Prelude.{◌≡◌, ◌++◌, OnOk};
-ghost use Rattle.json.specs.Json.{string, boolean};
+ghost use Rattle.std.specs.Prelude.{◌≡◌, ◌++◌, map, OnOk};
+ghost use Rattle.std.specs.List.{AllByRecursion};
+ghost use Rattle.json.specs.Json.{string};
+ghost use Rattle.json.specs.Print.{IsPrintable};
+ghost use Rattle.json.specs.Reads.{token_of};
 ghost use Rattle.json.specs.Tree.{json_tokens};
 ghost use Rattle.protocol_values.specs.Writing.{member_tokens, number_json, position_json, range_json, location_json, edit_json, encoding_name};
 
-use json::Writer;
+use json::{Token, Writer};
 use std::alloc::AllocError;
 use text_edits::{Encoding, Position};
+
+/// Writes the tokens, one behind the other.
+pub fn put_tokens(out: &mut Writer, tokens: &[Token<'_>]) -> Result<(), AllocError>
+    requires { AllByRecursion (λ t. IsPrintable (token_of t)) tokens.now }
+    ensures tokens { OnOk result (out.new.tokens ≡ out.old.tokens ++ map token_of tokens.now) }
+    ensures before { out.new.before ≡ out.old.before }
+{
+    for token in tokens {
+        out.token(*token)?;
+    }
+    Ok(())
+}
 
 /// Writes a member that is a text.
 pub fn put_text(out: &mut Writer, name: &str, text: &str) -> Result<(), AllocError>
@@ -15,8 +30,7 @@ pub fn put_text(out: &mut Writer, name: &str, text: &str) -> Result<(), AllocErr
         ≡ out.old.tokens ++ member_tokens name.now (string text.now)) }
     ensures before { out.new.before ≡ out.old.before }
 {
-    out.key(name)?;
-    out.string(text)
+    put_tokens(out, &[Token::Key(name), Token::String(text)])
 }
 
 /// Writes a member that is a number.
@@ -29,28 +43,16 @@ pub fn put_number(out: &mut Writer, name: &str, number: usize) -> Result<(), All
     out.u64(number as u64)
 }
 
-/// Writes a member that is `true` or `false`.
-pub fn put_truth(out: &mut Writer, name: &str, truth: bool) -> Result<(), AllocError>
-    ensures tokens { OnOk result (out.new.tokens
-        ≡ out.old.tokens ++ member_tokens name.now (boolean truth)) }
-    ensures before { out.new.before ≡ out.old.before }
-{
-    out.key(name)?;
-    out.boolean(truth)
-}
-
 /// Writes a member that is a position.
 pub fn put_position(out: &mut Writer, name: &str, position: Position) -> Result<(), AllocError>
     ensures tokens { OnOk result (out.new.tokens
         ≡ out.old.tokens ++ member_tokens name.now (position_json position)) }
     ensures before { out.new.before ≡ out.old.before }
 {
-    out.key(name)?;
-    out.begin_object()?;
+    put_tokens(out, &[Token::Key(name), Token::BeginObject])?;
     put_number(out, "line", position.line)?;
     put_number(out, "character", position.character)?;
-    out.end_object()?;
-    Ok(())
+    out.end_object()
 }
 
 /// Writes a member that is a range.
@@ -64,8 +66,7 @@ pub fn put_range(
         ≡ out.old.tokens ++ member_tokens name.now (range_json start end)) }
     ensures before { out.new.before ≡ out.old.before }
 {
-    out.key(name)?;
-    out.begin_object()?;
+    put_tokens(out, &[Token::Key(name), Token::BeginObject])?;
     put_position(out, "start", start)?;
     put_position(out, "end", end)?;
     out.end_object()
@@ -82,8 +83,10 @@ pub fn put_location(
         ≡ out.old.tokens ++ json_tokens (location_json uri.now start end)) }
     ensures before { out.new.before ≡ out.old.before }
 {
-    out.begin_object()?;
-    put_text(out, "uri", uri)?;
+    put_tokens(
+        out,
+        &[Token::BeginObject, Token::Key("uri"), Token::String(uri)],
+    )?;
     put_range(out, "range", start, end)?;
     out.end_object()
 }
@@ -101,9 +104,10 @@ pub fn put_edit(
 {
     out.begin_object()?;
     put_range(out, "range", start, end)?;
-    put_text(out, "newText", text)?;
-    out.end_object()?;
-    Ok(())
+    put_tokens(
+        out,
+        &[Token::Key("newText"), Token::String(text), Token::EndObject],
+    )
 }
 
 /// The name of the encoding.

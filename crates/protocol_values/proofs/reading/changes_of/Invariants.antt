@@ -2,7 +2,7 @@ use Rattle.std.proofs.Common.{◌≡◌, ◌++◌, map, drop, option_map}
 use Rattle.json.specs.Value.{value_view}
 use Rattle.text_edits.specs.Edits.{change_view}
 use Rattle.protocol_values.specs.Reading.{each_change}
-use Rattle.protocol_values.proofs.reading.each_change.Given as goal
+use Rattle.protocol_values.proofs.reading.changes_of.Given as goal
 
 abbrev pub invariant-loop-item : goal.invariant-loop-item
 invariant-loop-item l =

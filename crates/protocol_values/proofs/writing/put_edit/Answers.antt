@@ -1,7 +1,0 @@
-use Rattle.std.proofs.Common.{refl, append_assoc}
-use Rattle.protocol_values.proofs.writing.put_edit.Goals as goal
-
-pub returns-clause-tokens : goal.returns-clause-tokens
-returns-clause-tokens c =
-    rw (c.in_ok-end_object.ensures.ok, c.in_ok-put_text.ensures.tokens, c.in_ok-put_range.ensures.tokens, c.in_ok-begin_object.ensures.ok)
-    (simp append_assoc refl)
