@@ -22,7 +22,7 @@ use Rattle.tera_server.specs.States.{loaded_as, wanted_of, wanted_view, StaysBut
 use Rattle.tera_server.specs.declared.server.Server.{Server}
 use Rattle.tera_server.specs.declared.server.Wanted.{Wanted}
 use Rattle.tera_files.specs.Finding.{AreOf, AreOfAll}
-use Rattle.text_documents.specs.Stored.{IsChangedAt, AreSame}
+use Rattle.text_edits.specs.Stored.{IsChangedAt, AreSame}
 use Rattle.tera_program.specs.Serving.{Takes, Settles, IsNew, IsAsked, IsLoaded, AreLoaded, LoadedNone, LoadedNext, Gives, Talks, Silent, Took, Settled, Given, IsOver, IsServed, IsTalking, IsWaiting}
 use Rattle.tera_show.proofs.Known.{appends_more}
 use Rattle.tera_program.proofs.SendLemmas.{appends_none}

@@ -23,8 +23,8 @@ use Rattle.tera_server.specs.declared.server.Ended.{Ended}
 use Rattle.tera_server.specs.declared.server.Phase.TheVariants.{New}
 use Rattle.tera_server.specs.declared.server.Server.{Server}
 use Rattle.tera_workspace.specs.Workspaces.{told_of_name, IsKept}
-use Rattle.text_documents.specs.Documents.{no_document}
-use Rattle.text_documents.specs.Stored.{IsChangedAt, AreSame}
+use Rattle.text_edits.specs.Documents.{no_document}
+use Rattle.text_edits.specs.Stored.{IsChangedAt, AreSame}
 
 -- nothing was sent to a server: it knows no document, tells nothing, asks for nothing, and has nothing to publish
 pub record IsNew (s : Server) : Type 0 where

@@ -10,7 +10,7 @@ ghost use Rattle.message_frames.specs.Writing.{frame as frame_text};
 ghost use Rattle.tera_program.specs.Serving.{Takes, Settles, IsLoaded, AreGiven, Gives, IsTalking, IsWaiting, IsServed};
 ghost use Rattle.tera_server.specs.States.{WantsFolder, wanted_view, loaded_as};
 ghost use Rattle.tera_server.specs.declared.server.Server.{Server};
-ghost use Rattle.text_documents.specs.Stored.{IsChangedAt};
+ghost use Rattle.text_edits.specs.Stored.{IsChangedAt};
 
 use crate::options::EXTENSIONS;
 use crate::output::tell;

@@ -1,12 +1,12 @@
 -- What may be typed at a position, by the byte that this is.
-use Rattle.std.proofs.Common.{◌≡◌, ◌∙◌, ◌++◌, ◌∷◌, ℕ, List, [], Bool, true, false, if◌then◌else◌, filter, length, map, Option, option_map, refl, ap}
+use Rattle.std.proofs.Common.{◌≡◌, ◌∙◌, ℕ, List, length, Option, option_map, ap}
 use Rattle.tera_outline.specs.Completions.{completion_at, slot_of}
-use Rattle.tera_outline.specs.Names.{Named, names_of}
+use Rattle.tera_outline.specs.Names.{names_of}
 use Rattle.tera_outline.specs.Pieces.{Part}
 use Rattle.tera_outline.specs.declared.completions.Completion.{Completion}
 use Rattle.tera_workspace.specs.declared.workspace.Workspace.{Workspace}
 use Rattle.text_edits.specs.declared.positions.Encoding.{Encoding}
-use Rattle.tera_server.specs.Completions.{completion_json, completion_of, is_defined, defined_names}
+use Rattle.tera_server.specs.Completions.{completion_json, completion_of}
 
 pub told : (e : Encoding) (w : Workspace) (folders : List (List ℕ)) (text : List ℕ) (parts : List Part) (byte at last : ℕ) (given : Option Completion)
     → given ≡ option_map (completion_at byte) (slot_of last byte parts) → last ≡ length text → byte ≡ at
@@ -15,12 +15,3 @@ told e w folders text parts byte at last given is long same =
     ap (λ g. completion_json e w folders text (names_of parts) byte g) is
     ∙ ap (λ n. completion_json e w folders text (names_of parts) byte (option_map (completion_at byte) (slot_of n byte parts))) long
     ∙ ap (λ b. completion_of e w folders text parts b) same
-
--- of names that are defined the first, and the others
-pub defined_step : (n : Named) (ns : List Named) → defined_names (n ∷ ns) ≡ defined_names (n ∷ []) ++ defined_names ns
-defined_step n ns = by (is_defined n.kind)
-  where
-    by : (b : Bool) → map (λ m. m.text) (if b then n ∷ filter (λ m. is_defined m.kind) ns else filter (λ m. is_defined m.kind) ns)
-        ≡ map (λ m. m.text) (if b then n ∷ [] else []) ++ defined_names ns
-    by true = refl
-    by false = refl

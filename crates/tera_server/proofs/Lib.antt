@@ -1,5 +1,4 @@
 pub mod ArrayLemmas
-pub mod AskLemmas
 pub mod CompletionLemmas
 pub mod EditorLemmas
 pub mod FindingLemmas
@@ -13,7 +12,6 @@ pub mod PublishLemmas
 pub mod ReferenceLemmas
 pub mod RequestLemmas
 pub mod SelectionLemmas
-pub mod StayLemmas
 pub mod StepLemmas
 pub mod Tails
 pub mod TemplateNames

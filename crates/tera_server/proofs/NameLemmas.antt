@@ -1,7 +1,7 @@
 -- Names that are added one behind another.
 use Rattle.std.proofs.Common.{◌≡◌, ◌∙◌, ◌<◌, ◌+◌, ◌++◌, ◌∷◌, [], ℕ, List, length, drop, get_or, drop-cons, add-one, Option, None, Some, refl, sym, ap, subst, append_assoc}
 use Rattle.std.proofs.lemmas.List.{append-nil}
-use Rattle.tera_server.specs.Requests.{AreNames, AddsName}
+use Rattle.tera_server.specs.Notes.{AreNames, AddsName}
 
 -- what is to come of the names of all, when those of the first ones are there
 abbrev pub Follow : List (Option (List ℕ)) → List (Option (List ℕ)) → List (List ℕ) → Type 0

@@ -7,17 +7,16 @@ use Rattle.std.proofs.lemmas.List.{append-nil, map-append, take_more, take_all, 
 use Rattle.std.proofs.lemmas.List.Concat.{flat_map-append}
 use Rattle.std.proofs.lemmas.List.Elements.{filter-append}
 use Rattle.std.proofs.lemmas.Slice.Eq.{bytes_eq-Decides}
-use Rattle.json_rpc.specs.Outgoing.{Outgoing}
+use Rattle.json_rpc.specs.Outgoing.{Outgoing, more}
 use Rattle.tera_workspace.specs.Names.{is_among}
 use Rattle.tera_workspace.specs.Workspaces.{told_of_name, IsKept, IsSettled, AreOthers}
 use Rattle.tera_workspace.specs.declared.workspace.Workspace.{Workspace}
-use Rattle.text_documents.specs.Stored.{AreSame}
 use Rattle.tera_server.specs.Editors.{stand_of}
 use Rattle.tera_server.specs.Sending.{with_all, found_message, unless_lost, messages_in, SendsFirst, names_beside}
-use Rattle.tera_server.specs.Settling.{due_of, IsSettling, ArePublished, ArePublishedInPart, OnlyTells}
+use Rattle.tera_server.specs.Settling.{due_of, ArePublished, ArePublishedInPart}
 use Rattle.tera_server.specs.declared.editor.Editor.{Editor}
-use Rattle.tera_server.specs.declared.server.Phase.{Phase}
-use Rattle.tera_server.specs.declared.server.Phase.TheVariants.{New, Running, ShutDown}
+use Rattle.tera_server.specs.declared.editor.Stand.{Stand}
+use Rattle.tera_server.specs.declared.editor.Stand.TheVariants.{Open, Lost, Closed}
 use Rattle.tera_server.specs.declared.server.Server.{Server}
 
 -- ---- more messages
@@ -44,6 +43,16 @@ pub beside_join : (e : Editor) (related : Bool) (w : Workspace) (others : List (
 beside_join e related w others xs ys =
     ap (messages_in e related w) (filter-append (λ n. not (is_among n others)) xs ys)
     ∙ messages_join e related w (names_beside others xs) (names_beside others ys)
+
+-- the message of one document, unless it is open with a text that is not known
+pub one_sent : (e : Editor) (related : Bool) (w : Workspace) (n m : List ℕ) (o : Outgoing) → (stand_of e n ≡ Open) ⊎ (stand_of e n ≡ Closed) → m ≡ found_message e related w n
+    → more o m ≡ with_all o (messages_in e related w (n ∷ []))
+one_sent e related w n m o stands is = by (stand_of e n) stands
+  where
+    by : (s : Stand) → (s ≡ Open) ⊎ (s ≡ Closed) → more o m ≡ with_all o (unless_lost s (found_message e related w n) ++ [])
+    by Open h = ap (more o) is
+    by Lost h = absurd (elim h [ inl e ↦ cc | inr e ↦ cc ])
+    by Closed h = ap (more o) is
 
 -- one document more
 pub sends_next : (messages : List (List ℕ) → List (List ℕ)) → Joins messages → (names : List (String Global)) (i : ℕ) (name : String Global) (start now next : Outgoing) →
@@ -154,6 +163,16 @@ beside_one n others e = ap (λ b. cond (not b) (n ∷ []) []) e
 pub beside_none : (n : List ℕ) (others : List (List ℕ)) → is_among n others ≡ false → names_beside others (n ∷ []) ≡ n ∷ []
 beside_none n others e = ap (λ b. cond (not b) (n ∷ []) []) e
 
+-- .. beside none
+pub beside_nothing : (ns : List (List ℕ)) → names_beside [] ns ≡ ns
+beside_nothing [] = refl
+beside_nothing (n ∷ ns) = ap (λ ms. n ∷ ms) (beside_nothing ns)
+
+pub first_beside_nothing : (e : Editor) (related : Bool) (w : Workspace) (ns : List (List ℕ)) (old now : Outgoing) → SendsFirst (λ xs. messages_in e related w (names_beside [] xs)) ns old now
+    → SendsFirst (messages_in e related w) ns old now
+first_beside_nothing e related w ns old now (first, rest, whole, sent) =
+    (first, rest, whole, sent ∙ ap (λ xs. with_all old (messages_in e related w xs)) (beside_nothing first))
+
 -- where the list that is told is another, a name is among those of which it is
 pub is_other : {A : Type 0} (before now : List ℕ → List A) (names : List (List ℕ)) (n : List ℕ) → (is_among n names ≡ false → now n ≡ before n) → (now n ≡ before n → ⊥) → is_among n names ≡ true
 is_other before now names n same differs = by (is_among n names) same
@@ -173,17 +192,6 @@ names_of v = map string_bytes v.items
 -- the server behind that, when w was found: what is to be published is something else
 abbrev pub with_found : Server → Workspace → Names → Names → Server
 with_found s w untold edited = record s { workspace = w; untold = untold; edited = edited }
-
--- nothing was found, and nothing is published
-pub part_unfound : (s : Server) (w : Workspace) (untold edited : Names) (old : Outgoing) → ((n : List ℕ) → told_of_name w n ≡ told_of_name s.workspace n) →
-    due_of (with_found s w untold edited) ≡ due_of s → ArePublishedInPart s (with_found s w untold edited) old old
-part_unfound s w untold edited old same due = record {
-  names = [];
-  sent = sym (with_none old);
-  others = λ kept n differs. absurd (differs (same n));
-  due = λ n h. inr (subst (λ ns. is_among n ns ≡ true) (sym due) h);
-  only = λ n h. absurd (cc);
-}
 
 -- some of those that were due were published
 pub part_due : (s : Server) (w : Workspace) (others due : Names) (old now : Outgoing) → names_of due ≡ due_of s →
@@ -250,27 +258,3 @@ published_whole s w others untold edited old next now settled are more sent no_u
 pub on_any_err : {T E P : Type 0} (r : Result T E) → P → OnErr r P
 on_any_err (Ok v) h = tt
 on_any_err (Err e) h = h
-
--- ---- what stays
-
--- these fields are those of t
-abbrev framed : Server → Server → Server
-framed t u = record u { workspace = t.workspace; untold = t.untold; edited = t.edited }
-
-pub only_tells : (s t : Server) (w : Workspace) (untold edited : Names) → t ≡ with_found s w untold edited → AreSame s.workspace.documents w.documents → w.encoding ≡ s.workspace.encoding →
-    (IsKept s.workspace → IsKept w) → OnlyTells s t
-only_tells s t w untold edited e same encoding kept = record {
-  same = ap (framed t) e;
-  documents = subst (λ (u : Server). AreSame s.workspace.documents u.workspace.documents) (sym e) same;
-  encoding = subst (λ (u : Server). u.workspace.encoding ≡ s.workspace.encoding) (sym e) encoding;
-  kept = λ k. subst (λ (u : Server). IsKept u.workspace) (sym e) (kept k);
-}
-
-pub unchanged_tells : (s t : Server) → t ≡ s → OnlyTells s t
-unchanged_tells s t e = only_tells s t s.workspace s.untold s.edited e (λ n. refl) refl (λ k. k)
-
--- before the exchange and behind it
-pub idle_settling : (phase : Phase) (s : Server) (o : Outgoing) → (phase ≡ New) ⊎ (phase ≡ ShutDown) → IsSettling phase s s o o
-idle_settling New s o h = (refl, refl)
-idle_settling Running s o h = absurd (elim h [ inl e ↦ cc | inr e ↦ cc ])
-idle_settling ShutDown s o h = (refl, refl)

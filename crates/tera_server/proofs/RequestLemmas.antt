@@ -1,35 +1,40 @@
 -- What requests are given, by what they ask and when.
-use Rattle.std.proofs.Common.{◌≡◌, ◌∙◌, ◌++◌, ◌∷◌, [], ℕ, List, Option, Some, None, Result, Ok, Err, Vec, MatchResult, ◌⊎◌, inl, inr, refl, sym, ap, subst, append_assoc}
+use Rattle.std.proofs.Common.{◌≡◌, ◌∙◌, ◌++◌, ◌∷◌, [], ℕ, List, Option, Result, Ok, Err, Vec, IfOk, IfErr, MatchResult, inl, refl, sym, ap, subst, append_assoc}
 use Rattle.std.specs.declared.alloc.Global.{Global}
 use Rattle.json.specs.Json.{Json}
 use Rattle.json.specs.Print.{print}
 use Rattle.json.specs.Token.{Token, end_object}
 use Rattle.json.specs.Tree.{json_tokens}
 use Rattle.json_rpc.specs.Ids.{IdVal, NullId, NumberId, TextId}
-use Rattle.json_rpc.specs.Writing.{body, answer, answer_begin}
+use Rattle.json_rpc.specs.Outgoing.{Outgoing, IsAnswered}
+use Rattle.json_rpc.specs.Writing.{body, answer, answer_begin, refusal}
 use Rattle.tera_server.specs.Abilities.{abilities_json}
 use Rattle.tera_server.specs.Clients.{client_in}
-use Rattle.tera_workspace.specs.Definitions.{AreRead}
 use Rattle.tera_workspace.specs.Workspaces.{IsKept}
 use Rattle.json_rpc.specs.declared.code.Code.{Code}
 use Rattle.json_rpc.specs.declared.code.Code.TheVariants.{InternalError}
-use Rattle.text_documents.specs.Documents.{text_of}
-use Rattle.text_documents.specs.Stored.{document_of}
-use Rattle.text_edits.specs.declared.positions.Position.{Position}
 use Rattle.tera_server.specs.Editors.{stand_of}
-use Rattle.tera_server.specs.Notes.{document_in, uri_told}
-use Rattle.tera_server.specs.Requests.{IsBegun, HasRead, IsOffered, place_in, RefusesStand, RefusesPlace, Gives, Remains, IsPut, IsAnsweredBy}
+use Rattle.tera_server.specs.Notes.{Texts}
+use Rattle.tera_server.specs.Requests.{IsBegun, HasRead, Gives, Remains, IsAnsweredBy}
+use Rattle.tera_server.specs.Steps.{answer_by, Answers, Follows}
+use Rattle.tera_server.specs.declared.editor.Stand.TheVariants.{Open}
 use Rattle.tera_server.specs.declared.requests.Asked.{Asked}
-use Rattle.tera_server.specs.declared.requests.Asked.TheVariants.{Initialize, Shutdown, OfText, OfName, Completion, Other}
+use Rattle.tera_server.specs.declared.requests.Asked.TheVariants.{Initialize, Shutdown, OfText, AtPlace, Other}
 use Rattle.tera_server.specs.declared.server.Phase.{Phase}
 use Rattle.tera_server.specs.declared.server.Phase.TheVariants.{New, Running, ShutDown}
 use Rattle.tera_server.specs.declared.server.Server.{Server}
 
-pub gives_begun : (phase : Phase) (asked : Asked) (params : Option Json) (s t : Server) → phase ≡ New → asked ≡ Initialize → IsBegun params s t →
+gives_begun : (phase : Phase) (asked : Asked) (params : Option Json) (s t : Server) → phase ≡ New → asked ≡ Initialize → IsBegun params s t →
     Gives phase asked s params (abilities_json (client_in params).encoding) t
 gives_begun phase asked params s t e f h =
     let j = abilities_json (client_in params).encoding in
     subst (λ p. Gives p asked s params j t) (sym e) (subst (λ a. Gives New a s params j t) (sym f) (refl, h))
+
+pub begun_answered : (id : IdVal) (asked : Asked) (params : Option Json) (s t : Server) (r : Result (Vec ℕ Global) Code) → s.phase ≡ New → asked ≡ Initialize →
+    IfOk r (λ v. IsBegun params s t × (v.items ≡ body (answer id (abilities_json (client_in params).encoding)))) → IfErr r (λ code. (t ≡ s) × (code ≡ InternalError)) →
+    IsAnsweredBy s id asked params r t
+begun_answered id asked params s t (Ok v) new is begun err = (abilities_json (client_in params).encoding, gives_begun s.phase asked params s t new is begun.0, begun.1)
+begun_answered id asked params s t (Err code) new is begun err = (subst (λ p. Remains p asked s t) (sym new) err.0, inl err.1)
 
 -- an answer that was begun, has its result written, and is ended
 completed : (id : IdVal) (j : Json) → answer_begin id ++ (json_tokens j ++ end_object ∷ []) ≡ json_tokens (answer id j)
@@ -44,58 +49,69 @@ answered id j first items tokens is none written =
     ∙ ap (λ bs. bs ++ print (tokens ++ end_object ∷ [])) none
     ∙ ap print (ap (λ ts. ts ++ end_object ∷ []) written ∙ append_assoc (answer_begin id) (json_tokens j) (end_object ∷ []) ∙ completed id j)
 
--- ---- what refuses a place behind documents that were read refuses it before
+-- ---- what is sent
 
-pub refused_before : (position : Option Position) (uri : Option (List ℕ)) (s t : Server) (code : Code) → HasRead s t → RefusesPlace position uri t code → RefusesPlace position uri s code
-refused_before None uri s t code h r = r
-refused_before (Some position) None s t code h r = r
-refused_before (Some position) (Some uri) s t code h (name, is, r) = (
-  name,
-  is,
-  subst (λ d. RefusesStand (stand_of s.editor name) (text_of d) code) (h.documents name)
-      (subst (λ (u : Server). RefusesStand (stand_of u.editor name) (text_of (document_of t.workspace.documents name)) code) h.rest r),
+sent_by_result : (id : IdVal) (r : Result (Vec ℕ Global) Code) (old now : Outgoing) →
+    MatchResult r (λ m. IsAnswered old now id m.items) (λ code. IsAnswered old now id (body (refusal id code))) → IsAnswered old now id (answer_by id r)
+sent_by_result id (Ok m) old now h = h
+sent_by_result id (Err code) old now h = h
+
+pub answers : (id : IdVal) (asked meant : Asked) (params : Option Json) (s t : Server) (r : Result (Vec ℕ Global) Code) (old now : Outgoing) → asked ≡ meant →
+    IsAnsweredBy s id asked params r t → MatchResult r (λ m. IsAnswered old now id m.items) (λ code. IsAnswered old now id (body (refusal id code))) →
+    Answers id meant s params old t now
+answers id asked meant params s t r old now is answered sent = (r, subst (λ a. IsAnsweredBy s id a params r t) is answered, sent_by_result id r old now sent)
+
+-- ---- what is so of each workspace stays so, and the texts that are open stay those of the editor
+
+abbrev pub Keeps : Server → Server → Type 0
+Keeps s t = (IsKept s.workspace → IsKept t.workspace) × ((texts : Texts) → Follows texts s → Follows texts t)
+
+same_keeps : (s t : Server) → t ≡ s → Keeps s t
+same_keeps s t same = subst (λ u. Keeps s u) (sym same) (λ kept. kept, λ texts f. f)
+
+read_keeps : (s t : Server) → HasRead s t → Keeps s t
+read_keeps s t h = (
+  h.kept,
+  λ texts f. record {
+    in_step = λ n stands. ap (λ d. d.opened) (h.documents n) ∙ f.in_step n (subst (λ (u : Server). stand_of u.editor n ≡ Open) h.rest stands);
+    unopened = λ begun n stands. f.unopened (subst (λ (u : Server). u.phase ≡ New) h.rest begun) n (subst (λ (u : Server). stand_of u.editor n ≡ Open) h.rest stands);
+  },
 )
 
--- what may be typed, told by documents that were read
-pub offered_read : (params : Option Json) (s t : Server) (r : Result (Unit {0}) Code) (old now : List Token) → (IsKept s.workspace → AreRead t.workspace) → HasRead s t
-    → MatchResult r (λ _. (j : Json) × IsOffered (place_in params) (uri_told (document_in params)) t j × (now ≡ old ++ json_tokens j))
-    (λ code. (code ≡ InternalError) ⊎ RefusesPlace (place_in params) (uri_told (document_in params)) t code)
-    → IsPut Completion s params old r t now
-offered_read params s t (Ok v) old now read stays (j, offered, written) = (j, record { read = read; told = offered; stays = stays }, written)
-offered_read params s t (Err code) old now read stays (inl memory) = (stays, inl memory)
-offered_read params s t (Err code) old now read stays (inr r) = (stays, inr (refused_before (place_in params) (uri_told (document_in params)) s t code stays r))
+begun_keeps : (params : Option Json) (s t : Server) → s.phase ≡ New → IsBegun params s t → Keeps s t
+begun_keeps params s t new h = (
+  λ kept. h.kept,
+  λ texts f. record {
+    in_step = λ n stands. absurd (f.unopened new n (subst (λ (u : Server). stand_of u.editor n ≡ Open) h.same stands));
+    unopened = λ begun n stands. f.unopened new n (subst (λ (u : Server). stand_of u.editor n ≡ Open) h.same stands);
+  },
+)
 
--- ---- what is so of each workspace stays so
+ended_keeps : (s t : Server) → t ≡ record s { phase = ShutDown } → Keeps s t
+ended_keeps s t is = subst (λ u. Keeps s u) (sym is) (λ kept. kept, λ texts f. record { in_step = f.in_step; unopened = λ begun. absurd (cc) })
 
-same_kept : (s t : Server) → t ≡ s → IsKept s.workspace → IsKept t.workspace
-same_kept s t same kept = subst (λ u. IsKept u.workspace) (sym same) kept
+given_keeps : (phase : Phase) (asked : Asked) (params : Option Json) (s t : Server) (j : Json) → s.phase ≡ phase → Gives phase asked s params j t → Keeps s t
+given_keeps New Initialize params s t j is h = begun_keeps params s t is h.1
+given_keeps New Shutdown params s t j is h = absurd h
+given_keeps New (OfText request) params s t j is h = absurd h
+given_keeps New (AtPlace request) params s t j is h = absurd h
+given_keeps New Other params s t j is h = absurd h
+given_keeps Running Initialize params s t j is h = absurd h
+given_keeps Running Shutdown params s t j is h = ended_keeps s t h.1
+given_keeps Running (OfText request) params s t j is h = same_keeps s t h.3
+given_keeps Running (AtPlace request) params s t j is h = read_keeps s t h.stays
+given_keeps Running Other params s t j is h = absurd h
+given_keeps ShutDown asked params s t j is h = absurd h
 
-given_kept : (phase : Phase) (asked : Asked) (params : Option Json) (s t : Server) (j : Json) → Gives phase asked s params j t → IsKept s.workspace → IsKept t.workspace
-given_kept New Initialize params s t j h kept = h.1.kept
-given_kept New Shutdown params s t j h kept = absurd h
-given_kept New (OfText request) params s t j h kept = absurd h
-given_kept New (OfName request) params s t j h kept = absurd h
-given_kept New Completion params s t j h kept = absurd h
-given_kept New Other params s t j h kept = absurd h
-given_kept Running Initialize params s t j h kept = absurd h
-given_kept Running Shutdown params s t j h kept = subst (λ u. IsKept u.workspace) (sym h.1) kept
-given_kept Running (OfText request) params s t j h kept = same_kept s t h.3 kept
-given_kept Running (OfName request) params s t j h kept = h.2.stays.kept kept
-given_kept Running Completion params s t j h kept = h.stays.kept kept
-given_kept Running Other params s t j h kept = absurd h
-given_kept ShutDown asked params s t j h kept = absurd h
+remains_keeps : (phase : Phase) (asked : Asked) (s t : Server) → Remains phase asked s t → Keeps s t
+remains_keeps New asked s t h = same_keeps s t h
+remains_keeps Running Initialize s t h = same_keeps s t h
+remains_keeps Running Shutdown s t h = same_keeps s t h
+remains_keeps Running (OfText request) s t h = same_keeps s t h
+remains_keeps Running (AtPlace request) s t h = read_keeps s t h
+remains_keeps Running Other s t h = same_keeps s t h
+remains_keeps ShutDown asked s t h = same_keeps s t h
 
-remains_kept : (phase : Phase) (asked : Asked) (s t : Server) → Remains phase asked s t → IsKept s.workspace → IsKept t.workspace
-remains_kept New asked s t h kept = same_kept s t h kept
-remains_kept Running Initialize s t h kept = same_kept s t h kept
-remains_kept Running Shutdown s t h kept = same_kept s t h kept
-remains_kept Running (OfText request) s t h kept = same_kept s t h kept
-remains_kept Running (OfName request) s t h kept = h.kept kept
-remains_kept Running Completion s t h kept = h.kept kept
-remains_kept Running Other s t h kept = same_kept s t h kept
-remains_kept ShutDown asked s t h kept = same_kept s t h kept
-
-pub answered_kept : (id : IdVal) (asked : Asked) (params : Option Json) (s t : Server) (r : Result (Vec ℕ Global) Code) → IsAnsweredBy s id asked params r t →
-    IsKept s.workspace → IsKept t.workspace
-answered_kept id asked params s t (Ok v) (j, given, written) kept = given_kept s.phase asked params s t j given kept
-answered_kept id asked params s t (Err code) (remains, due) kept = remains_kept s.phase asked s t remains kept
+pub answered_keeps : (id : IdVal) (asked : Asked) (params : Option Json) (s t : Server) (r : Result (Vec ℕ Global) Code) → IsAnsweredBy s id asked params r t → Keeps s t
+answered_keeps id asked params s t (Ok v) (j, given, written) = given_keeps s.phase asked params s t j refl given
+answered_keeps id asked params s t (Err code) (remains, due) = remains_keeps s.phase asked s t remains

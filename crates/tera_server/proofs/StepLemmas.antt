@@ -1,5 +1,5 @@
 -- The texts that are known to be open are those of the editor, behind a note as before it.
-use Rattle.std.proofs.Common.{◌≡◌, ◌∙◌, ℕ, List, [], ◌∷◌, Bool, true, false, cond, codes, Option, None, Some, Result, Ok, Err, OnOk, OnErr, refl, sym, ap, subst}
+use Rattle.std.proofs.Common.{◌≡◌, ◌∙◌, ℕ, List, [], ◌∷◌, Bool, true, false, cond, Option, None, Some, Result, Ok, Err, OnOk, OnErr, refl, sym, ap, subst}
 use Rattle.std.specs.List.{list_any}
 use Rattle.std.specs.Str.{bytes_eq}
 use Rattle.std.specs.declared.alloc.AllocError.{AllocError}
@@ -7,16 +7,16 @@ use Rattle.std.proofs.lemmas.Slice.Eq.{bytes_eq-Decides}
 use Rattle.file_uris.specs.Names.{IsNameOf}
 use Rattle.file_uris.proofs.DecodingLemmas.{name_once}
 use Rattle.json.specs.Json.{Json}
-use Rattle.protocol_values.specs.Members.{member_of, text_in}
 use Rattle.text_edits.specs.Edits.{ChangeView, NewText, NewPart, edited}
 use Rattle.text_edits.specs.declared.positions.Encoding.{Encoding}
 use Rattle.tera_server.specs.Editors.{SeenVal, stand_in}
-use Rattle.tera_server.specs.Notes.{document_in, uri_told, version_of, IsOpened, IsChanged, IsClosed, IsNotedBy, IsHeldBut, Texts, IsTextAt, Edits, IsInStep}
+use Rattle.tera_server.specs.Notes.{document_in, uri_told, version_of, IsOpened, IsChanged, IsNotedAs, IsNotedOf, IsNotedBy, IsHeldBut, Texts, IsTextAt, Edit, Edits, IsInStep}
 use Rattle.tera_server.specs.States.{Known, known_of, IsKnownAt, opened_as, changed_as, closed_as, is_whole}
 use Rattle.tera_server.specs.declared.editor.Stand.{Stand}
 use Rattle.tera_server.specs.declared.editor.Stand.TheVariants.{Open, Lost, Closed}
-use Rattle.tera_server.specs.declared.notes.Noted.{Noted}
-use Rattle.tera_server.specs.declared.notes.Noted.TheVariants as notes
+use Rattle.tera_server.specs.declared.notes.DocumentNote.{DocumentNote}
+use Rattle.tera_server.specs.declared.notes.DocumentNote.TheVariants as of_document
+use Rattle.tera_server.specs.declared.notes.Noted.TheVariants.{OfDocument}
 use Rattle.tera_server.specs.declared.server.Server.{Server}
 
 -- behind changes of which one tells the whole text, the text does not depend on what it was
@@ -70,54 +70,39 @@ changed_held : (e : Encoding) (version : Option ℕ) (cs : List ChangeView) (tex
 changed_held e version cs text None opened stored h = λ stands. cc
 changed_held e version cs text (Some s) opened stored h = changed_at e version cs text s.uri s.version s.stand opened stored (list_any is_whole cs) refl h
 
--- ---- behind each notification
+-- ---- behind a note on a document
 
-opened_is : (uri text : List ℕ) (u t : Option (List ℕ)) (version : Option ℕ) (s r : Server) → u ≡ Some uri → t ≡ Some text → IsOpened u t version s r → IsOpened (Some uri) (Some text) version s r
-opened_is uri text u t version s r e f h = subst (λ o. IsOpened (Some uri) o version s r) f (subst (λ o. IsOpened o t version s r) e h)
+renamed : (uri name other : List ℕ) (note : DocumentNote) (s t : Server) (params : Option Json) → IsNameOf uri name → IsNameOf uri other →
+    IsNotedAs note other uri s params t → IsNotedAs note name uri s params t
+renamed uri name other note s t params of is h = subst (λ m. IsNotedAs note m uri s params t) (name_once uri other name is of) h
 
-changed_is : (uri : List ℕ) (cs : List ChangeView) (u : Option (List ℕ)) (o : Option (List ChangeView)) (e : Encoding) (version : Option ℕ) (s r : Server) → u ≡ Some uri → o ≡ Some cs →
-    IsChanged e u version o s r → IsChanged e (Some uri) version (Some cs) s r
-changed_is uri cs u o e version s r is are h = subst (λ c. IsChanged e (Some uri) version c s r) are (subst (λ v. IsChanged e v version o s r) is h)
+opened_is : (name uri text : List ℕ) (o : Option (List ℕ)) (version : Option ℕ) (s t : Server) → o ≡ Some text → IsOpened name uri o version s t → IsOpened name uri (Some text) version s t
+opened_is name uri text o version s t is h = subst (λ o. IsOpened name uri o version s t) is h
 
-renamed : (uri name other : List ℕ) (change : Known → Known) (s t : Server) → IsNameOf uri name → IsNameOf uri other → IsKnownAt other change s t → IsKnownAt name change s t
-renamed uri name other change s t of is h = subst (λ m. IsKnownAt m change s t) (name_once uri other name is of) h
+changed_is : (name : List ℕ) (version : Option ℕ) (cs : List ChangeView) (o : Option (List ChangeView)) (s t : Server) → o ≡ Some cs → IsChanged name version o s t →
+    IsChanged name version (Some cs) s t
+changed_is name version cs o s t is h = subst (λ o. IsChanged name version o s t) is h
 
-pub opened_step : (noted : Noted) (params : Option Json) (s t : Server) (r : Result (Unit {0}) AllocError) → noted ≡ notes.Opened →
-    OnOk r (IsOpened (uri_told (document_in params)) (text_in (member_of (codes "text") (document_in params))) (version_of (document_in params)) s t) →
-    OnErr r (IsHeldBut (uri_told (document_in params)) s t) →
-    (texts now : Texts) → Edits s.workspace.encoding noted params texts now → IsInStep texts s → IsInStep now t
-opened_step noted params s t (Ok x) is ok err texts now edits h =
-    let (uri, name, text, is_uri, of, is_text, are) = subst (λ n. Edits s.workspace.encoding n params texts now) is edits in
-    let (other, other_of, at, wanted, edited) = opened_is uri text _ _ (version_of (document_in params)) s t is_uri is_text ok in
-    step_by name (opened_as uri (version_of (document_in params)) text) s t texts now (Some text)
-    (renamed uri name other (opened_as uri (version_of (document_in params)) text) s t of other_of at.at) are (λ held stands. refl) h
-opened_step noted params s t (Err x) is ok err texts now edits h =
-    let (uri, name, text, is_uri, of, is_text, are) = subst (λ n. Edits s.workspace.encoding n params texts now) is edits in
-    step_but uri name s t texts now (Some text) (subst (λ u. IsHeldBut u s t) is_uri err) of are h
-
-pub changed_step : (noted : Noted) (params : Option Json) (s t : Server) (r : Result (Unit {0}) AllocError) → noted ≡ notes.Changed →
-    OnOk r (IsNotedBy notes.Changed s params t) → OnErr r (IsHeldBut (uri_told (document_in params)) s t) →
-    (texts now : Texts) → Edits s.workspace.encoding noted params texts now → IsInStep texts s → IsInStep now t
-changed_step noted params s t (Ok x) is ok err texts now edits h =
+-- of the one that has this name
+noted_step : (note : DocumentNote) (params : Option Json) (uri name : List ℕ) (text : Option (List ℕ)) (s t : Server) (texts now : Texts) → IsNotedAs note name uri s params t →
+    Edit s.workspace.encoding note params (texts name) text → IsTextAt name text texts now → IsInStep texts s → IsInStep now t
+noted_step of_document.Opened params uri name text s t texts now noted (new, told, is) are h =
+    let version = version_of (document_in params) in
+    step_by name (opened_as uri version new) s t texts now text (opened_is name uri new _ version s t told noted).0.at are (λ held stands. sym is) h
+noted_step of_document.Changed params uri name text s t texts now noted (old, changes, told, was, is) are h =
     let e = s.workspace.encoding in
     let version = version_of (document_in params) in
-    let (uri, name, text, changes, is_uri, of, are_changes, is_text, are) = subst (λ n. Edits e n params texts now) is edits in
-    let (other, other_of, at, wanted, edited_by) = changed_is uri changes _ _ e version s t is_uri are_changes ok in
     let k = known_of s name in
-    step_by name (changed_as e version (Some changes)) s t texts now (Some (edited e text changes))
-    (renamed uri name other (changed_as e version (Some changes)) s t of other_of at.at) are
-    (λ held. changed_held e version changes text k.seen k.texts.opened k.texts.stored (λ stands. held stands ∙ is_text)) h
-changed_step noted params s t (Err x) is ok err texts now edits h =
-    let (uri, name, text, changes, is_uri, of, are_changes, is_text, are) = subst (λ n. Edits s.workspace.encoding n params texts now) is edits in
-    step_but uri name s t texts now (Some (edited s.workspace.encoding text changes)) (subst (λ u. IsHeldBut u s t) is_uri err) of are h
+    step_by name (changed_as e version (Some changes)) s t texts now text (changed_is name version changes _ s t told noted).0.at are
+    (λ held stands. changed_held e version changes old k.seen k.texts.opened k.texts.stored (λ stood. held stood ∙ was) stands ∙ sym is) h
+noted_step of_document.Closed params uri name text s t texts now noted is are h =
+    step_by name closed_as s t texts now text noted.0.at are (λ held stands. sym is) h
 
-pub closed_step : (noted : Noted) (params : Option Json) (s t : Server) (r : Result (Unit {0}) AllocError) → noted ≡ notes.Closed →
-    OnOk r (IsClosed (uri_told (document_in params)) s t) → OnErr r (IsHeldBut (uri_told (document_in params)) s t) →
-    (texts now : Texts) → Edits s.workspace.encoding noted params texts now → IsInStep texts s → IsInStep now t
-closed_step noted params s t (Ok x) is ok err texts now edits h =
-    let (uri, name, is_uri, of, are) = subst (λ n. Edits s.workspace.encoding n params texts now) is edits in
-    let (other, other_of, at, wanted, edited) = subst (λ u. IsClosed u s t) is_uri ok in
-    step_by name closed_as s t texts now None (renamed uri name other closed_as s t of other_of at.at) are (λ held stands. refl) h
-closed_step noted params s t (Err x) is ok err texts now edits h =
-    let (uri, name, is_uri, of, are) = subst (λ n. Edits s.workspace.encoding n params texts now) is edits in
-    step_but uri name s t texts now None (subst (λ u. IsHeldBut u s t) is_uri err) of are h
+pub document_step : (note : DocumentNote) (params : Option Json) (s t : Server) (r : Result (Unit {0}) AllocError) → OnOk r (IsNotedBy (OfDocument note) s params t) →
+    OnErr r (IsHeldBut (uri_told (document_in params)) s t) →
+    (texts now : Texts) → Edits s.workspace.encoding (OfDocument note) params texts now → IsInStep texts s → IsInStep now t
+document_step note params s t (Ok x) ok err texts now (uri, name, text, is_uri, of, edit, are) h =
+    let (other, is, noted) = subst (λ u. IsNotedOf note u s params t) is_uri ok in
+    noted_step note params uri name text s t texts now (renamed uri name other note s t params of is noted) edit are h
+document_step note params s t (Err x) ok err texts now (uri, name, text, is_uri, of, edit, are) h =
+    step_but uri name s t texts now text (subst (λ u. IsHeldBut u s t) is_uri err) of are h

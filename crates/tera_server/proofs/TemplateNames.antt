@@ -1,8 +1,8 @@
 -- The names of templates, as they are found in the paths of their files.
-use Rattle.std.proofs.Common.{◌≡◌, ◌∙◌, ◌≢◌, ◌<◌, ◌≤◌, ◌+◌, ◌++◌, ◌∷◌, [], ℕ, zero, suc, List, length, drop, Bool, true, false, nat_eq, Option, None, Some, option_map, if◌then◌else◌, Bor, refl, sym, ap, arith}
-use Rattle.std.specs.Option.{MatchOption, option_or}
+use Rattle.std.proofs.Common.{◌≡◌, ◌∙◌, ◌≢◌, ◌<◌, ◌≤◌, ◌+◌, ◌++◌, ◌∷◌, [], ℕ, zero, suc, List, length, drop, Bool, true, false, nat_eq, Option, None, Some, option_map, unwrap_or, codes, if◌then◌else◌, Bor, refl, sym, ap, arith}
+use Rattle.std.specs.Option.{MatchOption, option_and_then, option_or}
 use Rattle.std.specs.Str.Pattern.{FindsText, FindsTextPrefix, StripsPrefix, SplitsAroundMatch, LacksTextAt}
-use Rattle.tera_server.specs.Completions.{behind, behind_first}
+use Rattle.tera_server.specs.Completions.{behind, behind_first, name_in, name_below}
 
 is_behind : (front rest : List ℕ) → behind front (front ++ rest) ≡ Some rest
 is_behind [] rest = refl
@@ -25,6 +25,20 @@ pub stripped : (front text : List ℕ) (r : Option (Bor (List ℕ))) → MatchOp
 stripped front text None h = sym (not_behind front text h)
 stripped front text (Some x) (k, (same, split, boundary), is, len) =
     ap Some is ∙ sym (ap (behind front) split ∙ is_behind front (drop k text))
+
+-- .. below a folder
+pub not_below : (folder file : List ℕ) → behind folder file ≡ None → None ≡ name_below folder file
+not_below folder file none = sym (ap (option_and_then name_in) none)
+
+pub not_named : (folder file path : List ℕ) → behind folder file ≡ Some path → behind (codes "/") path ≡ None → None ≡ name_below folder file
+not_named folder file path below none =
+    sym (ap (option_and_then name_in) below ∙ ap (option_map (unwrap_or (behind_first (codes "/templates/") path))) none)
+
+pub named_below : (folder file path name : List ℕ) (inner : Option (List ℕ)) → behind folder file ≡ Some path → behind (codes "/") path ≡ Some name → inner ≡ behind_first (codes "/templates/") path
+    → Some (unwrap_or inner name) ≡ name_below folder file
+named_below folder file path name inner below named is =
+    ap (λ o. Some (unwrap_or o name)) is
+    ∙ sym (ap (option_and_then name_in) below ∙ ap (option_map (unwrap_or (behind_first (codes "/templates/") path))) named)
 
 -- .. and where it stands first in it
 none_of_none : (i : ℕ) → drop {A = ℕ} i [] ≡ []

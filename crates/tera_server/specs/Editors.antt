@@ -38,18 +38,16 @@ abbrev pub version_in : Option SeenVal → Option ℕ
 version_in None = None
 version_in (Some s) = s.version
 
--- what becomes of one that was told of: it has another version and its text is known; it is closed; its text is not known
-abbrev pub changed_to : Option ℕ → SeenVal → SeenVal
-changed_to version s = record { uri = s.uri; version = version; stand = Open }
-
-abbrev pub closed : SeenVal → SeenVal
-closed s = record { uri = s.uri; version = None; stand = Closed }
+-- what becomes of one that was told of: it has this version and stands so
+abbrev pub standing : Option ℕ → Stand → SeenVal → SeenVal
+standing version stand s = record { uri = s.uri; version = version; stand = stand }
 
 abbrev pub stand_lost : Stand → Stand
 stand_lost Open = Lost
 stand_lost Lost = Lost
 stand_lost Closed = Closed
 
+-- .. its text is not known any more, where it is open
 abbrev pub lost : SeenVal → SeenVal
 lost s = record { uri = s.uri; version = s.version; stand = stand_lost s.stand }
 

@@ -6,8 +6,8 @@ use Rattle.tera_outline.specs.Names.{Named}
 use Rattle.tera_outline.specs.Pieces.{Part, ArePartsOf}
 use Rattle.tera_workspace.specs.Definitions.{DefinitionVal, definition_of_name}
 use Rattle.tera_workspace.specs.declared.workspace.Workspace.{Workspace}
-use Rattle.text_documents.specs.Documents.{text_of}
-use Rattle.text_documents.specs.Stored.{document_of}
+use Rattle.text_edits.specs.Documents.{text_of}
+use Rattle.text_edits.specs.Stored.{document_of}
 use Rattle.tera_server.specs.Definitions.{is_component}
 
 -- the component that a name stands for, if it stands for one

@@ -1,7 +1,6 @@
 -- What notifications do.
-use Rattle.std.specs.Prelude.{◌≡◌, ◌++◌, if◌then◌else◌, cond, ℕ, List, [], ◌∷◌, ◌&&◌, Bool, true, false, codes, map, string_bytes, Option, None, Some}
+use Rattle.std.specs.Prelude.{◌≡◌, ◌++◌, if◌then◌else◌, cond, ℕ, List, [], ◌∷◌, Bool, false, codes, map, string_bytes, Option, None, Some}
 use Rattle.std.specs.List.{flat_map}
-use Rattle.std.specs.Option.{is_some}
 use Rattle.std.specs.Str.{bytes_eq}
 use Rattle.file_uris.specs.Names.{IsNameOf}
 use Rattle.json.specs.Json.{Json}
@@ -9,17 +8,20 @@ use Rattle.json_rpc.specs.Ids.{TextId}
 use Rattle.json_rpc.specs.Writing.{body, request}
 use Rattle.protocol_values.specs.Members.{member_of, text_in, number_in, items_in}
 use Rattle.protocol_values.specs.Reading.{changes_in}
-use Rattle.text_documents.specs.Documents.{DocumentVal, changed}
-use Rattle.text_documents.specs.Stored.{document_of, IsChangedAt, AreSame}
 use Rattle.text_edits.specs.Edits.{ChangeView, edited}
+use Rattle.text_edits.specs.Stored.{document_of}
 use Rattle.text_edits.specs.declared.positions.Encoding.{Encoding}
 use Rattle.tera_server.specs.Abilities.{registrations_json}
 use Rattle.tera_server.specs.Editors.{stand_of}
-use Rattle.tera_server.specs.States.{Known, IsKnownAt, opened_as, takes, changed_as, closed_as, known_of, WantedVal, wanted_of, wants_folder, wants_file, edited_of, with_name, StaysBut}
+use Rattle.tera_server.specs.States.{Known, IsKnownAt, opened_as, takes, changed_as, closed_as, known_of, WantedVal, wanted_of, wants, edited_of, with_name, StaysBut}
+use Rattle.tera_server.specs.declared.client.Client.{Client}
 use Rattle.tera_server.specs.declared.editor.Stand.{Stand}
 use Rattle.tera_server.specs.declared.editor.Stand.TheVariants.{Open}
+use Rattle.tera_server.specs.declared.notes.DocumentNote.{DocumentNote}
+use Rattle.tera_server.specs.declared.notes.DocumentNote.TheVariants as of_document
 use Rattle.tera_server.specs.declared.notes.Noted.{Noted}
 use Rattle.tera_server.specs.declared.notes.Noted.TheVariants as notes
+use Rattle.tera_server.specs.declared.notes.WantedKind.TheVariants.{Folder, File}
 use Rattle.tera_server.specs.declared.server.Phase.{Phase}
 use Rattle.tera_server.specs.declared.server.Phase.TheVariants.{Running}
 use Rattle.tera_server.specs.declared.server.Server.{Server}
@@ -28,9 +30,9 @@ use Rattle.tera_server.specs.declared.server.Server.{Server}
 abbrev pub noted_of : List ℕ → Noted
 noted_of m =
     if bytes_eq m (codes "initialized") then notes.Initialized
-    else (if bytes_eq m (codes "textDocument/didOpen") then notes.Opened
-    else (if bytes_eq m (codes "textDocument/didChange") then notes.Changed
-    else (if bytes_eq m (codes "textDocument/didClose") then notes.Closed
+    else (if bytes_eq m (codes "textDocument/didOpen") then notes.OfDocument of_document.Opened
+    else (if bytes_eq m (codes "textDocument/didChange") then notes.OfDocument of_document.Changed
+    else (if bytes_eq m (codes "textDocument/didClose") then notes.OfDocument of_document.Closed
     else (if bytes_eq m (codes "workspace/didChangeWatchedFiles") then notes.FilesChanged
     else (if bytes_eq m (codes "exit") then notes.Exit else notes.Other)))))
 
@@ -49,12 +51,11 @@ pub record IsNotedAt (name : List ℕ) (change : Known → Known) (s t : Server)
   pub stays : StaysBut s t
   pub at : IsKnownAt name change s t
 
--- a document is opened
-abbrev pub IsOpened : Option (List ℕ) → Option (List ℕ) → Option ℕ → Server → Server → Type 0
-IsOpened (Some uri) (Some text) version s t =
-    (name : List ℕ) × IsNameOf uri name × IsNotedAt name (opened_as uri version text) s t
-    × (wanted_of t ≡ wanted_of s) × (edited_of t ≡ with_name name (edited_of s))
-IsOpened _ _ version s t = t ≡ s
+-- a document is opened, if a text is told
+abbrev pub IsOpened : List ℕ → List ℕ → Option (List ℕ) → Option ℕ → Server → Server → Type 0
+IsOpened name uri None version s t = t ≡ s
+IsOpened name uri (Some text) version s t =
+    IsNotedAt name (opened_as uri version text) s t × (wanted_of t ≡ wanted_of s) × (edited_of t ≡ with_name name (edited_of s))
 
 -- whether changes are taken: they are well formed, and lead to a text that is known
 abbrev pub are_taken : Stand → Option (List ChangeView) → Bool
@@ -66,52 +67,56 @@ abbrev pub edited_behind : Bool → List ℕ → List (List ℕ) → List (List 
 edited_behind taken name names = if taken then with_name name names else names
 
 -- .. changed
-abbrev pub IsChanged : Encoding → Option (List ℕ) → Option ℕ → Option (List ChangeView) → Server → Server → Type 0
-IsChanged e (Some uri) version changes s t =
-    (name : List ℕ) × IsNameOf uri name × IsNotedAt name (changed_as e version changes) s t
-    × (wanted_of t ≡ wanted_of s) × (edited_of t ≡ edited_behind (are_taken (stand_of s.editor name) changes) name (edited_of s))
-IsChanged e None version changes s t = t ≡ s
+abbrev pub IsChanged : List ℕ → Option ℕ → Option (List ChangeView) → Server → Server → Type 0
+IsChanged name version changes s t =
+    IsNotedAt name (changed_as s.workspace.encoding version changes) s t × (wanted_of t ≡ wanted_of s)
+    × (edited_of t ≡ edited_behind (are_taken (stand_of s.editor name) changes) name (edited_of s))
 
 -- .. closed: its file is asked for, and what is found in it is to be published
-abbrev pub IsClosed : Option (List ℕ) → Server → Server → Type 0
-IsClosed (Some uri) s t =
-    (name : List ℕ) × IsNameOf uri name × IsNotedAt name closed_as s t
-    × (wanted_of t ≡ wanted_of s ++ wants_file name) × (edited_of t ≡ with_name name (edited_of s))
-IsClosed None s t = t ≡ s
+abbrev pub IsClosed : List ℕ → Server → Server → Type 0
+IsClosed name s t = IsNotedAt name closed_as s t × (wanted_of t ≡ wanted_of s ++ wants File name) × (edited_of t ≡ with_name name (edited_of s))
 
--- the files of these URIs, but for what has none
-abbrev pub AreFiles : List (Option (List ℕ)) → List WantedVal → Type 0
-AreFiles [] ws = ws ≡ []
-AreFiles (None ∷ uris) ws = AreFiles uris ws
-AreFiles (Some uri ∷ uris) ws = (name : List ℕ) × (rest : List WantedVal) × IsNameOf uri name × (ws ≡ wants_file name ++ rest) × AreFiles uris rest
+-- what a note does to the document of this name and this URI
+abbrev pub IsNotedAs : DocumentNote → List ℕ → List ℕ → Server → Option Json → Server → Type 0
+IsNotedAs of_document.Opened name uri s params t =
+    let document = document_in params in
+    IsOpened name uri (text_in (member_of (codes "text") document)) (version_of document) s t
+IsNotedAs of_document.Changed name uri s params t =
+    IsChanged name (version_of (document_in params)) (changes_in (member_of (codes "contentChanges") params)) s t
+IsNotedAs of_document.Closed name uri s params t = IsClosed name s t
 
-abbrev pub AreWanted : List Json → List WantedVal → Type 0
-AreWanted js ws = AreFiles (map (λ j. uri_told (Some j)) js) ws
+-- .. to that of a URI, where one is told
+abbrev pub IsNotedOf : DocumentNote → Option (List ℕ) → Server → Option Json → Server → Type 0
+IsNotedOf note None s params t = t ≡ s
+IsNotedOf note (Some uri) s params t = (name : List ℕ) × IsNameOf uri name × IsNotedAs note name uri s params t
+
+-- the names of these URIs, but for what has none
+abbrev pub AreNames : List (Option (List ℕ)) → List (List ℕ) → Type 0
+AreNames [] names = names ≡ []
+AreNames (None ∷ uris) names = AreNames uris names
+AreNames (Some uri ∷ uris) names = (name : List ℕ) × (rest : List (List ℕ)) × IsNameOf uri name × (names ≡ name ∷ rest) × AreNames uris rest
+
+-- the name of what has this URI is added, if it has one
+abbrev pub AddsName : Option (List ℕ) → List (List ℕ) → List (List ℕ) → Type 0
+AddsName None old now = now ≡ old
+AddsName (Some uri) old now = (name : List ℕ) × IsNameOf uri name × (now ≡ old ++ name ∷ [])
+
+-- the URI of a folder, or of a file that changed
+abbrev pub item_uri : Json → Option (List ℕ)
+item_uri j = uri_told (Some j)
 
 -- only files are asked for
 pub record IsAsked (wanted : List WantedVal) (s t : Server) : Type 0 where
-  pub stays : StaysBut s t
-  pub known : (n : List ℕ) → known_of t n ≡ known_of s n
+  pub same : t ≡ record s { wanted = t.wanted }
   pub asked : wanted_of t ≡ wanted_of s ++ wanted
-  pub edited : edited_of t ≡ edited_of s
-
--- .. the file of this URI, if there is one
-abbrev pub IsAskedFor : Option (List ℕ) → Server → Server → Type 0
-IsAskedFor None s t = IsAsked [] s t
-IsAskedFor (Some uri) s t = (name : List ℕ) × IsNameOf uri name × IsAsked (wants_file name) s t
 
 -- what a notification does, once the exchange has begun
 abbrev pub IsNotedBy : Noted → Server → Option Json → Server → Type 0
-IsNotedBy notes.Initialized s params t = IsAsked (flat_map (λ f. wants_folder (string_bytes f)) s.folders.items) s t
-IsNotedBy notes.Opened s params t =
-    let document = document_in params in
-    IsOpened (uri_told document) (text_in (member_of (codes "text") document)) (version_of document) s t
-IsNotedBy notes.Changed s params t =
-    let document = document_in params in
-    IsChanged s.workspace.encoding (uri_told document) (version_of document) (changes_in (member_of (codes "contentChanges") params)) s t
-IsNotedBy notes.Closed s params t = IsClosed (uri_told (document_in params)) s t
+IsNotedBy notes.Initialized s params t = IsAsked (flat_map (wants Folder) (map string_bytes s.folders.items)) s t
+IsNotedBy (notes.OfDocument note) s params t = IsNotedOf note (uri_told (document_in params)) s params t
 IsNotedBy notes.FilesChanged s params t =
-    (wanted : List WantedVal) × AreWanted (items_in (member_of (codes "changes") params)) wanted × IsAsked wanted s t
+    (names : List (List ℕ)) × AreNames (map item_uri (items_in (member_of (codes "changes") params))) names
+    × IsAsked (flat_map (wants File) names) s t
 IsNotedBy notes.Exit s params t = t ≡ s
 IsNotedBy notes.Other s params t = t ≡ s
 
@@ -124,8 +129,11 @@ abbrev pub IsNoted : Noted → Server → Option Json → Server → Type 0
 IsNoted noted s params t = IsNotedIn s.phase noted s params t
 
 -- what is sent at once: once the exchange has begun, the client is asked to watch files, if it can
+abbrev pub watch_requests : Client → List (List ℕ)
+watch_requests client = if client.watches then body (request (TextId (codes "watch")) (codes "client/registerCapability") registrations_json) ∷ [] else []
+
 abbrev pub sent_within : Noted → Server → List (List ℕ)
-sent_within notes.Initialized s = if s.client.watches then body (request (TextId (codes "watch")) (codes "client/registerCapability") registrations_json) ∷ [] else []
+sent_within notes.Initialized s = watch_requests s.client
 sent_within _ s = []
 
 abbrev pub sent_in : Phase → Noted → Server → List (List ℕ)
@@ -146,16 +154,6 @@ abbrev pub IsHeldBut : Option (List ℕ) → Server → Server → Type 0
 IsHeldBut None s t = (n : List ℕ) → stand_of t.editor n ≡ Open → known_of t n ≡ known_of s n
 IsHeldBut (Some uri) s t = (name : List ℕ) → IsNameOf uri name → IsHeldAside name s t
 
--- whether changes are made in the text that a document has in the editor
-abbrev pub is_made : Stand → DocumentVal → Option (List ChangeView) → Bool
-is_made stand d None = false
-is_made stand d (Some changes) = takes stand changes && is_some d.opened
-
--- they are made, or the texts are what they were
-abbrev pub IsMade : Encoding → List ℕ → Option (List ChangeView) → Bool → Server → Server → Type 0
-IsMade e name (Some changes) true s t = IsChangedAt name (changed e changes) s.workspace.documents t.workspace.documents
-IsMade e name _ _ s t = AreSame s.workspace.documents t.workspace.documents
-
 -- ---- what the editor has
 
 -- the texts that the editor has open, by the names of the documents
@@ -166,17 +164,20 @@ Texts = List ℕ → Option (List ℕ)
 abbrev pub IsTextAt : List ℕ → Option (List ℕ) → Texts → Texts → Type 0
 IsTextAt name text old now = (n : List ℕ) → now n ≡ cond (bytes_eq name n) text (old n)
 
--- what becomes of them by a note: it opens a document with a text, changes one that it has open, and closes one
+-- what becomes of that of a document by a note, which opens it with a text, changes one that is open, or closes it
+abbrev pub Edit : Encoding → DocumentNote → Option Json → Option (List ℕ) → Option (List ℕ) → Type 0
+Edit e of_document.Opened params old now =
+    (text : List ℕ) × (text_in (member_of (codes "text") (document_in params)) ≡ Some text) × (now ≡ Some text)
+Edit e of_document.Changed params old now =
+    (text : List ℕ) × (changes : List ChangeView) × (changes_in (member_of (codes "contentChanges") params) ≡ Some changes) × (old ≡ Some text)
+    × (now ≡ Some (edited e text changes))
+Edit e of_document.Closed params old now = now ≡ None
+
+-- .. of all
 abbrev pub Edits : Encoding → Noted → Option Json → Texts → Texts → Type 0
-Edits e notes.Opened params old now =
-    (uri : List ℕ) × (name : List ℕ) × (text : List ℕ) × (uri_told (document_in params) ≡ Some uri) × IsNameOf uri name
-    × (text_in (member_of (codes "text") (document_in params)) ≡ Some text) × IsTextAt name (Some text) old now
-Edits e notes.Changed params old now =
-    (uri : List ℕ) × (name : List ℕ) × (text : List ℕ) × (changes : List ChangeView) × (uri_told (document_in params) ≡ Some uri) × IsNameOf uri name
-    × (changes_in (member_of (codes "contentChanges") params) ≡ Some changes) × (old name ≡ Some text)
-    × IsTextAt name (Some (edited e text changes)) old now
-Edits e notes.Closed params old now =
-    (uri : List ℕ) × (name : List ℕ) × (uri_told (document_in params) ≡ Some uri) × IsNameOf uri name × IsTextAt name None old now
+Edits e (notes.OfDocument note) params old now =
+    (uri : List ℕ) × (name : List ℕ) × (text : Option (List ℕ)) × (uri_told (document_in params) ≡ Some uri) × IsNameOf uri name
+    × Edit e note params (old name) text × IsTextAt name text old now
 Edits e _ params old now = (n : List ℕ) → now n ≡ old n
 
 -- each text that is known to be open is that of the editor

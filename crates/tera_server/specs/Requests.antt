@@ -15,8 +15,8 @@ use Rattle.protocol_values.specs.Reading.{position_in}
 use Rattle.tera_outline.specs.Names.{Named}
 use Rattle.tera_workspace.specs.Definitions.{texts_read, AreRead}
 use Rattle.tera_workspace.specs.Workspaces.{told_of_name, IsKept}
-use Rattle.text_documents.specs.Documents.{no_document, text_of}
-use Rattle.text_documents.specs.Stored.{document_of, AreSame}
+use Rattle.text_edits.specs.Documents.{no_document, text_of}
+use Rattle.text_edits.specs.Stored.{document_of, AreSame}
 use Rattle.text_edits.specs.declared.positions.Encoding.{Encoding}
 use Rattle.text_edits.specs.declared.positions.Position.{Position}
 use Rattle.tera_server.specs.Abilities.{abilities_json}
@@ -26,7 +26,7 @@ use Rattle.tera_server.specs.Definitions.{IsNamedAt, place_of, place_json}
 use Rattle.tera_server.specs.Editors.{stand_of}
 use Rattle.tera_server.specs.Hovers.{IsHead, hover_json}
 use Rattle.tera_server.specs.Layouts.{IsLayout}
-use Rattle.tera_server.specs.Notes.{document_in, uri_told}
+use Rattle.tera_server.specs.Notes.{document_in, uri_told, item_uri, AreNames}
 use Rattle.tera_server.specs.Outlines.{IsOutline}
 use Rattle.tera_server.specs.References.{declares, IsList}
 use Rattle.tera_server.specs.SemanticTokens.{AreTokens}
@@ -36,6 +36,8 @@ use Rattle.tera_server.specs.declared.requests.Asked.{Asked}
 use Rattle.tera_server.specs.declared.requests.Asked.TheVariants as asks
 use Rattle.tera_server.specs.declared.requests.NameRequest.{NameRequest}
 use Rattle.tera_server.specs.declared.requests.NameRequest.TheVariants as of_name
+use Rattle.tera_server.specs.declared.requests.PlaceRequest.{PlaceRequest}
+use Rattle.tera_server.specs.declared.requests.PlaceRequest.TheVariants as at_place
 use Rattle.tera_server.specs.declared.requests.TextRequest.{TextRequest}
 use Rattle.tera_server.specs.declared.requests.TextRequest.TheVariants as of_text
 use Rattle.tera_server.specs.declared.server.Phase.{Phase}
@@ -49,30 +51,15 @@ asked_of m =
     else (if bytes_eq m (codes "shutdown") then asks.Shutdown
     else (if bytes_eq m (codes "textDocument/formatting") then asks.OfText of_text.Formatting
     else (if bytes_eq m (codes "textDocument/documentSymbol") then asks.OfText of_text.Symbols
-    else (if bytes_eq m (codes "textDocument/definition") then asks.OfName of_name.Definition
-    else (if bytes_eq m (codes "textDocument/hover") then asks.OfName of_name.Hover
-    else (if bytes_eq m (codes "textDocument/references") then asks.OfName of_name.References
-    else (if bytes_eq m (codes "textDocument/completion") then asks.Completion
+    else (if bytes_eq m (codes "textDocument/definition") then asks.AtPlace (at_place.OfName of_name.Definition)
+    else (if bytes_eq m (codes "textDocument/hover") then asks.AtPlace (at_place.OfName of_name.Hover)
+    else (if bytes_eq m (codes "textDocument/references") then asks.AtPlace (at_place.OfName of_name.References)
+    else (if bytes_eq m (codes "textDocument/completion") then asks.AtPlace at_place.Completion
     else (if bytes_eq m (codes "textDocument/semanticTokens/full") then asks.OfText of_text.SemanticTokens else asks.Other))))))))
-
--- the names of these URIs, but for what has none
-abbrev pub AreNames : List (Option (List ℕ)) → List (List ℕ) → Type 0
-AreNames [] names = names ≡ []
-AreNames (None ∷ uris) names = AreNames uris names
-AreNames (Some uri ∷ uris) names = (name : List ℕ) × (rest : List (List ℕ)) × IsNameOf uri name × (names ≡ name ∷ rest) × AreNames uris rest
-
--- the name of what has this URI is added, if it has one
-abbrev pub AddsName : Option (List ℕ) → List (List ℕ) → List (List ℕ) → Type 0
-AddsName None old now = now ≡ old
-AddsName (Some uri) old now = (name : List ℕ) × IsNameOf uri name × (now ≡ old ++ name ∷ [])
-
--- the URI of a folder
-abbrev pub folder_uri : Json → Option (List ℕ)
-folder_uri j = uri_told (Some j)
 
 abbrev pub folders_by : Option Json → List Json → List (Option (List ℕ))
 folders_by params [] = text_in (member_of (codes "rootUri") params) ∷ []
-folders_by params (j ∷ js) = map folder_uri (j ∷ js)
+folders_by params (j ∷ js) = map item_uri (j ∷ js)
 
 -- the URIs of the folders that are open: those of the workspace, or its root where it tells none
 abbrev pub folders_in : Option Json → List (Option (List ℕ))
@@ -144,15 +131,19 @@ IsOffered None uri s j = ⊥
 IsOffered (Some position) uri s j =
     (text : List ℕ) × IsMeant uri s text × IsCompletion s.client.encoding s.workspace (map string_bytes s.folders.items) text position j
 
+-- the result of a request of a position: of what is named there, or what may be typed there
+abbrev pub IsResultAt : PlaceRequest → Option Json → Server → Json → Type 0
+IsResultAt (at_place.OfName request) params t j =
+    (named : Option Named) × IsNamed (place_in params) (uri_told (document_in params)) t named × IsResultOfName request params named t j
+IsResultAt at_place.Completion params t j = IsOffered (place_in params) (uri_told (document_in params)) t j
+
 -- the result of a request
 abbrev pub Gives : Phase → Asked → Server → Option Json → Json → Server → Type 0
 Gives New asks.Initialize s params j t = (j ≡ abilities_json (client_in params).encoding) × IsBegun params s t
 Gives Running asks.Shutdown s params j t = (j ≡ null) × (t ≡ record s { phase = ShutDown })
 Gives Running (asks.OfText request) s params j t =
     (text : List ℕ) × IsMeant (uri_told (document_in params)) s text × IsResultOfText request s.client.encoding text j × (t ≡ s)
-Gives Running (asks.OfName request) s params j t =
-    (named : Option Named) × IsNamed (place_in params) (uri_told (document_in params)) s named × IsTold (IsResultOfName request params named) s j t
-Gives Running asks.Completion s params j t = IsTold (IsOffered (place_in params) (uri_told (document_in params))) s j t
+Gives Running (asks.AtPlace request) s params j t = IsTold (IsResultAt request params) s j t
 Gives _ _ s params j t = ⊥
 
 -- why a document is refused: the editor has it not open, or with a text that is not known
@@ -178,16 +169,14 @@ IsDue New _ s params code = code ≡ codes_of.ServerNotInitialized
 IsDue Running asks.Initialize s params code = code ≡ codes_of.InvalidRequest
 IsDue Running asks.Shutdown s params code = ⊥
 IsDue Running (asks.OfText request) s params code = RefusesDocument (uri_told (document_in params)) s code
-IsDue Running (asks.OfName request) s params code = RefusesPlace (place_in params) (uri_told (document_in params)) s code
-IsDue Running asks.Completion s params code = RefusesPlace (place_in params) (uri_told (document_in params)) s code
+IsDue Running (asks.AtPlace request) s params code = RefusesPlace (place_in params) (uri_told (document_in params)) s code
 IsDue Running asks.Other s params code = code ≡ codes_of.MethodNotFound
 IsDue ShutDown _ s params code = code ≡ codes_of.InvalidRequest
 
 -- what one that has no result leaves as it is: everything; but where it asks what stands at a place documents may
 -- have been read
 abbrev pub Remains : Phase → Asked → Server → Server → Type 0
-Remains Running (asks.OfName request) s t = HasRead s t
-Remains Running asks.Completion s t = HasRead s t
+Remains Running (asks.AtPlace request) s t = HasRead s t
 Remains _ _ s t = t ≡ s
 
 -- what `Gives` says while the exchange runs, but that `shutdown` has not ended it yet

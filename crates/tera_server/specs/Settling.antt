@@ -3,7 +3,7 @@ use Rattle.std.specs.Prelude.{◌≡◌, ◌≢◌, ◌⊎◌, ◌++◌, ℕ, Li
 use Rattle.json_rpc.specs.Outgoing.{Outgoing}
 use Rattle.tera_workspace.specs.Names.{is_among}
 use Rattle.tera_workspace.specs.Workspaces.{told_of_name, IsKept, IsSettled, AreOthers}
-use Rattle.text_documents.specs.Stored.{AreSame}
+use Rattle.text_edits.specs.Stored.{AreSame}
 use Rattle.tera_server.specs.Sending.{with_all, messages_of, untold_of, names_beside}
 use Rattle.tera_server.specs.States.{edited_of}
 use Rattle.tera_server.specs.declared.server.Phase.{Phase}

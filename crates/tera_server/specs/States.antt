@@ -5,13 +5,15 @@ use Rattle.std.specs.Option.{option_map, is_some}
 use Rattle.std.specs.Str.{bytes_eq}
 use Rattle.file_uris.specs.Names.{is_rooted}
 use Rattle.tera_workspace.specs.Workspaces.{told_of_name, IsKept}
-use Rattle.text_documents.specs.Documents.{DocumentVal, opened, changed, closed, written, removed}
-use Rattle.text_documents.specs.Stored.{document_of}
+use Rattle.text_edits.specs.Documents.{DocumentVal, opened, changed, closed, written, removed}
 use Rattle.text_edits.specs.Edits.{ChangeView, NewText, NewPart}
+use Rattle.text_edits.specs.Stored.{document_of}
 use Rattle.text_edits.specs.declared.positions.Encoding.{Encoding}
-use Rattle.tera_server.specs.Editors.{SeenVal, seen_of, stand_in, changed_to, closed as seen_closed, lost}
+use Rattle.tera_server.specs.Editors.{SeenVal, seen_of, stand_in, standing, lost}
 use Rattle.tera_server.specs.declared.editor.Stand.{Stand}
 use Rattle.tera_server.specs.declared.editor.Stand.TheVariants.{Open, Lost, Closed}
+use Rattle.tera_server.specs.declared.notes.WantedKind.{WantedKind}
+use Rattle.tera_server.specs.declared.notes.WantedKind.TheVariants as kinds
 use Rattle.tera_server.specs.declared.server.Server.{Server}
 use Rattle.tera_server.specs.declared.server.Wanted.{Wanted}
 use Rattle.tera_server.specs.declared.server.Wanted.TheVariants.{Folder, File}
@@ -54,11 +56,11 @@ abbrev pub changed_as : Encoding → Option ℕ → Option (List ChangeView) →
 changed_as e version None k = with_lost k
 changed_as e version (Some changes) k =
     if takes (stand_in k.seen) changes && is_some k.texts.opened
-    then record { seen = option_map (changed_to version) k.seen; texts = changed e changes k.texts }
+    then record { seen = option_map (standing version Open) k.seen; texts = changed e changes k.texts }
     else with_lost k
 
 abbrev pub closed_as : Known → Known
-closed_as k = record { seen = option_map seen_closed k.seen; texts = closed k.texts }
+closed_as k = record { seen = option_map (standing None Closed) k.seen; texts = closed k.texts }
 
 -- the text on disk, or none
 abbrev pub loaded_as : Option (List ℕ) → DocumentVal → DocumentVal
@@ -78,13 +80,13 @@ wanted_view (File path) = WantsFile (string_bytes path)
 abbrev pub wanted_of : Server → List WantedVal
 wanted_of s = map wanted_view s.wanted.items
 
--- the texts of the files below a folder; of what is no path none
-abbrev pub wants_folder : List ℕ → List WantedVal
-wants_folder name = if is_rooted name then WantsFolder name ∷ [] else []
+-- what is asked for by a name: of what is no path nothing
+abbrev pub wants_path : WantedKind → List ℕ → WantedVal
+wants_path kinds.Folder path = WantsFolder path
+wants_path kinds.File path = WantsFile path
 
--- the text of a file; of what is no path none
-abbrev pub wants_file : List ℕ → List WantedVal
-wants_file name = if is_rooted name then WantsFile name ∷ [] else []
+abbrev pub wants : WantedKind → List ℕ → List WantedVal
+wants kind name = if is_rooted name then wants_path kind name ∷ [] else []
 
 -- ---- what is to be published for a new version
 

@@ -4,9 +4,8 @@ ghost use Rattle.std.specs.Prelude.{◌≡◌, ◌++◌, OnOk};
 ghost use Rattle.json.specs.Tree.{json_tokens};
 ghost use Rattle.tera_server.specs.Abilities.{abilities_json, registrations_json};
 
-use crate::tokens::put_tokens;
 use json::{Token, Writer};
-use protocol_values::{encoding_name, put_number};
+use protocol_values::{encoding_name, put_number, put_tokens};
 use std::alloc::AllocError;
 use text_edits::Encoding;
 
@@ -15,29 +14,24 @@ pub(crate) fn put_abilities(out: &mut Writer, encoding: Encoding) -> Result<(), 
     ensures tokens { OnOk result (out.new.tokens ≡ out.old.tokens ++ json_tokens (abilities_json encoding)) }
     ensures before { out.new.before ≡ out.old.before }
 {
-    put_tokens(out, &BEFORE_THE_ENCODING)?;
-    out.string(encoding_name(encoding))?;
-    put_tokens(out, &BEFORE_THE_CHANGES)?;
-    // Changes are told by parts.
+    // Texts are told when they are opened and closed, and their changes by parts.
+    put_tokens(
+        out,
+        &[
+            Token::BeginObject,
+            Token::Key("capabilities"),
+            Token::BeginObject,
+            Token::Key("positionEncoding"),
+            Token::String(encoding_name(encoding)),
+            Token::Key("textDocumentSync"),
+            Token::BeginObject,
+            Token::Key("openClose"),
+            Token::Bool(true),
+        ],
+    )?;
     put_number(out, "change", 2)?;
-    put_tokens(out, &BEHIND_THE_CHANGES)?;
-    Ok(())
+    put_tokens(out, &BEHIND_THE_CHANGES)
 }
-
-const BEFORE_THE_ENCODING: [Token<'static>; 4] = [
-    Token::BeginObject,
-    Token::Key("capabilities"),
-    Token::BeginObject,
-    Token::Key("positionEncoding"),
-];
-
-// Texts are told when they are opened and closed.
-const BEFORE_THE_CHANGES: [Token<'static>; 4] = [
-    Token::Key("textDocumentSync"),
-    Token::BeginObject,
-    Token::Key("openClose"),
-    Token::Bool(true),
-];
 
 const BEHIND_THE_CHANGES: [Token<'static>; 56] = [
     Token::EndObject,

@@ -1,19 +1,19 @@
 //! What may be typed at a place of a text.
 
-ghost use Rattle.std.specs.Prelude.{◌≡◌, ◌++◌, ◌∷◌, [], map, string_bytes, IfOk, OnOk};
-ghost use Rattle.std.specs.List.{filter_map, flat_map, find};
-ghost use Rattle.std.specs.Option.{option_map, option_map_or, option_to_list};
-ghost use Rattle.json.specs.Json.{Json};
+ghost use Rattle.std.specs.Prelude.{◌≡◌, ◌++◌, [], map, string_bytes, IfOk, OnOk};
+ghost use Rattle.std.specs.List.{filter_map, find};
+ghost use Rattle.std.specs.Option.{option_map, option_map_or};
+ghost use Rattle.json.specs.Json.{Json, array};
 ghost use Rattle.json.specs.Tree.{json_tokens};
+ghost use Rattle.json.specs.Value.{items_of};
 ghost use Rattle.tera_outline.specs.Names.{names_of, name_view, holds};
 ghost use Rattle.tera_outline.specs.Pieces.{part_of};
 ghost use Rattle.tera_tree.specs.Calls.{texts, once_each};
 ghost use Rattle.tera_workspace.specs.Components.{components_of, parameters_of_name};
-ghost use Rattle.tera_server.specs.Completions.{defined_names, behind, behind_first, name_in, name_below, template_name, offered, kind_number, item_tokens, items_json, IsCompletion};
+ghost use Rattle.tera_server.specs.Completions.{defined_names, name_below, template_name, offered, kind_number, item_json, item_tokens, items_json, IsCompletion};
 
-use crate::tokens::put_tokens;
 use json::{Token, Writer};
-use protocol_values::{put_edit, put_number};
+use protocol_values::{put_edit, put_number, put_tokens};
 use std::alloc::{AllocError, Global};
 use std::collections::BTreeSet;
 use tera_outline::{CompletionKind, Name, NameKind, Piece, names_of, pieces_of, wanted};
@@ -104,9 +104,7 @@ fn put_offered(
     let named = names_of(alloc, pieces)?;
     let names = offered(alloc, offering, named.as_slice(), place.kind)?;
     let sorted = once_each(alloc, names.as_slice())?;
-    out.begin_array()?;
-    put_items(out, place, &sorted)?;
-    out.end_array()
+    put_items(out, place, &sorted)
 }
 
 // What may be typed of this kind, beside these names that stand in the text.
@@ -141,21 +139,11 @@ fn components<'w>(
 {
     let mut names = workspace.components(alloc)?;
     for name in named {
-        push_defined(&mut names, name)?;
+        if let NameKind::Defined = name.kind {
+            names.push(name.text.as_str())?;
+        }
     }
     Ok(names)
-}
-
-// Adds the name, if it stands for what is defined.
-fn push_defined<'w>(names: &mut Vec<&'w str>, name: &'w Name) -> Result<(), AllocError>
-    ensures { OnOk result (texts names.new.items
-        ≡ texts names.old.items ++ defined_names (name_view name.now ∷ [])) }
-{
-    match name.kind {
-        NameKind::Defined => names.push(name.text.as_str())?,
-        _ => {}
-    }
-    Ok(())
 }
 
 // The parameters of the component whose name stands at the byte.
@@ -187,20 +175,11 @@ fn templates<'w>(
 {
     let mut names = Vec::new(alloc);
     for file in files {
-        push_named(&mut names, template_name(folders, file))?;
+        if let Some(name) = template_name(folders, file) {
+            names.push(name)?;
+        }
     }
     Ok(names)
-}
-
-// Adds the name, if there is one.
-fn push_named<'w>(names: &mut Vec<&'w str>, name: Option<&'w str>) -> Result<(), AllocError>
-    ensures { OnOk result (texts names.new.items
-        ≡ texts names.old.items ++ option_to_list (option_map (λ n. n.now) name.entry)) }
-{
-    if let Some(name) = name {
-        names.push(name)?;
-    }
-    Ok(())
 }
 
 // The name of a template: by the first of the folders in which its file is.
@@ -215,38 +194,15 @@ fn template_name<'f>(folders: &[String], file: &'f str) -> Option<&'f str>
     None
 }
 
-// By the folder, if its file is there.
+// By the folder, if its file is there: what stands behind the first folder `templates` below it, or else behind it.
 fn name_below<'f>(folder: &str, file: &'f str) -> Option<&'f str>
     ensures { option_map (λ n. n.now) result ≡ name_below folder.now file.now }
 {
-    name_in(behind(folder, file)?)
-}
-
-// By the path of its file behind a folder, with the slash between.
-fn name_in<'f>(path: &'f str) -> Option<&'f str>
-    ensures { option_map (λ n. n.now) result ≡ name_in path.now }
-{
-    let name = behind("/", path)?;
-    match behind_first("/templates/", path) {
-        Some(inner) => Some(inner),
+    let path = file.strip_prefix(folder)?;
+    let name = path.strip_prefix("/")?;
+    match path.split_once("/templates/") {
+        Some((_, inner)) => Some(inner),
         None => Some(name),
-    }
-}
-
-// What stands behind the front of a text.
-fn behind<'f>(front: &str, text: &'f str) -> Option<&'f str>
-    ensures { option_map (λ n. n.now) result ≡ behind front.now text.now }
-{
-    text.strip_prefix(front)
-}
-
-// What stands behind the part where it stands first in a text.
-fn behind_first<'f>(part: &str, text: &'f str) -> Option<&'f str>
-    ensures { option_map (λ n. n.now) result ≡ behind_first part.now text.now }
-{
-    match text.split_once(part) {
-        Some((_, rest)) => Some(rest),
-        None => None,
     }
 }
 
@@ -262,14 +218,15 @@ fn once_each<'n>(alloc: Global, names: &[&'n str]) -> Result<BTreeSet<&'n str>, 
 }
 
 fn put_items(out: &mut Writer, place: Place, names: &BTreeSet<&str>) -> Result<(), AllocError>
-    ensures tokens { OnOk result (out.new.tokens ≡ out.old.tokens
-        ++ flat_map (item_tokens place.start place.end (kind_number place.kind)) (texts names.now.keys)) }
+    ensures tokens { OnOk result (out.new.tokens ≡ out.old.tokens ++ json_tokens (array (items_of
+        (map (item_json place.start place.end (kind_number place.kind)) (texts names.now.keys))))) }
     ensures before { out.new.before ≡ out.old.before }
 {
+    out.begin_array()?;
     for name in names {
         put_item(out, place, name)?;
     }
-    Ok(())
+    out.end_array()
 }
 
 fn put_item(out: &mut Writer, place: Place, name: &str) -> Result<(), AllocError>

@@ -1,11 +1,11 @@
 //! Where what is named in a text is defined.
 
-ghost use Rattle.std.specs.Prelude.{◌≡◌, ◌++◌, Some, IfOk, OnOk};
+ghost use Rattle.std.specs.Prelude.{◌≡◌, ◌++◌, IfOk, OnOk};
 ghost use Rattle.std.specs.Option.{option_map};
 ghost use Rattle.json.specs.Tree.{json_tokens};
 ghost use Rattle.tera_outline.specs.Names.{name_view};
 ghost use Rattle.tera_workspace.specs.Definitions.{definition_view};
-ghost use Rattle.tera_server.specs.Definitions.{IsNamedAt, first_of, is_component, template_place, place_by, place_of, place_json};
+ghost use Rattle.tera_server.specs.Definitions.{IsNamedAt, is_component, template_place, place_of, place_json};
 
 use crate::editor::Editor;
 use crate::findings::uri_by;
@@ -44,24 +44,12 @@ pub(crate) fn put_definition(
     ensures before { out.new.before ≡ out.old.before }
 {
     match place_of(alloc, workspace, name)? {
-        Some(place) => put_place(alloc, out, editor, &place)?,
-        None => out.null()?,
+        Some(place) => {
+            let uri = uri_by(alloc, editor, place.file.as_str())?;
+            put_location(out, uri.as_str(), place.start, place.end)
+        }
+        None => out.null(),
     }
-    Ok(())
-}
-
-fn put_place(
-    alloc: Global,
-    out: &mut Writer,
-    editor: &Editor,
-    place: &Definition,
-) -> Result<(), AllocError>
-    ensures tokens { OnOk result (out.new.tokens ≡ out.old.tokens
-        ++ json_tokens (place_json editor.now (Some (definition_view place.now)))) }
-    ensures before { out.new.before ≡ out.old.before }
-{
-    let uri = uri_by(alloc, editor, place.file.as_str())?;
-    put_location(out, uri.as_str(), place.start, place.end)
 }
 
 fn place_of(
@@ -73,23 +61,9 @@ fn place_of(
         ≡ place_of workspace.now (option_map name_view name.now)) }
 {
     match name {
-        Some(name) => place_by(alloc, workspace, name.kind, name.text.as_str()),
+        Some(name) if is_component(name.kind) => workspace.definition_of(alloc, name.text.as_str()),
+        Some(name) => template_place(alloc, workspace, name.text.as_str()),
         None => Ok(None),
-    }
-}
-
-fn place_by(
-    alloc: Global,
-    workspace: &Workspace,
-    kind: NameKind,
-    name: &str,
-) -> Result<Option<Definition>, AllocError>
-    ensures { IfOk result (λ place. option_map definition_view place ≡ place_by kind workspace.now name.now) }
-{
-    if is_component(kind) {
-        workspace.definition_of(alloc, name)
-    } else {
-        template_place(alloc, workspace, name)
     }
 }
 
@@ -113,22 +87,16 @@ fn template_place(
 {
     let mut ending = String::from_str(alloc, "/")?;
     ending.push_str(name)?;
-    match workspace.file_of(ending.as_str()) {
-        Some(file) => Ok(Some(beginning_of(alloc, file)?)),
-        None => Ok(None),
-    }
-}
-
-fn beginning_of(alloc: Global, file: &str) -> Result<Definition, AllocError>
-    ensures { IfOk result (λ place. definition_view place ≡ first_of file.now) }
-{
+    let Some(file) = workspace.file_of(ending.as_str()) else {
+        return Ok(None);
+    };
     let first = Position {
         line: 0,
         character: 0,
     };
-    Ok(Definition {
+    Ok(Some(Definition {
         file: String::from_str(alloc, file)?,
         start: first,
         end: first,
-    })
+    }))
 }

@@ -1,8 +1,8 @@
 //! The documents that an editor has open, or had.
 
 ghost use Rattle.std.specs.Prelude.{◌≡◌, ℕ, List, Some, None, OnOk, OnErr, option_map};
-ghost use Rattle.tera_server.specs.Editors.{seen_view, seen_of, stand_of, changed_to, closed, lost, seen_lost, IsSeenAt, AreSeenAlike};
-ghost use Rattle.tera_server.specs.declared.editor.Stand.TheVariants.{Open};
+ghost use Rattle.tera_server.specs.Editors.{seen_view, seen_of, stand_of, standing, lost, seen_lost, IsSeenAt, AreSeenAlike};
+ghost use Rattle.tera_server.specs.declared.editor.Stand.TheVariants.{Lost};
 
 use std::alloc::{AllocError, Global};
 use std::collections::BTreeMap;
@@ -57,42 +57,28 @@ impl Editor {
         }
     }
 
-    /// It is open from now on. On want of memory nothing changes.
-    pub(crate) fn open(
-        &mut self,
-        alloc: Global,
-        name: &str,
-        uri: &str,
-        version: Option<u64>,
-    ) -> Result<(), AllocError>
+    /// The editor has it open from now on, with a text that is not known. On want of memory nothing changes.
+    pub(crate) fn open(&mut self, alloc: Global, name: &str, uri: &str) -> Result<(), AllocError>
         ensures opened { OnOk result (IsSeenAt name.now
-            (λ _. Some (record { uri = uri.now; version = version; stand = Open })) self.old self.new) }
+            (λ _. Some (record { uri = uri.now; version = None; stand = Lost })) self.old self.new) }
         ensures err { OnErr result (AreSeenAlike self.old self.new) }
     {
         let seen = Seen {
             uri: String::from_str(alloc, uri)?,
-            version,
-            stand: Stand::Open,
+            version: None,
+            stand: Stand::Lost,
         };
         self.seen.insert(String::from_str(alloc, name)?, seen)?;
         Ok(())
     }
 
-    /// It has this version from now on, where it is known, and its text is known.
-    pub(crate) fn change(&mut self, name: &str, version: Option<u64>)
-        ensures { IsSeenAt name.now (option_map (changed_to version)) self.old self.new }
+    /// It has this version and stands so from now on, where it is known.
+    pub(crate) fn update(&mut self, name: &str, version: Option<u64>, stand: Stand)
+        ensures { IsSeenAt name.now (option_map (standing version stand)) self.old self.new }
     {
         if let Some(seen) = self.seen.get_mut(name) {
-            seen.change(version);
-        }
-    }
-
-    /// It is closed.
-    pub(crate) fn close(&mut self, name: &str)
-        ensures { IsSeenAt name.now (option_map closed) self.old self.new }
-    {
-        if let Some(seen) = self.seen.get_mut(name) {
-            seen.close();
+            seen.version = version;
+            seen.stand = stand;
         }
     }
 
@@ -117,20 +103,6 @@ impl Editor {
 }
 
 impl Seen {
-    fn change(&mut self, version: Option<u64>)
-        ensures { seen_view self.new ≡ changed_to version (seen_view self.old) }
-    {
-        self.version = version;
-        self.stand = Stand::Open;
-    }
-
-    fn close(&mut self)
-        ensures { seen_view self.new ≡ closed (seen_view self.old) }
-    {
-        self.version = None;
-        self.stand = Stand::Closed;
-    }
-
     fn lose(&mut self)
         ensures { self.new ≡ seen_lost self.old }
     {

@@ -1,25 +1,21 @@
 //! What is found in a document, as it is published.
 
-ghost use Rattle.std.specs.Prelude.{◌≡◌, ◌++◌, codes, map, string_bytes, IfOk, OnOk};
-ghost use Rattle.std.specs.List.{flat_map};
-ghost use Rattle.json.specs.Json.{string, array};
+ghost use Rattle.std.specs.Prelude.{◌≡◌, ◌++◌, ◌∷◌, [], map, string_bytes, IfOk, OnOk, OnErr};
 ghost use Rattle.json.specs.Tree.{json_tokens};
-ghost use Rattle.json.specs.Value.{items_of};
-ghost use Rattle.json_rpc.specs.Writing.{body};
-ghost use Rattle.protocol_values.specs.Writing.{member_tokens, location_json};
 ghost use Rattle.tera_workspace.specs.Diagnostics.{diagnostic_view, related_view};
 ghost use Rattle.tera_server.specs.Editors.{seen_of, uri_in, version_in};
-ghost use Rattle.tera_server.specs.Findings.{related_json, one_related, related_tokens, severity_number, one_found, found_json, published as message_of_found, version_tokens};
+ghost use Rattle.tera_server.specs.Findings.{one_related, related_tokens, severity_number, one_found, found_json, version_tokens};
+ghost use Rattle.tera_server.specs.Sending.{with_all, messages_in, SendsFirst, names_beside};
 
-use crate::editor::Editor;
-use crate::tokens::put_tokens;
+use crate::editor::{Editor, Stand};
+use crate::notes::has_name;
 use file_uris::uri_of;
 use json::{Token, Writer};
-use json_rpc::{begin_notification, end_message};
-use protocol_values::{put_location, put_number, put_range, put_text};
+use json_rpc::{Outbox, begin_notification, end_message};
+use protocol_values::{put_location, put_number, put_range, put_tokens};
 use std::alloc::{AllocError, Global};
 use tera_check::Severity;
-use tera_workspace::{Diagnostic, Related};
+use tera_workspace::{Diagnostic, Related, Workspace};
 
 /// How findings are told.
 #[derive(Clone, Copy)]
@@ -29,20 +25,48 @@ pub(crate) struct Telling<'e> {
     pub(crate) related: bool,
 }
 
-/// The message that publishes what is found in the document of this name.
-pub(crate) fn published(
+/// Publishes what was told last of the documents of these names, but not of the others among them. Where the editor has one
+/// open with a text that is not known, nothing is published of it.
+pub(crate) fn publish_each(
     alloc: Global,
     telling: Telling<'_>,
-    name: &str,
-    found: &[Diagnostic],
-) -> Result<Vec<u8>, AllocError>
-    ensures { IfOk result (λ m. m.items ≡ body (message_of_found telling.entry.editor.now telling.entry.related name.now
-        (map diagnostic_view found.now))) }
+    workspace: &Workspace,
+    names: &[String],
+    others: &[String],
+    out: &mut Outbox,
+) -> Result<(), AllocError>
+    ensures published { OnOk result (out.new ≡ with_all out.old (messages_in telling.entry.editor.now telling.entry.related workspace.now
+        (names_beside (map string_bytes others.now) (map string_bytes names.now)))) }
+    ensures in_part { OnErr result (SendsFirst (λ ns. messages_in telling.entry.editor.now telling.entry.related workspace.now
+        (names_beside (map string_bytes others.now) ns)) (map string_bytes names.now) out.old out.new) }
 {
-    let mut out = begin_notification(alloc, "textDocument/publishDiagnostics")?;
-    put_published(alloc, &mut out, telling, name, found)?;
-    let message = end_message(out)?;
-    Ok(message)
+    for name in names {
+        if !has_name(others, name.as_str()) {
+            publish(alloc, telling, workspace, name.as_str(), out)?;
+        }
+    }
+    Ok(())
+}
+
+fn publish(
+    alloc: Global,
+    telling: Telling<'_>,
+    workspace: &Workspace,
+    name: &str,
+    out: &mut Outbox,
+) -> Result<(), AllocError>
+    ensures published { OnOk result (out.new ≡ with_all out.old
+        (messages_in telling.entry.editor.now telling.entry.related workspace.now (name.now ∷ []))) }
+    ensures err { OnErr result (out.new ≡ out.old) }
+{
+    match telling.editor.stand(name) {
+        Stand::Open | Stand::Closed => {
+            let mut message = begin_notification(alloc, "textDocument/publishDiagnostics")?;
+            put_published(alloc, &mut message, telling, name, workspace.told(name))?;
+            out.push(end_message(message)?)
+        }
+        Stand::Lost => Ok(()),
+    }
 }
 
 fn put_published(
@@ -56,37 +80,21 @@ fn put_published(
         ++ json_tokens (found_json telling.entry.editor.now telling.entry.related name.now (map diagnostic_view found.now))) }
     ensures before { out.new.before ≡ out.old.before }
 {
-    out.begin_object()?;
-    put_uri(alloc, out, telling.editor, name)?;
+    let uri = uri_by(alloc, telling.editor, name)?;
+    put_tokens(
+        out,
+        &[
+            Token::BeginObject,
+            Token::Key("uri"),
+            Token::String(uri.as_str()),
+        ],
+    )?;
     put_version(out, telling.editor, name)?;
     put_tokens(out, &[Token::Key("diagnostics"), Token::BeginArray])?;
-    put_diagnostics(alloc, out, telling, found)?;
-    put_tokens(out, &[Token::EndArray, Token::EndObject])
-}
-
-fn put_diagnostics(
-    alloc: Global,
-    out: &mut Writer,
-    telling: Telling<'_>,
-    found: &[Diagnostic],
-) -> Result<(), AllocError>
-    ensures tokens { OnOk result (out.new.tokens ≡ out.old.tokens
-        ++ flat_map (one_found telling.entry.editor.now telling.entry.related) (map diagnostic_view found.now)) }
-    ensures before { out.new.before ≡ out.old.before }
-{
     for diagnostic in found {
         put_diagnostic(alloc, out, telling, diagnostic)?;
     }
-    Ok(())
-}
-
-fn put_uri(alloc: Global, out: &mut Writer, editor: &Editor, name: &str) -> Result<(), AllocError>
-    ensures tokens { OnOk result (out.new.tokens
-        ≡ out.old.tokens ++ member_tokens (codes "uri") (string (uri_in name.now (seen_of editor.now name.now)))) }
-    ensures before { out.new.before ≡ out.old.before }
-{
-    let uri = uri_by(alloc, editor, name)?;
-    put_text(out, "uri", uri.as_str())
+    put_tokens(out, &[Token::EndArray, Token::EndObject])
 }
 
 /// The URI of the document of this name: as the editor writes it, where it told of it.
@@ -162,42 +170,14 @@ fn put_related(
         ++ related_tokens telling.entry.editor.now telling.entry.related (map related_view related.now)) }
     ensures before { out.new.before ≡ out.old.before }
 {
-    if telling.related {
-        put_related_array(alloc, out, telling.editor, related)
-    } else {
-        Ok(())
+    if !telling.related {
+        return Ok(());
     }
-}
-
-fn put_related_array(
-    alloc: Global,
-    out: &mut Writer,
-    editor: &Editor,
-    related: &[Related],
-) -> Result<(), AllocError>
-    ensures tokens { OnOk result (out.new.tokens ≡ out.old.tokens ++ member_tokens (codes "relatedInformation")
-        (array (items_of (map (related_json editor.now) (map related_view related.now))))) }
-    ensures before { out.new.before ≡ out.old.before }
-{
     put_tokens(out, &[Token::Key("relatedInformation"), Token::BeginArray])?;
-    put_all(alloc, out, editor, related)?;
-    out.end_array()
-}
-
-fn put_all(
-    alloc: Global,
-    out: &mut Writer,
-    editor: &Editor,
-    related: &[Related],
-) -> Result<(), AllocError>
-    ensures tokens { OnOk result (out.new.tokens ≡ out.old.tokens
-        ++ flat_map (one_related editor.now) (map related_view related.now)) }
-    ensures before { out.new.before ≡ out.old.before }
-{
     for one in related {
-        put_one(alloc, out, editor, one)?;
+        put_one(alloc, out, telling.editor, one)?;
     }
-    Ok(())
+    out.end_array()
 }
 
 fn put_one(
@@ -210,8 +190,9 @@ fn put_one(
         ≡ out.old.tokens ++ one_related editor.now (related_view one.now)) }
     ensures before { out.new.before ≡ out.old.before }
 {
-    out.begin_object()?;
-    put_place(alloc, out, editor, one)?;
+    let uri = uri_by(alloc, editor, one.file.as_str())?;
+    put_tokens(out, &[Token::BeginObject, Token::Key("location")])?;
+    put_location(out, uri.as_str(), one.start, one.end)?;
     put_tokens(
         out,
         &[
@@ -220,20 +201,4 @@ fn put_one(
             Token::EndObject,
         ],
     )
-}
-
-fn put_place(
-    alloc: Global,
-    out: &mut Writer,
-    editor: &Editor,
-    one: &Related,
-) -> Result<(), AllocError>
-    ensures tokens { OnOk result (out.new.tokens ≡ out.old.tokens ++ member_tokens (codes "location")
-        (location_json (uri_in (string_bytes one.now.file) (seen_of editor.now (string_bytes one.now.file)))
-        one.now.start one.now.end)) }
-    ensures before { out.new.before ≡ out.old.before }
-{
-    let uri = uri_by(alloc, editor, one.file.as_str())?;
-    out.key("location")?;
-    put_location(out, uri.as_str(), one.start, one.end)
 }

@@ -4,15 +4,14 @@ ghost use Rattle.std.specs.Prelude.{◌≡◌, ◌++◌, ℕ, List, Option, Some
 ghost use Rattle.std.specs.Option.{option_map};
 ghost use Rattle.json.specs.Tree.{json_tokens};
 ghost use Rattle.tera_outline.specs.Names.{name_view};
-ghost use Rattle.tera_workspace.specs.Definitions.{definition_view};
-ghost use Rattle.tera_server.specs.Hovers.{component_in, text_at, IsHead, IsHeadBy, hover_json};
+ghost use Rattle.tera_server.specs.Hovers.{IsHead, IsHeadBy, hover_json};
 
 use crate::definitions::is_component;
-use crate::tokens::put_tokens;
 use json::{Token, Writer};
+use protocol_values::put_tokens;
 use std::alloc::{AllocError, Global};
 use tera_outline::{Name, head_of};
-use tera_workspace::{Definition, Workspace};
+use tera_workspace::Workspace;
 
 /// Writes the head of the definition of the component that the name stands for, or `null`.
 pub(crate) fn put_hover(
@@ -26,28 +25,22 @@ pub(crate) fn put_hover(
     ensures before { out.new.before ≡ out.old.before }
 {
     match head_meant(alloc, workspace, name)? {
-        Some(head) => put_head(out, head)?,
-        None => out.null()?,
+        Some(head) => put_tokens(
+            out,
+            &[
+                Token::BeginObject,
+                Token::Key("contents"),
+                Token::BeginObject,
+                Token::Key("kind"),
+                Token::String("plaintext"),
+                Token::Key("value"),
+                Token::String(head),
+                Token::EndObject,
+                Token::EndObject,
+            ],
+        ),
+        None => out.null(),
     }
-    Ok(())
-}
-
-fn put_head(out: &mut Writer, head: &str) -> Result<(), AllocError>
-    ensures tokens { OnOk result (out.new.tokens ≡ out.old.tokens ++ json_tokens (hover_json (Some head.now))) }
-    ensures before { out.new.before ≡ out.old.before }
-{
-    let told = [
-        Token::BeginObject,
-        Token::Key("contents"),
-        Token::BeginObject,
-        Token::Key("kind"),
-        Token::String("plaintext"),
-        Token::Key("value"),
-        Token::String(head),
-        Token::EndObject,
-        Token::EndObject,
-    ];
-    put_tokens(out, &told)
 }
 
 fn head_meant<'w>(
@@ -58,9 +51,9 @@ fn head_meant<'w>(
     ensures { IfOk result (λ head. IsHead workspace.now (option_map name_view name.now)
         (option_map (λ h. h.now) head)) }
 {
-    match component_in(name) {
-        Some(name) => head_by(alloc, workspace, name),
-        None => Ok(None),
+    match name {
+        Some(name) if is_component(name.kind) => head_by(alloc, workspace, name.text.as_str()),
+        _ => Ok(None),
     }
 }
 
@@ -72,27 +65,11 @@ fn head_by<'w>(
 ) -> Result<Option<&'w str>, AllocError>
     ensures { IfOk result (λ head. IsHeadBy workspace.now (Some name.now) (option_map (λ h. h.now) head)) }
 {
-    let place = workspace.definition_of(alloc, name)?;
-    match text_at(workspace, &place) {
+    let Some(place) = workspace.definition_of(alloc, name)? else {
+        return Ok(None);
+    };
+    match workspace.text(place.file.as_str()) {
         Some(text) => head_of(alloc, text, name),
         None => Ok(None),
-    }
-}
-
-fn text_at<'w>(workspace: &'w Workspace, place: &Option<Definition>) -> Option<&'w str>
-    ensures { option_map (λ t. t.now) result ≡ text_at workspace.now (option_map definition_view place.now) }
-{
-    match place {
-        Some(place) => workspace.text(place.file.as_str()),
-        None => None,
-    }
-}
-
-fn component_in(name: &Option<Name>) -> Option<&str>
-    ensures { option_map (λ n. n.now) result ≡ component_in (option_map name_view name.now) }
-{
-    match name {
-        Some(name) if is_component(name.kind) => Some(name.text.as_str()),
-        _ => None,
     }
 }

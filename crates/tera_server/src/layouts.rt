@@ -32,10 +32,9 @@ pub(crate) fn put_layout(
     ensures before { out.new.before ≡ out.old.before }
 {
     match layout_of(alloc, text)? {
-        Some(layout) => put_edits_to(alloc, out, encoding, text, layout.as_str())?,
-        None => out.null()?,
+        Some(layout) => put_edits_to(alloc, out, encoding, text, layout.as_str()),
+        None => out.null(),
     }
-    Ok(())
 }
 
 // The layout, if the text has one.
@@ -51,6 +50,7 @@ fn layout_of(alloc: Global, text: &str) -> Result<Option<String>, AllocError>
     }
 }
 
+#[tactic(auto, unfolding(crate::specs::Layouts::edit_tokens))]
 fn put_edits_to(
     alloc: Global,
     out: &mut Writer,
@@ -67,42 +67,10 @@ fn put_edits_to(
     let edits = edits_of(alloc, text, layout)?;
     let lines = Lines::of(alloc, text)?;
     out.begin_array()?;
-    put_edits(out, encoding, text, &lines, edits.as_slice())?;
-    out.end_array()
-}
-
-fn put_edits(
-    out: &mut Writer,
-    encoding: Encoding,
-    text: &str,
-    lines: &Lines,
-    edits: &[Edit<'_>],
-) -> Result<(), AllocError>
-    requires { lines.now ≡ starts_of (lines_of text.now) }
-    ensures tokens { OnOk result (out.new.tokens ≡ out.old.tokens
-        ++ flat_map (edit_tokens encoding text.now) edits.now) }
-    ensures before { out.new.before ≡ out.old.before }
-{
-    for edit in edits {
-        put_one(out, encoding, text, lines, edit)?;
+    for edit in &edits {
+        let start = position_at(text, &lines, encoding, edit.start);
+        let end = position_at(text, &lines, encoding, edit.end);
+        put_edit(out, start, end, edit.text)?;
     }
-    Ok(())
-}
-
-#[tactic(auto, unfolding(crate::specs::Layouts::edit_tokens))]
-fn put_one(
-    out: &mut Writer,
-    encoding: Encoding,
-    text: &str,
-    lines: &Lines,
-    edit: &Edit<'_>,
-) -> Result<(), AllocError>
-    requires { lines.now ≡ starts_of (lines_of text.now) }
-    ensures tokens { OnOk result (out.new.tokens
-        ≡ out.old.tokens ++ edit_tokens encoding text.now edit.now) }
-    ensures before { out.new.before ≡ out.old.before }
-{
-    let start = position_at(text, lines, encoding, edit.start);
-    let end = position_at(text, lines, encoding, edit.end);
-    put_edit(out, start, end, edit.text)
+    out.end_array()
 }

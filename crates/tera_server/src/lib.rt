@@ -7,8 +7,8 @@
 //!
 //! In the order of reading: specs `States`, `Requests`, `Notes`, `Steps`, `Settling`; `server`, and `requests` and `notes`,
 //! which a message may be; `client` and `editor`, what is known of them; `abilities`, `layouts`, `symbols`,
-//! `definitions`, `hovers`, `references`, `completions`, `semantic_tokens` and `findings`, which write results, and
-//! `tokens`; `laws`.
+//! `definitions`, `hovers`, `references`, `completions` and `semantic_tokens`, which write results; `findings`, which
+//! publishes what is found; `laws`.
 #![tactic(auto)]
 
 mod abilities;
@@ -26,6 +26,5 @@ mod requests;
 mod semantic_tokens;
 mod server;
 mod symbols;
-mod tokens;
 
 pub use server::{Ended, Server, Wanted};

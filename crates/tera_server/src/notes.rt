@@ -1,28 +1,26 @@
 //! Notifications.
 
-ghost use Rattle.std.specs.Prelude.{◌≡◌, ◌++◌, ℕ, List, Bool, false, codes, None, Some, IfOk, OnOk, OnErr, map, string_bytes};
+ghost use Rattle.std.specs.Prelude.{◌≡◌, ◌++◌, List, ℕ, codes, IfOk, OnOk, OnErr, map, string_bytes};
 ghost use Rattle.std.specs.List.{flat_map, list_any};
 ghost use Rattle.std.specs.Option.{option_map};
 ghost use Rattle.std.specs.Str.{bytes_eq};
-ghost use Rattle.file_uris.specs.Names.{IsNameOf};
+ghost use Rattle.json.specs.Value.{value_view};
 ghost use Rattle.json_rpc.specs.Ids.{TextId};
 ghost use Rattle.json_rpc.specs.Outgoing.{more};
 ghost use Rattle.json_rpc.specs.Writing.{body, request};
-ghost use Rattle.text_documents.specs.Documents.{closed};
-ghost use Rattle.text_documents.specs.Stored.{document_of, IsChangedAt, AreSame};
 ghost use Rattle.text_edits.specs.Edits.{change_view};
-ghost use Rattle.protocol_values.specs.Members.{seen, member_of, text_in};
+ghost use Rattle.protocol_values.specs.Members.{seen, member_of, text_in, items_in};
 ghost use Rattle.protocol_values.specs.Reading.{changes_in};
-ghost use Rattle.tera_workspace.specs.Workspaces.{IsKept};
 ghost use Rattle.tera_server.specs.Abilities.{registrations_json};
-ghost use Rattle.tera_server.specs.Editors.{stand_of};
-ghost use Rattle.tera_server.specs.Notes.{noted_of, document_in, uri_told, version_of, IsNotedAt, IsOpened, IsClosed, IsAsked, IsAskedFor, IsNotedBy, IsNoted, IsHeldAside, IsHeldBut, are_taken, edited_behind, is_made, IsMade, sent_within, sent_by, Texts, Edits, IsInStep};
-ghost use Rattle.tera_server.specs.States.{known_of, opened_as, changed_as, closed_as, takes, is_whole, wanted_view, wanted_of, wants_folder, wants_file, edited_of, with_name, StaysBut};
-ghost use Rattle.tera_server.specs.declared.editor.Stand.TheVariants.{Open};
-ghost use Rattle.tera_server.specs.declared.notes.Noted.TheVariants.{Initialized, Changed, FilesChanged};
-ghost use Rattle.tera_server.specs.declared.server.Phase.TheVariants.{Running as phase_running};
+ghost use Rattle.tera_server.specs.Notes.{noted_of, document_in, uri_told, item_uri, version_of, AreNames, AddsName, IsOpened, IsChanged, IsClosed, IsNotedBy, IsNoted, IsHeldAside, IsHeldBut, watch_requests, sent_by, Texts};
+ghost use Rattle.tera_server.specs.Sending.{with_all};
+ghost use Rattle.tera_server.specs.States.{takes, is_whole, wanted_view, wants, with_name, StaysBut};
+ghost use Rattle.tera_server.specs.Steps.{EditsIn, Follows};
+ghost use Rattle.tera_server.specs.declared.notes.Noted.TheVariants.{OfDocument};
+ghost use Rattle.tera_server.specs.declared.notes.WantedKind.TheVariants.{Folder, File};
 
 use crate::abilities::put_registrations;
+use crate::client::Client;
 use crate::editor::Stand;
 use crate::server::{Phase, Server, Wanted};
 use file_uris::name_of;
@@ -36,12 +34,25 @@ use text_edits::Change;
 #[derive(Clone, Copy)]
 pub(crate) enum Noted {
     Initialized,
-    Opened,
-    Changed,
-    Closed,
+    OfDocument(DocumentNote),
     FilesChanged,
     Exit,
     Other,
+}
+
+/// What a notification tells of a document.
+#[derive(Clone, Copy)]
+pub(crate) enum DocumentNote {
+    Opened,
+    Changed,
+    Closed,
+}
+
+/// What is asked of the files on disk: the texts below a folder, or that of a file.
+#[derive(Clone, Copy)]
+pub(crate) enum WantedKind {
+    Folder,
+    File,
 }
 
 impl Noted {
@@ -51,9 +62,9 @@ impl Noted {
     {
         match method {
             "initialized" => Noted::Initialized,
-            "textDocument/didOpen" => Noted::Opened,
-            "textDocument/didChange" => Noted::Changed,
-            "textDocument/didClose" => Noted::Closed,
+            "textDocument/didOpen" => Noted::OfDocument(DocumentNote::Opened),
+            "textDocument/didChange" => Noted::OfDocument(DocumentNote::Changed),
+            "textDocument/didClose" => Noted::OfDocument(DocumentNote::Closed),
             "workspace/didChangeWatchedFiles" => Noted::FilesChanged,
             "exit" => Noted::Exit,
             _ => Noted::Other,
@@ -72,313 +83,126 @@ impl Server {
     ) -> Result<(), AllocError>
         ensures stays { StaysBut self.old self.new }
         ensures noted { OnOk result (IsNoted noted self.old (seen params.entry) self.new) }
-        ensures sent { OnOk result (out.new
-            ≡ record { sent = out.old.sent ++ sent_by noted self.old; reserved = out.old.reserved }) }
+        ensures sent { OnOk result (out.new ≡ with_all out.old (sent_by noted self.old)) }
         ensures unsent { OnErr result (out.new ≡ out.old) }
-        ensures idle { (self.old.phase ≡ phase_running → ⊥) → self.new ≡ self.old }
-        ensures in_step { (texts now : Texts) → Edits self.old.workspace.encoding noted (seen params.entry) texts now →
-            self.old.phase ≡ phase_running → IsInStep texts self.old → IsInStep now self.new }
-        ensures kept { IsKept self.old.workspace → IsKept self.new.workspace }
+        ensures in_step { (texts now : Texts) → EditsIn self.old.phase self.old noted (seen params.entry) texts now →
+            Follows texts self.old → Follows now self.new }
     {
-        if self.phase != Phase::Running {
+        let Phase::Running = self.phase else {
             return Ok(());
-        }
+        };
         match noted {
-            Noted::Initialized => self.begin(alloc, out),
-            Noted::Opened => self.did_open(alloc, member(params, "textDocument")),
-            Noted::Changed => self.did_change(alloc, params),
-            Noted::Closed => self.did_close(alloc, member(params, "textDocument")),
-            Noted::FilesChanged => self.files_changed(alloc, params),
+            Noted::Initialized => begin(
+                alloc,
+                self.client,
+                self.folders.as_slice(),
+                &mut self.wanted,
+                out,
+            ),
+            Noted::OfDocument(note) => self.note_document(alloc, note, params),
+            Noted::FilesChanged => files_changed(alloc, params, &mut self.wanted),
             Noted::Exit | Noted::Other => Ok(()),
         }
     }
 
-    // Asks for the files below the folders, and the client to watch them.
-    fn begin(&mut self, alloc: Global, out: &mut Outbox) -> Result<(), AllocError>
-        ensures stays { StaysBut self.old self.new }
-        ensures known { (n : List ℕ) → known_of self.new n ≡ known_of self.old n }
-        ensures begun { OnOk result (IsNotedBy Initialized self.old None self.new) }
-        ensures sent { OnOk result (out.new
-            ≡ record { sent = out.old.sent ++ sent_within Initialized self.old; reserved = out.old.reserved }) }
-        ensures unsent { OnErr result (out.new ≡ out.old) }
-    {
-        want_folders(alloc, self.folders.as_slice(), &mut self.wanted)?;
-        if self.client.watches {
-            ask_to_watch(alloc, out)
-        } else {
-            Ok(())
-        }
-    }
-
-    fn files_changed(&mut self, alloc: Global, params: Option<&Value<'_>>) -> Result<(), AllocError>
-        ensures stays { StaysBut self.old self.new }
-        ensures known { (n : List ℕ) → known_of self.new n ≡ known_of self.old n }
-        ensures asked { OnOk result (IsNotedBy FilesChanged self.old (seen params.entry) self.new) }
-    {
-        let Some(changes) = items_of(member(params, "changes")) else {
-            return Ok(());
-        };
-        for change in changes {
-            self.want_named(alloc, text_of(member(Some(change), "uri")))?;
-        }
-        Ok(())
-    }
-
-    // The text of the file that has this URI is asked for, if it has one.
-    fn want_named(&mut self, alloc: Global, uri: Option<&str>) -> Result<(), AllocError>
-        ensures stays { StaysBut self.old self.new }
-        ensures known { (n : List ℕ) → known_of self.new n ≡ known_of self.old n }
-        ensures asked { OnOk result (IsAskedFor (option_map (λ t. t.now) uri.entry) self.old self.new) }
-    {
-        match uri {
-            Some(uri) => {
-                let name = name_of(alloc, uri)?;
-                self.want_file(alloc, name.as_str())
-            }
-            None => Ok(()),
-        }
-    }
-
-    // The text of a file is asked for; what is no file has none.
-    fn want_file(&mut self, alloc: Global, name: &str) -> Result<(), AllocError>
-        ensures stays { StaysBut self.old self.new }
-        ensures known { (n : List ℕ) → known_of self.new n ≡ known_of self.old n }
-        ensures editor { self.new.editor ≡ self.old.editor }
-        ensures wanted { OnOk result (IsAsked (wants_file name.now) self.old self.new) }
-    {
-        if name.starts_with('/') {
-            self.wanted
-                .push(Wanted::File(String::from_str(alloc, name)?))?;
-        }
-        Ok(())
-    }
-
-    fn did_open(&mut self, alloc: Global, document: Option<&Value<'_>>) -> Result<(), AllocError>
-        ensures stays { StaysBut self.old self.new }
-        ensures opened { let document = seen document.entry in OnOk result (IsOpened (uri_told document)
-            (text_in (member_of (codes "text") document)) (version_of document) self.old self.new) }
-        ensures err { OnErr result (IsHeldBut (uri_told (seen document.entry)) self.old self.new) }
-    {
-        let Some(uri) = text_of(member(document, "uri")) else {
-            return Ok(());
-        };
-        let Some(text) = text_of(member(document, "text")) else {
-            return Ok(());
-        };
-        let version = number_of(member(document, "version"));
-        let name = self.name_known(alloc, uri)?;
-        self.open(alloc, name.as_str(), uri, version, text)
-    }
-
-    // The name of the document that has this URI. Where it finds no memory, the text of whatever document may be another.
-    fn name_known(&mut self, alloc: Global, uri: &str) -> Result<String, AllocError>
-        ensures stays { StaysBut self.old self.new }
-        ensures name { IfOk result (λ name. IsNameOf uri.now (string_bytes name)) }
-        ensures ok { OnOk result (self.new ≡ self.old) }
-        ensures err { OnErr result ((n : List ℕ) → stand_of self.new.editor n ≡ Open → ⊥) }
-    {
-        let name = name_of(alloc, uri);
-        if name.is_err() {
-            self.editor.lose_all();
-        }
-        name
-    }
-
-    // On want of memory the text is lost.
-    fn open(
+    // Takes what a notification tells of a document. Where not even its name finds memory, the text of whatever document may
+    // be another.
+    fn note_document(
         &mut self,
         alloc: Global,
-        name: &str,
-        uri: &str,
-        version: Option<u64>,
-        text: &str,
+        note: DocumentNote,
+        params: Option<&Value<'_>>,
     ) -> Result<(), AllocError>
         ensures stays { StaysBut self.old self.new }
-        ensures opened { OnOk result (IsNotedAt name.now (opened_as uri.now version text.now) self.old self.new
-            × (wanted_of self.new ≡ wanted_of self.old) × (edited_of self.new ≡ with_name name.now (edited_of self.old))) }
-        ensures err { OnErr result (IsHeldAside name.now self.old self.new) }
-    {
-        match self.open_text(alloc, name, uri, version, text) {
-            Ok(()) => Ok(()),
-            Err(AllocError) => {
-                self.editor.lose(name);
-                Err(AllocError)
-            }
-        }
-    }
-
-    fn open_text(
-        &mut self,
-        alloc: Global,
-        name: &str,
-        uri: &str,
-        version: Option<u64>,
-        text: &str,
-    ) -> Result<(), AllocError>
-        ensures stays { StaysBut self.old self.new }
-        ensures opened { OnOk result (IsNotedAt name.now (opened_as uri.now version text.now) self.old self.new
-            × (wanted_of self.new ≡ wanted_of self.old) × (edited_of self.new ≡ with_name name.now (edited_of self.old))) }
-        ensures err { OnErr result ((n : List ℕ) → bytes_eq name.now n ≡ false → known_of self.new n ≡ known_of self.old n) }
-    {
-        self.add_edited(alloc, name)?;
-        self.editor.open(alloc, name, uri, version)?;
-        self.workspace.open(alloc, name, text)
-    }
-
-    // Its findings are published for the new version, whatever they are.
-    fn add_edited(&mut self, alloc: Global, name: &str) -> Result<(), AllocError>
-        ensures stays { StaysBut self.old self.new }
-        ensures known { (n : List ℕ) → known_of self.new n ≡ known_of self.old n }
-        ensures editor { self.new.editor ≡ self.old.editor }
-        ensures wanted { wanted_of self.new ≡ wanted_of self.old }
-        ensures edited { OnOk result (edited_of self.new ≡ with_name name.now (edited_of self.old)) }
-    {
-        if has_name(self.edited.as_slice(), name) {
-            return Ok(());
-        }
-        self.edited.push(String::from_str(alloc, name)?)?;
-        Ok(())
-    }
-
-    fn did_change(&mut self, alloc: Global, params: Option<&Value<'_>>) -> Result<(), AllocError>
-        ensures stays { StaysBut self.old self.new }
-        ensures changed { OnOk result (IsNotedBy Changed self.old (seen params.entry) self.new) }
+        ensures noted { OnOk result (IsNotedBy (OfDocument note) self.old (seen params.entry) self.new) }
         ensures err { OnErr result (IsHeldBut (uri_told (document_in (seen params.entry))) self.old self.new) }
     {
         let document = member(params, "textDocument");
         let Some(uri) = text_of(member(document, "uri")) else {
             return Ok(());
         };
-        let version = number_of(member(document, "version"));
-        let name = self.name_known(alloc, uri)?;
-        let changes = member(params, "contentChanges");
-        self.change(alloc, name.as_str(), version, changes)
+        let Ok(name) = name_of(alloc, uri) else {
+            self.editor.lose_all();
+            return Err(AllocError);
+        };
+        match note {
+            DocumentNote::Opened => self.open(alloc, name.as_str(), uri, document),
+            DocumentNote::Changed => {
+                let changes = member(params, "contentChanges");
+                self.change(alloc, name.as_str(), document, changes)
+            }
+            DocumentNote::Closed => self.close(alloc, name.as_str()),
+        }
     }
 
-    // Where the text is not that of the editor then, it is lost.
+    // The text of the document is lost until all is done: on want of memory it stays so.
+    fn open(
+        &mut self,
+        alloc: Global,
+        name: &str,
+        uri: &str,
+        document: Option<&Value<'_>>,
+    ) -> Result<(), AllocError>
+        ensures stays { StaysBut self.old self.new }
+        ensures opened { OnOk result (IsOpened name.now uri.now (text_in (member_of (codes "text") (seen document.entry)))
+            (version_of (seen document.entry)) self.old self.new) }
+        ensures err { OnErr result (IsHeldAside name.now self.old self.new) }
+    {
+        let Some(text) = text_of(member(document, "text")) else {
+            return Ok(());
+        };
+        let version = number_of(member(document, "version"));
+        self.editor.lose(name);
+        self.editor.open(alloc, name, uri)?;
+        add_name(alloc, name, &mut self.edited)?;
+        self.workspace.open(alloc, name, text)?;
+        self.editor.update(name, version, Stand::Open);
+        Ok(())
+    }
+
+    // The text stays lost also where the changes do not lead to that of the editor.
     fn change(
         &mut self,
         alloc: Global,
         name: &str,
-        version: Option<u64>,
+        document: Option<&Value<'_>>,
         changes: Option<&Value<'_>>,
     ) -> Result<(), AllocError>
         ensures stays { StaysBut self.old self.new }
-        ensures changed { OnOk result (IsNotedAt name.now
-            (changed_as self.old.workspace.encoding version (changes_in (seen changes.entry))) self.old self.new
-            × (wanted_of self.new ≡ wanted_of self.old)
-            × (edited_of self.new ≡ edited_behind
-            (are_taken (stand_of self.old.editor name.now) (changes_in (seen changes.entry))) name.now (edited_of self.old))) }
+        ensures changed { OnOk result (IsChanged name.now (version_of (seen document.entry)) (changes_in (seen changes.entry))
+            self.old self.new) }
         ensures err { OnErr result (IsHeldAside name.now self.old self.new) }
     {
-        match self.change_text(alloc, name, changes) {
-            Ok(true) => {
-                self.editor.change(name, version);
-                Ok(())
-            }
-            Ok(false) => {
-                self.editor.lose(name);
-                Ok(())
-            }
-            Err(AllocError) => {
-                self.editor.lose(name);
-                Err(AllocError)
-            }
-        }
-    }
-
-    // Makes the changes. The answer says whether the text is that of the editor then.
-    fn change_text(
-        &mut self,
-        alloc: Global,
-        name: &str,
-        changes: Option<&Value<'_>>,
-    ) -> Result<bool, AllocError>
-        ensures stays { StaysBut self.old self.new }
-        ensures editor { self.new.editor ≡ self.old.editor }
-        ensures made { IfOk result (λ made. (made ≡ is_made (stand_of self.old.editor name.now)
-            (document_of self.old.workspace.documents name.now) (changes_in (seen changes.entry)))
-            × IsMade self.old.workspace.encoding name.now (changes_in (seen changes.entry)) made self.old self.new) }
-        ensures wanted { wanted_of self.new ≡ wanted_of self.old }
-        ensures edited { OnOk result (edited_of self.new ≡ edited_behind
-            (are_taken (stand_of self.old.editor name.now) (changes_in (seen changes.entry))) name.now (edited_of self.old)) }
-        ensures err { OnErr result (AreSame self.old.workspace.documents self.new.workspace.documents) }
-    {
+        let stand = self.editor.stand(name);
+        self.editor.lose(name);
         let Some(changes) = changes_of(alloc, changes)? else {
-            return Ok(false);
-        };
-        self.make(alloc, name, changes.as_slice())
-    }
-
-    fn make(
-        &mut self,
-        alloc: Global,
-        name: &str,
-        changes: &[Change<'_>],
-    ) -> Result<bool, AllocError>
-        ensures stays { StaysBut self.old self.new }
-        ensures editor { self.new.editor ≡ self.old.editor }
-        ensures made { IfOk result (λ made. (made ≡ is_made (stand_of self.old.editor name.now)
-            (document_of self.old.workspace.documents name.now) (Some (map change_view changes.now)))
-            × IsMade self.old.workspace.encoding name.now (Some (map change_view changes.now)) made self.old self.new) }
-        ensures wanted { wanted_of self.new ≡ wanted_of self.old }
-        ensures edited { OnOk result (edited_of self.new ≡ edited_behind
-            (takes (stand_of self.old.editor name.now) (map change_view changes.now)) name.now (edited_of self.old)) }
-        ensures err { OnErr result (AreSame self.old.workspace.documents self.new.workspace.documents) }
-    {
-        if takes(self.editor.stand(name), changes) {
-            self.add_edited(alloc, name)?;
-            self.workspace.change(alloc, name, changes)
-        } else {
-            Ok(false)
-        }
-    }
-
-    fn did_close(&mut self, alloc: Global, document: Option<&Value<'_>>) -> Result<(), AllocError>
-        ensures stays { StaysBut self.old self.new }
-        ensures closed { OnOk result (IsClosed (uri_told (seen document.entry)) self.old self.new) }
-        ensures err { OnErr result (IsHeldBut (uri_told (seen document.entry)) self.old self.new) }
-    {
-        let Some(uri) = text_of(member(document, "uri")) else {
             return Ok(());
         };
-        let name = self.name_known(alloc, uri)?;
-        self.close(alloc, name.as_str())
+        if !takes(stand, changes.as_slice()) {
+            return Ok(());
+        }
+        add_name(alloc, name, &mut self.edited)?;
+        if !self.workspace.change(alloc, name, changes.as_slice())? {
+            return Ok(());
+        }
+        self.editor
+            .update(name, number_of(member(document, "version")), Stand::Open);
+        Ok(())
     }
 
-    // On want of memory the text is lost.
+    // The text is lost until all is done. Then what is on disk counts again, and is asked for. What is found in it is published,
+    // since it may not have been while the text was lost.
     fn close(&mut self, alloc: Global, name: &str) -> Result<(), AllocError>
         ensures stays { StaysBut self.old self.new }
-        ensures closed { OnOk result (IsNotedAt name.now closed_as self.old self.new
-            × (wanted_of self.new ≡ wanted_of self.old ++ wants_file name.now)
-            × (edited_of self.new ≡ with_name name.now (edited_of self.old))) }
+        ensures closed { OnOk result (IsClosed name.now self.old self.new) }
         ensures err { OnErr result (IsHeldAside name.now self.old self.new) }
     {
-        match self.close_text(alloc, name) {
-            Ok(()) => {
-                self.editor.close(name);
-                Ok(())
-            }
-            Err(AllocError) => {
-                self.editor.lose(name);
-                Err(AllocError)
-            }
-        }
-    }
-
-    // What is on disk counts again, and is asked for. What is found in it is published, since it may not have been while the
-    // text was lost.
-    fn close_text(&mut self, alloc: Global, name: &str) -> Result<(), AllocError>
-        ensures stays { StaysBut self.old self.new }
-        ensures editor { self.new.editor ≡ self.old.editor }
-        ensures closed { OnOk result (IsChangedAt name.now closed self.old.workspace.documents self.new.workspace.documents
-            × (wanted_of self.new ≡ wanted_of self.old ++ wants_file name.now)
-            × (edited_of self.new ≡ with_name name.now (edited_of self.old))) }
-        ensures err { OnErr result (AreSame self.old.workspace.documents self.new.workspace.documents) }
-    {
-        self.want_file(alloc, name)?;
-        self.add_edited(alloc, name)?;
-        self.workspace.close(alloc, name)
+        self.editor.lose(name);
+        want(alloc, WantedKind::File, name, &mut self.wanted)?;
+        add_name(alloc, name, &mut self.edited)?;
+        self.workspace.close(alloc, name)?;
+        self.editor.update(name, None, Stand::Closed);
+        Ok(())
     }
 }
 
@@ -405,6 +229,17 @@ fn is_any_whole(changes: &[Change<'_>]) -> bool
     false
 }
 
+// Adds the name, where it is not one of these.
+fn add_name(alloc: Global, name: &str, names: &mut Vec<String>) -> Result<(), AllocError>
+    ensures { OnOk result (map string_bytes names.new.items ≡ with_name name.now (map string_bytes names.old.items)) }
+{
+    if has_name(names.as_slice(), name) {
+        return Ok(());
+    }
+    names.push(String::from_str(alloc, name)?)?;
+    Ok(())
+}
+
 // Whether the name is one of these.
 pub(crate) fn has_name(names: &[String], name: &str) -> bool
     ensures { result ≡ list_any (λ m. bytes_eq m name.now) (map string_bytes names.now) }
@@ -412,30 +247,103 @@ pub(crate) fn has_name(names: &[String], name: &str) -> bool
     names.iter().any(|one| one.as_str() == name)
 }
 
-// The texts of the files below the folders are asked for.
-fn want_folders(
+// Asks for the files below the folders, and the client to watch them, if it can.
+fn begin(
     alloc: Global,
+    client: Client,
     folders: &[String],
     wanted: &mut Vec<Wanted>,
+    out: &mut Outbox,
 ) -> Result<(), AllocError>
-    ensures { OnOk result (map wanted_view wanted.new.items ≡ map wanted_view wanted.old.items
-        ++ flat_map (λ f. wants_folder (string_bytes f)) folders.now) }
+    ensures wanted { OnOk result (map wanted_view wanted.new.items ≡ map wanted_view wanted.old.items
+        ++ flat_map (wants Folder) (map string_bytes folders.now)) }
+    ensures sent { OnOk result (out.new ≡ with_all out.old (watch_requests client)) }
+    ensures unsent { OnErr result (out.new ≡ out.old) }
 {
-    for folder in folders {
-        want_folder(alloc, folder.as_str(), wanted)?;
+    want_all(alloc, WantedKind::Folder, folders, wanted)?;
+    if client.watches {
+        ask_to_watch(alloc, out)
+    } else {
+        Ok(())
+    }
+}
+
+// Asks for the texts of the files that changed.
+fn files_changed(
+    alloc: Global,
+    params: Option<&Value<'_>>,
+    wanted: &mut Vec<Wanted>,
+) -> Result<(), AllocError>
+    ensures { OnOk result ((names : List (List ℕ))
+        × AreNames (map item_uri (items_in (member_of (codes "changes") (seen params.entry)))) names
+        × (map wanted_view wanted.new.items ≡ map wanted_view wanted.old.items ++ flat_map (wants File) names)) }
+{
+    let Some(changes) = items_of(member(params, "changes")) else {
+        return Ok(());
+    };
+    let names = names_in(alloc, changes)?;
+    want_all(alloc, WantedKind::File, names.as_slice(), wanted)
+}
+
+/// The names of the items that have a URI, in order.
+pub(crate) fn names_in(alloc: Global, items: &[Value<'_>]) -> Result<Vec<String>, AllocError>
+    ensures { IfOk result (λ v. AreNames (map item_uri (map value_view items.now)) (map string_bytes v.items)) }
+{
+    let mut names = Vec::new(alloc);
+    for item in items {
+        push_name(alloc, text_of(member(Some(item), "uri")), &mut names)?;
+    }
+    Ok(names)
+}
+
+/// Adds the name of what has this URI, if it has one.
+pub(crate) fn push_name(
+    alloc: Global,
+    uri: Option<&str>,
+    names: &mut Vec<String>,
+) -> Result<(), AllocError>
+    ensures { OnOk result (AddsName (option_map (λ t. t.now) uri.entry)
+        (map string_bytes names.old.items) (map string_bytes names.new.items)) }
+{
+    if let Some(uri) = uri {
+        names.push(name_of(alloc, uri)?)?;
     }
     Ok(())
 }
 
-// What is no path, as the name of a folder of another scheme, has none.
-fn want_folder(alloc: Global, folder: &str, wanted: &mut Vec<Wanted>) -> Result<(), AllocError>
+// Asks for what has these names.
+fn want_all(
+    alloc: Global,
+    kind: WantedKind,
+    names: &[String],
+    wanted: &mut Vec<Wanted>,
+) -> Result<(), AllocError>
     ensures { OnOk result (map wanted_view wanted.new.items ≡ map wanted_view wanted.old.items
-        ++ wants_folder folder.now) }
+        ++ flat_map (wants kind) (map string_bytes names.now)) }
 {
-    if folder.starts_with('/') {
-        wanted.push(Wanted::Folder(String::from_str(alloc, folder)?))?;
+    for name in names {
+        want(alloc, kind, name.as_str(), wanted)?;
     }
     Ok(())
+}
+
+// Asks for what has this name, where that is a path: the name of what has another scheme is none.
+fn want(
+    alloc: Global,
+    kind: WantedKind,
+    name: &str,
+    wanted: &mut Vec<Wanted>,
+) -> Result<(), AllocError>
+    ensures { OnOk result (map wanted_view wanted.new.items ≡ map wanted_view wanted.old.items ++ wants kind name.now) }
+{
+    if !name.starts_with('/') {
+        return Ok(());
+    }
+    let path = String::from_str(alloc, name)?;
+    match kind {
+        WantedKind::Folder => Ok(wanted.push(Wanted::Folder(path))?),
+        WantedKind::File => Ok(wanted.push(Wanted::File(path))?),
+    }
 }
 
 // Asks the client to watch the files of templates.

@@ -8,7 +8,7 @@ ghost use Rattle.tera_outline.specs.Names.{name_view};
 ghost use Rattle.tera_workspace.specs.Definitions.{text_view};
 ghost use Rattle.text_edits.specs.Lines.{lines_of, starts_of};
 ghost use Rattle.tera_server.specs.Editors.{seen_of, uri_in};
-ghost use Rattle.tera_server.specs.References.{sought_by, is_definition, are_alike, refers, AreReferencesIn, AreReferences, IsList, reference_tokens};
+ghost use Rattle.tera_server.specs.References.{sought_by, refers, AreReferencesIn, IsList, reference_tokens};
 
 use crate::definitions::is_component;
 use crate::editor::Editor;
@@ -42,24 +42,10 @@ pub(crate) fn put_references(
     ensures before { out.new.before ≡ out.old.before }
 {
     out.begin_array()?;
-    put_all(alloc, out, search, texts)?;
-    out.end_array()
-}
-
-fn put_all(
-    alloc: Global,
-    out: &mut Writer,
-    search: Search<'_>,
-    texts: &[FileText<'_>],
-) -> Result<(), AllocError>
-    ensures tokens { OnOk result ((js : List Json) × AreReferences (sought_by search.entry) (map text_view texts.now) js
-        × (out.new.tokens ≡ out.old.tokens ++ flat_map json_tokens js)) }
-    ensures before { out.new.before ≡ out.old.before }
-{
     for text in texts {
         put_in(alloc, out, search, text)?;
     }
-    Ok(())
+    out.end_array()
 }
 
 fn put_in(
@@ -80,6 +66,7 @@ fn put_in(
 }
 
 // Of the names in a text those that count.
+#[tactic(auto, unfolding(crate::specs::References::reference_tokens))]
 fn put_names(
     out: &mut Writer,
     search: Search<'_>,
@@ -95,56 +82,20 @@ fn put_names(
     ensures before { out.new.before ≡ out.old.before }
 {
     for name in names {
-        put_one(out, search, text, lines, uri, name)?;
+        if refers(search, name) {
+            let start = position_at(text.text, lines, search.encoding, name.start);
+            let end = position_at(text.text, lines, search.encoding, name.end);
+            put_location(out, uri, start, end)?;
+        }
     }
     Ok(())
-}
-
-#[tactic(auto, unfolding(crate::specs::References::reference_tokens))]
-fn put_one(
-    out: &mut Writer,
-    search: Search<'_>,
-    text: FileText<'_>,
-    lines: &Lines,
-    uri: &str,
-    name: &Name,
-) -> Result<(), AllocError>
-    requires lines { lines.now ≡ starts_of (lines_of text.text.now) }
-    requires uri { uri.now ≡ uri_in text.file.now (seen_of search.editor.now text.file.now) }
-    ensures tokens { OnOk result (out.new.tokens
-        ≡ out.old.tokens ++ reference_tokens (sought_by search.entry) (text_view text.entry) (name_view name.now)) }
-    ensures before { out.new.before ≡ out.old.before }
-{
-    if !refers(search, name) {
-        return Ok(());
-    }
-    let start = position_at(text.text, lines, search.encoding, name.start);
-    let end = position_at(text.text, lines, search.encoding, name.end);
-    put_location(out, uri, start, end)
 }
 
 // Whether the name stands for what is looked for, and counts.
 fn refers(search: Search<'_>, name: &Name) -> bool
     ensures { result ≡ refers (sought_by search.entry) (name_view name.now) }
 {
-    are_alike(search.name.kind, name.kind)
+    is_component(search.name.kind) == is_component(name.kind)
         && name.text.as_str() == search.name.text.as_str()
-        && (search.declared || !is_definition(name.kind))
-}
-
-// Whether both stand for a component, or both for a template.
-fn are_alike(kind: NameKind, other: NameKind) -> bool
-    ensures { result ≡ are_alike kind other }
-{
-    if is_component(kind) {
-        is_component(other)
-    } else {
-        !is_component(other)
-    }
-}
-
-fn is_definition(kind: NameKind) -> bool
-    ensures { result ≡ is_definition kind }
-{
-    matches!(kind, NameKind::Defined)
+        && (search.declared || !matches!(name.kind, NameKind::Defined))
 }

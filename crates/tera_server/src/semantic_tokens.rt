@@ -11,8 +11,8 @@ ghost use Rattle.text_edits.specs.Walks.{IsReached};
 ghost use Rattle.tera_server.specs.SemanticTokens as specs;
 ghost use Rattle.tera_server.specs.SemanticTokens.{AreTokens, data_of, numbers, number_tokens};
 
-use crate::tokens::put_tokens;
 use json::{Token, Writer};
+use protocol_values::put_tokens;
 use std::alloc::{AllocError, Global};
 use tera_outline::{SemanticKind, SemanticToken, semantic_tokens_of};
 use text_edits::{Encoding, Position, Walk};
@@ -93,11 +93,16 @@ fn put_placed(out: &mut Writer, last: Position, placed: Placed) -> Result<(), Al
         ≡ out.old.tokens ++ flat_map number_tokens (numbers last placed)) }
     ensures before { out.new.before ≡ out.old.before }
 {
-    put_number(out, placed.start.line - last.line)?;
-    put_number(out, distance(last, placed.start))?;
-    put_number(out, placed.length)?;
-    put_number(out, kind_number(placed.kind))?;
-    put_number(out, 0)
+    put_numbers(
+        out,
+        &[
+            placed.start.line - last.line,
+            distance(last, placed.start),
+            placed.length,
+            kind_number(placed.kind),
+            0,
+        ],
+    )
 }
 
 // How many units stand before the position on its line, behind the other if that is on the line.
@@ -113,11 +118,14 @@ fn distance(last: Position, position: Position) -> usize
 }
 
 #[tactic(auto, unfolding(crate::specs::SemanticTokens::number_tokens))]
-fn put_number(out: &mut Writer, number: usize) -> Result<(), AllocError>
-    ensures tokens { OnOk result (out.new.tokens ≡ out.old.tokens ++ number_tokens number) }
+fn put_numbers(out: &mut Writer, numbers: &[usize]) -> Result<(), AllocError>
+    ensures tokens { OnOk result (out.new.tokens ≡ out.old.tokens ++ flat_map number_tokens numbers.now) }
     ensures before { out.new.before ≡ out.old.before }
 {
-    out.u64(number as u64)
+    for number in numbers {
+        out.u64(*number as u64)?;
+    }
+    Ok(())
 }
 
 // Its place in the legend, which stands among the tokens of `abilities`.

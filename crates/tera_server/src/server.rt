@@ -1,6 +1,6 @@
 //! The server.
 
-ghost use Rattle.std.specs.Prelude.{◌≡◌, ◌++◌, ◌∷◌, [], ℕ, List, IsTrue, None, IfSome, IfOk, OnOk, OnErr, string_bytes};
+ghost use Rattle.std.specs.Prelude.{◌≡◌, ◌++◌, ◌∷◌, [], ℕ, List, IsTrue, None, IfOk, OnOk, OnErr};
 ghost use Rattle.std.specs.Option.{option_map, option_to_list};
 ghost use Rattle.json_rpc.specs.Ids.{NullId};
 ghost use Rattle.json_rpc.specs.Messages.{message_of};
@@ -9,23 +9,21 @@ ghost use Rattle.json_rpc.specs.Outline.{answered_id};
 ghost use Rattle.json_rpc.specs.Shown.{message_view};
 ghost use Rattle.json_rpc.specs.Writing.{body, refusal};
 ghost use Rattle.json_rpc.specs.declared.code.Code.TheVariants.{InternalError, ParseError};
-ghost use Rattle.protocol_values.specs.Members.{seen};
 ghost use Rattle.tera_workspace.specs.Workspaces.{told_of_name, IsKept};
-ghost use Rattle.text_documents.specs.Documents.{no_document};
-ghost use Rattle.text_documents.specs.Stored.{IsChangedAt, AreSame};
-ghost use Rattle.tera_server.specs.Sending.{with_all, found_message, messages_of, SendsFirst, untold_of, names_beside};
-ghost use Rattle.tera_server.specs.Settling.{IsSettling, ArePublished, ArePublishedInPart, OnlyTells};
+ghost use Rattle.text_edits.specs.Documents.{no_document};
+ghost use Rattle.text_edits.specs.Stored.{IsChangedAt, AreSame};
+ghost use Rattle.tera_server.specs.Sending.{untold_of};
+ghost use Rattle.tera_server.specs.Settling.{IsSettling, ArePublishedInPart, OnlyTells};
 ghost use Rattle.tera_server.specs.States.{known_of, loaded_as, wanted_of, wanted_view, edited_of, StaysBut};
-ghost use Rattle.tera_server.specs.Steps.{ended_at, Answers, IsHeard, Step, IsMissed, IsUntaken, IsUntakenBy, EditsIn, Follows, KeepsUp};
-ghost use Rattle.tera_server.specs.Notes.{Texts};
+ghost use Rattle.tera_server.specs.Steps.{ended_at, Step, IsMissed, IsUntaken, IsUntakenBy, KeepsUp};
 ghost use Rattle.tera_server.specs.declared.server.Phase.TheVariants.{New};
 
 use crate::client::Client;
-use crate::editor::{Editor, Stand};
-use crate::findings::{Telling, published};
-use crate::notes::{Noted, has_name};
+use crate::editor::Editor;
+use crate::findings::{Telling, publish_each};
+use crate::notes::Noted;
 use crate::requests::Asked;
-use json::{Scratch, Value};
+use json::Scratch;
 use json_rpc::{Code, Id, Incoming, Message, Outbox, id_to_answer};
 use std::alloc::{AllocError, Global};
 use tera_workspace::Workspace;
@@ -113,36 +111,11 @@ impl Server {
             self.miss(alloc, out);
             return Err(AllocError);
         }
-        match self.read(alloc, message.as_slice(), &mut scratch, out) {
-            Some(taken) => taken,
-            None => {
-                self.refuse_unread(alloc, message.as_slice(), &mut scratch, out);
-                Err(AllocError)
-            }
+        if let Ok(incoming) = Incoming::read(alloc, message.as_slice(), &mut scratch) {
+            return self.take(alloc, incoming.message(), out);
         }
-    }
-
-    // Reads a message and takes it. None where there is no memory to read it; then nothing changes.
-    fn read<'a>(
-        &mut self,
-        alloc: Global,
-        bytes: &'a [u8],
-        scratch: &'a mut Scratch,
-        out: &mut Outbox,
-    ) -> Option<Result<Option<Ended>, AllocError>>
-        requires { IsTrue out.old.reserved }
-        ensures step { IfSome result (λ taken. IfOk taken (λ ended.
-            Step self.old (message_of bytes.now) out.old ended self.new out.new)) }
-        ensures untaken { IfSome result (λ taken. OnErr taken
-            (IsUntakenBy (answered_id (message_of bytes.now)) self.old out.old self.new out.new)) }
-        ensures in_step { IfSome result (λ _. KeepsUp (message_of bytes.now) self.old self.new) }
-        ensures kept { IsKept self.old.workspace → IsKept self.new.workspace }
-        ensures unread { result ≡ None → (self.new ≡ self.old) × (out.new ≡ out.old) }
-    {
-        match Incoming::read(alloc, bytes, scratch) {
-            Ok(incoming) => Some(self.take(alloc, incoming.message(), out)),
-            Err(AllocError) => None,
-        }
+        self.refuse_unread(alloc, message.as_slice(), &mut scratch, out);
+        Err(AllocError)
     }
 
     // There was no memory to read a message: what is to be answered is refused, and what is not may have been a change.
@@ -199,11 +172,17 @@ impl Server {
     {
         match message {
             Message::Request { id, method, params } => {
-                self.answer(alloc, &id, Asked::of(method), params, out);
+                let result = self.result_of(alloc, &id, Asked::of(method), params);
+                out.answer(alloc, &id, result);
                 Ok(None)
             }
             Message::Notification { method, params } => {
-                self.hear(alloc, Noted::of(method), params, out)
+                let noted = Noted::of(method);
+                self.note(alloc, noted, params, out)?;
+                match noted {
+                    Noted::Exit => Ok(Some(self.ended())),
+                    _ => Ok(None),
+                }
             }
             Message::Response => Ok(None),
             Message::Invalid(id) => {
@@ -212,47 +191,6 @@ impl Server {
             }
             Message::NotJson => {
                 out.answer(alloc, &Id::null(), Err(Code::ParseError));
-                Ok(None)
-            }
-        }
-    }
-
-    // Answers a request.
-    fn answer(
-        &mut self,
-        alloc: Global,
-        id: &Id<'_>,
-        asked: Asked,
-        params: Option<&Value<'_>>,
-        out: &mut Outbox,
-    )
-        requires { IsTrue out.old.reserved }
-        ensures answers { Answers id.now asked self.old (seen params.entry) out.old self.new out.new }
-        ensures in_step { (texts : Texts) → Follows texts self.old → Follows texts self.new }
-        ensures kept { IsKept self.old.workspace → IsKept self.new.workspace }
-    {
-        let result = self.result_of(alloc, id, asked, params);
-        out.answer(alloc, id, result);
-    }
-
-    // Takes a notification.
-    fn hear(
-        &mut self,
-        alloc: Global,
-        noted: Noted,
-        params: Option<&Value<'_>>,
-        out: &mut Outbox,
-    ) -> Result<Option<Ended>, AllocError>
-        ensures heard { IfOk result (λ ended. IsHeard noted self.old (seen params.entry) out.old ended self.new out.new) }
-        ensures unheard { OnErr result (StaysBut self.old self.new × (out.new ≡ out.old)) }
-        ensures in_step { (texts now : Texts) → EditsIn self.old.phase self.old noted (seen params.entry) texts now →
-            Follows texts self.old → Follows now self.new }
-        ensures kept { IsKept self.old.workspace → IsKept self.new.workspace }
-    {
-        match noted {
-            Noted::Exit => Ok(Some(self.ended())),
-            _ => {
-                self.note(alloc, noted, params, out)?;
                 Ok(None)
             }
         }
@@ -299,89 +237,29 @@ impl Server {
         ensures unsettled { OnErr result (ArePublishedInPart self.old self.new out.old out.new) }
         ensures stays { OnlyTells self.old self.new }
     {
-        match self.phase {
-            Phase::New | Phase::ShutDown => Ok(()),
-            Phase::Running => self.publish_all(alloc, out),
+        if self.phase != Phase::Running {
+            return Ok(());
         }
-    }
-
-    fn publish_all(&mut self, alloc: Global, out: &mut Outbox) -> Result<(), AllocError>
-        ensures published { OnOk result (ArePublished self.old self.new out.old out.new) }
-        ensures in_part { OnErr result (ArePublishedInPart self.old self.new out.old out.new) }
-        ensures stays { OnlyTells self.old self.new }
-    {
         // What is not published yet is published by what is told now.
         self.edited.append(&mut self.untold)?;
         self.untold = self.workspace.settle(alloc)?;
-        self.publish_edited(alloc, out)?;
-        self.publish_untold(alloc, out)?;
-        Ok(())
-    }
-
-    fn publish_untold(&mut self, alloc: Global, out: &mut Outbox) -> Result<(), AllocError>
-        ensures published { OnOk result (out.new ≡ with_all out.old (messages_of self.old (untold_of self.old))) }
-        ensures none { OnOk result (untold_of self.new ≡ []) }
-        ensures same { self.new ≡ record self.old { untold = self.new.untold } }
-        ensures in_part { OnErr result (SendsFirst (messages_of self.old) (untold_of self.old) out.old out.new) }
-        ensures err { OnErr result (self.new ≡ self.old) }
-    {
-        for name in &self.untold {
-            self.publish(alloc, name.as_str(), out)?;
-        }
-        self.untold.clear();
-        Ok(())
-    }
-
-    fn publish_edited(&mut self, alloc: Global, out: &mut Outbox) -> Result<(), AllocError>
-        ensures published { OnOk result (out.new ≡ with_all out.old
-            (messages_of self.old (names_beside (untold_of self.old) (edited_of self.old)))) }
-        ensures none { OnOk result (edited_of self.new ≡ []) }
-        ensures same { self.new ≡ record self.old { edited = self.new.edited } }
-        ensures in_part { OnErr result (SendsFirst (λ ns. messages_of self.old (names_beside (untold_of self.old) ns))
-            (edited_of self.old) out.old out.new) }
-        ensures err { OnErr result (self.new ≡ self.old) }
-    {
-        for name in &self.edited {
-            self.publish_told(alloc, name.as_str(), out)?;
-        }
-        self.edited.clear();
-        Ok(())
-    }
-
-    // Of those that are untold it is published behind.
-    fn publish_told(&self, alloc: Global, name: &str, out: &mut Outbox) -> Result<(), AllocError>
-        ensures ok { OnOk result (out.new ≡ with_all out.old
-            (messages_of self.now (names_beside (untold_of self.now) (name.now ∷ [])))) }
-        ensures err { OnErr result (out.new ≡ out.old) }
-    {
-        if has_name(self.untold.as_slice(), name) {
-            return Ok(());
-        }
-        self.publish(alloc, name, out)
-    }
-
-    fn publish(&self, alloc: Global, name: &str, out: &mut Outbox) -> Result<(), AllocError>
-        ensures ok { OnOk result (out.new ≡ with_all out.old (messages_of self.now (name.now ∷ []))) }
-        ensures err { OnErr result (out.new ≡ out.old) }
-    {
-        match self.editor.stand(name) {
-            Stand::Open | Stand::Closed => {
-                let message = self.found_message(alloc, name)?;
-                out.push(message)
-            }
-            Stand::Lost => Ok(()),
-        }
-    }
-
-    // The message that publishes what was told of the document of this name last.
-    fn found_message(&self, alloc: Global, name: &str) -> Result<Vec<u8>, AllocError>
-        ensures { IfOk result (λ m. m.items
-            ≡ found_message self.now.editor self.now.client.related self.now.workspace name.now) }
-    {
         let telling = Telling {
             editor: &self.editor,
             related: self.client.related,
         };
-        published(alloc, telling, name, self.workspace.told(name))
+        // Of those that are untold it is published behind.
+        let untold = self.untold.as_slice();
+        publish_each(
+            alloc,
+            telling,
+            &self.workspace,
+            self.edited.as_slice(),
+            untold,
+            out,
+        )?;
+        self.edited.clear();
+        publish_each(alloc, telling, &self.workspace, untold, &[], out)?;
+        self.untold.clear();
+        Ok(())
     }
 }

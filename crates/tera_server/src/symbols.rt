@@ -10,9 +10,8 @@ ghost use Rattle.protocol_values.specs.Writing.{member_tokens, range_json};
 ghost use Rattle.tera_server.specs.Positions.{position_at};
 ghost use Rattle.tera_server.specs.Outlines.{IsOutline, nested, symbol_items, symbol_begin, end_tokens, open_at, all_ended, kind_name, kind_number};
 
-use crate::tokens::put_tokens;
 use json::{Token, Writer};
-use protocol_values::{put_number, put_range};
+use protocol_values::{put_number, put_range, put_tokens};
 use std::alloc::{AllocError, Global};
 use tera_outline::{Symbol, SymbolKind, symbols_of};
 use text_edits::{Encoding, Lines, position_at};
@@ -59,6 +58,9 @@ fn put_nested(
     out.end_array()
 }
 
+// The end of a symbol, behind those that stand in it.
+const SYMBOL_END: [Token<'static>; 2] = [Token::EndArray, Token::EndObject];
+
 // Ends those that end at or before the byte.
 fn end_before(out: &mut Writer, open: &mut Vec<usize>, byte: usize) -> Result<(), AllocError>
     ensures tokens { OnOk result (out.new.tokens
@@ -71,7 +73,7 @@ fn end_before(out: &mut Writer, open: &mut Vec<usize>, byte: usize) -> Result<()
             return Ok(());
         }
         open.pop();
-        end_symbol(out)?;
+        put_tokens(out, &SYMBOL_END)?;
     }
     Ok(())
 }
@@ -82,7 +84,7 @@ fn end_all(out: &mut Writer, open: &mut Vec<usize>) -> Result<(), AllocError>
     ensures before { out.new.before ≡ out.old.before }
 {
     'open: while let Some(_) = open.pop() {
-        end_symbol(out)?;
+        put_tokens(out, &SYMBOL_END)?;
     }
     Ok(())
 }
@@ -134,13 +136,6 @@ fn put_part(
     let start = position_at(text, lines, encoding, bytes.0);
     let end = position_at(text, lines, encoding, bytes.1);
     put_range(out, member, start, end)
-}
-
-fn end_symbol(out: &mut Writer) -> Result<(), AllocError>
-    ensures tokens { OnOk result (out.new.tokens ≡ out.old.tokens ++ end_array ∷ end_object ∷ []) }
-    ensures before { out.new.before ≡ out.old.before }
-{
-    put_tokens(out, &[Token::EndArray, Token::EndObject])
 }
 
 fn kind_name(kind: SymbolKind) -> &'static str

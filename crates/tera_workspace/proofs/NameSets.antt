@@ -1,41 +1,44 @@
--- Sets of names, to which one is added.
-use Rattle.std.proofs.Common.{◌≡◌, ◌∙◌, ◌<◌, ◌≤◌, ℕ, zero, suc, List, [], ◌∷◌, ◌++◌, ◌||◌, length, drop, get_or, Bool, true, false, cond, String, string_bytes, refl, sym, ap, arith, drop-cons}
+-- Names among others, and sets to which names are added.
+use Rattle.std.proofs.Common.{◌≡◌, ◌∙◌, ◌<◌, ◌≤◌, ℕ, zero, suc, ◌+◌, List, [], ◌∷◌, ◌++◌, ◌||◌, length, drop, get_or, map, Bool, true, false, cond, Bor, String, string_bytes, refl, sym, ap, arith, drop-cons}
 use Rattle.std.proofs.Common.{if◌then◌else◌}
-use Rattle.std.specs.BTreeSet as sorted
-use Rattle.std.specs.BTreeSet.{BTreeSet, contains_text}
+use Rattle.std.specs.BTreeSet.{BTreeSet, UpdatesBy}
 use Rattle.std.specs.Cmp.Lexicographic.{slice_cmp}
 use Rattle.std.specs.List.{AllByRecursion}
 use Rattle.std.specs.Ordering.{nat_cmp}
 use Rattle.std.specs.Str.{bytes_eq}
-use Rattle.std.specs.String.{string_cmp}
 use Rattle.std.specs.declared.alloc.Global.{Global}
-use Rattle.std.proofs.lemmas.Map.Text.{btree_set_updates_text}
+use Rattle.std.proofs.lemmas.List.{at_drop_more, at_drop_all}
+use Rattle.std.proofs.lemmas.Map.Text.{is_eq-slice_cmp}
 use Rattle.std.proofs.lemmas.Slice.Eq.{bytes_eq-Decides}
-use Rattle.tera_workspace.specs.Names.{is_among}
-
-same_name : (a n : List ℕ) → bytes_eq a n ≡ true → a ≡ n
-same_name a n e = (bytes_eq-Decides a n).0 e
+use Rattle.tera_workspace.specs.Names.{is_among, contains_name}
 
 -- one more name
-or_cond : (b c : Bool) → cond b true c ≡ (c || b)
-or_cond true true = refl
-or_cond true false = refl
-or_cond false true = refl
-or_cond false false = refl
+moved : (b c more : Bool) → (c || (if b then true else more)) ≡ (cond b true c || more)
+moved true true more = refl
+moved true false more = refl
+moved false c more = refl
 
-pub one_added : (key name : List ℕ) (s t : BTreeSet (String Global)) → key ≡ name
-    → sorted.UpdatesBy string_cmp (λ k. slice_cmp nat_cmp key (string_bytes k)) s t true
-    → (n : List ℕ) → contains_text t n ≡ (contains_text s n || bytes_eq name n)
-one_added key name s t same h n =
-    btree_set_updates_text key s t true h n ∙ or_cond (bytes_eq key n) (contains_text s n) ∙ ap (λ m. contains_text s n || bytes_eq m n) same
+pub name_added : (names : List (String Global)) (i : ℕ) (name : String Global) (key : Bor (List ℕ)) (s t : BTreeSet (Bor (List ℕ))) → i < length names → name ≡ get_or names i name → key.now ≡ string_bytes name
+    → UpdatesBy (λ x y. slice_cmp nat_cmp x.now y.now) (λ k. slice_cmp nat_cmp key.now k.now) s t true
+    → (n : List ℕ) → (contains_name s n || is_among n (map string_bytes (drop i names))) ≡ (contains_name t n || is_among n (map string_bytes (drop (i + 1) names)))
+name_added names i name key s t within is same h n =
+    let rest = is_among n (map string_bytes (drop (i + 1) names)) in
+    let now : contains_name t n ≡ cond (bytes_eq (string_bytes name) n) true (contains_name s n) =
+    h.0 (record { ref_ptr = (0, 0); now = n }) ∙ ap (λ b. cond b true (contains_name s n)) (is_eq-slice_cmp key.now n ∙ ap (λ m. bytes_eq m n) same) in
+    at_drop_more (λ ss. contains_name s n || is_among n (map string_bytes ss)) names i name within
+    ∙ ap (λ m. contains_name s n || (if bytes_eq (string_bytes m) n then true else rest)) (sym is)
+    ∙ moved (bytes_eq (string_bytes name) n) (contains_name s n) rest
+    ∙ ap (λ b. b || rest) (sym now)
 
-or_has : (b c : Bool) → (b ≡ true → c ≡ true) → c ≡ (c || b)
-or_has true c h = h refl ∙ ap (λ (d : Bool). d || true) (sym (h refl))
-or_has false true h = refl
-or_has false false h = refl
+or_false : (b : Bool) → (b || false) ≡ b
+or_false true = refl
+or_false false = refl
 
-pub has_it : (name : List ℕ) (s : BTreeSet (String Global)) → contains_text s name ≡ true → (n : List ℕ) → contains_text s n ≡ (contains_text s n || bytes_eq name n)
-has_it name s has n = or_has (bytes_eq name n) (contains_text s n) (λ e. ap (contains_text s) (sym (same_name name n e)) ∙ has)
+pub all_added : (names : List (String Global)) (i : ℕ) (s t : BTreeSet (Bor (List ℕ))) → length names ≤ i
+    → ((n : List ℕ) → (contains_name s n || is_among n (map string_bytes names)) ≡ (contains_name t n || is_among n (map string_bytes (drop i names))))
+    → (n : List ℕ) → contains_name t n ≡ (contains_name s n || is_among n (map string_bytes names))
+all_added names i s t over h n =
+    sym (h n ∙ at_drop_all (λ ss. contains_name t n || is_among n (map string_bytes ss)) names i over ∙ or_false (contains_name t n))
 
 pub drop_end : {X : Type 0} (xs : List X) (i : ℕ) → length xs ≤ i → drop i xs ≡ []
 drop_end [] zero h = refl

@@ -219,6 +219,24 @@ one_told_more i old now next all left rest j v within same is is_v next_is rest_
       to_come = ap (drop (suc i)) rest_is ∙ drop_set left i None ∙ drop_one left i ∙ ap (drop 1) h.to_come ∙ sym (drop_one all i);
     })
 
+-- where nothing is to be told of the next one
+some_at : (xs : List Judged) (i : ℕ) → i < length xs → (j : Judged) × (j ≡ get_or xs i j)
+some_at [] i h = absurd (omega arith)
+some_at (x ∷ xs) zero h = (x, refl)
+some_at (x ∷ xs) (suc i) h = some_at xs i (omega arith)
+
+set_same : {X : Type 0} (xs : List X) (i : ℕ) (x : X) → x ≡ get_or xs i x → xs ≡ set xs i x
+set_same [] i x is = refl
+set_same (y ∷ xs) zero x is = ap (λ z. z ∷ xs) (sym is)
+set_same (y ∷ xs) (suc i) x is = ap (λ ys. y ∷ ys) (set_same xs i x is)
+
+pub none_told_more : (i : ℕ) (old now next : List Judged) (all left rest : List News) (v : News) → i < length old → length all ≡ length old
+    → v ≡ get_or left i v → v ≡ None → next ≡ now → rest ≡ set left i None
+    → AreToldSoFar i old all now left → AreToldSoFar (i + 1) old all next rest
+none_told_more i old now next all left rest v within same is_v none next_is rest_is h =
+    let (j, is) = some_at now i (omega (arith, h.whole)) in
+    one_told_more i old now next all left rest j v within same is is_v (next_is ∙ set_same now i j is ∙ ap (λ x. set now i (told_one j x)) (sym none)) rest_is h
+
 -- ---- a test that failed
 
 pub refused : {P : Type 0} (r : Bool) → Decides r P → r ≡ false → P → ⊥

@@ -1,14 +1,15 @@
 -- Which components have the same heads.
-use Rattle.std.proofs.Common.{◌≡◌, ◌≢◌, ◌∙◌, ◌<◌, ◌+◌, ℕ, suc, List, [], ◌∷◌, ◌++◌, ◌||◌, length, drop, get_or, map, Bool, true, false, cond, Option, None, Some, String, string_bytes, refl, sym, ap, subst, inl, inr, arith}
+use Rattle.std.proofs.Common.{◌≡◌, ◌≢◌, ◌∙◌, ◌⊎◌, ◌<◌, ◌≤◌, ◌+◌, ℕ, suc, List, [], ◌∷◌, ◌++◌, ◌||◌, length, drop, get_or, map, Bool, true, false, cond, Option, None, Some, String, string_bytes, refl, sym, ap, subst, inl, inr, arith}
 use Rattle.std.proofs.Common.{if◌then◌else◌}
 use Rattle.std.specs.Str.{bytes_eq}
 use Rattle.std.specs.declared.alloc.Global.{Global}
-use Rattle.std.proofs.lemmas.List.{map-append}
+use Rattle.std.proofs.lemmas.List.{map-append, at_drop_more, at_drop_all}
+use Rattle.std.specs.List.{list_any}
 use Rattle.std.proofs.lemmas.Slice.Eq.{bytes_eq-Decides}
 use Rattle.tera_tree.specs.Tree.{Definition}
 use Rattle.tera_tree.specs.View.{definition_view}
 use Rattle.tera_tree.specs.declared.ast.ComponentDefinition.{ComponentDefinition}
-use Rattle.tera_workspace.specs.Heads.{definition_named, HaveOneHead, HaveOneHeadIfAny, AgreeOn}
+use Rattle.tera_workspace.specs.Heads.{definition_named, HaveOneHead, HaveOneHeadIfAny}
 use Rattle.tera_workspace.specs.Names.{is_among}
 use Rattle.tera_workspace.proofs.NameSets.{among_append, drop_next}
 use Rattle.tera_workspace.proofs.PlaceLemmas.{first_false, second_false, differ}
@@ -17,6 +18,10 @@ false_true : false ≡ true → ⊥
 false_true e = cc
 
 -- ---- a pair of definitions more
+
+-- two definitions have one head, or neither has this name
+abbrev pub AgreeOn : List ℕ → Definition → Definition → Type 0
+AgreeOn n d e = HaveOneHead d e ⊎ ((d.name ≢ n) × (e.name ≢ n))
 
 by_tests : (d e : Definition) (b c : Bool) (o p : Option Definition) → b ≡ c → HaveOneHead d e → HaveOneHeadIfAny o p → HaveOneHeadIfAny (cond b (Some d) o) (cond c (Some e) p)
 by_tests d e true true o p same head h = head
@@ -87,3 +92,23 @@ all_pushed n ds es start first now none is js free =
     let before : is_among n (map (λ d. d.name) ds) ≡ false = ap (is_among n) (sym (is ∙ ap (λ ns. ns ++ map (λ d. d.name) ds) none)) ∙ first_false (is_among n first) (is_among n (map (λ d. d.name) es)) both in
     subst (λ o. HaveOneHeadIfAny o (definition_named n es)) (sym (none_named n ds before))
     (subst (λ p. HaveOneHeadIfAny None p) (sym (none_named n es (second_false (is_among n first) (is_among n (map (λ d. d.name) es)) both))) tt)
+
+-- ---- names of which one is among others
+
+pub named_in : (n : List ℕ) (names : List (String Global)) → list_any (λ s. bytes_eq (string_bytes s) n) names ≡ is_among n (map string_bytes names)
+named_in n [] = refl
+named_in n (s ∷ names) = either (bytes_eq (string_bytes s) n) (list_any (λ t. bytes_eq (string_bytes t) n) names) (is_among n (map string_bytes names)) (named_in n names)
+  where
+    either : (b x y : Bool) → x ≡ y → (b || x) ≡ (if b then true else y)
+    either true x y h = refl
+    either false x y h = h
+
+pub any_next : (test : List ℕ → Bool) (names : List (String Global)) (i : ℕ) (s : String Global) (b : Bool) → i < length names → s ≡ get_or names i s → test (string_bytes s) ≡ b
+    → list_any test (map string_bytes (drop i names)) ≡ (b || list_any test (map string_bytes (drop (i + 1) names)))
+any_next test names i s b within is has =
+    at_drop_more (λ ss. list_any test (map string_bytes ss)) names i s within
+    ∙ ap (λ t. test (string_bytes t) || list_any test (map string_bytes (drop (i + 1) names))) (sym is)
+    ∙ ap (λ x. x || list_any test (map string_bytes (drop (i + 1) names))) has
+
+pub any_last : (test : List ℕ → Bool) (names : List (String Global)) (i : ℕ) → length names ≤ i → list_any test (map string_bytes (drop i names)) ≡ false
+any_last test names i over = at_drop_all (λ ss. list_any test (map string_bytes ss)) names i over

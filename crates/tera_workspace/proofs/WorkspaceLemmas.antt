@@ -1,12 +1,13 @@
 -- Workspaces of which some documents changed.
-use Rattle.std.proofs.Common.{◌≡◌, ◌∙◌, ℕ, List, [], ◌∷◌, ◌++◌, ◌||◌, map, Bool, true, false, cond, String, Vec, string_bytes, unwrap_or, Result, Ok, Err, OnOk, OnErr, refl, sym, ap, subst}
+use Rattle.std.proofs.Common.{◌≡◌, ◌∙◌, ℕ, List, [], ◌∷◌, ◌++◌, ◌||◌, map, Bool, true, false, cond, String, Vec, Bor, string_bytes, unwrap_or, Option, None, Some, Result, Ok, Err, OnOk, OnErr, refl, sym, ap, subst}
 use Rattle.std.proofs.Common.{if◌then◌else◌}
+use Rattle.std.specs.Option.{option_map, is_some}
 use Rattle.std.specs.Str.{bytes_eq}
 use Rattle.std.specs.declared.alloc.Global.{Global}
 use Rattle.std.proofs.lemmas.List.{map-append}
-use Rattle.text_documents.specs.Documents.{DocumentVal, text_of}
-use Rattle.text_documents.specs.Stored.{document_of, IsChangedAt, AreSame}
-use Rattle.text_documents.specs.declared.documents.Documents.{Documents}
+use Rattle.text_edits.specs.Documents.{DocumentVal, text_of}
+use Rattle.text_edits.specs.Stored.{document_of, IsChangedAt, AreSame}
+use Rattle.text_edits.specs.declared.documents.Documents.{Documents}
 use Rattle.tera_workspace.specs.Components.{files_by}
 use Rattle.tera_workspace.specs.Definitions.{file_by, AreRead}
 use Rattle.tera_workspace.specs.Fresh.{AreFresh}
@@ -116,6 +117,16 @@ are_read w k none = record {
   there = ap (files_by w.documents) (names_are w.judged.items);
 }
 
+-- whether a file is there, by the text that is found
+some_text : (o : Option (Bor (List ℕ))) → is_some (option_map (λ t. t.now) o) ≡ is_some o
+some_text None = refl
+some_text (Some t) = refl
+
+pub is_there : (ds : Documents) (file name : List ℕ) (text : Option (Bor (List ℕ))) (b : Bool) → name ≡ file → option_map (λ t. t.now) text ≡ text_of (document_of ds name) → b ≡ is_some text
+    → is_some (text_of (document_of ds file)) ≡ b
+is_there ds file name text b same is tests =
+    ap (λ n. is_some (text_of (document_of ds n))) (sym same) ∙ ap is_some (sym is) ∙ some_text text ∙ sym tests
+
 -- ---- all was told
 
 -- of what is not among the names nothing was told
@@ -157,20 +168,16 @@ kept_either (Err e) w ds changed key name change is same ok err k = kept_same w 
 
 -- ---- documents that were read, and told of
 
-module _ (w : Workspace) (changed : Vec (String Global) Global) (now : Vec Judged Global) (js : List Judged) (news : List News) (k : IsKept w) (stay : StayKept w.judged.items js)
-    (others : (n : List ℕ) → is_among n (map string_bytes w.changed.items) ≡ false → text_named n (sources_of js) ≡ text_named n (sources_of w.judged.items))
-    (read : (n : List ℕ) → is_among n (map string_bytes w.changed.items) ≡ true → text_named n (sources_of js) ≡ unwrap_or (text_of (document_of w.documents n)) [])
-    (are : AllWhole js → AreNews w.encoding js news) (is : now.items ≡ told_each js news) where
+module _ (w : Workspace) (now : Vec Judged Global) (news : List News) (k : IsKept w) (read : AreRead w)
+    (are : AllWhole w.judged.items → AreNews w.encoding w.judged.items news) (is : now.items ≡ told_each w.judged.items news) where
   abbrev settled : Workspace
-  settled = record w { changed = changed; judged = now }
+  settled = record w { judged = now }
 
-  texts : (n : List ℕ) → text_named n (sources_of js) ≡ unwrap_or (text_of (document_of w.documents n)) []
-  texts =
-      each_text (map string_bytes w.changed.items) (λ n. unwrap_or (text_of (document_of w.documents n)) []) (λ n. text_named n (sources_of w.judged.items)) (λ n. text_named n (sources_of js))
-      k.texts others read
+  texts : (n : List ℕ) → text_named n (sources_of w.judged.items) ≡ unwrap_or (text_of (document_of w.documents n)) []
+  texts n = ap (text_named n) read.texts ∙ read.are.texts n
 
   pub read_settled : IsSettled settled
-  read_settled = is_settled settled js news is (stay.whole k.whole) (stay.ordered k.ordered) (stay.current w.encoding k.whole k.current) (are (stay.whole k.whole)) texts
+  read_settled = is_settled settled w.judged.items news is k.whole k.ordered k.current (are k.whole) texts
 
   pub read_kept : IsKept settled
-  read_kept = kept_settled settled js news is (stay.whole k.whole) (stay.ordered k.ordered) (stay.current w.encoding k.whole k.current) (are (stay.whole k.whole)) texts
+  read_kept = kept_settled settled w.judged.items news is k.whole k.ordered k.current (are k.whole) texts

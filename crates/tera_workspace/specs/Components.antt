@@ -2,9 +2,9 @@
 use Rattle.std.specs.Prelude.{ℕ, List, [], map, filter, is_some}
 use Rattle.std.specs.List.{flat_map}
 use Rattle.std.specs.Option.{option_map_or}
-use Rattle.text_documents.specs.Documents.{text_of}
-use Rattle.text_documents.specs.Stored.{document_of}
-use Rattle.text_documents.specs.declared.documents.Documents.{Documents}
+use Rattle.text_edits.specs.Documents.{text_of}
+use Rattle.text_edits.specs.Stored.{document_of}
+use Rattle.text_edits.specs.declared.documents.Documents.{Documents}
 use Rattle.tera_check.specs.Judged.{KnownVal}
 use Rattle.tera_check.specs.Named.{definitions_of, first_named, defined_by}
 use Rattle.tera_check.specs.declared.templates.Template.{Template}

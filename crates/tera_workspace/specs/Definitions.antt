@@ -2,9 +2,9 @@
 use Rattle.std.specs.Prelude.{◌≡◌, ◌&&◌, ℕ, nat_eq, List, Bool, map, string_bytes, Option}
 use Rattle.std.specs.List.{find, ends_with}
 use Rattle.std.specs.Option.{option_map, is_some}
-use Rattle.text_documents.specs.Documents.{text_of}
-use Rattle.text_documents.specs.Stored.{document_of}
-use Rattle.text_documents.specs.declared.documents.Documents.{Documents}
+use Rattle.text_edits.specs.Documents.{text_of}
+use Rattle.text_edits.specs.Stored.{document_of}
+use Rattle.text_edits.specs.declared.documents.Documents.{Documents}
 use Rattle.text_edits.specs.declared.positions.Encoding.{Encoding}
 use Rattle.text_edits.specs.declared.positions.Position.{Position}
 use Rattle.tera_check.specs.Judged.{KnownVal}
@@ -15,8 +15,8 @@ use Rattle.tera_workspace.specs.Diagnostics.{position_in}
 use Rattle.tera_workspace.specs.Fresh.{AreTemplates}
 use Rattle.tera_workspace.specs.Kept.{name_of, sources_of, templates_of}
 use Rattle.tera_workspace.specs.Sources.{Source, AreSources, text_named}
-use Rattle.tera_workspace.specs.declared.definitions.Definition.{Definition}
-use Rattle.tera_workspace.specs.declared.texts.FileText.{FileText}
+use Rattle.tera_workspace.specs.declared.queries.Definition.{Definition}
+use Rattle.tera_workspace.specs.declared.queries.FileText.{FileText}
 use Rattle.tera_workspace.specs.declared.workspace.Workspace.{Workspace}
 
 -- a file, and the part of its text in which the name of a component stands, where it is defined

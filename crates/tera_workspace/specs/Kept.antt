@@ -1,6 +1,7 @@
 -- What documents that were judged stand for, and what is so of them.
 use Rattle.std.specs.Prelude.{◌≡◌, ◌||◌, if◌then◌else◌, ℕ, ◌<◌, ◌≤◌, List, [], ◌∷◌, Bool, true, false, cond, length, map, String, string_bytes, slice_index_or, MatchResult}
-use Rattle.std.specs.BTreeSet.{BTreeSet, contains_text}
+use Rattle.std.specs.BTreeSet.{BTreeSet}
+use Rattle.std.specs.Borrow.{Bor}
 use Rattle.std.specs.Cmp.Lexicographic.{slice_cmp}
 use Rattle.std.specs.List.{AllByRecursion, list_any}
 use Rattle.std.specs.Ordering.{nat_cmp, is_gt}
@@ -12,7 +13,7 @@ use Rattle.tera_check.specs.declared.templates.Template.{Template}
 use Rattle.text_edits.specs.declared.positions.Encoding.{Encoding}
 use Rattle.tera_workspace.specs.Diagnostics.{DiagnosticVal, diagnostic_view}
 use Rattle.tera_workspace.specs.Fresh.{IsRead, IsTold}
-use Rattle.tera_workspace.specs.Names.{is_among}
+use Rattle.tera_workspace.specs.Names.{is_among, contains_name}
 use Rattle.tera_workspace.specs.Sources.{Source, AreAscending, text_named}
 use Rattle.tera_workspace.specs.declared.diagnostics.Diagnostic.{Diagnostic}
 use Rattle.tera_workspace.specs.declared.judged.Judged.{Judged}
@@ -98,8 +99,8 @@ marked touched file j =
     record j { stale = if list_any (λ n. is_among n (map string_bytes j.names.items)) touched || is_told_in file j then true else j.stale }
 
 -- the names have all by which the documents are judged that are stale
-abbrev pub WantsAll : BTreeSet (String Global) → List Judged → Type 0
-WantsAll wanted js = AllByRecursion (λ j. j.stale ≡ true → (n : List ℕ) → is_among n (map string_bytes j.names.items) ≡ true → contains_text wanted n ≡ true) js
+abbrev pub WantsAll : BTreeSet (Bor (List ℕ)) → List Judged → Type 0
+WantsAll wanted js = AllByRecursion (λ j. j.stale ≡ true → (n : List ℕ) → is_among n (map string_bytes j.names.items) ≡ true → contains_name wanted n ≡ true) js
 
 -- ---- what stays so, whatever is read
 

@@ -5,9 +5,9 @@ use Rattle.std.specs.List.{AllByRecursion}
 use Rattle.std.specs.Ordering.{nat_cmp}
 use Rattle.std.specs.Str.{bytes_eq}
 use Rattle.std.specs.declared.cmp.Ordering.TheVariants.{Less}
-use Rattle.text_documents.specs.Documents.{text_of}
-use Rattle.text_documents.specs.Stored.{document_of}
-use Rattle.text_documents.specs.declared.documents.Documents.{Documents}
+use Rattle.text_edits.specs.Documents.{text_of}
+use Rattle.text_edits.specs.Stored.{document_of}
+use Rattle.text_edits.specs.declared.documents.Documents.{Documents}
 
 -- a file and its text
 pub record Source : Type 0 where

@@ -1,7 +1,7 @@
 -- What a workspace has, and when what it told is as it would be found afresh.
 use Rattle.std.specs.Prelude.{◌≡◌, ◌≢◌, ℕ, List, [], true, false, map, string_bytes, unwrap_or}
-use Rattle.text_documents.specs.Documents.{text_of}
-use Rattle.text_documents.specs.Stored.{document_of}
+use Rattle.text_edits.specs.Documents.{text_of}
+use Rattle.text_edits.specs.Stored.{document_of}
 use Rattle.tera_workspace.specs.Diagnostics.{DiagnosticVal}
 use Rattle.tera_workspace.specs.Fresh.{AreFresh}
 use Rattle.tera_workspace.specs.Kept.{sources_of, told_named, AllWhole, AreCurrent}

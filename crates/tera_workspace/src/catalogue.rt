@@ -1,84 +1,63 @@
-//! The components of some names.
+//! The components that documents define, by their names.
 
-ghost use Rattle.std.specs.Prelude.{◌≡◌, ◌∷◌, [], ℕ, List, true, map, IfOk, OnOk};
-ghost use Rattle.std.specs.BTreeSet.{contains_text};
-ghost use Rattle.tera_tree.specs.View.{definition_view};
+ghost use Rattle.std.specs.Prelude.{◌≡◌, ℕ, List, true, IfOk, OnOk};
+ghost use Rattle.std.specs.Option.{option_map};
 ghost use Rattle.tera_check.specs.Judged.{known_view};
-ghost use Rattle.tera_check.specs.Named.{known_in, defined_from, defined_in, defined_by, first_named, or_else};
+ghost use Rattle.tera_check.specs.Named.{known_in, defined_in, defined_by, first_named, or_else};
 ghost use Rattle.tera_workspace.specs.Kept.{templates_of};
+ghost use Rattle.tera_workspace.specs.Names.{contains_name};
 
-use crate::judged::Judged;
+use crate::judged::{Judged, definitions_of};
 use std::alloc::{AllocError, Global};
 use std::collections::{BTreeMap, BTreeSet};
 use tera_check::{Catalogue, Known, Template, known_at};
-use tera_parser::ParserOutput;
+
+/// The component of this name, of the first document that defines one.
+pub(crate) fn first_known<'a>(all: &'a Vec<Judged>, name: &str) -> Option<Known<'a>>
+    ensures { option_map known_view result ≡ first_named name.now (defined_by 0 (templates_of all.now.items)) }
+{
+    for (number, judged) in all.iter().enumerate() {
+        for (at, definition) in definitions_of(&judged.template).iter().enumerate() {
+            if definition.name.as_str() == name {
+                return Some(known_at(number, &judged.template, at, definition));
+            }
+        }
+    }
+    None
+}
 
 /// The components of these names, each of the first document that defines one.
 pub(crate) fn catalogue_for<'a>(
     alloc: Global,
     all: &'a Vec<Judged>,
-    wanted: &BTreeSet<String>,
+    wanted: &BTreeSet<&str>,
 ) -> Result<Catalogue<'a>, AllocError>
-    ensures { IfOk result (λ c. (n : List ℕ) → contains_text wanted.now n ≡ true →
+    ensures { IfOk result (λ c. (n : List ℕ) → contains_name wanted.now n ≡ true →
         known_in c n ≡ first_named n (defined_by 0 (templates_of all.now.items))) }
 {
     let mut catalogue = BTreeMap::new(alloc);
     for (number, judged) in all.iter().enumerate() {
-        add_template(alloc, &mut catalogue, wanted, number, &judged.template)?;
+        add_template(&mut catalogue, wanted, number, &judged.template)?;
     }
     Ok(catalogue)
 }
 
+// Adds the components of these names that the template defines, unless there is one of the name.
 fn add_template<'a>(
-    alloc: Global,
     catalogue: &mut Catalogue<'a>,
-    wanted: &BTreeSet<String>,
+    wanted: &BTreeSet<&str>,
     number: usize,
     template: &'a Template,
 ) -> Result<(), AllocError>
-    ensures { OnOk result ((n : List ℕ) → contains_text wanted.now n ≡ true → known_in catalogue.new n
+    ensures { OnOk result ((n : List ℕ) → contains_name wanted.now n ≡ true → known_in catalogue.new n
         ≡ or_else (known_in catalogue.old n) (first_named n (defined_in number template.now))) }
 {
-    match &template.parsed {
-        Ok(output) => add_all(alloc, catalogue, wanted, number, template, output),
-        Err(_) => Ok(()),
+    for (at, definition) in definitions_of(template).iter().enumerate() {
+        let name = definition.name.as_str();
+        if wanted.contains(name) && !catalogue.contains_key(name) {
+            let known = known_at(number, template, at, definition);
+            catalogue.insert(definition.name.clone()?, known)?;
+        }
     }
-}
-
-fn add_all<'a>(
-    alloc: Global,
-    catalogue: &mut Catalogue<'a>,
-    wanted: &BTreeSet<String>,
-    number: usize,
-    template: &'a Template,
-    output: &'a ParserOutput,
-) -> Result<(), AllocError>
-    ensures { OnOk result ((n : List ℕ) → contains_text wanted.now n ≡ true → known_in catalogue.new n
-        ≡ or_else (known_in catalogue.old n) (first_named n
-        (defined_from number template.now 0 (map definition_view
-        output.now.component_definitions.items)))) }
-{
-    for (at, definition) in output.component_definitions.iter().enumerate() {
-        let known = known_at(number, template, at, definition);
-        add(alloc, catalogue, wanted, known)?;
-    }
-    Ok(())
-}
-
-// Adds the component where its name is wanted, unless there is one of that name.
-fn add<'a>(
-    alloc: Global,
-    catalogue: &mut Catalogue<'a>,
-    wanted: &BTreeSet<String>,
-    known: Known<'a>,
-) -> Result<(), AllocError>
-    ensures { OnOk result ((n : List ℕ) → contains_text wanted.now n ≡ true → known_in catalogue.new n
-        ≡ or_else (known_in catalogue.old n) (first_named n (known_view known.entry ∷ []))) }
-{
-    let name = known.definition.name.as_str();
-    if !wanted.contains(name) || catalogue.contains_key(name) {
-        return Ok(());
-    }
-    catalogue.insert(String::from_str(alloc, name)?, known)?;
     Ok(())
 }

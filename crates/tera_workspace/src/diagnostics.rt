@@ -7,7 +7,6 @@ ghost use Rattle.tera_workspace.specs.Kept.{sources_of};
 ghost use Rattle.tera_workspace.specs.Sources.{text_named};
 
 use crate::judged::{Judged, number_of};
-use crate::lined_text::LinedText;
 use std::alloc::{AllocError, Global};
 use tera_check::{Finding, Kind, Note};
 use tera_parser::value::Span;
@@ -46,31 +45,17 @@ pub(crate) fn diagnostics_of(
 {
     let mut diagnostics = Vec::new(alloc);
     for finding in findings {
-        diagnostics.push(diagnostic_for(alloc, encoding, all, judged, finding)?)?;
+        let (start, end) = judged.text.ends_of(encoding, &finding.span);
+        let related = related_of(alloc, encoding, all, finding.notes)?;
+        diagnostics.push(Diagnostic {
+            kind: finding.kind,
+            start,
+            end,
+            message: finding.message,
+            related,
+        })?;
     }
     Ok(diagnostics)
-}
-
-fn diagnostic_for(
-    alloc: Global,
-    encoding: Encoding,
-    all: &Vec<Judged>,
-    judged: &Judged,
-    finding: Finding,
-) -> Result<Diagnostic, AllocError>
-    ensures { IfOk result (λ d. diagnostic_view d
-        ≡ diagnostic_of encoding (sources_of all.now.items) judged.now.text
-        (finding_view finding)) }
-{
-    let (start, end) = ends_of(&judged.text, encoding, &finding.span);
-    let related = related_of(alloc, encoding, all, finding.notes)?;
-    Ok(Diagnostic {
-        kind: finding.kind,
-        start,
-        end,
-        message: finding.message,
-        related,
-    })
 }
 
 fn related_of(
@@ -106,10 +91,7 @@ pub(crate) fn ends_in(
         result ≡ (position_in encoding text span.now.range.start, position_in encoding text span.now.range.end) }
 {
     match number_of(all, name) {
-        Some(number) => {
-            let judged = &all[number];
-            ends_of(&judged.text, encoding, span)
-        }
+        Some(number) => all[number].text.ends_of(encoding, span),
         None => {
             let first = Position {
                 line: 0,
@@ -118,14 +100,4 @@ pub(crate) fn ends_in(
             (first, first)
         }
     }
-}
-
-// Where the span begins and ends in the text.
-fn ends_of(text: &LinedText, encoding: Encoding, span: &Span) -> (Position, Position)
-    ensures { result ≡ (position_in encoding text.now span.now.range.start, position_in encoding text.now span.now.range.end) }
-{
-    (
-        text.position_at(encoding, span.range.start),
-        text.position_at(encoding, span.range.end),
-    )
 }

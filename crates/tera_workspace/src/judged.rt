@@ -2,12 +2,9 @@
 
 ghost use Rattle.std.specs.Prelude.{◌≡◌, ◌++◌, IfOk, OnOk, map, length, string_bytes, MatchOption};
 ghost use Rattle.std.specs.List.{flat_map};
-ghost use Rattle.tera_base.specs.Spanned.{node_of, span_of};
-ghost use Rattle.tera_ast.specs.View.{call_view};
-ghost use Rattle.tera_tree.specs.Outputs.{output_view};
 ghost use Rattle.tera_tree.specs.View.{definition_view};
-ghost use Rattle.tera_check.specs.Alike.{name_called, names_in};
-ghost use Rattle.tera_check.specs.Calls.{calls_of as calls_in_tree};
+ghost use Rattle.tera_check.specs.Alike.{name_called};
+ghost use Rattle.tera_check.specs.Named.{definitions_of};
 ghost use Rattle.tera_check.specs.Pending.{seen};
 ghost use Rattle.tera_workspace.specs.Kept.{HasNames, IsAnew, NoneBefore, IsNumbered};
 
@@ -15,7 +12,6 @@ use crate::diagnostics::Diagnostic;
 use crate::lined_text::LinedText;
 use std::alloc::{AllocError, Global};
 use tera_check::{Template, calls_of, read_template};
-use tera_parser::ParserOutput;
 use tera_parser::ast::{ComponentCall, ComponentDefinition};
 use tera_parser::value::Spanned;
 
@@ -36,11 +32,11 @@ impl Judged {
     pub(crate) fn read(alloc: Global, name: &str, text: &str) -> Result<Judged, AllocError>
         ensures { IfOk result (IsAnew name.now text.now) }
     {
+        let lined = LinedText::of(alloc, text)?;
         let template = read_template(alloc, name, text)?;
         let names = names_of(alloc, &template)?;
-        let text = LinedText::of(alloc, text)?;
         Ok(Judged {
-            text,
+            text: lined,
             template,
             names,
             stale: true,
@@ -49,22 +45,14 @@ impl Judged {
     }
 }
 
-fn names_of(alloc: Global, template: &Template) -> Result<Vec<String>, AllocError>
-    ensures { IfOk result (λ v. HasNames v.items template.now) }
+/// The components that the template defines.
+pub(crate) fn definitions_of(template: &Template) -> &[ComponentDefinition]
+    ensures { map definition_view result.now ≡ definitions_of template.now.parsed }
 {
     match &template.parsed {
-        Ok(output) => names_of_tree(alloc, output),
-        Err(_) => Ok(Vec::new(alloc)),
+        Ok(output) => output.component_definitions.as_slice(),
+        Err(_) => &[],
     }
-}
-
-fn names_of_tree(alloc: Global, output: &ParserOutput) -> Result<Vec<String>, AllocError>
-    ensures { IfOk result (λ v. map string_bytes v.items ≡ names_in (output_view output.now)) }
-{
-    let mut names = Vec::new(alloc);
-    push_defined(&mut names, output.component_definitions.as_slice())?;
-    push_called(alloc, &mut names, output)?;
-    Ok(names)
 }
 
 /// Adds the names of the components that have these definitions.
@@ -81,19 +69,20 @@ pub(crate) fn push_defined(
     Ok(())
 }
 
-fn push_called(
-    alloc: Global,
-    names: &mut Vec<String>,
-    output: &ParserOutput,
-) -> Result<(), AllocError>
-    ensures { OnOk result (map string_bytes names.new.items ≡ map string_bytes names.old.items
-        ++ flat_map name_called (calls_in_tree (output_view output.now))) }
+fn names_of(alloc: Global, template: &Template) -> Result<Vec<String>, AllocError>
+    ensures { IfOk result (λ v. HasNames v.items template.now) }
 {
-    let calls = calls_of(alloc, output)?;
-    push_calls(names, &calls)
+    let mut names = Vec::new(alloc);
+    let Ok(output) = &template.parsed else {
+        return Ok(names);
+    };
+    push_defined(&mut names, output.component_definitions.as_slice())?;
+    push_called(&mut names, &calls_of(alloc, output)?)?;
+    Ok(names)
 }
 
-fn push_calls(
+// Adds the names of the components that are called.
+fn push_called(
     names: &mut Vec<String>,
     calls: &Vec<&Spanned<ComponentCall>>,
 ) -> Result<(), AllocError>
@@ -101,16 +90,8 @@ fn push_calls(
         ++ flat_map name_called (map seen calls.now.items)) }
 {
     for call in calls {
-        push_call(names, call)?;
+        names.push(call.node().name.clone()?)?;
     }
-    Ok(())
-}
-
-fn push_call(names: &mut Vec<String>, call: &Spanned<ComponentCall>) -> Result<(), AllocError>
-    ensures { OnOk result (map string_bytes names.new.items ≡ map string_bytes names.old.items
-        ++ name_called (call_view (node_of call.now) (span_of call.now))) }
-{
-    names.push(call.node().name.clone()?)?;
     Ok(())
 }
 

@@ -1,6 +1,6 @@
 //! The findings of templates that are open in an editor or stand on disk, kept while they change.
 //!
-//! It takes documents as `text_documents` keeps them, and tells what `tera_check` finds in each, with positions of
+//! It takes documents as `text_edits` keeps them, and tells what `tera_check` finds in each, with positions of
 //! `text_edits` in the place of spans. After an edit the document is read again, unless it has the text that was judged;
 //! judged again are it and those that name a component that may be another now, or that were told a place in it: all of
 //! them, where the document is new.
@@ -9,24 +9,20 @@
 //!
 //! In the order of reading: specs `Sources`, `Diagnostics`, `Fresh`, `Workspaces`; `diagnostics`; `judged`, a document as
 //! it was judged; `reading`, and `touched`, what a new text changes for others; `catalogue`; `news`; specs `Components` and
-//! `Definitions`; `components`, `definitions` and `texts`; `workspace`.
+//! `Definitions`; `workspace`; `queries`.
 #![tactic(auto)]
 
 mod catalogue;
-mod components;
-mod definitions;
 mod diagnostics;
 mod judged;
 pub mod laws;
 mod lined_text;
-mod names;
 mod news;
+mod queries;
 mod reading;
-mod texts;
 mod touched;
 mod workspace;
 
-pub use definitions::Definition;
 pub use diagnostics::{Diagnostic, Related};
-pub use texts::FileText;
+pub use queries::{Definition, FileText};
 pub use workspace::Workspace;

@@ -5,6 +5,7 @@ ghost use Rattle.tera_workspace.specs.Diagnostics.{position_in};
 
 use std::alloc::{AllocError, Global};
 use std::marker::Model;
+use tera_parser::value::Span;
 use text_edits::{Encoding, Lines, Position, position_at};
 
 /// A text, and where its lines begin.
@@ -40,10 +41,14 @@ impl LinedText {
         self.text.as_str()
     }
 
-    /// The position of a byte.
-    pub(crate) fn position_at(&self, encoding: Encoding, byte: usize) -> Position
-        ensures { result ≡ position_in encoding self.now byte }
+    /// Where the span begins and ends.
+    pub(crate) fn ends_of(&self, encoding: Encoding, span: &Span) -> (Position, Position)
+        ensures { result ≡ (position_in encoding self.now span.now.range.start, position_in encoding self.now span.now.range.end) }
     {
-        position_at(self.text.as_str(), &self.lines, encoding, byte)
+        let text = self.text.as_str();
+        (
+            position_at(text, &self.lines, encoding, span.range.start),
+            position_at(text, &self.lines, encoding, span.range.end),
+        )
     }
 }

@@ -10,10 +10,8 @@ ghost use Rattle.tera_workspace.specs.Told.{IsNews, AreNews, AreOfOthers, told_o
 use crate::catalogue::catalogue_for;
 use crate::diagnostics::{Diagnostic, diagnostics_of};
 use crate::judged::Judged;
-use crate::names::add_all;
 use std::alloc::{AllocError, Global};
 use std::collections::BTreeSet;
-use std::mem;
 use tera_check::{Catalogue, findings_of};
 use text_edits::Encoding;
 
@@ -57,13 +55,15 @@ fn news_of_one(
 }
 
 // The names of the components by which those are judged that are stale.
-fn wanted_of(alloc: Global, all: &Vec<Judged>) -> Result<BTreeSet<String>, AllocError>
+fn wanted_of(alloc: Global, all: &Vec<Judged>) -> Result<BTreeSet<&str>, AllocError>
     ensures { IfOk result (λ s. WantsAll s all.now.items) }
 {
     let mut wanted = BTreeSet::new(alloc);
     for judged in all {
         if judged.stale {
-            add_all(alloc, &mut wanted, &judged.names)?;
+            for name in &judged.names {
+                wanted.insert(name.as_str())?;
+            }
         }
     }
     Ok(wanted)
@@ -104,16 +104,10 @@ pub(crate) fn tell(all: &mut Vec<Judged>, news: Vec<Option<Vec<Diagnostic>>>)
 {
     let mut news = news;
     for number in 0..all.len() {
-        let diagnostics = mem::replace(&mut news[number], None);
-        tell_one(&mut all[number], diagnostics);
-    }
-}
-
-fn tell_one(judged: &mut Judged, news: Option<Vec<Diagnostic>>)
-    ensures { judged.new ≡ told_one judged.old news }
-{
-    if let Some(diagnostics) = news {
-        judged.told = diagnostics;
-        judged.stale = false;
+        if let Some(diagnostics) = news[number].take() {
+            let judged = &mut all[number];
+            judged.told = diagnostics;
+            judged.stale = false;
+        }
     }
 }

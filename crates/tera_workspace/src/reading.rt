@@ -1,8 +1,8 @@
 //! Reading documents that changed.
 
 ghost use Rattle.std.specs.Prelude.{◌≡◌, ℕ, List, [], true, false, map, string_bytes, length, unwrap_or, OnOk, OnErr};
-ghost use Rattle.text_documents.specs.Documents.{text_of};
-ghost use Rattle.text_documents.specs.Stored.{document_of};
+ghost use Rattle.text_edits.specs.Documents.{text_of};
+ghost use Rattle.text_edits.specs.Stored.{document_of};
 ghost use Rattle.tera_workspace.specs.Kept.{sources_of, IsAnew, NoneBefore, IsNumbered, StayKept, IsTextAt, IsPlaceOf, unsettled};
 ghost use Rattle.tera_workspace.specs.Names.{is_among};
 ghost use Rattle.tera_workspace.specs.Sources.{text_named};
@@ -11,7 +11,7 @@ use crate::judged::{Judged, number_of};
 use crate::touched::{mark, touched_names};
 use std::alloc::{AllocError, Global};
 use std::mem;
-use text_documents::Documents;
+use text_edits::Documents;
 
 /// Reads the documents of these names, and marks those whose findings may be others by that.
 pub(crate) fn read_changed(
@@ -33,35 +33,18 @@ pub(crate) fn read_changed(
     Ok(())
 }
 
-// Judges the document of this name by this text from now on, and marks those whose findings may be others by that.
+// Judges the document of this name by this text from now on, and marks those whose findings may be others by that. By the
+// text by which it was judged it is not read again.
 fn put(alloc: Global, all: &mut Vec<Judged>, name: &str, text: &str) -> Result<(), AllocError>
     ensures kept { StayKept all.old.items all.new.items }
     ensures read { OnOk result (IsTextAt name.now text.now all.old.items all.new.items) }
     ensures err { OnErr result (all.new.items ≡ all.old.items) }
 {
     match number_of(all, name) {
-        Some(number) => put_at(alloc, all, number, name, text),
+        Some(number) if all[number].text.as_str() == text => Ok(()),
+        Some(number) => replace(alloc, all, number, Judged::read(alloc, name, text)?, name),
         None => insert(all, Judged::read(alloc, name, text)?, name),
     }
-}
-
-// Of one that was judged. By the same text it is not read again.
-fn put_at(
-    alloc: Global,
-    all: &mut Vec<Judged>,
-    number: usize,
-    name: &str,
-    text: &str,
-) -> Result<(), AllocError>
-    requires { IsNumbered name.now all.old.items number }
-    ensures kept { StayKept all.old.items all.new.items }
-    ensures read { OnOk result (IsTextAt name.now text.now all.old.items all.new.items) }
-    ensures err { OnErr result (all.new.items ≡ all.old.items) }
-{
-    if all[number].text.as_str() == text {
-        return Ok(());
-    }
-    replace(alloc, all, number, Judged::read(alloc, name, text)?, name)
 }
 
 // In the place of one that was judged.
@@ -81,7 +64,7 @@ fn replace(
     let mut judged = judged;
     let touched = touched_names(alloc, &all[number].template, &judged.template)?;
     mark(all, &touched, name);
-    judged.told = mem::replace(&mut all[number].told, Vec::new(alloc));
+    mem::swap(&mut judged.told, &mut all[number].told);
     all[number] = judged;
     Ok(())
 }

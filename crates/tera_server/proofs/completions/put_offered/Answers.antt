@@ -1,19 +1,25 @@
-use Rattle.std.proofs.Common.{map, string_bytes, refl, append_assoc}
-use Rattle.tera_outline.specs.Names.{names_of}
-use Rattle.tera_outline.specs.Pieces.{part_of}
-use Rattle.tera_tree.specs.Calls.{once_each}
-use Rattle.tera_server.specs.Completions.{item_json, item_tokens, kind_number, offered}
-use Rattle.tera_server.proofs.ArrayLemmas.{items_written}
+use Rattle.std.proofs.Common.{◌∙◌, ◌++◌, ℕ, List, map, string_bytes, ap}
+use Rattle.json.specs.Json.{array}
+use Rattle.json.specs.Tree.{json_tokens}
+use Rattle.json.specs.Value.{items_of}
+use Rattle.tera_outline.specs.Names.{name_view}
+use Rattle.tera_tree.specs.Calls.{texts, once_each}
+use Rattle.tera_server.specs.Completions.{item_json, kind_number, offered}
 use Rattle.tera_server.proofs.Tails.{and_so}
 use Rattle.tera_server.proofs.completions.put_offered.Goals as goal
 
 pub returns-clause-tokens : goal.returns-clause-tokens
-unfolding item_tokens
 returns-clause-tokens c =
     let place = c.args.place in
-    let offering = c.args.offering in
-    and_so c.end_array.result c.end_array.ensures.ok
-    (λ h. rw (items_written (item_json place.start place.end (kind_number place.kind))
-    (once_each (offered offering.workspace.now (map string_bytes offering.folders.now.items) (names_of (map part_of c.args.pieces.now)) place.kind)))
-    (rw (h, c.in_ok-put_items.ensures.tokens, c.in_ok-begin_array.ensures.ok, c.in_ok-sorted.ensures, c.as_slice-2.ensures.value, c.in_ok-names.ensures, c.as_slice.ensures.value, c.in_ok-named.ensures)
-    (simp append_assoc refl)))
+    let w = c.args.offering.workspace.now in
+    let folders = map string_bytes c.args.offering.folders.now.items in
+    let written = λ (names : List (List ℕ)). c.args.out.now.tokens ++ json_tokens (array (items_of (map (item_json place.start place.end (kind_number place.kind)) names))) in
+    and_so c.put_items.result c.put_items.ensures.tokens
+    (λ h. h
+    ∙ ap written
+    (c.in_ok-sorted.ensures
+    ∙ ap (λ names. once_each (texts names)) c.as_slice-2.ensures.value
+    ∙ ap once_each
+    (c.in_ok-names.ensures
+    ∙ ap (λ named. offered w folders (map name_view named) place.kind) c.as_slice.ensures.value
+    ∙ ap (λ named. offered w folders named place.kind) c.in_ok-named.ensures)))

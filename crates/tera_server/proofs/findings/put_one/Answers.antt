@@ -6,6 +6,6 @@ use Rattle.tera_server.proofs.findings.put_one.Goals as goal
 pub returns-clause-tokens : goal.returns-clause-tokens
 unfolding one_related
 returns-clause-tokens c =
-    and_so c.put_tokens.result c.put_tokens.ensures.tokens
-    (λ h. rw (h, c.in_ok-put_place.ensures.tokens, c.in_ok-begin_object.ensures.ok)
-    (simp (append_assoc, c.as_str.ensures.value) refl))
+    and_so c.put_tokens-2.result c.put_tokens-2.ensures.tokens
+    (λ h. rw (h, c.in_ok-put_location.ensures.tokens, c.in_ok-put_tokens.ensures.tokens)
+    (simp (append_assoc, c.as_str-3.ensures.value, c.as_str-2.ensures.value, c.in_ok-uri.ensures, c.as_str.ensures.value) refl))

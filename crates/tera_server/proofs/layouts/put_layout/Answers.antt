@@ -5,6 +5,7 @@ use Rattle.tera_layout.specs.Layout.{laid_out}
 use Rattle.tera_lexer.specs.grammar.Marks.{default_marks}
 use Rattle.tera_server.specs.Layouts.{edit_json, AreEdits, IsLayoutOf}
 use Rattle.tera_server.proofs.LayoutLemmas.{same_without_white}
+use Rattle.tera_server.proofs.Tails.{and_so}
 use Rattle.tera_server.proofs.layouts.put_layout.Goals as goal
 
 pub put_edits_to-requires : goal.put_edits_to-requires
@@ -12,18 +13,18 @@ put_edits_to-requires c =
     let laid : laid_out default_marks c.args.text.now ≡ Some (string_bytes c.in-Some.layout) = c.in_ok-layout.ensures ∙ ap (option_map string_bytes) c.in-Some.is in
     rw c.as_str.ensures.value (same_without_white c.args.text.now (string_bytes c.in-Some.layout) laid)
 
-pub returns-in_ok-put_edits_to-in-Some-clause-tokens : goal.returns-in_ok-put_edits_to-in-Some-clause-tokens
-returns-in_ok-put_edits_to-in-Some-clause-tokens c =
+pub returns-in-Some-clause-tokens : goal.returns-in-Some-clause-tokens
+returns-in-Some-clause-tokens c =
     let text = c.args.text.now in
     let laid : laid_out default_marks text ≡ Some (string_bytes c.in-Some.layout) = c.in_ok-layout.ensures ∙ ap (option_map string_bytes) c.in-Some.is in
-    let given = c.in_ok-put_edits_to-in-Some.ensures.tokens in
+    and_so c.put_edits_to.result c.put_edits_to.ensures.tokens (λ given.
     let edits = given.0 in
     let written = array (items_of (map (edit_json c.args.encoding text) edits)) in
     let are : AreEdits text (string_bytes c.in-Some.layout) edits = subst (λ l. AreEdits text l edits) c.as_str.ensures.value given.1 in
-    (written, subst (λ o. IsLayoutOf c.args.encoding text o written) (sym laid) (edits, are, refl), given.2)
+    (written, subst (λ o. IsLayoutOf c.args.encoding text o written) (sym laid) (edits, are, refl), given.2))
 
-pub returns-in_ok-null-in-None-clause-tokens : goal.returns-in_ok-null-in-None-clause-tokens
-returns-in_ok-null-in-None-clause-tokens c =
+pub returns-in-None-clause-tokens : goal.returns-in-None-clause-tokens
+returns-in-None-clause-tokens c =
     let text = c.args.text.now in
     let laid : laid_out default_marks text ≡ None = c.in_ok-layout.ensures ∙ ap (option_map string_bytes) c.in-None.is in
-    (null, subst (λ o. IsLayoutOf c.args.encoding text o null) (sym laid) refl, c.in_ok-null-in-None.ensures.ok)
+    and_so c.null.result c.null.ensures.ok (λ h. (null, subst (λ o. IsLayoutOf c.args.encoding text o null) (sym laid) refl, h))

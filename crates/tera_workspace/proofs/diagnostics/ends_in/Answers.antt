@@ -13,8 +13,8 @@ returns-in-Some c =
     let items = c.args.all.now.items in
     let e = c.args.encoding in
     let range = c.args.span.now.range in
-    let j = c.index-judged.result.now in
-    let is : j ≡ get_or items c.in-Some.number j = get_or_read items c.in-Some.number j c.in-Some.ensures.within c.index-judged.ensures j in
+    let j = c.index.result.now in
+    let is : j ≡ get_or items c.in-Some.number j = get_or_read items c.in-Some.number j c.in-Some.ensures.within c.index.ensures j in
     let same : j.text ≡ text_named c.args.name.now (sources_of items) = ap (λ (x : Judged). x.text) is ∙ sym (text_numbered c.args.name.now items c.in-Some.number j c.in-Some.ensures) in
     c.ends_of.ensures ∙ ap (λ text. (position_in e text range.start, position_in e text range.end)) same
 

@@ -1,6 +1,6 @@
 use Rattle.std.proofs.Common.{◌≡◌, ◌∙◌, ◌<◌, [], length, map, string_bytes, unwrap_or, refl, ap, subst, arith}
-use Rattle.text_documents.specs.Documents.{text_of}
-use Rattle.text_documents.specs.Stored.{document_of}
+use Rattle.text_edits.specs.Documents.{text_of}
+use Rattle.text_edits.specs.Stored.{document_of}
 use Rattle.tera_workspace.specs.Kept.{sources_of, IsTextAt}
 use Rattle.tera_workspace.specs.Names.{is_among}
 use Rattle.tera_workspace.specs.Sources.{text_named}

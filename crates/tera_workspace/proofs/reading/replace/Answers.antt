@@ -20,7 +20,7 @@ returns-clause-kept c =
     c.index.ensures c.in_ok-touched.ensures in
     subst (StayKept js)
     (sym (put_is name touched js c.args.number j d c.requires.number c.requires.anew heads c.mark.new.all.items c.index_mut.result.now
-    (record c.index_mut.result.now { told = c.replace.new.dest }) c.replace.result c.mark.ensures c.index_mut.ensures.value c.replace.ensures.value))
+    (record c.index_mut.result.now { told = c.swap.new.y }) c.swap.new.x c.mark.ensures c.index_mut.ensures.value c.swap.ensures.x_after))
     (put_kept name touched js c.args.number j d c.requires.number c.requires.anew heads)
 
 pub returns-clause-read : goal.returns-clause-read
@@ -36,5 +36,5 @@ returns-clause-read c =
     c.index.ensures c.in_ok-touched.ensures in
     subst (IsTextAt name j.text js)
     (sym (put_is name touched js c.args.number j d c.requires.number c.requires.anew heads c.mark.new.all.items c.index_mut.result.now
-    (record c.index_mut.result.now { told = c.replace.new.dest }) c.replace.result c.mark.ensures c.index_mut.ensures.value c.replace.ensures.value))
+    (record c.index_mut.result.now { told = c.swap.new.y }) c.swap.new.x c.mark.ensures c.index_mut.ensures.value c.swap.ensures.x_after))
     (put_text name touched js c.args.number j d c.requires.number c.requires.anew heads)

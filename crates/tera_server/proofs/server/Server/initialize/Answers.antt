@@ -24,7 +24,7 @@ returns-clause-begun c =
       },
       answered id (abilities_json (client_in (seen c.args.params)).encoding) c.put_abilities.new.out.before c.in_ok-answer.answer.items c.put_abilities.new.out.tokens
           c.in_ok-answer.ensures.bytes
-          (c.in_ok-put_abilities.ensures.before ∙ c.in_ok-writer.ensures.before)
-          (c.in_ok-put_abilities.ensures.tokens ∙ ap (λ ts. ts ++ json_tokens (abilities_json c.of-client.result.encoding)) c.in_ok-writer.ensures.tokens
+          (c.in_ok-put_abilities.ensures.before ∙ c.in_ok-out.ensures.before)
+          (c.in_ok-put_abilities.ensures.tokens ∙ ap (λ ts. ts ++ json_tokens (abilities_json c.of-client.result.encoding)) c.in_ok-out.ensures.tokens
           ∙ ap (λ (k : Client). answer_begin id ++ json_tokens (abilities_json k.encoding)) client),
     )

@@ -1,33 +1,17 @@
-use Rattle.std.proofs.Common.{codes, subst, OnOk, OnErr}
-use Rattle.protocol_values.specs.Members.{seen, member_of, text_in}
-use Rattle.tera_server.specs.Notes.{uri_told, version_of, IsOpened, IsClosed, IsHeldBut}
-use Rattle.tera_server.proofs.StepLemmas.{opened_step, changed_step, closed_step}
+use Rattle.std.proofs.Common.{subst}
+use Rattle.protocol_values.specs.Members.{seen}
+use Rattle.tera_server.specs.Notes.{Edits}
+use Rattle.tera_server.proofs.HandleLemmas.{noted_follows}
+use Rattle.tera_server.proofs.StepLemmas.{document_step}
 use Rattle.tera_server.proofs.server.Server.note.Goals as goal
 
-pub returns-in-Opened-clause-in_step : goal.returns-in-Opened-clause-in_step
-returns-in-Opened-clause-in_step c =
+pub returns-in-OfDocument-clause-in_step : goal.returns-in-OfDocument-clause-in_step
+returns-in-OfDocument-clause-in_step c =
     let s = c.args.self.now in
-    let t = c.did_open.new.self in
-    let r = c.did_open.result in
-    λ texts now edits phase h.
-    opened_step c.args.noted (seen c.args.params) s t r c.in-Opened.is
-    (subst (λ d. OnOk r (IsOpened (uri_told d) (text_in (member_of (codes "text") d)) (version_of d) s t)) c.member.ensures c.did_open.ensures.opened)
-    (subst (λ d. OnErr r (IsHeldBut (uri_told d) s t)) c.member.ensures c.did_open.ensures.err)
-    texts now edits h
-
-pub returns-in-Changed-clause-in_step : goal.returns-in-Changed-clause-in_step
-returns-in-Changed-clause-in_step c =
-    λ texts now edits phase h.
-    changed_step c.args.noted (seen c.args.params) c.args.self.now c.did_change.new.self c.did_change.result c.in-Changed.is
-    c.did_change.ensures.changed c.did_change.ensures.err texts now edits h
-
-pub returns-in-Closed-clause-in_step : goal.returns-in-Closed-clause-in_step
-returns-in-Closed-clause-in_step c =
-    let s = c.args.self.now in
-    let t = c.did_close.new.self in
-    let r = c.did_close.result in
-    λ texts now edits phase h.
-    closed_step c.args.noted (seen c.args.params) s t r c.in-Closed.is
-    (subst (λ d. OnOk r (IsClosed (uri_told d) s t)) c.member-in-Closed.ensures c.did_close.ensures.closed)
-    (subst (λ d. OnErr r (IsHeldBut (uri_told d) s t)) c.member-in-Closed.ensures c.did_close.ensures.err)
-    texts now edits h
+    let t = c.note_document.new.self in
+    let params = seen c.args.params in
+    λ texts now edits f.
+    noted_follows c.args.noted params s t texts now c.in-Running.is c.note_document.ensures.stays.phase
+    (λ by. document_step c.in-OfDocument.note params s t c.note_document.result c.note_document.ensures.noted c.note_document.ensures.err texts now
+    (subst (λ noted. Edits s.workspace.encoding noted params texts now) c.in-OfDocument.is by))
+    edits f

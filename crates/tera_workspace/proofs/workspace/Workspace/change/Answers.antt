@@ -1,6 +1,6 @@
 use Rattle.std.proofs.Common.{map}
+use Rattle.text_edits.specs.Documents.{changed}
 use Rattle.text_edits.specs.Edits.{change_view}
-use Rattle.text_documents.specs.Documents.{changed}
 use Rattle.tera_workspace.proofs.WorkspaceLemmas.{kept_either}
 use Rattle.tera_workspace.proofs.workspace.Workspace.change.Goals as goal
 

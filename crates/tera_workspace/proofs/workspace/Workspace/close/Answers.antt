@@ -1,4 +1,4 @@
-use Rattle.text_documents.specs.Documents.{closed}
+use Rattle.text_edits.specs.Documents.{closed}
 use Rattle.tera_workspace.proofs.WorkspaceLemmas.{kept_changed}
 use Rattle.tera_workspace.proofs.workspace.Workspace.close.Goals as goal
 

@@ -1,4 +1,4 @@
-use Rattle.text_documents.specs.Documents.{opened}
+use Rattle.text_edits.specs.Documents.{opened}
 use Rattle.tera_workspace.proofs.WorkspaceLemmas.{kept_either}
 use Rattle.tera_workspace.proofs.workspace.Workspace.open.Goals as goal
 

@@ -1,4 +1,4 @@
-use Rattle.text_documents.specs.Documents.{removed}
+use Rattle.text_edits.specs.Documents.{removed}
 use Rattle.tera_workspace.proofs.WorkspaceLemmas.{kept_changed}
 use Rattle.tera_workspace.proofs.workspace.Workspace.remove_file.Goals as goal
 

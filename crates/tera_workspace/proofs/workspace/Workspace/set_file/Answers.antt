@@ -1,4 +1,4 @@
-use Rattle.text_documents.specs.Documents.{written}
+use Rattle.text_edits.specs.Documents.{written}
 use Rattle.tera_workspace.proofs.WorkspaceLemmas.{kept_either}
 use Rattle.tera_workspace.proofs.workspace.Workspace.set_file.Goals as goal
 

@@ -1,0 +1,28 @@
+use Rattle.std.proofs.Common.{◌≡◌, ◌∙◌, ◌⊎◌, refl, subst, append_assoc}
+use Rattle.tera_server.specs.Sending.{found_message}
+use Rattle.tera_server.specs.declared.editor.Stand.{Stand}
+use Rattle.tera_server.specs.declared.editor.Stand.TheVariants.{Open, Closed}
+use Rattle.tera_server.proofs.PublishLemmas.{one_sent}
+use Rattle.tera_server.proofs.Tails.{and_so}
+use Rattle.tera_server.proofs.findings.publish.Goals as goal
+
+pub returns-in_ok-end_message-in-Open-clause-published : goal.returns-in_ok-end_message-in-Open-clause-published
+unfolding found_message
+returns-in_ok-end_message-in-Open-clause-published c =
+    let e = c.args.telling.editor.now in
+    let related = c.args.telling.related in
+    let w = c.args.workspace.now in
+    let name = c.args.name.now in
+    let message = c.in_ok-end_message-in-Open.field-0.items in
+    let is : message ≡ found_message e related w name =
+    rw (
+      c.in_ok-end_message-in-Open.ensures.bytes,
+      c.in_ok-put_published-in-Open.ensures.before,
+      c.in_ok-message-in-Open.ensures.before,
+      c.in_ok-put_published-in-Open.ensures.tokens,
+      c.in_ok-message-in-Open.ensures.tokens,
+      c.told.ensures,
+    )
+    (simp append_assoc refl) in
+    and_so c.push.result c.push.ensures.ok
+    (λ h. h ∙ one_sent e related w name message c.args.out.now (subst (λ (s : Stand). (s ≡ Open) ⊎ (s ≡ Closed)) c.stand.ensures c.in-Open.is) is)

@@ -1,2 +1,0 @@
-pub mod Documents
-pub mod Stored
