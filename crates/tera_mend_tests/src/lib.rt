@@ -1,0 +1,9 @@
+//! Tests of mending: faults with their places, the tree of the rest, limits, and memory that is refused.
+#![tactic(auto)]
+
+#[cfg(test)]
+mod faults;
+#[cfg(test)]
+mod refusals;
+#[cfg(test)]
+mod told;

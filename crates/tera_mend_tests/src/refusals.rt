@@ -1,0 +1,40 @@
+//! Sources that are mended where memory is refused.
+
+use crate::told::told;
+use scarce_memory::{Attempt, Seen, Verdict, refuse};
+use std::alloc::{AllocError, Global};
+use std::test::Fail;
+
+// One without a fault, one with a fault of the whole, and one with faults of tags that are read alone.
+const SOURCES: [&str; 3] = ["{{ a }}", "{{ a }}{% endif %}", "{{ a b }}{{ c d }}"];
+
+// A source, and what is answered with ample memory.
+#[derive(Drop)]
+struct Mending<'a> {
+    source: &'a str,
+    wanted: &'a str,
+}
+
+impl Attempt for Mending<'_> {
+    fn attempt(&self, alloc: Global) -> Seen {
+        match told(alloc, self.source, 9) {
+            Ok(found) => Seen::answer(found.as_str() == self.wanted),
+            Err(_) => Seen::Memory,
+        }
+    }
+}
+
+fn is_refused(alloc: Global, source: &str) -> Result<bool, AllocError> {
+    let answer = told(alloc, source, 9)?;
+    let wanted = answer.as_str();
+    let verdict = refuse(alloc, &Mending { source, wanted })?;
+    Ok(matches!(verdict, Verdict::Refused(n) if n > 0))
+}
+
+#[test]
+fn each_request_of_memory_may_be_refused(rt: HostRuntime) -> Result<(), Fail> {
+    for source in &SOURCES {
+        assert!(rt; is_refused(rt.alloc(), source)?, "{source}");
+    }
+    Ok(())
+}
