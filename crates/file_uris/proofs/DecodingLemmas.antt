@@ -1,14 +1,14 @@
 -- How bytes are decoded from the front, and what is encoded.
-use Rattle.std.proofs.Common.{◌≡◌, ◌∙◌, ◌==◌, ◌<◌, ◌≤◌, ◌+◌, ◌*◌, ◌/◌, ◌%◌, ◌++◌, inl, inr, if◌then◌else◌, nat_lt, ℕ, Bool, true, false, List, [], ◌∷◌, length, drop, get_or, refl, sym, ap, subst, arith}
+use Rattle.std.proofs.Common.{◌≡◌, ◌∙◌, ◌==◌, ◌<◌, ◌≤◌, ◌+◌, ◌*◌, ◌/◌, ◌%◌, ◌++◌, inl, inr, if◌then◌else◌, nat_lt, ℕ, Bool, true, false, List, [], ◌∷◌, codes, length, drop, get_or, refl, sym, ap, subst, arith}
 use Rattle.std.proofs.lemmas.Bool.{false≢true}
 use Rattle.std.proofs.lemmas.Bool.Decides.{nat_tests}
 use Rattle.std.proofs.lemmas.List.{append-nil, append_cancel_left}
 use Rattle.std.proofs.lemmas.Nat.{div-add-mod'}
 use Rattle.std.specs.List.{AllByRecursion}
 use Rattle.std.specs.Str.{IsUtf8}
-use Rattle.file_uris.specs.Decoding.{decoded, is_digit, is_encoded, value_of}
+use Rattle.file_uris.specs.Decoding.{decoded, are_slashes, begins_doubled, single_slashed, is_digit, is_encoded, value_of}
 use Rattle.file_uris.specs.Encoding.{stands, hex_digit, encoded, encoded_path}
-use Rattle.file_uris.specs.Names.{scheme, is_rooted, uri_of, IsOfFile, IsNameOf}
+use Rattle.file_uris.specs.Names.{scheme, is_rooted, uri_of, IsHere, IsOfFile, IsNameOf}
 
 pub encoded_first : (a b c : ℕ) (rest : List ℕ) → is_encoded a b c ≡ true → decoded (a ∷ b ∷ c ∷ rest) ≡ (value_of b * 16 + value_of c) ∷ decoded rest
 unfolding decoded
@@ -83,25 +83,100 @@ unfolding decoded
 encoded_decoded [] fits = refl
 encoded_decoded (b ∷ path) fits = byte_by b (encoded_path path) (stands b) refl fits.0 ∙ ap (λ bs. b ∷ bs) (encoded_decoded path fits.1)
 
+-- ---- slashes
+
+pub short_single : (path : List ℕ) → length path < 2 → begins_doubled path ≡ false
+short_single [] l = refl
+short_single (b ∷ []) l = refl
+short_single (b ∷ c ∷ cs) l = absurd (omega (arith, l))
+
+pub first_two : (path : List ℕ) → 2 ≤ length path → begins_doubled path ≡ are_slashes (get_or path 0 0) (get_or path 1 0)
+first_two [] l = absurd (omega (arith, l))
+first_two (b ∷ []) l = absurd (omega (arith, l))
+first_two (b ∷ c ∷ cs) l = refl
+
+pub first_left_out : (path : List ℕ) → 0 < length path → begins_doubled path ≡ true → single_slashed (drop 1 path) ≡ single_slashed path
+unfolding single_slashed
+first_left_out [] l e = absurd (omega (arith, l))
+first_left_out (b ∷ bs) l e = rw e refl
+
+pub first_kept : (path : List ℕ) → 0 < length path → begins_doubled path ≡ false → single_slashed path ≡ get_or path 0 0 ∷ single_slashed (drop 1 path)
+unfolding single_slashed
+first_kept [] l e = absurd (omega (arith, l))
+first_kept (b ∷ bs) l e = rw e refl
+
+-- nothing of the path is left
+pub all_single : (bytes rest path : List ℕ) (empty : Bool) → bytes ++ single_slashed rest ≡ single_slashed path → empty ≡ (length rest == 0) → empty ≡ true → bytes ≡ single_slashed path
+unfolding single_slashed
+all_single bytes [] path empty whole is out = sym (append-nil bytes) ∙ whole
+all_single bytes (x ∷ xs) path empty whole is out =
+    let some : (length (x ∷ xs) == 0) ≡ false = grind (arith, nat_tests) in
+    absurd (false≢true (sym some ∙ sym is ∙ out))
+
 -- ---- names
 
-cut_scheme : (path rest : List ℕ) → scheme ++ encoded_path path ≡ scheme ++ rest → rest ≡ encoded_path path
-cut_scheme path rest e = sym (append_cancel_left scheme (encoded_path path) rest e)
+-- no path from the root begins as the host that stands for none
+not_here : (rest : List ℕ) → is_rooted (decoded (codes "localhost" ++ rest)) ≡ true → ⊥
+not_here rest rooted = absurd (false≢true (sym (ap is_rooted (itself 108 (codes "ocalhost" ++ rest) refl)) ∙ rooted))
 
-named_by : (path name : List ℕ) → AllByRecursion (λ b. b < 256) path → IsUtf8 path → is_rooted path ≡ true → IsNameOf (scheme ++ encoded_path path) name → name ≡ path
-named_by path name fits text rooted (inl w) = w.path_is ∙ ap decoded (cut_scheme path w.rest w.file) ∙ encoded_decoded path fits
+here_joined : (h r k q x y : List ℕ) → h ≡ x → k ≡ y → h ++ r ≡ k ++ q → x ++ r ≡ y ++ q
+here_joined h r k q x y a b e = subst (λ z. z ++ r ≡ y ++ q) a (subst (λ z. h ++ r ≡ z ++ q) b e)
+
+same_rest : (h r k q : List ℕ) → IsHere h → IsHere k → h ++ r ≡ k ++ q → is_rooted (decoded r) ≡ true → is_rooted (decoded q) ≡ true → r ≡ q
+same_rest h r k q (inl a) (inl b) e f g = here_joined h r k q [] [] a b e
+same_rest h r k q (inl a) (inr b) e f g = absurd (not_here q (subst (λ z. is_rooted (decoded z) ≡ true) (here_joined h r k q [] (codes "localhost") a b e) f))
+same_rest h r k q (inr a) (inl b) e f g = absurd (not_here r (subst (λ z. is_rooted (decoded z) ≡ true) (sym (here_joined h r k q (codes "localhost") [] a b e)) g))
+same_rest h r k q (inr a) (inr b) e f g = append_cancel_left (codes "localhost") r q (here_joined h r k q (codes "localhost") (codes "localhost") a b e)
+
+-- what is after the host that stands for none is the path, if any is
+pub after_host : (text rest host other : List ℕ) → text ≡ codes "localhost" ++ rest → IsHere host → text ≡ host ++ other → is_rooted (decoded other) ≡ true → other ≡ rest
+after_host text rest host other is (inl a) e rooted =
+    absurd (not_here rest (subst (λ z. is_rooted (decoded z) ≡ true) (sym (subst (λ z. text ≡ z ++ other) a e) ∙ is) rooted))
+after_host text rest host other is (inr b) e rooted = append_cancel_left (codes "localhost") other rest (sym (subst (λ z. text ≡ z ++ other) b e) ∙ is)
+
+pub no_host : (text host other : List ℕ) → ((rest : List ℕ) → text ≡ codes "localhost" ++ rest → ⊥) → IsHere host → text ≡ host ++ other → other ≡ text
+no_host text host other none (inl a) e = sym (subst (λ z. text ≡ z ++ other) a e)
+no_host text host other none (inr b) e = absurd (none other (subst (λ z. text ≡ z ++ other) b e))
+
+abbrev path_in : List ℕ → List ℕ
+path_in rest = single_slashed (decoded rest)
+
+named_by : (path name : List ℕ) → AllByRecursion (λ b. b < 256) path → IsUtf8 (single_slashed path) → is_rooted path ≡ true →
+    IsNameOf (scheme ++ encoded_path path) name → name ≡ single_slashed path
+named_by path name fits text rooted (inl w) =
+    let back : decoded (encoded_path path) ≡ path = encoded_decoded path fits in
+    let rest : encoded_path path ≡ w.rest =
+    same_rest [] (encoded_path path) w.host w.rest (inl refl) w.here (append_cancel_left scheme (encoded_path path) (w.host ++ w.rest) w.file) (ap is_rooted back ∙ rooted) w.rooted in
+    w.path_is ∙ ap path_in (sym rest) ∙ ap single_slashed back
 named_by path name fits text rooted (inr w) =
-    absurd (w.1 path (record { rest = encoded_path path; file = refl; path_is = sym (encoded_decoded path fits); rooted = rooted; text = text }))
+    let back : decoded (encoded_path path) ≡ path = encoded_decoded path fits in
+    absurd (w.1 (single_slashed path) (record {
+      host = [];
+      rest = encoded_path path;
+      file = refl;
+      here = inl refl;
+      path_is = sym (ap single_slashed back);
+      rooted = ap is_rooted back ∙ rooted;
+      text = text;
+    }))
 
-pub name_read : (path name : List ℕ) → AllByRecursion (λ b. b < 256) path → IsUtf8 path → is_rooted path ≡ true → IsNameOf (uri_of path) name → name ≡ path
+pub name_read : (path name : List ℕ) → AllByRecursion (λ b. b < 256) path → IsUtf8 (single_slashed path) → is_rooted path ≡ true → IsNameOf (uri_of path) name → name ≡ single_slashed path
 name_read path name fits text rooted is =
     named_by path name fits text rooted (subst (λ b. IsNameOf (if b then scheme ++ encoded_path path else path) name) rooted is)
 
-rest_of : (uri path other : List ℕ) (w : IsOfFile uri path) (v : IsOfFile uri other) → w.rest ≡ v.rest
-rest_of uri path other w v = append_cancel_left scheme w.rest v.rest (sym w.file ∙ v.file)
+path_once : (uri path other : List ℕ) (w : IsOfFile uri path) (v : IsOfFile uri other) → w.rest ≡ v.rest
+path_once uri path other w v =
+    same_rest w.host w.rest v.host v.rest w.here v.here (append_cancel_left scheme (w.host ++ w.rest) (v.host ++ v.rest) (sym w.file ∙ v.file)) w.rooted v.rooted
 
 pub name_once : (uri name other : List ℕ) → IsNameOf uri name → IsNameOf uri other → name ≡ other
-name_once uri name other (inl w) (inl v) = w.path_is ∙ ap decoded (rest_of uri name other w v) ∙ sym v.path_is
+name_once uri name other (inl w) (inl v) = w.path_is ∙ ap path_in (path_once uri name other w v) ∙ sym v.path_is
 name_once uri name other (inl w) (inr v) = absurd (v.1 name w)
 name_once uri name other (inr w) (inl v) = absurd (w.1 other v)
 name_once uri name other (inr w) (inr v) = w.0 ∙ sym v.0
+
+-- the path of a URI, with the host that stands for none and without it
+pub path_here : (rest path : List ℕ) → is_rooted (decoded rest) ≡ true → IsOfFile (scheme ++ (codes "localhost" ++ rest)) path → IsOfFile (scheme ++ rest) path
+path_here rest path rooted w =
+    let same : w.rest ≡ rest =
+    same_rest w.host w.rest (codes "localhost") rest w.here (inr refl) (append_cancel_left scheme (w.host ++ w.rest) (codes "localhost" ++ rest) (sym w.file)) w.rooted rooted in
+    record { host = []; rest = rest; file = refl; here = inl refl; path_is = w.path_is ∙ ap path_in same; rooted = rooted; text = w.text }

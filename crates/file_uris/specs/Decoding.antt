@@ -1,5 +1,5 @@
 -- The bytes that the text of a URI stands for.
-use Rattle.std.specs.Prelude.{◌+◌, ◌-◌, ◌*◌, ◌==◌, ◌||◌, ◌&&◌, nat_le, if◌then◌else◌, ℕ, Bool, List, [], ◌∷◌}
+use Rattle.std.specs.Prelude.{◌+◌, ◌-◌, ◌*◌, ◌==◌, ◌||◌, ◌&&◌, nat_le, if◌then◌else◌, ℕ, Bool, false, List, [], ◌∷◌}
 
 -- a digit in base 16, of either case
 abbrev pub is_digit : ℕ → Bool
@@ -12,6 +12,20 @@ value_of c = if nat_le 97 c then c - 87 else (if nat_le 65 c then c - 55 else c 
 -- a percent sign and two digits
 abbrev pub is_encoded : ℕ → ℕ → ℕ → Bool
 is_encoded sign high low = (sign == 37) && (is_digit high && is_digit low)
+
+-- whether two slashes are next
+abbrev pub are_slashes : ℕ → ℕ → Bool
+are_slashes b c = (b == 47) && (c == 47)
+
+abbrev pub begins_doubled : List ℕ → Bool
+begins_doubled [] = false
+begins_doubled (b ∷ []) = false
+begins_doubled (b ∷ c ∷ cs) = are_slashes b c
+
+-- a path with one slash in the place of several, which are one for the system: each that another comes after is left out
+unfoldable pub single_slashed : List ℕ → List ℕ
+single_slashed [] = []
+single_slashed (b ∷ bs) = if begins_doubled (b ∷ bs) then single_slashed bs else b ∷ single_slashed bs
 
 -- the bytes: one where a percent sign and two digits stand, and else each byte itself
 unfoldable pub decoded : List ℕ → List ℕ

@@ -1,7 +1,7 @@
 //! Bytes of URIs as they stand in paths.
 
-ghost use Rattle.std.specs.Prelude.{◌≡◌, ◌<◌, ◌≤◌, ◌∷◌, true, length, drop, IfOk};
-ghost use Rattle.file_uris.specs.Decoding.{decoded, is_digit, value_of, is_encoded};
+ghost use Rattle.std.specs.Prelude.{◌≡◌, ◌<◌, ◌≤◌, ◌++◌, ◌∷◌, true, length, drop, IfOk, OnOk};
+ghost use Rattle.file_uris.specs.Decoding.{decoded, are_slashes, begins_doubled, single_slashed, is_digit, value_of, is_encoded};
 
 use std::alloc::{AllocError, Global};
 
@@ -18,6 +18,48 @@ pub(crate) fn decoded_of(alloc: Global, text: &str) -> Result<Vec<u8>, AllocErro
         rest = behind;
     }
     Ok(bytes)
+}
+
+/// The path with one slash in the place of several.
+pub(crate) fn single_slashed_of(alloc: Global, path: &[u8]) -> Result<Vec<u8>, AllocError>
+    ensures { IfOk result (λ v. v.items ≡ single_slashed path.now) }
+{
+    let mut bytes = Vec::new(alloc);
+    let mut rest = path;
+    'slashes: while !rest.is_empty() {
+        push_first(rest, &mut bytes)?;
+        let (_, behind) = rest.split_at(1);
+        rest = behind;
+    }
+    Ok(bytes)
+}
+
+// Adds the first byte of the path, unless it is a slash before another.
+fn push_first(path: &[u8], bytes: &mut Vec<u8>) -> Result<(), AllocError>
+    requires { 0 < length path.now }
+    ensures { OnOk result (bytes.new.items ++ single_slashed (drop 1 path.now)
+        ≡ bytes.old.items ++ single_slashed path.now) }
+{
+    if is_doubled(path) {
+        return Ok(());
+    }
+    bytes.push(path[0])?;
+    Ok(())
+}
+
+fn is_doubled(path: &[u8]) -> bool
+    ensures { result ≡ begins_doubled path.now }
+{
+    if path.len() < 2 {
+        return false;
+    }
+    are_slashes(path[0], path[1])
+}
+
+fn are_slashes(first: u8, second: u8) -> bool
+    ensures { result ≡ are_slashes first second }
+{
+    first == b'/' && second == b'/'
 }
 
 // The first of them, and for how many bytes of the text it stands.

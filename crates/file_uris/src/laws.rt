@@ -1,11 +1,11 @@
 //! Laws of names: each function has the law as its promise and does nothing.
 
-ghost use Rattle.std.specs.Prelude.{◌≡◌, ℕ, ◌<◌, List, true};
+ghost use Rattle.std.specs.Prelude.{◌≡◌, ◌++◌, ℕ, ◌<◌, List, true, codes};
 ghost use Rattle.std.specs.List.{AllByRecursion};
 ghost use Rattle.std.specs.Str.{IsUtf8};
-ghost use Rattle.file_uris.specs.Decoding.{decoded};
+ghost use Rattle.file_uris.specs.Decoding.{decoded, single_slashed};
 ghost use Rattle.file_uris.specs.Encoding.{encoded_path};
-ghost use Rattle.file_uris.specs.Names.{uri_of, is_rooted, IsNameOf};
+ghost use Rattle.file_uris.specs.Names.{scheme, uri_of, is_rooted, IsOfFile, IsNameOf};
 
 /// An encoded path stands for the path.
 pub fn decodes()
@@ -13,10 +13,16 @@ pub fn decodes()
         decoded (encoded_path path) ≡ path }
 {}
 
-/// The URI of a path is read back as that path, and as no other name.
+/// The URI of a path is read back as that path with one slash in the place of several in a row, and as no other name.
 pub fn read_back()
-    ensures { (path name : List ℕ) → AllByRecursion (λ b. b < 256) path → IsUtf8 path →
-        is_rooted path ≡ true → IsNameOf (uri_of path) name → name ≡ path }
+    ensures { (path name : List ℕ) → AllByRecursion (λ b. b < 256) path → IsUtf8 (single_slashed path) →
+        is_rooted path ≡ true → IsNameOf (uri_of path) name → name ≡ single_slashed path }
+{}
+
+/// `file://localhost/a` is the URI of the same file as `file:///a`.
+pub fn one_host()
+    ensures { (rest path : List ℕ) → is_rooted (decoded rest) ≡ true →
+        IsOfFile (scheme ++ (codes "localhost" ++ rest)) path → IsOfFile (scheme ++ rest) path }
 {}
 
 /// A URI gives one name.

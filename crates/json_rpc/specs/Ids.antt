@@ -1,5 +1,5 @@
 -- How requests are named.
-use Rattle.std.specs.Prelude.{◌≡◌, ◌≤◌, ℕ, List, [], length, cond, ◌==◌, Option, Some, refl, ⊤}
+use Rattle.std.specs.Prelude.{◌≡◌, ◌≤◌, ℕ, Bool, true, false, List, [], length, cond, ◌==◌, Option, Some, refl, ⊤}
 use Rattle.std.specs.Coded.{Coded, code_by, coded×, coded_ℕ, coded_list}
 use Rattle.json.specs.Json.{Json, number}
 use Rattle.json.specs.Print.{IsNumber}
@@ -11,6 +11,12 @@ pub data IdVal : Type 0 where
   NullId : IdVal
   NumberId : List ℕ → IdVal
   TextId : List ℕ → IdVal
+
+-- the id of what has none
+abbrev pub is_null : IdVal → Bool
+is_null NullId = true
+is_null (NumberId s) = false
+is_null (TextId s) = false
 
 -- how many bytes the number or the text has at most
 abbrev pub max_id : ℕ

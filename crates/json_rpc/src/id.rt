@@ -3,7 +3,7 @@
 ghost use Rattle.std.specs.Prelude.{◌≡◌, ◌≤◌, length};
 ghost use Rattle.json.specs.Print.{IsNumber, IsPrintable};
 ghost use Rattle.json.specs.Reads.{token_of};
-ghost use Rattle.json_rpc.specs.Ids.{NullId, NumberId, TextId, max_id};
+ghost use Rattle.json_rpc.specs.Ids.{NullId, NumberId, TextId, is_null, max_id};
 ghost use Rattle.json_rpc.specs.Writing.{id_token};
 
 use json::Token;
@@ -63,6 +63,13 @@ impl<'a> Id<'a> {
         Id {
             name: Name::Number(text),
         }
+    }
+
+    /// Whether it is the id of what has none.
+    pub fn is_null(&self) -> bool
+        ensures { result ≡ is_null self.now }
+    {
+        matches!(self.name, Name::Null)
     }
 
     // The token that is written for it.

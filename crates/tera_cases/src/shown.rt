@@ -2,6 +2,7 @@
 
 use crate::settings::Setting;
 use case_files::Options;
+use line_text::push_on_one_line;
 use std::alloc::{AllocError, Global};
 use tera_show::{Outcome, ShowFault, show_with};
 
@@ -22,11 +23,17 @@ pub(crate) fn is_shown(
     if !limits.valid() {
         return Ok(false);
     }
-    let mut written = Vec::with_capacity(alloc, answer.len().saturating_add(MORE))?;
+    let mut line = String::new(alloc);
+    push_on_one_line(&mut line, answer)?;
+    let mut written = Vec::with_capacity(alloc, line.len().saturating_add(MORE))?;
     let mut rest = source.as_bytes();
     match show_with(alloc, &mut rest, &mut written, limits) {
         Ok(outcome) => match str::from_utf8(written.as_slice()) {
-            Ok(text) => Ok(is_told(outcome, setting.options, text, answer)),
+            Ok(text) => Ok(match outcome {
+                Outcome::Tree => told_lines(setting.options, text) == answer,
+                Outcome::Syntax => is_fault(line.as_str(), text),
+                Outcome::NotUtf8 => false,
+            }),
             Err(_) => Ok(false),
         },
         Err(ShowFault::Memory) if written.is_empty() => Err(AllocError),
@@ -34,14 +41,11 @@ pub(crate) fn is_shown(
     }
 }
 
-fn is_told(outcome: Outcome, options: &Options, text: &str, answer: &str) -> bool {
-    match outcome {
-        Outcome::Tree => told_lines(options, text) == answer,
-        Outcome::Syntax => match told_fault(text) {
-            Some(line) => begins(answer, line),
-            None => false,
-        },
-        Outcome::NotUtf8 => false,
+// Whether the text is the fault of an answer that was put on one line.
+fn is_fault(line: &str, text: &str) -> bool {
+    match fault_of(text) {
+        Some(fault) => begins(line, fault),
+        None => false,
     }
 }
 
@@ -55,14 +59,14 @@ pub(crate) fn told_lines<'a>(options: &Options, text: &'a str) -> &'a str {
     }
 }
 
-// Whether this is all of the answer, or notes alone stand behind it.
-fn begins(answer: &str, line: &str) -> bool {
-    match answer.strip_prefix(line) {
-        Some(notes) => notes.is_empty() || notes.starts_with("\nnote "),
+// Whether this is all of the answer, or notes alone come after it.
+fn begins(line: &str, fault: &str) -> bool {
+    match line.strip_prefix(fault) {
+        Some(notes) => notes.is_empty() || notes.starts_with("\\nnote "),
         None => false,
     }
 }
 
-fn told_fault(text: &str) -> Option<&str> {
+fn fault_of(text: &str) -> Option<&str> {
     text.strip_prefix("syntax error at ")?.strip_suffix("\n")
 }

@@ -6,7 +6,7 @@
 //! on `json`.
 //!
 //! In the order of reading: specs `Listed`, `Offered`; `components`, over `offers`; then `values` and `objects`, the
-//! JSON (specs `Constants`, `Objects`), and `escapes`, `cells` and `pages`, the HTML (specs `Escapes`, `Pages`).
+//! JSON (specs `Constants`, `Objects`), and `escapes`, `cells`, `frame` and `pages`, the HTML (specs `Escapes`, `Pages`).
 #![tactic(auto)]
 
 mod cells;

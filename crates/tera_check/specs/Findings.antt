@@ -1,7 +1,8 @@
 -- Findings, and the lines that are written of them.
-use Rattle.std.specs.Prelude.{Option, None, Some, ◌≡◌, ◌+◌, ◌-◌, ◌^◌, ℕ, List, [], ◌∷◌, ◌++◌, map, codes, string_bytes, min, nat_eq, if◌then◌else◌}
+use Rattle.std.specs.Prelude.{Option, None, Some, ◌≡◌, ◌+◌, ◌-◌, ◌^◌, ℕ, List, [], ◌∷◌, ◌++◌, map, codes, string_bytes, min}
 use Rattle.std.specs.Fmt.{decimal}
 use Rattle.std.specs.List.{flat_map}
+use Rattle.line_text.specs.Line.{on_one_line}
 use Rattle.tera_base.specs.ErrorView.{ErrorVal, NoMemory, Saying, Reporting, ReportVal, ReportOf}
 use Rattle.tera_base.specs.ErrorView as errors
 use Rattle.tera_base.specs.declared.utils.Span.{Span}
@@ -80,17 +81,10 @@ IsOfError NoMemory f = ⊥
 IsOfError (Saying text) f = f ≡ FindingOf kinds.Fault first_span text []
 IsOfError (Reporting r) f = f ≡ finding_of r
 
--- a byte of a text that stands on one line: a line feed and a carriage return are a backslash and a letter
-abbrev pub shown_byte : ℕ → List ℕ
-shown_byte b = if nat_eq b 10 then 92 ∷ 110 ∷ [] else (if nat_eq b 13 then 92 ∷ 114 ∷ [] else b ∷ [])
-
-abbrev pub shown : List ℕ → List ℕ
-shown text = flat_map shown_byte text
-
 -- a line: where, how grave, and what
 abbrev pub line_of : List ℕ → Place → List ℕ → List ℕ → List ℕ
 line_of file place severity text =
-    shown file ++ ((codes ":" ++ (decimal place.line ++ (codes ":" ++ (decimal place.column ++ (codes ": " ++ (severity ++ codes ": ")))))) ++ (shown text ++ 10 ∷ []))
+    on_one_line file ++ ((codes ":" ++ (decimal place.line ++ (codes ":" ++ (decimal place.column ++ (codes ": " ++ (severity ++ codes ": ")))))) ++ (on_one_line text ++ 10 ∷ []))
 
 abbrev pub note_line : NoteVal → List ℕ
 note_line (NoteOf file span text) = line_of file (place_of span) (codes "note") text

@@ -1,4 +1,5 @@
 pub mod BelowLemmas
+mod BesideLemmas
 pub mod FindingLemmas
 pub mod ListingLemmas
 pub mod NameLemmas

@@ -1,18 +1,18 @@
 -- What the name of a file says.
-use Rattle.std.specs.Prelude.{◌≡◌, ℕ, List, ◌∷◌, ◌++◌, ◌⊎◌, codes, map, slice_index, Contains}
+use Rattle.std.specs.Prelude.{◌≡◌, ℕ, List, ◌∷◌, ◌++◌, ◌⊎◌, codes, map, slice_index, Any}
 use denote.Ref.{Bor}
 
 -- `b'.'`
 abbrev pub point : ℕ
 point = 46
 
--- What stands behind the last point of the name is one of the extensions.
-pub record EndsIn (name : List ℕ) (extensions : List (List ℕ)) : Type 0 where
-  pub front : List ℕ
-  pub extension : List ℕ
-  pub split : name ≡ front ++ point ∷ extension
-  pub last : ¬ (Contains extension point)
-  pub among : Contains extensions extension
+-- The name ends in a point and this extension, which may have points itself.
+abbrev pub HasExtension : List ℕ → List ℕ → Type 0
+HasExtension name extension = (front : List ℕ) × (name ≡ front ++ point ∷ extension)
+
+-- It ends in one of the extensions.
+abbrev pub EndsIn : List ℕ → List (List ℕ) → Type 0
+EndsIn name extensions = Any (HasExtension name) extensions
 
 -- A name that is hidden, or the folder of packages that others wrote.
 abbrev pub IsLeftOut : List ℕ → Type 0

@@ -6,10 +6,11 @@
 //!
 //! In the order of reading: specs `Names` and `Paths`, what names say and the paths that they have in folders, and `names`;
 //! `itself`, by which paths the system knows files; `listing`, files that were met; specs `Below` and `below`, of one
-//! folder; specs `Finding` and `finding`, of paths; `reading`; `replacing`.
+//! folder; specs `Finding` and `finding`, of paths; `reading`; specs `Beside` and `beside`, new files; specs `Replacing` and `replacing`.
 #![tactic(auto)]
 
 mod below;
+mod beside;
 mod finding;
 mod itself;
 mod listing;
@@ -20,4 +21,4 @@ mod replacing;
 pub use finding::{Found, Sought, Unlisted, files_of};
 pub use names::{ends_in, is_left_out};
 pub use reading::{Source, Unread, read_source, source_of};
-pub use replacing::replace;
+pub use replacing::{Unwritten, replace};

@@ -2,18 +2,29 @@
 
 ghost use Rattle.std.specs.Prelude.{◌≡◌, ◌↔◌, IfOk, IsTrue, string_bytes};
 ghost use Rattle.std.specs.Path.{path_join};
-ghost use Rattle.tera_files.specs.Names.{EndsIn, IsLeftOut, texts};
+ghost use Rattle.tera_files.specs.Names.{EndsIn, HasExtension, IsLeftOut, texts};
 ghost use Rattle.tera_files.specs.Paths.{IsBase, IsPathIn};
 
 use std::alloc::{AllocError, Global};
 use std::path::Path;
 
-/// Whether the name ends in one of the extensions, behind a point. An extension has no point itself.
+/// Whether the name ends in a point and one of the extensions.
 pub fn ends_in(name: &str, extensions: &[&str]) -> bool
     ensures { IsTrue result ↔ EndsIn name.now (texts extensions.now) }
 {
-    match name.rsplit_once('.') {
-        Some((_, extension)) => extensions.contains(&extension),
+    for extension in extensions {
+        if has_extension(name.as_bytes(), extension.as_bytes()) {
+            return true;
+        }
+    }
+    false
+}
+
+fn has_extension(name: &[u8], extension: &[u8]) -> bool
+    ensures { IsTrue result ↔ HasExtension name.now extension.now }
+{
+    match name.strip_suffix(extension) {
+        Some(front) => front.ends_with(b"."),
         None => false,
     }
 }

@@ -24,6 +24,8 @@ pub(crate) struct Failing<'a> {
     pub(crate) rt: &'a HostRuntime,
     pub(crate) calls: &'a Cell<u32>,
     pub(crate) fault: Fault,
+    /// The error of a call that fails.
+    pub(crate) kind: io::ErrorKind,
 }
 
 impl Failing<'_> {
@@ -35,7 +37,7 @@ impl Failing<'_> {
             Fault::From(call) => number >= call,
         };
         if fails {
-            Err(io::Error::from(io::ErrorKind::Other))
+            Err(io::Error::from(self.kind))
         } else {
             Ok(())
         }
@@ -101,6 +103,7 @@ impl Write for Opened<'_, File> {
 
 impl Seek for Opened<'_, File> {
     fn seek(&mut self, to: SeekFrom) -> io::Result<u64> {
+        self.runtime.call()?;
         self.opened.seek(to)
     }
 }

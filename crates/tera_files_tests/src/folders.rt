@@ -3,6 +3,7 @@
 use crate::failing::{Failing, Fault};
 use crate::room::{Room, expect};
 use std::cell::Cell;
+use std::io::ErrorKind;
 use std::test::Fail;
 use tera_files::{Found, Sought, files_of};
 
@@ -165,6 +166,7 @@ fn fails(rt: &HostRuntime, top: &str, call: u32) -> Result<bool, Fail> {
         rt,
         calls: &calls,
         fault: Fault::At(call),
+        kind: ErrorKind::Other,
     };
     let sought = Sought {
         extensions: &EXTENSIONS,

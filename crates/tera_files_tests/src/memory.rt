@@ -5,7 +5,7 @@ use scarce_memory::{Attempt, Seen, Verdict, refuse};
 use std::alloc::Global;
 use std::io::ErrorKind;
 use std::test::Fail;
-use tera_files::{Sought, Unread, files_of, read_source, replace};
+use tera_files::{Sought, Unread, Unwritten, files_of, read_source, replace};
 
 #[derive(Clone, Copy)]
 struct Finding<'a> {
@@ -50,9 +50,9 @@ struct Replacing<'a> {
 
 impl Attempt for Replacing<'_> {
     fn attempt(&self, _alloc: Global) -> Seen {
-        match replace(self.rt, self.path, "{{ b }}") {
+        match replace(self.rt, self.path, "{{ a }}", "{{ a }}") {
             Ok(()) => Seen::Usual,
-            Err(error) if error.kind() == ErrorKind::OutOfMemory => Seen::Memory,
+            Err(Unwritten::Failed(error)) if error.kind() == ErrorKind::OutOfMemory => Seen::Memory,
             Err(_) => Seen::Other,
         }
     }
@@ -81,6 +81,6 @@ fn memory_is_refused(rt: HostRuntime) -> Result<(), Fail> {
     let room = Room::new(&rt, "memory_is_refused")?;
     fill(&room)?;
     all_are_refused(&rt, room.at(".")?.as_str(), room.at("a.html")?.as_str())?;
-    expect(room.holds("a.html", "{{ b }}")?, "the text")?;
+    expect(room.holds("a.html", "{{ a }}")?, "the text")?;
     room.remove()
 }

@@ -74,6 +74,7 @@ fn fails(rt: &HostRuntime, room: &Room<'_>, call: u32) -> Result<bool, Fail> {
         rt,
         calls: &calls,
         fault: Fault::At(call),
+        kind: ErrorKind::Other,
     };
     let read = read_source(&runtime, room.at("a.html")?.as_str(), "name");
     let has_failed = runtime.has_failed();
@@ -108,6 +109,7 @@ fn what_is_typed_is_read(rt: HostRuntime) {
         rt: &rt,
         calls: &calls,
         fault: Fault::From(0),
+        kind: ErrorKind::Other,
     };
     let read = read_source(&runtime, "-", "typed.html");
     assert!(rt; is_read(read, "typed.html", TYPED));

@@ -5,19 +5,22 @@ use crate::room::{Room, expect};
 use std::cell::Cell;
 use std::fs;
 use std::fs::Permissions;
+use std::io::ErrorKind;
 use std::os::unix::fs::{MetadataExt, PermissionsExt, chown};
 use std::rt::Files;
 use std::test::Fail;
-use tera_files::replace;
+use tera_files::{Unwritten, replace};
 
 const OLD: &str = "{{old}} {{old}} {{old}}";
 
 const NEW: &str = "{{ new }} {{ new }}";
 
-// Replaces the text of this file alone: the new text stands there then, and nothing that was made beside it.
+// Replaces the text of this file alone: the new text is there then, and nothing that was made beside it.
 fn renew(rt: &HostRuntime, room: &Room<'_>, name: &str) -> Result<(), Fail> {
-    replace(rt, room.at(name)?.as_str(), NEW)?;
-    let beside = format!(in rt.alloc(); "{name}.tera-new")?;
+    let Ok(()) = replace(rt, room.at(name)?.as_str(), OLD, NEW) else {
+        return Err(Fail::new(name));
+    };
+    let beside = format!(in rt.alloc(); "{name}.1.tera-new")?;
     let (is_new, is_more) = (room.holds(name, NEW)?, room.has(beside.as_str())?);
     expect(is_new && !is_more, name)
 }
@@ -76,16 +79,6 @@ fn links_and_names_stay(rt: HostRuntime) -> Result<(), Fail> {
     room.remove()
 }
 
-// Where no new file can be made beside it.
-fn what_stands_beside_stays(rt: &HostRuntime, room: &Room<'_>) -> Result<(), Fail> {
-    room.write("a.html", OLD.as_bytes())?;
-    room.write("a.html.tera-new", b"left")?;
-    replace(rt, room.at("a.html")?.as_str(), NEW)?;
-    let is_new = room.holds("a.html", NEW)?;
-    let is_left = room.holds("a.html.tera-new", "left")?;
-    expect(is_new && is_left, "what stands beside")
-}
-
 // Where a new file would have another owner, which only the system's administrator can see to.
 fn an_owner_stays(rt: &HostRuntime, room: &Room<'_>) -> Result<(), Fail> {
     room.write("b.html", OLD.as_bytes())?;
@@ -99,9 +92,78 @@ fn an_owner_stays(rt: &HostRuntime, room: &Room<'_>) -> Result<(), Fail> {
 #[test]
 fn a_text_is_overwritten(rt: HostRuntime) -> Result<(), Fail> {
     let room = Room::new(&rt, "a_text_is_overwritten")?;
-    what_stands_beside_stays(&rt, &room)?;
     an_owner_stays(&rt, &room)?;
     room.remove()
+}
+
+// A file that a killed run left beside it changes nothing: another name is taken, and that file stays.
+fn what_is_left_stays(rt: &HostRuntime, room: &Room<'_>) -> Result<(), Fail> {
+    room.write("a.html", OLD.as_bytes())?;
+    room.write("a.html.1.tera-new", b"left")?;
+    let path = room.at("a.html")?;
+    let (_, number) = mode_and_number(rt, path.as_str())?;
+    let is_replaced = replace(rt, path.as_str(), OLD, NEW).is_ok();
+    let (_, new_number) = mode_and_number(rt, path.as_str())?;
+    expect(is_replaced && room.holds("a.html", NEW)?, "the new text")?;
+    expect(new_number != number, "a new file")?;
+    let is_left = room.holds("a.html.1.tera-new", "left")?;
+    expect(is_left && !room.has("a.html.2.tera-new")?, "what is left")
+}
+
+// The longest name that a file has.
+fn a_long_name_is_cut(rt: &HostRuntime, room: &Room<'_>) -> Result<(), Fail> {
+    let front = "\u{e9}".repeat(rt.alloc(), 125)?;
+    let name = format!(in rt.alloc(); "{front}.html")?;
+    room.write(name.as_str(), OLD.as_bytes())?;
+    let path = room.at(name.as_str())?;
+    let (_, number) = mode_and_number(rt, path.as_str())?;
+    let is_replaced = replace(rt, path.as_str(), OLD, NEW).is_ok();
+    let (_, new_number) = mode_and_number(rt, path.as_str())?;
+    let is_new = room.holds(name.as_str(), NEW)?;
+    expect(is_replaced && is_new && new_number != number, "a long name")
+}
+
+#[test]
+fn a_name_is_found(rt: HostRuntime) -> Result<(), Fail> {
+    let room = Room::new(&rt, "a_name_is_found")?;
+    what_is_left_stays(&rt, &room)?;
+    a_long_name_is_cut(&rt, &room)?;
+    room.remove()
+}
+
+fn is_changed(rt: &HostRuntime, room: &Room<'_>, name: &str) -> Result<bool, Fail> {
+    let replaced = replace(rt, room.at(name)?.as_str(), OLD, NEW);
+    Ok(matches!(replaced, Err(Unwritten::Changed)))
+}
+
+// A file that was saved since it was read is left alone, also where it would be overwritten.
+fn changed_files_stay(rt: &HostRuntime, room: &Room<'_>) -> Result<(), Fail> {
+    for text in &["{{old}} {{old}} {{odd}}", "", "{{old}} {{old}} {{old}}\n"] {
+        room.write("a.html", text.as_bytes())?;
+        let is_changed = is_changed(rt, room, "a.html")?;
+        expect(is_changed && room.holds("a.html", text)?, text)?;
+        expect(!room.has("a.html.1.tera-new")?, "nothing is beside it")?;
+    }
+    Ok(())
+}
+
+#[test]
+fn a_changed_file_is_left(rt: HostRuntime) -> Result<(), Fail> {
+    let room = Room::new(&rt, "a_changed_file_is_left")?;
+    changed_files_stay(&rt, &room)?;
+    let (path, other) = (room.at("a.html")?, room.at("b.html")?);
+    rt.hard_link(path.as_str(), other.as_str())?;
+    changed_files_stay(&rt, &room)?;
+    room.remove()
+}
+
+// Which calls fail, with which error, on a file of so many names, whose text becomes which.
+#[derive(Clone, Copy)]
+struct Try<'a> {
+    fault: Fault,
+    kind: ErrorKind,
+    has_two_names: bool,
+    texts: (&'a str, &'a str),
 }
 
 // What a call comes to.
@@ -111,54 +173,163 @@ struct Outcome {
     is_kept: bool,
 }
 
-// Whether at an error the old text stands there whole, and else the new one, and nothing beside it. What was made beside
-// it can only stay where it cannot be removed.
-fn is_whole(room: &Room<'_>, fault: Fault, replaced: bool) -> Result<bool, Fail> {
-    let is_whole = room.holds("a.html", if replaced { NEW } else { OLD })?;
-    let is_alone = !room.has("a.html.tera-new")? || matches!(fault, Fault::From(_));
-    Ok(is_whole && is_alone)
+// Whether at an error the old text is there whole, and else the new one. Where the file is overwritten and all calls behind
+// one fail, the error may say that it is incomplete.
+fn is_whole(room: &Room<'_>, it: Try<'_>, replaced: Result<(), Unwritten>) -> Result<bool, Fail> {
+    let (old, new) = it.texts;
+    match replaced {
+        Ok(()) => room.holds("a.html", new),
+        Err(Unwritten::Incomplete(_)) => {
+            Ok(it.has_two_names && matches!(it.fault, Fault::From(_)))
+        }
+        Err(_) => room.holds("a.html", old),
+    }
 }
 
-fn put_the_old(rt: &HostRuntime, room: &Room<'_>) -> Result<(), Fail> {
-    let _ = fs::remove_file(rt, room.at("a.html.tera-new")?.as_str());
-    room.write("a.html", OLD.as_bytes())
+// Whether nothing stays beside it. What was made can only stay where it cannot be removed.
+fn is_alone(room: &Room<'_>, it: Try<'_>) -> Result<bool, Fail> {
+    Ok(!room.has("a.html.1.tera-new")? || matches!(it.fault, Fault::From(_)))
 }
 
-fn replace_failing(rt: &HostRuntime, room: &Room<'_>, fault: Fault) -> Result<Outcome, Fail> {
-    put_the_old(rt, room)?;
+fn put_the_old(rt: &HostRuntime, room: &Room<'_>, it: Try<'_>) -> Result<(), Fail> {
+    for name in &["a.html.1.tera-new", "a.html", "b.html"] {
+        let _ = fs::remove_file(rt, room.at(name)?.as_str());
+    }
+    room.write("a.html", it.texts.0.as_bytes())?;
+    if it.has_two_names {
+        rt.hard_link(room.at("a.html")?.as_str(), room.at("b.html")?.as_str())?;
+    }
+    Ok(())
+}
+
+fn replace_failing(rt: &HostRuntime, room: &Room<'_>, it: Try<'_>) -> Result<Outcome, Fail> {
+    put_the_old(rt, room, it)?;
     let calls = Cell::new(0);
     let runtime = Failing {
         rt,
         calls: &calls,
-        fault,
+        fault: it.fault,
+        kind: it.kind,
     };
-    let replaced = replace(&runtime, room.at("a.html")?.as_str(), NEW).is_ok();
+    let replaced = replace(
+        &runtime,
+        room.at("a.html")?.as_str(),
+        it.texts.0,
+        it.texts.1,
+    );
     let has_failed = runtime.has_failed();
-    let is_kept = is_whole(room, fault, replaced)? && (replaced || has_failed);
+    let is_kept = is_whole(room, it, replaced)?
+        && is_alone(room, it)?
+        && (replaced.is_ok() || has_failed);
     Ok(Outcome {
         has_failed,
         is_kept,
     })
 }
 
-// Whether this call of replacing fails. What stands there is kept then, also where all calls behind it fail.
-fn fails(rt: &HostRuntime, room: &Room<'_>, call: u32) -> Result<bool, Fail> {
-    let once = replace_failing(rt, room, Fault::At(call))?;
-    let on = replace_failing(rt, room, Fault::From(call))?;
+// Whether this call of replacing fails. The text is kept then, also where all calls behind it fail.
+fn fails(rt: &HostRuntime, room: &Room<'_>, it: Try<'_>, call: u32) -> Result<bool, Fail> {
+    let once = replace_failing(
+        rt,
+        room,
+        Try {
+            fault: Fault::At(call),
+            ..it
+        },
+    )?;
+    let on = replace_failing(
+        rt,
+        room,
+        Try {
+            fault: Fault::From(call),
+            ..it
+        },
+    )?;
     expect(once.is_kept && on.is_kept, "a text is not kept")?;
     Ok(once.has_failed)
+}
+
+// Each call in turn, until none is left.
+fn each_fails(rt: &HostRuntime, room: &Room<'_>, it: Try<'_>) -> Result<u32, Fail> {
+    let mut turns = 0u32;
+    for call in 0..80 {
+        if !fails(rt, room, it, call)? {
+            break;
+        }
+        turns = turns.saturating_add(1);
+    }
+    Ok(turns)
+}
+
+// Errors of a disk that is full, of a folder that takes no new file, and others.
+const KINDS: [ErrorKind; 6] = [
+    ErrorKind::Other,
+    ErrorKind::StorageFull,
+    ErrorKind::FileTooLarge,
+    ErrorKind::PermissionDenied,
+    ErrorKind::ResourceBusy,
+    ErrorKind::AlreadyExists,
+];
+
+fn all_fail(rt: &HostRuntime, room: &Room<'_>, has_two_names: bool) -> Result<(), Fail> {
+    for kind in &KINDS {
+        for texts in &[(OLD, NEW), (NEW, OLD)] {
+            let it = Try {
+                fault: Fault::At(0),
+                kind: *kind,
+                has_two_names,
+                texts: *texts,
+            };
+            let turns = each_fails(rt, room, it)?;
+            expect(turns > 8 && turns < 80, "the turns")?;
+        }
+    }
+    Ok(())
 }
 
 #[test]
 fn each_call_of_replacing_fails_in_turn(rt: HostRuntime) -> Result<(), Fail> {
     let room = Room::new(&rt, "each_call_of_replacing")?;
-    let mut turns = 0u32;
-    for call in 0..40 {
-        if !fails(&rt, &room, call)? {
-            break;
-        }
-        turns = turns.saturating_add(1);
-    }
-    assert!(rt; turns > 8 && turns < 40, "{turns} turns");
+    all_fail(&rt, &room, false)?;
     room.remove()
+}
+
+#[test]
+fn each_call_of_overwriting_fails_in_turn(rt: HostRuntime) -> Result<(), Fail> {
+    let room = Room::new(&rt, "each_call_of_overwriting")?;
+    all_fail(&rt, &room, true)?;
+    room.remove()
+}
+
+// Where the file cannot be put back either, the error says that it is incomplete.
+#[test]
+fn what_is_not_put_back_is_incomplete(rt: HostRuntime) -> Result<(), Fail> {
+    let room = Room::new(&rt, "what_is_not_put_back")?;
+    let mut incomplete = 0u32;
+    for call in 0..40 {
+        let it = Try {
+            fault: Fault::From(call),
+            kind: ErrorKind::StorageFull,
+            has_two_names: true,
+            texts: (OLD, NEW),
+        };
+        if is_incomplete(&rt, &room, it)? {
+            incomplete = incomplete.saturating_add(1);
+        }
+    }
+    assert!(rt; incomplete > 0, "no text was left incomplete");
+    room.remove()
+}
+
+fn is_incomplete(rt: &HostRuntime, room: &Room<'_>, it: Try<'_>) -> Result<bool, Fail> {
+    put_the_old(rt, room, it)?;
+    let calls = Cell::new(0);
+    let runtime = Failing {
+        rt,
+        calls: &calls,
+        fault: it.fault,
+        kind: it.kind,
+    };
+    let replaced = replace(&runtime, room.at("a.html")?.as_str(), OLD, NEW);
+    Ok(matches!(replaced, Err(Unwritten::Incomplete(_))))
 }

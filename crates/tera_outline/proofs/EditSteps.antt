@@ -1,14 +1,15 @@
 -- Edits of two texts, a run of white space and a word at a time.
-use Rattle.std.proofs.Common.{◌≡◌, ◌≢◌, inl, inr, ◌+◌, ◌-◌, ◌<◌, ◌≤◌, ◌++◌, ℕ, Bool, true, false, not, List, [], ◌∷◌, length, take, drop, get_or, refl, ap, sym, subst, ◌∙◌, arith}
+use Rattle.std.proofs.Common.{◌≡◌, ◌≢◌, ◌⊎◌, inl, inr, ◌||◌, ◌+◌, ◌-◌, ◌<◌, ◌≤◌, ◌++◌, suc, min, ℕ, Bool, true, false, not, List, [], ◌∷◌, length, take, drop, get_or, refl, ap, sym, subst, ◌∙◌, arith}
 use Rattle.std.specs.Prelude.{nat_eq, slice_range, IsCharBoundary, IsUtf8}
 use Rattle.std.specs.Char.{is_ascii_whitespace}
 use Rattle.std.specs.Cmp.Lexicographic.{pointwise, same_text, other_text}
 use Rattle.std.specs.List.{prefix_len, AllPass}
 use Rattle.std.proofs.lemmas.Bool.{cases_eq, cases_lt}
+use Rattle.std.proofs.lemmas.Bool.Decides.{leb_tells}
 use Rattle.std.proofs.lemmas.List.{append-nil, append_assoc, drop-drop, drop_all, drop_at, drop_more, take-append-le, take-take, take_all, length-take, length-take-le, length-drop, get_or-drop, get_or-take}
 use Rattle.std.proofs.lemmas.List.Elements.{All-push, All-weaker}
 use Rattle.std.proofs.lemmas.List.Quantifiers.{all_pairs_push}
-use Rattle.std.proofs.lemmas.List.Sums.{prefix_len_passes}
+use Rattle.std.proofs.lemmas.List.Sums.{prefix_len_passes, prefix_len_stops}
 use Rattle.std.proofs.lemmas.Str.{IsCharBoundary-before_ascii, IsCharBoundary-after_ascii}
 use Rattle.std.proofs.Math.Seq.{take-add}
 use Rattle.tera_lexer.proofs.Cuts.{space_ascii}
@@ -22,6 +23,46 @@ use Rattle.tera_outline.proofs.Sides.{others_behind, stops, BeginAlike, begin_al
 -- so many bytes of white space stand from the byte on
 abbrev pub white : List ℕ → ℕ → ℕ
 white text at = prefix_len is_ascii_whitespace (drop at text)
+
+-- a word goes on where no white space stands in either text, and ends where some does
+unlike : true ≡ false → ⊥
+unlike e = cc
+
+word_on : (text : List ℕ) (count : ℕ) → count < length text → count ≤ prefix_len is_black text → is_ascii_whitespace (get_or text count 0) ≡ false → count < prefix_len is_black text
+word_on text count within upto is_word = elim (leb_tells (suc count) (prefix_len is_black text)) [
+  | inl h ↦ h.1
+  | inr h ↦
+      let same : prefix_len is_black text ≡ count = omega (arith, h.1, upto) in
+      let end : is_black (get_or text count 0) ≡ false = subst (λ k. is_black (get_or text k 0) ≡ false) same (prefix_len_stops is_black text 0 (omega (arith, same, within))) in
+      absurd (unlike (sym (ap not is_word) ∙ end))
+]
+
+word_off : (text : List ℕ) (count : ℕ) → is_ascii_whitespace (get_or text count 0) ≡ true → prefix_len is_black text ≤ count
+word_off text count is_end = elim (leb_tells (suc count) (prefix_len is_black text)) [
+  | inl h ↦ absurd (unlike (sym (prefix_len_passes is_black text count 0 h.1) ∙ ap not is_end))
+  | inr h ↦ omega (arith, h.1)
+]
+
+either_true : (b c : Bool) → (b || c) ≡ true → (b ≡ true) ⊎ (c ≡ true)
+either_true true c h = inl refl
+either_true false c h = inr h
+
+neither : (b c : Bool) → (b || c) ≡ false → (b ≡ false) × (c ≡ false)
+neither true c h = absurd (unlike h)
+neither false c h = (refl, h)
+
+pub words_on : (old new : List ℕ) (count : ℕ) → count < length old → count < length new → count ≤ prefix_len is_black old → count ≤ prefix_len is_black new
+    → (is_ascii_whitespace (get_or old count 0) || is_ascii_whitespace (get_or new count 0)) ≡ false → (count < prefix_len is_black old) × (count < prefix_len is_black new)
+words_on old new count in_old in_new upto_old upto_new is =
+    let (one, other) = neither (is_ascii_whitespace (get_or old count 0)) (is_ascii_whitespace (get_or new count 0)) is in
+    (word_on old count in_old upto_old one, word_on new count in_new upto_new other)
+
+pub words_off : (old new : List ℕ) (count : ℕ) → count ≤ prefix_len is_black old → count ≤ prefix_len is_black new
+    → (is_ascii_whitespace (get_or old count 0) || is_ascii_whitespace (get_or new count 0)) ≡ true → count ≡ min (prefix_len is_black old) (prefix_len is_black new)
+words_off old new count upto_old upto_new is = elim (either_true (is_ascii_whitespace (get_or old count 0)) (is_ascii_whitespace (get_or new count 0)) is) [
+  | inl one ↦ omega (arith, upto_old, upto_new, word_off old count one)
+  | inr other ↦ omega (arith, upto_old, upto_new, word_off new count other)
+]
 
 -- the last of the edits is made first
 pub applied_push : (edits : List Edit) (e : Edit) (text : List ℕ) → applied (edits ++ e ∷ []) text ≡ applied edits (edited e text)

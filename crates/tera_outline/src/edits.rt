@@ -1,6 +1,6 @@
 //! A layout as edits of white space.
 
-ghost use Rattle.std.specs.Prelude.{◌≡◌, ◌≢◌, ◌+◌, ◌-◌, ◌<◌, ◌≤◌, ℕ, length, drop, false, slice_index, string_bytes, All, IfOk, OnOk};
+ghost use Rattle.std.specs.Prelude.{◌≡◌, ◌≢◌, ◌||◌, ◌+◌, ◌-◌, ◌<◌, ◌≤◌, ℕ, length, min, drop, false, slice_index, string_bytes, All, IfOk, OnOk};
 ghost use Rattle.std.specs.Char.{is_ascii_whitespace};
 ghost use Rattle.std.specs.List.{prefix_len};
 ghost use Rattle.tera_layout.specs.Respaced.{without_white};
@@ -31,7 +31,7 @@ pub fn edits_of<'a>(alloc: Global, old: &str, new: &'a str) -> Result<Vec<Edit<'
     let mut edits = Vec::new(alloc);
     let mut at = push_run(&mut edits, old, new, Places { old: 0, new: 0 })?;
     'words: while at.old < old.len() {
-        let word = word_len(old, at.old).min(word_len(new, at.new));
+        let word = word_len(old, new, at);
         let behind = Places {
             old: at.old + word,
             new: at.new + word,
@@ -88,14 +88,37 @@ fn white_len(text: &str, at: usize) -> usize
         .count()
 }
 
-// How many other bytes do.
-fn word_len(text: &str, at: usize) -> usize
-    requires { at ≤ length text.now }
-    ensures count { result ≡ prefix_len is_black (drop at text.now) }
-    ensures within { at + result ≤ length text.now }
+// How many bytes stand from both places on before white space does in one of the texts.
+fn word_len(old: &str, new: &str, at: Places) -> usize
+    requires old { at.old ≤ length old.now }
+    requires new { at.new ≤ length new.now }
+    ensures count { result ≡ min (prefix_len is_black (drop at.old old.now)) (prefix_len is_black (drop at.new new.now)) }
+    ensures old { at.old + result ≤ length old.now }
+    ensures new { at.new + result ≤ length new.now }
 {
-    let (_, rest) = text.as_bytes().split_at(at);
-    rest.iter()
-        .take_while(|byte| !byte.is_ascii_whitespace())
-        .count()
+    let (_, old) = old.as_bytes().split_at(at.old);
+    let (_, new) = new.as_bytes().split_at(at.new);
+    common_word_len(old, new)
+}
+
+// It takes the time of the word that is shorter.
+fn common_word_len(old: &[u8], new: &[u8]) -> usize
+    ensures count { result ≡ min (prefix_len is_black old.now) (prefix_len is_black new.now) }
+    ensures old { result ≤ length old.now }
+    ensures new { result ≤ length new.now }
+{
+    let most = old.len().min(new.len());
+    for count in 0..most {
+        if is_space(old[count], new[count]) {
+            return count;
+        }
+    }
+    most
+}
+
+// Whether one of the bytes is white space.
+fn is_space(old: u8, new: u8) -> bool
+    ensures { result ≡ (is_ascii_whitespace old || is_ascii_whitespace new) }
+{
+    old.is_ascii_whitespace() || new.is_ascii_whitespace()
 }

@@ -1,6 +1,7 @@
 -- What the words of the command line ask.
-use Rattle.std.specs.Prelude.{ℕ, List, Bool, false, Option, None, Some, option_map, option_and_then, unwrap_or, if◌then◌else◌, bytes_eq, codes}
+use Rattle.std.specs.Prelude.{◌&&◌, ◌∷◌, [], ℕ, List, Bool, false, not, Option, None, Some, option_map, option_and_then, unwrap_or, if◌then◌else◌, bytes_eq, codes}
 use denote.Ref.{Bor}
+use Rattle.std.specs.List.{list_any}
 use Rattle.clap.specs.Words.{Row, first_of, all_of}
 use Rattle.tera_files.specs.Names.{texts}
 use Rattle.tera_program.specs.declared.colours.Colours.{Colours}
@@ -57,6 +58,23 @@ job_view (jobs.Tree j) = tree_view j
 job_view (jobs.Components j) = components_view j
 job_view (jobs.Format j) = format_view j
 job_view jobs.Server = Serves
+
+-- ---- whether standard input has a name for nothing
+
+-- it has another name than its own, and is not among the files
+abbrev pub is_unread : Common → List (Bor (List ℕ)) → Bool
+is_unread c files = not (bytes_eq c.stdin.now (codes "-")) && not (list_any (λ file. bytes_eq file.now (codes "-")) files)
+
+abbrev pub are_unread : Common → Option (Bor (List (Bor (List ℕ)))) → Bool
+are_unread c None = false
+are_unread c (Some files) = is_unread c files.now
+
+abbrev pub names_unread_input : Job → Bool
+names_unread_input (jobs.Check j) = are_unread j.common j.files
+names_unread_input (jobs.Tree j) = is_unread j.common (j.file ∷ [])
+names_unread_input (jobs.Components j) = are_unread j.common j.files
+names_unread_input (jobs.Format j) = are_unread j.common j.files
+names_unread_input jobs.Server = false
 
 -- ---- what is read of the rows of a subcommand
 

@@ -1,3 +1,5 @@
+pub mod Actions
+pub mod Colours
 pub mod Counting
 pub mod Ends
 pub mod Forms

@@ -5,8 +5,7 @@ use Rattle.std.specs.List.{flat_map}
 use Rattle.std.specs.Option.{option_to_list}
 use Rattle.json_rpc.specs.Ids.{NullId}
 use Rattle.json_rpc.specs.Messages.{message_of}
-use Rattle.json_rpc.specs.Outgoing.{Outgoing, nothing, IsAnswered}
-use Rattle.json_rpc.specs.Writing.{body, refusal}
+use Rattle.json_rpc.specs.Outgoing.{Outgoing, nothing}
 use Rattle.json_rpc.specs.declared.code.Code.TheVariants.{InternalError, ParseError}
 use Rattle.message_frames.specs.Held.{Held}
 use Rattle.message_frames.specs.Standing.{Stands}
@@ -18,7 +17,7 @@ use Rattle.tera_program.specs.declared.options.TheConstants.{EXTENSIONS}
 use Rattle.tera_server.specs.Settling.{IsSettling, ArePublishedInPart}
 use Rattle.tera_server.specs.Sending.{untold_of}
 use Rattle.tera_server.specs.States.{known_of, loaded_as, WantedVal, WantsFile, WantsFolder, wanted_of, edited_of, StaysBut}
-use Rattle.tera_server.specs.Steps.{ended_at, Step, IsMissed, IsUntaken}
+use Rattle.tera_server.specs.Steps.{ended_at, Step, IsRefused, IsUntaken}
 use Rattle.tera_server.specs.declared.server.Ended.{Ended}
 use Rattle.tera_server.specs.declared.server.Phase.TheVariants.{New}
 use Rattle.tera_server.specs.declared.server.Server.{Server}
@@ -34,14 +33,15 @@ pub record IsNew (s : Server) : Type 0 where
   pub kept : IsKept s.workspace
   pub none : (wanted_of s ≡ []) × (edited_of s ≡ []) × (untold_of s ≡ [])
 
--- what a message does, and what is to be sent then; what is too long is missed, and what is no message is refused
+-- what a message does, and what is to be sent then; what is too long is missed, and what is no message is refused: each
+-- may have been a change
 abbrev pub Takes : Server → Shown → Option Ended → Server → Outgoing → Type 0
 Takes s (Message message) ended t out =
     Step s (message_of message) nothing ended t out ⊎ ((ended ≡ None) × IsUntaken s (message_of message) nothing t out)
 Takes s (TooLong len) ended t out =
-    (ended ≡ None) × IsMissed s t × IsAnswered nothing out NullId (body (refusal NullId InternalError))
+    (ended ≡ None) × IsRefused NullId InternalError s nothing t out
 Takes s Bad ended t out =
-    (ended ≡ None) × (t ≡ s) × IsAnswered nothing out NullId (body (refusal NullId ParseError))
+    (ended ≡ None) × IsRefused NullId ParseError s nothing t out
 Takes s Wait ended t out = (ended ≡ None) × (t ≡ s) × (out ≡ nothing)
 
 -- what is published when no message waits: all of it or, where no memory was found, a part

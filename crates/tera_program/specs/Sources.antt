@@ -1,6 +1,13 @@
--- Sources by the names of their files.
-use Rattle.std.specs.Prelude.{ℕ, List, [], ◌∷◌, Option, None, Some, if◌then◌else◌, bytes_eq, string_bytes}
+-- Sources by the names of their files, and the templates that are read of them.
+use Rattle.std.specs.Prelude.{◌≡◌, ◌++◌, ℕ, List, [], ◌∷◌, Bool, true, false, Option, None, Some, IfErr, IfOk, if◌then◌else◌, bytes_eq, string_bytes}
+use Rattle.tera_check.specs.declared.templates.Template.{Template}
 use Rattle.tera_files.specs.declared.reading.Source.{Source}
+use Rattle.tera_grammar.specs.Limits.{usual}
+use Rattle.tera_grammar.specs.statements.Top.{Derives}
+use Rattle.tera_lexer.specs.grammar.Marks.{default_marks}
+use Rattle.tera_parser.specs.Refusal.{Refuses}
+use Rattle.tera_tree.specs.Outputs.{output_view}
+use Rattle.tera_program.specs.declared.reading.Templates.{Templates}
 
 -- what is known of the source of a file
 abbrev pub Known : Type 0
@@ -17,3 +24,22 @@ with_source known source file =
 abbrev pub with_sources : Known → List Source → Known
 with_sources known [] = known
 with_sources known (source ∷ more) = with_sources (with_source known source) more
+
+-- A template is that of the source of a file.
+pub record IsReadFrom (file source : List ℕ) (template : Template) : Type 0 where
+  pub named : string_bytes template.file ≡ file
+  pub read : IfOk template.parsed (λ output. Derives usual default_marks source (output_view output))
+  pub refused : IfErr template.parsed (Refuses default_marks source)
+
+-- What is kept of a source: itself, or nothing.
+abbrev pub AddsKept : Bool → List ℕ → List ℕ → List Source → List Source → Type 0
+AddsKept true file text old new =
+    (source : Source) × (string_bytes source.file ≡ file) × (string_bytes source.text ≡ text) × (new ≡ old ++ source ∷ [])
+AddsKept false file text old new = new ≡ old
+
+-- The template of a file goes behind the others, and so does its source where it is kept.
+pub record AddsRead (file text : List ℕ) (keeps : Bool) (old new : Templates) : Type 0 where
+  pub template : Template
+  pub read : IsReadFrom file text template
+  pub behind : new.templates.items ≡ old.templates.items ++ template ∷ []
+  pub kept : AddsKept keeps file text old.sources.items new.sources.items

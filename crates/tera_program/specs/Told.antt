@@ -9,6 +9,7 @@ use Rattle.terminal_text.specs.declared.style.Style.{Style}
 use Rattle.tera_program.specs.Forms.{text_of}
 use Rattle.tera_program.specs.Found.{AreFound, defined_in, count_in, faulty_in, found_view, is_wrong}
 use Rattle.tera_program.specs.Sources.{Known, nothing, with_sources}
+use Rattle.tera_program.specs.declared.counting.Checked.{Checked}
 use Rattle.tera_program.specs.declared.found.Found.{Found}
 use Rattle.tera_program.specs.declared.job.Form.{Form}
 use Rattle.tera_program.specs.declared.reading.Templates.{Templates}
@@ -28,6 +29,10 @@ pub record IsTold (form : Form) (style : Style) (known : Known) (templates : Lis
   pub errors : told.errors ≡ list_any is_wrong all
   pub findings : told.findings ≡ count_in all
   pub faulty : told.faulty ≡ faulty_in all
+
+-- what the last line counts: the findings that were written, and the files that were read
+abbrev pub counts_of : Templates → Told → Checked
+counts_of all told = record { files = all.checked; findings = told.findings; faulty = told.faulty; unread = all.unread }
 
 -- how the program ends where so many files could not be read
 abbrev pub ended_of : Result Told AllocError → ℕ → Ended

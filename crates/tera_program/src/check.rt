@@ -1,14 +1,15 @@
 //! `tera check`.
 
-ghost use Rattle.std.specs.Prelude.{◌≡◌, IfOk, OnErr};
+ghost use Rattle.std.specs.Prelude.{◌≡◌, ◌++◌, ◌∷◌, [], string_bytes, IfOk, OnErr};
 ghost use Rattle.std.specs.Io.KnownBytes.{Keeps};
+ghost use Rattle.tera_program.specs.Counting.{checked_line};
 ghost use Rattle.tera_program.specs.Sources.{nothing, with_sources};
-ghost use Rattle.tera_program.specs.Told.{IsChecked, IsTold, ended_of};
+ghost use Rattle.tera_program.specs.Told.{IsChecked, IsTold, counts_of, ended_of};
 
 use crate::colours::{Terminals, style};
 use crate::counting::{Checked, checked_line};
 use crate::job::{Check, Form};
-use crate::output::{tell, tell_stopped};
+use crate::output::{put_error, tell, tell_stopped};
 use crate::reading::{Templates, read_all};
 use crate::status::Ended;
 use crate::telling::{Told, tell_findings};
@@ -38,9 +39,9 @@ pub(crate) fn run<R: Files + Env + Input + Print + Eprint + AllocGlobal + Clone 
     let keeps_sources = matches!(job.form, Form::Full);
     match read_all(rt, job.common, files, job.library, keeps_sources) {
         Ok(all) => {
-            let ended = run_on(rt, style, job, &all, &mut io::writer(rt));
+            let (ended, is_said) = run_on(rt, style, job, &all, &mut io::writer(rt));
             all.forget();
-            ended
+            ended.unless_said(is_said)
         }
         Err(_) => {
             tell(rt, "tera", "out of memory");
@@ -57,23 +58,27 @@ fn has_input(library: Option<&[&str]>) -> bool {
     }
 }
 
-// Tells what is found in the templates.
+// Writes what is found in the templates. The answer is how the program ends by that, and whether standard error took what
+// is said there.
 fn run_on<R: Eprint + AllocGlobal, W: Write>(
     rt: &R,
     style: Style,
     job: &Check<'_, '_>,
     all: &Templates,
     writer: &mut W,
-) -> Ended
+) -> (Ended, bool)
     ensures { IsChecked job.now.form style all.now (W.contents writer.old) (W.contents writer.new)
-        result }
+        result.0 }
 {
     let told = tell_all(rt.alloc(), style, job.form, all, writer);
-    match &told {
+    let is_said = match &told {
         Ok(told) => tell_end(rt, job, all, told),
-        Err(_) => tell(rt, "tera", "out of memory"),
-    }
-    ended(&told, all.unread)
+        Err(_) => {
+            tell(rt, "tera", "out of memory");
+            false
+        }
+    };
+    (ended(&told, all.unread), is_said)
 }
 
 fn tell_all<W: Write>(
@@ -112,12 +117,23 @@ fn ended(told: &Result<Told, AllocError>, unread: usize) -> Ended
     }
 }
 
-// Says on standard error why not all was written, or else the last line.
-fn tell_end<R: Eprint + AllocGlobal>(rt: &R, job: &Check<'_, '_>, all: &Templates, told: &Told) {
+// Says on standard error why not all was written, or else the last line. The answer is whether that went well.
+fn tell_end<R: Eprint + AllocGlobal>(
+    rt: &R,
+    job: &Check<'_, '_>,
+    all: &Templates,
+    told: &Told,
+) -> bool {
     match told.stopped {
-        Some(error) => tell_stopped(rt, error),
-        None if is_counted(job) => tell_counts(rt, all, told),
-        None => {}
+        Some(error) => {
+            tell_stopped(rt, error);
+            false
+        }
+        None if is_counted(job) => match last_line(rt.alloc(), all, told) {
+            Ok(line) => put_error(rt, line.as_str()),
+            Err(_) => false,
+        },
+        None => true,
     }
 }
 
@@ -126,14 +142,23 @@ fn is_counted(job: &Check<'_, '_>) -> bool {
     !job.common.quiet && matches!(job.form, Form::Full | Form::Concise)
 }
 
-fn tell_counts<R: Eprint + AllocGlobal>(rt: &R, all: &Templates, told: &Told) {
-    let counts = Checked {
+// The last line, which counts what was written and the files that were read.
+fn last_line(alloc: Global, all: &Templates, told: &Told) -> Result<String, AllocError>
+    ensures { IfOk result (λ line. string_bytes line
+        ≡ checked_line (counts_of all.now told.now) ++ 10 ∷ []) }
+{
+    let mut line = checked_line(alloc, counts_of(all, told))?;
+    line.push('\n')?;
+    Ok(line)
+}
+
+fn counts_of(all: &Templates, told: &Told) -> Checked
+    ensures { result ≡ counts_of all.now told.now }
+{
+    Checked {
         files: all.checked,
         findings: told.findings,
         faulty: told.faulty,
         unread: all.unread,
-    };
-    if let Ok(line) = checked_line(rt.alloc(), counts) {
-        let _ = eprintln!(rt; "{line}");
     }
 }

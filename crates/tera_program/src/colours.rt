@@ -1,5 +1,8 @@
 //! Whether messages have colours.
 
+ghost use Rattle.std.specs.Prelude.{◌≡◌};
+ghost use Rattle.tera_program.specs.Colours.{style_of};
+
 use std::env;
 use std::rt::Env;
 use terminal_text::Style;
@@ -16,7 +19,7 @@ pub struct Terminals {
 /// When messages have colours.
 #[derive(Clone, Copy, Debug, PartialEq, Eq)]
 pub(crate) enum Colours {
-    /// On a terminal, unless `NO_COLOR` is set and not empty.
+    /// On a terminal, unless `NO_COLOR` is set and not empty, or `TERM` is `dumb`.
     Auto,
     Always,
     Never,
@@ -24,8 +27,15 @@ pub(crate) enum Colours {
 
 /// How messages to a stream are written.
 pub(crate) fn style<R: Env + AllocGlobal>(rt: &R, colours: Colours, terminal: bool) -> Style {
+    style_of(colours, terminal && !is_set(rt, "NO_COLOR") && !is_dumb(rt))
+}
+
+// Colours, if they are asked for, or if nobody asked and the stream shows them.
+fn style_of(colours: Colours, shows_colours: bool) -> Style
+    ensures { result ≡ style_of colours shows_colours }
+{
     match colours {
-        Colours::Auto if terminal && !is_set(rt, "NO_COLOR") => Style::Coloured,
+        Colours::Auto if shows_colours => Style::Coloured,
         Colours::Always => Style::Coloured,
         Colours::Auto | Colours::Never => Style::Plain,
     }
@@ -33,4 +43,9 @@ pub(crate) fn style<R: Env + AllocGlobal>(rt: &R, colours: Colours, terminal: bo
 
 fn is_set<R: Env + AllocGlobal>(rt: &R, name: &str) -> bool {
     env::var(rt, name).is_ok_and(|value| !value.is_empty())
+}
+
+// Whether the terminal says that it obeys no escapes.
+fn is_dumb<R: Env + AllocGlobal>(rt: &R) -> bool {
+    env::var(rt, "TERM").is_ok_and(|value| value.as_str() == "dumb")
 }

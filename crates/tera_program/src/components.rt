@@ -3,7 +3,7 @@
 use crate::colours::{Terminals, style};
 use crate::counting::{Listed, listed_line};
 use crate::job::Components;
-use crate::output::{put, tell};
+use crate::output::{put, put_error, tell};
 use crate::reading::{Templates, read_all};
 use crate::status::Ended;
 use std::alloc::{AllocError, Global};
@@ -41,7 +41,7 @@ fn listed<R: Files + Env + Input + Print + Eprint + AllocGlobal + Clone + Drop>(
     };
     let all = read_all(rt, job.common, files, None, true)?;
     let faults = faults_of(alloc, style, &all)?;
-    let _ = eprint!(rt; "{}", faults.text);
+    let mut said = put_error(rt, faults.text.as_str());
     let components = components_of(alloc, &all.templates)?;
     let text = catalogue(alloc, job.html, components.as_slice())?;
     let written = put(rt, text.as_slice());
@@ -52,12 +52,13 @@ fn listed<R: Files + Env + Input + Print + Eprint + AllocGlobal + Clone + Drop>(
             faulty: faults.count,
             unread: all.unread,
         };
-        let line = listed_line(alloc, counts)?;
-        let _ = eprintln!(rt; "{line}");
+        let mut line = listed_line(alloc, counts)?;
+        line.push('\n')?;
+        said = put_error(rt, line.as_str()) && said;
     }
     Ok(Ended {
         found: faults.count > 0,
-        failed: all.unread > 0 || !written,
+        failed: all.unread > 0 || !written || !said,
     })
 }
 

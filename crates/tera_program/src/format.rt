@@ -8,8 +8,8 @@ use crate::colours::{Terminals, style};
 use crate::counting::{LaidOut, laid_out_line};
 use crate::job::{Format, Mode};
 use crate::markers::{markers_of, tell_unfit};
-use crate::output::{put, tell, tell_unread, tell_unwritten};
-use crate::plan::{Plan, plan_of};
+use crate::output::{name_line, put, put_error, tell, tell_unread, tell_unwritten};
+use crate::plan::{Action, Plan, action_of, plan_of};
 use crate::reading::{found, name_of, tell_unlisted};
 use crate::status::Ended;
 use crate::tree::fault_text;
@@ -31,11 +31,33 @@ enum Became {
     Untold,
 }
 
+impl Became {
+    // Of a template, once its answer was written, or not.
+    fn of_plan(plan: &Plan, is_written: bool) -> Became {
+        match plan {
+            _ if !is_written => Became::Untold,
+            Plan::Same => Became::Same,
+            Plan::Layout(_) => Became::Changed,
+        }
+    }
+
+    // Of what is no template, once its fault was written, or not.
+    fn of_fault(is_written: bool) -> Became {
+        if is_written {
+            Became::Faulty
+        } else {
+            Became::Failed
+        }
+    }
+}
+
 // How messages are written.
 #[derive(Clone, Copy)]
 struct Styles {
     out: Style,
     err: Style,
+    // Whether standard output is a terminal.
+    is_terminal: bool,
 }
 
 /// Lays out the files.
@@ -48,6 +70,7 @@ pub(crate) fn run<R: Files + Env + Input + Print + Eprint + AllocGlobal + Clone 
     let styles = Styles {
         out: style(rt, colours, terminals.out),
         err: style(rt, colours, terminals.err),
+        is_terminal: terminals.out,
     };
     match markers_of(rt.alloc(), job.markers) {
         Ok(markers) => match lay_out_all(rt, styles, job, &markers) {
@@ -77,7 +100,7 @@ fn lay_out_all<R: Files + Input + Print + Eprint + AllocGlobal + Clone + Drop>(
         return Ok(Ended::failed());
     };
     let files = found(rt, job.common, paths)?;
-    tell_unlisted(rt, &files);
+    tell_unlisted(rt, job.common, &files)?;
     let mut counts = LaidOut {
         changed: 0,
         same: 0,
@@ -91,8 +114,11 @@ fn lay_out_all<R: Files + Input + Print + Eprint + AllocGlobal + Clone + Drop>(
         }
     }
     if !job.common.quiet && paths != ["-"].as_slice() {
-        let line = laid_out_line(rt.alloc(), job.mode, counts)?;
-        let _ = eprintln!(rt; "{line}");
+        let mut line = laid_out_line(rt.alloc(), job.mode, counts)?;
+        line.push('\n')?;
+        if !put_error(rt, line.as_str()) {
+            return Ok(Ended::failed());
+        }
     }
     Ok(ended(job.mode, counts))
 }
@@ -136,63 +162,51 @@ fn lay_out<R: Files + Input + Print + Eprint + AllocGlobal>(
             return Ok(Became::Failed);
         }
     };
-    match plan_of(alloc, name, source.text.as_str(), markers) {
-        Ok(Plan::Same) => put_same(rt, job, file, &source),
-        Ok(Plan::Layout(layout)) => put_layout(rt, styles.out, job, file, &source, layout.as_str()),
+    let plan = match plan_of(alloc, name, source.text.as_str(), markers) {
+        Ok(plan) => plan,
         Err(error) => {
             let text = fault_text(alloc, styles.err, &source, &error)?;
-            let _ = eprint!(rt; "{text}");
-            Ok(Became::Faulty)
+            return Ok(Became::of_fault(put_error(rt, text.as_str())));
         }
-    }
-}
-
-// A file stays as it is. Standard input is written all the same.
-fn put_same<R: Print + Eprint + AllocGlobal>(
-    rt: &R,
-    job: &Format<'_, '_>,
-    file: &str,
-    source: &Source,
-) -> Result<Became, AllocError> {
-    if file == "-" && job.mode == Mode::Write && !put(rt, source.text.as_bytes()) {
-        Ok(Became::Untold)
-    } else {
-        Ok(Became::Same)
-    }
-}
-
-fn put_layout<R: Files + Print + Eprint + AllocGlobal>(
-    rt: &R,
-    style: Style,
-    job: &Format<'_, '_>,
-    file: &str,
-    source: &Source,
-    layout: &str,
-) -> Result<Became, AllocError> {
-    let name = source.file.as_str();
-    let written = match job.mode {
-        Mode::Check => put_name(rt, name)?,
-        Mode::Diff => {
-            let text = difference(rt.alloc(), style, name, source.text.as_str(), layout)?;
-            put(rt, text.as_bytes())
-        }
-        Mode::Write if file == "-" => put(rt, layout.as_bytes()),
-        Mode::Write => match replace(rt, file, layout) {
-            Ok(()) => put_name(rt, name)?,
-            Err(error) => {
-                tell_unwritten(rt, file, error);
+    };
+    let action = action_of(job.mode, file == "-", source.text.as_str(), &plan);
+    let is_written = match action {
+        Action::Replace(layout) => {
+            if let Err(why) = replace(rt, file, source.text.as_str(), layout) {
+                tell_unwritten(rt, file, why);
                 return Ok(Became::Failed);
             }
-        },
+            put_name(rt, styles, name)?
+        }
+        _ => put_action(rt, styles, &source, action)?,
     };
-    Ok(if written {
-        Became::Changed
-    } else {
-        Became::Untold
-    })
+    Ok(Became::of_plan(&plan, is_written))
 }
 
-fn put_name<R: Print + Eprint + AllocGlobal>(rt: &R, name: &str) -> Result<bool, AllocError> {
-    let line = format!(in rt.alloc(); "{name}\n")?;
+// Writes what an action has for standard output. No file can be written here.
+fn put_action<R: Print + Eprint + AllocGlobal>(
+    rt: &R,
+    styles: Styles,
+    source: &Source,
+    action: Action<'_>,
+) -> Result<bool, AllocError> {
+    let name = source.file.as_str();
+    match action {
+        Action::Nothing => Ok(true),
+        Action::Show(text) => Ok(put(rt, text.as_bytes())),
+        Action::Difference(layout) => {
+            let text = difference(rt.alloc(), styles.out, name, source.text.as_str(), layout)?;
+            Ok(put(rt, text.as_bytes()))
+        }
+        Action::Name | Action::Replace(_) => put_name(rt, styles, name),
+    }
+}
+
+fn put_name<R: Print + Eprint + AllocGlobal>(
+    rt: &R,
+    styles: Styles,
+    name: &str,
+) -> Result<bool, AllocError> {
+    let line = name_line(rt.alloc(), styles.is_terminal, name)?;
     Ok(put(rt, line.as_bytes()))
 }

@@ -3,7 +3,7 @@
 ghost use Rattle.std.specs.Prelude.{◌≡◌, option_map, option_and_then, unwrap_or, codes};
 ghost use Rattle.clap.specs.Words.{found_of, rows_of, first_of, all_of, subcommand_rows_of};
 ghost use Rattle.tera_files.specs.Names.{texts};
-ghost use Rattle.tera_program.specs.Jobs.{check_of, check_view, colours_of, common_of, common_view, components_of, components_view, form_of, format_of, format_view, is_set, is_text, job_of, job_view, mode_of, tree_of, tree_view};
+ghost use Rattle.tera_program.specs.Jobs.{are_unread, check_of, check_view, colours_of, common_of, common_view, components_of, components_view, form_of, format_of, format_view, is_set, is_text, is_unread, job_of, job_view, mode_of, names_unread_input, tree_of, tree_view};
 
 use crate::colours::Colours;
 use clap::ArgMatches;
@@ -95,6 +95,35 @@ impl<'b, 'a> Job<'b, 'a> {
             _ => None,
         }
     }
+
+    /// Whether standard input is given the name of a file, and is not read.
+    pub(crate) fn names_unread_input(&self) -> bool
+        ensures { result ≡ names_unread_input self.now }
+    {
+        match self {
+            Job::Check(job) => are_unread(job.common, job.files),
+            Job::Tree(job) => is_unread(job.common, &[job.file]),
+            Job::Components(job) => are_unread(job.common, job.files),
+            Job::Format(job) => are_unread(job.common, job.files),
+            Job::Server => false,
+        }
+    }
+}
+
+fn are_unread(common: Common<'_, '_>, files: Option<&[&str]>) -> bool
+    ensures { result ≡ are_unread common.entry files.entry }
+{
+    match files {
+        Some(files) => is_unread(common, files),
+        None => false,
+    }
+}
+
+// Whether standard input has another name than its own, and is not among the files.
+fn is_unread(common: Common<'_, '_>, files: &[&str]) -> bool
+    ensures { result ≡ is_unread common.entry files.now }
+{
+    common.stdin != "-" && !files.contains(&"-")
 }
 
 fn check_in<'b, 'a>(found: &'b ArgMatches<'a>) -> Check<'b, 'a>

@@ -6,7 +6,8 @@
 //!
 //! In the order of reading: `options`, the words; `job`, what they ask; `status`, how it ends; `colours` and `output`;
 //! `reading`, the templates; `found`, `forms`, `writing` and `telling`, what is found in them as text; `counting`, the
-//! last line; `plan` and `markers`, what a file becomes; then a module for each subcommand.
+//! last line; `plan` and `markers`, what a file becomes; `sending`, the messages to an editor; then a module for each
+//! subcommand.
 #![tactic(auto)]
 
 mod check;
@@ -114,6 +115,11 @@ fn done<R: Files + Env + Input + Print + Eprint + AllocGlobal + Clone + Drop>(
 ) -> Result<Ended, Error> {
     let matches = command(rt.alloc())?.try_get_matches_from(words)?;
     let ended = match Job::of(&matches) {
+        Some(job) if job.names_unread_input() => {
+            let why = "--stdin-filename: standard input is not read, as no file is `-`";
+            tell(rt, "tera", why);
+            Ended::failed()
+        }
         Some(Job::Check(job)) => check::run(rt, terminals, &job),
         Some(Job::Tree(job)) => tree::run(rt, terminals, &job),
         Some(Job::Components(job)) => components::run(rt, terminals, &job),

@@ -17,20 +17,23 @@ static COLOURS: [&str; 3] = ["auto", "always", "never"];
 
 const OF_ALL: &str = "\
 Examples:
-  tera check templates                   what is wrong in the templates of a folder
-  tera format --diff templates           what their layout would change
-  tera components templates > ui.json    which components they define
+  tera check templates                   check the templates of a folder
+  tera format --diff templates           show what their layout would change
+  tera components templates > ui.json    list the components that they define
 
 Exit status:
-  0  nothing but warnings was found, and all was done
-  1  an error was found, or under --check or --diff a file that would change
-  2  not all could be done: a file could not be read or written, or the arguments are wrong
+  0  everything was done, and no error was found (there may be warnings)
+  1  an error was found, or under --check or --diff a file would change
+  2  something could not be done: a file could not be read or written, or the arguments are wrong
 
-`tera help COMMAND` tells more of a command.";
+`tera help COMMAND` prints the help of a command.";
 
 const OF_CHECK: &str = "\
-A folder stands for the templates below it: files that end in .html, .htm, .xml or .tera, but for those that are hidden
-or in `node_modules`. A file that is met again is checked once.
+A folder means the templates below it: the files whose names end in .html, .htm, .xml or .tera, except hidden files and
+those in `node_modules`. A file that is given twice is checked once.
+
+This parser does not read floating-point numbers. Tera does: a template that has one gets the error `Float literals are
+not supported`, and the rest of it is not checked.
 
 Examples:
   tera check templates
@@ -38,11 +41,11 @@ Examples:
   tera check --output-format github templates
   tera check --stdin-filename page.html --library templates - < page.html
 
-Exit status: 0 where nothing but warnings was found, 1 where an error was, 2 where a file could not be read.";
+Exit status: 0 if no error was found (there may be warnings), 1 if an error was found, 2 if a file could not be read.";
 
 const OF_FORMAT: &str = "\
-A file is rewritten in its layout, and its name is told where that changed it. A file with a fault stays as it is. The
-layout of standard input is written to standard output.
+A file is rewritten in its layout, and its name is printed if that changed it. A file with a syntax error is left as it
+is. The layout of standard input is written to standard output.
 
 Examples:
   tera format templates
@@ -50,22 +53,22 @@ Examples:
   tera format --diff templates | less -R
   tera format --markers '[% %] [[ ]] [# #]' page.html
 
-Exit status: 0 where all is laid out, 1 where a template has a fault, or a file would change under --check or --diff,
-2 where a file could not be read or written.";
+Exit status: 0 if every file is laid out, 1 if a template has a syntax error or a file would change under --check or
+--diff, 2 if a file could not be read or written.";
 
 const OF_COMPONENTS: &str = "\
 Examples:
   tera components templates > components.json
   tera components --output-format html templates > components.html
 
-Exit status: 0 where each template was read, 1 where one has a fault, 2 where a file could not be read.";
+Exit status: 0 if every template was read, 1 if one has a syntax error, 2 if a file could not be read.";
 
 const OF_TREE: &str = "\
 Examples:
   tera tree page.html
   tera tree --json < page.html
 
-Exit status: 0 where a tree was shown, 1 where the template has a fault, 2 where it could not be read.";
+Exit status: 0 if the tree was shown, 1 if the template has a syntax error, 2 if it could not be read.";
 
 const OF_SERVER: &str = "\
 An editor starts it and ends it. It tells what is wrong while templates are edited, over all that stand below the folders
@@ -86,12 +89,12 @@ pub(crate) fn command<'a>(alloc: Global) -> Result<Command<'a>, AllocError> {
         .subcommand(format(alloc)?)?
         .subcommand(components(alloc)?)?
         .subcommand(tree(alloc)?)?
-        .subcommand(server(alloc))
+        .subcommand(server(alloc)?)
 }
 
 fn check<'a>(alloc: Global) -> Result<Command<'a>, AllocError> {
     let command = Command::new(alloc, "check")
-        .about("Finds faults of templates, and components that are wrongly defined or called")
+        .about("Checks templates: syntax, and how components are defined and called")
         .after_help(OF_CHECK)
         .arg(choice(
             alloc,
@@ -99,39 +102,39 @@ fn check<'a>(alloc: Global) -> Result<Command<'a>, AllocError> {
             "FORMAT",
             FORMATS.as_slice(),
             "full",
-            "How findings are told",
+            "Format of the findings",
         ))?
         .arg(several(
             alloc,
             "library",
             "PATH",
-            "A file or folder whose components may be called, and which is not checked itself",
+            "File or folder whose components may be called; it is not checked itself",
         ))?;
     with_files(alloc, command)
 }
 
 fn format<'a>(alloc: Global) -> Result<Command<'a>, AllocError> {
     let command = Command::new(alloc, "format")
-        .about("Lays out the white space in tags, and changes nothing else")
+        .about("Formats the white space in tags, and changes nothing else")
         .after_help(OF_FORMAT)
         .arg(flag(
             alloc,
             "check",
-            "Write no file, and name those that would change",
+            "Write no file, and print the names of those that would change",
         ))?
         .arg(flag(alloc, "diff", "Write no file, and show what would change"))?
         .arg(option(
             alloc,
             "markers",
             "WORDS",
-            "Six other markers in one word, as '[% %] [[ ]] [# #]'",
+            "Six other markers in one word, for example '[% %] [[ ]] [# #]'",
         ))?;
     with_files(alloc, command)
 }
 
 fn components<'a>(alloc: Global) -> Result<Command<'a>, AllocError> {
     let command = Command::new(alloc, "components")
-        .about("Lists components with their parameters and a call to copy")
+        .about("Lists components with their parameters and an example call")
         .after_help(OF_COMPONENTS)
         .arg(choice(
             alloc,
@@ -139,7 +142,7 @@ fn components<'a>(alloc: Global) -> Result<Command<'a>, AllocError> {
             "FORMAT",
             CATALOGUES.as_slice(),
             "json",
-            "How they are listed",
+            "Format of the list",
         ))?;
     with_files(alloc, command)
 }
@@ -151,7 +154,7 @@ fn tree<'a>(alloc: Global) -> Result<Command<'a>, AllocError> {
         .arg(flag(
             alloc,
             "json",
-            "Show it as JSON, with the places of its expressions",
+            "Show it as JSON, with the positions of its expressions",
         ))?
         .arg(stdin_filename(alloc))?
         .arg(colour(alloc))?
@@ -163,12 +166,17 @@ fn tree<'a>(alloc: Global) -> Result<Command<'a>, AllocError> {
         )
 }
 
-fn server<'a>(alloc: Global) -> Command<'a> {
+fn server<'a>(alloc: Global) -> Result<Command<'a>, AllocError> {
     Command::new(alloc, "server")
         .about(
             "Talks with an editor in the Language Server Protocol, over standard input and output",
         )
         .after_help(OF_SERVER)
+        .arg(flag(
+            alloc,
+            "stdio",
+            "Accepted, and changes nothing: it talks over standard input and output anyway",
+        ))
 }
 
 // What is told of the files, by each command that reads several.
@@ -218,7 +226,7 @@ fn stdin_filename<'a>(alloc: Global) -> Arg<'a> {
         alloc,
         "stdin-filename",
         "NAME",
-        "The file that standard input stands for",
+        "Name of the file that standard input stands for",
     )
 }
 
@@ -234,7 +242,7 @@ fn colour<'a>(alloc: Global) -> Arg<'a> {
 }
 
 fn quiet<'a>(alloc: Global) -> Arg<'a> {
-    flag(alloc, "quiet", "Leave out the last line, which counts").short('q')
+    flag(alloc, "quiet", "Do not print the summary line").short('q')
 }
 
 fn extension<'a>(alloc: Global) -> Arg<'a> {
@@ -242,7 +250,7 @@ fn extension<'a>(alloc: Global) -> Arg<'a> {
         alloc,
         "extension",
         "NAME",
-        "How the names of templates end in a folder, in place of html, htm, xml and tera",
+        "File extensions of templates in folders, instead of html, htm, xml and tera",
     )
 }
 

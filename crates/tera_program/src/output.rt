@@ -1,13 +1,13 @@
 //! What is written beside the answer.
 
-ghost use Rattle.std.specs.Prelude.{◌≡◌, IfOk, string_bytes};
-ghost use Rattle.tera_program.specs.Lines.{error_line};
+ghost use Rattle.std.specs.Prelude.{◌≡◌, ◌++◌, IfOk, OnOk, string_bytes};
+ghost use Rattle.tera_program.specs.Lines.{error_line, name_for, name_line, lines_for};
 
+use line_text::{push_on_lines, push_on_one_line};
 use std::alloc::{AllocError, Global};
 use std::io;
 use std::io::Write;
-use tera_files::Unread;
-use terminal_text::push_on_one_line;
+use tera_files::{Unread, Unwritten};
 
 /// The line that says what went wrong with a file: `FILE: error: WHY`.
 pub(crate) fn error_line(alloc: Global, file: &str, why: &str) -> Result<String, AllocError>
@@ -21,11 +21,54 @@ pub(crate) fn error_line(alloc: Global, file: &str, why: &str) -> Result<String,
     Ok(line)
 }
 
-/// Says on standard error what went wrong with the file; with none, where `tera` stands in its place.
+/// The line that names a file: as it is for another program, and on one line on a terminal.
+pub(crate) fn name_line(alloc: Global, is_terminal: bool, name: &str) -> Result<String, AllocError>
+    ensures { IfOk result (λ line. string_bytes line ≡ name_line is_terminal name.now) }
+{
+    let mut line = String::new(alloc);
+    push_name(&mut line, is_terminal, name)?;
+    line.push('\n')?;
+    Ok(line)
+}
+
+fn push_name(to: &mut String, is_terminal: bool, name: &str) -> Result<(), AllocError>
+    ensures { OnOk result (string_bytes to.new
+        ≡ string_bytes to.old ++ name_for is_terminal name.now) }
+{
+    if is_terminal {
+        push_on_one_line(to, name)
+    } else {
+        to.push_str(name)
+    }
+}
+
+/// A text of several lines: as it is for another program, and without what a terminal would obey on a terminal.
+pub(crate) fn lines_for(
+    alloc: Global,
+    is_terminal: bool,
+    text: String,
+) -> Result<String, AllocError>
+    ensures { IfOk result (λ t. string_bytes t ≡ lines_for is_terminal (string_bytes text)) }
+{
+    if !is_terminal {
+        return Ok(text);
+    }
+    let mut safe = String::new(alloc);
+    push_on_lines(&mut safe, text.as_str())?;
+    Ok(safe)
+}
+
+/// Writes the text to standard error. The answer is whether that went well.
+pub(crate) fn put_error<R: Eprint>(rt: &R, text: &str) -> bool {
+    eprint!(rt; "{text}").is_ok()
+}
+
+/// Says on standard error what went wrong with the file; with none, where `tera` stands in its place. The status is 2 then,
+/// also where standard error takes nothing.
 pub(crate) fn tell<R: Eprint + AllocGlobal>(rt: &R, file: &str, why: &str) {
     let _ = match error_line(rt.alloc(), file, why) {
-        Ok(line) => eprint!(rt; "{line}"),
-        Err(_) => eprintln!(rt; "tera: error: out of memory"),
+        Ok(line) => put_error(rt, line.as_str()),
+        Err(_) => put_error(rt, "tera: error: out of memory\n"),
     };
 }
 
@@ -45,11 +88,24 @@ fn why_unread(alloc: Global, why: Unread) -> Result<String, AllocError> {
     }
 }
 
-/// Says on standard error why the file was not written.
-pub(crate) fn tell_unwritten<R: Eprint + AllocGlobal>(rt: &R, file: &str, error: io::Error) {
-    match format!(in rt.alloc(); "writing failed: {error}") {
+/// Says on standard error why the text of the file was not replaced.
+pub(crate) fn tell_unwritten<R: Eprint + AllocGlobal>(rt: &R, file: &str, why: Unwritten) {
+    match why_unwritten(rt.alloc(), why) {
         Ok(why) => tell(rt, file, why.as_str()),
         Err(_) => tell(rt, file, "out of memory"),
+    }
+}
+
+fn why_unwritten(alloc: Global, why: Unwritten) -> Result<String, AllocError> {
+    match why {
+        Unwritten::Changed => String::from_str(
+            alloc,
+            "changed while it was laid out, and left as it is",
+        ),
+        Unwritten::Failed(error) => format!(in alloc; "writing failed: {error}"),
+        Unwritten::Incomplete(error) => {
+            format!(in alloc; "writing failed, and the file is incomplete: {error}")
+        }
     }
 }
 

@@ -1,6 +1,6 @@
 //! What is to be done with a file that is laid out.
 
-ghost use Rattle.std.specs.Prelude.{◌≡◌, ⊤, IfOk, IfErr, OnOk, MatchResult, true};
+ghost use Rattle.std.specs.Prelude.{◌≡◌, ⊤, ℕ, List, IfOk, IfErr, OnOk, MatchResult, Some, true, false};
 ghost use Rattle.tera_base.specs.Errors.{IsMemory};
 ghost use Rattle.tera_grammar.specs.Limits.{usual};
 ghost use Rattle.tera_grammar.specs.statements.Top.{Derives};
@@ -10,7 +10,10 @@ ghost use Rattle.tera_parser.specs.Notes.{NotesName};
 ghost use Rattle.tera_parser.specs.Refusal.{Refuses};
 ghost use Rattle.tera_tree.specs.Tree.{Output};
 ghost use Rattle.tera_program.specs.Plans.{IsPlan, IsTemplate};
+ghost use Rattle.tera_program.specs.Actions.{action_of, action_view, plan_text, Replaces};
+ghost use Rattle.tera_program.specs.declared.job.Mode.TheVariants.{Write};
 
+use crate::job::Mode;
 use std::alloc::Global;
 use tera_layout::format_between;
 use tera_parser::Parser;
@@ -58,4 +61,39 @@ fn read(alloc: Global, file: &str, source: &str, markers: &Delimiters) -> Result
     let parser = Parser::new(alloc, file, source, markers.clone()?);
     parser.parse()?;
     Ok(())
+}
+
+/// What is done with a file in the mode that is asked.
+#[derive(Clone, Copy, Debug)]
+pub(crate) enum Action<'a> {
+    Nothing,
+    /// This text goes to standard output.
+    Show(&'a str),
+    /// The name of the file goes to standard output.
+    Name,
+    /// The difference of its text from this one goes to standard output.
+    Difference(&'a str),
+    /// This text takes the place of that of the file, and then its name goes to standard output.
+    Replace(&'a str),
+}
+
+/// What is done with a file, or with standard input, which is shown in place of being replaced.
+pub(crate) fn action_of<'a>(
+    mode: Mode,
+    is_input: bool,
+    source: &'a str,
+    plan: &'a Plan,
+) -> Action<'a>
+    ensures table { action_view result ≡ action_of mode is_input source.now plan.now }
+    ensures replaced { (text : List ℕ) → action_view result ≡ Replaces text →
+        (mode ≡ Write) × (is_input ≡ false) × (plan_text plan.now ≡ Some text) }
+{
+    match (mode, plan) {
+        (Mode::Write, Plan::Same) if is_input => Action::Show(source),
+        (_, Plan::Same) => Action::Nothing,
+        (Mode::Write, Plan::Layout(layout)) if is_input => Action::Show(layout.as_str()),
+        (Mode::Write, Plan::Layout(layout)) => Action::Replace(layout.as_str()),
+        (Mode::Check, Plan::Layout(_)) => Action::Name,
+        (Mode::Diff, Plan::Layout(layout)) => Action::Difference(layout.as_str()),
+    }
 }

@@ -1,8 +1,8 @@
 //! Templates that are read.
 
-ghost use Rattle.std.specs.Prelude.{◌≡◌, ◌∷◌, [], ℕ, List, IfOk};
+ghost use Rattle.std.specs.Prelude.{◌≡◌, ℕ, List, IfOk, OnOk, string_bytes};
 ghost use Rattle.terminal_text.specs.Files.{source_of};
-ghost use Rattle.tera_program.specs.Sources.{nothing, with_source, with_sources};
+ghost use Rattle.tera_program.specs.Sources.{AddsRead, nothing, with_source, with_sources};
 
 use crate::job::Common;
 use crate::options::EXTENSIONS;
@@ -48,14 +48,6 @@ impl Templates {
         Ok(texts)
     }
 
-    fn push(&mut self, template: Template, source: Option<Source>) -> Result<(), AllocError> {
-        self.templates.push(template)?;
-        if let Some(source) = source {
-            self.sources.push(source)?;
-        }
-        Ok(())
-    }
-
     /// Leaves their memory to the process, which ends soon: to give it back tree by tree takes a tenth of the instructions.
     pub(crate) fn forget(self) {
         mem::forget(self);
@@ -87,7 +79,17 @@ pub(crate) fn found<R: Files + AllocGlobal + Clone + Drop>(
     common: Common<'_, '_>,
     paths: &[&str],
 ) -> Result<Found, AllocError> {
-    let mut extensions = Vec::new(rt.alloc());
+    let extensions = extensions_of(rt.alloc(), common)?;
+    let sought = Sought {
+        extensions: extensions.as_slice(),
+        stdin: common.stdin,
+    };
+    files_of(rt, sought, paths)
+}
+
+// How the names of templates end, without the point.
+fn extensions_of<'a>(alloc: Global, common: Common<'_, 'a>) -> Result<Vec<&'a str>, AllocError> {
+    let mut extensions = Vec::new(alloc);
     match common.extensions {
         Some(given) => {
             for extension in given {
@@ -96,11 +98,7 @@ pub(crate) fn found<R: Files + AllocGlobal + Clone + Drop>(
         }
         None => extensions.extend_from_slice(EXTENSIONS.as_slice())?,
     }
-    let sought = Sought {
-        extensions: extensions.as_slice(),
-        stdin: common.stdin,
-    };
-    files_of(rt, sought, paths)
+    Ok(extensions)
 }
 
 // Both `txt` and `.txt` name an extension.
@@ -109,14 +107,29 @@ fn without_point(extension: &str) -> &str {
 }
 
 /// Says on standard error which folders cannot be listed, or hold no template.
-pub(crate) fn tell_unlisted<R: Eprint + AllocGlobal>(rt: &R, found: &Found) {
+pub(crate) fn tell_unlisted<R: Eprint + AllocGlobal>(
+    rt: &R,
+    common: Common<'_, '_>,
+    found: &Found,
+) -> Result<(), AllocError> {
     for one in &found.unlisted {
         let folder = one.folder.as_str();
         match one.error {
             Some(error) => tell_unread(rt, folder, Unread::Failed(error)),
-            None => tell(rt, folder, "no template stands below this folder"),
+            None => tell(rt, folder, without_templates(rt.alloc(), common)?.as_str()),
         }
     }
+    Ok(())
+}
+
+// That no template was found, and what was looked for.
+fn without_templates(alloc: Global, common: Common<'_, '_>) -> Result<String, AllocError> {
+    let mut why = String::from_str(alloc, "no template is below this folder: no name ends in ")?;
+    for (number, extension) in extensions_of(alloc, common)?.iter().enumerate() {
+        why.push_str(if number == 0 { "." } else { " or ." })?;
+        why.push_str(extension)?;
+    }
+    Ok(why)
 }
 
 /// Reads the templates that the paths mean, and behind them those of the library that are not among these. Standard error
@@ -129,7 +142,7 @@ pub(crate) fn read_all<R: Files + Input + Eprint + AllocGlobal + Clone + Drop>(
     keeps_sources: bool,
 ) -> Result<Templates, AllocError> {
     let (found, asked) = found_with(rt, common, paths, library)?;
-    tell_unlisted(rt, &found);
+    tell_unlisted(rt, common, &found)?;
     let mut all = Templates::none(rt.alloc());
     all.count_unread(found.unlisted.len());
     for (number, file) in found.files.iter().enumerate() {
@@ -164,15 +177,34 @@ fn found_with<R: Files + AllocGlobal + Clone + Drop>(
     Ok((found(rt, common, both.as_slice())?, count))
 }
 
+// Reads the template of a file, and puts it behind the others.
 fn add<R: Files + Input + AllocGlobal>(
     rt: &R,
     file: &str,
     name: &str,
     keeps_source: bool,
     all: &mut Templates,
-) -> Result<(), Unread> {
+) -> Result<(), Unread>
+    ensures { OnOk result ((text : List ℕ) × AddsRead name.now text keeps_source all.old all.new) }
+{
     let source = read_source(rt, file, name)?;
-    let template = read_template(rt.alloc(), name, source.text.as_str())?;
-    let kept = if keeps_source { Some(source) } else { None };
-    Ok(all.push(template, kept)?)
+    Ok(add_source(rt.alloc(), source, keeps_source, all)?)
+}
+
+// Reads the template of a source, and puts it behind the others; the source too, where it is kept.
+fn add_source(
+    alloc: Global,
+    source: Source,
+    keeps_source: bool,
+    all: &mut Templates,
+) -> Result<(), AllocError>
+    ensures { OnOk result (AddsRead (string_bytes source.file) (string_bytes source.text) keeps_source
+        all.old all.new) }
+{
+    let template = read_template(alloc, source.file.as_str(), source.text.as_str())?;
+    all.templates.push(template)?;
+    if keeps_source {
+        all.sources.push(source)?;
+    }
+    Ok(())
 }

@@ -1,6 +1,6 @@
 //! How the program ends.
 
-ghost use Rattle.std.specs.Prelude.{◌≡◌, true, false};
+ghost use Rattle.std.specs.Prelude.{◌≡◌, ◌||◌, not, true, false};
 ghost use Rattle.tera_program.specs.Ends.{status_at};
 
 use tera_check::status;
@@ -22,6 +22,16 @@ impl Ended {
         Ended {
             found: false,
             failed: true,
+        }
+    }
+
+    /// The same, and a failure where standard error did not take what is said there.
+    pub(crate) fn unless_said(self, is_said: bool) -> Ended
+        ensures { result ≡ record self { failed = self.failed || not is_said } }
+    {
+        Ended {
+            found: self.found,
+            failed: self.failed || !is_said,
         }
     }
 }

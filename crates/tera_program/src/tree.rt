@@ -2,7 +2,7 @@
 
 use crate::colours::{Terminals, style};
 use crate::job::Tree;
-use crate::output::{put, tell, tell_unread};
+use crate::output::{lines_for, put, put_error, tell, tell_unread};
 use crate::reading::{name_of, text_of};
 use crate::status::Ended;
 use std::alloc::{AllocError, Global};
@@ -32,7 +32,11 @@ pub(crate) fn run<R: Files + Env + Input + Print + Eprint + AllocGlobal>(
         }
     };
     let style = style(rt, job.common.colours, terminals.err);
-    match shown(rt, style, job.json, &source) {
+    let shape = Shape {
+        json: job.json,
+        is_terminal: terminals.out,
+    };
+    match shown(rt, style, shape, &source) {
         Ok(ended) => ended,
         Err(_) => {
             tell(rt, name, "out of memory");
@@ -41,17 +45,24 @@ pub(crate) fn run<R: Files + Env + Input + Print + Eprint + AllocGlobal>(
     }
 }
 
+// How a tree is written.
+#[derive(Clone, Copy)]
+struct Shape {
+    json: bool,
+    is_terminal: bool,
+}
+
 fn shown<R: Print + Eprint + AllocGlobal>(
     rt: &R,
     style: Style,
-    json: bool,
+    shape: Shape,
     source: &Source,
 ) -> Result<Ended, AllocError> {
     let alloc = rt.alloc();
     let (file, text) = (source.file.as_str(), source.text.as_str());
     match Parser::new(alloc, file, text, Delimiters::default()).parse() {
         Ok(output) => {
-            let text = tree_of(alloc, json, &output)?;
+            let text = tree_of(alloc, shape, &output)?;
             Ok(Ended {
                 found: false,
                 failed: !put(rt, text.as_bytes()),
@@ -59,18 +70,18 @@ fn shown<R: Print + Eprint + AllocGlobal>(
         }
         Err(error) => {
             let text = fault_text(alloc, style, source, &error)?;
-            let _ = eprint!(rt; "{text}");
             Ok(Ended {
                 found: true,
-                failed: false,
+                failed: !put_error(rt, text.as_str()),
             })
         }
     }
 }
 
-fn tree_of(alloc: Global, json: bool, output: &ParserOutput) -> Result<String, AllocError> {
-    if !json {
-        return tree_text(alloc, output);
+// As JSON it is for other programs, on a terminal too.
+fn tree_of(alloc: Global, shape: Shape, output: &ParserOutput) -> Result<String, AllocError> {
+    if !shape.json {
+        return lines_for(alloc, shape.is_terminal, tree_text(alloc, output)?);
     }
     let mut text = tree_json(alloc, output)?;
     text.push('\n')?;

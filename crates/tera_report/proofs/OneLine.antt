@@ -8,6 +8,7 @@ use Rattle.std.proofs.lemmas.Str.{inside_one}
 use Rattle.std.specs.Char.{digit_value}
 use Rattle.std.specs.List.{flat_map, list_all, AllByRecursion}
 use Rattle.std.specs.Str.Parse.{AllDigits}
+use Rattle.line_text.specs.Line.{on_one_line}
 use Rattle.tera_base.specs.declared.utils.Span.{Span}
 use Rattle.tera_check.specs.declared.finding.Kind.{Kind}
 use Rattle.tera_check.specs.declared.finding.Kind.TheVariants as kinds
@@ -100,13 +101,13 @@ ends a b c d e f g h = simp append_assoc
 pub one_line : (file : List ℕ) (kind : Kind) (s : Span) (text : List ℕ) (notes : List NoteVal) → s.start_line < 2 ^ 64 → s.end_line < 2 ^ 64 → IsOneLine (annotation file (FindingOf kind s text notes))
 unfolding annotation
 one_line file kind s text notes start end =
-    let line = command_of (severity_of kind) ++ (property file ++ (span_text s ++ (codes ",title=" ++ (kind_name kind ++ (codes "::" ++ escaped text))))) in (
+    let line = command_of (severity_of kind) ++ (property file ++ (span_text s ++ (codes ",title=" ++ (kind_name kind ++ (codes "::" ++ escaped (on_one_line text)))))) in (
       line,
-      ends (command_of (severity_of kind)) (property file) (span_text s) (codes ",title=") (kind_name kind) (codes "::") (escaped text) (codes "\n"),
+      ends (command_of (severity_of kind)) (property file) (span_text s) (codes ",title=") (kind_name kind) (codes "::") (escaped (on_one_line text)) (codes "\n"),
       joined (command_of (severity_of kind)) _ (commanded (severity_of kind))
           (joined (property file) _ (each property_character property_lacks (chars file))
           (joined (span_text s) _ (placed s start end)
           (joined (codes ",title=") _ (literal (codes ",title=") refl)
           (joined (kind_name kind) _ (named kind)
-          (joined (codes "::") _ (literal (codes "::") refl) (each escaped_character escaped_lacks (chars text))))))),
+          (joined (codes "::") _ (literal (codes "::") refl) (each escaped_character escaped_lacks (chars (on_one_line text)))))))),
     )

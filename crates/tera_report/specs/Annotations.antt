@@ -2,6 +2,7 @@
 use Rattle.std.specs.Prelude.{◌≡◌, ◌≢◌, ◌+◌, ◌-◌, ◌^◌, ◌==◌, ◌++◌, if◌then◌else◌, ℕ, List, [], ◌∷◌, min, codes, chars, encode_utf8}
 use Rattle.std.specs.Fmt.{decimal}
 use Rattle.std.specs.List.{flat_map, AllByRecursion}
+use Rattle.line_text.specs.Line.{on_one_line}
 use Rattle.tera_base.specs.declared.utils.Span.{Span}
 use Rattle.tera_check.specs.Findings.{FindingVal, FindingOf, kind_name, severity_of}
 use Rattle.tera_check.specs.declared.finding.Severity.{Severity}
@@ -43,13 +44,13 @@ abbrev pub command_of : Severity → List ℕ
 command_of Error = codes "::error file="
 command_of Warning = codes "::warning file="
 
--- the command of a finding in a file, on one line
+-- the command of a finding in a file; its message is on one line, and the file is named as it is
 unfoldable pub annotation : List ℕ → FindingVal → List ℕ
 annotation file (FindingOf kind span text notes) =
     command_of (severity_of kind) ++ (property file
     ++ (span_text span
     ++ (codes ",title=" ++ (kind_name kind
-    ++ (codes "::" ++ (escaped text ++ codes "\n"))))))
+    ++ (codes "::" ++ (escaped (on_one_line text) ++ codes "\n"))))))
 
 -- the text is one line with its end
 abbrev pub IsOneLine : List ℕ → Type 0

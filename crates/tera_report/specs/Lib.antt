@@ -1,4 +1,3 @@
 pub mod Annotations
-pub mod Laws
 pub mod Logs
 pub mod Told

@@ -1,5 +1,6 @@
 -- A finding as people read it.
-use Rattle.std.specs.Prelude.{ℕ, ◌==◌, if◌then◌else◌, List, [], ◌∷◌, ◌++◌, flat_map, Option, Some, None, codes, chars, decimal, encode_utf8_all}
+use Rattle.std.specs.Prelude.{ℕ, ◌==◌, if◌then◌else◌, List, [], ◌∷◌, ◌++◌, flat_map, Option, Some, None, codes, decimal}
+use Rattle.line_text.specs.Line.{on_one_line}
 use Rattle.tera_base.specs.declared.utils.Span.{Span}
 use Rattle.tera_check.specs.Findings.{NoteVal, NoteOf, FindingVal, FindingOf, place_of, severity_of, severity_name}
 use Rattle.tera_check.specs.declared.finding.Place.{Place}
@@ -8,7 +9,6 @@ use Rattle.tera_report.specs.declared.role.Role.{Role}
 use Rattle.tera_report.specs.declared.role.Role.TheVariants.{Finding, Note}
 use Rattle.terminal_text.specs.Excerpt.{excerpt}
 use Rattle.terminal_text.specs.Lines.{line_at}
-use Rattle.terminal_text.specs.Shown.{on_one_line}
 use Rattle.terminal_text.specs.Styled.{styled}
 use Rattle.terminal_text.specs.declared.excerpt.Marked.{Marked}
 use Rattle.terminal_text.specs.declared.style.Part.{Part}
@@ -25,13 +25,9 @@ part_of (Finding severities.Error) = parts.Error
 part_of (Finding severities.Warning) = parts.Warning
 part_of Note = parts.Note
 
--- a text on one line
-abbrev pub line : List ℕ → List ℕ
-line text = encode_utf8_all (on_one_line (chars text))
-
 -- a file with a place in it
 abbrev pub place_text : List ℕ → Place → List ℕ
-place_text file place = line file ++ (codes ":" ++ (decimal place.line ++ (codes ":" ++ (decimal place.column ++ codes ":"))))
+place_text file place = on_one_line file ++ (codes ":" ++ (decimal place.line ++ (codes ":" ++ (decimal place.column ++ codes ":"))))
 
 -- the characters of a span, as far as they stand on its first line
 abbrev pub marked_of : Span → Marked
@@ -40,7 +36,7 @@ marked_of s = record { line = s.start_line; start = s.start_col; end = if s.end_
 -- a message: where, how grave, and what
 abbrev pub message_line : Style → Role → List ℕ → Span → List ℕ → List ℕ
 message_line style role file span text =
-    styled style parts.Place (place_text file (place_of span)) ++ (codes " " ++ (styled style (part_of role) (word_of role) ++ (codes ": " ++ (line text ++ 10 ∷ []))))
+    styled style parts.Place (place_text file (place_of span)) ++ (codes " " ++ (styled style (part_of role) (word_of role) ++ (codes ": " ++ (on_one_line text ++ 10 ∷ []))))
 
 -- with the line that it is about, where the source of the file is known
 abbrev pub message : Style → (List ℕ → Option (List ℕ)) → Role → List ℕ → Span → List ℕ → List ℕ

@@ -1,16 +1,19 @@
 //! Findings as workflow commands, which GitHub shows beside the lines of a change.
 
 ghost use Rattle.std.specs.Prelude.{◌≡◌, ◌++◌, string_bytes, IfOk, OnOk};
+ghost use Rattle.line_text.specs.Line.{on_one_line};
 ghost use Rattle.tera_check.specs.Findings.{finding_view};
 ghost use Rattle.tera_report.specs.Annotations.{annotation, command_of, escaped_character, escaped, property_character, property, span_text, column_of};
 
+use line_text::push_on_one_line;
 use std::alloc::{AllocError, Global};
 use tera_base::Span;
 use tera_check::{Finding, Severity};
 
 /// Adds the line `::error file=..,line=..,col=..,endLine=..,endColumn=..,title=..::MESSAGE`, or `::warning ..`, whose
 /// title is the name of the kind. Lines and columns count from 1, columns in characters, and `endColumn` is the one
-/// behind the last. Notes are left out: a command has one place.
+/// behind the last. The message is on one line, as `push_on_one_line` has it; the file is named as it is. Notes are left
+/// out: a command has one place.
 pub fn push_annotation(
     alloc: Global,
     to: &mut String,
@@ -27,7 +30,7 @@ pub fn push_annotation(
     to.push_str(",title=")?;
     to.push_str(finding.kind.name())?;
     to.push_str("::")?;
-    push_escaped(to, finding.message.as_str())?;
+    push_message(alloc, to, finding.message.as_str())?;
     to.push_str("\n")?;
     Ok(())
 }
@@ -55,6 +58,16 @@ pub(crate) fn column(col: usize) -> usize
     ensures { result ≡ column_of col }
 {
     col.saturating_add(1)
+}
+
+// Adds the message on one line, escaped as a command has it.
+fn push_message(alloc: Global, to: &mut String, message: &str) -> Result<(), AllocError>
+    ensures { OnOk result (string_bytes to.new
+        ≡ string_bytes to.old ++ escaped (on_one_line message.now)) }
+{
+    let mut line = String::new(alloc);
+    push_on_one_line(&mut line, message)?;
+    push_escaped(to, line.as_str())
 }
 
 fn push_escaped(to: &mut String, text: &str) -> Result<(), AllocError>

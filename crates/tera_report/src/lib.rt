@@ -1,7 +1,7 @@
 //! Findings as text: for people, for workflows of GitHub and for services that read SARIF.
 //!
 //! It takes findings of `tera_check`, and puts them at the end of a text (`told`, `github`) or into a log (`sarif`). It
-//! stands on `tera_check`, `terminal_text` and `file_uris`; of the kit on `json`.
+//! depends on `tera_check`, `terminal_text`, `line_text` and `file_uris`; of the kit on `json`.
 //!
 //! In the order of reading: spec `Told`, `role` and `told`; specs `Annotations` and `github`; `Logs` and `sarif`; `laws`.
 #![tactic(auto)]

@@ -6,10 +6,11 @@ ghost use Rattle.tera_report.specs.Told.{place_text as text_of_place, marked_of,
 ghost use Rattle.terminal_text.specs.Files.{source_of};
 
 use crate::role::Role;
+use line_text::push_on_one_line;
 use std::alloc::{AllocError, Global};
 use tera_base::Span;
 use tera_check::{Finding, Note, Place};
-use terminal_text::{Marked, Part, Sources, Style, push_excerpt, push_on_one_line};
+use terminal_text::{Marked, Part, Sources, Style, push_excerpt};
 
 /// Adds the line of the finding, `FILE:LINE:COLUMN: error: MESSAGE` or `.. warning: ..`, and those of its notes, each with
 /// the line of the source below that it is about, where that is known. A text is on one line, as `push_on_one_line` has

@@ -1,3 +1,4 @@
+pub mod AnswerLemmas
 pub mod ArrayLemmas
 pub mod CompletionLemmas
 pub mod EditorLemmas
@@ -7,6 +8,7 @@ pub mod HandleLemmas
 pub mod KnownLemmas
 pub mod LayoutLemmas
 pub mod NameLemmas
+pub mod NearestLemmas
 pub mod NestingLemmas
 pub mod PublishLemmas
 pub mod ReferenceLemmas

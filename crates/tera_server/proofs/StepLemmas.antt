@@ -1,5 +1,5 @@
 -- The texts that are known to be open are those of the editor, behind a note as before it.
-use Rattle.std.proofs.Common.{◌≡◌, ◌∙◌, ℕ, List, [], ◌∷◌, Bool, true, false, cond, Option, None, Some, Result, Ok, Err, OnOk, OnErr, refl, sym, ap, subst}
+use Rattle.std.proofs.Common.{◌≡◌, ◌∙◌, ℕ, List, [], ◌∷◌, Bool, true, false, cond, Option, None, Some, Result, Ok, Err, OnOk, OnErr, codes, option_map, refl, sym, ap, subst}
 use Rattle.std.specs.List.{list_any}
 use Rattle.std.specs.Str.{bytes_eq}
 use Rattle.std.specs.declared.alloc.AllocError.{AllocError}
@@ -7,11 +7,13 @@ use Rattle.std.proofs.lemmas.Slice.Eq.{bytes_eq-Decides}
 use Rattle.file_uris.specs.Names.{IsNameOf}
 use Rattle.file_uris.proofs.DecodingLemmas.{name_once}
 use Rattle.json.specs.Json.{Json}
+use Rattle.protocol_values.specs.Members.{member_of, text_in}
+use Rattle.protocol_values.specs.Reading.{changes_in}
 use Rattle.text_edits.specs.Edits.{ChangeView, NewText, NewPart, edited}
 use Rattle.text_edits.specs.declared.positions.Encoding.{Encoding}
-use Rattle.tera_server.specs.Editors.{SeenVal, stand_in}
-use Rattle.tera_server.specs.Notes.{document_in, uri_told, version_of, IsOpened, IsChanged, IsNotedAs, IsNotedOf, IsNotedBy, IsHeldBut, Texts, IsTextAt, Edit, Edits, IsInStep}
-use Rattle.tera_server.specs.States.{Known, known_of, IsKnownAt, opened_as, changed_as, closed_as, is_whole}
+use Rattle.tera_server.specs.Editors.{SeenVal, seen_of, stand_of, stand_in, stand_lost, lost}
+use Rattle.tera_server.specs.Notes.{document_in, uri_told, version_of, IsOpened, IsChanged, IsNotedAs, IsNotedOf, IsNotedBy, IsHeldBut, Texts, IsTextAt, EditOpened, EditChanged, Edit, EditsOf, Edits, IsInStep}
+use Rattle.tera_server.specs.States.{Known, known_of, IsKnownAt, IsMissed, opened_as, with_lost, changed_as, closed_as, is_whole}
 use Rattle.tera_server.specs.declared.editor.Stand.{Stand}
 use Rattle.tera_server.specs.declared.editor.Stand.TheVariants.{Open, Lost, Closed}
 use Rattle.tera_server.specs.declared.notes.DocumentNote.{DocumentNote}
@@ -76,33 +78,61 @@ renamed : (uri name other : List ℕ) (note : DocumentNote) (s t : Server) (para
     IsNotedAs note other uri s params t → IsNotedAs note name uri s params t
 renamed uri name other note s t params of is h = subst (λ m. IsNotedAs note m uri s params t) (name_once uri other name is of) h
 
-opened_is : (name uri text : List ℕ) (o : Option (List ℕ)) (version : Option ℕ) (s t : Server) → o ≡ Some text → IsOpened name uri o version s t → IsOpened name uri (Some text) version s t
-opened_is name uri text o version s t is h = subst (λ o. IsOpened name uri o version s t) is h
+never_open : (stand : Stand) → stand_lost stand ≡ Open → ⊥
+never_open Open e = cc
+never_open Lost e = cc
+never_open Closed e = cc
 
-changed_is : (name : List ℕ) (version : Option ℕ) (cs : List ChangeView) (o : Option (List ChangeView)) (s t : Server) → o ≡ Some cs → IsChanged name version o s t →
-    IsChanged name version (Some cs) s t
-changed_is name version cs o s t is h = subst (λ o. IsChanged name version o s t) is h
+lost_unopened : (seen : Option SeenVal) → stand_in (option_map lost seen) ≡ Open → ⊥
+lost_unopened None e = cc
+lost_unopened (Some s) e = never_open s.stand e
+
+-- of what is lost no text is known
+lost_held : (k : Known) (text : Option (List ℕ)) → IsHeld (with_lost k) text
+lost_held k text = λ stands. absurd (lost_unopened k.seen stands)
+
+pub missed_unopened : (s t : Server) → IsMissed s t → (n : List ℕ) → stand_of t.editor n ≡ Open → ⊥
+missed_unopened s t h n stands = lost_unopened (seen_of s.editor n) (sym (ap stand_in (h.seen n)) ∙ stands)
+
+-- what was missed leaves none known, whatever the texts of the editor are
+pub missed_step : (s t : Server) (now : Texts) → IsMissed s t → IsInStep now t
+missed_step s t now h n stands = absurd (missed_unopened s t h n stands)
+
+opened_step : (name uri : List ℕ) (told : Option (List ℕ)) (version : Option ℕ) (text : Option (List ℕ)) (s t : Server) (texts now : Texts) → IsOpened name uri told version s t →
+    EditOpened told text → IsTextAt name text texts now → IsInStep texts s → IsInStep now t
+opened_step name uri None version text s t texts now noted edit are h =
+    step_by name with_lost s t texts now text noted.0.at are (λ held. lost_held (known_of s name) text) h
+opened_step name uri (Some new) version text s t texts now noted is are h =
+    step_by name (opened_as uri version new) s t texts now text noted.0.at are (λ held stands. sym is) h
+
+changed_step : (name : List ℕ) (told : Option (List ChangeView)) (version : Option ℕ) (text : Option (List ℕ)) (s t : Server) (texts now : Texts) → IsChanged name version told s t →
+    EditChanged s.workspace.encoding told (texts name) text → IsTextAt name text texts now → IsInStep texts s → IsInStep now t
+changed_step name None version text s t texts now noted edit are h =
+    step_by name (changed_as s.workspace.encoding version None) s t texts now text noted.0.at are (λ held. lost_held (known_of s name) text) h
+changed_step name (Some changes) version text s t texts now noted (old, was, is) are h =
+    let e = s.workspace.encoding in
+    let k = known_of s name in
+    step_by name (changed_as e version (Some changes)) s t texts now text noted.0.at are
+    (λ held stands. changed_held e version changes old k.seen k.texts.opened k.texts.stored (λ stood. held stood ∙ was) stands ∙ sym is) h
 
 -- of the one that has this name
 noted_step : (note : DocumentNote) (params : Option Json) (uri name : List ℕ) (text : Option (List ℕ)) (s t : Server) (texts now : Texts) → IsNotedAs note name uri s params t →
     Edit s.workspace.encoding note params (texts name) text → IsTextAt name text texts now → IsInStep texts s → IsInStep now t
-noted_step of_document.Opened params uri name text s t texts now noted (new, told, is) are h =
-    let version = version_of (document_in params) in
-    step_by name (opened_as uri version new) s t texts now text (opened_is name uri new _ version s t told noted).0.at are (λ held stands. sym is) h
-noted_step of_document.Changed params uri name text s t texts now noted (old, changes, told, was, is) are h =
-    let e = s.workspace.encoding in
-    let version = version_of (document_in params) in
-    let k = known_of s name in
-    step_by name (changed_as e version (Some changes)) s t texts now text (changed_is name version changes _ s t told noted).0.at are
-    (λ held stands. changed_held e version changes old k.seen k.texts.opened k.texts.stored (λ stood. held stood ∙ was) stands ∙ sym is) h
+noted_step of_document.Opened params uri name text s t texts now noted edit are h =
+    opened_step name uri (text_in (member_of (codes "text") (document_in params))) (version_of (document_in params)) text s t texts now noted edit are h
+noted_step of_document.Changed params uri name text s t texts now noted edit are h =
+    changed_step name (changes_in (member_of (codes "contentChanges") params)) (version_of (document_in params)) text s t texts now noted edit are h
 noted_step of_document.Closed params uri name text s t texts now noted is are h =
     step_by name closed_as s t texts now text noted.0.at are (λ held stands. sym is) h
 
 pub document_step : (note : DocumentNote) (params : Option Json) (s t : Server) (r : Result (Unit {0}) AllocError) → OnOk r (IsNotedBy (OfDocument note) s params t) →
     OnErr r (IsHeldBut (uri_told (document_in params)) s t) →
     (texts now : Texts) → Edits s.workspace.encoding (OfDocument note) params texts now → IsInStep texts s → IsInStep now t
-document_step note params s t (Ok x) ok err texts now (uri, name, text, is_uri, of, edit, are) h =
-    let (other, is, noted) = subst (λ u. IsNotedOf note u s params t) is_uri ok in
-    noted_step note params uri name text s t texts now (renamed uri name other note s t params of is noted) edit are h
-document_step note params s t (Err x) ok err texts now (uri, name, text, is_uri, of, edit, are) h =
-    step_but uri name s t texts now text (subst (λ u. IsHeldBut u s t) is_uri err) of are h
+document_step note params s t r ok err texts now edits h = by (uri_told (document_in params)) r ok err edits
+  where
+    by : (u : Option (List ℕ)) (r : Result (Unit {0}) AllocError) → OnOk r (IsNotedOf note u s params t) → OnErr r (IsHeldBut u s t) → EditsOf s.workspace.encoding note u params texts now → IsInStep now t
+    by None (Ok x) ok err edits = missed_step s t now ok
+    by None (Err x) ok err edits = missed_step s t now err
+    by (Some uri) (Ok x) (other, is, noted) err (name, text, of, edit, are) =
+        noted_step note params uri name text s t texts now (renamed uri name other note s t params of is noted) edit are h
+    by (Some uri) (Err x) ok err (name, text, of, edit, are) = step_but uri name s t texts now text err of are h

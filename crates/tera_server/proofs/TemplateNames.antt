@@ -2,7 +2,7 @@
 use Rattle.std.proofs.Common.{◌≡◌, ◌∙◌, ◌≢◌, ◌<◌, ◌≤◌, ◌+◌, ◌++◌, ◌∷◌, [], ℕ, zero, suc, List, length, drop, Bool, true, false, nat_eq, Option, None, Some, option_map, unwrap_or, codes, if◌then◌else◌, Bor, refl, sym, ap, arith}
 use Rattle.std.specs.Option.{MatchOption, option_and_then, option_or}
 use Rattle.std.specs.Str.Pattern.{FindsText, FindsTextPrefix, StripsPrefix, SplitsAroundMatch, LacksTextAt}
-use Rattle.tera_server.specs.Completions.{behind, behind_first, name_in, name_below}
+use Rattle.tera_server.specs.Templates.{behind, behind_first, name_in, name_below}
 
 is_behind : (front rest : List ℕ) → behind front (front ++ rest) ≡ Some rest
 is_behind [] rest = refl

@@ -1,7 +1,7 @@
 -- What may be typed at a place of a text.
-use Rattle.std.specs.Prelude.{◌≡◌, ◌++◌, ℕ, nat_eq, if◌then◌else◌, Bool, true, false, List, [], ◌∷◌, codes, length, map, filter, Option, None, Some, option_map, unwrap_or}
+use Rattle.std.specs.Prelude.{◌≡◌, ◌++◌, ℕ, Bool, true, false, List, [], ◌∷◌, codes, length, map, filter, Option, None, Some, option_map}
 use Rattle.std.specs.List.{filter_map, find}
-use Rattle.std.specs.Option.{option_and_then, option_map_or, option_or}
+use Rattle.std.specs.Option.{option_map_or}
 use Rattle.json.specs.Json.{Json, null, string, array, object, no_members, member}
 use Rattle.json.specs.Token.{Token}
 use Rattle.json.specs.Tree.{json_tokens}
@@ -23,6 +23,7 @@ use Rattle.text_edits.specs.Positions.{byte_of}
 use Rattle.text_edits.specs.declared.positions.Encoding.{Encoding}
 use Rattle.text_edits.specs.declared.positions.Position.{Position}
 use Rattle.tera_server.specs.Positions.{position_at}
+use Rattle.tera_server.specs.Templates.{template_name}
 
 -- the words with which the tags of statements begin
 abbrev pub statements : List (List ℕ)
@@ -39,30 +40,6 @@ is_defined kind = false
 
 abbrev pub defined_names : List Named → List (List ℕ)
 defined_names named = map (λ n. n.text) (filter (λ n. is_defined n.kind) named)
-
--- what stands behind the front of a text
-abbrev pub behind : List ℕ → List ℕ → Option (List ℕ)
-behind [] text = Some text
-behind (f ∷ fs) [] = None
-behind (f ∷ fs) (b ∷ bs) = if nat_eq f b then behind fs bs else None
-
--- what stands behind a part where it stands first in a text
-abbrev pub behind_first : List ℕ → List ℕ → Option (List ℕ)
-behind_first part [] = behind part []
-behind_first part (b ∷ bs) = option_or (behind part (b ∷ bs)) (behind_first part bs)
-
--- the name of a template, by the path of its file behind a folder, with the slash between: what stands there behind the
--- first folder `templates`, or else the path
-abbrev pub name_in : List ℕ → Option (List ℕ)
-name_in path = option_map (unwrap_or (behind_first (codes "/templates/") path)) (behind (codes "/") path)
-
-abbrev pub name_below : List ℕ → List ℕ → Option (List ℕ)
-name_below folder file = option_and_then name_in (behind folder file)
-
--- by the first of the folders in which its file is
-abbrev pub template_name : List (List ℕ) → List ℕ → Option (List ℕ)
-template_name [] file = None
-template_name (f ∷ fs) file = option_or (name_below f file) (template_name fs file)
 
 -- what may be typed of a kind, beside these names that stand in the text
 abbrev pub offered : Workspace → List (List ℕ) → List Named → CompletionKind → List (List ℕ)

@@ -1,5 +1,5 @@
 -- Where what is named in a text is defined.
-use Rattle.std.specs.Prelude.{◌≡◌, if◌then◌else◌, ℕ, List, ◌∷◌, Bool, true, false, Option, None, Some}
+use Rattle.std.specs.Prelude.{◌≡◌, if◌then◌else◌, ℕ, List, Bool, true, false, Option, None, Some}
 use Rattle.std.specs.List.{find}
 use Rattle.std.specs.Option.{option_map}
 use Rattle.json.specs.Json.{Json, null}
@@ -12,9 +12,11 @@ use Rattle.text_edits.specs.Positions.{byte_of}
 use Rattle.text_edits.specs.declared.positions.Encoding.{Encoding}
 use Rattle.text_edits.specs.declared.positions.Position.{Position}
 use Rattle.protocol_values.specs.Writing.{location_json}
-use Rattle.tera_workspace.specs.Definitions.{DefinitionVal, definition_of_name, file_of_ending}
+use Rattle.tera_workspace.specs.Components.{files_of}
+use Rattle.tera_workspace.specs.Definitions.{DefinitionVal, definition_of_name}
 use Rattle.tera_workspace.specs.declared.workspace.Workspace.{Workspace}
 use Rattle.tera_server.specs.Editors.{seen_of, uri_in}
+use Rattle.tera_server.specs.Templates.{template_in}
 use Rattle.tera_server.specs.declared.editor.Editor.{Editor}
 
 -- the name at a position of a text, if one stands there
@@ -26,9 +28,9 @@ IsNamedAt e text p named =
 abbrev pub first_of : List ℕ → DefinitionVal
 first_of file = record { file = file; start = record { line = 0; character = 0 }; end = record { line = 0; character = 0 } }
 
--- a template is the first file, by the order of the names, that has its name below a folder
-abbrev pub template_place : Workspace → List ℕ → Option DefinitionVal
-template_place w name = option_map first_of (file_of_ending w (47 ∷ name))
+-- a template is the file that has its name, by the folders that are open
+abbrev pub template_place : Workspace → List (List ℕ) → List ℕ → Option DefinitionVal
+template_place w folders name = option_map first_of (template_in folders (files_of w) name)
 
 -- whether a name stands for a component; it does for a template where not
 abbrev pub is_component : NameKind → Bool
@@ -39,12 +41,12 @@ is_component Extended = false
 is_component Included = false
 
 -- what a name leads to
-abbrev pub place_by : NameKind → Workspace → List ℕ → Option DefinitionVal
-place_by kind w name = if is_component kind then definition_of_name w name else template_place w name
+abbrev pub place_by : NameKind → Workspace → List (List ℕ) → List ℕ → Option DefinitionVal
+place_by kind w folders name = if is_component kind then definition_of_name w name else template_place w folders name
 
-abbrev pub place_of : Workspace → Option Named → Option DefinitionVal
-place_of w None = None
-place_of w (Some n) = place_by n.kind w n.text
+abbrev pub place_of : Workspace → List (List ℕ) → Option Named → Option DefinitionVal
+place_of w folders None = None
+place_of w folders (Some n) = place_by n.kind w folders n.text
 
 -- that as a location; `null` where it leads nowhere
 abbrev pub place_json : Editor → Option DefinitionVal → Json

@@ -8,7 +8,7 @@ use Rattle.tera_workspace.specs.Definitions.{DefinitionVal, definition_of_name}
 use Rattle.tera_workspace.specs.declared.workspace.Workspace.{Workspace}
 use Rattle.text_edits.specs.Documents.{text_of}
 use Rattle.text_edits.specs.Stored.{document_of}
-use Rattle.tera_server.specs.Definitions.{is_component}
+use Rattle.tera_server.specs.Definitions.{is_component, place_of}
 
 -- the component that a name stands for, if it stands for one
 abbrev pub component_in : Option Named → Option (List ℕ)
@@ -40,3 +40,13 @@ hover_json None = null
 hover_json (Some head) =
     object (member (codes "contents")
     (object (member (codes "kind") (string (codes "plaintext")) (member (codes "value") (string head) no_members))) no_members)
+
+-- ---- what is so of it
+
+-- this is the head of a definition in the text of the file to which the name leads, of the component that the name stands for
+pub record IsOfDefinition (w : Workspace) (folders : List (List ℕ)) (named : Option Named) (told : List ℕ) : Type 0 where
+  pub name : List ℕ
+  pub component : component_in named ≡ Some name
+  pub place : DefinitionVal
+  pub leads : place_of w folders named ≡ Some place
+  pub head : IsHeadIn (text_of (document_of w.documents place.file)) name (Some told)

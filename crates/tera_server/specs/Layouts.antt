@@ -1,13 +1,16 @@
 -- The layout of a text, as edits.
-use Rattle.std.specs.Prelude.{◌≡◌, ℕ, List, All, map, Option, None, Some}
+use Rattle.std.specs.Prelude.{◌≡◌, ◌⊎◌, ℕ, List, All, map, Option, None, Some}
 use Rattle.json.specs.Json.{Json, null, array}
 use Rattle.json.specs.Token.{Token}
 use Rattle.json.specs.Tree.{json_tokens}
 use Rattle.json.specs.Value.{items_of}
+use Rattle.tera_grammar.specs.Limits.{usual}
+use Rattle.tera_grammar.specs.statements.Top.{Derives}
 use Rattle.tera_layout.specs.Layout.{laid_out}
 use Rattle.tera_lexer.specs.grammar.Marks.{default_marks}
 use Rattle.tera_outline.specs.Edits.{applied, AreApart, ReplacesWhite}
 use Rattle.tera_outline.specs.declared.edits.Edit.{Edit}
+use Rattle.tera_tree.specs.Tree.{Output}
 use Rattle.text_edits.specs.declared.positions.Encoding.{Encoding}
 use Rattle.protocol_values.specs.Writing.{edit_json as edit_between}
 use Rattle.tera_server.specs.Positions.{position_at}
@@ -32,5 +35,14 @@ IsLayoutOf e text None j = j ≡ null
 IsLayoutOf e text (Some layout) j =
     (edits : List Edit) × AreEdits text layout edits × (j ≡ array (items_of (map (edit_json e text) edits)))
 
+-- the text is a template within the usual limits
+abbrev pub IsTemplate : List ℕ → Type 0
+IsTemplate text = (tree : Output) × Derives usual default_marks text tree
+
+-- the layout of a text: of a template; what has a fault stays as it is
+abbrev pub IsLaidOut : List ℕ → Option (List ℕ) → Type 0
+IsLaidOut text None = ¬ (IsTemplate text) ⊎ (laid_out default_marks text ≡ None)
+IsLaidOut text (Some layout) = IsTemplate text × (laid_out default_marks text ≡ Some layout)
+
 abbrev pub IsLayout : Encoding → List ℕ → Json → Type 0
-IsLayout e text j = IsLayoutOf e text (laid_out default_marks text) j
+IsLayout e text j = (layout : Option (List ℕ)) × IsLaidOut text layout × IsLayoutOf e text layout j

@@ -16,3 +16,4 @@ pub mod Sending
 pub mod Settling
 pub mod States
 pub mod Steps
+pub mod Templates

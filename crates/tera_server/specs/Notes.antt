@@ -1,5 +1,5 @@
 -- What notifications do.
-use Rattle.std.specs.Prelude.{◌≡◌, ◌++◌, if◌then◌else◌, cond, ℕ, List, [], ◌∷◌, Bool, false, codes, map, string_bytes, Option, None, Some}
+use Rattle.std.specs.Prelude.{◌≡◌, ◌++◌, ⊤, if◌then◌else◌, cond, ℕ, List, [], ◌∷◌, Bool, false, codes, map, string_bytes, Option, None, Some}
 use Rattle.std.specs.List.{flat_map}
 use Rattle.std.specs.Str.{bytes_eq}
 use Rattle.file_uris.specs.Names.{IsNameOf}
@@ -13,7 +13,7 @@ use Rattle.text_edits.specs.Stored.{document_of}
 use Rattle.text_edits.specs.declared.positions.Encoding.{Encoding}
 use Rattle.tera_server.specs.Abilities.{registrations_json}
 use Rattle.tera_server.specs.Editors.{stand_of}
-use Rattle.tera_server.specs.States.{Known, IsKnownAt, opened_as, takes, changed_as, closed_as, known_of, WantedVal, wanted_of, wants, edited_of, with_name, StaysBut}
+use Rattle.tera_server.specs.States.{Known, IsKnownAt, IsMissed, opened_as, takes, with_lost, changed_as, closed_as, known_of, WantedVal, wanted_of, wants, edited_of, with_name, StaysBut}
 use Rattle.tera_server.specs.declared.client.Client.{Client}
 use Rattle.tera_server.specs.declared.editor.Stand.{Stand}
 use Rattle.tera_server.specs.declared.editor.Stand.TheVariants.{Open}
@@ -51,9 +51,9 @@ pub record IsNotedAt (name : List ℕ) (change : Known → Known) (s t : Server)
   pub stays : StaysBut s t
   pub at : IsKnownAt name change s t
 
--- a document is opened, if a text is told
+-- a document is opened; where no text is told, the one that is known of it is not that of the editor
 abbrev pub IsOpened : List ℕ → List ℕ → Option (List ℕ) → Option ℕ → Server → Server → Type 0
-IsOpened name uri None version s t = t ≡ s
+IsOpened name uri None version s t = IsNotedAt name with_lost s t × (wanted_of t ≡ wanted_of s) × (edited_of t ≡ edited_of s)
 IsOpened name uri (Some text) version s t =
     IsNotedAt name (opened_as uri version text) s t × (wanted_of t ≡ wanted_of s) × (edited_of t ≡ with_name name (edited_of s))
 
@@ -85,9 +85,9 @@ IsNotedAs of_document.Changed name uri s params t =
     IsChanged name (version_of (document_in params)) (changes_in (member_of (codes "contentChanges") params)) s t
 IsNotedAs of_document.Closed name uri s params t = IsClosed name s t
 
--- .. to that of a URI, where one is told
+-- .. to that of a URI; where none is told, it may be about whatever document
 abbrev pub IsNotedOf : DocumentNote → Option (List ℕ) → Server → Option Json → Server → Type 0
-IsNotedOf note None s params t = t ≡ s
+IsNotedOf note None s params t = IsMissed s t
 IsNotedOf note (Some uri) s params t = (name : List ℕ) × IsNameOf uri name × IsNotedAs note name uri s params t
 
 -- the names of these URIs, but for what has none
@@ -151,7 +151,7 @@ IsHeldAside name s t = (n : List ℕ) → stand_of t.editor n ≡ Open → (byte
 
 -- .. of this URI
 abbrev pub IsHeldBut : Option (List ℕ) → Server → Server → Type 0
-IsHeldBut None s t = (n : List ℕ) → stand_of t.editor n ≡ Open → known_of t n ≡ known_of s n
+IsHeldBut None s t = IsMissed s t
 IsHeldBut (Some uri) s t = (name : List ℕ) → IsNameOf uri name → IsHeldAside name s t
 
 -- ---- what the editor has
@@ -164,20 +164,30 @@ Texts = List ℕ → Option (List ℕ)
 abbrev pub IsTextAt : List ℕ → Option (List ℕ) → Texts → Texts → Type 0
 IsTextAt name text old now = (n : List ℕ) → now n ≡ cond (bytes_eq name n) text (old n)
 
--- what becomes of that of a document by a note, which opens it with a text, changes one that is open, or closes it
+-- it is opened with the text that is told; where none is, with whatever text
+abbrev pub EditOpened : Option (List ℕ) → Option (List ℕ) → Type 0
+EditOpened None now = ⊤
+EditOpened (Some text) now = now ≡ Some text
+
+-- one that is open is changed; where the changes cannot be read, to whatever text
+abbrev pub EditChanged : Encoding → Option (List ChangeView) → Option (List ℕ) → Option (List ℕ) → Type 0
+EditChanged e None old now = ⊤
+EditChanged e (Some changes) old now = (text : List ℕ) × (old ≡ Some text) × (now ≡ Some (edited e text changes))
+
+-- what becomes of that of a document by a note, which opens it, changes it or closes it
 abbrev pub Edit : Encoding → DocumentNote → Option Json → Option (List ℕ) → Option (List ℕ) → Type 0
-Edit e of_document.Opened params old now =
-    (text : List ℕ) × (text_in (member_of (codes "text") (document_in params)) ≡ Some text) × (now ≡ Some text)
-Edit e of_document.Changed params old now =
-    (text : List ℕ) × (changes : List ChangeView) × (changes_in (member_of (codes "contentChanges") params) ≡ Some changes) × (old ≡ Some text)
-    × (now ≡ Some (edited e text changes))
+Edit e of_document.Opened params old now = EditOpened (text_in (member_of (codes "text") (document_in params))) now
+Edit e of_document.Changed params old now = EditChanged e (changes_in (member_of (codes "contentChanges") params)) old now
 Edit e of_document.Closed params old now = now ≡ None
 
--- .. of all
+-- .. of all: of that of a URI; where none is told, it may be of whatever document
+abbrev pub EditsOf : Encoding → DocumentNote → Option (List ℕ) → Option Json → Texts → Texts → Type 0
+EditsOf e note None params old now = ⊤
+EditsOf e note (Some uri) params old now =
+    (name : List ℕ) × (text : Option (List ℕ)) × IsNameOf uri name × Edit e note params (old name) text × IsTextAt name text old now
+
 abbrev pub Edits : Encoding → Noted → Option Json → Texts → Texts → Type 0
-Edits e (notes.OfDocument note) params old now =
-    (uri : List ℕ) × (name : List ℕ) × (text : Option (List ℕ)) × (uri_told (document_in params) ≡ Some uri) × IsNameOf uri name
-    × Edit e note params (old name) text × IsTextAt name text old now
+Edits e (notes.OfDocument note) params old now = EditsOf e note (uri_told (document_in params)) params old now
 Edits e _ params old now = (n : List ℕ) → now n ≡ old n
 
 -- each text that is known to be open is that of the editor

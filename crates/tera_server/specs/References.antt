@@ -1,6 +1,6 @@
 -- Where a component or a template is named, in all documents.
 use Rattle.std.specs.Prelude.{◌≡◌, ◌++◌, ◌&&◌, ◌||◌, not, if◌then◌else◌, List, [], ◌∷◌, Bool, true, false, codes, map, Option}
-use Rattle.std.specs.List.{filter}
+use Rattle.std.specs.List.{filter, Contains}
 use Rattle.std.specs.Str.{bytes_eq}
 use Rattle.json.specs.Json.{Json, array}
 use Rattle.json.specs.Token.{Token}
@@ -68,6 +68,30 @@ AreReferences k (s ∷ ss) js =
 -- the array of all
 abbrev pub IsList : Sought → List Source → Json → Type 0
 IsList k sources j = (js : List Json) × AreReferences k sources js × (j ≡ array (items_of js))
+
+-- ---- what is so of them
+
+-- a name is that of what is looked for, both stand for a component or both for a template, and it is no definition where these
+-- do not count
+pub record IsSought (k : Sought) (n : Named) : Type 0 where
+  pub text : n.text ≡ k.named.text
+  pub alike : is_component n.kind ≡ is_component k.named.kind
+  pub counts : k.declared ≡ false → is_definition n.kind ≡ false
+
+-- the location of such a name in a text
+pub record IsReferenceIn (k : Sought) (s : Source) (told : Json) : Type 0 where
+  pub parts : List Part
+  pub are : ArePartsOf s.text parts
+  pub named : Named
+  pub there : Contains (names_of parts) named
+  pub sought : IsSought k named
+  pub location : told ≡ reference_json k s named
+
+-- the locations of all such names in a text are among these
+pub record AreAllOf (k : Sought) (s : Source) (told : List Json) : Type 0 where
+  pub parts : List Part
+  pub are : ArePartsOf s.text parts
+  pub each : (n : Named) → Contains (names_of parts) n → IsSought k n → Contains told (reference_json k s n)
 
 -- ---- as it is written
 

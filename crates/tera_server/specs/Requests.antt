@@ -121,7 +121,8 @@ IsResultOfText of_text.SemanticTokens encoding text j = AreTokens encoding text 
 
 -- .. and of a name: the place that it leads to, the head of its definition, or the places that refer to what it stands for
 abbrev pub IsResultOfName : NameRequest → Option Json → Option Named → Server → Json → Type 0
-IsResultOfName of_name.Definition params named t j = j ≡ place_json t.editor (place_of t.workspace named)
+IsResultOfName of_name.Definition params named t j =
+    j ≡ place_json t.editor (place_of t.workspace (map string_bytes t.folders.items) named)
 IsResultOfName of_name.Hover params named t j = (head : Option (List ℕ)) × IsHead t.workspace named head × (j ≡ hover_json head)
 IsResultOfName of_name.References params named t j = AreListed (declares params) named t j
 

@@ -96,6 +96,13 @@ edited_of s = map string_bytes s.edited.items
 abbrev pub with_name : List ℕ → List (List ℕ) → List (List ℕ)
 with_name n ns = if list_any (λ m. bytes_eq m n) ns then ns else ns ++ n ∷ []
 
+-- ---- what may have been a change
+
+-- what was not read may have been a change of whatever document: the text of none that is open is known any more
+pub record IsMissed (s t : Server) : Type 0 where
+  pub same : t ≡ record s { editor = t.editor }
+  pub seen : (n : List ℕ) → seen_of t.editor n ≡ option_map lost (seen_of s.editor n)
+
 -- ---- what no notification changes
 
 pub record StaysBut (s t : Server) : Type 0 where

@@ -1,19 +1,19 @@
 -- What a message does.
-use Rattle.std.specs.Prelude.{◌≡◌, ◌⊎◌, ℕ, List, Option, None, Some, option_map, Result, Ok, Err, Vec}
+use Rattle.std.specs.Prelude.{◌≡◌, ◌⊎◌, ⊤, ℕ, List, Option, None, Some, Result, Ok, Err, Vec}
 use Rattle.std.specs.declared.alloc.Global.{Global}
 use Rattle.json.specs.Json.{Json}
-use Rattle.json_rpc.specs.Ids.{IdVal, NullId}
+use Rattle.json_rpc.specs.Ids.{IdVal, NullId, NumberId, TextId}
 use Rattle.json_rpc.specs.Messages.{MessageVal, Request, Notification, Response, Invalid, NotJson}
 use Rattle.json_rpc.specs.Outgoing.{Outgoing, IsAnswered}
 use Rattle.json_rpc.specs.Outline.{answered_id}
 use Rattle.json_rpc.specs.Writing.{body, refusal}
 use Rattle.json_rpc.specs.declared.code.Code.{Code}
 use Rattle.json_rpc.specs.declared.code.Code.TheVariants as codes_of
-use Rattle.tera_server.specs.Editors.{seen_of, stand_of, lost}
+use Rattle.tera_server.specs.Editors.{stand_of}
 use Rattle.tera_server.specs.Notes.{noted_of, IsNoted, sent_by, Texts, Edits, IsInStep}
 use Rattle.tera_server.specs.Requests.{asked_of, IsAnsweredBy}
 use Rattle.tera_server.specs.Sending.{with_all}
-use Rattle.tera_server.specs.States.{StaysBut}
+use Rattle.tera_server.specs.States.{IsMissed, StaysBut}
 use Rattle.tera_server.specs.declared.editor.Stand.TheVariants.{Open}
 use Rattle.tera_server.specs.declared.notes.Noted.{Noted}
 use Rattle.tera_server.specs.declared.notes.Noted.TheVariants as notes
@@ -35,9 +35,16 @@ abbrev pub ended_by : Noted → Phase → Option Ended
 ended_by notes.Exit phase = Some (ended_at phase)
 ended_by _ phase = None
 
--- what is sent is answered by a refusal, and nothing changes
+-- what is not taken: with an id it is no notification, and nothing changes; without one it may have been a change of
+-- whatever document
+abbrev pub IsPassedOver : IdVal → Server → Server → Type 0
+IsPassedOver NullId s t = IsMissed s t
+IsPassedOver (NumberId number) s t = t ≡ s
+IsPassedOver (TextId text) s t = t ≡ s
+
+-- .. and it is answered by a refusal
 abbrev pub IsRefused : IdVal → Code → Server → Outgoing → Server → Outgoing → Type 0
-IsRefused id code s old t now = (t ≡ s) × IsAnswered old now id (body (refusal id code))
+IsRefused id code s old t now = IsPassedOver id s t × IsAnswered old now id (body (refusal id code))
 
 -- the answer to a request
 abbrev pub answer_by : IdVal → Result (Vec ℕ Global) Code → List ℕ
@@ -64,12 +71,7 @@ Step s NotJson old ended t now = (ended ≡ None) × IsRefused NullId codes_of.P
 
 -- ---- what finds no memory
 
--- what was not read may have been a change of whatever document: the text of none that is open is known any more
-pub record IsMissed (s t : Server) : Type 0 where
-  pub same : t ≡ record s { editor = t.editor }
-  pub seen : (n : List ℕ) → seen_of t.editor n ≡ option_map lost (seen_of s.editor n)
-
--- a message finds no memory: what is to be answered is refused, and nothing changes; of a notification nothing is sent
+-- a message finds no memory: what is to be answered is refused; of a notification nothing is sent
 abbrev pub IsUntakenBy : Option IdVal → Server → Outgoing → Server → Outgoing → Type 0
 IsUntakenBy None s old t now = StaysBut s t × (now ≡ old)
 IsUntakenBy (Some id) s old t now = IsRefused id codes_of.InternalError s old t now
@@ -88,12 +90,18 @@ EditsIn New s noted params old now = (n : List ℕ) → now n ≡ old n
 EditsIn Running s noted params old now = Edits s.workspace.encoding noted params old now
 EditsIn ShutDown s noted params old now = (n : List ℕ) → now n ≡ old n
 
+-- .. by what is not taken: without an id it may have made them whatever texts
+abbrev pub EditsPassedOver : IdVal → Texts → Texts → Type 0
+EditsPassedOver NullId old now = ⊤
+EditsPassedOver (NumberId number) old now = (n : List ℕ) → now n ≡ old n
+EditsPassedOver (TextId text) old now = (n : List ℕ) → now n ≡ old n
+
 abbrev pub EditsBy : Server → MessageVal → Texts → Texts → Type 0
 EditsBy s (Request id method params) old now = (n : List ℕ) → now n ≡ old n
 EditsBy s (Notification method params) old now = EditsIn s.phase s (noted_of method) params old now
 EditsBy s Response old now = (n : List ℕ) → now n ≡ old n
-EditsBy s (Invalid id) old now = (n : List ℕ) → now n ≡ old n
-EditsBy s NotJson old now = (n : List ℕ) → now n ≡ old n
+EditsBy s (Invalid id) old now = EditsPassedOver id old now
+EditsBy s NotJson old now = EditsPassedOver NullId old now
 
 -- each text that is known to be open is that of the editor; and before the exchange none is
 pub record Follows (texts : Texts) (s : Server) : Type 0 where

@@ -2,7 +2,7 @@
 
 ghost use Rattle.std.specs.Prelude.{◌≡◌, ◌++◌, [], map, string_bytes, IfOk, OnOk};
 ghost use Rattle.std.specs.List.{filter_map, find};
-ghost use Rattle.std.specs.Option.{option_map, option_map_or};
+ghost use Rattle.std.specs.Option.{option_map_or};
 ghost use Rattle.json.specs.Json.{Json, array};
 ghost use Rattle.json.specs.Tree.{json_tokens};
 ghost use Rattle.json.specs.Value.{items_of};
@@ -10,8 +10,10 @@ ghost use Rattle.tera_outline.specs.Names.{names_of, name_view, holds};
 ghost use Rattle.tera_outline.specs.Pieces.{part_of};
 ghost use Rattle.tera_tree.specs.Calls.{texts, once_each};
 ghost use Rattle.tera_workspace.specs.Components.{components_of, parameters_of_name};
-ghost use Rattle.tera_server.specs.Completions.{defined_names, name_below, template_name, offered, kind_number, item_json, item_tokens, items_json, IsCompletion};
+ghost use Rattle.tera_server.specs.Completions.{defined_names, offered, kind_number, item_json, item_tokens, items_json, IsCompletion};
+ghost use Rattle.tera_server.specs.Templates.{template_name};
 
+use crate::templates::template_name;
 use json::{Token, Writer};
 use protocol_values::{put_edit, put_number, put_tokens};
 use std::alloc::{AllocError, Global};
@@ -180,30 +182,6 @@ fn templates<'w>(
         }
     }
     Ok(names)
-}
-
-// The name of a template: by the first of the folders in which its file is.
-fn template_name<'f>(folders: &[String], file: &'f str) -> Option<&'f str>
-    ensures { option_map (λ n. n.now) result ≡ template_name (map string_bytes folders.now) file.now }
-{
-    for folder in folders {
-        if let Some(name) = name_below(folder.as_str(), file) {
-            return Some(name);
-        }
-    }
-    None
-}
-
-// By the folder, if its file is there: what stands behind the first folder `templates` below it, or else behind it.
-fn name_below<'f>(folder: &str, file: &'f str) -> Option<&'f str>
-    ensures { option_map (λ n. n.now) result ≡ name_below folder.now file.now }
-{
-    let path = file.strip_prefix(folder)?;
-    let name = path.strip_prefix("/")?;
-    match path.split_once("/templates/") {
-        Some((_, inner)) => Some(inner),
-        None => Some(name),
-    }
 }
 
 // The names in byte order, each once.

@@ -1,19 +1,21 @@
 //! Where what is named in a text is defined.
 
-ghost use Rattle.std.specs.Prelude.{◌≡◌, ◌++◌, IfOk, OnOk};
+ghost use Rattle.std.specs.Prelude.{◌≡◌, ◌++◌, map, string_bytes, IfOk, OnOk};
 ghost use Rattle.std.specs.Option.{option_map};
 ghost use Rattle.json.specs.Tree.{json_tokens};
 ghost use Rattle.tera_outline.specs.Names.{name_view};
 ghost use Rattle.tera_workspace.specs.Definitions.{definition_view};
 ghost use Rattle.tera_server.specs.Definitions.{IsNamedAt, is_component, template_place, place_of, place_json};
 
+use crate::completions::Offering;
 use crate::editor::Editor;
 use crate::findings::uri_by;
+use crate::templates::template_in;
 use json::Writer;
 use protocol_values::put_location;
 use std::alloc::{AllocError, Global};
 use tera_outline::{Name, NameKind, pieces_of, under};
-use tera_workspace::{Definition, Workspace};
+use tera_workspace::Definition;
 use text_edits::{Encoding, Lines, Position, byte_at};
 
 /// The name of a component or a template that stands at the position, if one does.
@@ -35,15 +37,16 @@ pub(crate) fn name_at(
 pub(crate) fn put_definition(
     alloc: Global,
     out: &mut Writer,
-    workspace: &Workspace,
+    offering: Offering<'_>,
     editor: &Editor,
     name: &Option<Name>,
 ) -> Result<(), AllocError>
-    ensures tokens { OnOk result (out.new.tokens ≡ out.old.tokens
-        ++ json_tokens (place_json editor.now (place_of workspace.now (option_map name_view name.now)))) }
+    ensures tokens { OnOk result (out.new.tokens ≡ out.old.tokens ++ json_tokens (place_json editor.now
+        (place_of offering.entry.workspace.now (map string_bytes offering.entry.folders.now.items)
+        (option_map name_view name.now)))) }
     ensures before { out.new.before ≡ out.old.before }
 {
-    match place_of(alloc, workspace, name)? {
+    match place_of(alloc, offering, name)? {
         Some(place) => {
             let uri = uri_by(alloc, editor, place.file.as_str())?;
             put_location(out, uri.as_str(), place.start, place.end)
@@ -54,15 +57,17 @@ pub(crate) fn put_definition(
 
 fn place_of(
     alloc: Global,
-    workspace: &Workspace,
+    offering: Offering<'_>,
     name: &Option<Name>,
 ) -> Result<Option<Definition>, AllocError>
-    ensures { IfOk result (λ place. option_map definition_view place
-        ≡ place_of workspace.now (option_map name_view name.now)) }
+    ensures { IfOk result (λ place. option_map definition_view place ≡ place_of offering.entry.workspace.now
+        (map string_bytes offering.entry.folders.now.items) (option_map name_view name.now)) }
 {
     match name {
-        Some(name) if is_component(name.kind) => workspace.definition_of(alloc, name.text.as_str()),
-        Some(name) => template_place(alloc, workspace, name.text.as_str()),
+        Some(name) if is_component(name.kind) => {
+            offering.workspace.definition_of(alloc, name.text.as_str())
+        }
+        Some(name) => template_place(alloc, offering, name.text.as_str()),
         None => Ok(None),
     }
 }
@@ -77,17 +82,18 @@ pub(crate) fn is_component(kind: NameKind) -> bool
     )
 }
 
-// The beginning of the first file that has the name below a folder.
+// The beginning of the file that has the name.
 fn template_place(
     alloc: Global,
-    workspace: &Workspace,
+    offering: Offering<'_>,
     name: &str,
 ) -> Result<Option<Definition>, AllocError>
-    ensures { IfOk result (λ place. option_map definition_view place ≡ template_place workspace.now name.now) }
+    ensures { IfOk result (λ place. option_map definition_view place ≡ template_place offering.entry.workspace.now
+        (map string_bytes offering.entry.folders.now.items) name.now) }
 {
-    let mut ending = String::from_str(alloc, "/")?;
-    ending.push_str(name)?;
-    let Some(file) = workspace.file_of(ending.as_str()) else {
+    let files = offering.workspace.files(alloc)?;
+    let folders = offering.folders.as_slice();
+    let Some(file) = template_in(alloc, folders, files.as_slice(), name)? else {
         return Ok(None);
     };
     let first = Position {

@@ -1,16 +1,30 @@
-//! What the outline and the coloured tokens of a text are, as they are told: each function has the law as its promise,
-//! and nothing but what it cites in its body.
+//! What the outline and the coloured tokens of a text are, as they are told, what names lead to, what is offered and
+//! what refers to a name: each function has the law as its promise, and nothing but what it cites in its body.
 
-ghost use Rattle.std.specs.Prelude.{◌≡◌, ℕ, List, [], length, map, slice_index_or, All, IsUtf8};
+ghost use Rattle.std.specs.Prelude.{◌≡◌, ◌⊎◌, ℕ, List, [], length, map, slice_index_or, All, IsUtf8, Option, Some};
+ghost use Rattle.std.specs.List.{Contains, find};
+ghost use Rattle.json.specs.Json.{Json};
+ghost use Rattle.tera_outline.specs.Names.{Named, holds};
 ghost use Rattle.tera_outline.specs.Pieces.{Part, ArePartsOf};
 ghost use Rattle.tera_outline.specs.SemanticTokens.{semantic_tokens_of};
+ghost use Rattle.tera_outline.specs.declared.completions.CompletionKind.TheVariants.{Component, Template, Argument};
 ghost use Rattle.tera_outline.specs.declared.semantic_tokens.SemanticKind.{SemanticKind};
 ghost use Rattle.tera_outline.specs.declared.semantic_tokens.SemanticToken.{SemanticToken};
 ghost use Rattle.tera_outline.specs.Symbols.{Outlined, outline_of};
 ghost use Rattle.text_edits.specs.declared.positions.Encoding.{Encoding};
+ghost use Rattle.tera_workspace.specs.Components.{files_of};
+ghost use Rattle.tera_workspace.specs.Definitions.{DefinitionVal, definition_of_name, IsParameterIn};
+ghost use Rattle.tera_workspace.specs.Kept.{templates_of};
+ghost use Rattle.tera_workspace.specs.Sources.{Source};
+ghost use Rattle.tera_workspace.specs.declared.workspace.Workspace.{Workspace};
+ghost use Rattle.tera_server.specs.Completions.{defined_names, offered};
+ghost use Rattle.tera_server.specs.Definitions.{first_of, template_place};
+ghost use Rattle.tera_server.specs.Hovers.{IsHead, IsOfDefinition};
 ghost use Rattle.tera_server.specs.Outlines.{nested, in_order, AreWithin, IsSelectable};
 ghost use Rattle.tera_server.specs.Positions.{position_at};
+ghost use Rattle.tera_server.specs.References.{Sought, AreReferences, IsReferenceIn, AreAllOf};
 ghost use Rattle.tera_server.specs.SemanticTokens.{all_kinds, kind_name, kind_number, placed, data_of, first, told, read_from, end_of, AreApart};
+ghost use Rattle.tera_server.specs.Templates.{template_in, template_name, IsTemplateOf};
 
 use tera_outline::laws::{symbols_nest, symbols_stand};
 
@@ -55,4 +69,54 @@ pub fn semantic_tokens_read_back()
         ArePartsOf text parts →
         All (λ (t : SemanticToken). position_at e text t.end ≡ end_of (placed e text t))
         (semantic_tokens_of text parts) }
+{}
+
+/// The file to which the name of a template leads is there, and has that name; only where no file has the name, it is
+/// one whose path ends in it. No other file of the name has a shorter path.
+pub fn templates_have_their_names()
+    ensures { (folders files : List (List ℕ)) (name file : List ℕ) →
+        template_in folders files name ≡ Some file → IsTemplateOf folders files name file }
+{}
+
+/// The name of each file that is there leads to a file of that name.
+pub fn names_of_templates_lead()
+    ensures { (folders files : List (List ℕ)) (name file : List ℕ) → Contains files file →
+        template_name folders file ≡ Some name → (f : List ℕ)
+        × (template_in folders files name ≡ Some f) × (template_name folders f ≡ Some name) }
+{}
+
+/// A component that is offered is defined in a document, or its name is after `component` or `endcomponent` in the text
+/// at the cursor.
+pub fn offered_components_are_defined()
+    ensures { (w : Workspace) (folders : List (List ℕ)) (named : List Named) (n : List ℕ) →
+        Contains (offered w folders named Component) n →
+        ((d : DefinitionVal) × (definition_of_name w n ≡ Some d)) ⊎ Contains (defined_names named) n }
+{}
+
+/// The name of a template that is offered leads to a file that is there and has that name.
+pub fn offered_templates_lead()
+    ensures { (w : Workspace) (folders : List (List ℕ)) (named : List Named) (n : List ℕ) →
+        Contains (offered w folders named Template) n → (f : List ℕ) × Contains (files_of w) f
+        × (template_name folders f ≡ Some n) × (template_place w folders n ≡ Some (first_of f)) }
+{}
+
+/// A parameter that is offered is one of a definition of the component that is called, in a document that was read.
+pub fn offered_parameters_are_defined()
+    ensures { (w : Workspace) (folders : List (List ℕ)) (named : List Named) (n : List ℕ) (call : ℕ) →
+        Contains (offered w folders named (Argument call)) n → (m : Named)
+        × (find (holds call) named ≡ Some m) × IsParameterIn (templates_of w.judged.items) m.text n }
+{}
+
+/// The head that is told of a name is that of a definition in the text of the file to which the name leads.
+pub fn heads_are_of_definitions()
+    ensures { (w : Workspace) (folders : List (List ℕ)) (named : Option Named) (head : List ℕ) →
+        IsHead w named (Some head) → IsOfDefinition w folders named head }
+{}
+
+/// Each place that is listed is one of a name that is looked for, and each such name in a text is listed.
+pub fn references_refer()
+    ensures each { (k : Sought) (sources : List Source) (told : List Json) → AreReferences k sources told →
+        (j : Json) → Contains told j → (s : Source) × Contains sources s × IsReferenceIn k s j }
+    ensures all { (k : Sought) (sources : List Source) (told : List Json) → AreReferences k sources told →
+        (s : Source) → Contains sources s → AreAllOf k s told }
 {}

@@ -1,26 +1,25 @@
 //! The layout of a text, as edits of its white space.
 
-ghost use Rattle.std.specs.Prelude.{◌≡◌, ◌++◌, List, map, option_map, string_bytes, IfOk, OnOk};
+ghost use Rattle.std.specs.Prelude.{◌≡◌, ◌++◌, List, true, false, map, option_map, string_bytes, IfOk, OnOk};
 ghost use Rattle.std.specs.List.{flat_map};
 ghost use Rattle.json.specs.Json.{Json, array};
 ghost use Rattle.json.specs.Tree.{json_tokens};
 ghost use Rattle.json.specs.Value.{items_of};
-ghost use Rattle.tera_layout.specs.Layout.{laid_out};
 ghost use Rattle.tera_layout.specs.Respaced.{without_white};
-ghost use Rattle.tera_lexer.specs.grammar.Marks.{default_marks};
-ghost use Rattle.text_edits.specs.Lines.{lines_of, starts_of};
-ghost use Rattle.tera_server.specs.Layouts.{edit_json, edit_tokens, AreEdits, IsLayout};
+ghost use Rattle.text_edits.specs.Places.{AreLinesOf};
+ghost use Rattle.tera_server.specs.Layouts.{edit_json, edit_tokens, AreEdits, IsTemplate, IsLaidOut, IsLayout};
 ghost use Rattle.tera_outline.specs.declared.edits.Edit.{Edit as AnEdit};
 
 use json::Writer;
 use protocol_values::put_edit;
 use std::alloc::{AllocError, Global};
 use tera_base::ErrorKind;
+use tera_check::read_template;
 use tera_layout::format;
 use tera_outline::{Edit, edits_of};
 use text_edits::{Encoding, Lines, position_at};
 
-/// Writes the edits that make the text its layout, or `null` where it has none.
+/// Writes the edits that make the text its layout, or `null` where it has none, or is no template.
 pub(crate) fn put_layout(
     alloc: Global,
     out: &mut Writer,
@@ -37,10 +36,13 @@ pub(crate) fn put_layout(
     }
 }
 
-// The layout, if the text has one.
+// The layout, if the text has one. What is no template stays as it is, as under `tera format`.
 fn layout_of(alloc: Global, text: &str) -> Result<Option<String>, AllocError>
-    ensures { IfOk result (λ o. laid_out default_marks text.now ≡ option_map string_bytes o) }
+    ensures { IfOk result (λ o. IsLaidOut text.now (option_map string_bytes o)) }
 {
+    if !is_template(alloc, text)? {
+        return Ok(None);
+    }
     match format(alloc, text) {
         Ok(layout) => Ok(Some(layout)),
         Err(error) => match error.kind {
@@ -48,6 +50,14 @@ fn layout_of(alloc: Global, text: &str) -> Result<Option<String>, AllocError>
             _ => Ok(None),
         },
     }
+}
+
+fn is_template(alloc: Global, text: &str) -> Result<bool, AllocError>
+    ensures template { IfOk result (λ is. is ≡ true → IsTemplate text.now) }
+    ensures none { IfOk result (λ is. is ≡ false → ¬ (IsTemplate text.now)) }
+{
+    let template = read_template(alloc, "", text)?;
+    Ok(template.parsed.is_ok())
 }
 
 #[tactic(auto, unfolding(crate::specs::Layouts::edit_tokens))]
@@ -65,7 +75,7 @@ fn put_edits_to(
     ensures before { out.new.before ≡ out.old.before }
 {
     let edits = edits_of(alloc, text, layout)?;
-    let lines = Lines::of(alloc, text)?;
+    let lines = Lines::for_many(alloc, text)?;
     out.begin_array()?;
     for edit in &edits {
         let start = position_at(text, &lines, encoding, edit.start);

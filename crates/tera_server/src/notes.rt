@@ -105,8 +105,8 @@ impl Server {
         }
     }
 
-    // Takes what a notification tells of a document. Where not even its name finds memory, the text of whatever document may
-    // be another.
+    // Takes what a notification tells of a document. Where it has no name, or not even that finds memory, the text of whatever
+    // document may be another.
     fn note_document(
         &mut self,
         alloc: Global,
@@ -119,6 +119,7 @@ impl Server {
     {
         let document = member(params, "textDocument");
         let Some(uri) = text_of(member(document, "uri")) else {
+            self.editor.lose_all();
             return Ok(());
         };
         let Ok(name) = name_of(alloc, uri) else {
@@ -148,11 +149,11 @@ impl Server {
             (version_of (seen document.entry)) self.old self.new) }
         ensures err { OnErr result (IsHeldAside name.now self.old self.new) }
     {
+        self.editor.lose(name);
         let Some(text) = text_of(member(document, "text")) else {
             return Ok(());
         };
         let version = number_of(member(document, "version"));
-        self.editor.lose(name);
         self.editor.open(alloc, name, uri)?;
         add_name(alloc, name, &mut self.edited)?;
         self.workspace.open(alloc, name, text)?;

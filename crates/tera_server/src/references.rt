@@ -6,7 +6,7 @@ ghost use Rattle.json.specs.Json.{Json};
 ghost use Rattle.json.specs.Tree.{json_tokens};
 ghost use Rattle.tera_outline.specs.Names.{name_view};
 ghost use Rattle.tera_workspace.specs.Definitions.{text_view};
-ghost use Rattle.text_edits.specs.Lines.{lines_of, starts_of};
+ghost use Rattle.text_edits.specs.Places.{AreLinesOf};
 ghost use Rattle.tera_server.specs.Editors.{seen_of, uri_in};
 ghost use Rattle.tera_server.specs.References.{sought_by, refers, AreReferencesIn, IsList, reference_tokens};
 
@@ -60,7 +60,7 @@ fn put_in(
 {
     let pieces = pieces_of(alloc, text.text)?;
     let names = names_of(alloc, pieces.as_slice())?;
-    let lines = Lines::of(alloc, text.text)?;
+    let lines = Lines::for_many(alloc, text.text)?;
     let uri = uri_by(alloc, search.editor, text.file)?;
     put_names(out, search, *text, &lines, uri.as_str(), names.as_slice())
 }
@@ -75,7 +75,7 @@ fn put_names(
     uri: &str,
     names: &[Name],
 ) -> Result<(), AllocError>
-    requires lines { lines.now ≡ starts_of (lines_of text.text.now) }
+    requires lines { AreLinesOf text.text.now lines.now }
     requires uri { uri.now ≡ uri_in text.file.now (seen_of search.editor.now text.file.now) }
     ensures tokens { OnOk result (out.new.tokens ≡ out.old.tokens
         ++ flat_map (reference_tokens (sought_by search.entry) (text_view text.entry)) (map name_view names.now)) }

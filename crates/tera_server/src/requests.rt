@@ -229,13 +229,13 @@ impl Server {
         ensures before { out.new.before ≡ out.old.before }
     {
         match request {
-            NameRequest::Definition => put_definition(
-                alloc,
-                out,
-                &self.workspace,
-                &self.editor,
-                name,
-            ),
+            NameRequest::Definition => {
+                let offering = Offering {
+                    workspace: &self.workspace,
+                    folders: &self.folders,
+                };
+                put_definition(alloc, out, offering, &self.editor, name)
+            }
             NameRequest::Hover => put_hover(alloc, out, &self.workspace, name),
             NameRequest::References => {
                 let declared = is_set(member(member(params, "context"), "includeDeclaration"));

@@ -14,8 +14,8 @@ ghost use Rattle.text_edits.specs.Documents.{no_document};
 ghost use Rattle.text_edits.specs.Stored.{IsChangedAt, AreSame};
 ghost use Rattle.tera_server.specs.Sending.{untold_of};
 ghost use Rattle.tera_server.specs.Settling.{IsSettling, ArePublishedInPart, OnlyTells};
-ghost use Rattle.tera_server.specs.States.{known_of, loaded_as, wanted_of, wanted_view, edited_of, StaysBut};
-ghost use Rattle.tera_server.specs.Steps.{ended_at, Step, IsMissed, IsUntaken, IsUntakenBy, KeepsUp};
+ghost use Rattle.tera_server.specs.States.{IsMissed, known_of, loaded_as, wanted_of, wanted_view, edited_of, StaysBut};
+ghost use Rattle.tera_server.specs.Steps.{ended_at, Step, IsRefused, IsUntaken, IsUntakenBy, KeepsUp};
 ghost use Rattle.tera_server.specs.declared.server.Phase.TheVariants.{New};
 
 use crate::client::Client;
@@ -132,7 +132,7 @@ impl Server {
         ensures kept { IsKept self.old.workspace → IsKept self.new.workspace }
     {
         match id_to_answer(bytes, scratch) {
-            Ok(Some(id)) => out.answer(alloc, &id, Err(Code::InternalError)),
+            Ok(Some(id)) => self.refuse_under(alloc, &id, Code::InternalError, out),
             Ok(None) => self.editor.lose_all(),
             Err(AllocError) => self.miss(alloc, out),
         }
@@ -145,16 +145,26 @@ impl Server {
         ensures missed { IsMissed self.old self.new }
         ensures answered { IsAnswered out.old out.new NullId (body (refusal NullId InternalError)) }
     {
-        self.editor.lose_all();
-        out.answer(alloc, &Id::null(), Err(Code::InternalError));
+        self.refuse_under(alloc, &Id::null(), Code::InternalError, out);
     }
 
-    /// What came is no message: in the place of its header stood something else.
-    pub fn refuse(&self, alloc: Global, out: &mut Outbox)
+    /// What came is no message: its header cannot be read. It may have been a change of whatever document.
+    pub fn refuse(&mut self, alloc: Global, out: &mut Outbox)
         requires { IsTrue out.old.reserved }
-        ensures { IsAnswered out.old out.new NullId (body (refusal NullId ParseError)) }
+        ensures { IsRefused NullId ParseError self.old out.old self.new out.new }
     {
-        out.answer(alloc, &Id::null(), Err(Code::ParseError));
+        self.refuse_under(alloc, &Id::null(), Code::ParseError, out);
+    }
+
+    // Refuses what is not taken. What has an id is no notification; what has none may have been a change of whatever document.
+    fn refuse_under(&mut self, alloc: Global, id: &Id<'_>, code: Code, out: &mut Outbox)
+        requires { IsTrue out.old.reserved }
+        ensures { IsRefused id.now code self.old out.old self.new out.new }
+    {
+        if id.is_null() {
+            self.editor.lose_all();
+        }
+        out.answer(alloc, id, Err(code));
     }
 
     fn take(
@@ -186,11 +196,11 @@ impl Server {
             }
             Message::Response => Ok(None),
             Message::Invalid(id) => {
-                out.answer(alloc, &id, Err(Code::InvalidRequest));
+                self.refuse_under(alloc, &id, Code::InvalidRequest, out);
                 Ok(None)
             }
             Message::NotJson => {
-                out.answer(alloc, &Id::null(), Err(Code::ParseError));
+                self.refuse(alloc, out);
                 Ok(None)
             }
         }

@@ -5,7 +5,7 @@ ghost use Rattle.json.specs.Json.{Json};
 ghost use Rattle.json.specs.Token.{end_array, end_object};
 ghost use Rattle.json.specs.Tree.{json_tokens, items_tokens};
 ghost use Rattle.tera_outline.specs.Symbols.{outlined};
-ghost use Rattle.text_edits.specs.Lines.{lines_of, starts_of};
+ghost use Rattle.text_edits.specs.Places.{AreLinesOf};
 ghost use Rattle.protocol_values.specs.Writing.{member_tokens, range_json};
 ghost use Rattle.tera_server.specs.Positions.{position_at};
 ghost use Rattle.tera_server.specs.Outlines.{IsOutline, nested, symbol_items, symbol_begin, end_tokens, open_at, all_ended, kind_name, kind_number};
@@ -28,7 +28,7 @@ pub(crate) fn put_outline(
     ensures before { out.new.before ≡ out.old.before }
 {
     let symbols = symbols_of(alloc, text)?;
-    let lines = Lines::of(alloc, text)?;
+    let lines = Lines::for_many(alloc, text)?;
     out.begin_array()?;
     put_nested(alloc, out, encoding, text, &lines, symbols.as_slice())
 }
@@ -42,7 +42,7 @@ fn put_nested(
     lines: &Lines,
     symbols: &[Symbol],
 ) -> Result<(), AllocError>
-    requires { lines.now ≡ starts_of (lines_of text.now) }
+    requires { AreLinesOf text.now lines.now }
     ensures tokens { OnOk result (out.new.tokens ≡ out.old.tokens
         ++ items_tokens (symbol_items encoding text.now (nested (map outlined symbols.now)))) }
     ensures before { out.new.before ≡ out.old.before }
@@ -96,7 +96,7 @@ fn begin_symbol(
     lines: &Lines,
     symbol: &Symbol,
 ) -> Result<(), AllocError>
-    requires { lines.now ≡ starts_of (lines_of text.now) }
+    requires { AreLinesOf text.now lines.now }
     ensures tokens { OnOk result (out.new.tokens
         ≡ out.old.tokens ++ symbol_begin encoding text.now (outlined symbol.now)) }
     ensures before { out.new.before ≡ out.old.before }
@@ -128,7 +128,7 @@ fn put_part(
     lines: &Lines,
     bytes: (usize, usize),
 ) -> Result<(), AllocError>
-    requires { lines.now ≡ starts_of (lines_of text.now) }
+    requires { AreLinesOf text.now lines.now }
     ensures tokens { OnOk result (out.new.tokens ≡ out.old.tokens ++ member_tokens member.now
         (range_json (position_at encoding text.now bytes.0) (position_at encoding text.now bytes.1))) }
     ensures before { out.new.before ≡ out.old.before }

@@ -2,6 +2,7 @@
 use Rattle.std.specs.Prelude.{◌≡◌, ◌<◌, ℕ, List, [], ◌∷◌, ◌++◌, length, take, codes, Option, IfSome, Result, Ok, Err, IsUtf8}
 use Rattle.std.specs.Fmt.{decimal}
 use Rattle.std.specs.Io.KnownBytes.{Keeps, Appends}
+use Rattle.line_text.specs.Line.{on_one_line}
 use Rattle.tera_lexer.specs.grammar.Marks.{default_marks}
 use Rattle.tera_lexer.specs.grammar.Place.{IsWithin}
 use Rattle.tera_lexer.specs.grammar.Tokens.{Items, AreTokensOf}
@@ -16,10 +17,10 @@ use Rattle.tera_show.specs.declared.stream.Outcome.TheVariants.{Tree, Syntax, No
 use Rattle.tera_show.specs.declared.stream.ShowFault.{ShowFault}
 use Rattle.tera_show.specs.declared.stream.ShowFault.TheVariants.{Memory, Read, Write}
 
--- the line of a syntax error
+-- the line of a syntax error, whose message is on one line
 abbrev pub fault_line : List ℕ → Span → List ℕ
 fault_line message span =
-    codes "syntax error at " ++ (decimal span.start_line ++ (codes ":" ++ (decimal span.start_col ++ (codes " (" ++ (decimal span.range.start ++ (codes ".." ++ (decimal span.range.end ++ (codes "): " ++ (message ++ 10 ∷ [])))))))))
+    codes "syntax error at " ++ (decimal span.start_line ++ (codes ":" ++ (decimal span.start_col ++ (codes " (" ++ (decimal span.range.start ++ (codes ".." ++ (decimal span.range.end ++ (codes "): " ++ (on_one_line message ++ 10 ∷ [])))))))))
 
 -- the answer to an input: the text of the output of its derivation within the limits; the line of a syntax error
 -- of it, where it has no derivation; or that it is no text

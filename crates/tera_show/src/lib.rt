@@ -1,7 +1,7 @@
 //! Shows the tree of a template as text, from a reader to a writer.
 //!
 //! It takes a reader and a writer. What it writes is the text of the tree, or the line of the fault (`IsShown`). It
-//! stands on `tera_parser` and `tera_tree_text`.
+//! depends on `tera_parser`, `tera_tree_text` and `line_text`.
 //!
 //! In the order of reading: specs `Shown`; `stream`, from what is read to what is written.
 #![tactic(auto)]

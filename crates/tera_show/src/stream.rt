@@ -7,6 +7,7 @@ ghost use Rattle.tera_expr_parts.specs.Rooms.{AreValid, limits_of};
 ghost use Rattle.tera_tree_text.specs.TreeText.{text_of};
 ghost use Rattle.tera_show.specs.Shown.{IsShown, IsAnswer, fault_line, status_of};
 
+use line_text::push_on_one_line;
 use std::alloc::{AllocError, AllocFailed, Global};
 use std::io::{Read, Write};
 use tera_parser::Parser;
@@ -159,7 +160,7 @@ fn answer(alloc: Global, input: &[u8], limits: Limits) -> Result<(Outcome, Strin
     }
 }
 
-// The line of a syntax error.
+// The line of a syntax error. The message is on one line, as `push_on_one_line` has it.
 fn fault_line(alloc: Global, message: &str, span: &Span) -> Result<String, AllocError>
     ensures { IfOk result (λ line. string_bytes line ≡ fault_line message.now span.now) }
 {
@@ -167,5 +168,7 @@ fn fault_line(alloc: Global, message: &str, span: &Span) -> Result<String, Alloc
     let column = span.start_col;
     let start = span.range.start;
     let end = span.range.end;
-    format!(in alloc; "syntax error at {line}:{column} ({start}..{end}): {message}\n")
+    let mut text = String::new(alloc);
+    push_on_one_line(&mut text, message)?;
+    format!(in alloc; "syntax error at {line}:{column} ({start}..{end}): {text}\n")
 }

@@ -55,3 +55,15 @@ fn writes_fail_at_each_call(rt: HostRuntime) {
         }
     }
 }
+
+// The message of a fault names what the template says, here a line feed and an escape.
+#[test]
+fn fault_is_one_line(rt: HostRuntime) -> Result<(), Fail> {
+    let mut written = Vec::new(rt.alloc());
+    let mut rest = "{% extends \"a\n\u{1b}b\" %}{% extends \"c\" %}".as_bytes();
+    let answer = show(rt.alloc(), &mut rest, &mut written);
+    assert!(rt; answer == Ok(Outcome::Syntax) && status(&answer) == 1);
+    let wanted = "syntax error at 2:17 (31..34): Template is already extending `a\\n\\u001bb`\n";
+    assert!(rt; written.as_slice() == wanted.as_bytes());
+    Ok(())
+}

@@ -31,11 +31,11 @@ use Rattle.tera_workspace.proofs.PlaceLemmas.{first_false, second_false, differ,
 
 -- ---- a document that was not marked
 
-false_true : false ≡ true → ⊥
+pub false_true : false ≡ true → ⊥
 false_true e = cc
 
 -- a name that the document has is not among those that are touched
-not_among : (names : List (List ℕ)) (n : List ℕ) → is_among n names ≡ true → (touched : List (List ℕ)) → list_any (λ m. is_among m names) touched ≡ false → is_among n touched ≡ false
+pub not_among : (names : List (List ℕ)) (n : List ℕ) → is_among n names ≡ true → (touched : List (List ℕ)) → list_any (λ m. is_among m names) touched ≡ false → is_among n touched ≡ false
 not_among names n has [] none = refl
 not_among names n has (m ∷ ms) none =
     let here = first_false (is_among m names) (list_any (λ x. is_among x names) ms) none in
@@ -108,7 +108,7 @@ set_length [] i x = refl
 set_length (y ∷ xs) zero x = refl
 set_length (y ∷ xs) (suc i) x = ap suc (set_length xs i x)
 
-map_length : {X Y : Type 0} (f : X → Y) (xs : List X) → length (map f xs) ≡ length xs
+pub map_length : {X Y : Type 0} (f : X → Y) (xs : List X) → length (map f xs) ≡ length xs
 map_length f [] = refl
 map_length f (x ∷ xs) = ap suc (map_length f xs)
 
@@ -116,9 +116,18 @@ pub marked_sources : (touched : List (List ℕ)) (file : List ℕ) (js : List Ju
 marked_sources touched file [] = refl
 marked_sources touched file (j ∷ js) = ap (λ ss. source_of j ∷ ss) (marked_sources touched file js)
 
-marked_templates : (touched : List (List ℕ)) (file : List ℕ) (js : List Judged) → templates_of (map (marked touched file) js) ≡ templates_of js
+pub marked_templates : (touched : List (List ℕ)) (file : List ℕ) (js : List Judged) → templates_of (map (marked touched file) js) ≡ templates_of js
 marked_templates touched file [] = refl
 marked_templates touched file (j ∷ js) = ap (λ ts. j.template ∷ ts) (marked_templates touched file js)
+
+pub marked_at : (touched : List (List ℕ)) (file : List ℕ) (js : List Judged) (k : ℕ) (d : Judged) → k < length js → get_or (map (marked touched file) js) k d ≡ marked touched file (get_or js k d)
+marked_at touched file [] k d h = absurd (omega arith)
+marked_at touched file (j ∷ js) zero d h = refl
+marked_at touched file (j ∷ js) (suc k) d h = marked_at touched file js k d (omega arith)
+
+pub marked_length : (touched : List (List ℕ)) (file : List ℕ) (js : List Judged) → length (map (marked touched file) js) ≡ length js
+marked_length touched file [] = refl
+marked_length touched file (j ∷ js) = ap suc (marked_length touched file js)
 
 pub all_at : {X : Type 0} (P : X → Type 0) (xs : List X) (k : ℕ) (d : X) → AllByRecursion P xs → k < length xs → P (get_or xs k d)
 all_at P [] k d h within = absurd (omega arith)
@@ -129,7 +138,7 @@ pub sources_set : (js : List Judged) (i : ℕ) (j : Judged) → sources_of (set 
 sources_set js i j = map_set source_of js i j
 
 -- what a mark that was not set says
-unmarked : (b c s : Bool) → (if b || c then true else s) ≡ false → (b ≡ false) × (c ≡ false) × (s ≡ false)
+pub unmarked : (b c s : Bool) → (if b || c then true else s) ≡ false → (b ≡ false) × (c ≡ false) × (s ≡ false)
 unmarked true c s h = absurd (false_true (sym h))
 unmarked false true s h = absurd (false_true (sym h))
 unmarked false false s h = (refl, refl, h)

@@ -12,13 +12,13 @@ or_cond : (b : Bool) (k : KnownVal) (rest more : Option KnownVal) → or_else (c
 or_cond true k rest more = refl
 or_cond false k rest more = refl
 
-named_append : (n : List ℕ) (ks js : List KnownVal) → first_named n (ks ++ js) ≡ or_else (first_named n ks) (first_named n js)
+pub named_append : (n : List ℕ) (ks js : List KnownVal) → first_named n (ks ++ js) ≡ or_else (first_named n ks) (first_named n js)
 named_append n [] js = refl
 named_append n (k ∷ ks) js =
     ap (cond (bytes_eq k.definition.name n) (Some k)) (named_append n ks js) ∙ sym (or_cond (bytes_eq k.definition.name n) k (first_named n ks) (first_named n js))
 
 -- the first component of a name in a template is the first definition of that name
-abbrev IsFirst : ℕ → Template → Option Definition → Option KnownVal → Type 0
+abbrev pub IsFirst : ℕ → Template → Option Definition → Option KnownVal → Type 0
 IsFirst number t None None = Unit {0}
 IsFirst number t (Some d) (Some k) = (at : ℕ) × (k ≡ known_at number t at d)
 IsFirst number t _ _ = ⊥
@@ -28,7 +28,7 @@ first_by : (number : ℕ) (t : Template) (b : Bool) (at : ℕ) (d : Definition) 
 first_by number t true at d o r h = (at, refl)
 first_by number t false at d o r h = h
 
-first_is : (number : ℕ) (t : Template) (n : List ℕ) (at : ℕ) (ds : List Definition) → IsFirst number t (definition_named n ds) (first_named n (defined_from number t at ds))
+pub first_is : (number : ℕ) (t : Template) (n : List ℕ) (at : ℕ) (ds : List Definition) → IsFirst number t (definition_named n ds) (first_named n (defined_from number t at ds))
 first_is number t n at [] = tt
 first_is number t n at (d ∷ ds) =
     first_by number t (bytes_eq d.name n) at d (definition_named n ds) (first_named n (defined_from number t (suc at) ds)) (first_is number t n (suc at) ds)

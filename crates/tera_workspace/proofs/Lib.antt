@@ -2,9 +2,12 @@ pub mod AlikeLemmas
 pub mod AnewLemmas
 pub mod BesideLemmas
 pub mod CallLemmas
+pub mod ContainLemmas
 pub mod CurrentLemmas
+pub mod DefinedLemmas
 pub mod FoundLemmas
 pub mod HeadLemmas
+pub mod InsertLemmas
 pub mod KnownLemmas
 pub mod LeftLemmas
 pub mod MarkLemmas

@@ -1,5 +1,5 @@
 -- What stays so where a document is put in the place of another, or among others.
-use Rattle.std.proofs.Common.{◌≡◌, ◌∙◌, ◌<◌, ◌≤◌, ℕ, zero, suc, List, [], ◌∷◌, length, get_or, set, map, Bool, true, false, cond, Vec, string_bytes, refl, sym, ap, subst, arith}
+use Rattle.std.proofs.Common.{◌≡◌, ◌∙◌, ◌<◌, ◌≤◌, ℕ, zero, suc, List, [], ◌∷◌, length, get_or, set, map, Bool, true, false, cond, None, Vec, string_bytes, refl, sym, ap, subst, arith}
 use Rattle.std.specs.Cmp.Lexicographic.{slice_cmp, nat_list_cmp_total}
 use Rattle.std.specs.List.{AllByRecursion, insert}
 use Rattle.std.specs.Ordering.{nat_cmp, is_gt, is_eq, ordering_reverse}
@@ -12,13 +12,15 @@ use Rattle.std.proofs.lemmas.Slice.Eq.{bytes_eq-Decides}
 use Rattle.tera_check.specs.Named.{definitions_of}
 use Rattle.tera_workspace.specs.Diagnostics.{DiagnosticVal}
 use Rattle.tera_workspace.specs.Heads.{definition_named, HaveOneHeadIfAny}
-use Rattle.tera_workspace.specs.Kept.{source_of, sources_of, told_of, told_named, has_name, NoneBefore, IsNumbered, IsPlaceOf, IsWhole, IsAnew, AllWhole, AreCurrent, StayKept, IsTextAt, marked, unsettled}
+use Rattle.tera_workspace.specs.Kept.{source_of, sources_of, told_of, told_named, has_name, NoneBefore, IsNumbered, IsPlaceOf, IsWhole, IsAnew, AllWhole, AreCurrent, StayKept, IsTextAt, marked}
 use Rattle.tera_workspace.specs.Names.{is_among}
 use Rattle.tera_workspace.specs.Sources.{Source, AreInOrder, AreAscending, text_named}
 use Rattle.tera_workspace.specs.declared.diagnostics.Diagnostic.{Diagnostic}
 use Rattle.tera_workspace.specs.declared.judged.Judged.{Judged}
 use Rattle.tera_workspace.proofs.NumberLemmas.{text_numbered}
-use Rattle.tera_workspace.proofs.CurrentLemmas.{replaced_current, marked_sources, sources_set}
+use Rattle.tera_workspace.proofs.PlaceLemmas.{differ}
+use Rattle.tera_workspace.proofs.CurrentLemmas.{replaced_current, marked_sources, marked_at, marked_length, sources_set}
+use Rattle.tera_workspace.proofs.InsertLemmas.{inserted_current}
 
 false_true : false ≡ true → ⊥
 false_true e = cc
@@ -130,39 +132,9 @@ insert_whole js zero j within one w = (one, w)
 insert_whole [] (suc i) j within one w = absurd (omega arith)
 insert_whole (x ∷ js) (suc i) j within one w = (w.0, insert_whole js i j (omega arith) one w.1)
 
-unsettled_whole : (js : List Judged) → AllWhole js → AllWhole (map unsettled js)
-unsettled_whole [] w = tt
-unsettled_whole (j ∷ js) w = (record { read = w.0.read; names = w.0.names }, unsettled_whole js w.1)
-
-unsettled_sources : (js : List Judged) → sources_of (map unsettled js) ≡ sources_of js
-unsettled_sources [] = refl
-unsettled_sources (j ∷ js) = ap (λ ss. source_of j ∷ ss) (unsettled_sources js)
-
-unsettled_told : (n : List ℕ) (js : List Judged) → told_named n (map unsettled js) ≡ told_named n js
-unsettled_told n [] = refl
-unsettled_told n (j ∷ js) = ap (cond (bytes_eq (string_bytes j.template.file) n) (told_of j)) (unsettled_told n js)
-
-unsettled_stale : (js : List Judged) (k : ℕ) (d : Judged) → k < length js → (get_or (map unsettled js) k d).stale ≡ true
-unsettled_stale [] k d h = absurd (omega arith)
-unsettled_stale (j ∷ js) zero d h = refl
-unsettled_stale (j ∷ js) (suc k) d h = unsettled_stale js k d (omega arith)
-
-unsettled_length : (js : List Judged) → length (map unsettled js) ≡ length js
-unsettled_length [] = refl
-unsettled_length (j ∷ js) = ap suc (unsettled_length js)
-
 marked_told : (n : List ℕ) (touched : List (List ℕ)) (file : List ℕ) (js : List Judged) → told_named n (map (marked touched file) js) ≡ told_named n js
 marked_told n touched file [] = refl
 marked_told n touched file (j ∷ js) = ap (cond (bytes_eq (string_bytes j.template.file) n) (told_of j)) (marked_told n touched file js)
-
-marked_at : (touched : List (List ℕ)) (file : List ℕ) (js : List Judged) (k : ℕ) (d : Judged) → k < length js → get_or (map (marked touched file) js) k d ≡ marked touched file (get_or js k d)
-marked_at touched file [] k d h = absurd (omega arith)
-marked_at touched file (j ∷ js) zero d h = refl
-marked_at touched file (j ∷ js) (suc k) d h = marked_at touched file js k d (omega arith)
-
-marked_length : (touched : List (List ℕ)) (file : List ℕ) (js : List Judged) → length (map (marked touched file) js) ≡ length js
-marked_length touched file [] = refl
-marked_length touched file (j ∷ js) = ap suc (marked_length touched file js)
 
 pub default_same : (js : List Judged) (k : ℕ) (d e : Judged) → k < length js → get_or js k d ≡ get_or js k e
 default_same [] k d e h = absurd (omega arith)
@@ -287,14 +259,20 @@ text_stays name text js i d number same n =
 
 -- ---- one more
 
-module _ (name : List ℕ) (js : List Judged) (i : ℕ) (j : Judged) (place : IsPlaceOf name js i) (none : NoneBefore name js (length js)) (anew : IsAnew name j.text j) where
-  pub insert_kept : StayKept js (map unsettled (insert js i j))
+module _ (name : List ℕ) (touched : List (List ℕ)) (js : List Judged) (i : ℕ) (j : Judged) (place : IsPlaceOf name js i) (none : NoneBefore name js (length js)) (anew : IsAnew name j.text j)
+    (heads : (n : List ℕ) → is_among n touched ≡ false → HaveOneHeadIfAny None (definition_named n (definitions_of j.template.parsed))) where
+  text_more : (n : List ℕ) → text_named n (sources_of (insert js i j)) ≡ cond (bytes_eq name n) j.text (text_named n (sources_of js))
+  text_more n = text_insert name j anew.named js i place.within (λ m h. none m j h) n
+
+  pub insert_kept : StayKept js (map (marked touched name) (insert js i j))
   insert_kept = record {
-    whole = λ w. unsettled_whole (insert js i j) (insert_whole js i j place.within anew.whole w);
-    current = λ e w current k d h fresh. absurd (false_true (sym fresh ∙ unsettled_stale (insert js i j) k d (omega (arith, h, unsettled_length (insert js i j)))));
-    ordered = λ o. subst AreAscending (sym (unsettled_sources (insert js i j))) (insert_sorted name j anew.named js i place (λ m h. none m j h) o);
-    told = λ n. unsettled_told n (insert js i j) ∙ told_insert name j anew.named js i place.within anew.untold (λ m h. none m j h) n;
+    whole = λ w. marked_whole touched name (insert js i j) (insert_whole js i j place.within anew.whole w);
+    current = λ e w current.
+        inserted_current e name touched js i j place.within anew.stale w heads
+        (λ n other. text_more n ∙ ap (λ b. cond b j.text (text_named n (sources_of js))) (differ name n (λ same. other (sym same)))) current;
+    ordered = λ o. subst AreAscending (sym (marked_sources touched name (insert js i j))) (insert_sorted name j anew.named js i place (λ m h. none m j h) o);
+    told = λ n. marked_told n touched name (insert js i j) ∙ told_insert name j anew.named js i place.within anew.untold (λ m h. none m j h) n;
   }
 
-  pub insert_text : IsTextAt name j.text js (map unsettled (insert js i j))
-  insert_text n = ap (text_named n) (unsettled_sources (insert js i j)) ∙ text_insert name j anew.named js i place.within (λ m h. none m j h) n
+  pub insert_text : IsTextAt name j.text js (map (marked touched name) (insert js i j))
+  insert_text n = ap (text_named n) (marked_sources touched name (insert js i j)) ∙ text_more n

@@ -9,7 +9,7 @@ use Rattle.text_edits.specs.Documents.{DocumentVal, text_of}
 use Rattle.text_edits.specs.Stored.{document_of, IsChangedAt, AreSame}
 use Rattle.text_edits.specs.declared.documents.Documents.{Documents}
 use Rattle.tera_workspace.specs.Components.{files_by}
-use Rattle.tera_workspace.specs.Definitions.{file_by, AreRead}
+use Rattle.tera_workspace.specs.Definitions.{AreRead}
 use Rattle.tera_workspace.specs.Fresh.{AreFresh}
 use Rattle.tera_workspace.specs.Kept.{name_of, sources_of, templates_of, told_of, told_named, AllWhole, AreCurrent, StayKept}
 use Rattle.tera_workspace.specs.Names.{is_among}
@@ -110,7 +110,6 @@ are_read w k none = record {
   templates = templates_of w.judged.items;
   read = all_read w.judged.items k.whole;
   definitions = λ n. refl;
-  files = λ n. ap (λ names. file_by w.documents names n) (names_are w.judged.items);
   texts = refl;
   components = refl;
   parameters = λ n. refl;

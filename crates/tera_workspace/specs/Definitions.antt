@@ -1,19 +1,17 @@
--- Where components are defined, which files have a name, and which texts they have, in documents as they are.
-use Rattle.std.specs.Prelude.{◌≡◌, ◌&&◌, ℕ, nat_eq, List, Bool, map, string_bytes, Option}
-use Rattle.std.specs.List.{find, ends_with}
-use Rattle.std.specs.Option.{option_map, is_some}
-use Rattle.text_edits.specs.Documents.{text_of}
-use Rattle.text_edits.specs.Stored.{document_of}
-use Rattle.text_edits.specs.declared.documents.Documents.{Documents}
+-- Where components are defined, and which texts the documents have, as they are.
+use Rattle.std.specs.Prelude.{◌≡◌, ℕ, List, map, string_bytes, slice_get, Option, Some}
+use Rattle.std.specs.List.{Contains}
+use Rattle.std.specs.Option.{option_map}
 use Rattle.text_edits.specs.declared.positions.Encoding.{Encoding}
 use Rattle.text_edits.specs.declared.positions.Position.{Position}
+use Rattle.tera_tree.specs.Tree.{Argument, Definition as TreeDefinition}
 use Rattle.tera_check.specs.Judged.{KnownVal}
-use Rattle.tera_check.specs.Named.{first_named, defined_by}
+use Rattle.tera_check.specs.Named.{definitions_of, first_named, defined_by, span_at}
 use Rattle.tera_check.specs.declared.templates.Template.{Template}
-use Rattle.tera_workspace.specs.Components.{components_by, parameters_by, files_by, components_of, parameters_of_name, files_of}
+use Rattle.tera_workspace.specs.Components.{names_defined, components_by, parameters_by, files_by, components_of, parameters_of_name, files_of}
 use Rattle.tera_workspace.specs.Diagnostics.{position_in}
 use Rattle.tera_workspace.specs.Fresh.{AreTemplates}
-use Rattle.tera_workspace.specs.Kept.{name_of, sources_of, templates_of}
+use Rattle.tera_workspace.specs.Kept.{sources_of, templates_of}
 use Rattle.tera_workspace.specs.Sources.{Source, AreSources, text_named}
 use Rattle.tera_workspace.specs.declared.queries.Definition.{Definition}
 use Rattle.tera_workspace.specs.declared.queries.FileText.{FileText}
@@ -40,19 +38,9 @@ definition_at e sources k = record {
 abbrev pub definition_by : Encoding → List Source → List Template → List ℕ → Option DefinitionVal
 definition_by e sources ts name = option_map (definition_at e sources) (first_named name (defined_by 0 ts))
 
--- the first of these files, of those that are there, whose name ends so
-abbrev pub is_file : Documents → List ℕ → List ℕ → Bool
-is_file ds ending file = ends_with nat_eq file ending && is_some (text_of (document_of ds file))
-
-abbrev pub file_by : Documents → List (List ℕ) → List ℕ → Option (List ℕ)
-file_by ds files ending = find (is_file ds ending) files
-
 -- what is found by the documents that were read
 abbrev pub definition_of_name : Workspace → List ℕ → Option DefinitionVal
 definition_of_name w name = definition_by w.encoding (sources_of w.judged.items) (templates_of w.judged.items) name
-
-abbrev pub file_of_ending : Workspace → List ℕ → Option (List ℕ)
-file_of_ending w ending = file_by w.documents (map name_of w.judged.items) ending
 
 -- the documents that were read, with their texts
 abbrev pub text_view : FileText → Source
@@ -68,8 +56,29 @@ pub record AreRead (w : Workspace) : Type 0 where
   pub templates : List Template
   pub read : AreTemplates sources templates
   pub definitions : (n : List ℕ) → definition_of_name w n ≡ definition_by w.encoding sources templates n
-  pub files : (n : List ℕ) → file_of_ending w n ≡ file_by w.documents (map (λ s. s.name) sources) n
   pub texts : texts_read w ≡ sources
   pub components : components_of w ≡ components_by templates
   pub parameters : (n : List ℕ) → parameters_of_name w n ≡ parameters_by templates n
   pub there : files_of w ≡ files_by w.documents (map (λ s. s.name) sources)
+
+-- ---- what is so of them
+
+-- a component of the name is defined by the template, and its name stands there: of its definitions the one of a number
+pub record IsDefinedIn (e : Encoding) (sources : List Source) (t : Template) (name : List ℕ) (d : DefinitionVal) : Type 0 where
+  pub file : d.file ≡ string_bytes t.file
+  pub at : ℕ
+  pub named : slice_get (names_defined t) at ≡ Some name
+  pub start : d.start ≡ position_in e (text_named d.file sources) (span_at t at).range.start
+  pub end : d.end ≡ position_in e (text_named d.file sources) (span_at t at).range.end
+
+-- one of these templates defines a component of the name, of which this is a parameter
+pub record IsParameterIn (ts : List Template) (name parameter : List ℕ) : Type 0 where
+  pub template : Template
+  pub among : Contains ts template
+  pub definition : TreeDefinition
+  pub at : ℕ
+  pub here : slice_get (definitions_of template.parsed) at ≡ Some definition
+  pub named : definition.name ≡ name
+  pub argument : List ℕ × Argument
+  pub there : Contains definition.arguments argument
+  pub is : argument.0 ≡ parameter

@@ -113,7 +113,3 @@ pub record StayKept (old now : List Judged) : Type 0 where
 -- and the text of a name is this one
 abbrev pub IsTextAt : List ℕ → List ℕ → List Judged → List Judged → Type 0
 IsTextAt name text old now = (n : List ℕ) → text_named n (sources_of now) ≡ cond (bytes_eq name n) text (text_named n (sources_of old))
-
--- one that is to be judged again
-abbrev pub unsettled : Judged → Judged
-unsettled j = record j { stale = true }

@@ -1,13 +1,17 @@
-//! A law of what is found: the function has it as its promise and does nothing.
+//! Laws of what is found and of what is asked: each function has its law as its promise and does nothing.
 
-ghost use Rattle.std.specs.Prelude.{◌≡◌, ℕ, List, Option};
-ghost use Rattle.std.specs.List.{AllByRecursion};
+ghost use Rattle.std.specs.Prelude.{◌≡◌, ℕ, List, Option, Some};
+ghost use Rattle.std.specs.List.{AllByRecursion, Contains};
 ghost use Rattle.tera_tree.specs.Tree.{Output};
 ghost use Rattle.tera_check.specs.Alike.{names_in};
 ghost use Rattle.tera_check.specs.Judged.{KnownVal};
 ghost use Rattle.tera_check.specs.Named.{tree_findings};
 ghost use Rattle.tera_check.specs.declared.templates.Template.{Template};
 ghost use Rattle.tera_workspace.specs.Beside.{IsBeside, AgreeBut};
+ghost use Rattle.tera_workspace.specs.Components.{components_of, parameters_of_name};
+ghost use Rattle.tera_workspace.specs.Definitions.{DefinitionVal, definition_of_name, IsDefinedIn, IsParameterIn};
+ghost use Rattle.tera_workspace.specs.Kept.{sources_of, templates_of};
+ghost use Rattle.tera_workspace.specs.declared.workspace.Workspace.{Workspace};
 
 /// Where nothing that is found in a tree tells a place in a file, it is the same by what is known alike under the names
 /// that the tree defines and calls, but for the spans of components in that file.
@@ -16,4 +20,24 @@ pub fn beside()
         (t : Template) (o : Output) → AgreeBut (names_in o) file number known others →
         AllByRecursion (IsBeside file) (tree_findings known number t o) →
         tree_findings known number t o ≡ tree_findings others number t o }
+{}
+
+/// The place that is told of a component is one of a definition of this component, in a document that was read.
+pub fn definitions_define()
+    ensures { (w : Workspace) (n : List ℕ) (d : DefinitionVal) → definition_of_name w n ≡ Some d →
+        (t : Template) × Contains (templates_of w.judged.items) t
+        × IsDefinedIn w.encoding (sources_of w.judged.items) t n d }
+{}
+
+/// Each component that the documents define has such a place.
+pub fn components_are_defined()
+    ensures { (w : Workspace) (n : List ℕ) → Contains (components_of w) n →
+        (d : DefinitionVal) × (definition_of_name w n ≡ Some d) }
+{}
+
+/// The parameters that are told of a component are those of a definition of this component, in a document that was
+/// read.
+pub fn parameters_are_defined()
+    ensures { (w : Workspace) (n p : List ℕ) → Contains (parameters_of_name w n) p →
+        IsParameterIn (templates_of w.judged.items) n p }
 {}

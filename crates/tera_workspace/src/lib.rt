@@ -2,13 +2,12 @@
 //!
 //! It takes documents as `text_edits` keeps them, and tells what `tera_check` finds in each, with positions of
 //! `text_edits` in the place of spans. After an edit the document is read again, unless it has the text that was judged;
-//! judged again are it and those that name a component that may be another now, or that were told a place in it: all of
-//! them, where the document is new.
+//! judged again are it and those that name a component that may be another now, or that were told a place in it.
 //! It tells which components and files there are, which parameters a component has and where it is defined, and which texts
 //! it has read, too.
 //!
-//! In the order of reading: specs `Sources`, `Diagnostics`, `Fresh`, `Workspaces`; `diagnostics`; `judged`, a document as
-//! it was judged; `reading`, and `touched`, what a new text changes for others; `catalogue`; `news`; specs `Components` and
+//! In the order of reading: specs `Sources`, `Diagnostics`, `Fresh`, `Workspaces`; `lined_text` and `diagnostics`; `judged`, a
+//! document as it was judged; `reading`, and `touched`, what a new text changes for others; `catalogue`; `news`; specs `Components` and
 //! `Definitions`; `workspace`; `queries`.
 #![tactic(auto)]
 

@@ -16,21 +16,21 @@ pub(crate) struct LinedText {
 }
 
 impl Model for LinedText {
-    ghost use Rattle.std.specs.Prelude.{◌≡◌, ℕ, List, string_bytes};
-    ghost use Rattle.text_edits.specs.Lines.{lines_of, starts_of};
+    ghost use Rattle.std.specs.Prelude.{ℕ, List, string_bytes};
+    ghost use Rattle.text_edits.specs.Places.{AreLinesOf};
 
     ghost Value = { List ℕ };
 
     ghost view = { λ t. string_bytes t.text };
 
-    ghost invariant = { λ t. t.lines ≡ starts_of (lines_of (string_bytes t.text)) };
+    ghost invariant = { λ t. AreLinesOf (string_bytes t.text) t.lines };
 }
 
 impl LinedText {
     pub(crate) fn of(alloc: Global, text: &str) -> Result<LinedText, AllocError>
         ensures { IfOk result (λ t. t ≡ text.now) }
     {
-        let lines = Lines::of(alloc, text)?;
+        let lines = Lines::for_many(alloc, text)?;
         let text = String::from_str(alloc, text)?;
         Ok(LinedText { text, lines })
     }

@@ -3,7 +3,7 @@
 ghost use Rattle.std.specs.Prelude.{◌≡◌, IfOk, map};
 ghost use Rattle.std.specs.Option.{option_map};
 ghost use Rattle.tera_workspace.specs.Components.{components_of, parameters_of_name, files_of};
-ghost use Rattle.tera_workspace.specs.Definitions.{definition_view, definition_of_name, file_of_ending, text_view, texts_read};
+ghost use Rattle.tera_workspace.specs.Definitions.{definition_view, definition_of_name, text_view, texts_read};
 
 use crate::catalogue::first_known;
 use crate::diagnostics::ends_in;
@@ -41,19 +41,6 @@ impl Workspace {
             }
             None => Ok(None),
         }
-    }
-
-    /// The first file, by the order of the names, whose name ends so, of those that were read and are there.
-    pub fn file_of(&self, ending: &str) -> Option<&str>
-        ensures { option_map (λ f. f.now) result ≡ file_of_ending self.now ending.now }
-    {
-        for judged in &self.judged {
-            let file = judged.template.file.as_str();
-            if file.as_bytes().ends_with(ending.as_bytes()) && self.documents.text(file).is_some() {
-                return Some(file);
-            }
-        }
-        None
     }
 
     /// The files that were read, in the order of their names, each with its text. A file that is gone has the empty one, or

@@ -3,11 +3,11 @@
 ghost use Rattle.std.specs.Prelude.{◌≡◌, ℕ, List, [], true, false, map, string_bytes, length, unwrap_or, OnOk, OnErr};
 ghost use Rattle.text_edits.specs.Documents.{text_of};
 ghost use Rattle.text_edits.specs.Stored.{document_of};
-ghost use Rattle.tera_workspace.specs.Kept.{sources_of, IsAnew, NoneBefore, IsNumbered, StayKept, IsTextAt, IsPlaceOf, unsettled};
+ghost use Rattle.tera_workspace.specs.Kept.{sources_of, IsAnew, NoneBefore, IsNumbered, StayKept, IsTextAt, IsPlaceOf};
 ghost use Rattle.tera_workspace.specs.Names.{is_among};
 ghost use Rattle.tera_workspace.specs.Sources.{text_named};
 
-use crate::judged::{Judged, number_of};
+use crate::judged::{Judged, definitions_of, number_of, push_defined};
 use crate::touched::{mark, touched_names};
 use std::alloc::{AllocError, Global};
 use std::mem;
@@ -43,7 +43,7 @@ fn put(alloc: Global, all: &mut Vec<Judged>, name: &str, text: &str) -> Result<(
     match number_of(all, name) {
         Some(number) if all[number].text.as_str() == text => Ok(()),
         Some(number) => replace(alloc, all, number, Judged::read(alloc, name, text)?, name),
-        None => insert(all, Judged::read(alloc, name, text)?, name),
+        None => insert(alloc, all, Judged::read(alloc, name, text)?, name),
     }
 }
 
@@ -70,25 +70,24 @@ fn replace(
 }
 
 // Where it stands in the order of the names. The numbers of those behind it are others then.
-fn insert(all: &mut Vec<Judged>, judged: Judged, name: &str) -> Result<(), AllocError>
+fn insert(
+    alloc: Global,
+    all: &mut Vec<Judged>,
+    judged: Judged,
+    name: &str,
+) -> Result<(), AllocError>
     requires none { NoneBefore name.now all.old.items (length all.old.items) }
     requires anew { IsAnew name.now judged.text judged }
     ensures kept { StayKept all.old.items all.new.items }
     ensures read { OnOk result (IsTextAt name.now judged.text all.old.items all.new.items) }
     ensures err { OnErr result (all.new.items ≡ all.old.items) }
 {
+    let mut touched = Vec::new(alloc);
+    push_defined(&mut touched, definitions_of(&judged.template))?;
     let place = place_of(all, name);
     all.insert(place, judged)?;
-    mark_all(all);
+    mark(all, &touched, name);
     Ok(())
-}
-
-fn mark_all(all: &mut Vec<Judged>)
-    ensures { all.new.items ≡ map unsettled all.old.items }
-{
-    for judged in all.iter_mut() {
-        judged.stale = true;
-    }
 }
 
 // How many names are before this one.

@@ -1,6 +1,6 @@
 -- The control characters of an excerpt.
 use Rattle.std.proofs.Common.{◌≡◌, ℕ, ◌+◌, ◌*◌, ◌<◌, ◌≤◌, ◌^◌, Bool, true, false, cond, ◌||◌, ◌==◌, nat_le, nat_lt, List, [], ◌∷◌, ◌++◌, length, replicate, max, get_or, codes, chars, decimal, encode_utf8, encode_utf8_all, Some, refl, sym, ◌∙◌, arith, append-nil}
-use Rattle.std.specs.Char.{is_control, digit_value}
+use Rattle.std.specs.Char.{digit_value}
 use Rattle.std.specs.List.{All, count_by, flat_map, list_all}
 use Rattle.std.specs.Str.Parse.{AllDigits}
 use Rattle.std.proofs.lemmas.Bool.{cond_both, and_parts}
@@ -9,9 +9,10 @@ use Rattle.std.proofs.lemmas.Fmt.{decimal_is_IsNumeral}
 use Rattle.std.proofs.lemmas.List.Elements.{All-nil, All-cons, All-head, All-tail, All-append, All-replicate, All-from_get_or}
 use Rattle.std.proofs.lemmas.List.Sums.{sum_by-cons, sum_by-append}
 use Rattle.std.proofs.lemmas.Str.{inside_one}
+use Rattle.line_text.specs.Line.{IsSafe, is_unsafe}
 use Rattle.terminal_text.specs.Excerpt.{Window, window_of, ellipsis, shown_before, shown_line, frame, digits_of, excerpt}
-use Rattle.terminal_text.specs.Laws.{IsSeen, escapes}
-use Rattle.terminal_text.specs.Shown.{turns_direction, columns, seen, shown_as, shown, told_as, on_one_line}
+use Rattle.terminal_text.specs.Laws.{escapes}
+use Rattle.terminal_text.specs.Shown.{columns, seen, shown_as, shown}
 use Rattle.terminal_text.specs.Styled.{escape, colour, styled}
 use Rattle.terminal_text.specs.declared.excerpt.Marked.{Marked}
 use Rattle.terminal_text.specs.declared.style.Part.{Part}
@@ -25,64 +26,48 @@ IsHigh b = 32 ≤ b
 
 -- ---- characters
 
-either_false : (p q : Bool) → (p || q) ≡ false → (p ≡ false) × (q ≡ false)
-either_false false q none = (refl, none)
-either_false true q none = cc
+seen_is : (c : ℕ) → IsSafe (seen c)
+seen_is c = cond_both (is_unsafe c) 0xFFFD c IsSafe (λ _. refl) (λ safe. safe)
 
-seen_is : (c : ℕ) → IsSeen (seen c)
-seen_is c =
-    cond_both (is_control c || turns_direction c) 0xFFFD c IsSeen (λ _. (refl, refl)) (λ none. either_false (is_control c) (turns_direction c) none)
+one_seen : (c : ℕ) → All IsSafe (seen c ∷ [])
+one_seen c = All-cons IsSafe (seen c) [] (seen_is c) (All-nil IsSafe)
 
-one_seen : (c : ℕ) → All IsSeen (seen c ∷ [])
-one_seen c = All-cons IsSeen (seen c) [] (seen_is c) (All-nil IsSeen)
+shown_as_safe : (c : ℕ) → All IsSafe (shown_as c)
+shown_as_safe c = cond_both (c == 9) (codes "    ") (seen c ∷ []) (All IsSafe) (λ _. All-replicate IsSafe 4 32 refl) (λ _. one_seen c)
 
-two_seen : (c d : ℕ) → IsSeen c → IsSeen d → All IsSeen (c ∷ d ∷ [])
-two_seen c d one other = All-cons IsSeen c (d ∷ []) one (All-cons IsSeen d [] other (All-nil IsSeen))
+each_safe : (f : ℕ → List ℕ) → ((c : ℕ) → All IsSafe (f c)) → (text : List ℕ) → All IsSafe (flat_map f text)
+each_safe f each [] = All-nil IsSafe
+each_safe f each (c ∷ cs) = All-append IsSafe (f c) (flat_map f cs) (each c) (each_safe f each cs)
 
-shown_as_seen : (c : ℕ) → All IsSeen (shown_as c)
-shown_as_seen c = cond_both (c == 9) (codes "    ") (seen c ∷ []) (All IsSeen) (λ _. All-replicate IsSeen 4 32 (refl, refl)) (λ _. one_seen c)
+pub shown_safe : (text : List ℕ) → All IsSafe (shown text)
+shown_safe text = each_safe shown_as shown_as_safe text
 
-told_as_seen : (c : ℕ) → All IsSeen (told_as c)
-told_as_seen c =
-    cond_both (c == 10) (codes "\\n") (cond (c == 13) (codes "\\r") (seen c ∷ [])) (All IsSeen) (λ _. two_seen 92 110 (refl, refl) (refl, refl))
-    (λ _. cond_both (c == 13) (codes "\\r") (seen c ∷ []) (All IsSeen) (λ _. two_seen 92 114 (refl, refl) (refl, refl)) (λ _. one_seen c))
+ellipsis_safe : (text : List ℕ) → All IsSafe (ellipsis text)
+ellipsis_safe [] = All-nil IsSafe
+ellipsis_safe (c ∷ cs) = All-cons IsSafe 0x2026 [] refl (All-nil IsSafe)
 
-each_seen : (f : ℕ → List ℕ) → ((c : ℕ) → All IsSeen (f c)) → (text : List ℕ) → All IsSeen (flat_map f text)
-each_seen f each [] = All-nil IsSeen
-each_seen f each (c ∷ cs) = All-append IsSeen (f c) (flat_map f cs) (each c) (each_seen f each cs)
-
-pub shown_seen : (text : List ℕ) → All IsSeen (shown text)
-shown_seen text = each_seen shown_as shown_as_seen text
-
-pub message_seen : (text : List ℕ) → All IsSeen (on_one_line text)
-message_seen text = each_seen told_as told_as_seen text
-
-ellipsis_seen : (text : List ℕ) → All IsSeen (ellipsis text)
-ellipsis_seen [] = All-nil IsSeen
-ellipsis_seen (c ∷ cs) = All-cons IsSeen 0x2026 [] (refl, refl) (All-nil IsSeen)
-
-line_seen : (w : Window) → All IsSeen (shown_line w)
-line_seen w =
-    All-append IsSeen (ellipsis w.left_out ++ shown w.before) _ (All-append IsSeen (ellipsis w.left_out) (shown w.before) (ellipsis_seen w.left_out) (shown_seen w.before))
-    (All-append IsSeen (shown w.marked) _ (shown_seen w.marked)
-    (All-append IsSeen (shown w.behind) (ellipsis w.beyond) (shown_seen w.behind) (ellipsis_seen w.beyond)))
+line_safe : (w : Window) → All IsSafe (shown_line w)
+line_safe w =
+    All-append IsSafe (ellipsis w.left_out ++ shown w.before) _ (All-append IsSafe (ellipsis w.left_out) (shown w.before) (ellipsis_safe w.left_out) (shown_safe w.before))
+    (All-append IsSafe (shown w.marked) _ (shown_safe w.marked)
+    (All-append IsSafe (shown w.behind) (ellipsis w.beyond) (shown_safe w.behind) (ellipsis_safe w.beyond)))
 
 -- ---- bytes
 
-seen_high : (c : ℕ) → IsSeen c → IsHigh c
-seen_high c is = let clear : is_control c ≡ false = is.0 in grind (arith, nat_tests)
+safe_high : (c : ℕ) → IsSafe c → IsHigh c
+safe_high c is = grind (arith, nat_tests, is)
 
 byte_high : (c k : ℕ) → IsHigh c → k < length (encode_utf8 c) → IsHigh (get_or (encode_utf8 c) k 0)
 byte_high c k high below =
     let same : get_or (encode_utf8 c) k 0 < 128 → c ≡ get_or (encode_utf8 c) k 0 = inside_one c [] (encode_utf8 c) k (sym (append-nil _)) below in
     grind arith
 
-pub bytes_high : (cs : List ℕ) → All IsSeen cs → All IsHigh (encode_utf8_all cs)
+pub bytes_high : (cs : List ℕ) → All IsSafe cs → All IsHigh (encode_utf8_all cs)
 bytes_high [] all = All-nil IsHigh
 bytes_high (c ∷ cs) all =
     All-append IsHigh (encode_utf8 c) (encode_utf8_all cs)
-    (All-from_get_or IsHigh (encode_utf8 c) 0 (λ k below. byte_high c k (seen_high c (All-head IsSeen c cs all)) below))
-    (bytes_high cs (All-tail IsSeen c cs all))
+    (All-from_get_or IsHigh (encode_utf8 c) 0 (λ k below. byte_high c k (safe_high c (All-head IsSafe c cs all)) below))
+    (bytes_high cs (All-tail IsSafe c cs all))
 
 digit_high : (c : ℕ) → digit_value c < 10 → IsHigh c
 digit_high c is = grind (arith, nat_tests)
@@ -149,9 +134,9 @@ module _ (p : ℕ → Bool) (others : (b : ℕ) → IsHigh b → p b ≡ false) 
       → count_by p (excerpt style part m (Some line)) ≡ 2 * one 10 + 3 * colours style
   excerpt_count style part m line small =
       let w = window_of (chars line) m in
-      let first = styled style Frame (frame (digits_of m) (decimal m.line)) in
+      let first = styled style Frame (frame (digits_of m.line) (decimal m.line)) in
       let second = encode_utf8_all (shown_line w) in
-      let third = styled style Frame (frame (digits_of m) []) in
+      let third = styled style Frame (frame (digits_of m.line) []) in
       let fourth : List ℕ = replicate (columns (shown_before w)) 32 in
       let fifth : List ℕ = styled style part (replicate (max (columns (shown w.marked)) 1) 94) in
       let end : List ℕ = 10 ∷ [] in
@@ -163,7 +148,7 @@ module _ (p : ℕ → Bool) (others : (b : ℕ) → IsHigh b → p b ≡ false) 
       let e6 : count_by p (fifth ++ end) ≡ count_by p fifth + count_by p end = sum_by-append one fifth end in
       let e7 : count_by p end ≡ one 10 + count_by p [] = sum_by-cons one 10 [] in
       let c1 : count_by p first ≡ colours style = styled_count style Frame _ (frame_high _ _ (digits_high _ (decimal_is_IsNumeral m.line small).0.1)) in
-      let c2 : count_by p second ≡ 0 = none second (bytes_high (shown_line w) (line_seen w)) in
+      let c2 : count_by p second ≡ 0 = none second (bytes_high (shown_line w) (line_safe w)) in
       let c3 : count_by p third ≡ colours style = styled_count style Frame _ (frame_high _ [] (All-nil IsHigh)) in
       let c4 : count_by p fourth ≡ 0 = none fourth (All-replicate IsHigh _ 32 (omega arith)) in
       let c5 : count_by p fifth ≡ colours style = styled_count style part (replicate (max (columns (shown w.marked)) 1) 94) (All-replicate IsHigh _ 94 (omega arith)) in

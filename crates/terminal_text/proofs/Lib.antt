@@ -2,8 +2,8 @@ pub mod Controls
 pub mod Ends
 pub mod Hunked
 pub mod LineEnds
+pub mod LineMarks
 pub mod Marks
-pub mod Numbered
 pub mod Offsets
 pub mod Pieces
 pub mod Placing

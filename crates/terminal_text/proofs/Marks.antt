@@ -11,6 +11,7 @@ use Rattle.std.proofs.lemmas.List.Sums.{sum_by-cons}
 use Rattle.std.proofs.lemmas.Str.{encodes-append, encodes-IsAscii}
 use Rattle.std.proofs.lemmas.Str.Ascii.{IsAscii-from_all}
 use Rattle.unicode_width.specs.Width.{char_width}
+use Rattle.line_text.proofs.Printable.{IsPlain}
 use Rattle.terminal_text.specs.Excerpt.{window_of, shown_before, shown_line, frame, digits_of, excerpt}
 use Rattle.terminal_text.specs.Laws.{IsMarkedBelow}
 use Rattle.terminal_text.specs.Shown.{width, columns, shown}
@@ -19,10 +20,6 @@ use Rattle.terminal_text.specs.declared.style.Part.{Part}
 use Rattle.terminal_text.specs.declared.style.Style.TheVariants.{Plain}
 
 -- a character of ASCII that is no control character takes one column
-pub record IsPlain (c : ℕ) : Type 0 where
-  pub low : 32 ≤ c
-  pub high : c < 127
-
 plain_width : (c : ℕ) → IsPlain c → width c ≡ 1
 unfolding char_width
 plain_width c is =
@@ -77,13 +74,13 @@ unfolding encode_utf8
 marked_below part m line small =
     let w = window_of (chars line) m in
     let number : List ℕ = decimal m.line in
-    let before : List ℕ = frame (digits_of m) number in
-    let empty : List ℕ = frame (digits_of m) [] in
+    let before : List ℕ = frame (digits_of m.line) number in
+    let empty : List ℕ = frame (digits_of m.line) [] in
     let spaces : List ℕ = replicate (columns (shown_before w)) 32 in
     let mark : List ℕ = replicate (max (columns (shown w.marked)) 1) 94 in
     let numeral : All IsPlain number = digits_plain number (decimal_is_IsNumeral m.line small).0.1 in
-    let before_plain : All IsPlain before = frame_plain (digits_of m) number numeral in
-    let empty_plain : All IsPlain empty = frame_plain (digits_of m) [] (All-nil IsPlain) in
+    let before_plain : All IsPlain before = frame_plain (digits_of m.line) number numeral in
+    let empty_plain : All IsPlain empty = frame_plain (digits_of m.line) [] (All-nil IsPlain) in
     let spaces_plain : All IsPlain spaces = repeated_plain _ 32 space in
     let mark_plain : All IsPlain mark = repeated_plain _ 94 caret in
     let below_plain : All IsPlain (empty ++ spaces) = All-append IsPlain empty spaces empty_plain spaces_plain in
@@ -91,8 +88,8 @@ marked_below part m line small =
     let e2 : columns (empty ++ spaces) ≡ length (empty ++ spaces) = plain_columns (empty ++ spaces) below_plain in
     let e3 : length (empty ++ spaces) ≡ length empty + length spaces = length-append empty spaces in
     let e4 : length spaces ≡ columns (shown_before w) = length-replicate _ 32 in
-    let e5 = frame_length (digits_of m) number in
-    let e6 = frame_length (digits_of m) [] in
+    let e5 = frame_length (digits_of m.line) number in
+    let e6 = frame_length (digits_of m.line) [] in
     let e7 : columns mark ≡ length mark = plain_columns mark mark_plain in
     let e8 : length mark ≡ max (columns (shown w.marked)) 1 = length-replicate _ 94 in
     let enc = encode_utf8_all in

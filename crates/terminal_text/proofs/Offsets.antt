@@ -55,3 +55,14 @@ cut_there text n utf8 =
       ap (λ l. chars (take at l)) bytes ∙ ap chars (take-append_seam (encode_utf8_all front) (encode_utf8_all back)) ∙ chars-encodes front scalar.0,
       ap (λ l. chars (drop at l)) bytes ∙ ap chars (drop-append_seam (encode_utf8_all front) (encode_utf8_all back)) ∙ chars-encodes back scalar.1,
     )
+
+-- .. begins there
+pub boundary_there : (text : List ℕ) (n : ℕ) → IsUtf8 text → IsCharBoundary text (length (encode_utf8_all (take n (chars text))))
+boundary_there text n utf8 =
+    let front = take n (chars text) in
+    let back = drop n (chars text) in
+    let both : front ++ back ≡ chars text = take-append-drop n (chars text) in
+    let bytes : text ≡ encode_utf8_all front ++ encode_utf8_all back
+    = sym (encodes-chars text utf8) ∙ ap encode_utf8_all (sym both) ∙ encodes-append front back in
+    let scalar = scalars_parts front back (ap scalars both ∙ scalars-chars text utf8) in
+    IsCharBoundary-at_seam text (encode_utf8_all front) (encode_utf8_all back) bytes (back, (scalar.1, refl))

@@ -1,5 +1,5 @@
 -- The pieces of a line that are written one behind another.
-use Rattle.std.proofs.Common.{◌≡◌, ◌<◌, ℕ, List, [], ◌∷◌, ◌++◌, length, chars, encode_utf8_all, IsUtf8, Result, Ok, Err, is_ok, OnOk, if◌then◌else◌, refl, ap, ◌∙◌, arith, append_assoc}
+use Rattle.std.proofs.Common.{◌≡◌, ◌<◌, ℕ, List, [], ◌∷◌, ◌++◌, length, chars, encode_utf8_all, IsUtf8, refl, ap, ◌∙◌, arith, append_assoc}
 use Rattle.std.proofs.lemmas.List.{nil_from_length}
 use Rattle.std.proofs.lemmas.Str.{chars-nil, encodes-chars, encodes-append}
 use Rattle.terminal_text.specs.Excerpt.{ellipsis}
@@ -21,12 +21,6 @@ five_pieces t a b c d e = simp (encodes-append, append_assoc)
 
 pub four_pieces : (t a b c d : List ℕ) → (((t ++ a) ++ b) ++ c) ++ d ≡ t ++ (a ++ (b ++ (c ++ d)))
 four_pieces t a b c d = simp append_assoc
-
--- a push at the end of a function
-pub pushed : {T E : Type 0} (r : Result T E) (new old added whole : List ℕ) → new ≡ (if is_ok r then old ++ added else old)
-    → old ++ added ≡ whole → OnOk r (new ≡ whole)
-pushed (Ok x) new old added whole is same = is ∙ same
-pushed (Err e) new old added whole is same = tt
 
 pub three_pieces : (t a b c : List ℕ) → (((t ++ a) ++ b) ++ 10 ∷ []) ++ c ≡ t ++ (a ++ (b ++ (10 ∷ c)))
 three_pieces t a b c = simp append_assoc

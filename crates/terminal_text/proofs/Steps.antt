@@ -1,30 +1,14 @@
--- A loop over the characters of a text that writes something for each of them.
-use Rattle.std.proofs.Common.{◌≡◌, ℕ, zero, suc, ◌+◌, List, [], ◌∷◌, ◌++◌, length, replicate, chars, encode_utf8, encode_utf8_all, IsUtf8, refl, sym, ap, ◌∙◌, append_assoc, append-nil, add_assoc, add-zero}
+-- A loop over the characters of a text that counts columns for each of them.
+use Rattle.std.proofs.Common.{◌≡◌, ℕ, zero, suc, ◌+◌, List, [], ◌∷◌, ◌++◌, length, replicate, chars, encode_utf8, IsUtf8, refl, sym, ap, ◌∙◌, add_assoc, add-zero}
 use Rattle.std.specs.List.{flat_map}
 use Rattle.std.proofs.lemmas.List.{nil_from_length}
 use Rattle.std.proofs.lemmas.List.Sums.{sum_by-append}
-use Rattle.std.proofs.lemmas.Str.{chars-nil, chars_past_char, encodes-append}
+use Rattle.std.proofs.lemmas.Str.{chars-nil, chars_past_char}
 use Rattle.terminal_text.specs.Shown.{columns}
 
--- what was written, and what is to be written for the characters that are left
-abbrev pub text_and : (ℕ → List ℕ) → List ℕ → List ℕ → List ℕ
-text_and f now left = now ++ encode_utf8_all (flat_map f (chars left))
-
--- and how many columns both take
+-- how many columns were written, and how many are to be written for the characters that are left
 abbrev pub columns_and : (ℕ → List ℕ) → ℕ → List ℕ → ℕ
 columns_and f now left = now + columns (flat_map f (chars left))
-
-pub text_step : (f : ℕ → List ℕ) (now new left rest : List ℕ) (c : ℕ) → IsUtf8 left → left ≡ encode_utf8 c ++ rest →
-    new ≡ now ++ encode_utf8_all (f c) → text_and f new rest ≡ text_and f now left
-text_step f now new left rest c utf8 parts written =
-    let more = flat_map f (chars rest) in
-    ap (λ l. l ++ encode_utf8_all more) written ∙ append_assoc now (encode_utf8_all (f c)) (encode_utf8_all more)
-    ∙ ap (λ l. now ++ l) (sym (encodes-append (f c) more) ∙ ap (λ cs. encode_utf8_all (flat_map f cs)) (sym (chars_past_char left rest c utf8 parts)))
-
-pub text_end : (f : ℕ → List ℕ) (now left : List ℕ) → length left ≡ 0 → text_and f now left ≡ now
-text_end f now left none =
-    ap (λ l. now ++ encode_utf8_all (flat_map f (chars l))) (nil_from_length left none)
-    ∙ ap (λ cs. now ++ encode_utf8_all (flat_map f cs)) chars-nil ∙ append-nil now
 
 pub columns_step : (f : ℕ → List ℕ) (now added : ℕ) (left rest : List ℕ) (c : ℕ) → IsUtf8 left → left ≡ encode_utf8 c ++ rest →
     added ≡ columns (f c) → columns_and f (now + added) rest ≡ columns_and f now left

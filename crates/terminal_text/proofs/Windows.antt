@@ -1,8 +1,9 @@
 -- The window of a line.
-use Rattle.std.proofs.Common.{◌≡◌, ◌⊎◌, inl, inr, ℕ, ◌+◌, ◌-◌, ◌≤◌, ◌<◌, min, List, [], ◌++◌, length, take, drop, unwrap_or, refl, sym, ap, ◌∙◌, arith, append_assoc, length-append, ⊎_elim}
+use Rattle.std.proofs.Common.{◌≡◌, ◌⊎◌, inl, inr, ℕ, ◌+◌, ◌-◌, ◌≤◌, ◌<◌, min, List, [], ◌++◌, length, take, drop, chars, Option, Some, None, unwrap_or, refl, sym, subst, ap, ◌∙◌, arith, append_assoc, length-append, ⊎_elim}
 use Rattle.std.proofs.lemmas.Bool.{cases_lt}
 use Rattle.std.proofs.lemmas.List.{length-take, length-drop, take-append-drop, nil_from_length}
-use Rattle.terminal_text.specs.Excerpt.{start_in, first_in, window_of}
+use Rattle.std.proofs.lemmas.Option.{none-some}
+use Rattle.terminal_text.specs.Excerpt.{Window, start_in, first_in, window_of, window_in}
 use Rattle.terminal_text.specs.Laws.{IsWindow}
 use Rattle.terminal_text.specs.declared.excerpt.Marked.{Marked}
 
@@ -78,3 +79,10 @@ behind_short line m =
     let l2 : length from ≡ length part - (start_in line m - first_in line m) = length-drop (start_in line m - first_in line m) part in
     let l3 : length (drop width from) ≡ length from - width = length-drop width from in
     omega (arith, l1, l2, l3)
+
+-- .. of a line that is there
+pub found_short : (line : Option (List ℕ)) (m : Marked) (w : Window) → Some w ≡ window_in line m → (length w.marked ≤ 120) × (length w.behind ≤ 120)
+found_short None m w is = absurd (none-some w (sym is))
+found_short (Some line) m w is =
+    let same : w ≡ window_of (chars line) m = ap (λ o. unwrap_or o w) is in
+    (subst (λ (v : Window). length v.marked ≤ 120) (sym same) (marked_short (chars line) m), subst (λ (v : Window). length v.behind ≤ 120) (sym same) (behind_short (chars line) m))

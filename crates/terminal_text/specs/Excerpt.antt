@@ -55,18 +55,26 @@ shown_line w = shown_before w ++ (shown w.marked ++ (shown w.behind ++ ellipsis 
 abbrev pub frame : ℕ → List ℕ → List ℕ
 frame digits number = replicate (digits - length number) 32 ++ (number ++ codes " | ")
 
-abbrev pub digits_of : Marked → ℕ
-digits_of m = max (length (decimal m.line)) 5
+abbrev pub digits_of : ℕ → ℕ
+digits_of line = max (length (decimal line)) 5
 
 -- the line of a mark: behind so many columns, below so many
 abbrev pub mark_line : Style → Part → ℕ → ℕ → ℕ → List ℕ
 mark_line style part digits before above =
     styled style Frame (frame digits []) ++ (replicate before 32 ++ (styled style part (replicate (max above 1) 94) ++ 10 ∷ []))
 
+-- what is shown of a line by its number, and the line of the mark
+abbrev pub window_text : Style → Part → ℕ → Window → List ℕ
+window_text style part line w =
+    styled style Frame (frame (digits_of line) (decimal line)) ++ (encode_utf8_all (shown_line w) ++ (10 ∷
+    mark_line style part (digits_of line) (columns (shown_before w)) (columns (shown w.marked))))
+
+-- what is shown of the bytes of a line, if there is one
+abbrev pub window_in : Option (List ℕ) → Marked → Option Window
+window_in None m = None
+window_in (Some line) m = Some (window_of (chars line) m)
+
 -- both lines, of the bytes of a line
 abbrev pub excerpt : Style → Part → Marked → Option (List ℕ) → List ℕ
 excerpt style part m None = []
-excerpt style part m (Some line) =
-    let w = window_of (chars line) m in
-    styled style Frame (frame (digits_of m) (decimal m.line)) ++ (encode_utf8_all (shown_line w) ++ (10 ∷
-    mark_line style part (digits_of m) (columns (shown_before w)) (columns (shown w.marked))))
+excerpt style part m (Some line) = window_text style part m.line (window_of (chars line) m)

@@ -1,8 +1,7 @@
 -- What the laws say of an excerpt.
-use Rattle.std.specs.Prelude.{◌≡◌, ◌+◌, ◌-◌, ◌⊎◌, ◌++◌, ℕ, min, max, false, List, [], ◌∷◌, length, unwrap_or, encode_utf8_all, All}
-use Rattle.std.specs.Char.{is_control}
+use Rattle.std.specs.Prelude.{◌≡◌, ◌+◌, ◌-◌, ◌⊎◌, ◌++◌, ℕ, min, max, List, [], ◌∷◌, length, unwrap_or, encode_utf8_all, All}
 use Rattle.terminal_text.specs.Excerpt.{Window, shown_before, shown_line}
-use Rattle.terminal_text.specs.Shown.{turns_direction, shown, columns}
+use Rattle.terminal_text.specs.Shown.{shown, columns}
 use Rattle.terminal_text.specs.declared.excerpt.Marked.{Marked}
 use Rattle.terminal_text.specs.declared.style.Style.{Style}
 use Rattle.terminal_text.specs.declared.style.Style.TheVariants.{Plain, Coloured}
@@ -27,10 +26,6 @@ pub record IsMarkedBelow (text : List ℕ) (w : Window) : Type 0 where
   pub place : columns below ≡ columns before + columns (shown_before w)
   pub long : columns mark ≡ max (columns (shown w.marked)) 1
   pub carets : All (λ c. c ≡ 94) mark
-
--- the character is shown, and not obeyed
-abbrev pub IsSeen : ℕ → Type 0
-IsSeen c = (is_control c ≡ false) × (turns_direction c ≡ false)
 
 -- how many escapes the colours of an excerpt are
 abbrev pub escapes : Style → ℕ

@@ -1,7 +1,7 @@
 //! The line of a source that a place names, with a mark below it.
 
-ghost use Rattle.std.specs.Prelude.{◌≡◌, ◌++◌, ◌∷◌, [], ◌<◌, ◌≤◌, ℕ, List, length, take, drop, replicate, chars, decimal, encode_utf8_all, string_bytes, Some, IsCharBoundary, IfOk, OnOk};
-ghost use Rattle.terminal_text.specs.Excerpt.{window_of, ellipsis as ellipsis_of, shown_before, shown_line, frame, mark_line, excerpt};
+ghost use Rattle.std.specs.Prelude.{◌≡◌, ◌++◌, ◌∷◌, [], ◌<◌, ◌≤◌, ℕ, List, length, replicate, chars, decimal, encode_utf8_all, string_bytes, Some, IfOk, OnOk};
+ghost use Rattle.terminal_text.specs.Excerpt.{window_of, ellipsis as ellipsis_of, shown_before, shown_line, frame, mark_line, excerpt, window_text};
 ghost use Rattle.terminal_text.specs.Texts.{window_view};
 ghost use Rattle.terminal_text.specs.Shown.{shown, columns};
 ghost use Rattle.terminal_text.specs.Files.{source_of};
@@ -9,6 +9,7 @@ ghost use Rattle.terminal_text.specs.Lines.{line_at};
 ghost use Rattle.terminal_text.specs.Styled.{styled};
 ghost use Rattle.terminal_text.specs.declared.style.Part.TheVariants as parts;
 
+use crate::lines::{Line, split_characters};
 use crate::shown::{push_character, push_shown};
 use crate::source::Sources;
 use crate::style::{Part, Style};
@@ -49,29 +50,32 @@ pub fn push_excerpt(
         ++ excerpt style part marked (line_at (source_of sources.old file.now) marked.line)) }
     ensures same { (other : List ℕ) → source_of sources.new other ≡ source_of sources.old other }
 {
-    match sources.line(alloc, file, marked.line)? {
-        Some(line) => push_marked(alloc, to, style, part, line, marked),
+    match sources.window(alloc, file, marked)? {
+        Some(window) => push_marked(alloc, to, style, part, &window, marked.line),
         None => Ok(()),
     }
 }
 
-// Adds both lines.
+// Adds what is shown of the line of this number, and the line of the mark.
 fn push_marked(
     alloc: Global,
     to: &mut String,
     style: Style,
     part: Part,
-    line: &str,
-    marked: Marked,
+    window: &Window<'_>,
+    number: usize,
 ) -> Result<(), AllocError>
+    requires before { length (window_view window.now).before ≤ 120 }
+    requires marked { length (window_view window.now).marked ≤ 120 }
+    requires behind { length (window_view window.now).behind ≤ 120 }
     ensures { OnOk result (string_bytes to.new
-        ≡ string_bytes to.old ++ excerpt style part marked (Some line.now)) }
+        ≡ string_bytes to.old ++ window_text style part number (window_view window.now)) }
 {
-    let number = marked.line.to_string(alloc)?;
+    let number = number.to_string(alloc)?;
     let text = number.as_str();
     let digits = text.len().max(DIGITS);
     push_frame(alloc, to, style, digits, text)?;
-    let (before, above) = push_window(to, &Window::of(line, marked))?;
+    let (before, above) = push_window(to, window)?;
     to.push('\n')?;
     push_mark(alloc, to, style, part, digits, before, above)
 }
@@ -130,7 +134,7 @@ fn push_repeated(to: &mut String, character: char, count: usize) -> Result<(), A
 // The characters of a line: those left out at its start, those shown before the mark, above it and behind it, and those
 // left out at its end.
 #[derive(Drop)]
-struct Window<'a> {
+pub(crate) struct Window<'a> {
     left_out: &'a str,
     before: &'a str,
     marked: &'a str,
@@ -139,16 +143,17 @@ struct Window<'a> {
 }
 
 impl<'a> Window<'a> {
-    fn of(line: &'a str, mark: Marked) -> Window<'a>
+    // What is shown of the line, by where it is marked.
+    pub(crate) fn of(line: &Line<'a>, mark: Marked) -> Window<'a>
         ensures { window_view result ≡ window_of (chars line.now) mark }
     {
-        let length = line.chars().count();
+        let length = line.characters();
         let start = mark.start.min(length);
         let end = mark.end.unwrap_or(length);
         let first = start
             .saturating_sub(BEFORE)
             .min(length.saturating_sub(SHOWN));
-        let (left_out, rest) = split_characters(line, first);
+        let (left_out, rest) = line.split(first);
         let (shown, beyond) = split_characters(rest, SHOWN);
         let (before, from) = split_characters(shown, start - first);
         let (marked, behind) = split_characters(from, end.saturating_sub(start));
@@ -193,26 +198,4 @@ fn push_ellipsis(to: &mut String, left_out: &str) -> Result<usize, AllocError>
         return Ok(0);
     }
     push_character(to, '…')
-}
-
-// The text before the character of this number, from 0, and from it on.
-fn split_characters(text: &str, count: usize) -> (&str, &str)
-    ensures before { chars result.0.now ≡ take count (chars text.now) }
-    ensures behind { chars result.1.now ≡ drop count (chars text.now) }
-{
-    text.split_at(offset_of(text, count))
-}
-
-// The byte at which the character of this number begins, from 0, or the end of the text.
-fn offset_of(text: &str, count: usize) -> usize
-    ensures value { result ≡ length (encode_utf8_all (take count (chars text.now))) }
-    ensures boundary { IsCharBoundary text.now result }
-{
-    if text.is_ascii() {
-        return count.min(text.len());
-    }
-    match text.char_indices().nth(count) {
-        Some((offset, _)) => offset,
-        None => text.len(),
-    }
 }

@@ -2,11 +2,12 @@
 
 ghost use Rattle.std.specs.Prelude.{◌≡◌, ◌+◌, ◌<◌, ◌^◌, ◌==◌, ℕ, [], List, Some, false, nat_lt, All, filter, count_by, chars};
 ghost use Rattle.std.specs.List.{flat_map, concat, AllByRecursion};
+ghost use Rattle.line_text.specs.Line.{IsSafe};
 ghost use Rattle.terminal_text.specs.Edits.{EditView, old_side, new_side, lines_of, edits_of};
 ghost use Rattle.terminal_text.specs.Excerpt.{window_of, excerpt};
 ghost use Rattle.terminal_text.specs.Hunks.{placed_edits, hunks_of, changes, taken_side};
-ghost use Rattle.terminal_text.specs.Laws.{IsWindow, IsMarkedBelow, IsSeen, escapes};
-ghost use Rattle.terminal_text.specs.Shown.{shown, on_one_line};
+ghost use Rattle.terminal_text.specs.Laws.{IsWindow, IsMarkedBelow, escapes};
+ghost use Rattle.terminal_text.specs.Shown.{shown};
 ghost use Rattle.terminal_text.specs.declared.style.Style.TheVariants.{Plain};
 
 use crate::excerpt::Marked;
@@ -24,7 +25,7 @@ pub fn mark_below()
         IsMarkedBelow (excerpt Plain part m (Some line)) (window_of (chars line) m) }
 {}
 
-/// Whatever stands in a source and in a message, a terminal gets nothing to obey but the two line feeds of an excerpt
+/// Whatever is in a source, a terminal gets nothing to obey but the two line feeds of an excerpt
 /// and the escapes of its colours.
 pub fn no_controls()
     ensures feeds { (style : Style) (part : Part) (m : Marked) (line : List ℕ) → m.line < 2 ^ 64 →
@@ -33,8 +34,7 @@ pub fn no_controls()
         count_by (λ b. b == 27) (excerpt style part m (Some line)) ≡ escapes style }
     ensures others { (style : Style) (part : Part) (m : Marked) (line : List ℕ) → m.line < 2 ^ 64 →
         count_by (λ b. nat_lt b 32) (excerpt style part m (Some line)) ≡ 2 + escapes style }
-    ensures shown { (text : List ℕ) → All IsSeen (shown text) }
-    ensures message { (text : List ℕ) → All IsSeen (on_one_line text) }
+    ensures shown { (text : List ℕ) → All IsSafe (shown text) }
 {}
 
 /// The old sides of the edits of two texts are the lines of the old text, and their new sides those of the new one.

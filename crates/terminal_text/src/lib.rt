@@ -2,10 +2,10 @@
 //! colours or without.
 //!
 //! It takes texts and places, and puts what is to be shown at the end of a text. It knows nothing of templates, and
-//! stands on nothing of the repository.
+//! depends on `line_text` alone.
 //!
 //! In the order of reading: specs `Styled` and `style`, the colours; `Shown` and `shown`, characters and their columns;
-//! `Lines`, `Files` and `source`, the lines of sources; `Excerpt` and `excerpt`, a line with its mark; `counts`; `Edits`
+//! `Lines`, `Files`, `lines` and `source`, the lines of sources; `Excerpt` and `excerpt`, a line with its mark; `counts`; `Edits`
 //! and `edits`, the lines of two texts side by side, `Hunks` and `hunks`, which of them are shown, and `Differences` and
 //! `differences`; `laws`.
 #![tactic(auto)]
@@ -16,6 +16,7 @@ mod edits;
 mod excerpt;
 mod hunks;
 pub mod laws;
+mod lines;
 mod shown;
 mod source;
 mod style;
@@ -23,6 +24,5 @@ mod style;
 pub use counts::counted;
 pub use differences::difference;
 pub use excerpt::{Marked, push_excerpt};
-pub use shown::push_on_one_line;
 pub use source::Sources;
 pub use style::{Part, Style};

@@ -1,10 +1,14 @@
 //! Sources, and their lines.
 
-ghost use Rattle.std.specs.Prelude.{◌≡◌, List, ℕ, Some, None, map, option_copied, MatchOption, IfOk, OnOk, bytes_eq, if◌then◌else◌};
+ghost use Rattle.std.specs.Prelude.{◌≡◌, List, ℕ, Some, None, option_copied, option_map, IfOk, OnOk, bytes_eq, if◌then◌else◌};
 ghost use Rattle.std.specs.Str.Lines.{strip_carriage_return};
+ghost use Rattle.terminal_text.specs.Excerpt.{window_in};
 ghost use Rattle.terminal_text.specs.Files.{source_of};
-ghost use Rattle.terminal_text.specs.Lines.{parts, line_in as line_of, line_at};
+ghost use Rattle.terminal_text.specs.Lines.{lines_of, line_in, line_at};
+ghost use Rattle.terminal_text.specs.Texts.{window_view};
 
+use crate::excerpt::{Marked, Window};
+use crate::lines::Line;
 use std::alloc::{AllocError, Global};
 use std::collections::BTreeMap;
 use std::marker::Model;
@@ -15,22 +19,22 @@ pub struct Sources<'a> {
     texts: BTreeMap<&'a str, Text<'a>>,
 }
 
-// A source, and what stands between its line feeds, once a line of it was asked for.
+// A source, and its lines, once one of them was asked for.
 #[derive(Drop)]
 struct Text<'a> {
     source: &'a str,
-    pieces: Option<Vec<&'a str>>,
+    lines: Option<Vec<Line<'a>>>,
 }
 
 impl<'a> Model for Text<'a> {
-    ghost use Rattle.std.specs.Prelude.{◌≡◌, List, ℕ, map, MatchOption, ⊤};
-    ghost use Rattle.terminal_text.specs.Lines.{parts};
+    ghost use Rattle.std.specs.Prelude.{◌≡◌, List, ℕ, MatchOption, ⊤};
+    ghost use Rattle.terminal_text.specs.Lines.{lines_of};
 
     ghost Value = { List ℕ };
 
     ghost view = { λ t. t.source.now };
 
-    ghost invariant = { λ t. MatchOption t.pieces ⊤ (λ v. map (λ p. p.now) v.items ≡ parts t.source.now) };
+    ghost invariant = { λ t. MatchOption t.lines ⊤ (λ v. v.items ≡ lines_of t.source.now) };
 }
 
 impl<'a> Sources<'a> {
@@ -50,61 +54,72 @@ impl<'a> Sources<'a> {
     {
         let text = Text {
             source,
-            pieces: None,
+            lines: None,
         };
         self.texts.insert(file, text)?;
         Ok(())
     }
 
-    // The line of that number, from 1, without its end; none where there is no such file or line.
-    pub(crate) fn line(
+    // What is shown of the line that is marked; none where there is no such file or line.
+    pub(crate) fn window(
         &mut self,
         alloc: Global,
         file: &str,
-        number: usize,
-    ) -> Result<Option<&'a str>, AllocError>
-        ensures line { IfOk result (λ l. option_copied l
-            ≡ line_at (source_of self.old file.now) number) }
+        marked: Marked,
+    ) -> Result<Option<Window<'a>>, AllocError>
+        ensures window { IfOk result (λ w. option_map window_view w
+            ≡ window_in (line_at (source_of self.old file.now) marked.line) marked) }
         ensures same { (other : List ℕ) → source_of self.new other ≡ source_of self.old other }
     {
         match self.texts.get_mut(file) {
-            Some(text) => text.line(alloc, number),
+            Some(text) => text.window(alloc, marked),
             None => Ok(None),
         }
     }
 }
 
 impl<'a> Text<'a> {
-    fn line(&mut self, alloc: Global, number: usize) -> Result<Option<&'a str>, AllocError>
-        ensures line { IfOk result (λ l. option_copied l ≡ line_at (Some self.old) number) }
+    fn window(&mut self, alloc: Global, marked: Marked) -> Result<Option<Window<'a>>, AllocError>
+        ensures window { IfOk result (λ w. option_map window_view w
+            ≡ window_in (line_at (Some self.old) marked.line) marked) }
         ensures same { self.new ≡ self.old }
     {
-        if let Some(pieces) = &self.pieces {
-            return Ok(line_in(pieces.as_slice(), number));
+        if let Some(lines) = &self.lines {
+            return Ok(window_in(lines.as_slice(), marked));
         }
-        let pieces = pieces_of(alloc, self.source)?;
-        let line = line_in(pieces.as_slice(), number);
-        self.pieces = Some(pieces);
-        Ok(line)
+        let lines = lines_of(alloc, self.source)?;
+        let window = window_in(lines.as_slice(), marked);
+        self.lines = Some(lines);
+        Ok(window)
     }
 }
 
-// What stands between line feeds.
-fn pieces_of<'a>(alloc: Global, source: &'a str) -> Result<Vec<&'a str>, AllocError>
-    ensures { IfOk result (λ v. map (λ p. p.now) v.items ≡ parts source.now) }
+// The lines of the source.
+fn lines_of<'a>(alloc: Global, source: &'a str) -> Result<Vec<Line<'a>>, AllocError>
+    ensures { IfOk result (λ lines. lines.items ≡ lines_of source.now) }
 {
-    source.split('\n').collect(alloc)
+    let mut lines = Vec::new(alloc);
+    for piece in source.split('\n') {
+        lines.push(Line::of(alloc, without_return(piece))?)?;
+    }
+    Ok(lines)
 }
 
-// The line of that number.
-fn line_in<'a>(pieces: &[&'a str], number: usize) -> Option<&'a str>
-    ensures { option_copied result ≡ line_of (map (λ p. p.now) pieces.now) number }
+// What is shown of the line that is marked.
+fn window_in<'a>(lines: &[Line<'a>], marked: Marked) -> Option<Window<'a>>
+    ensures { option_map window_view result ≡ window_in (line_in lines.now marked.line) marked }
 {
-    let index = number.checked_sub(1)?;
-    match pieces.get(index) {
-        Some(piece) => Some(without_return(piece)),
+    match line_in(lines, marked.line) {
+        Some(line) => Some(Window::of(line, marked)),
         None => None,
     }
+}
+
+// The line of that number, from 1.
+fn line_in<'b, 'a>(lines: &'b [Line<'a>], number: usize) -> Option<&'b Line<'a>>
+    ensures { option_copied result ≡ line_in lines.now number }
+{
+    lines.get(number.checked_sub(1)?)
 }
 
 // The text without the carriage return that it ends with.

@@ -166,3 +166,16 @@ fn long_lines(rt: HostRuntime) -> Result<(), Fail> {
     }
     Ok(())
 }
+
+// A place far from the start of a line of characters that have three bytes each.
+#[test]
+fn long_line_of_wide_characters(rt: HostRuntime) -> Result<(), Fail> {
+    let many = "日".repeat(rt.alloc(), 1000)?;
+    let line = format!(in rt.alloc(); "{many}x{many}")?;
+    let text = excerpt_of(rt.alloc(), line.as_str(), 1, 1000, Some(1001))?;
+    let (before, after) = ("日".repeat(rt.alloc(), 60)?, "日".repeat(rt.alloc(), 59)?);
+    let columns = 121;
+    let wanted = format!(in rt.alloc(); "    1 | …{before}x{after}…\n      | {:columns$}^\n", "")?;
+    assert!(rt; text.as_str() == wanted.as_str(), "{text} for {wanted}");
+    Ok(())
+}

@@ -1,13 +1,26 @@
 //! Messages on one line, colours and counts.
 
+use line_text::{push_on_lines, push_on_one_line};
 use std::test::Fail;
-use terminal_text::{Part, Style, counted, push_on_one_line};
+use terminal_text::{Part, Style, counted};
 
 #[test]
 fn one_line(rt: HostRuntime) -> Result<(), Fail> {
     let mut text = String::new(rt.alloc());
-    push_on_one_line(&mut text, "a\r\nb\tc\u{1b}[0m \u{2067}ü\u{7f} 日")?;
-    assert!(rt; text.as_str() == "a\\r\\nb�c�[0m �ü� 日", "{text}");
+    push_on_one_line(
+        &mut text,
+        "a\r\nb\tc\u{1b}[0m \u{2067}ü\u{7f} \u{9b}\u{2028}日",
+    )?;
+    let wanted = "a\\r\\nb\\tc\\u001b[0m \\u2067ü\\u007f \\u009b\\u2028日";
+    assert!(rt; text.as_str() == wanted, "{text}");
+    Ok(())
+}
+
+#[test]
+fn several_lines(rt: HostRuntime) -> Result<(), Fail> {
+    let mut text = String::new(rt.alloc());
+    push_on_lines(&mut text, "a\n\tb\r\n\u{1b}[0m\u{7}")?;
+    assert!(rt; text.as_str() == "a\n\tb\\r\n\\u001b[0m\\u0007", "{text}");
     Ok(())
 }
 

@@ -7,8 +7,8 @@
 //! has, or else what is on disk (`text_of`). It knows nothing of what the texts are, and stands on nothing of the
 //! repository.
 //!
-//! In the order of reading: specs `Lines`, `Positions` and `Edits`; `lines`, where they begin; `positions`; `walk`, from
-//! one byte to a later one; `edits`; `laws`; specs `Documents` and `Stored`; `documents`.
+//! In the order of reading: specs `Lines`, `Positions` and `Edits`; `lines`, where they begin, and spec `Places`;
+//! `positions`; `walk`, from one byte to a later one; `edits`; `laws`; specs `Documents` and `Stored`; `documents`.
 #![tactic(auto)]
 
 mod documents;

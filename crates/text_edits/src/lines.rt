@@ -1,60 +1,86 @@
 //! Where the lines of a text begin.
 
-ghost use Rattle.std.specs.Prelude.{◌≡◌, ◌<◌, ◌≤◌, ℕ, List, length, drop, slice_index, IfOk};
+ghost use Rattle.std.specs.Prelude.{◌≡◌, ◌<◌, ◌≤◌, ℕ, List, All, length, drop, slice_index, IfOk};
 ghost use Rattle.text_edits.specs.Lines.{lines_of, starts_of, ends_line as is_line_end};
+ghost use Rattle.text_edits.specs.Places.{AreLinesOf, places_in};
+ghost use Rattle.text_edits.specs.Walks.{IsReached};
 
+use crate::positions::Encoding;
+use crate::walk::Walk;
 use std::alloc::{AllocError, Global};
-use std::marker::Model;
 
-/// Where the lines of a text begin, in bytes.
+// How many bytes a long line has at least, and how many are between two places of a text that has one.
+const LONG: usize = 512;
+
+/// Where the lines of a text begin, in bytes, and places within its long lines.
 #[derive(Drop)]
 pub struct Lines {
     starts: Vec<usize>,
-}
-
-impl Model for Lines {
-    ghost Value = { List ℕ };
-
-    ghost view = { λ l. l.starts.items };
+    // Places in the text, as each encoding counts them.
+    utf8: Vec<Walk>,
+    utf16: Vec<Walk>,
+    utf32: Vec<Walk>,
 }
 
 impl Lines {
     /// Where the lines of this text begin.
     pub fn of(alloc: Global, text: &str) -> Result<Lines, AllocError>
-        ensures { IfOk result (λ l. l ≡ starts_of (lines_of text.now)) }
+        ensures { IfOk result (AreLinesOf text.now) }
     {
-        let bytes = text.as_bytes();
-        let mut starts = Vec::new(alloc);
-        starts.push(0)?;
-        for at in 0..bytes.len() {
-            if ends_line(bytes, at) {
-                starts.push(at + 1)?;
-            }
-        }
-        Ok(Lines { starts })
+        Ok(Lines {
+            starts: starts_of(alloc, text)?,
+            utf8: Vec::new(alloc),
+            utf16: Vec::new(alloc),
+            utf32: Vec::new(alloc),
+        })
     }
 
+    /// The same for a text of which many positions are looked for: however long a line is, none of them takes more than the
+    /// time of some hundred bytes.
+    pub fn for_many(alloc: Global, text: &str) -> Result<Lines, AllocError>
+        ensures { IfOk result (AreLinesOf text.now) }
+    {
+        let mut lines = Lines::of(alloc, text)?;
+        if lines.has_long(text.len()) {
+            lines.utf8 = places_of(alloc, text, Encoding::Utf8)?;
+            lines.utf16 = places_of(alloc, text, Encoding::Utf16)?;
+            lines.utf32 = places_of(alloc, text, Encoding::Utf32)?;
+        }
+        Ok(lines)
+    }
+
+    // Whether a line is long, in a text that ends there.
+    fn has_long(&self, end: usize) -> bool {
+        let mut from = end;
+        for start in self.starts.iter().rev() {
+            if from.saturating_sub(*start) >= LONG {
+                return true;
+            }
+            from = *start;
+        }
+        false
+    }
     /// How many lines there are: one more than ends of lines.
     pub fn count(&self) -> usize
-        ensures { result ≡ length self.now }
+        ensures { result ≡ length self.now.starts.items }
     {
         self.starts.len()
     }
 
     // Where the line begins.
     pub(crate) fn start(&self, line: usize) -> usize
-        requires { line < length self.now }
-        ensures { result ≡ slice_index self.now line }
+        requires { line < length self.now.starts.items }
+        ensures { result ≡ slice_index self.now.starts.items line }
     {
         self.starts[line]
     }
 
     // A line that begins at or before the byte: the last, where they are in order.
     pub(crate) fn line_to(&self, byte: usize) -> usize
-        requires some { 0 < length self.now }
-        requires first { slice_index self.now 0 ≤ byte }
-        ensures within { result < length self.now }
-        ensures before { slice_index self.now result ≤ byte }
+        requires some { 0 < length self.now.starts.items }
+        requires first { slice_index self.now.starts.items 0 ≤ byte }
+        ensures within { result < length self.now.starts.items }
+        ensures before { slice_index self.now.starts.items result ≤ byte }
     {
         let mut line = 0;
         let mut beyond = self.count();
@@ -68,6 +94,56 @@ impl Lines {
         }
         line
     }
+
+    // A place from which the byte is reached: the last that is kept before it, or this one, where that is nearer.
+    pub(crate) fn nearer(&self, encoding: Encoding, byte: usize, begun: Walk) -> Walk
+        requires { begun.byte ≤ byte }
+        ensures before { result.byte ≤ byte }
+        ensures reached { (text : List ℕ) → AreLinesOf text self.now → IsReached encoding text begun →
+            IsReached encoding text result }
+    {
+        match self.places(encoding).get(byte / LONG) {
+            Some(place) if begun.byte < place.byte && place.byte <= byte => *place,
+            _ => begun,
+        }
+    }
+
+    fn places(&self, encoding: Encoding) -> &[Walk]
+        ensures { result.now ≡ places_in encoding self.now }
+    {
+        match encoding {
+            Encoding::Utf8 => self.utf8.as_slice(),
+            Encoding::Utf16 => self.utf16.as_slice(),
+            Encoding::Utf32 => self.utf32.as_slice(),
+        }
+    }
+}
+
+fn starts_of(alloc: Global, text: &str) -> Result<Vec<usize>, AllocError>
+    ensures { IfOk result (λ v. v.items ≡ starts_of (lines_of text.now)) }
+{
+    let bytes = text.as_bytes();
+    let mut starts = Vec::new(alloc);
+    starts.push(0)?;
+    for at in 0..bytes.len() {
+        if ends_line(bytes, at) {
+            starts.push(at + 1)?;
+        }
+    }
+    Ok(starts)
+}
+
+// The places of a text that has a long line.
+fn places_of(alloc: Global, text: &str, encoding: Encoding) -> Result<Vec<Walk>, AllocError>
+    ensures { IfOk result (λ v. All (IsReached encoding text.now) v.items) }
+{
+    let mut places = Vec::new(alloc);
+    let mut place = Walk::first();
+    for number in 0..text.len() / LONG + 1 {
+        place = place.onward(text, encoding, number * LONG);
+        places.push(place)?;
+    }
+    Ok(places)
 }
 
 // Whether a line ends behind the byte at this place.

@@ -1,7 +1,8 @@
 //! Positions in a text, and the bytes at which they stand.
 
 ghost use Rattle.std.specs.Prelude.{◌≡◌, ◌≤◌, length, IsCharBoundary};
-ghost use Rattle.text_edits.specs.Lines.{lines_of, starts_of};
+ghost use Rattle.text_edits.specs.Lines.{lines_of};
+ghost use Rattle.text_edits.specs.Places.{AreLinesOf};
 ghost use Rattle.text_edits.specs.Positions.{units, byte_of, byte_in, position_of, boundary_to};
 
 use crate::lines::Lines;
@@ -25,7 +26,7 @@ pub struct Position {
 /// The byte at which the position stands: beyond the end of its line that end, within a character its start, and on a
 /// line beyond the last the end of the text. It takes the time of the line.
 pub fn byte_at(text: &str, lines: &Lines, encoding: Encoding, position: Position) -> usize
-    requires { lines.now ≡ starts_of (lines_of text.now) }
+    requires { AreLinesOf text.now lines.now }
     ensures byte { result ≡ byte_of encoding (lines_of text.now) position }
     ensures boundary { IsCharBoundary text.now result }
 {
@@ -38,9 +39,10 @@ pub fn byte_at(text: &str, lines: &Lines, encoding: Encoding, position: Position
 }
 
 /// The position of the byte: of one within a character that of the character, between a carriage return and a line feed
-/// that of the line's end, and beyond the text that of its end. It takes the time of the line.
+/// that of the line's end, and beyond the text that of its end. It takes the time of the line, and with
+/// lines that were made `for_many` positions that of some hundred bytes at most.
 pub fn position_at(text: &str, lines: &Lines, encoding: Encoding, byte: usize) -> Position
-    requires { lines.now ≡ starts_of (lines_of text.now) }
+    requires { AreLinesOf text.now lines.now }
     ensures { result ≡ position_of encoding (lines_of text.now) (boundary_to text.now byte) }
 {
     let byte = text.floor_char_boundary(byte);
@@ -49,7 +51,8 @@ pub fn position_at(text: &str, lines: &Lines, encoding: Encoding, byte: usize) -
         byte: lines.start(line),
         position: Position { line, character: 0 },
     };
-    begun.onward(text, encoding, byte).position
+    let near = lines.nearer(encoding, byte, begun);
+    near.onward(text, encoding, byte).position
 }
 
 // The byte at which the character of the first line stands.

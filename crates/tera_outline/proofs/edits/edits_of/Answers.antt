@@ -5,17 +5,17 @@ use Rattle.tera_outline.proofs.edits.edits_of.Goals as goal
 pub push_run-requires-in-words-clause-edits : goal.push_run-requires-in-words-clause-edits
 push_run-requires-in-words-clause-edits c =
     let stands = word_stands c.args.old.now c.args.new.now c.words.at c.words.invariant.edits.alike c.words.invariant.behind (omega arith) in
-    word_passed c.args.old.now c.args.new.now c.words.edits.items c.words.at c.min-word.result c.words.invariant.edits
-    (omega (arith, stands.0, stands.1, c.word_len.ensures.count, c.word_len-in-words.ensures.count))
+    word_passed c.args.old.now c.args.new.now c.words.edits.items c.words.at c.word_len-word.result c.words.invariant.edits
+    (omega (arith, stands.0, stands.1, c.word_len-word.ensures.count))
     (omega arith) (omega arith)
-    (omega (arith, c.word_len.ensures.count)) (omega (arith, c.word_len-in-words.ensures.count))
+    (omega (arith, c.word_len-word.ensures.count)) (omega (arith, c.word_len-word.ensures.count))
 
 pub push_run-requires-in-words-clause-before : goal.push_run-requires-in-words-clause-before
 push_run-requires-in-words-clause-before c = λ some.
     let stands = word_stands c.args.old.now c.args.new.now c.words.at c.words.invariant.edits.alike c.words.invariant.behind (omega arith) in
-    word_before c.args.old.now c.words.at.old c.min-word.result
-    (omega (arith, stands.0, stands.1, c.word_len.ensures.count, c.word_len-in-words.ensures.count))
-    (omega (arith, c.word_len.ensures.count))
+    word_before c.args.old.now c.words.at.old c.word_len-word.result
+    (omega (arith, stands.0, stands.1, c.word_len-word.ensures.count))
+    (omega (arith, c.word_len-word.ensures.count))
 
 pub returns-clause-applied : goal.returns-clause-applied
 returns-clause-applied c =
@@ -30,7 +30,7 @@ words-preserved c = record { edits = c.in_ok-at-2.ensures.edits; behind = c.in_o
 pub words-smaller : goal.words-smaller
 words-smaller c =
     let stands = word_stands c.args.old.now c.args.new.now c.words.at c.words.invariant.edits.alike c.words.invariant.behind (omega arith) in
-    omega (arith, stands.0, stands.1, c.word_len.ensures.count, c.word_len-in-words.ensures.count, c.min-word.ensures, c.in_ok-at-2.ensures.onward, c.words-test.true)
+    omega (arith, stands.0, stands.1, c.word_len-word.ensures.count, c.in_ok-at-2.ensures.onward, c.words-test.true)
 
 pub returns-clause-apart : goal.returns-clause-apart
 returns-clause-apart c = c.words.invariant.edits.apart

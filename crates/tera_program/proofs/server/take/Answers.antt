@@ -4,6 +4,7 @@ use Rattle.json_rpc.specs.Outgoing.{IsAnswered}
 use Rattle.json_rpc.specs.Writing.{body, refusal}
 use Rattle.json_rpc.specs.declared.code.Code.TheVariants.{InternalError, ParseError}
 use Rattle.message_frames.specs.Shown.{shown}
+use Rattle.tera_server.specs.Steps.{IsRefused}
 use Rattle.tera_program.specs.Serving.{Takes}
 use Rattle.tera_program.proofs.server.take.Goals as goal
 
@@ -14,12 +15,12 @@ returns-in-Message c =
 pub returns-in-TooLong : goal.returns-in-TooLong
 returns-in-TooLong c =
     subst (λ f. Takes c.args.server.now (shown f) None c.miss.new.self c.miss.new.out) (sym c.in-TooLong.is)
-    (refl, c.miss.ensures.missed, subst (λ o. IsAnswered o c.miss.new.out NullId (body (refusal NullId InternalError))) c.requires c.miss.ensures.answered)
+    (refl, (c.miss.ensures.missed, subst (λ o. IsAnswered o c.miss.new.out NullId (body (refusal NullId InternalError))) c.requires c.miss.ensures.answered))
 
 pub returns-in-Bad : goal.returns-in-Bad
 returns-in-Bad c =
-    subst (λ f. Takes c.args.server.now (shown f) None c.args.server.now c.refuse.new.out) (sym c.in-Bad.is)
-    (refl, refl, subst (λ o. IsAnswered o c.refuse.new.out NullId (body (refusal NullId ParseError))) c.requires c.refuse.ensures)
+    subst (λ f. Takes c.args.server.now (shown f) None c.refuse.new.self c.refuse.new.out) (sym c.in-Bad.is)
+    (refl, subst (λ o. IsRefused NullId ParseError c.args.server.now o c.refuse.new.self c.refuse.new.out) c.requires c.refuse.ensures)
 
 pub returns-in-Wait : goal.returns-in-Wait
 returns-in-Wait c =

@@ -1,9 +1,10 @@
 use Rattle.std.proofs.Common.{◌≡◌, ◌++◌, ◌∷◌, [], List, ℕ, encode_utf8, string_bytes, ap, ◌∙◌, arith}
 use Rattle.tera_check.specs.Findings.{place_of}
-use Rattle.tera_report.specs.Told.{line, place_text, part_of, word_of}
+use Rattle.tera_report.specs.Told.{place_text, part_of, word_of}
 use Rattle.terminal_text.specs.Styled.{styled}
 use Rattle.terminal_text.specs.declared.style.Part.TheVariants as parts
-use Rattle.terminal_text.proofs.Pieces.{pushed}
+use Rattle.line_text.specs.Line.{on_one_line}
+use Rattle.line_text.proofs.Steps.{pushed}
 use Rattle.tera_report.proofs.Pieces.{six_pieces}
 use Rattle.tera_report.proofs.told.push_line.Goals as goal
 
@@ -13,7 +14,7 @@ returns c =
     let before : List ℕ = string_bytes c.args.to.now in
     let place : List ℕ = styled c.args.style parts.Place (place_text m.file.now (place_of m.span.now)) in
     let word : List ℕ = styled c.args.style (part_of m.role) (word_of m.role) in
-    let said : List ℕ = line m.text.now in
+    let said : List ℕ = on_one_line m.text.now in
     let space : List ℕ = 32 ∷ [] in
     let colon : List ℕ = 58 ∷ 32 ∷ [] in
     let named : c.as_str.result.now ≡ place_text m.file.now (place_of m.span.now)

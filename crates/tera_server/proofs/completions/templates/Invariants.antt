@@ -1,7 +1,7 @@
 use Rattle.std.proofs.Common.{◌≡◌, ◌++◌, drop, map, string_bytes}
 use Rattle.std.specs.List.{filter_map}
 use Rattle.tera_tree.specs.Calls.{texts}
-use Rattle.tera_server.specs.Completions.{template_name}
+use Rattle.tera_server.specs.Templates.{template_name}
 use Rattle.tera_server.proofs.completions.templates.Given as goal
 
 abbrev pub invariant-loop-file : goal.invariant-loop-file

@@ -1,30 +1,31 @@
-use Rattle.std.proofs.Common.{◌≡◌, ◌∙◌, Some, None, map, option_map, string_bytes, refl, sym, ap, subst}
+use Rattle.std.proofs.Common.{◌≡◌, Some, None, map, option_map, string_bytes, refl, subst}
 use Rattle.json.specs.Json.{null, array}
 use Rattle.json.specs.Value.{items_of}
 use Rattle.tera_layout.specs.Layout.{laid_out}
 use Rattle.tera_lexer.specs.grammar.Marks.{default_marks}
-use Rattle.tera_server.specs.Layouts.{edit_json, AreEdits, IsLayoutOf}
+use Rattle.tera_server.specs.Layouts.{edit_json, AreEdits, IsLaidOut}
 use Rattle.tera_server.proofs.LayoutLemmas.{same_without_white}
 use Rattle.tera_server.proofs.Tails.{and_so}
 use Rattle.tera_server.proofs.layouts.put_layout.Goals as goal
 
 pub put_edits_to-requires : goal.put_edits_to-requires
 put_edits_to-requires c =
-    let laid : laid_out default_marks c.args.text.now ≡ Some (string_bytes c.in-Some.layout) = c.in_ok-layout.ensures ∙ ap (option_map string_bytes) c.in-Some.is in
+    let laid : laid_out default_marks c.args.text.now ≡ Some (string_bytes c.in-Some.layout) =
+    (subst (λ o. IsLaidOut c.args.text.now (option_map string_bytes o)) c.in-Some.is c.in_ok-layout.ensures).1 in
     rw c.as_str.ensures.value (same_without_white c.args.text.now (string_bytes c.in-Some.layout) laid)
 
 pub returns-in-Some-clause-tokens : goal.returns-in-Some-clause-tokens
 returns-in-Some-clause-tokens c =
     let text = c.args.text.now in
-    let laid : laid_out default_marks text ≡ Some (string_bytes c.in-Some.layout) = c.in_ok-layout.ensures ∙ ap (option_map string_bytes) c.in-Some.is in
+    let laid : IsLaidOut text (Some (string_bytes c.in-Some.layout)) = subst (λ o. IsLaidOut text (option_map string_bytes o)) c.in-Some.is c.in_ok-layout.ensures in
     and_so c.put_edits_to.result c.put_edits_to.ensures.tokens (λ given.
     let edits = given.0 in
     let written = array (items_of (map (edit_json c.args.encoding text) edits)) in
     let are : AreEdits text (string_bytes c.in-Some.layout) edits = subst (λ l. AreEdits text l edits) c.as_str.ensures.value given.1 in
-    (written, subst (λ o. IsLayoutOf c.args.encoding text o written) (sym laid) (edits, are, refl), given.2))
+    (written, (Some (string_bytes c.in-Some.layout), laid, (edits, are, refl)), given.2))
 
 pub returns-in-None-clause-tokens : goal.returns-in-None-clause-tokens
 returns-in-None-clause-tokens c =
     let text = c.args.text.now in
-    let laid : laid_out default_marks text ≡ None = c.in_ok-layout.ensures ∙ ap (option_map string_bytes) c.in-None.is in
-    and_so c.null.result c.null.ensures.ok (λ h. (null, subst (λ o. IsLayoutOf c.args.encoding text o null) (sym laid) refl, h))
+    let laid : IsLaidOut text None = subst (λ o. IsLaidOut text (option_map string_bytes o)) c.in-None.is c.in_ok-layout.ensures in
+    and_so c.null.result c.null.ensures.ok (λ h. (null, (None, laid, refl), h))

@@ -1,20 +1,43 @@
-use Rattle.std.proofs.Common.{◌≡◌, ◌∙◌, map, ap, sym, subst}
+use Rattle.std.proofs.Common.{◌≡◌, ◌∙◌, ◌++◌, ℕ, List, [], false, None, map, string_bytes, refl, ap, sym, subst}
 use Rattle.std.specs.List.{insert}
-use Rattle.tera_workspace.specs.Kept.{StayKept, IsTextAt, unsettled}
+use Rattle.tera_tree.specs.View.{definition_view}
+use Rattle.tera_check.specs.Named.{definitions_of}
+use Rattle.tera_workspace.specs.Heads.{definition_named, HaveOneHeadIfAny}
+use Rattle.tera_workspace.specs.Kept.{StayKept, IsTextAt, marked}
+use Rattle.tera_workspace.specs.Names.{is_among}
 use Rattle.tera_workspace.proofs.ReadingLemmas.{insert_kept, insert_text, stay_same}
+use Rattle.tera_workspace.proofs.TouchedLemmas.{all_pushed}
 use Rattle.tera_workspace.proofs.reading.insert.Goals as goal
 
 pub returns-clause-kept : goal.returns-clause-kept
 returns-clause-kept c =
+    let name = c.args.name.now in
     let js = c.args.all.now.items in
-    let is : c.mark_all.new.all.items ≡ map unsettled (insert js c.place_of-place.result c.args.judged) = c.mark_all.ensures ∙ ap (map unsettled) c.in_ok-insert.ensures.items in
-    subst (StayKept js) (sym is) (insert_kept c.args.name.now js c.place_of-place.result c.args.judged c.place_of-place.ensures c.requires.none c.requires.anew)
+    let j = c.args.judged in
+    let place = c.place_of-place.result in
+    let touched = map string_bytes c.push_defined.new.names.items in
+    let pushed : touched ≡ [] ++ map (λ d. d.name) (definitions_of j.template.parsed) =
+    c.in_ok-push_defined.ensures ∙ ap (λ (ns : List (List ℕ)). ns ++ map (λ d. d.name) (map definition_view c.definitions_of.result.now)) (ap (map string_bytes) c.new-touched.ensures.items)
+    ∙ ap (map (λ d. d.name)) c.definitions_of.ensures in
+    let heads : (n : List ℕ) → is_among n touched ≡ false → HaveOneHeadIfAny None (definition_named n (definitions_of j.template.parsed)) =
+    λ n free. all_pushed n [] (definitions_of j.template.parsed) [] [] touched refl refl pushed free in
+    let is : c.mark.new.all.items ≡ map (marked touched name) (insert js place j) = c.mark.ensures ∙ ap (map (marked touched name)) c.in_ok-insert.ensures.items in
+    subst (StayKept js) (sym is) (insert_kept name touched js place j c.place_of-place.ensures c.requires.none c.requires.anew heads)
 
 pub returns-clause-read : goal.returns-clause-read
 returns-clause-read c =
+    let name = c.args.name.now in
     let js = c.args.all.now.items in
-    let is : c.mark_all.new.all.items ≡ map unsettled (insert js c.place_of-place.result c.args.judged) = c.mark_all.ensures ∙ ap (map unsettled) c.in_ok-insert.ensures.items in
-    subst (IsTextAt c.args.name.now c.args.judged.text js) (sym is) (insert_text c.args.name.now js c.place_of-place.result c.args.judged c.place_of-place.ensures c.requires.none c.requires.anew)
+    let j = c.args.judged in
+    let place = c.place_of-place.result in
+    let touched = map string_bytes c.push_defined.new.names.items in
+    let pushed : touched ≡ [] ++ map (λ d. d.name) (definitions_of j.template.parsed) =
+    c.in_ok-push_defined.ensures ∙ ap (λ (ns : List (List ℕ)). ns ++ map (λ d. d.name) (map definition_view c.definitions_of.result.now)) (ap (map string_bytes) c.new-touched.ensures.items)
+    ∙ ap (map (λ d. d.name)) c.definitions_of.ensures in
+    let heads : (n : List ℕ) → is_among n touched ≡ false → HaveOneHeadIfAny None (definition_named n (definitions_of j.template.parsed)) =
+    λ n free. all_pushed n [] (definitions_of j.template.parsed) [] [] touched refl refl pushed free in
+    let is : c.mark.new.all.items ≡ map (marked touched name) (insert js place j) = c.mark.ensures ∙ ap (map (marked touched name)) c.in_ok-insert.ensures.items in
+    subst (IsTextAt name j.text js) (sym is) (insert_text name touched js place j c.place_of-place.ensures c.requires.none c.requires.anew heads)
 
 pub returns-in_err-insert-clause-kept : goal.returns-in_err-insert-clause-kept
 returns-in_err-insert-clause-kept c = subst (StayKept c.args.all.now.items) (sym c.in_err-insert.ensures.items) (stay_same c.args.all.now.items)

@@ -2,7 +2,8 @@ use Rattle.std.proofs.Common.{◌≡◌, ◌++◌, ◌∷◌, [], List, ℕ, rep
 use Rattle.terminal_text.specs.Excerpt.{frame}
 use Rattle.terminal_text.specs.Styled.{styled}
 use Rattle.terminal_text.specs.declared.style.Part.TheVariants.{Frame}
-use Rattle.terminal_text.proofs.Pieces.{four_pieces, pushed}
+use Rattle.line_text.proofs.Steps.{pushed}
+use Rattle.terminal_text.proofs.Pieces.{four_pieces}
 use Rattle.terminal_text.proofs.excerpt.push_mark.Goals as goal
 
 pub returns : goal.returns

@@ -1,4 +1,4 @@
-use Rattle.terminal_text.proofs.Controls.{feeds, starts, controls, shown_seen, message_seen}
+use Rattle.terminal_text.proofs.Controls.{feeds, starts, controls, shown_safe}
 use Rattle.terminal_text.proofs.laws.no_controls.Goals as goal
 
 pub returns-clause-feeds : goal.returns-clause-feeds
@@ -11,7 +11,4 @@ pub returns-clause-others : goal.returns-clause-others
 returns-clause-others c = controls
 
 pub returns-clause-shown : goal.returns-clause-shown
-returns-clause-shown c = shown_seen
-
-pub returns-clause-message : goal.returns-clause-message
-returns-clause-message c = message_seen
+returns-clause-shown c = shown_safe

@@ -2,7 +2,8 @@ use Rattle.std.proofs.Common.{◌++◌, length, string_bytes, sym, ap, ◌∙◌
 use Rattle.std.proofs.lemmas.Str.{IsUtf8-past_char, chars_past_char}
 use Rattle.terminal_text.specs.Shown.{shown_as}
 use Rattle.terminal_text.proofs.Printable.{columns_as_it_stands, shown_as_it_stands, short_as_it_stands}
-use Rattle.terminal_text.proofs.Steps.{text_step, text_end, columns_step, columns_end}
+use Rattle.line_text.proofs.Steps.{text_step, text_end}
+use Rattle.terminal_text.proofs.Steps.{columns_step, columns_end}
 use Rattle.terminal_text.proofs.shown.push_shown.Goals as goal
 
 pub overflow_add-columns : goal.overflow_add-columns

@@ -1,7 +1,8 @@
 use Rattle.std.proofs.Common.{◌≡◌, ◌≤◌, ◌+◌, ◌*◌, IsUtf8, length, chars, string_bytes}
 use Rattle.std.specs.Str.Iter.{chars_rest}
+use Rattle.line_text.proofs.Steps.{text_and}
 use Rattle.terminal_text.specs.Shown.{shown_as}
-use Rattle.terminal_text.proofs.Steps.{text_and, columns_and}
+use Rattle.terminal_text.proofs.Steps.{columns_and}
 use Rattle.terminal_text.proofs.shown.push_shown.Given as goal
 
 -- what was written, and what is left, are the whole

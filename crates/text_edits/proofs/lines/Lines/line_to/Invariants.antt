@@ -5,8 +5,8 @@ use Rattle.text_edits.proofs.lines.Lines.line_to.Given as goal
 abbrev pub invariant-halves : goal.invariant-halves
 invariant-halves l = record {
   some : l.line < l.beyond;
-  within : l.beyond ≤ length l.self;
-  before : get_or l.self l.line 0 ≤ l.byte;
+  within : l.beyond ≤ length l.self.starts.items;
+  before : get_or l.self.starts.items l.line 0 ≤ l.byte;
 }
 
 abbrev pub decreases-halves : goal.decreases-halves

@@ -1,0 +1,62 @@
+-- The names of templates, and the files that have them.
+use Rattle.std.specs.Prelude.{◌≡◌, ◌⊎◌, ◌≤◌, ℕ, nat_eq, nat_lt, if◌then◌else◌, Bool, true, false, List, [], ◌∷◌, codes, length, filter, Option, None, Some, option_map, unwrap_or}
+use Rattle.std.specs.List.{All, Contains, ends_with}
+use Rattle.std.specs.Option.{option_and_then, option_map_or, option_or}
+use Rattle.std.specs.Str.{bytes_eq}
+
+-- what stands behind the front of a text
+abbrev pub behind : List ℕ → List ℕ → Option (List ℕ)
+behind [] text = Some text
+behind (f ∷ fs) [] = None
+behind (f ∷ fs) (b ∷ bs) = if nat_eq f b then behind fs bs else None
+
+-- what stands behind a part where it stands first in a text
+abbrev pub behind_first : List ℕ → List ℕ → Option (List ℕ)
+behind_first part [] = behind part []
+behind_first part (b ∷ bs) = option_or (behind part (b ∷ bs)) (behind_first part bs)
+
+-- the name of a template, by the path of its file behind a folder, with the slash between: what stands there behind the
+-- first folder `templates`, or else the path
+abbrev pub name_in : List ℕ → Option (List ℕ)
+name_in path = option_map (unwrap_or (behind_first (codes "/templates/") path)) (behind (codes "/") path)
+
+abbrev pub name_below : List ℕ → List ℕ → Option (List ℕ)
+name_below folder file = option_and_then name_in (behind folder file)
+
+-- by the first of the folders in which its file is
+abbrev pub template_name : List (List ℕ) → List ℕ → Option (List ℕ)
+template_name [] file = None
+template_name (f ∷ fs) file = option_or (name_below f file) (template_name fs file)
+
+-- whether a file has the name, and whether its path ends in it below some folder
+abbrev pub is_named : List (List ℕ) → List ℕ → List ℕ → Bool
+is_named folders name file = option_map_or (λ n. bytes_eq n name) (template_name folders file) false
+
+abbrev pub is_below : List ℕ → List ℕ → Bool
+is_below name file = ends_with nat_eq file (47 ∷ name)
+
+-- the one with the shorter path; of two as long the first
+abbrev pub nearer : Option (List ℕ) → Option (List ℕ) → Option (List ℕ)
+nearer None g = g
+nearer (Some f) None = Some f
+nearer (Some f) (Some g) = if nat_lt (length g) (length f) then Some g else Some f
+
+-- of files in the order of their paths the one with the shortest path, and of several such the first
+abbrev pub nearest : List (List ℕ) → Option (List ℕ)
+nearest [] = None
+nearest (f ∷ fs) = nearer (Some f) (nearest fs)
+
+-- the template of a name: the nearest of the files that have it, or else of those whose path ends in it
+abbrev pub template_in : List (List ℕ) → List (List ℕ) → List ℕ → Option (List ℕ)
+template_in folders files name =
+    option_or (nearest (filter (is_named folders name) files)) (nearest (filter (is_below name) files))
+
+-- ---- what is so of it
+
+-- a file that is there, and has the name; or none that is there has it, and the path of this one ends in it. No other of which
+-- this is so has a shorter path
+pub record IsTemplateOf (folders files : List (List ℕ)) (name file : List ℕ) : Type 0 where
+  pub there : Contains files file
+  pub named : (template_name folders file ≡ Some name)
+      ⊎ ((is_below name file ≡ true) × All (λ f. is_named folders name f ≡ false) files)
+  pub shortest : All (λ f. template_name folders f ≡ Some name → length file ≤ length f) files

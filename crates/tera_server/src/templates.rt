@@ -1,0 +1,100 @@
+//! The names of templates, and the files that have them.
+
+ghost use Rattle.std.specs.Prelude.{◌≡◌, Some, map, filter, string_bytes, nat_eq, IfOk};
+ghost use Rattle.std.specs.List.{ends_with};
+ghost use Rattle.std.specs.Option.{option_map};
+ghost use Rattle.tera_tree.specs.Calls.{texts};
+ghost use Rattle.tera_server.specs.Templates as specs;
+
+use std::alloc::{AllocError, Global};
+
+/// The name of the template that a file is: by the first of the folders in which the file is.
+pub(crate) fn template_name<'f>(folders: &[String], file: &'f str) -> Option<&'f str>
+    ensures { option_map (λ n. n.now) result ≡ specs.template_name (map string_bytes folders.now) file.now }
+{
+    for folder in folders {
+        if let Some(name) = name_below(folder.as_str(), file) {
+            return Some(name);
+        }
+    }
+    None
+}
+
+// By the folder, if its file is there: what stands behind the first folder `templates` below it, or else behind it.
+fn name_below<'f>(folder: &str, file: &'f str) -> Option<&'f str>
+    ensures { option_map (λ n. n.now) result ≡ specs.name_below folder.now file.now }
+{
+    let path = file.strip_prefix(folder)?;
+    let name = path.strip_prefix("/")?;
+    match path.split_once("/templates/") {
+        Some((_, inner)) => Some(inner),
+        None => Some(name),
+    }
+}
+
+/// The file of the template of this name: of these the one with the shortest path that has the name; or else that whose
+/// path ends in it, below whatever folder.
+pub(crate) fn template_in<'f>(
+    alloc: Global,
+    folders: &[String],
+    files: &[&'f str],
+    name: &str,
+) -> Result<Option<&'f str>, AllocError>
+    ensures { IfOk result (λ file. option_map (λ f. f.now) file
+        ≡ specs.template_in (map string_bytes folders.now) (texts files.now) name.now) }
+{
+    if let Some(file) = nearest_named(folders, files, name) {
+        return Ok(Some(file));
+    }
+    let mut ending = String::from_str(alloc, "/")?;
+    ending.push_str(name)?;
+    Ok(nearest_below(files, ending.as_str()))
+}
+
+// The nearest of the files that have the name.
+fn nearest_named<'f>(folders: &[String], files: &[&'f str], name: &str) -> Option<&'f str>
+    ensures { option_map (λ f. f.now) result ≡ specs.nearest (filter
+        (specs.is_named (map string_bytes folders.now) name.now) (texts files.now)) }
+{
+    let mut best = None;
+    for file in files {
+        if is_named(folders, name, file) {
+            best = Some(nearer(best, file));
+        }
+    }
+    best
+}
+
+// The nearest of the files whose path ends so.
+fn nearest_below<'f>(files: &[&'f str], ending: &str) -> Option<&'f str>
+    ensures { option_map (λ f. f.now) result ≡ specs.nearest (filter
+        (λ f. ends_with nat_eq f ending.now) (texts files.now)) }
+{
+    let mut best = None;
+    for file in files {
+        if file.as_bytes().ends_with(ending.as_bytes()) {
+            best = Some(nearer(best, file));
+        }
+    }
+    best
+}
+
+// Whether the file has the name.
+fn is_named(folders: &[String], name: &str, file: &str) -> bool
+    ensures { result ≡ specs.is_named (map string_bytes folders.now) name.now file.now }
+{
+    match template_name(folders, file) {
+        Some(found) => found == name,
+        None => false,
+    }
+}
+
+// The one with the shorter path; of two as long the first.
+fn nearer<'f>(best: Option<&'f str>, file: &'f str) -> &'f str
+    ensures { Some result.now ≡ specs.nearer (option_map (λ f. f.now) best.entry) (Some file.now) }
+{
+    match best {
+        Some(best) if best.len() <= file.len() => best,
+        _ => file,
+    }
+}
