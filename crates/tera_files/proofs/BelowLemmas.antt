@@ -16,8 +16,10 @@ use Rattle.std.proofs.lemmas.List.Elements.{All-contains, All-map, All-nil, All-
 use Rattle.std.proofs.lemmas.List.MinMax.{ranks_by}
 use Rattle.std.proofs.lemmas.List.Quantifiers.{all_pairs_push}
 use Rattle.std.proofs.lemmas.List.Sorted.{All-permutation, sorted_far}
-use Rattle.tera_files.specs.Below.{AreTemplates, IsBefore, IsUnlisted, Tells, path_of}
+use Rattle.tera_files.specs.Below.{AddsEach, AddsEntry, AddsSome, AreTemplates, IsBefore, IsUnlisted, Tells, an_entry, path_of}
+use Rattle.tera_files.specs.declared.below.Below.{Below}
 use Rattle.tera_files.specs.declared.below.Template.{Template}
+use Rattle.tera_files.specs.declared.seen.Entry.{Entry}
 use Rattle.tera_files.specs.declared.finding.Unlisted.{Unlisted}
 use Rattle.tera_files.specs.Listing.{IsAdded}
 use Rattle.tera_files.specs.Names.{IsLeftOut}
@@ -49,7 +51,7 @@ by_path {g = g} {f = f} templates sorted compares = sorted goes_before (ranks_by
     (always_returns_same g (λ a r. is_lt r ≡ goes_before a.0.now a.1.0.now) f
     (λ a r f' k. (ap is_lt (compares a r f' k).0, (compares a r f' k).1)))
 
-in_order : (templates : List Template) → IsSortedBy goes_before templates → AllPairs IsBefore (map path_of templates)
+pub in_order : (templates : List Template) → IsSortedBy goes_before templates → AllPairs IsBefore (map path_of templates)
 in_order [] sorted i j d before below = absurd (omega arith)
 in_order (x ∷ templates) sorted i j d before below =
     let here : j < length (x ∷ templates) = rw length-map at below in
@@ -59,23 +61,16 @@ in_order (x ∷ templates) sorted i j d before below =
     subst (λ one. IsBefore one (get_or (map path_of (x ∷ templates)) j d)) (sym first)
     (subst (IsBefore (path_of (get_or (x ∷ templates) i x))) (sym second) far)
 
--- templates that were sorted
-pub sorted_templates : (extensions : List (List ℕ)) (top : List ℕ) (templates sorted : List Template)
-    → All (λ template. IsTemplate extensions top (path_of template)) templates → IsPermutation templates sorted → IsSortedBy goes_before sorted
-    → AreTemplates extensions top (map path_of sorted)
-sorted_templates extensions top templates sorted all moved ordered =
+-- templates that were put in order
+pub templates_in_order : (extensions : List (List ℕ)) (top : List ℕ) (templates sorted : List Template)
+    → All (λ template. IsTemplate extensions top (path_of template)) templates → IsPermutation templates sorted
+    → AllPairs IsBefore (map path_of sorted) → AreTemplates extensions top (map path_of sorted)
+templates_in_order extensions top templates sorted all moved ordered =
     let Is : Template → Type 0 = λ template. IsTemplate extensions top (path_of template) in
     record {
       templates = All-map (IsTemplate extensions top) path_of sorted (All-permutation Is templates sorted moved all);
-      sorted = in_order sorted ordered;
+      sorted = ordered;
     }
-
--- some of these went behind the others, in their order
-pub record AddsSome (from old new : List (List ℕ)) : Type 0 where
-  pub more : List (List ℕ)
-  pub behind : new ≡ old ++ more
-  pub among : All (Contains from) more
-  pub sorted : AllPairs IsBefore more
 
 pub adds_none : (old : List (List ℕ)) → AddsSome [] old old
 adds_none old = record {
@@ -126,11 +121,14 @@ some_templates extensions top from old new all part = record {
 pub tells_none : (top : List ℕ) (old : List Unlisted) → Tells top old old
 tells_none top old = record { more = []; behind = sym (append-nil old); unlisted = All-nil (IsUnlisted top) }
 
--- one more is told
-pub tells_one : (top : List ℕ) (old middle new : List Unlisted) (one : Unlisted) → Tells top old middle → new ≡ middle ++ one ∷ []
-    → IsUnlisted top one → Tells top old new
-tells_one top old middle new one before behind is = record {
-  more = before.more ++ one ∷ [];
-  behind = behind ∙ ap (λ l. l ++ one ∷ []) before.behind ∙ append_assoc old before.more (one ∷ []);
-  unlisted = All-push (IsUnlisted top) before.more one before.unlisted is;
-}
+-- more folders are unlisted
+pub tells_more : (top : List ℕ) (old more new : List Unlisted) → new ≡ old ++ more → All (IsUnlisted top) more → Tells top old new
+tells_more top old more new behind unlisted = record { more = more; behind = behind; unlisted = unlisted }
+
+-- one entry after the others
+pub adds_next : (extensions : List (List ℕ)) (folder : List ℕ) (old middle new : Below) (entries : List Entry) (i : ℕ) (entry : Entry)
+    → i < length entries → entry ≡ get_or entries i entry → AddsEach extensions folder old (take i entries) middle
+    → AddsEntry extensions folder entry middle new → AddsEach extensions folder old (take (i + 1) entries) new
+adds_next extensions folder old middle new entries i entry below is before here =
+    let grown : take (i + 1) entries ≡ take i entries ++ entry ∷ [] = take_more entries i entry below ∙ ap (λ e. take i entries ++ e ∷ []) (sym is) in
+    subst (λ l. AddsEach extensions folder old l new) (sym grown) (an_entry entry new before here)

@@ -8,9 +8,11 @@ use Rattle.std.proofs.lemmas.List.Elements.{All-append, All-nil, All-same, All-w
 use Rattle.std.specs.Str.{bytes_eq}
 use Rattle.indexmap.specs.IndexSet.{insert_key}
 use Rattle.std.proofs.lemmas.List.Quantifiers.{Any-push}
+use Rattle.tera_files.specs.declared.below.Template.{Template}
 use Rattle.tera_files.specs.declared.finding.Unlisted.{Unlisted}
+use Rattle.tera_files.specs.declared.listing.Listing.{Listing}
 use Rattle.tera_files.specs.Below.{AreTemplates, IsUnlisted, Tells}
-use Rattle.tera_files.specs.Finding.{AddsAll, AreOf, AreOfAll, input}
+use Rattle.tera_files.specs.Finding.{AddsAll, AddsTemplate, AddsTemplates, AreOf, AreOfAll, a_template, input}
 use Rattle.tera_files.specs.Listing.{IsAdded}
 use Rattle.tera_files.specs.Paths.{IsTemplate}
 use Rattle.tera_files.proofs.ListingLemmas.{insert_key-is}
@@ -93,3 +95,11 @@ told_more paths i path old new below is before tells =
     (λ one told. Any-push (λ top. IsUnlisted top one) (take i paths) path told) tells.more tells.unlisted in
     subst (λ l. All (λ one. Any (λ top. IsUnlisted top one) l) new) (sym grown)
     (All-same Is new (old ++ tells.more) tells.behind (All-append Is old tells.more earlier here))
+
+-- one template after the others
+pub next_template : (old middle new : Listing) (templates : List Template) (i : ℕ) (template : Template) → i < length templates
+    → template ≡ get_or templates i template → AddsTemplates old (take i templates) middle → AddsTemplate template middle new
+    → AddsTemplates old (take (i + 1) templates) new
+next_template old middle new templates i template below is before here =
+    let grown : take (i + 1) templates ≡ take i templates ++ template ∷ [] = take_more templates i template below ∙ ap (λ t. take i templates ++ t ∷ []) (sym is) in
+    subst (λ l. AddsTemplates old l new) (sym grown) (a_template template new before here)

@@ -1,8 +1,11 @@
 -- Which files paths mean.
-use Rattle.std.specs.Prelude.{◌≡◌, ◌≢◌, ◌⊎◌, ◌<◌, ℕ, List, [], ◌∷◌, ◌++◌, All, AllPairs, Any, Contains, codes, length, map, string_bytes, vec_len}
+use Rattle.std.specs.Prelude.{◌≡◌, ◌≢◌, ◌⊎◌, ◌<◌, ℕ, List, [], ◌∷◌, ◌++◌, All, AllPairs, Any, Contains, MatchOption, codes, length, map, string_bytes, vec_len}
 use Rattle.std.specs.List.{AllZip, flat_map}
-use Rattle.tera_files.specs.Below.{AreTemplates, IsUnlisted}
+use Rattle.tera_files.specs.Below.{AreTemplates, IsUnlisted, path_of}
+use Rattle.tera_files.specs.Listing.{AddsFile}
+use Rattle.tera_files.specs.declared.below.Template.{Template}
 use Rattle.tera_files.specs.declared.finding.Found.{Found}
+use Rattle.tera_files.specs.declared.listing.Listing.{Listing}
 
 -- A path means these files: itself, or templates below it, in order. What was met before or is left out is not among them.
 abbrev pub AreOf : List (List ℕ) → List ℕ → List (List ℕ) → Type 0
@@ -31,3 +34,15 @@ pub record IsFound (extensions paths : List (List ℕ)) (found : Found) : Type 0
   pub unlisted : All (λ one. Any (λ path. IsUnlisted path one) paths) found.unlisted.items
   pub input_read : Contains paths input → Contains (map string_bytes found.files.items) input
   pub answered : 0 < length paths → (0 < vec_len found.files) ⊎ (0 < vec_len found.unlisted)
+
+-- A template that is no link is added as the file that the system knows by its place, and a link as the one that it leads to.
+abbrev pub AddsTemplate : Template → Listing → Listing → Type 0
+AddsTemplate template old new = MatchOption template.itself
+    ((itself : List ℕ) × AddsFile (path_of template) itself old new)
+    (λ itself. AddsFile (path_of template) (string_bytes itself) old new)
+
+-- None of the templates is missing, and each is added once, in their order.
+pub data AddsTemplates (old : Listing) : List Template → Listing → Type 0 where
+  no_template : AddsTemplates old [] old
+  a_template : {templates : List Template} {middle : Listing} (template : Template) (new : Listing) → AddsTemplates old templates middle
+      → AddsTemplate template middle new → AddsTemplates old (templates ++ template ∷ []) new

@@ -6,3 +6,4 @@ pub mod Names
 pub mod Paths
 pub mod Reading
 pub mod Replacing
+pub mod Seen

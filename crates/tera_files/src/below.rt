@@ -1,18 +1,19 @@
 //! The templates below a folder.
 
-ghost use Rattle.std.specs.Prelude.{◌≡◌, ◌⊎◌, ◌<◌, ℕ, List, All, IfOk, IfSome, OnOk, map, string_bytes, vec_len};
+ghost use Rattle.std.specs.Prelude.{◌≡◌, ◌⊎◌, ◌<◌, ℕ, List, [], All, AllPairs, IfOk, IfSome, OnOk, map, string_bytes, vec_len};
+ghost use Rattle.std.specs.List.Sorted.{IsPermutation};
 ghost use Rattle.std.specs.Path.{path_join};
-ghost use Rattle.tera_files.specs.Below.{AreBelow, AreTemplates, IsKnownTemplate, Tells, path_of};
+ghost use Rattle.tera_files.specs.Below.{AddsEach, AddsEntry, AreBelow, AreTemplates, IsBefore, IsKnownTemplate, Tells, path_of};
 ghost use Rattle.tera_files.specs.Names.{texts};
 ghost use Rattle.tera_files.specs.Paths.{IsKnown, IsPathIn};
 
 use crate::finding::Unlisted;
-use crate::itself::{fault, itself_of};
-use crate::names::{ends_in, is_left_out, joined, path_in};
+use crate::itself::itself_of;
+use crate::names::{joined, path_in};
+use crate::seen::{Entry, Kind, Place, Seen, seen_in};
 use std::alloc::{AllocError, Global};
-use std::fs::{DirEntry, FileType};
+use std::io;
 use std::rt::Files;
-use std::{fs, io};
 
 /// A template that was found below a folder.
 #[derive(Drop)]
@@ -55,11 +56,13 @@ struct Below {
     templates: Vec<Template>,
     // Those that are to be listed.
     folders: Vec<Folder>,
+    // What could not be listed, and templates whose names are not UTF-8.
+    unlisted: Vec<Unlisted>,
 }
 
 /// The templates below the folder, in order. What could not be listed is added to `unlisted`, and the folder itself where
 /// it holds none.
-pub(crate) fn templates_below<R: Files + AllocGlobal + Clone + Drop>(
+pub(crate) fn templates_below<R: Files + AllocGlobal>(
     rt: &R,
     extensions: &[&str],
     top: &str,
@@ -71,30 +74,60 @@ pub(crate) fn templates_below<R: Files + AllocGlobal + Clone + Drop>(
     ensures told { IfOk result (λ below. (0 < vec_len below) ⊎ (vec_len unlisted.old < vec_len unlisted.new)) }
     ensures unlisted { OnOk result (Tells top.now unlisted.old.items unlisted.new.items) }
 {
-    let alloc = rt.alloc();
-    let before = unlisted.len();
+    let mut below = walked(rt, extensions, top)?;
+    add_top_if_empty(rt.alloc(), top, &mut below)?;
+    unlisted.append(&mut below.unlisted)?;
+    let templates = in_order(below.templates)?;
+    Ok(templates)
+}
+
+// All that is below the folder: no folder is left that was not listed.
+fn walked<R: Files + AllocGlobal>(
+    rt: &R,
+    extensions: &[&str],
+    top: &str,
+) -> Result<Below, AllocError>
+    ensures below { IfOk result (λ below. (itself : List ℕ)
+        × AreBelow (texts extensions.now) top.now itself below) }
+    ensures ended { IfOk result (λ below. below.folders.items ≡ []) }
+{
     let mut below = begun(rt, top)?;
-    // The walk ends when no folder is left.
     for _ in 0..u64::MAX {
         let Some(folder) = below.folders.pop() else {
-            break;
+            return Ok(below);
         };
-        if let Some(error) = list(rt, extensions, &folder, &mut below)? {
-            let Folder { path, .. } = folder;
-            unlisted.push(Unlisted {
-                folder: path,
-                error: Some(error),
-            })?;
-        }
+        list(rt, extensions, &folder, &mut below)?;
     }
-    let Below { mut templates, .. } = below;
-    if templates.is_empty() && unlisted.len() == before {
-        let folder = String::from_str(alloc, top)?;
-        let error = None;
-        unlisted.push(Unlisted { folder, error })?;
+    // More folders than memory can hold.
+    Err(AllocError)
+}
+
+// Adds the folder at the top to those that are unlisted, where nothing was found below it.
+fn add_top_if_empty(alloc: Global, top: &str, below: &mut Below) -> Result<(), AllocError>
+    ensures kept { (extensions : List (List ℕ)) → (itself : List ℕ) → AreBelow extensions top.now itself below.old
+        → AreBelow extensions top.now itself below.new }
+    ensures templates { below.new.templates ≡ below.old.templates }
+    ensures answered { OnOk result ((0 < vec_len below.new.templates) ⊎ (0 < vec_len below.new.unlisted)) }
+{
+    if !below.templates.is_empty() || !below.unlisted.is_empty() {
+        return Ok(());
     }
-    templates.sort_by(|one, other| one.path.cmp(&other.path))?;
-    Ok(templates)
+    let folder = String::from_str(alloc, top)?;
+    below.unlisted.push(Unlisted {
+        folder,
+        error: None,
+    })?;
+    Ok(())
+}
+
+// The same templates, by the bytes of their paths.
+fn in_order(templates: Vec<Template>) -> Result<Vec<Template>, AllocError>
+    ensures sorted { IfOk result (λ sorted. AllPairs IsBefore (map path_of sorted.items)) }
+    ensures same { IfOk result (λ sorted. IsPermutation templates.items sorted.items) }
+{
+    let mut sorted = templates;
+    sorted.sort_by(|one, other| one.path.cmp(&other.path))?;
+    Ok(sorted)
 }
 
 // The folder at the top is to be listed.
@@ -104,98 +137,115 @@ fn begun<R: Files + AllocGlobal>(rt: &R, top: &str) -> Result<Below, AllocError>
 {
     let path = String::from_str(rt.alloc(), top)?;
     let itself = itself_of(rt, top)?;
+    let templates = Vec::new(rt.alloc());
+    let unlisted = Vec::new(rt.alloc());
     let mut folders = Vec::new(rt.alloc());
     folders.push(Folder { path, itself })?;
-    let templates = Vec::new(rt.alloc());
-    Ok(Below { templates, folders })
+    Ok(Below {
+        templates,
+        folders,
+        unlisted,
+    })
 }
 
-// Adds what stands right in the folder. The error is that of the folder, or of its first entry that cannot be looked at,
-// as one whose name is not UTF-8; the others are added all the same.
-fn list<R: Files + AllocGlobal + Clone + Drop>(
+// Adds what is right in the folder. The error is that of the folder, or of its first entry that cannot be looked at.
+fn list<R: Files + AllocGlobal>(
     rt: &R,
     extensions: &[&str],
     folder: &Folder,
     below: &mut Below,
-) -> Result<Option<io::Error>, AllocError>
+) -> Result<(), AllocError>
     ensures { (top itself : List ℕ) → IsKnown top itself (string_bytes folder.now.path) (string_bytes folder.now.itself)
         → AreBelow (texts extensions.now) top itself below.old
         → AreBelow (texts extensions.now) top itself below.new }
 {
-    let entries = match fs::read_dir(rt, folder.path.as_str()) {
-        Ok(entries) => entries,
-        Err(error) => return Ok(Some(fault(error)?)),
-    };
-    let mut first = None;
+    let Seen { entries, error } = seen_in(rt, folder.path.as_str())?;
+    add_all(rt.alloc(), extensions, folder, &entries, below)?;
+    match error {
+        Some(error) => add_unlisted(rt.alloc(), folder, error, below),
+        None => Ok(()),
+    }
+}
+
+// Adds that not all of the folder could be listed.
+fn add_unlisted(
+    alloc: Global,
+    folder: &Folder,
+    error: io::Error,
+    below: &mut Below,
+) -> Result<(), AllocError>
+    ensures { (extensions : List (List ℕ)) → (top itself : List ℕ)
+        → IsKnown top itself (string_bytes folder.now.path) (string_bytes folder.now.itself)
+        → AreBelow extensions top itself below.old → AreBelow extensions top itself below.new }
+{
+    let folder = String::from_str(alloc, folder.path.as_str())?;
+    below.unlisted.push(Unlisted {
+        folder,
+        error: Some(error),
+    })?;
+    Ok(())
+}
+
+// Adds each entry of the folder in turn.
+fn add_all(
+    alloc: Global,
+    extensions: &[&str],
+    folder: &Folder,
+    entries: &Vec<Entry>,
+    below: &mut Below,
+) -> Result<(), AllocError>
+    ensures each { OnOk result (AddsEach (texts extensions.now) (string_bytes folder.now.path)
+        below.old entries.now.items below.new) }
+    ensures kept { (top itself : List ℕ) → IsKnown top itself (string_bytes folder.now.path) (string_bytes folder.now.itself)
+        → AreBelow (texts extensions.now) top itself below.old
+        → AreBelow (texts extensions.now) top itself below.new }
+{
     for entry in entries {
-        let added = match entry {
-            Ok(entry) => add_entry(rt, extensions, folder, &entry, below)?,
-            Err(error) => Some(fault(error)?),
-        };
-        first = first.or(added);
+        add_entry(alloc, extensions, folder, entry, below)?;
     }
-    Ok(first)
+    Ok(())
 }
 
-// Adds an entry of the folder that is a template or a folder. A link to a file is taken, and one to a folder left out.
-fn add_entry<R: Files + AllocGlobal + Clone + Drop>(
-    rt: &R,
+// Adds an entry of the folder: a template, or a folder. A link to a file is taken, and one to a folder left out. A template
+// whose name is not UTF-8 cannot be read, and is added to what is unlisted.
+fn add_entry(
+    alloc: Global,
     extensions: &[&str],
     folder: &Folder,
-    entry: &DirEntry<R>,
+    entry: &Entry,
     below: &mut Below,
-) -> Result<Option<io::Error>, AllocError>
-    ensures { (top itself : List ℕ) → IsKnown top itself (string_bytes folder.now.path) (string_bytes folder.now.itself)
+) -> Result<(), AllocError>
+    ensures adds { OnOk result (AddsEntry (texts extensions.now) (string_bytes folder.now.path)
+        entry.now below.old below.new) }
+    ensures kept { (top itself : List ℕ) → IsKnown top itself (string_bytes folder.now.path) (string_bytes folder.now.itself)
         → AreBelow (texts extensions.now) top itself below.old
         → AreBelow (texts extensions.now) top itself below.new }
 {
-    let name = entry.file_name();
-    if is_left_out(name) {
-        return Ok(None);
-    }
-    let kind = match entry.file_type() {
-        Ok(kind) => kind,
-        Err(error) => return Ok(Some(fault(error)?)),
-    };
-    let alloc = rt.alloc();
-    if kind.is_dir() {
-        let path = folder.told(alloc, name)?;
-        let itself = folder.known(alloc, name)?;
-        below.folders.push(Folder { path, itself })?;
-        return Ok(None);
-    }
-    if !ends_in(name, extensions) {
-        return Ok(None);
-    }
-    let path = folder.told(alloc, name)?;
-    match is_file(rt, kind, path.as_str()) {
-        Ok(true) => {
-            let itself = known_in(alloc, folder, name, kind)?;
-            below.templates.push(Template { path, itself })?;
-            Ok(None)
+    let name = entry.name.as_str();
+    match entry.place(extensions) {
+        Place::Nowhere => Ok(()),
+        Place::Folders => {
+            let path = folder.told(alloc, name)?;
+            let itself = folder.known(alloc, name)?;
+            below.folders.push(Folder { path, itself })?;
+            Ok(())
         }
-        Ok(false) => Ok(None),
-        Err(error) => Ok(Some(fault(error)?)),
+        Place::Templates => {
+            let path = folder.told(alloc, name)?;
+            let itself = known_in(alloc, folder, name, entry.kind)?;
+            below.templates.push(Template { path, itself })?;
+            Ok(())
+        }
+        Place::Unlisted => {
+            let folder = folder.told(alloc, name)?;
+            let error = Some(io::Error::new(
+                io::ErrorKind::InvalidFilename,
+                "its name is not UTF-8",
+            ));
+            below.unlisted.push(Unlisted { folder, error })?;
+            Ok(())
+        }
     }
-}
-
-// Whether a file stands there, or a link that leads to one, and not round or nowhere.
-fn is_file(rt: &impl Files, kind: FileType, path: &str) -> io::Result<bool> {
-    if !kind.is_symlink() {
-        return Ok(kind.is_file());
-    }
-    match fs::metadata(rt, path) {
-        Ok(data) => Ok(data.is_file()),
-        Err(error) if leads_nowhere(error.kind()) => Ok(false),
-        Err(error) => Err(error),
-    }
-}
-
-fn leads_nowhere(kind: io::ErrorKind) -> bool {
-    matches!(
-        kind,
-        io::ErrorKind::NotFound | io::ErrorKind::NotADirectory | io::ErrorKind::FilesystemLoop
-    )
 }
 
 // The path by which the system knows what has this name in the folder, unless it is a link.
@@ -203,13 +253,13 @@ fn known_in(
     alloc: Global,
     folder: &Folder,
     name: &str,
-    kind: FileType,
+    kind: Kind,
 ) -> Result<Option<String>, AllocError>
     ensures { IfOk result (λ itself. IfSome itself (λ itself.
         string_bytes itself ≡ path_join (string_bytes folder.now.itself) name.now)) }
 {
-    if kind.is_symlink() {
-        return Ok(None);
+    match kind {
+        Kind::Link => Ok(None),
+        _ => Ok(Some(folder.known(alloc, name)?)),
     }
-    Ok(Some(folder.known(alloc, name)?))
 }

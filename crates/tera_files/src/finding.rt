@@ -1,9 +1,9 @@
 //! Which files the paths of a command line mean.
 
-ghost use Rattle.std.specs.Prelude.{◌≡◌, ◌⊎◌, ◌<◌, [], Contains, IfOk, OnOk, length, vec_len};
-ghost use Rattle.tera_files.specs.Below.{Tells, path_of};
-ghost use Rattle.tera_files.specs.Finding.{AddsAll, IsFound, input};
-ghost use Rattle.tera_files.specs.Listing.{files_in, IsAdded, IsStarted};
+ghost use Rattle.std.specs.Prelude.{◌≡◌, ◌⊎◌, ◌<◌, ℕ, List, [], AllPairs, Contains, IfOk, OnOk, length, map, vec_len};
+ghost use Rattle.tera_files.specs.Below.{AddsSome, IsBefore, Tells, path_of};
+ghost use Rattle.tera_files.specs.Finding.{AddsAll, AddsTemplate, AddsTemplates, IsFound, input};
+ghost use Rattle.tera_files.specs.Listing.{files_in, AddsFile, IsAdded, IsStarted};
 ghost use Rattle.tera_files.specs.Names.{texts};
 
 use crate::below::{Template, templates_below};
@@ -31,7 +31,8 @@ pub struct Found {
     pub unlisted: Vec<Unlisted>,
 }
 
-/// A folder of which not all could be listed, and why. Without an error it holds no template.
+/// A folder of which not all could be listed, or a template whose name is not UTF-8, and why. Without an error it is a folder
+/// that holds no template.
 #[derive(Debug, Drop)]
 pub struct Unlisted {
     pub folder: String,
@@ -94,7 +95,24 @@ fn add<R: Files + AllocGlobal + Clone + Drop>(
         return add_file(rt, path, listing);
     }
     let templates = templates_below(rt, extensions, path, unlisted)?;
-    for template in &templates {
+    add_templates(rt, &templates, listing)?;
+    Ok(())
+}
+
+// Adds each of the templates that were found below a folder.
+fn add_templates<R: Files + AllocGlobal>(
+    rt: &R,
+    templates: &Vec<Template>,
+    listing: &mut Listing,
+) -> Result<(), AllocError>
+    ensures each { OnOk result (AddsTemplates listing.old templates.now.items listing.new) }
+    ensures some { OnOk result (AllPairs IsBefore (map path_of templates.now.items)
+        → AddsSome (map path_of templates.now.items) (files_in listing.old) (files_in listing.new)) }
+    ensures started { OnOk result (IsStarted listing.old → IsStarted listing.new) }
+    ensures answered { OnOk result (IsStarted listing.old → 0 < length templates.now.items
+        → 0 < length (files_in listing.new)) }
+{
+    for template in templates {
         add_template(rt, template, listing)?;
     }
     Ok(())
@@ -107,6 +125,7 @@ fn add_template<R: Files + AllocGlobal>(
     listing: &mut Listing,
 ) -> Result<(), AllocError>
     ensures added { OnOk result (IsAdded (path_of template.now) (files_in listing.old) (files_in listing.new)) }
+    ensures file { OnOk result (AddsTemplate template.now listing.old listing.new) }
     ensures started { OnOk result (IsStarted listing.old → 0 < length (files_in listing.new)) }
 {
     let path = template.path.as_str();
@@ -129,6 +148,7 @@ fn add_file<R: Files + AllocGlobal>(
     listing: &mut Listing,
 ) -> Result<(), AllocError>
     ensures added { OnOk result (IsAdded path.now (files_in listing.old) (files_in listing.new)) }
+    ensures file { OnOk result ((itself : List ℕ) × AddsFile path.now itself listing.old listing.new) }
     ensures started { OnOk result (IsStarted listing.old → 0 < length (files_in listing.new)) }
 {
     let itself = itself_of(rt, path)?;

@@ -5,8 +5,9 @@
 //! and knows nothing of templates but how their names end.
 //!
 //! In the order of reading: specs `Names` and `Paths`, what names say and the paths that they have in folders, and `names`;
-//! `itself`, by which paths the system knows files; `listing`, files that were met; specs `Below` and `below`, of one
-//! folder; specs `Finding` and `finding`, of paths; `reading`; specs `Beside` and `beside`, new files; specs `Replacing` and `replacing`.
+//! `itself`, by which paths the system knows files; `listing`, files that were met; specs `Seen` and `seen`, what is in a
+//! folder; specs `Below` and `below`, the templates below one; specs `Finding` and `finding`, of paths; `reading`; specs
+//! `Beside` and `beside`, new files; specs `Replacing` and `replacing`.
 #![tactic(auto)]
 
 mod below;
@@ -17,6 +18,7 @@ mod listing;
 mod names;
 mod reading;
 mod replacing;
+mod seen;
 
 pub use finding::{Found, Sought, Unlisted, files_of};
 pub use names::{ends_in, is_left_out};

@@ -17,7 +17,7 @@ pub(crate) struct Listing {
 }
 
 impl Listing {
-    ghost use Rattle.tera_files.specs.Listing.{files_in, IsAdded, IsStarted};
+    ghost use Rattle.tera_files.specs.Listing.{files_in, AddsFile, IsAdded, IsStarted};
 
     pub(crate) fn new(alloc: Global) -> Listing
         ensures none { files_in result ≡ [] }
@@ -40,6 +40,7 @@ impl Listing {
     // Adds a file, unless it was met or is left out.
     pub(crate) fn add(&mut self, path: String, itself: String) -> Result<(), AllocError>
         ensures added { OnOk result (IsAdded (string_bytes path) (files_in self.old) (files_in self.new)) }
+        ensures file { OnOk result (AddsFile (string_bytes path) (string_bytes itself) self.old self.new) }
         ensures started { OnOk result (IsStarted self.old → 0 < length (files_in self.new)) }
     {
         if self.known.insert(itself)? {
@@ -50,7 +51,9 @@ impl Listing {
 
     // Adds a path, unless it is there.
     pub(crate) fn add_path(&mut self, path: String) -> Result<(), AllocError>
-        ensures { OnOk result (files_in self.new ≡ insert_key bytes_eq (files_in self.old) (string_bytes path)) }
+        ensures files { OnOk result (files_in self.new
+            ≡ insert_key bytes_eq (files_in self.old) (string_bytes path)) }
+        ensures known { self.new.known ≡ self.old.known }
     {
         self.files.insert(path)?;
         Ok(())

@@ -1,6 +1,6 @@
 use Rattle.std.proofs.Common.{[], ◌++◌, ◌∷◌, ◌∙◌, ap, sym, subst, string_bytes}
 use Rattle.std.proofs.lemmas.List.Elements.{All-nil, All-push, All-same}
-use Rattle.tera_files.specs.Below.{IsKnownTemplate, path_of}
+use Rattle.tera_files.specs.Below.{IsKnownTemplate, IsUnlisted, path_of}
 use Rattle.tera_files.specs.Paths.{IsKnown, IsTemplate, top_is_known}
 use Rattle.tera_files.specs.declared.below.Folder.{Folder}
 use Rattle.tera_files.specs.declared.below.Template.{Template}
@@ -19,6 +19,7 @@ returns g c = λ extensions.
       record {
         templates = All-same IsHere c.new-templates.result.items [] c.new-templates.ensures.items (All-nil IsHere);
         known = All-same (IsKnownTemplate top itself) c.new-templates.result.items [] c.new-templates.ensures.items (All-nil (IsKnownTemplate top itself));
+        unlisted = All-same (IsUnlisted top) c.new-unlisted.result.items [] c.new-unlisted.ensures.items (All-nil (IsUnlisted top));
         folders = All-same Is c.push.new.self.items (folder ∷ []) one (All-push Is [] folder (All-nil Is) here);
       },
     )
