@@ -1,5 +1,5 @@
 -- What `tera server` writes of what comes.
-use Rattle.std.specs.Prelude.{◌≡◌, ◌⊎◌, ◌++◌, ℕ, List, [], ◌∷◌, map, Option, None, Some}
+use Rattle.std.specs.Prelude.{◌≡◌, ◌⊎◌, ⊤, ◌++◌, ℕ, Bool, true, false, List, [], ◌∷◌, map, Option, None, Some}
 use Rattle.std.specs.Io.KnownBytes.{Appends, Consumes, IsAtEnd}
 use Rattle.std.specs.List.{flat_map}
 use Rattle.std.specs.Option.{option_to_list}
@@ -14,12 +14,14 @@ use Rattle.message_frames.specs.Stream.{Item, Begins, IsPartial}
 use Rattle.message_frames.specs.Writing.{frame}
 use Rattle.tera_files.specs.Finding.{AreOf}
 use Rattle.tera_program.specs.declared.options.TheConstants.{EXTENSIONS}
-use Rattle.tera_server.specs.Settling.{IsSettling, ArePublishedInPart}
+use Rattle.tera_program.specs.declared.server.Left.{Left}
+use Rattle.tera_program.specs.declared.server.Left.TheVariants as lefts
+use Rattle.tera_server.specs.Settling.{due_of, IsSettling, ArePublishedInPart}
 use Rattle.tera_server.specs.Sending.{untold_of}
 use Rattle.tera_server.specs.States.{known_of, loaded_as, WantedVal, WantsFile, WantsFolder, wanted_of, edited_of, StaysBut}
 use Rattle.tera_server.specs.Steps.{ended_at, Step, IsRefused, IsUntaken}
 use Rattle.tera_server.specs.declared.server.Ended.{Ended}
-use Rattle.tera_server.specs.declared.server.Phase.TheVariants.{New}
+use Rattle.tera_server.specs.declared.server.Phase.TheVariants.{New, Running}
 use Rattle.tera_server.specs.declared.server.Server.{Server}
 use Rattle.tera_workspace.specs.Workspaces.{told_of_name, IsKept}
 use Rattle.text_edits.specs.Documents.{no_document}
@@ -45,8 +47,12 @@ Takes s Bad ended t out =
 Takes s Wait ended t out = (ended ≡ None) × (t ≡ s) × (out ≡ nothing)
 
 -- what is published when no message waits: all of it or, where no memory was found, a part
+abbrev pub SettlesSo : Bool → Server → Server → Outgoing → Type 0
+SettlesSo true s t out = IsSettling s.phase s t nothing out
+SettlesSo false s t out = ArePublishedInPart s t nothing out
+
 abbrev pub Settles : Server → Server → Outgoing → Type 0
-Settles s t out = IsSettling s.phase s t nothing out ⊎ ArePublishedInPart s t nothing out
+Settles s t out = (all : Bool) × SettlesSo all s t out
 
 -- what a server asks for next is taken, or none where nothing is asked for; and nothing else changes
 pub record IsAsked (next : Option WantedVal) (s t : Server) : Type 0 where
@@ -79,10 +85,19 @@ AreGiven (WantsFile path) s t = IsLoaded path s t
 AreGiven (WantsFolder path) s t =
     (files rest : List (List ℕ)) × AreOf extensions path (files ++ rest) × AreLoaded s files t
 
+-- .. in part, where no memory was found; so it is asked for again, unless that finds none either
+pub record IsGivenInPart (wanted : WantedVal) (s t : Server) : Type 0 where
+  pub mid : Server
+  pub given : AreGiven wanted s mid
+  pub same : t ≡ record mid { wanted = t.wanted }
+  pub again : (wanted_of t ≡ wanted_of mid ++ wanted ∷ []) ⊎ (wanted_of t ≡ wanted_of mid)
+
 -- what a server asks for is taken, one by one, and given to it
 pub data Gives (s : Server) : Server → Type 0 where
   GaveNone : Gives s s
   Gave : (wanted : WantedVal) (t u v : Server) → Gives s t → IsAsked (Some wanted) t u → AreGiven wanted u v → Gives s v
+  GaveInPart : (wanted : WantedVal) (t u v : Server) →
+      Gives s t → IsAsked (Some wanted) t u → IsGivenInPart wanted u v → Gives s v
   GaveAll : (t u : Server) → Gives s t → IsAsked None t u → Gives s u
 
 -- from a server on: what came, what was sent, in order, how the exchange ended if it did, and the server then. Behind a
@@ -96,14 +111,57 @@ pub data Talks (s : Server) : List Shown → List (List ℕ) → Option Ended �
   Given : (frames : List Shown) (sent : List (List ℕ)) (t u : Server) →
       Talks s frames sent None t → Gives t u → Talks s frames sent None u
 
+-- ---- a piece of the input after another
+
+-- nothing is left to be done: what was asked for was given, and once the exchange has begun what is found is published
+pub record IsAtRest (t : Server) : Type 0 where
+  pub given : wanted_of t ≡ []
+  pub published : t.phase ≡ Running → due_of t ≡ []
+
+-- how messages left the exchange, and the server
+abbrev pub ended_of : Left → Option Ended
+ended_of (lefts.Ended finished) = Some finished
+ended_of lefts.AtRest = None
+ended_of lefts.Short = None
+
+abbrev pub IsLeft : Left → Server → Type 0
+IsLeft (lefts.Ended finished) t = ⊤
+IsLeft lefts.AtRest t = IsAtRest t
+IsLeft lefts.Short t = ⊤
+
+-- what comes of a piece: its messages are taken, and the one that earlier pieces began. After that nothing is left to be
+-- done, unless memory was refused
+pub record Round (limit : ℕ) (left : Left) (s t : Server) (bytes rest : List ℕ) (sent : List (List ℕ)) : Type 0 where
+  pub items : List Item
+  pub begins : Begins bytes items rest
+  pub talked : Talks s (map (frame_of limit) items) sent (ended_of left) t
+  pub partial : ended_of left ≡ None → IsPartial rest
+  pub done : IsLeft left t
+
+-- whether memory was refused in this round or before
+abbrev pub or_short : Bool → Left → Bool
+or_short short (lefts.Ended finished) = short
+or_short short lefts.AtRest = short
+or_short short lefts.Short = true
+
+-- from a server on: whether memory was refused, how the exchange ended if it did, the bytes that came, those of them that
+-- are no whole message, what was sent, and the server then. Each piece is read when nothing of those before is left to be
+-- done, unless memory was refused
+pub data Rounds (limit : ℕ) (s : Server) : Bool → Option Ended → List ℕ → List ℕ → List (List ℕ) → Server → Type 0 where
+  NoRound : Rounds limit s false None [] [] [] s
+  NextRound : (short : Bool) (bytes rest piece now : List ℕ) (sent more : List (List ℕ)) (t u : Server) (left : Left) →
+      Rounds limit s short None bytes rest sent t → Round limit left t u (rest ++ piece) now more →
+      Rounds limit s (or_short short left) (ended_of left) (bytes ++ piece) now (sent ++ more) u
+
 -- an exchange that no message ended is over when nothing more comes, and no whole message is left
 abbrev pub IsOver : Option Ended → Ended → Server → List ℕ → Option (List ℕ) → Type 0
 IsOver (Some ended) finished t rest unread = finished ≡ ended
 IsOver None finished t rest unread = (finished ≡ ended_at t.phase) × IsPartial rest × IsAtEnd unread
 
 -- the bytes that came are messages in their order, which were told to a new server, and then the rest; what it sent, each
--- message behind its header, was written in its order; and so the exchange ended
-pub record IsServed (limit : ℕ) (finished : Ended) (read unread old new : Option (List ℕ)) : Type 0 where
+-- message behind its header, was written in its order; and so the exchange ended. Whenever more was read, and when nothing
+-- more came, what the server asked for was given, and what was found was published, unless memory was refused
+pub record IsServed (limit : ℕ) (finished : Ended) (short : Bool) (read unread old new : Option (List ℕ)) : Type 0 where
   pub first : Server
   pub last : Server
   pub bytes : List ℕ
@@ -117,6 +175,8 @@ pub record IsServed (limit : ℕ) (finished : Ended) (read unread old new : Opti
   pub talked : Talks first (map (frame_of limit) items) sent ended last
   pub written : Appends old new (flat_map frame sent)
   pub over : IsOver ended finished last rest unread
+  pub rounds : Rounds limit first short ended bytes rest sent last
+  pub done : ended ≡ None → short ≡ false → IsAtRest last
 
 -- ---- as far as it has come
 
@@ -130,7 +190,19 @@ pub record IsTalking (limit : ℕ) (ended : Option Ended) (s t : Server) (bytes 
   pub talked : Talks s (map (frame_of limit) items) sent ended t
   pub written : Appends old new (flat_map frame sent)
 
--- .. and no whole message is left, unless one ended the exchange
-pub record IsWaiting (limit : ℕ) (ended : Option Ended) (s t : Server) (bytes : List ℕ) (held : Held) (old new : Option (List ℕ)) : Type 0 where
-  pub talking : IsTalking limit ended s t bytes held old new
-  pub partial : ended ≡ None → IsPartial talking.rest
+-- .. and no whole message is left, unless one ended the exchange; then nothing is left to be done, unless no memory was found
+-- for a part of it
+pub record IsWaiting (limit : ℕ) (left : Left) (s t : Server) (bytes : List ℕ) (held : Held) (old new : Option (List ℕ)) : Type 0 where
+  pub talking : IsTalking limit (ended_of left) s t bytes held old new
+  pub partial : ended_of left ≡ None → IsPartial talking.rest
+  pub done : IsLeft left t
+
+-- what is asked for still was given, and what is found was published and written
+pub record Rests (left : Left) (s t : Server) (old new : Option (List ℕ)) : Type 0 where
+  pub mid : Server
+  pub sent : Outgoing
+  pub given : Gives s mid
+  pub settled : Settles mid t sent
+  pub written : Appends old new (flat_map frame sent.sent)
+  pub goes_on : ended_of left ≡ None
+  pub done : IsLeft left t

@@ -10,6 +10,7 @@
 //! subcommand.
 #![tactic(auto)]
 
+mod aside;
 mod check;
 mod colours;
 mod components;

@@ -1,17 +1,18 @@
 //! `tera server`.
 
-ghost use Rattle.std.specs.Prelude.{◌≡◌, ◌<◌, ◌++◌, ℕ, List, [], length, false, Option, None, IfOk, OnOk};
+ghost use Rattle.std.specs.Prelude.{◌≡◌, ◌<◌, ◌++◌, ℕ, List, [], length, false, Option, None, IfOk, OnOk, OnErr};
 ghost use Rattle.std.specs.Io.KnownBytes.{Appends, Consumes, IsAtEnd};
 ghost use Rattle.std.specs.List.{flat_map};
 ghost use Rattle.json_rpc.specs.Outgoing.{Outgoing, nothing};
 ghost use Rattle.message_frames.specs.Shown.{Message, shown};
 ghost use Rattle.message_frames.specs.Standing.{Stands};
 ghost use Rattle.message_frames.specs.Writing.{frame as frame_text};
-ghost use Rattle.tera_program.specs.Serving.{Takes, Settles, IsLoaded, AreGiven, Gives, IsTalking, IsWaiting, IsServed};
-ghost use Rattle.tera_server.specs.States.{WantsFolder, wanted_view, loaded_as};
+ghost use Rattle.tera_program.specs.Serving.{Takes, SettlesSo, Rests, IsLoaded, AreGiven, IsGivenInPart, Gives, IsTalking, IsWaiting, IsServed};
+ghost use Rattle.tera_server.specs.States.{WantsFolder, wanted_view, wanted_of, loaded_as};
 ghost use Rattle.tera_server.specs.declared.server.Server.{Server};
 ghost use Rattle.text_edits.specs.Stored.{IsChangedAt};
 
+use crate::aside::is_left_out;
 use crate::options::EXTENSIONS;
 use crate::output::tell;
 use crate::sending::send;
@@ -25,6 +26,25 @@ use std::{fs, io};
 use tera_files::{Sought, Unread, files_of, read_source};
 use tera_server::{Ended as Finished, Server, Wanted};
 
+// How the messages that came left the exchange.
+#[derive(Clone, Copy)]
+pub(crate) enum Left {
+    /// One of them ended it.
+    Ended(Finished),
+    /// No whole message is left. What was asked for was given, and what is found is published.
+    AtRest,
+    /// No whole message is left, and a part of that found no memory: it is done the next time.
+    Short,
+}
+
+// How an exchange was.
+#[derive(Clone, Copy)]
+struct Served {
+    finished: Finished,
+    // Whether a part of what was to be given or published found no memory, and had to wait.
+    short: bool,
+}
+
 // How many bytes a message may have.
 const LONGEST: usize = 0x1000_0000;
 
@@ -37,10 +57,16 @@ const LARGEST: u64 = 0x100_0000;
 /// Talks with an editor over standard input and output, until it ends that.
 pub(crate) fn run<R: Files + Input + Print + Eprint + AllocGlobal + Clone + Drop>(rt: &R) -> Ended {
     match serve(rt, &mut rt.reader(), &mut io::writer(rt)) {
-        Ok(finished) => Ended {
-            found: finished == Finished::Early,
-            failed: false,
-        },
+        Ok(served) => {
+            if served.short {
+                let why = "out of memory: findings were published late, or not at all";
+                tell(rt, "tera", why);
+            }
+            Ended {
+                found: served.finished == Finished::Early,
+                failed: false,
+            }
+        }
         Err(error) => {
             tell(rt, "tera", why(&error));
             Ended::failed()
@@ -61,21 +87,25 @@ fn serve<F: Files + Input + AllocGlobal + Clone + Drop, R: Read, W: Write>(
     files: &F,
     reader: &mut R,
     writer: &mut W,
-) -> io::Result<Finished>
-    ensures { IfOk result (λ finished. IsServed LONGEST finished (R.remaining reader.old) (R.remaining reader.new)
-        (W.contents writer.old) (W.contents writer.new)) }
+) -> io::Result<Served>
+    ensures { IfOk result (λ served. IsServed LONGEST served.finished served.short
+        (R.remaining reader.old) (R.remaining reader.new) (W.contents writer.old) (W.contents writer.new)) }
 {
     let alloc = files.alloc();
     let mut server = Server::new(alloc);
     let mut out = Outbox::new(alloc)?;
     let mut frames = Frames::new(alloc, LONGEST);
     let mut piece = Vec::from_elem(alloc, 0u8, PIECE)?;
+    let mut short = false;
     'pieces: for _ in 0..u64::MAX {
         if !take_piece(reader, &mut piece, &mut frames)? {
-            return Ok(server.ended());
+            let finished = server.ended();
+            return Ok(Served { finished, short });
         }
-        if let Some(finished) = answer_all(files, &mut server, &mut frames, writer, &mut out)? {
-            return Ok(finished);
+        match answer_all(files, &mut server, &mut frames, writer, &mut out)? {
+            Left::Ended(finished) => return Ok(Served { finished, short }),
+            Left::AtRest => {}
+            Left::Short => short = true,
         }
     }
     Err(io::ErrorKind::Other.into())
@@ -96,33 +126,29 @@ fn take_piece<R: Read>(reader: &mut R, piece: &mut Vec<u8>, frames: &mut Frames)
     Ok(count > 0)
 }
 
-// Answers the messages that have come whole, and publishes what is found behind the last.
+// Answers the messages that have come whole. After the last, what is asked for is given and what is found published.
 fn answer_all<F: Files + Input + AllocGlobal + Clone + Drop, W: Write>(
     files: &F,
     server: &mut Server,
     frames: &mut Frames,
     writer: &mut W,
     out: &mut Outbox,
-) -> io::Result<Option<Finished>>
+) -> io::Result<Left>
     requires { out.old ≡ nothing }
     ensures limit { frames.new.limit ≡ frames.old.limit }
-    ensures talked { IfOk result (λ ended. (start : Server) (bytes : List ℕ) (began : Option (List ℕ)) →
+    ensures talked { IfOk result (λ left. (start : Server) (bytes : List ℕ) (began : Option (List ℕ)) →
         IsTalking frames.old.limit None start server.old bytes frames.old began (W.contents writer.old) →
-        IsWaiting frames.old.limit ended start server.new bytes frames.new began (W.contents writer.new)) }
+        IsWaiting frames.old.limit left start server.new bytes frames.new began (W.contents writer.new)) }
     ensures sent { OnOk result (out.new ≡ nothing) }
 {
     let alloc = files.alloc();
     'messages: for _ in 0..u64::MAX {
         match frames.next(alloc) {
             Ok(next) => match next {
-                Frame::Wait => {
-                    settle(alloc, server, writer, out)?;
-                    return Ok(None);
-                }
+                Frame::Wait => return come_to_rest(files, server, writer, out),
                 frame => {
-                    let finished = answer(alloc, server, frame, writer, out)?;
-                    if finished.is_some() {
-                        return Ok(finished);
+                    if let Some(finished) = answer(alloc, server, frame, writer, out)? {
+                        return Ok(Left::Ended(finished));
                     }
                 }
             },
@@ -131,7 +157,7 @@ fn answer_all<F: Files + Input + AllocGlobal + Clone + Drop, W: Write>(
                 miss(alloc, server, writer, out)?;
             }
         }
-        // What finds no memory is not given, and ends nothing.
+        // What finds no memory is asked for again, and ends nothing.
         let _given = give(files, server);
     }
     Err(io::ErrorKind::Other.into())
@@ -206,28 +232,56 @@ fn handle(
     }
 }
 
-// Publishes what is found, and writes it. What finds no memory is published the next time.
+// Gives what is asked for still, and publishes what is found. What finds no memory is done the next time.
+fn come_to_rest<F: Files + Input + AllocGlobal + Clone + Drop, W: Write>(
+    files: &F,
+    server: &mut Server,
+    writer: &mut W,
+    out: &mut Outbox,
+) -> io::Result<Left>
+    requires { out.old ≡ nothing }
+    ensures rests { IfOk result (λ left. Rests left server.old server.new
+        (W.contents writer.old) (W.contents writer.new)) }
+    ensures sent { OnOk result (out.new ≡ nothing) }
+{
+    let given = give(files, server);
+    let settled = settle(files.alloc(), server, writer, out)?;
+    if !settled {
+        return Ok(Left::Short);
+    }
+    match given {
+        Ok(()) => Ok(Left::AtRest),
+        Err(AllocError) => Ok(Left::Short),
+    }
+}
+
+// Publishes what is found, and writes it. The answer is whether memory was found for all of it.
 fn settle<W: Write>(
     alloc: Global,
     server: &mut Server,
     writer: &mut W,
     out: &mut Outbox,
-) -> io::Result<()>
+) -> io::Result<bool>
     requires { out.old ≡ nothing }
-    ensures settles { OnOk result ((sent : Outgoing) × Settles server.old server.new sent
+    ensures settles { IfOk result (λ all. (sent : Outgoing) × SettlesSo all server.old server.new sent
         × Appends (W.contents writer.old) (W.contents writer.new) (flat_map frame_text sent.sent)) }
     ensures sent { OnOk result (out.new ≡ nothing) }
+    ensures wanted { server.new.wanted ≡ server.old.wanted }
 {
-    publish(alloc, server, out);
+    let all = publish(alloc, server, out);
     send(alloc, writer, out)?;
-    Ok(())
+    Ok(all)
 }
 
-fn publish(alloc: Global, server: &mut Server, out: &mut Outbox)
+fn publish(alloc: Global, server: &mut Server, out: &mut Outbox) -> bool
     requires { out.old ≡ nothing }
-    ensures { Settles server.old server.new out.new }
+    ensures settles { SettlesSo result server.old server.new out.new }
+    ensures wanted { server.new.wanted ≡ server.old.wanted }
 {
-    let _settled = server.settle(alloc, out);
+    match server.settle(alloc, out) {
+        Ok(()) => true,
+        Err(AllocError) => false,
+    }
 }
 
 // Gives the server the texts of files that it asks for.
@@ -235,15 +289,34 @@ fn give<F: Files + Input + AllocGlobal + Clone + Drop>(
     files: &F,
     server: &mut Server,
 ) -> Result<(), AllocError>
-    ensures { Gives server.old server.new }
+    ensures given { Gives server.old server.new }
+    ensures all { OnOk result (wanted_of server.new ≡ []) }
 {
     'wanted: for _ in 0..u64::MAX {
         match server.take_wanted() {
-            Some(wanted) => give_wanted(files, server, &wanted)?,
+            Some(wanted) => give_or_ask_again(files, server, wanted)?,
             None => return Ok(()),
         }
     }
-    Ok(())
+    Err(AllocError)
+}
+
+// What finds no memory is asked for again.
+fn give_or_ask_again<F: Files + Input + AllocGlobal + Clone + Drop>(
+    files: &F,
+    server: &mut Server,
+    wanted: Wanted,
+) -> Result<(), AllocError>
+    ensures given { OnOk result (AreGiven (wanted_view wanted) server.old server.new) }
+    ensures in_part { OnErr result (IsGivenInPart (wanted_view wanted) server.old server.new) }
+{
+    match give_wanted(files, server, &wanted) {
+        Ok(()) => Ok(()),
+        Err(AllocError) => {
+            server.ask_again(wanted)?;
+            Err(AllocError)
+        }
+    }
 }
 
 fn give_wanted<F: Files + Input + AllocGlobal + Clone + Drop>(
@@ -255,8 +328,22 @@ fn give_wanted<F: Files + Input + AllocGlobal + Clone + Drop>(
 {
     match wanted {
         Wanted::Folder(path) => give_folder(files, server, path.as_str()),
-        Wanted::File(path) => give_file(files, server, path.as_str()),
+        Wanted::File(path) => give_single(files, server, path.as_str()),
     }
+}
+
+// Of a file that the reading of the folders leaves out no text is given.
+fn give_single<F: Files + Input + AllocGlobal>(
+    files: &F,
+    server: &mut Server,
+    path: &str,
+) -> Result<(), AllocError>
+    ensures { IsLoaded path.now server.old server.new }
+{
+    if is_left_out(files, server.folders(), path) {
+        return server.load(files.alloc(), path, None);
+    }
+    give_file(files, server, path)
 }
 
 fn give_folder<F: Files + Input + AllocGlobal + Clone + Drop>(

@@ -216,6 +216,13 @@ impl Server {
         }
     }
 
+    /// The paths of the folders that are open.
+    pub fn folders(&self) -> &[String]
+        ensures { result.now ≡ self.now.folders.items }
+    {
+        self.folders.as_slice()
+    }
+
     /// What is asked of the files on disk next.
     pub fn take_wanted(&mut self) -> Option<Wanted>
         ensures wanted { wanted_of self.old ≡ wanted_of self.new ++ option_to_list (option_map wanted_view result) }
@@ -224,6 +231,16 @@ impl Server {
         ensures same { self.new ≡ record self.old { wanted = self.new.wanted } }
     {
         self.wanted.pop()
+    }
+
+    /// What was taken is asked for again, as no memory was found for it.
+    pub fn ask_again(&mut self, wanted: Wanted) -> Result<(), AllocError>
+        ensures wanted { OnOk result (wanted_of self.new ≡ wanted_of self.old ++ wanted_view wanted ∷ []) }
+        ensures err { OnErr result (wanted_of self.new ≡ wanted_of self.old) }
+        ensures same { self.new ≡ record self.old { wanted = self.new.wanted } }
+    {
+        self.wanted.push(wanted)?;
+        Ok(())
     }
 
     /// This text is in the file now; none where there is no file, or no text in it.

@@ -1,15 +1,15 @@
-use Rattle.std.proofs.Common.{◌≡◌, ℕ, List, None, length}
+use Rattle.std.proofs.Common.{◌≡◌, ℕ, List, length}
 use Rattle.std.specs.Io.KnownBytes.{Consumes}
 use Rattle.json_rpc.specs.Outgoing.{nothing}
 use Rattle.tera_program.specs.declared.server.TheConstants.{LONGEST, PIECE}
-use Rattle.tera_program.specs.Serving.{IsWaiting}
+use Rattle.tera_program.proofs.ServingLemmas.{IsReading}
 use Rattle.tera_program.proofs.server.serve.Given as goal
 
 abbrev pub invariant-pieces : goal.invariant-pieces
 invariant-pieces g l = record {
   limit : l.frames.limit ≡ LONGEST;
-  talked : (bytes : List ℕ) × Consumes (g.R.Read.remaining l.fn.reader) (g.R.Read.remaining l.reader) bytes
-      × IsWaiting LONGEST None l.initial.server l.server bytes l.frames (g.W.Write.contents l.fn.writer) (g.W.Write.contents l.writer);
+  read : (bytes : List ℕ) × Consumes (g.R.Read.remaining l.fn.reader) (g.R.Read.remaining l.reader) bytes
+      × IsReading LONGEST l.short l.initial.server l.server bytes l.frames (g.W.Write.contents l.fn.writer) (g.W.Write.contents l.writer);
   sent : l.out ≡ nothing;
   room : length l.piece.items ≡ PIECE;
 }

@@ -1,4 +1,4 @@
 use Rattle.tera_program.proofs.server.settle.Goals as goal
 
 pub returns-clause-settles : goal.returns-clause-settles
-returns-clause-settles g c = (c.publish.new.out, c.publish.ensures, c.in_ok-send.ensures.written)
+returns-clause-settles g c = (c.publish-all.new.out, c.publish-all.ensures.settles, c.in_ok-send.ensures.written)
