@@ -52,10 +52,6 @@ all_more : (file : List ℕ) (fs : List faults.Fault) (f : faults.Fault) → All
 all_more file [] f all named = (named, tt)
 all_more file (g ∷ gs) f all named = (all.0, all_more file gs f all.1 named)
 
--- no faults lead to the source
-pub starts : (file source : List ℕ) → LeadsTo file source [] source
-starts file source = record { mends = (tt, refl); notes = tt }
-
 mapped : (fs gs : List faults.Fault) (f : faults.Fault) → gs ≡ fs ++ f ∷ [] → map step_of gs ≡ map step_of fs ++ step_of f ∷ []
 mapped fs gs f is = ap (map step_of) is ∙ map-append step_of fs (f ∷ [])
 

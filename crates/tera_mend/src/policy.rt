@@ -1,121 +1,107 @@
-//! What is written for a fault.
+//! What is written for a fault. Any answer is right: where it is not in its place, a cruder one is taken.
 //!
-//! No clause speaks of it: any answer is right. An answer that is not in its place, leaves no text or changes nothing is
-//! not taken, and blanks are written over all.
+//! In the order of reading: `words`, what tags are for; `tags`, those of a text; `pairs`, which ends belong to which
+//! heads; `stand_ins`, what is written in the place of a tag; `faults`, a function for each kind of fault.
 
-use crate::edits::{Edit, blanked, blanks};
+mod faults;
+mod pairs;
+mod stand_ins;
+mod tags;
+mod words;
+
+use crate::edits::Edit;
 use crate::lone::LoneTag;
+use crate::policy::faults::Scene;
+use crate::policy::stand_ins::{comment, stand_in};
+use crate::policy::tags::tags_of;
 use std::alloc::{AllocError, Global};
+use std::ops::Range;
 use tera_parser::value::{Error, ErrorKind};
 
-/// What is written into a text for its fault: a comment over the tag of the fault.
+/// What is to be written into a text for its fault.
 pub(crate) fn choice_of(alloc: Global, text: &str, error: &Error) -> Result<Vec<Edit>, AllocError> {
     let bytes = text.as_bytes();
-    let at = start_of_fault(error);
-    let start = start_before(bytes, at);
-    let end = end_after(bytes, at);
-    let mut edits = Vec::new(alloc);
-    if let Some((_, rest)) = bytes.split_at_checked(start) {
-        if let Some((tag, _)) = rest.split_at_checked(end.saturating_sub(start)) {
-            edits.push(Edit {
-                at: start,
-                bytes: commented(alloc, tag)?,
-            })?;
-        }
+    let (message, at) = report_of(error);
+    let edits = Scene::of(alloc, bytes, at.start)?.choice(message, &at)?;
+    if edits.iter().any(|edit| changes(bytes, edit)) {
+        return Ok(edits);
     }
-    Ok(edits)
+    from_there(alloc, bytes, at.start)
 }
 
-fn start_of_fault(error: &Error) -> usize {
+// The message of a fault, and the bytes of its place.
+fn report_of(error: &Error) -> (&str, Range<usize>) {
     match &error.kind {
-        ErrorKind::SyntaxError(report) => report.span.range.start,
-        _ => 0,
+        ErrorKind::SyntaxError(report) => {
+            let range = &report.span.range;
+            (report.message.as_str(), range.start..range.end)
+        }
+        _ => ("", 0..0),
     }
 }
 
-// The last start of a tag up to there.
-fn start_before(bytes: &[u8], at: usize) -> usize {
-    let mut start = at;
-    for (i, pair) in bytes.windows(2).enumerate() {
-        if i > at {
-            break;
-        }
-        if let [b'{', b'{' | b'%' | b'#'] = pair {
-            start = i;
-        }
+fn changes(text: &[u8], edit: &Edit) -> bool {
+    match text.split_at_checked(edit.at) {
+        Some((_, after)) => !after.starts_with(edit.bytes.as_slice()),
+        None => false,
     }
-    start
 }
 
-// After the next end of a tag.
-fn end_after(bytes: &[u8], at: usize) -> usize {
-    for (i, pair) in bytes.windows(2).enumerate() {
-        if i >= at {
-            if let [b'}' | b'%' | b'#', b'}'] = pair {
-                return i.saturating_add(2);
-            }
-        }
+// A comment of all from this byte on.
+fn from_there(alloc: Global, text: &[u8], start: usize) -> Result<Vec<Edit>, AllocError> {
+    match text.split_at_checked(start) {
+        Some((_, after)) => Ok(vec![in alloc; comment(alloc, start, after)?]?),
+        None => Ok(Vec::new(alloc)),
     }
-    bytes.len()
 }
 
-/// The tags that are read alone in a text in which the choice for its first fault is written: the variable tags after the
-/// fault.
+/// The tags of a text that may be read alone, after the fault for which it was changed.
 pub(crate) fn lone_tags(
     alloc: Global,
     text: &str,
     error: &Error,
 ) -> Result<Vec<LoneTag>, AllocError> {
-    let from = start_of_fault(error);
-    let mut tags = Vec::new(alloc);
-    let mut open = None;
-    for (i, pair) in text.as_bytes().windows(2).enumerate() {
-        match pair {
-            [b'{', b'{'] => {
-                if i >= from {
-                    open = Some(i);
-                }
-            }
-            [b'{' | b'}', b'%' | b'#'] | [b'%' | b'#', b'}'] => open = None,
-            [b'}', b'}'] => {
-                if let Some(start) = open {
-                    tags.push(LoneTag {
-                        start,
-                        end: i.saturating_add(2),
-                        closing: "",
-                    })?;
-                }
-                open = None;
-            }
-            _ => {}
-        }
-    }
-    Ok(tags)
+    let start = report_of(error).1.start;
+    Scene::of(alloc, text.as_bytes(), start)?.lone_tags(start)
 }
 
-/// What is written over a tag for its fault, where it was read alone, with this after it: a comment.
+/// What is written over a tag with a fault that was read alone, with `closing` after it.
 pub(crate) fn lone_choice_of(
     alloc: Global,
     tag: &str,
-    _closing: &str,
+    closing: &str,
     _error: &Error,
 ) -> Result<Vec<u8>, AllocError> {
-    commented(alloc, tag.as_bytes())
-}
-
-// A comment of as many bytes, in which line feeds and bytes that are not ASCII stay.
-fn commented(alloc: Global, tag: &[u8]) -> Result<Vec<u8>, AllocError> {
-    let [_, _, inside @ .., _, _] = tag else {
-        return blanks(alloc, tag);
+    let whole = tag.as_bytes();
+    let tags = tags_of(alloc, whole, whole.len())?;
+    let edit = match tags.all.as_slice().first() {
+        Some(head) if !closing.is_empty() => stand_in(alloc, head, head.role)?,
+        _ => Some(comment(alloc, 0, whole)?),
     };
-    let mut bytes = Vec::from_slice(alloc, b"{#")?;
-    bytes.extend_from_slice(blanks(alloc, inside)?.as_slice())?;
-    bytes.extend_from_slice(b"#}")?;
+    let mut bytes = Vec::new(alloc);
+    if let Some(edit) = edit
+        && let Some((before, _)) = whole.split_at_checked(edit.at)
+    {
+        bytes.extend_from_slice(before)?;
+        bytes.extend_from_slice(edit.bytes.as_slice())?;
+    }
+    if let Some((_, after)) = whole.split_at_checked(bytes.len()) {
+        bytes.extend_from_slice(after)?;
+    }
     Ok(bytes)
 }
 
-/// What is written into a text where no more faults are sought, though it has this one, so that the rest of it has a tree:
-/// blanks over all.
-pub(crate) fn rest_of(alloc: Global, text: &str, _error: &Error) -> Result<Vec<Edit>, AllocError> {
-    blanked(alloc, text)
+/// What is to be written where no more faults are sought, though the text has this one: a comment of all from its tag
+/// on, and after it the ends of what is open there.
+pub(crate) fn rest_of(alloc: Global, text: &str, error: &Error) -> Result<Vec<Edit>, AllocError> {
+    let (bytes, at) = (text.as_bytes(), report_of(error).1);
+    let start = Scene::of(alloc, bytes, at.start)?.start(&at);
+    let mut edits = from_there(alloc, bytes, start)?;
+    if let Some((before, _)) = bytes.split_at_checked(start) {
+        edits.push(Edit {
+            at: bytes.len(),
+            bytes: Scene::of(alloc, before, start)?.ends()?,
+        })?;
+    }
+    Ok(edits)
 }

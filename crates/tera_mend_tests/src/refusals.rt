@@ -5,8 +5,14 @@ use scarce_memory::{Attempt, Seen, Verdict, refuse};
 use std::alloc::{AllocError, Global};
 use std::test::Fail;
 
-// One without a fault, one with a fault of the whole, and one with faults of tags that are read alone.
-const SOURCES: [&str; 3] = ["{{ a }}", "{{ a }}{% endif %}", "{{ a b }}{{ c d }}"];
+// One without a fault, one with a fault of the whole, one with faults of tags that are read alone, and one with a word
+// that is near a known one and a head without an end.
+const SOURCES: [&str; 4] = [
+    "{{ a }}",
+    "{{ a }}{% endif %}",
+    "{{ a b }}{{ c d }}",
+    "{% iff a %}b{% endif %}{% if c %}",
+];
 
 // A source, and what is answered with ample memory.
 #[derive(Drop)]
