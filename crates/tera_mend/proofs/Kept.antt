@@ -6,7 +6,7 @@ use Rattle.tera_mend.specs.Mending.{EditVal, Edits, Goes, Mends, Puts, Step}
 use Rattle.tera_mend.specs.Places.{AreInPlace, Keeps}
 use Rattle.tera_mend.proofs.InPlace.{itself, joined, through}
 
-all_kept : (old new : List ℕ) → AreInPlace old new → Keeps old new
+pub all_kept : (old new : List ℕ) → AreInPlace old new → Keeps old new
 all_kept old new are = (new, [], sym (append-nil new), are)
 
 -- what is in the place of two texts is two
@@ -17,7 +17,7 @@ parted (b ∷ bs) other (c ∷ cs) are =
     let (front, after, is, here) = parted bs other cs are.1 in
     (c ∷ front, after, ap (λ cs. c ∷ cs) is, (are.0, here))
 
-then : (old mid new : List ℕ) → Keeps old mid → Keeps mid new → Keeps old new
+pub then : (old mid new : List ℕ) → Keeps old mid → Keeps mid new → Keeps old new
 then old mid new (front, after, is, are) (all, rest, was, more) =
     let (ahead, left, parts, here) = parted front after all (subst (λ t. AreInPlace t all) is more) in
     (ahead, left ++ rest, was ∙ ap (λ t. t ++ rest) parts ∙ append_assoc ahead left rest, through old front ahead are here)
@@ -32,7 +32,7 @@ put_keeps e old new put =
     (put.before, e.bytes ++ put.after, put.is_new, subst (λ t. AreInPlace t put.before) (sym is) (itself put.before)))
     put.in_place
 
-edits_keep : (es : List EditVal) (old new : List ℕ) → Edits es old new → Keeps old new
+pub edits_keep : (es : List EditVal) (old new : List ℕ) → Edits es old new → Keeps old new
 edits_keep [] old new is = subst (Keeps old) is (all_kept old old (itself old))
 edits_keep (e ∷ es) old new (next, put, rest) = then old next new (put_keeps e old next put) (edits_keep es next new rest)
 

@@ -193,15 +193,13 @@ fn second_name<'t>(rest: &'t [u8], first: &[u8]) -> Option<&'t [u8]> {
     rest.strip_suffix(after)
 }
 
-// A component of this name that takes whatever it is given.
+// A component of this name that takes whatever it is given. None where there is no room: one that takes nothing would make
+// calls of it wrong.
 fn component_of_anything(alloc: Global, tag: &Tag<'_>) -> Result<Option<Edit>, AllocError> {
     let Some(name) = spaced_name(tag.rest, true) else {
         return Ok(None);
     };
-    match put(alloc, tag, b"component", name, b"(...r)")? {
-        Some(edit) => Ok(Some(edit)),
-        None => put(alloc, tag, b"component", name, b"()"),
-    }
+    put(alloc, tag, b"component", name, b"(...r)")
 }
 
 /// The tag with another word and the rest as it is; none where there is no room. Where its word begins with that one,
