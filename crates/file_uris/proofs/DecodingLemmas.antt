@@ -1,5 +1,5 @@
 -- How bytes are decoded from the front, and what is encoded.
-use Rattle.std.proofs.Common.{◌≡◌, ◌∙◌, ◌==◌, ◌<◌, ◌≤◌, ◌+◌, ◌*◌, ◌/◌, ◌%◌, ◌++◌, inl, inr, if◌then◌else◌, nat_lt, ℕ, Bool, true, false, List, [], ◌∷◌, codes, length, drop, get_or, refl, sym, ap, subst, arith}
+use Rattle.std.proofs.Common.{◌≡◌, ◌≢◌, ◌∙◌, ◌==◌, ◌<◌, ◌≤◌, ◌+◌, ◌*◌, ◌/◌, ◌%◌, ◌++◌, inl, inr, if◌then◌else◌, nat_lt, ℕ, Bool, true, false, List, [], ◌∷◌, codes, length, drop, get_or, refl, sym, ap, subst, arith}
 use Rattle.std.proofs.lemmas.Bool.{false≢true}
 use Rattle.std.proofs.lemmas.Bool.Decides.{nat_tests}
 use Rattle.std.proofs.lemmas.List.{append-nil, append_cancel_left}
@@ -7,7 +7,7 @@ use Rattle.std.proofs.lemmas.Nat.{div-add-mod'}
 use Rattle.std.specs.List.{AllByRecursion}
 use Rattle.std.specs.Str.{IsUtf8}
 use Rattle.file_uris.specs.Decoding.{decoded, are_slashes, begins_doubled, single_slashed, is_digit, is_encoded, value_of}
-use Rattle.file_uris.specs.Encoding.{stands, hex_digit, encoded, encoded_path}
+use Rattle.file_uris.specs.Encoding.{stands, hex_digit, encoded, encoded_path, reference}
 use Rattle.file_uris.specs.Names.{scheme, is_rooted, uri_of, IsHere, IsOfFile, IsNameOf}
 
 pub encoded_first : (a b c : ℕ) (rest : List ℕ) → is_encoded a b c ≡ true → decoded (a ∷ b ∷ c ∷ rest) ≡ (value_of b * 16 + value_of c) ∷ decoded rest
@@ -180,3 +180,64 @@ path_here rest path rooted w =
     let same : w.rest ≡ rest =
     same_rest w.host w.rest (codes "localhost") rest w.here (inr refl) (append_cancel_left scheme (w.host ++ w.rest) (codes "localhost" ++ rest) (sym w.file)) w.rooted rooted in
     record { host = []; rest = rest; file = refl; here = inl refl; path_is = w.path_is ∙ ap path_in same; rooted = rooted; text = w.text }
+
+-- ---- references
+
+head_by : (b : Bool) (c d : ℕ) (ds : List ℕ) → are_slashes c d ≡ b → get_or (single_slashed (d ∷ ds)) 0 0 ≡ d
+    → get_or (if b then single_slashed (d ∷ ds) else c ∷ single_slashed (d ∷ ds)) 0 0 ≡ c
+head_by true c d ds e head = grind (arith, nat_tests)
+head_by false c d ds e head = refl
+
+head_single : (c : ℕ) (cs : List ℕ) → get_or (single_slashed (c ∷ cs)) 0 0 ≡ c
+unfolding single_slashed
+head_single c [] = refl
+head_single c (d ∷ ds) = head_by (are_slashes c d) c d ds refl (head_single d ds)
+
+start_by : (b : Bool) (c d : ℕ) (ds rest : List ℕ) → are_slashes c d ≡ b → single_slashed (d ∷ ds) ≢ 47 ∷ 47 ∷ rest
+    → (if b then single_slashed (d ∷ ds) else c ∷ single_slashed (d ∷ ds)) ≢ 47 ∷ 47 ∷ rest
+start_by true c d ds rest e none is = none is
+start_by false c d ds rest e none is =
+    let first : c ≡ 47 = ap (λ l. get_or l 0 0) is in
+    let second : d ≡ 47 = sym (head_single d ds) ∙ ap (λ l. get_or l 1 0) is in
+    let both : are_slashes c d ≡ true = rw (first, second) refl in
+    absurd (false≢true (sym e ∙ both))
+
+-- with one slash in the place of several no path begins with two
+single_start : (path rest : List ℕ) → single_slashed path ≢ 47 ∷ 47 ∷ rest
+unfolding single_slashed
+single_start [] rest is = absurd (omega (arith, ap length is))
+single_start (c ∷ []) rest is = absurd (omega (arith, ap length is))
+single_start (c ∷ d ∷ ds) rest is = start_by (are_slashes c d) c d ds rest refl (single_start (d ∷ ds) rest) is
+
+slash_first : (b : ℕ) (plain : Bool) (more rest : List ℕ) → (if plain then b ∷ [] else encoded b) ++ more ≡ 47 ∷ rest
+    → (b ≡ 47) × (more ≡ rest)
+slash_first b true more rest is = (ap (λ l. get_or l 0 0) is, ap (drop 1) is)
+slash_first b false more rest is = absurd (omega (arith, ap (λ l. get_or l 0 0) is))
+
+slashes_first : (path rest : List ℕ) → encoded_path path ≡ 47 ∷ 47 ∷ rest → (more : List ℕ) × (path ≡ 47 ∷ 47 ∷ more)
+slashes_first [] rest is = absurd (omega (arith, ap length is))
+slashes_first (b ∷ []) rest is =
+    let one = slash_first b (stands b) [] (47 ∷ rest) is in
+    absurd (omega (arith, ap length one.1))
+slashes_first (b ∷ c ∷ cs) rest is =
+    let one = slash_first b (stands b) (encoded_path (c ∷ cs)) (47 ∷ rest) is in
+    let two = slash_first c (stands c) (encoded_path cs) rest one.1 in
+    (cs, rw (one.0, two.0) refl)
+
+pub names_no_host : (path rest : List ℕ) → reference path ≢ codes "//" ++ rest
+names_no_host path rest is =
+    let slashes = slashes_first (single_slashed path) rest is in
+    single_start path slashes.0 slashes.1
+
+fits_by : (b : Bool) (c : ℕ) (single : List ℕ) → c < 256 → AllByRecursion (λ b. b < 256) single
+    → AllByRecursion (λ b. b < 256) (if b then single else c ∷ single)
+fits_by true c single here fits = fits
+fits_by false c single here fits = (here, fits)
+
+single_fits : (path : List ℕ) → AllByRecursion (λ b. b < 256) path → AllByRecursion (λ b. b < 256) (single_slashed path)
+unfolding single_slashed
+single_fits [] fits = tt
+single_fits (c ∷ cs) fits = fits_by (begins_doubled (c ∷ cs)) c (single_slashed cs) fits.0 (single_fits cs fits.1)
+
+pub reference_leads_to : (path : List ℕ) → AllByRecursion (λ b. b < 256) path → decoded (reference path) ≡ single_slashed path
+reference_leads_to path fits = encoded_decoded (single_slashed path) (single_fits path fits)

@@ -1,6 +1,7 @@
 -- The bytes of a path as they stand in a URI.
 use Rattle.std.specs.Prelude.{◌+◌, ◌/◌, ◌%◌, ◌==◌, ◌||◌, ◌&&◌, ◌++◌, nat_le, nat_lt, if◌then◌else◌, ℕ, Bool, List, [], ◌∷◌, codes}
 use Rattle.std.specs.List.{flat_map}
+use Rattle.file_uris.specs.Decoding.{single_slashed}
 
 -- what stands for itself in a path: letters, digits, `-`, `.`, `/`, `_` and `~`
 abbrev pub stands : ℕ → Bool
@@ -21,3 +22,7 @@ encoded_byte b = if stands b then b ∷ [] else encoded b
 
 abbrev pub encoded_path : List ℕ → List ℕ
 encoded_path path = flat_map encoded_byte path
+
+-- a path as a reference: after two slashes at its start a reader would look for a host
+abbrev pub reference : List ℕ → List ℕ
+reference path = encoded_path (single_slashed path)

@@ -1,17 +1,19 @@
 //! Bytes of paths as they stand in URIs.
 
 ghost use Rattle.std.specs.Prelude.{◌≡◌, ◌<◌, ◌++◌, [], ◌∷◌, true, string_bytes, IfOk, OnOk};
-ghost use Rattle.file_uris.specs.Encoding.{stands, hex_digit, encoded, encoded_byte, encoded_path};
+ghost use Rattle.file_uris.specs.Encoding.{stands, hex_digit, encoded, encoded_byte, encoded_path, reference};
 
+use crate::decoding::single_slashed_of;
 use std::alloc::{AllocError, Global};
 
-/// The path as a relative reference: what is no letter, digit or mark that stands for itself is written by its bytes, as
-/// `%20`.
+/// The path as a reference that names no host: with one slash in the place of several, and what is no letter, digit or mark
+/// that stands for itself is written by its bytes, as `%20`.
 pub fn reference_of(alloc: Global, path: &str) -> Result<String, AllocError>
-    ensures { IfOk result (λ t. string_bytes t ≡ encoded_path path.now) }
+    ensures { IfOk result (λ t. string_bytes t ≡ reference path.now) }
 {
+    let path = single_slashed_of(alloc, path.as_bytes())?;
     let mut uri = String::new(alloc);
-    push_path(&mut uri, path)?;
+    push_bytes(&mut uri, path.as_slice())?;
     Ok(uri)
 }
 
@@ -19,7 +21,13 @@ pub fn reference_of(alloc: Global, path: &str) -> Result<String, AllocError>
 pub fn push_path(uri: &mut String, path: &str) -> Result<(), AllocError>
     ensures { OnOk result (string_bytes uri.new ≡ string_bytes uri.old ++ encoded_path path.now) }
 {
-    for byte in path.as_bytes() {
+    push_bytes(uri, path.as_bytes())
+}
+
+fn push_bytes(uri: &mut String, path: &[u8]) -> Result<(), AllocError>
+    ensures { OnOk result (string_bytes uri.new ≡ string_bytes uri.old ++ encoded_path path.now) }
+{
+    for byte in path {
         push_byte(uri, *byte)?;
     }
     Ok(())

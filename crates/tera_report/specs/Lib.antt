@@ -1,3 +1,4 @@
 pub mod Annotations
 pub mod Logs
 pub mod Told
+pub mod Unread

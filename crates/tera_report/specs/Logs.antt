@@ -1,7 +1,7 @@
 -- Logs in SARIF 2.1.0, as tokens of JSON.
 use Rattle.std.specs.Prelude.{ℕ, List, [], ◌∷◌, ◌++◌, codes}
 use Rattle.std.specs.List.{flat_map}
-use Rattle.file_uris.specs.Encoding.{encoded_path}
+use Rattle.file_uris.specs.Encoding.{reference}
 use Rattle.json.specs.Token.{Token, begin_object, end_object, begin_array, end_array, key}
 use Rattle.tera_base.specs.declared.utils.Span.{Span}
 use Rattle.tera_check.specs.Findings.{NoteVal, NoteOf, FindingVal, FindingOf, kind_name, all_kinds, severity_of, severity_name}
@@ -43,7 +43,7 @@ artifact uri = object_member (codes "artifactLocation") (text_member (codes "uri
 
 -- a span of a file
 abbrev pub place : List ℕ → Span → List Token
-place file s = object_begin (codes "physicalLocation") ++ (artifact (encoded_path file) ++ (region s ++ (end_object ∷ [])))
+place file s = object_begin (codes "physicalLocation") ++ (artifact (reference file) ++ (region s ++ (end_object ∷ [])))
 
 abbrev pub message : List ℕ → List Token
 message text = object_member (codes "message") (text_member (codes "text") text)
@@ -81,8 +81,15 @@ result_object file finding = object (members file finding)
 abbrev pub rule : Kind → List Token
 rule kind = object (kind_member (codes "id") kind)
 
+-- .. and of a file that could not be read
+abbrev pub unread_rule : List Token
+unread_rule = object (text_member (codes "id") (codes "unread"))
+
+abbrev pub all_rules : List Token
+all_rules = flat_map rule all_kinds ++ unread_rule
+
 abbrev pub rules : List Token
-rules = array_member (codes "rules") (flat_map rule all_kinds)
+rules = array_member (codes "rules") all_rules
 
 -- what finds: the program, with the kinds of what it finds
 abbrev pub names : List ℕ → List Token

@@ -36,7 +36,7 @@ pub fn push_annotation(
 }
 
 // The command up to the file.
-fn command(severity: Severity) -> &'static str
+pub(crate) fn command(severity: Severity) -> &'static str
     ensures { result.now ≡ command_of severity }
 {
     match severity {
@@ -61,7 +61,7 @@ pub(crate) fn column(col: usize) -> usize
 }
 
 // Adds the message on one line, escaped as a command has it.
-fn push_message(alloc: Global, to: &mut String, message: &str) -> Result<(), AllocError>
+pub(crate) fn push_message(alloc: Global, to: &mut String, message: &str) -> Result<(), AllocError>
     ensures { OnOk result (string_bytes to.new
         ≡ string_bytes to.old ++ escaped (on_one_line message.now)) }
 {
@@ -91,7 +91,7 @@ fn push_character(to: &mut String, character: char) -> Result<(), AllocError>
     }
 }
 
-fn push_property(to: &mut String, text: &str) -> Result<(), AllocError>
+pub(crate) fn push_property(to: &mut String, text: &str) -> Result<(), AllocError>
     ensures { OnOk result (string_bytes to.new ≡ string_bytes to.old ++ property text.now) }
 {
     'characters: for character in text.chars() {

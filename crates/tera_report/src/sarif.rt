@@ -2,10 +2,10 @@
 
 ghost use Rattle.std.specs.Prelude.{◌≡◌, ◌++◌, map, OnOk};
 ghost use Rattle.std.specs.List.{flat_map};
-ghost use Rattle.file_uris.specs.Encoding.{encoded_path};
+ghost use Rattle.file_uris.specs.Encoding.{reference};
 ghost use Rattle.tera_check.specs.Findings.{finding_view, note_view};
 ghost use Rattle.tera_check.specs.Objects.{text_member, number_member};
-ghost use Rattle.tera_report.specs.Logs.{object_begin, array_begin, corner, region, artifact, place, message, object, locations, note_members, note_object, notes_member, kind_member, head, members, result_object, rule, rules, names, driver, tool, form, run_begin, log_begin, log_end};
+ghost use Rattle.tera_report.specs.Logs.{object_begin, array_begin, corner, region, artifact, place, message, object, locations, note_members, note_object, notes_member, kind_member, head, members, result_object, rule, rules, unread_rule, all_rules, names, driver, tool, form, run_begin, log_begin, log_end};
 
 use crate::github::column;
 use file_uris::reference_of;
@@ -112,8 +112,26 @@ fn put_rules(out: &mut Writer) -> Result<(), AllocError>
     ensures before { out.new.before ≡ out.old.before }
 {
     begin_array(out, "rules")?;
-    put_kinds(out, &KINDS)?;
+    put_all_rules(out)?;
     out.end_array()
+}
+
+fn put_all_rules(out: &mut Writer) -> Result<(), AllocError>
+    ensures tokens { OnOk result (out.new.tokens ≡ out.old.tokens ++ all_rules) }
+    ensures before { out.new.before ≡ out.old.before }
+{
+    put_kinds(out, &KINDS)?;
+    put_unread_rule(out)
+}
+
+// The rule of files that could not be read.
+fn put_unread_rule(out: &mut Writer) -> Result<(), AllocError>
+    ensures tokens { OnOk result (out.new.tokens ≡ out.old.tokens ++ unread_rule) }
+    ensures before { out.new.before ≡ out.old.before }
+{
+    out.begin_object()?;
+    put_text(out, "id", "unread")?;
+    out.end_object()
 }
 
 fn put_kinds(out: &mut Writer, kinds: &[Kind]) -> Result<(), AllocError>
@@ -159,7 +177,12 @@ fn put_head(out: &mut Writer, kind: Kind, text: &str) -> Result<(), AllocError>
     put_message(out, text)
 }
 
-fn put_locations(alloc: Global, out: &mut Writer, file: &str, span: &Span) -> Result<(), AllocError>
+pub(crate) fn put_locations(
+    alloc: Global,
+    out: &mut Writer,
+    file: &str,
+    span: &Span,
+) -> Result<(), AllocError>
     ensures tokens { OnOk result (out.new.tokens ≡ out.old.tokens ++ locations file.now span.now) }
     ensures before { out.new.before ≡ out.old.before }
 {
@@ -234,7 +257,7 @@ fn put_place(alloc: Global, out: &mut Writer, file: &str, span: &Span) -> Result
 
 fn put_file(alloc: Global, out: &mut Writer, file: &str) -> Result<(), AllocError>
     ensures tokens { OnOk result (out.new.tokens
-        ≡ out.old.tokens ++ artifact (encoded_path file.now)) }
+        ≡ out.old.tokens ++ artifact (reference file.now)) }
     ensures before { out.new.before ≡ out.old.before }
 {
     let uri = reference_of(alloc, file)?;
@@ -284,7 +307,7 @@ fn put_corner(
     put_number(out, column_name, column(col))
 }
 
-fn put_message(out: &mut Writer, text: &str) -> Result<(), AllocError>
+pub(crate) fn put_message(out: &mut Writer, text: &str) -> Result<(), AllocError>
     ensures tokens { OnOk result (out.new.tokens ≡ out.old.tokens ++ message text.now) }
     ensures before { out.new.before ≡ out.old.before }
 {
@@ -318,7 +341,7 @@ fn begin_array(out: &mut Writer, name: &str) -> Result<(), AllocError>
     out.begin_array()
 }
 
-fn put_text(out: &mut Writer, name: &str, text: &str) -> Result<(), AllocError>
+pub(crate) fn put_text(out: &mut Writer, name: &str, text: &str) -> Result<(), AllocError>
     ensures tokens { OnOk result (out.new.tokens
         ≡ out.old.tokens ++ text_member name.now text.now) }
     ensures before { out.new.before ≡ out.old.before }

@@ -1,0 +1,29 @@
+-- A file that could not be read, in the forms that other programs read.
+use Rattle.std.specs.Prelude.{List, ℕ, [], ◌∷◌, ◌++◌, codes}
+use Rattle.json.specs.Token.{Token, begin_object, end_object}
+use Rattle.line_text.specs.Line.{on_one_line}
+use Rattle.tera_check.specs.Findings.{first_span, place_of, severity_name}
+use Rattle.tera_check.specs.Objects.{text_member, members, notes_member}
+use Rattle.tera_check.specs.declared.finding.Severity.TheVariants.{Error}
+use Rattle.tera_report.specs.Annotations.{command_of, escaped, property}
+use Rattle.tera_report.specs.Logs.{locations, message, object}
+
+-- a line of JSON, with the members of a finding at the start of the file
+unfoldable pub unread_object : List ℕ → List ℕ → List Token
+unread_object file why =
+    (begin_object ∷ [])
+    ++ (members file (place_of first_span) why
+    ++ (text_member (codes "severity") (severity_name Error) ++ (notes_member [] ++ (end_object ∷ []))))
+
+-- a workflow command, whose title is the word for it
+abbrev pub unread_annotation : List ℕ → List ℕ → List ℕ
+unread_annotation file why =
+    command_of Error ++ (property file ++ (codes ",title=unread::" ++ (escaped (on_one_line why) ++ codes "\n")))
+
+-- a result of a log, whose rule is that word, at the start of the file
+abbrev pub unread_head : List ℕ → List Token
+unread_head why =
+    text_member (codes "ruleId") (codes "unread") ++ (text_member (codes "level") (severity_name Error) ++ message why)
+
+unfoldable pub unread_result : List ℕ → List ℕ → List Token
+unread_result file why = object (unread_head why ++ locations file first_span)
