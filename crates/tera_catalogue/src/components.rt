@@ -14,7 +14,7 @@ use crate::offers::offered;
 use std::alloc::{AllocError, Global};
 use std::cmp::Ordering;
 use std::collections::BTreeMap;
-use tera_check::{Known, Place, Template, known_at};
+use tera_check::{Known, Place, Template, known_at, tree_of};
 use tera_parser::ParserOutput;
 use tera_parser::ast::{ComponentDefinition, ComponentInfo};
 use tera_parser::value::Span;
@@ -137,9 +137,9 @@ fn push_defined<'a>(
     ensures { OnOk result (map known_view known.new.items
         ≡ map known_view known.old.items ++ defined_in number template.now) }
 {
-    match &template.parsed {
-        Ok(output) => push_all(known, number, template, output),
-        Err(_) => Ok(()),
+    match tree_of(template) {
+        Some(output) => push_all(known, number, template, output),
+        None => Ok(()),
     }
 }
 

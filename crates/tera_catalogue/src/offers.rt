@@ -75,7 +75,7 @@ fn constant_of(typ: Option<ComponentArgType>) -> &'static str
 fn is_template(alloc: Global, text: &str) -> Result<bool, AllocError>
     ensures { IfOk result (λ b. OnTrue b (IsTemplateText text.now)) }
 {
-    let template = read_template(alloc, "", text)?;
+    let template = read_template(alloc, "", text, 0)?;
     is_accepted(&template)
 }
 

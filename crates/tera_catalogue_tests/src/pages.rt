@@ -45,7 +45,7 @@ const SECTIONS: &str = r#"
 
 fn page_of(alloc: Global, source: &str) -> Result<Vec<u8>, AllocError> {
     let mut templates = Vec::new(alloc);
-    templates.push(read_template(alloc, "a&b.html", source)?)?;
+    templates.push(read_template(alloc, "a&b.html", source, 0)?)?;
     let components = components_of(alloc, &templates)?;
     html_of(alloc, components.as_slice())
 }

@@ -1,5 +1,5 @@
 -- What is found of calls, one by one.
-use Rattle.std.proofs.Common.{◌≡◌, ◌∙◌, ℕ, List, [], ◌∷◌, ◌++◌, Bool, true, false, cond, Option, None, Some, String, string_bytes, Global, Bor, map, refl, sym, ap, subst, append_assoc, append-nil, nat_cmp}
+use Rattle.std.proofs.Common.{◌≡◌, ◌∙◌, ℕ, List, [], ◌∷◌, ◌++◌, Bool, true, false, cond, Option, None, Some, String, string_bytes, Global, Bor, map, refl, sym, ap, append_assoc, append-nil, nat_cmp}
 use Rattle.std.specs.BTreeMap.{is_at}
 use Rattle.std.specs.BTreeSet.{contains_text}
 use Rattle.std.specs.Cmp.Lexicographic.{slice_cmp}
@@ -8,8 +8,6 @@ use Rattle.std.specs.Option.{option_map, option_copied}
 use Rattle.std.specs.Ordering.{is_eq}
 use Rattle.std.proofs.Common.{if◌then◌else◌}
 use Rattle.std.proofs.lemmas.List.{map-append}
-use Rattle.std.proofs.lemmas.List.Sorted.{IsPermutation-map}
-use Rattle.std.specs.List.Sorted.{IsPermutation}
 use Rattle.std.proofs.lemmas.Map.Text.{is_eq-slice_cmp}
 use Rattle.tera_base.specs.Contexts.{found}
 use Rattle.tera_base.specs.Spanned.{node_of, span_of}
@@ -141,12 +139,9 @@ judged_call file known s = rw (call_out (node_of s) (span_of s)) refl
 
 -- ---- a template
 
-pub all_found_in : (start mid more end sorted : List Finding) (before between calls : List FindingVal)
+pub all_found_in : (start mid more end : List Finding) (before between calls : List FindingVal)
     → start ≡ [] → map finding_view mid ≡ map finding_view start ++ before → map finding_view more ≡ map finding_view mid ++ between
-    → map finding_view end ≡ map finding_view more ++ calls → IsPermutation end sorted
-    → IsPermutation (before ++ (between ++ calls)) (map finding_view sorted)
-all_found_in start mid more end sorted before between calls none first second third same =
-    subst (λ fs. IsPermutation fs (map finding_view sorted))
-    (third ∙ ap (λ fs. fs ++ calls) (second ∙ ap (λ fs. fs ++ between) (first ∙ ap (λ fs. map finding_view fs ++ before) none))
-    ∙ append_assoc before between calls)
-    (IsPermutation-map finding_view end sorted same)
+    → map finding_view end ≡ map finding_view more ++ calls → map finding_view end ≡ before ++ (between ++ calls)
+all_found_in start mid more end before between calls none first second third =
+    third ∙ ap (λ fs. fs ++ calls) (second ∙ ap (λ fs. fs ++ between) (first ∙ ap (λ fs. map finding_view fs ++ before) none))
+    ∙ append_assoc before between calls

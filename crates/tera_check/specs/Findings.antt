@@ -1,7 +1,8 @@
 -- Findings, and the lines that are written of them.
-use Rattle.std.specs.Prelude.{Option, None, Some, ◌≡◌, ◌+◌, ◌-◌, ◌^◌, ℕ, List, [], ◌∷◌, ◌++◌, map, codes, string_bytes, min}
+use Rattle.std.specs.Prelude.{Option, None, Some, if◌then◌else◌, ◌≡◌, ◌+◌, ◌-◌, ◌^◌, ℕ, List, [], ◌∷◌, ◌++◌, map, codes, string_bytes, min}
 use Rattle.std.specs.Fmt.{decimal}
 use Rattle.std.specs.List.{flat_map}
+use Rattle.std.specs.Str.{bytes_eq}
 use Rattle.line_text.specs.Line.{on_one_line}
 use Rattle.tera_base.specs.ErrorView.{ErrorVal, NoMemory, Saying, Reporting, ReportVal, ReportOf}
 use Rattle.tera_base.specs.ErrorView as errors
@@ -68,18 +69,31 @@ note_view n = NoteOf (string_bytes n.file) n.span (string_bytes n.message)
 abbrev pub finding_view : Finding → FindingVal
 finding_view f = FindingOf f.kind f.span (string_bytes f.message) (map note_view f.notes.items)
 
--- what is found of a note of a fault, and of a fault
+-- a hint for a fault whose text alone does not say what a user can do about it, or that a limit of this parser is met
+abbrev pub float_hint : List ℕ
+float_hint = codes "Tera reads floating-point numbers, and this parser does not"
+
+abbrev pub hint_of : List ℕ → Option (List ℕ)
+hint_of text = if bytes_eq text (codes "Float literals are not supported") then Some float_hint else None
+
+-- the note that has it, at the place of the fault
+abbrev pub hint_notes : List ℕ → Span → Option (List ℕ) → List NoteVal
+hint_notes file span None = []
+hint_notes file span (Some hint) = NoteOf file span hint ∷ []
+
+-- what is found of a note of a fault, and of a fault in the file of a name: after the notes that it has the hint
 abbrev pub note_of : errors.NoteVal → NoteVal
 note_of (errors.NoteOf label file span) = NoteOf file span label
 
-abbrev pub finding_of : ReportVal → FindingVal
-finding_of (ReportOf text span notes) = FindingOf kinds.Fault span text (map note_of notes)
+abbrev pub finding_of : List ℕ → ReportVal → FindingVal
+finding_of file (ReportOf text span notes) =
+    FindingOf kinds.Fault span text (map note_of notes ++ hint_notes file span (hint_of text))
 
--- the finding is that of the error; there is none of want of memory
-abbrev pub IsOfError : ErrorVal → FindingVal → Type 0
-IsOfError NoMemory f = ⊥
-IsOfError (Saying text) f = f ≡ FindingOf kinds.Fault first_span text []
-IsOfError (Reporting r) f = f ≡ finding_of r
+-- the finding is that of the error in the file of a name; there is none of an allocation failure
+abbrev pub IsOfError : List ℕ → ErrorVal → FindingVal → Type 0
+IsOfError file NoMemory f = ⊥
+IsOfError file (Saying text) f = f ≡ FindingOf kinds.Fault first_span text []
+IsOfError file (Reporting r) f = f ≡ finding_of file r
 
 -- a line: where, how grave, and what
 abbrev pub line_of : List ℕ → Place → List ℕ → List ℕ → List ℕ

@@ -1,8 +1,13 @@
 pub mod Alike
 pub mod Calls
+pub mod Due
+pub mod FaultFindings
 pub mod Faults
 pub mod Findings
+pub mod Hints
 pub mod Judged
+pub mod Lost
+pub mod Mended
 pub mod Named
 pub mod Objects
 pub mod Pending

@@ -15,6 +15,7 @@ use Rattle.tera_check.specs.Findings.{FindingVal, first_span}
 use Rattle.tera_check.specs.Judged.{KnownVal, known_view, taken_by, call_findings, again_findings}
 use Rattle.tera_check.specs.Parameters.{Taking, parameter_at, unused_in}
 use Rattle.tera_check.specs.declared.catalogue.Known.{Known}
+use Rattle.tera_check.specs.declared.mended.Mended.{Mended}
 use Rattle.tera_check.specs.declared.templates.Template.{Template}
 
 -- what a catalogue has under a name
@@ -39,13 +40,24 @@ abbrev pub defined_from : ℕ → Template → ℕ → List Definition → List 
 defined_from number t at [] = []
 defined_from number t at (d ∷ ds) = known_at number t at d ∷ defined_from number t (suc at) ds
 
--- one with a fault defines none
-abbrev pub definitions_of : Result ParserOutput Error → List Definition
-definitions_of (Ok output) = map definition_view output.component_definitions.items
-definitions_of (Err e) = []
+-- the tree of a template; where it has a fault, that of what is left of it, if that is known
+abbrev pub tree_by : Result ParserOutput Error → Option Mended → Option ParserOutput
+tree_by (Ok o) m = Some o
+tree_by (Err e) m = option_map (λ m. m.output) m
+
+abbrev pub tree_of : Template → Option ParserOutput
+tree_of t = tree_by t.parsed t.mended
+
+-- the definitions of that
+abbrev pub definitions_in : Option ParserOutput → List Definition
+definitions_in None = []
+definitions_in (Some output) = map definition_view output.component_definitions.items
+
+abbrev pub definitions_of : Template → List Definition
+definitions_of t = definitions_in (tree_of t)
 
 abbrev pub defined_in : ℕ → Template → List KnownVal
-defined_in number t = defined_from number t 0 (definitions_of t.parsed)
+defined_in number t = defined_from number t 0 (definitions_of t)
 
 -- those of templates in order, of which the first has a number
 abbrev pub defined_by : ℕ → List Template → List KnownVal

@@ -6,7 +6,7 @@ ghost use Rattle.tera_check.specs.Judged.{known_view};
 ghost use Rattle.tera_check.specs.Named.{known_in, span_at, known_at, defined_from, defined_in, defined_by, first_named, or_else};
 
 use crate::spans::first_span;
-use crate::templates::Template;
+use crate::templates::{Template, tree_of};
 use std::alloc::{AllocError, Global};
 use std::collections::BTreeMap;
 use tera_parser::ParserOutput;
@@ -29,7 +29,7 @@ pub struct Known<'a> {
 /// The components that some templates define, by their names. Of components with one name the first counts.
 pub type Catalogue<'a> = BTreeMap<String, Known<'a>>;
 
-/// The components that the templates define. One with a fault defines none.
+/// The components that the templates define. One with a fault defines those of [`tree_of`].
 pub fn catalogue_of<'a>(
     alloc: Global,
     templates: &'a Vec<Template>,
@@ -53,9 +53,9 @@ fn add_template<'a>(
     ensures { OnOk result ((n : List ℕ) → known_in catalogue.new n
         ≡ or_else (known_in catalogue.old n) (first_named n (defined_in number template.now))) }
 {
-    match &template.parsed {
-        Ok(output) => add_all(alloc, catalogue, number, template, output),
-        Err(_) => Ok(()),
+    match tree_of(template) {
+        Some(output) => add_all(alloc, catalogue, number, template, output),
+        None => Ok(()),
     }
 }
 

@@ -1,11 +1,13 @@
 //! What is found in a template beside others.
 
-ghost use Rattle.std.specs.Prelude.{◌≡◌, ◌∷◌, [], ◌++◌, map, Some, IfOk, IfErr, OnOk};
+ghost use Rattle.std.specs.Prelude.{◌≡◌, ◌∷◌, [], ◌++◌, List, map, Some, IfOk, OnOk};
 ghost use Rattle.std.specs.List.{flat_map};
 ghost use Rattle.std.specs.Option.{option_map};
 ghost use Rattle.std.specs.List.Sorted.{IsPermutation};
 ghost use Rattle.tera_base.specs.ErrorView.{error_view};
-ghost use Rattle.tera_check.specs.Findings.{finding_view, note_view, IsOfError};
+ghost use Rattle.tera_check.specs.Due.{due_findings};
+ghost use Rattle.tera_check.specs.FaultFindings.{AreFaultsOf};
+ghost use Rattle.tera_check.specs.Findings.{FindingVal, finding_view, note_view, IsOfError};
 ghost use Rattle.tera_check.specs.declared.finding.Finding.{Finding};
 ghost use Rattle.tera_base.specs.Spanned.{node_of, span_of};
 ghost use Rattle.tera_ast.specs.View.{call_view};
@@ -20,44 +22,90 @@ ghost use Rattle.tera_check.specs.OrderAndStatus.{IsInOrder, status_of};
 
 use crate::calls::calls_of;
 use crate::catalogue::{Catalogue, Known, defined_at};
+use crate::due::push_due;
+use crate::fault_findings::findings_of_mended;
 use crate::faults::finding_of_fault;
 use crate::finding::{Finding, Kind, Note, push_finding};
 use crate::judged::push_call;
 use crate::messages;
 use crate::messages::defined_again;
 use crate::parameters::push_all_unused;
-use crate::templates::Template;
+use crate::templates::{Template, tree_of};
 use std::alloc::{AllocError, Global};
 use tera_parser::ParserOutput;
 use tera_parser::ast::ComponentCall;
 use tera_parser::value::{Error, Span, Spanned};
 
-/// What is found in the template of this number, in the order of the places: its fault; or the components that a
-/// template before it defines too, the parameters that are never used, and what is found of its calls.
+/// What is found in the template of this number, in the order of the places: its faults; and in its tree, or that of what
+/// is left of it, the components that a template before it defines too, the parameters that are never used, and what is
+/// found of its calls. Nothing is found that comes of what was written for a fault. `is_open` says that a template may
+/// define more components than the catalogue has ([`crate::is_open`]).
 pub fn findings_of(
     alloc: Global,
     catalogue: &Catalogue<'_>,
+    is_open: bool,
     number: usize,
     template: &Template,
 ) -> Result<Vec<Finding>, AllocError>
-    ensures fault { IfErr template.now.parsed (λ e. IfOk result (λ v.
-        (f : Finding) × (v.items ≡ f ∷ []) × IsOfError (error_view e) (finding_view f))) }
-    ensures ordered { IfOk template.now.parsed (λ _. IfOk result (λ v. IsInOrder v.items)) }
-    ensures found { IfOk template.now.parsed (λ o. IfOk result (λ v.
-        IsPermutation (tree_findings (known_in catalogue.now) number template.now (output_view o))
-        (map finding_view v.items))) }
+    ensures ordered { IfOk result (λ v. IsInOrder v.items) }
+    ensures found { IfOk result (λ v. (faults : List FindingVal) × AreFaultsOf template.now faults
+        × IsPermutation (faults ++ due_findings (known_in catalogue.now) is_open number template.now)
+        (map finding_view v.items)) }
 {
-    match &template.parsed {
-        Ok(output) => findings_of_tree(alloc, catalogue, number, template, output),
-        Err(error) => finding_alone(alloc, error),
+    let mut findings = known_faults(alloc, template)?;
+    push_all_due(alloc, &mut findings, catalogue, is_open, number, template)?;
+    put_in_order(&mut findings)?;
+    Ok(findings)
+}
+
+// Adds what is found in the tree of the template, and is due.
+fn push_all_due(
+    alloc: Global,
+    findings: &mut Vec<Finding>,
+    catalogue: &Catalogue<'_>,
+    is_open: bool,
+    number: usize,
+    template: &Template,
+) -> Result<(), AllocError>
+    ensures { OnOk result (map finding_view findings.new.items ≡ map finding_view findings.old.items
+        ++ due_findings (known_in catalogue.now) is_open number template.now) }
+{
+    match tree_of(template) {
+        Some(output) => {
+            let found = findings_of_tree(alloc, catalogue, number, template, output)?;
+            push_due(findings, is_open, template, found)
+        }
+        None => Ok(()),
     }
 }
 
-fn finding_alone(alloc: Global, error: &Error) -> Result<Vec<Finding>, AllocError>
-    ensures { IfOk result (λ v.
-        (f : Finding) × (v.items ≡ f ∷ []) × IsOfError (error_view error.now) (finding_view f)) }
+/// The faults of a template, in the order of the places: those that are known of it.
+pub fn faults_of(alloc: Global, template: &Template) -> Result<Vec<Finding>, AllocError>
+    ensures ordered { IfOk result (λ v. IsInOrder v.items) }
+    ensures faults { IfOk result (λ v. AreFaultsOf template.now (map finding_view v.items)) }
 {
-    let finding = finding_of_fault(alloc, error)?;
+    let mut findings = known_faults(alloc, template)?;
+    put_in_order(&mut findings)?;
+    Ok(findings)
+}
+
+fn known_faults(alloc: Global, template: &Template) -> Result<Vec<Finding>, AllocError>
+    ensures { IfOk result (λ v. AreFaultsOf template.now (map finding_view v.items)) }
+{
+    let file = template.file.as_str();
+    match (&template.parsed, &template.mended) {
+        (Ok(_), _) => Ok(Vec::new(alloc)),
+        (Err(_), Some(mended)) => findings_of_mended(alloc, file, mended),
+        (Err(error), None) => finding_alone(alloc, file, error),
+    }
+}
+
+fn finding_alone(alloc: Global, file: &str, error: &Error) -> Result<Vec<Finding>, AllocError>
+    ensures { IfOk result (λ v.
+        (f : Finding) × (v.items ≡ f ∷ [])
+        × IsOfError file.now (error_view error.now) (finding_view f)) }
+{
+    let finding = finding_of_fault(alloc, file, error)?;
     let mut findings = Vec::new(alloc);
     findings.push(finding)?;
     Ok(findings)
@@ -70,10 +118,8 @@ fn findings_of_tree(
     template: &Template,
     output: &ParserOutput,
 ) -> Result<Vec<Finding>, AllocError>
-    ensures ordered { IfOk result (λ v. IsInOrder v.items) }
-    ensures found { IfOk result (λ v.
-        IsPermutation (tree_findings (known_in catalogue.now) number template.now (output_view
-        output.now)) (map finding_view v.items)) }
+    ensures { IfOk result (λ v. map finding_view v.items
+        ≡ tree_findings (known_in catalogue.now) number template.now (output_view output.now)) }
 {
     let mut findings = Vec::new(alloc);
     push_all_again(alloc, &mut findings, catalogue, number, template, output)?;
@@ -85,7 +131,6 @@ fn findings_of_tree(
         template.file.as_str(),
         output,
     )?;
-    put_in_order(&mut findings)?;
     Ok(findings)
 }
 

@@ -1,33 +1,36 @@
 //! The fault of a template.
 
-ghost use Rattle.std.specs.Prelude.{◌≡◌, IfOk, map, []};
+ghost use Rattle.std.specs.Prelude.{◌≡◌, ◌++◌, ◌∷◌, IfOk, OnOk, map, [], string_bytes};
+ghost use Rattle.std.specs.Option.{option_map};
 ghost use Rattle.tera_base.specs.ErrorView.{error_view, report_view};
 ghost use Rattle.tera_base.specs.ErrorView as errors;
-ghost use Rattle.tera_check.specs.Findings.{finding_view, note_view, first_span, note_of, finding_of, FindingOf, IsOfError};
+ghost use Rattle.tera_check.specs.Findings.{finding_view, note_view, first_span, note_of, finding_of, hint_of, hint_notes, FindingOf, IsOfError, NoteOf};
 ghost use Rattle.tera_check.specs.declared.finding.Kind.TheVariants as kinds;
 
 use crate::finding::{Finding, Kind, Note};
 use crate::spans::first_span;
 use std::alloc::{AllocError, Global};
 use tera_parser::value;
-use tera_parser::value::{Error, ErrorKind, ReportError};
+use tera_parser::value::{Error, ErrorKind, ReportError, Span};
 
-/// The finding of a fault: its text and its notes, each with its span; a text without a place stands where the file
-/// begins. That no memory was found is no finding.
-pub fn finding_of_fault(alloc: Global, error: &Error) -> Result<Finding, AllocError>
-    ensures { IfOk result (λ f. IsOfError (error_view error.now) (finding_view f)) }
+/// The finding of a fault in the file of this name: its text and its notes, each with its span, and after these a note
+/// with a hint if its text calls for one; a text without a place stands where the file begins. That no memory was found is
+/// no finding.
+pub fn finding_of_fault(alloc: Global, file: &str, error: &Error) -> Result<Finding, AllocError>
+    ensures { IfOk result (λ f. IsOfError file.now (error_view error.now) (finding_view f)) }
 {
     match &error.kind {
-        ErrorKind::SyntaxError(report) => finding_of_report(alloc, report),
+        ErrorKind::SyntaxError(report) => finding_of_report(alloc, file, report),
         ErrorKind::Message(message) => placeless(alloc, message.as_str()),
         ErrorKind::Memory => Err(AllocError),
     }
 }
 
-fn finding_of_report(alloc: Global, report: &ReportError) -> Result<Finding, AllocError>
-    ensures { IfOk result (λ f. finding_view f ≡ finding_of (report_view report.now)) }
+fn finding_of_report(alloc: Global, file: &str, report: &ReportError) -> Result<Finding, AllocError>
+    ensures { IfOk result (λ f. finding_view f ≡ finding_of file.now (report_view report.now)) }
 {
-    let notes = notes_of(alloc, &report.notes)?;
+    let mut notes = notes_of(alloc, &report.notes)?;
+    push_hint(alloc, &mut notes, file, report)?;
     Ok(Finding {
         kind: Kind::Fault,
         span: report.span.copied(),
@@ -55,6 +58,82 @@ fn found_note(note: &value::Note) -> Result<Note, AllocError>
         span: note.span.copied(),
         message: note.label.clone()?,
     })
+}
+
+// Adds a note with the hint that the text of the fault calls for, at the place of the fault.
+fn push_hint(
+    alloc: Global,
+    notes: &mut Vec<Note>,
+    file: &str,
+    report: &ReportError,
+) -> Result<(), AllocError>
+    ensures { OnOk result (map note_view notes.new.items ≡ map note_view notes.old.items
+        ++ hint_notes file.now report.now.span (hint_of (string_bytes report.now.message))) }
+{
+    push_text_if_any(
+        alloc,
+        notes,
+        file,
+        &report.span,
+        hint_of(report.message.as_str()),
+    )
+}
+
+/// Adds a note with the text, if there is one, at a span of the file of this name.
+pub(crate) fn push_text_if_any(
+    alloc: Global,
+    notes: &mut Vec<Note>,
+    file: &str,
+    span: &Span,
+    text: Option<&str>,
+) -> Result<(), AllocError>
+    ensures { OnOk result (map note_view notes.new.items ≡ map note_view notes.old.items
+        ++ hint_notes file.now span.now (option_map (λ t. t.now) text.entry)) }
+{
+    match text {
+        Some(text) => push_text(alloc, notes, file, span, String::from_str(alloc, text)?),
+        None => Ok(()),
+    }
+}
+
+/// Adds a note with the text at a span of the file of this name.
+pub(crate) fn push_text(
+    alloc: Global,
+    notes: &mut Vec<Note>,
+    file: &str,
+    span: &Span,
+    text: String,
+) -> Result<(), AllocError>
+    ensures { OnOk result (map note_view notes.new.items ≡ map note_view notes.old.items
+        ++ (NoteOf file.now span.now (string_bytes text) ∷ [])) }
+{
+    push_note(
+        notes,
+        Note {
+            file: String::from_str(alloc, file)?,
+            span: span.copied(),
+            message: text,
+        },
+    )
+}
+
+// Adds the note.
+fn push_note(notes: &mut Vec<Note>, note: Note) -> Result<(), AllocError>
+    ensures { OnOk result (map note_view notes.new.items
+        ≡ map note_view notes.old.items ++ (note_view note ∷ [])) }
+{
+    Ok(notes.push(note)?)
+}
+
+// The hint for a fault of this text.
+fn hint_of(message: &str) -> Option<&'static str>
+    ensures { option_map (λ h. h.now) result ≡ hint_of message.now }
+{
+    if message == "Float literals are not supported" {
+        Some("Tera reads floating-point numbers, and this parser does not")
+    } else {
+        None
+    }
 }
 
 fn placeless(alloc: Global, message: &str) -> Result<Finding, AllocError>

@@ -2,6 +2,7 @@
 //! parser and the tree tell them.
 
 ghost use Rattle.std.specs.Prelude.{◌≡◌, IfOk, string_bytes};
+ghost use Rattle.tera_check.specs.FaultFindings.{not_closed_text, closes_nothing_text, belongs_to_nothing_text, met_text};
 ghost use Rattle.tera_check.specs.Judged.{undefined_text, repeated_text, next_text, here_text, again_text, first_text};
 ghost use Rattle.tera_check.specs.Parameters.{unused_text};
 
@@ -60,4 +61,32 @@ pub(crate) fn first_defined(alloc: Global) -> Result<String, AllocError>
     ensures { IfOk result (λ m. string_bytes m ≡ first_text) }
 {
     String::from_str(alloc, "first defined here")
+}
+
+/// That nothing closes what the word opens.
+pub(crate) fn not_closed(alloc: Global, word: &str) -> Result<String, AllocError>
+    ensures { IfOk result (λ m. string_bytes m ≡ not_closed_text word.now) }
+{
+    format!(in alloc; "`{word}` opened here is not closed")
+}
+
+/// That the word closes nothing that is open.
+pub(crate) fn closes_nothing(alloc: Global, word: &str) -> Result<String, AllocError>
+    ensures { IfOk result (λ m. string_bytes m ≡ closes_nothing_text word.now) }
+{
+    format!(in alloc; "`{word}` closes nothing")
+}
+
+/// That nothing is open to which the word belongs.
+pub(crate) fn belongs_to_nothing(alloc: Global, word: &str) -> Result<String, AllocError>
+    ensures { IfOk result (λ m. string_bytes m ≡ belongs_to_nothing_text word.now) }
+{
+    format!(in alloc; "`{word}` belongs to nothing")
+}
+
+/// Where a fault was met whose tag has no end.
+pub(crate) fn met_here(alloc: Global) -> Result<String, AllocError>
+    ensures { IfOk result (λ m. string_bytes m ≡ met_text) }
+{
+    String::from_str(alloc, "met here, as the tag is not closed")
 }

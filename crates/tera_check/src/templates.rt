@@ -1,6 +1,6 @@
 //! Templates that are read.
 
-ghost use Rattle.std.specs.Prelude.{◌≡◌, [], IfOk, IfErr, MatchResult, map, string_bytes};
+ghost use Rattle.std.specs.Prelude.{◌≡◌, [], None, Err, IfOk, IfErr, IfSome, MatchOption, MatchResult, map, option_map, string_bytes};
 ghost use Rattle.tera_base.specs.Errors.{IsMemory};
 ghost use Rattle.tera_lexer.specs.grammar.Marks.{default_marks};
 ghost use Rattle.tera_grammar.specs.Limits.{usual};
@@ -13,7 +13,11 @@ ghost use Rattle.tera_statements.specs.Known.{AreNames, grouped_of};
 ghost use Rattle.tera_tree.specs.Outputs.{output_view};
 ghost use Rattle.tera_tree.specs.Tree.{Output};
 ghost use Rattle.tera_check.specs.Faults.{IsSyntaxError, is_memory};
+ghost use Rattle.tera_check.specs.Mended.{IsMended, text_of};
+ghost use Rattle.tera_check.specs.Named.{tree_of};
+ghost use Rattle.tera_check.specs.Lost.{is_open};
 
+use crate::mended::{Mended, read_mended};
 use crate::spans::spans_of;
 use std::alloc::{AllocError, Global};
 use std::collections::BTreeMap;
@@ -26,17 +30,25 @@ use tera_parser::{Names, Parser, ParserOutput};
 pub struct Template {
     /// The name of its file.
     pub file: String,
-    /// Its tree, or its fault, which is a syntax error.
+    /// Its tree, or its first fault, which is a syntax error.
     pub parsed: Result<ParserOutput, Error>,
-    /// Where each of its components is defined: the last part of its name, for `ui.button` that is `button`. A template
-    /// with a fault defines none.
+    /// Where it has a fault and more are reported, what it is read as. [`tree_of`] is that tree.
+    pub mended: Option<Mended>,
+    /// Where each component of its tree is defined: the last part of its name, for `ui.button` that is `button`.
     pub defined_at: Vec<Span>,
     /// Where the parameters of each component stand, by the name of the component and their own.
     pub parameters_at: BTreeMap<String, BTreeMap<String, Span>>,
 }
 
-/// Reads the template in the file of this name. Its fault stands in the answer; that no memory was found is the error.
-pub fn read_template(alloc: Global, file: &str, source: &str) -> Result<Template, AllocError>
+/// Reads the template in the file of this name. At most so many of its faults are reported; with 0 only the first is
+/// known, and then there is no tree of what is right in it. Its faults are in the answer; an allocation failure is the
+/// error.
+pub fn read_template(
+    alloc: Global,
+    file: &str,
+    source: &str,
+    faults: usize,
+) -> Result<Template, AllocError>
     ensures file { IfOk result (λ t. string_bytes t.file ≡ file.now) }
     ensures sound { IfOk result (λ t. IfOk t.parsed
         (λ o. Derives usual default_marks source.now (output_view o))) }
@@ -45,11 +57,14 @@ pub fn read_template(alloc: Global, file: &str, source: &str) -> Result<Template
     ensures fault { IfOk result (λ t. IfErr t.parsed IsSyntaxError) }
     ensures refusal { IfOk result (λ t. IfErr t.parsed (Refuses default_marks source.now)) }
     ensures notes { IfOk result (λ t. IfErr t.parsed (NotesName file.now)) }
-    ensures places { IfOk result (λ t. MatchResult t.parsed
-        (λ o. (names : Places) × DerivesNames usual default_marks source.now (output_view o) names
+    ensures whole { IfOk result (λ t. IfOk t.parsed (λ _. t.mended ≡ None)) }
+    ensures mended { IfOk result (λ t. IfSome t.mended (IsMended file.now source.now faults)) }
+    ensures places { IfOk result (λ t. MatchOption (tree_of t)
+        ((t.defined_at.items ≡ []) × (grouped_of t.parameters_at ≡ nothing_grouped))
+        (λ o. (names : Places)
+        × DerivesNames usual default_marks (text_of source.now t) (output_view o) names
         × (t.defined_at.items ≡ map (λ n. n.span) names.components)
-        × (grouped_of t.parameters_at ≡ group_all names.parameters nothing_grouped))
-        (λ _. (t.defined_at.items ≡ []) × (grouped_of t.parameters_at ≡ nothing_grouped))) }
+        × (grouped_of t.parameters_at ≡ group_all names.parameters nothing_grouped))) }
 {
     let name = String::from_str(alloc, file)?;
     match parsed(alloc, file, source) {
@@ -58,6 +73,7 @@ pub fn read_template(alloc: Global, file: &str, source: &str) -> Result<Template
             Ok(Template {
                 file: name,
                 parsed: Ok(output),
+                mended: None,
                 defined_at,
                 parameters_at: names.parameters,
             })
@@ -66,13 +82,71 @@ pub fn read_template(alloc: Global, file: &str, source: &str) -> Result<Template
             if is_memory(&error) {
                 return Err(AllocError);
             }
-            Ok(Template {
-                file: name,
-                parsed: Err(error),
-                defined_at: Vec::new(alloc),
-                parameters_at: BTreeMap::new(alloc),
-            })
+            with_fault(alloc, name, source, error, faults)
         }
+    }
+}
+
+// A template with a fault.
+fn with_fault(
+    alloc: Global,
+    file: String,
+    source: &str,
+    error: Error,
+    faults: usize,
+) -> Result<Template, AllocError>
+    ensures file { IfOk result (λ t. t.file ≡ file) }
+    ensures parsed { IfOk result (λ t. t.parsed ≡ Err error) }
+    ensures mended { IfOk result (λ t.
+        IfSome t.mended (IsMended (string_bytes file) source.now faults)) }
+    ensures places { IfOk result (λ t. MatchOption t.mended
+        ((t.defined_at.items ≡ []) × (grouped_of t.parameters_at ≡ nothing_grouped))
+        (λ m. (names : Places)
+        × DerivesNames usual default_marks (string_bytes m.text) (output_view m.output) names
+        × (t.defined_at.items ≡ map (λ n. n.span) names.components)
+        × (grouped_of t.parameters_at ≡ group_all names.parameters nothing_grouped))) }
+{
+    let Some((mended, names)) = read_mended(alloc, file.as_str(), source, faults)? else {
+        return Ok(Template {
+            file,
+            parsed: Err(error),
+            mended: None,
+            defined_at: Vec::new(alloc),
+            parameters_at: BTreeMap::new(alloc),
+        });
+    };
+    let defined_at = spans_of(alloc, &names, &mended.output.component_definitions)?;
+    Ok(Template {
+        file,
+        parsed: Err(error),
+        mended: Some(mended),
+        defined_at,
+        parameters_at: names.parameters,
+    })
+}
+
+/// The tree of the template, or that of what is left of it.
+pub fn tree_of(template: &Template) -> Option<&ParserOutput>
+    ensures { option_map (λ o. o.now) result ≡ tree_of template.now }
+{
+    match (&template.parsed, &template.mended) {
+        (Ok(output), _) => Some(output),
+        (Err(_), Some(mended)) => Some(&mended.output),
+        (Err(_), None) => None,
+    }
+}
+
+/// Whether the template may define more components than its tree: it has a fault, and nothing else is known of it, or the
+/// head or the end of a definition was written over.
+pub fn is_open(template: &Template) -> bool
+    ensures { result ≡ is_open template.now }
+{
+    match (&template.parsed, &template.mended) {
+        (Ok(_), _) => false,
+        (Err(_), Some(mended)) => {
+            mended.lost.contains_key("component") || mended.lost.contains_key("endcomponent")
+        }
+        (Err(_), None) => true,
     }
 }
 

@@ -45,7 +45,7 @@ fn spans_are_those_of_the_tokens(rt: HostRuntime) -> Result<(), Fail> {
 
 // Whether the one definition is that of `c`, which stands in the second line.
 fn defines_c(alloc: Global, source: &str) -> Result<bool, AllocError> {
-    let template = read_template(alloc, "t", source)?;
+    let template = read_template(alloc, "t", source, 0)?;
     Ok(matches!(template.defined_at.as_slice(), [span] if is_c(source, span)))
 }
 
@@ -76,7 +76,7 @@ fn a_span_is_that_of_the_last_part_of_the_name(rt: HostRuntime) -> Result<(), Fa
 }
 
 fn has_spans_of_tokens(alloc: Global, source: &str) -> Result<bool, AllocError> {
-    let template = read_template(alloc, "t", source)?;
+    let template = read_template(alloc, "t", source, 0)?;
     match &template.parsed {
         Ok(_) => Ok(template.defined_at == definition_spans(alloc, source)?),
         Err(_) => Ok(template.defined_at.is_empty()),

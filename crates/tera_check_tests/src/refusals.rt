@@ -5,13 +5,14 @@ use std::alloc::{AllocError, Global};
 use std::test::Fail;
 use tera_check::{Template, read_template};
 
-// Definitions, blocks, calls, and a fault.
-const SOURCES: [&str; 5] = [
+// Definitions, blocks, calls, a fault, and several.
+const SOURCES: [&str; 6] = [
     "",
     "{% component ui.button(label: string, size: integer = 1) %}{{ label }}{% endcomponent %}",
     "{% component a.b() %}{% endcomponent %}{% component b() %}{% block c %}{% endblock %}{% endcomponent %}",
     "{% block a %}{% block b %}{{<ui.button label=\"x\"/>}}{% endblock %}{% endblock a %}",
     "{% component a() %}{% endcomponent %}\n{% component a() %}{% endcomponent %}",
+    "{% component a(b c) %}{{ d e }}{% if f %}{% endcomponent %}{{ <a g=\"h\"/> }}{% endfor %}",
 ];
 
 // A source, and what is read with ample memory.
@@ -23,7 +24,7 @@ struct Reading<'a> {
 
 impl Attempt for Reading<'_> {
     fn attempt(&self, alloc: Global) -> Seen {
-        match read_template(alloc, "t", self.source) {
+        match read_template(alloc, "t", self.source, 100) {
             Ok(read) => Seen::answer(are_same(&read, self.wanted)),
             Err(_) => Seen::Memory,
         }
@@ -34,10 +35,19 @@ fn are_same(one: &Template, other: &Template) -> bool {
     one.parsed == other.parsed
         && one.defined_at == other.defined_at
         && one.parameters_at == other.parameters_at
+        && text_read(one) == text_read(other)
+}
+
+// The text that was read in the place of a source with faults.
+fn text_read(template: &Template) -> Option<&str> {
+    match &template.mended {
+        Some(mended) => Some(mended.text.as_str()),
+        None => None,
+    }
 }
 
 fn is_refused(alloc: Global, source: &str) -> Result<bool, AllocError> {
-    let wanted = &read_template(alloc, "t", source)?;
+    let wanted = &read_template(alloc, "t", source, 100)?;
     let verdict = refuse(alloc, &Reading { source, wanted })?;
     Ok(matches!(verdict, Verdict::Refused(n) if n > 0))
 }

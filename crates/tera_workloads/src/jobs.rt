@@ -190,12 +190,12 @@ fn library(alloc: Global, draws: &mut Draws, calling: u64) -> Result<Vec<Templat
     for file in 0..DEFINING {
         let source = defining_source(alloc, draws.next(), file)?;
         let name = format!(in alloc; "components/part_{file}.html")?;
-        templates.push(read_template(alloc, name.as_str(), source.as_str())?)?;
+        templates.push(read_template(alloc, name.as_str(), source.as_str(), 100)?)?;
     }
     for file in 0..calling {
         let source = calling_source(alloc, draws.next())?;
         let name = format!(in alloc; "pages/page_{file}.html")?;
-        templates.push(read_template(alloc, name.as_str(), source.as_str())?)?;
+        templates.push(read_template(alloc, name.as_str(), source.as_str(), 100)?)?;
     }
     Ok(templates)
 }
@@ -210,7 +210,7 @@ fn checked(
     let templates = library(alloc, draws, 500)?;
     let catalogue = catalogue_of(alloc, &templates)?;
     for (at, template) in templates.iter().enumerate() {
-        let findings = findings_of(alloc, &catalogue, at, template)?;
+        let findings = findings_of(alloc, &catalogue, false, at, template)?;
         for finding in &findings {
             let told = if number % 3 == 2 {
                 object_of(alloc, template.file.as_str(), finding)?

@@ -1,5 +1,5 @@
 -- A document that was read.
-use Rattle.std.proofs.Common.{◌≡◌, ℕ, List, map, string_bytes, IfOk, IfErr, MatchResult, [], true, sym, subst}
+use Rattle.std.proofs.Common.{◌≡◌, ℕ, List, map, string_bytes, None, IfOk, IfErr, IfSome, MatchOption, MatchResult, [], true, sym, subst}
 use Rattle.tera_grammar.specs.Limits.{usual}
 use Rattle.tera_grammar.specs.statements.Places.{Places}
 use Rattle.tera_grammar.specs.statements.Reading.Meeting.{group_all, nothing_grouped}
@@ -11,8 +11,10 @@ use Rattle.tera_statements.specs.Known.{grouped_of}
 use Rattle.tera_tree.specs.Outputs.{output_view}
 use Rattle.tera_tree.specs.Tree.{Output}
 use Rattle.tera_check.specs.Faults.{IsSyntaxError}
+use Rattle.tera_check.specs.Mended.{IsMended, text_of}
+use Rattle.tera_check.specs.Named.{tree_of}
 use Rattle.tera_check.specs.declared.templates.Template.{Template}
-use Rattle.tera_workspace.specs.Fresh.{IsRead}
+use Rattle.tera_workspace.specs.Fresh.{IsRead, most_faults}
 use Rattle.tera_workspace.specs.Kept.{told_of, HasNames, IsAnew}
 use Rattle.tera_workspace.specs.Sources.{Source}
 use Rattle.tera_workspace.specs.declared.judged.Judged.{Judged}
@@ -22,13 +24,14 @@ pub is_read : (name text : List ℕ) (t : Template) → string_bytes t.file ≡ 
     → IfOk t.parsed (λ o. Derives usual default_marks text (output_view o))
     → ((output : Output) → Derives usual default_marks text output → MatchResult t.parsed (λ o. output_view o ≡ output) (λ _. ⊥))
     → IfErr t.parsed IsSyntaxError → IfErr t.parsed (Refuses default_marks text) → IfErr t.parsed (NotesName name)
-    → MatchResult t.parsed
-    (λ o. (names : Places) × DerivesNames usual default_marks text (output_view o) names × (t.defined_at.items ≡ map (λ n. n.span) names.components)
+    → IfOk t.parsed (λ _. t.mended ≡ None) → IfSome t.mended (IsMended name text most_faults)
+    → MatchOption (tree_of t)
+    ((t.defined_at.items ≡ []) × (grouped_of t.parameters_at ≡ nothing_grouped))
+    (λ o. (names : Places) × DerivesNames usual default_marks (text_of text t) (output_view o) names × (t.defined_at.items ≡ map (λ n. n.span) names.components)
     × (grouped_of t.parameters_at ≡ group_all names.parameters nothing_grouped))
-    (λ _. (t.defined_at.items ≡ []) × (grouped_of t.parameters_at ≡ nothing_grouped))
     → IsRead (record { name = name; text = text }) t
-is_read name text t file sound complete fault refusal notes places =
-    record { file = file; sound = sound; complete = complete; fault = fault; refusal = refusal; notes = notes; places = places }
+is_read name text t file sound complete fault refusal notes unmended mended places =
+    record { file = file; sound = sound; complete = complete; fault = fault; refusal = refusal; notes = notes; unmended = unmended; mended = mended; places = places }
 
 pub is_anew : (name text : List ℕ) (j : Judged) → j.text ≡ text → IsRead (record { name = name; text = text }) j.template
     → HasNames j.names.items j.template → j.stale ≡ true → told_of j ≡ [] → IsAnew name text j

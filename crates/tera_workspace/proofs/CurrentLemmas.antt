@@ -1,30 +1,31 @@
 -- What was told stays as it would be found, where another text of one file is read and those are marked that name what it
 -- changes, or were told a place in it.
-use Rattle.std.proofs.Common.{◌≡◌, ◌∙◌, ◌<◌, ℕ, zero, suc, List, [], ◌∷◌, ◌||◌, length, get_or, set, map, Bool, true, false, Result, Ok, Err, MatchResult, string_bytes, refl, sym, ap, subst, inl, inr, arith}
+use Rattle.std.proofs.Common.{◌≡◌, ◌∙◌, ◌<◌, ℕ, zero, suc, List, [], ◌∷◌, ◌++◌, ◌||◌, length, get_or, set, map, Bool, true, false, Option, None, Some, MatchOption, string_bytes, refl, sym, ap, subst, inl, inr, arith}
 use Rattle.std.proofs.lemmas.Bool.{cases_eq}
 use Rattle.std.proofs.Common.{if◌then◌else◌}
 use Rattle.std.specs.List.{AllByRecursion, list_any}
-use Rattle.std.specs.List.Sorted.{IsPermutation}
 use Rattle.std.proofs.lemmas.List.Sorted.{list_any-IsPermutation}
-use Rattle.tera_base.specs.ErrorView.{error_view}
-use Rattle.tera_base.specs.declared.errors.Error.{Error}
 use Rattle.tera_tree.specs.Outputs.{output_view}
 use Rattle.tera_tree.specs.declared.outputs.ParserOutput.{ParserOutput}
 use Rattle.tera_check.specs.Alike.{names_in}
-use Rattle.tera_check.specs.Findings.{finding_view, IsOfError}
-use Rattle.tera_check.specs.Named.{tree_findings, first_named, defined_in, defined_by, definitions_of}
-use Rattle.tera_check.specs.OrderAndStatus.{IsInOrder}
+use Rattle.tera_check.specs.Due.{due_findings}
+use Rattle.tera_check.specs.Findings.{finding_view}
+use Rattle.tera_check.specs.Judged.{KnownVal}
+use Rattle.tera_check.specs.Lost.{are_open}
+use Rattle.tera_check.specs.Named.{first_named, defined_in, defined_by, definitions_of, tree_of}
 use Rattle.tera_check.specs.declared.finding.Finding.{Finding}
 use Rattle.tera_check.specs.declared.templates.Template.{Template}
+use Rattle.tera_check.proofs.TakenLemmas.{all_append}
 use Rattle.text_edits.specs.declared.positions.Encoding.{Encoding}
-use Rattle.tera_workspace.specs.Beside.{AreAlikeButIfAny, AgreeBut}
-use Rattle.tera_workspace.specs.Fresh.{IsTold}
+use Rattle.tera_workspace.specs.Beside.{AreAlikeButIfAny, AgreeBut, IsBeside}
+use Rattle.tera_workspace.specs.Fresh.{IsFound, IsTold}
 use Rattle.tera_workspace.specs.Heads.{definition_named, HaveOneHeadIfAny}
 use Rattle.tera_workspace.specs.Kept.{name_of, source_of, sources_of, templates_of, told_of, HasNames, IsWhole, IsCurrent, AreCurrent, is_told_in, marked}
 use Rattle.tera_workspace.specs.Names.{is_among}
 use Rattle.tera_workspace.specs.Sources.{Source, text_named}
 use Rattle.tera_workspace.specs.declared.judged.Judged.{Judged}
-use Rattle.tera_workspace.proofs.BesideLemmas.{tree_but}
+use Rattle.tera_workspace.proofs.BesideLemmas.{due_but}
+use Rattle.tera_workspace.proofs.FoundLemmas.{due_in, found_if}
 use Rattle.tera_workspace.proofs.KnownLemmas.{template_alike, all_alike}
 use Rattle.tera_workspace.proofs.NameSets.{all_among}
 use Rattle.tera_workspace.proofs.PlaceLemmas.{first_false, second_false, differ, other_text, findings_same, tells, all_beside, none_told}
@@ -43,39 +44,46 @@ not_among names n has (m ∷ ms) none =
     ap (λ (b : Bool). if b then true else is_among n ms) apart ∙ not_among names n has ms (second_false (is_among m names) (list_any (λ x. is_among x names) ms) none)
 
 module _ (file : List ℕ) (k : ℕ) (ts us : List Template) where
-  agree_by : (names : List (List ℕ)) (touched : List (List ℕ)) → list_any (λ m. is_among m names) touched ≡ false
-      → ((n : List ℕ) → is_among n touched ≡ false → AreAlikeButIfAny file k (first_named n (defined_by 0 ts)) (first_named n (defined_by 0 us)))
-      → (r : Result ParserOutput Error) → MatchResult r (λ o. names ≡ names_in (output_view o)) (λ _. Unit {0})
-      → MatchResult r (λ o. AgreeBut (names_in (output_view o)) file k (λ n. first_named n (defined_by 0 ts)) (λ n. first_named n (defined_by 0 us))) (λ _. Unit {0})
-  agree_by names touched none alike (Ok o) has =
-      all_among (λ n. AreAlikeButIfAny file k (first_named n (defined_by 0 ts)) (first_named n (defined_by 0 us))) (names_in (output_view o))
-      (λ n among. alike n (not_among names n (ap (is_among n) has ∙ among) touched none))
-  agree_by names touched none alike (Err e) has = tt
+  abbrev before : List ℕ → Option KnownVal
+  before n = first_named n (defined_by 0 ts)
 
-  found_by : (t : Template) (fs : List Finding) → list_any (tells file) (map finding_view fs) ≡ false
-      → (r : Result ParserOutput Error)
-      → MatchResult r (λ o. AgreeBut (names_in (output_view o)) file k (λ n. first_named n (defined_by 0 ts)) (λ n. first_named n (defined_by 0 us))) (λ _. Unit {0})
-      → MatchResult r
-      (λ o. IsPermutation (tree_findings (λ n. first_named n (defined_by 0 ts)) k t (output_view o)) (map finding_view fs) × IsInOrder fs)
-      (λ e. (f : Finding) × (fs ≡ f ∷ []) × IsOfError (error_view e) (finding_view f))
-      → MatchResult r
-      (λ o. IsPermutation (tree_findings (λ n. first_named n (defined_by 0 us)) k t (output_view o)) (map finding_view fs) × IsInOrder fs)
-      (λ e. (f : Finding) × (fs ≡ f ∷ []) × IsOfError (error_view e) (finding_view f))
-  found_by t fs none (Ok o) agree found =
-      let before = tree_findings (λ n. first_named n (defined_by 0 ts)) k t (output_view o) in
-      let beside = all_beside file before (list_any-IsPermutation (tells file) before (map finding_view fs) found.0 ∙ none) in
-      (subst (λ x. IsPermutation x (map finding_view fs)) (tree_but file k (λ n. first_named n (defined_by 0 ts)) (λ n. first_named n (defined_by 0 us)) t (output_view o) agree beside) found.0, found.1)
-  found_by t fs none (Err e) agree found = found
+  abbrev now : List ℕ → Option KnownVal
+  now n = first_named n (defined_by 0 us)
+
+  agree_by : (names : List (List ℕ)) (touched : List (List ℕ)) → list_any (λ m. is_among m names) touched ≡ false
+      → ((n : List ℕ) → is_among n touched ≡ false → AreAlikeButIfAny file k (before n) (now n))
+      → (r : Option ParserOutput) → MatchOption r (Unit {0}) (λ o. names ≡ names_in (output_view o))
+      → MatchOption r (Unit {0}) (λ o. AgreeBut (names_in (output_view o)) file k before now)
+  agree_by names touched none alike None has = tt
+  agree_by names touched none alike (Some o) has =
+      all_among (λ n. AreAlikeButIfAny file k (before n) (now n)) (names_in (output_view o))
+      (λ n among. alike n (not_among names n (ap (is_among n) has ∙ among) touched none))
+
+  due_same : (open_text : Bool) (t : Template) (r : Option ParserOutput)
+      → MatchOption r (Unit {0}) (λ o. AgreeBut (names_in (output_view o)) file k before now)
+      → AllByRecursion (IsBeside file) (due_in before open_text k t r) → due_in before open_text k t r ≡ due_in now open_text k t r
+  due_same open_text t None agree beside = refl
+  due_same open_text t (Some o) agree beside = due_but file k before now open_text t (output_view o) agree beside
+
+  found_by : (t : Template) (fs : List Finding) → list_any (tells file) (map finding_view fs) ≡ false → are_open ts ≡ are_open us
+      → MatchOption (tree_of t) (Unit {0}) (λ o. AgreeBut (names_in (output_view o)) file k before now)
+      → IsFound ts k t fs → IsFound us k t fs
+  found_by t fs none opened agree found =
+      let due = due_findings before (are_open ts) k t in
+      let beside = all_beside file (found.faults ++ due) (list_any-IsPermutation (tells file) (found.faults ++ due) (map finding_view fs) found.found ∙ none) in
+      let (_, due_beside) = all_append (IsBeside file) found.faults due beside in
+      found_if ts us k k t fs found (due_same (are_open ts) t (tree_of t) agree due_beside ∙ ap (λ b. due_findings now b k t) opened)
 
   pub still_told : (e : Encoding) (ss rs : List Source) (j : Judged) (touched : List (List ℕ))
       → HasNames j.names.items j.template → list_any (λ n. is_among n (map string_bytes j.names.items)) touched ≡ false → is_told_in file j ≡ false
-      → ((n : List ℕ) → is_among n touched ≡ false → AreAlikeButIfAny file k (first_named n (defined_by 0 ts)) (first_named n (defined_by 0 us)))
+      → are_open ts ≡ are_open us
+      → ((n : List ℕ) → is_among n touched ≡ false → AreAlikeButIfAny file k (before n) (now n))
       → ((name : List ℕ) → (name ≡ file → ⊥) → text_named name rs ≡ text_named name ss)
       → IsTold e ss ts k j.text j.template (told_of j) → IsTold e rs us k j.text j.template (told_of j)
-  still_told e ss rs j touched has none untold alike same (fs, found, told) =
+  still_told e ss rs j touched has none untold opened alike same (fs, found, told) =
       let quiet = none_told e file ss j.text j.told.items (map finding_view fs) told untold in (
         fs,
-        found_by j.template fs quiet j.template.parsed (agree_by (map string_bytes j.names.items) touched none alike j.template.parsed has) found,
+        found_by j.template fs quiet opened (agree_by (map string_bytes j.names.items) touched none alike (tree_of j.template) has) found,
         told ∙ sym (findings_same e file ss rs same j.text (map finding_view fs) (all_beside file (map finding_view fs) quiet)),
       )
 
@@ -147,7 +155,7 @@ unmarked false false s h = (refl, refl, h)
 
 module _ (e : Encoding) (touched : List (List ℕ)) (js : List Judged) (i : ℕ) (j d : Judged) (within : i < length js)
     (old : name_of (get_or js i d) ≡ name_of j) (stale : j.stale ≡ true) (whole : AllByRecursion IsWhole js)
-    (heads : (n : List ℕ) → is_among n touched ≡ false → HaveOneHeadIfAny (definition_named n (definitions_of (get_or js i d).template.parsed)) (definition_named n (definitions_of j.template.parsed))) where
+    (heads : (n : List ℕ) → is_among n touched ≡ false → HaveOneHeadIfAny (definition_named n (definitions_of (get_or js i d).template)) (definition_named n (definitions_of j.template))) where
   abbrev after : List Judged
   after = set (map (marked touched (name_of j)) js) i j
 
@@ -170,24 +178,24 @@ module _ (e : Encoding) (touched : List (List ℕ)) (js : List Judged) (i : ℕ)
       other_text (name_of j) name (sources_of js) i (source_of j) (source_of d) (omega (arith, map_length source_of js))
       (ap (λ s. s.name) (get_map source_of js i d (source_of d) within) ∙ old) refl other
 
-  others_current : (k : ℕ) (x : Judged) → k < length js → IsCurrent e js k (get_or js k x) → IsWhole (get_or js k x)
-      → IsCurrent e after k (marked touched (name_of j) (get_or js k x))
-  others_current k x in_it current is_whole fresh =
+  others_current : (k : ℕ) (x : Judged) → are_open (templates_of js) ≡ are_open (templates_of after) → k < length js → IsCurrent e js k (get_or js k x)
+      → IsWhole (get_or js k x) → IsCurrent e after k (marked touched (name_of j) (get_or js k x))
+  others_current k x opened in_it current is_whole fresh =
       let one = get_or js k x in
       let (none, untold, was) = unmarked (list_any (λ n. is_among n (map string_bytes one.names.items)) touched) (is_told_in (name_of j) one) one.stale fresh in
       let told : IsTold e (set (sources_of js) i (source_of j)) (set (templates_of js) i j.template) k one.text one.template (told_of one) =
       still_told (name_of j) k (templates_of js) (set (templates_of js) i j.template) e (sources_of js) (set (sources_of js) i (source_of j)) one touched
-      is_whole.names none untold (alike k) same (current was) in
+      is_whole.names none untold (opened ∙ ap are_open templates_after) (alike k) same (current was) in
       subst (λ ss. IsTold e ss (templates_of after) k one.text one.template (told_of one)) (sym sources_after)
       (subst (λ ts. IsTold e (set (sources_of js) i (source_of j)) ts k one.text one.template (told_of one)) (sym templates_after) told)
 
-  pub replaced_current : AreCurrent e js → AreCurrent e after
-  replaced_current current k x in_it =
+  pub replaced_current : are_open (templates_of js) ≡ are_open (templates_of after) → AreCurrent e js → AreCurrent e after
+  replaced_current opened current k x in_it =
       let in_js : k < length js = omega (arith, set_length (map (marked touched (name_of j)) js) i j, map_length (marked touched (name_of j)) js) in
       elim (cases_eq k i) [
         | inl is ↦ subst (λ y. IsCurrent e after k y) (sym (ap (λ m. get_or after m x) is ∙ set_here (map (marked touched (name_of j)) js) i j x (omega (arith, map_length (marked touched (name_of j)) js))))
             (λ fresh. absurd (false_true (sym fresh ∙ stale)))
         | inr not ↦ subst (λ y. IsCurrent e after k y)
             (sym (set_other (map (marked touched (name_of j)) js) i k j x not ∙ get_map (marked touched (name_of j)) js k x x in_js))
-            (others_current k x in_js (current k x in_js) (all_at IsWhole js k x whole in_js))
+            (others_current k x opened in_js (current k x in_js) (all_at IsWhole js k x whole in_js))
       ]

@@ -25,7 +25,7 @@ names_by : (number : ℕ) (ts : List Template) → map (λ (k : KnownVal). k.def
 names_by number [] = refl
 names_by number (t ∷ ts) =
     map-append (λ (k : KnownVal). k.definition.name) (defined_in number t) (defined_by (suc number) ts)
-    ∙ (ap (λ ns. ns ++ map (λ (k : KnownVal). k.definition.name) (defined_by (suc number) ts)) (names_from number t 0 (definitions_of t.parsed))
+    ∙ (ap (λ ns. ns ++ map (λ (k : KnownVal). k.definition.name) (defined_by (suc number) ts)) (names_from number t 0 (definitions_of t))
     ∙ ap (λ ns. names_defined t ++ ns) (names_by (suc number) ts))
 
 first_of_name : (n : List ℕ) (ks : List KnownVal) → Contains (map (λ (k : KnownVal). k.definition.name) ks) n → (k : KnownVal) × (first_named n ks ≡ Some k)
@@ -79,12 +79,12 @@ record IsOf (ts : List Template) (n : List ℕ) (k : KnownVal) : Type 0 where
   template : Template
   among : Contains ts template
   at : ℕ
-  here : slice_get (definitions_of template.parsed) at ≡ Some k.definition
+  here : slice_get (definitions_of template) at ≡ Some k.definition
   named : k.definition.name ≡ n
   file : k.file ≡ string_bytes template.file
   span : k.span ≡ span_at template at
 
-of_one : (number : ℕ) (t : Template) (ts : List Template) (n : List ℕ) (k : KnownVal) → Contains ts t → IsFrom number t 0 (definitions_of t.parsed) n k → IsOf ts n k
+of_one : (number : ℕ) (t : Template) (ts : List Template) (n : List ℕ) (k : KnownVal) → Contains ts t → IsFrom number t 0 (definitions_of t) n k → IsOf ts n k
 of_one number t ts n k among h = record {
   template = t;
   among = among;
@@ -98,7 +98,7 @@ of_one number t ts n k among h = record {
 found_in : (number : ℕ) (ts : List Template) (n : List ℕ) (k : KnownVal) → first_named n (defined_by number ts) ≡ Some k → IsOf ts n k
 found_in number [] n k e = absurd (cc)
 found_in number (t ∷ ts) n k e = elim (of_two n (defined_in number t) (defined_by (suc number) ts) k e) [
-  | inl e ↦ of_one number t (t ∷ ts) n k (first_in t ts) (is_from number t 0 (definitions_of t.parsed) n k e)
+  | inl e ↦ of_one number t (t ∷ ts) n k (first_in t ts) (is_from number t 0 (definitions_of t) n k e)
   | inr e ↦
       let h = found_in (suc number) ts n k e in
       record { template = h.template; among = later_in t ts h.template h.among; at = h.at; here = h.here; named = h.named; file = h.file; span = h.span }
@@ -119,7 +119,7 @@ module _ (e : Encoding) (sources : List Source) (ts : List Template) (n : List �
     record {
       file = h.file;
       at = h.at;
-      named = get_name (definitions_of h.template.parsed) h.at k.definition h.here ∙ ap Some h.named;
+      named = get_name (definitions_of h.template) h.at k.definition h.here ∙ ap Some h.named;
       start = ap (λ (s : Span). position_in e (text_named k.file sources) s.range.start) h.span;
       end = ap (λ (s : Span). position_in e (text_named k.file sources) s.range.end) h.span;
     },

@@ -1,15 +1,18 @@
--- What `findings_of` finds by a part of the components is what is found by all.
-use Rattle.std.proofs.Common.{◌≡◌, ◌∙◌, ℕ, List, [], ◌∷◌, map, true, Option, None, Some, Result, Ok, Err, String, string_bytes, IfOk, IfErr, MatchResult, refl, ap, subst}
+-- What is due of the findings in a tree, by components that are known alike.
+use Rattle.std.proofs.Common.{◌≡◌, ◌∙◌, ℕ, List, [], ◌++◌, map, Bool, true, Option, None, Some, String, string_bytes, MatchOption, refl, ap, subst}
+use Rattle.std.specs.List.{filter}
 use Rattle.std.specs.List.Sorted.{IsPermutation}
+use Rattle.std.specs.Option.{option_map_or}
 use Rattle.std.specs.declared.alloc.Global.{Global}
-use Rattle.tera_base.specs.ErrorView.{error_view}
-use Rattle.tera_base.specs.declared.errors.Error.{Error}
 use Rattle.tera_tree.specs.Outputs.{output_view}
 use Rattle.tera_tree.specs.declared.outputs.ParserOutput.{ParserOutput}
-use Rattle.tera_check.specs.Alike.{names_in, AreAlikeIfAny}
-use Rattle.tera_check.specs.Findings.{finding_view, IsOfError}
+use Rattle.tera_check.specs.Alike.{names_in, AreAlikeIfAny, AgreeOn}
+use Rattle.tera_check.specs.Due.{due_findings, is_due}
+use Rattle.tera_check.specs.FaultFindings.{AreFaultsOf}
+use Rattle.tera_check.specs.Findings.{FindingVal, finding_view}
 use Rattle.tera_check.specs.Judged.{KnownVal}
-use Rattle.tera_check.specs.Named.{tree_findings, first_named, defined_by}
+use Rattle.tera_check.specs.Lost.{are_open}
+use Rattle.tera_check.specs.Named.{tree_findings, tree_of, first_named, defined_by}
 use Rattle.tera_check.specs.OrderAndStatus.{IsInOrder}
 use Rattle.tera_check.specs.declared.finding.Finding.{Finding}
 use Rattle.tera_check.specs.declared.templates.Template.{Template}
@@ -19,29 +22,54 @@ use Rattle.tera_workspace.specs.Kept.{HasNames}
 use Rattle.tera_workspace.specs.Names.{is_among}
 use Rattle.tera_workspace.proofs.NameSets.{all_among}
 
+-- of the tree that there is, if any
+abbrev pub due_in : (List ℕ → Option KnownVal) → Bool → ℕ → Template → Option ParserOutput → List FindingVal
+due_in known open_text number t r = option_map_or (λ o. filter (is_due open_text t) (tree_findings known number t (output_view o))) r []
+
+pub due_alike : (number other : ℕ) (known others : List ℕ → Option KnownVal) (open_text : Bool) (t : Template) (r : Option ParserOutput)
+    → MatchOption r (Unit {0}) (λ o. AgreeOn (names_in (output_view o)) number other known others)
+    → due_in known open_text number t r ≡ due_in others open_text other t r
+due_alike number other known others open_text t None agree = refl
+due_alike number other known others open_text t (Some o) agree =
+    ap (filter (is_due open_text t)) (tree_alike number other known others t (output_view o) agree)
+
+-- what is due by other components, or by other texts that may define more
+pub found_if : (ts us : List Template) (number other : ℕ) (t : Template) (fs : List Finding) (h : IsFound ts number t fs)
+    → due_findings (λ n. first_named n (defined_by 0 ts)) (are_open ts) number t ≡ due_findings (λ n. first_named n (defined_by 0 us)) (are_open us) other t
+    → IsFound us other t fs
+found_if ts us number other t fs h same = record {
+  ordered = h.ordered;
+  faults = h.faults;
+  are = h.are;
+  found = subst (λ x. IsPermutation (h.faults ++ x) (map finding_view fs)) same h.found;
+}
+
+-- ---- by a part of the components
+
 alike_itself : (number : ℕ) (o : Option KnownVal) → AreAlikeIfAny number number o o
 alike_itself number None = tt
 alike_itself number (Some k) = record { name = refl; arguments = refl; rest = refl; file = refl; span = refl; own = refl }
 
-module _ (known : List ℕ → Option KnownVal) (ts : List Template) (number : ℕ) (t : Template) (names : List (List ℕ)) (fs : List Finding)
+module _ (known : List ℕ → Option KnownVal) (ts : List Template) (number : ℕ) (names : List (List ℕ))
     (same : (n : List ℕ) → is_among n names ≡ true → known n ≡ first_named n (defined_by 0 ts)) where
-  found_by : (r : Result ParserOutput Error)
-      → MatchResult r (λ o. names ≡ names_in (output_view o)) (λ _. Unit {0})
-      → IfOk r (λ o. IsPermutation (tree_findings known number t (output_view o)) (map finding_view fs)) → IfOk r (λ _. IsInOrder fs)
-      → IfErr r (λ e. (f : Finding) × (fs ≡ f ∷ []) × IsOfError (error_view e) (finding_view f))
-      → MatchResult r
-      (λ o. IsPermutation (tree_findings (λ n. first_named n (defined_by 0 ts)) number t (output_view o)) (map finding_view fs) × IsInOrder fs)
-      (λ e. (f : Finding) × (fs ≡ f ∷ []) × IsOfError (error_view e) (finding_view f))
-  found_by (Ok o) has found ordered fault =
-      let agree = all_among (λ n. AreAlikeIfAny number number (known n) (first_named n (defined_by 0 ts))) (names_in (output_view o))
-      (λ n among. subst (λ x. AreAlikeIfAny number number (known n) x) (same n (ap (is_among n) has ∙ among)) (alike_itself number (known n))) in
-      (subst (λ x. IsPermutation x (map finding_view fs)) (tree_alike number number known (λ n. first_named n (defined_by 0 ts)) t (output_view o) agree) found, ordered)
-  found_by (Err e) has found ordered fault = fault
+  agree_part : (r : Option ParserOutput) → MatchOption r (Unit {0}) (λ o. names ≡ names_in (output_view o))
+      → MatchOption r (Unit {0}) (λ o. AgreeOn (names_in (output_view o)) number number known (λ n. first_named n (defined_by 0 ts)))
+  agree_part None has = tt
+  agree_part (Some o) has =
+      all_among (λ n. AreAlikeIfAny number number (known n) (first_named n (defined_by 0 ts))) (names_in (output_view o))
+      (λ n among. subst (λ x. AreAlikeIfAny number number (known n) x) (same n (ap (is_among n) has ∙ among)) (alike_itself number (known n)))
 
-pub found_here : (known : List ℕ → Option KnownVal) (ts : List Template) (number : ℕ) (t : Template) (names : List (String Global)) (fs : List Finding)
+pub found_here : (known : List ℕ → Option KnownVal) (open_text : Bool) (ts : List Template) (number : ℕ) (t : Template) (names : List (String Global)) (fs : List Finding)
     → ((n : List ℕ) → is_among n (map string_bytes names) ≡ true → known n ≡ first_named n (defined_by 0 ts))
-    → HasNames names t
-    → IfOk t.parsed (λ o. IsPermutation (tree_findings known number t (output_view o)) (map finding_view fs)) → IfOk t.parsed (λ _. IsInOrder fs)
-    → IfErr t.parsed (λ e. (f : Finding) × (fs ≡ f ∷ []) × IsOfError (error_view e) (finding_view f))
+    → open_text ≡ are_open ts → HasNames names t → IsInOrder fs
+    → (faults : List FindingVal) → AreFaultsOf t faults → IsPermutation (faults ++ due_findings known open_text number t) (map finding_view fs)
     → IsFound ts number t fs
-found_here known ts number t names fs same has found ordered fault = found_by known ts number t (map string_bytes names) fs same t.parsed has found ordered fault
+found_here known open_text ts number t names fs same is has ordered faults are found = record {
+  ordered = ordered;
+  faults = faults;
+  are = are;
+  found =
+      subst (λ x. IsPermutation (faults ++ x) (map finding_view fs))
+      (due_alike number number known (λ n. first_named n (defined_by 0 ts)) open_text t (tree_of t) (agree_part known ts number (map string_bytes names) same (tree_of t) has)
+      ∙ ap (λ b. due_findings (λ n. first_named n (defined_by 0 ts)) b number t) is) found;
+}

@@ -1,26 +1,22 @@
 -- What was told stays as it would be found, where a document is put among others and those are marked that name what it
 -- defines.
-use Rattle.std.proofs.Common.{◌≡◌, ◌∙◌, ◌+◌, ◌<◌, ◌≤◌, ◌==◌, ℕ, zero, suc, List, [], ◌∷◌, ◌++◌, length, get_or, map, Bool, true, false, cond, Option, None, Some, Result, Ok, Err, MatchResult, string_bytes, refl, sym, ap, subst, inl, inr, arith, nat_eq, add-one}
+use Rattle.std.proofs.Common.{◌≡◌, ◌∙◌, ◌+◌, ◌<◌, ◌≤◌, ◌==◌, ℕ, zero, suc, List, [], ◌∷◌, ◌++◌, length, get_or, map, Bool, true, false, cond, Option, None, Some, MatchOption, string_bytes, refl, sym, ap, subst, inl, inr, arith, nat_eq, add-one}
 use Rattle.std.specs.List.{insert}
 use Rattle.std.specs.List.{AllByRecursion, list_any}
-use Rattle.std.specs.List.Sorted.{IsPermutation}
 use Rattle.std.specs.Str.{bytes_eq}
 use Rattle.std.proofs.lemmas.Bool.{cases_eq}
 use Rattle.std.proofs.lemmas.Bool.Decides.{leb_tells, eqb_tells}
 use Rattle.std.proofs.lemmas.List.Edits.{get_or-insert_at, get_or-insert_below, get_or-insert_above}
-use Rattle.tera_base.specs.ErrorView.{error_view}
-use Rattle.tera_base.specs.declared.errors.Error.{Error}
 use Rattle.tera_tree.specs.Outputs.{output_view}
 use Rattle.tera_tree.specs.Tree.{Definition}
 use Rattle.tera_tree.specs.declared.outputs.ParserOutput.{ParserOutput}
 use Rattle.tera_check.specs.Alike.{names_in, AreAlike, AreAlikeIfAny, AgreeOn}
-use Rattle.tera_check.specs.Findings.{finding_view, IsOfError}
+use Rattle.tera_check.specs.Due.{due_findings}
+use Rattle.tera_check.specs.Findings.{finding_view}
 use Rattle.tera_check.specs.Judged.{KnownVal}
-use Rattle.tera_check.specs.Named.{tree_findings, known_at, first_named, defined_from, defined_in, defined_by, definitions_of, or_else}
-use Rattle.tera_check.specs.OrderAndStatus.{IsInOrder}
-use Rattle.tera_check.specs.declared.finding.Finding.{Finding}
+use Rattle.tera_check.specs.Lost.{are_open}
+use Rattle.tera_check.specs.Named.{known_at, first_named, defined_from, defined_in, defined_by, definitions_of, or_else, tree_of}
 use Rattle.tera_check.specs.declared.templates.Template.{Template}
-use Rattle.tera_check.proofs.AlikeLemmas.{tree_alike}
 use Rattle.text_edits.specs.declared.positions.Encoding.{Encoding}
 use Rattle.tera_workspace.specs.Fresh.{IsTold}
 use Rattle.tera_workspace.specs.Heads.{definition_named, HaveOneHeadIfAny}
@@ -29,6 +25,7 @@ use Rattle.tera_workspace.specs.Names.{is_among}
 use Rattle.tera_workspace.specs.Sources.{Source, text_named}
 use Rattle.tera_workspace.specs.declared.judged.Judged.{Judged}
 use Rattle.tera_workspace.proofs.CurrentLemmas.{not_among, marked_sources, marked_templates, marked_at, marked_length, map_length, all_at, unmarked, false_true}
+use Rattle.tera_workspace.proofs.FoundLemmas.{due_alike, found_if}
 use Rattle.tera_workspace.proofs.KnownLemmas.{IsFirst, first_is, named_append}
 use Rattle.tera_workspace.proofs.NameSets.{all_among}
 use Rattle.tera_workspace.proofs.PlaceLemmas.{findings_same, all_beside, none_told}
@@ -78,54 +75,51 @@ module _ (number other : ℕ) where
   later_alike n from [] own = tt
   later_alike n from (t ∷ ts) own =
       append_alike n (defined_in from t) (defined_in (suc from) t) (defined_by (suc from) ts) (defined_by (suc (suc from)) ts)
-      (numbered_alike from (suc from) t n 0 (definitions_of t.parsed) (own from (omega arith))) (later_alike n (suc from) ts (λ m h. own m (omega arith)))
+      (numbered_alike from (suc from) t n 0 (definitions_of t) (own from (omega arith))) (later_alike n (suc from) ts (λ m h. own m (omega arith)))
 
-  insert_alike : (n : List ℕ) (u : Template) (from : ℕ) (ts : List Template) (i : ℕ) → i ≤ length ts → HaveOneHeadIfAny None (definition_named n (definitions_of u.parsed))
+  insert_alike : (n : List ℕ) (u : Template) (from : ℕ) (ts : List Template) (i : ℕ) → i ≤ length ts → HaveOneHeadIfAny None (definition_named n (definitions_of u))
       → ((m : ℕ) → m < from + i → nat_eq m number ≡ nat_eq m other) → ((m : ℕ) → from + i ≤ m → nat_eq m number ≡ nat_eq (suc m) other)
       → AreAlikeIfAny number other (first_named n (defined_by from ts)) (first_named n (defined_by from (insert ts i u)))
   insert_alike n u from ts zero within none before behind =
       append_alike n [] (defined_in from u) (defined_by from ts) (defined_by (suc from) ts)
-      (none_first from u (definition_named n (definitions_of u.parsed)) (first_named n (defined_in from u)) (first_is from u n 0 (definitions_of u.parsed)) none)
+      (none_first from u (definition_named n (definitions_of u)) (first_named n (defined_in from u)) (first_is from u n 0 (definitions_of u)) none)
       (later_alike n from ts (λ m h. behind m (omega arith)))
   insert_alike n u from [] (suc i) within none before behind = absurd (omega arith)
   insert_alike n u from (t ∷ ts) (suc i) within none before behind =
       append_alike n (defined_in from t) (defined_in from t) (defined_by (suc from) ts) (defined_by (suc from) (insert ts i u))
-      (numbered_alike from from t n 0 (definitions_of t.parsed) (before from (omega arith)))
+      (numbered_alike from from t n 0 (definitions_of t) (before from (omega arith)))
       (insert_alike n u (suc from) ts i (omega arith) none (λ m h. before m (omega arith)) (λ m h. behind m (omega arith)))
 
 -- ---- a document that was not marked, and has another number then
 
 module _ (number other : ℕ) (ts us : List Template) where
-  agree_by : (names : List (List ℕ)) (touched : List (List ℕ)) → list_any (λ m. is_among m names) touched ≡ false
-      → ((n : List ℕ) → is_among n touched ≡ false → AreAlikeIfAny number other (first_named n (defined_by 0 ts)) (first_named n (defined_by 0 us)))
-      → (r : Result ParserOutput Error) → MatchResult r (λ o. names ≡ names_in (output_view o)) (λ _. Unit {0})
-      → MatchResult r (λ o. AgreeOn (names_in (output_view o)) number other (λ n. first_named n (defined_by 0 ts)) (λ n. first_named n (defined_by 0 us))) (λ _. Unit {0})
-  agree_by names touched none alike (Ok o) has =
-      all_among (λ n. AreAlikeIfAny number other (first_named n (defined_by 0 ts)) (first_named n (defined_by 0 us))) (names_in (output_view o))
-      (λ n among. alike n (not_among names n (ap (is_among n) has ∙ among) touched none))
-  agree_by names touched none alike (Err e) has = tt
+  abbrev before : List ℕ → Option KnownVal
+  before n = first_named n (defined_by 0 ts)
 
-  found_by : (t : Template) (fs : List Finding) (r : Result ParserOutput Error)
-      → MatchResult r (λ o. AgreeOn (names_in (output_view o)) number other (λ n. first_named n (defined_by 0 ts)) (λ n. first_named n (defined_by 0 us))) (λ _. Unit {0})
-      → MatchResult r
-      (λ o. IsPermutation (tree_findings (λ n. first_named n (defined_by 0 ts)) number t (output_view o)) (map finding_view fs) × IsInOrder fs)
-      (λ e. (f : Finding) × (fs ≡ f ∷ []) × IsOfError (error_view e) (finding_view f))
-      → MatchResult r
-      (λ o. IsPermutation (tree_findings (λ n. first_named n (defined_by 0 us)) other t (output_view o)) (map finding_view fs) × IsInOrder fs)
-      (λ e. (f : Finding) × (fs ≡ f ∷ []) × IsOfError (error_view e) (finding_view f))
-  found_by t fs (Ok o) agree found =
-      (subst (λ x. IsPermutation x (map finding_view fs)) (tree_alike number other (λ n. first_named n (defined_by 0 ts)) (λ n. first_named n (defined_by 0 us)) t (output_view o) agree) found.0, found.1)
-  found_by t fs (Err e) agree found = found
+  abbrev now : List ℕ → Option KnownVal
+  now n = first_named n (defined_by 0 us)
+
+  agree_by : (names : List (List ℕ)) (touched : List (List ℕ)) → list_any (λ m. is_among m names) touched ≡ false
+      → ((n : List ℕ) → is_among n touched ≡ false → AreAlikeIfAny number other (before n) (now n))
+      → (r : Option ParserOutput) → MatchOption r (Unit {0}) (λ o. names ≡ names_in (output_view o))
+      → MatchOption r (Unit {0}) (λ o. AgreeOn (names_in (output_view o)) number other before now)
+  agree_by names touched none alike None has = tt
+  agree_by names touched none alike (Some o) has =
+      all_among (λ n. AreAlikeIfAny number other (before n) (now n)) (names_in (output_view o))
+      (λ n among. alike n (not_among names n (ap (is_among n) has ∙ among) touched none))
 
   moved_told : (e : Encoding) (file : List ℕ) (ss rs : List Source) (j : Judged) (touched : List (List ℕ))
       → HasNames j.names.items j.template → list_any (λ n. is_among n (map string_bytes j.names.items)) touched ≡ false → is_told_in file j ≡ false
-      → ((n : List ℕ) → is_among n touched ≡ false → AreAlikeIfAny number other (first_named n (defined_by 0 ts)) (first_named n (defined_by 0 us)))
+      → are_open ts ≡ are_open us
+      → ((n : List ℕ) → is_among n touched ≡ false → AreAlikeIfAny number other (before n) (now n))
       → ((name : List ℕ) → (name ≡ file → ⊥) → text_named name rs ≡ text_named name ss)
       → IsTold e ss ts number j.text j.template (told_of j) → IsTold e rs us other j.text j.template (told_of j)
-  moved_told e file ss rs j touched has none untold alike same (fs, found, told) =
-      let quiet = none_told e file ss j.text j.told.items (map finding_view fs) told untold in (
+  moved_told e file ss rs j touched has none untold opened alike same (fs, found, told) =
+      let quiet = none_told e file ss j.text j.told.items (map finding_view fs) told untold in
+      let agree = agree_by (map string_bytes j.names.items) touched none alike (tree_of j.template) has in (
         fs,
-        found_by j.template fs j.template.parsed (agree_by (map string_bytes j.names.items) touched none alike j.template.parsed has) found,
+        found_if ts us number other j.template fs found
+            (due_alike number other before now (are_open ts) j.template (tree_of j.template) agree ∙ ap (λ b. due_findings now b other j.template) opened),
         told ∙ sym (findings_same e file ss rs same j.text (map finding_view fs) (all_beside file (map finding_view fs) quiet)),
       )
 
@@ -142,23 +136,24 @@ insert_length [] (suc i) j h = absurd (omega arith)
 insert_length (x ∷ js) (suc i) j h = ap suc (insert_length js i j (omega arith))
 
 module _ (e : Encoding) (name : List ℕ) (touched : List (List ℕ)) (js : List Judged) (i : ℕ) (j : Judged) (within : i ≤ length js) (stale : j.stale ≡ true) (whole : AllByRecursion IsWhole js)
-    (heads : (n : List ℕ) → is_among n touched ≡ false → HaveOneHeadIfAny None (definition_named n (definitions_of j.template.parsed)))
+    (heads : (n : List ℕ) → is_among n touched ≡ false → HaveOneHeadIfAny None (definition_named n (definitions_of j.template)))
     (same : (n : List ℕ) → (n ≡ name → ⊥) → text_named n (sources_of (insert js i j)) ≡ text_named n (sources_of js)) where
   abbrev after : List Judged
   after = map (marked touched name) (insert js i j)
 
   -- one of the others, which had a number and has another now
-  other_current : (k l : ℕ) (x : Judged) → k < length js → IsCurrent e js k (get_or js k x) → IsWhole (get_or js k x)
+  other_current : (k l : ℕ) (x : Judged) → are_open (templates_of js) ≡ are_open (templates_of after) → k < length js → IsCurrent e js k (get_or js k x) → IsWhole (get_or js k x)
       → ((m : ℕ) → m < i → nat_eq m k ≡ nat_eq m l) → ((m : ℕ) → i ≤ m → nat_eq m k ≡ nat_eq (suc m) l)
       → IsCurrent e after l (marked touched name (get_or js k x))
-  other_current k l x in_it current is_whole before behind fresh =
+  other_current k l x opened in_it current is_whole before behind fresh =
       let one = get_or js k x in
       let (none, untold, was) = unmarked (list_any (λ n. is_among n (map string_bytes one.names.items)) touched) (is_told_in name one) one.stale fresh in
       let alike : (n : List ℕ) → is_among n touched ≡ false → AreAlikeIfAny k l (first_named n (defined_by 0 (templates_of js))) (first_named n (defined_by 0 (templates_of (insert js i j)))) =
       λ n free. subst (λ ts. AreAlikeIfAny k l (first_named n (defined_by 0 (templates_of js))) (first_named n (defined_by 0 ts))) (sym (map_insert (λ (y : Judged). y.template) js i j))
       (insert_alike k l n j.template 0 (templates_of js) i (omega (arith, within, map_length (λ (y : Judged). y.template) js)) (heads n free) (λ m h. before m (omega (arith, h))) (λ m h. behind m (omega (arith, h)))) in
       let told : IsTold e (sources_of (insert js i j)) (templates_of (insert js i j)) l one.text one.template (told_of one) =
-      moved_told k l (templates_of js) (templates_of (insert js i j)) e name (sources_of js) (sources_of (insert js i j)) one touched is_whole.names none untold alike same (current was) in
+      moved_told k l (templates_of js) (templates_of (insert js i j)) e name (sources_of js) (sources_of (insert js i j)) one touched is_whole.names none untold
+      (opened ∙ ap are_open (marked_templates touched name (insert js i j))) alike same (current was) in
       subst (λ ss. IsTold e ss (templates_of after) l one.text one.template (told_of one)) (sym (marked_sources touched name (insert js i j)))
       (subst (λ ts. IsTold e (sources_of (insert js i j)) ts l one.text one.template (told_of one)) (sym (marked_templates touched name (insert js i j))) told)
 
@@ -166,31 +161,31 @@ module _ (e : Encoding) (name : List ℕ) (touched : List (List ℕ)) (js : List
   fresh_not fresh =
       let (_, _, was) = unmarked (list_any (λ n. is_among n (map string_bytes j.names.items)) touched) (is_told_in name j) j.stale fresh in absurd (false_true (sym was ∙ stale))
 
-  behind_it : (k : ℕ) (x : Judged) → k < length (insert js i j) → AreCurrent e js → i < k → IsCurrent e after k (marked touched name (get_or (insert js i j) k x))
-  behind_it zero x in_it current above = absurd (omega arith)
-  behind_it (suc k) x in_it current above =
+  behind_it : (k : ℕ) (x : Judged) → are_open (templates_of js) ≡ are_open (templates_of after) → k < length (insert js i j) → AreCurrent e js → i < k → IsCurrent e after k (marked touched name (get_or (insert js i j) k x))
+  behind_it zero x opened in_it current above = absurd (omega arith)
+  behind_it (suc k) x opened in_it current above =
       let before : k < length js = omega (arith, in_it, insert_length js i j within) in
       subst (λ y. IsCurrent e after (suc k) (marked touched name y)) (sym (ap (λ m. get_or (insert js i j) m x) (sym (add-one k)) ∙ get_or-insert_above js i j x k (omega (arith, above)) within))
-      (other_current k (suc k) x before (current k x before) (all_at IsWhole js k x whole before)
+      (other_current k (suc k) x opened before (current k x before) (all_at IsWhole js k x whole before)
       (λ m h. eq_same m k m (suc k) (λ e. absurd (omega (arith, e, h, above))) (λ e. absurd (omega (arith, e, h, above))))
       (λ m h. eq_same m k (suc m) (suc k) (λ e. ap suc e) (λ e. omega (arith, e))))
 
-  at_place : (k : ℕ) (x : Judged) → k < length (insert js i j) → AreCurrent e js → IsCurrent e after k (marked touched name (get_or (insert js i j) k x))
-  at_place k x in_it current = elim (leb_tells (suc k) i) [
+  at_place : (k : ℕ) (x : Judged) → are_open (templates_of js) ≡ are_open (templates_of after) → k < length (insert js i j) → AreCurrent e js → IsCurrent e after k (marked touched name (get_or (insert js i j) k x))
+  at_place k x opened in_it current = elim (leb_tells (suc k) i) [
     | inl below ↦
         let before : k < length js = omega (arith, below.1, within) in
         subst (λ y. IsCurrent e after k (marked touched name y)) (sym (get_or-insert_below js i j x k below.1 within))
-        (other_current k k x before (current k x before) (all_at IsWhole js k x whole before) (λ m h. refl)
+        (other_current k k x opened before (current k x before) (all_at IsWhole js k x whole before) (λ m h. refl)
         (λ m h. eq_same m k (suc m) k (λ e. absurd (omega (arith, e, h, below.1))) (λ e. absurd (omega (arith, e, h, below.1)))))
     | inr above ↦ elim (cases_eq k i) [
       | inl is ↦
           subst (λ y. IsCurrent e after k (marked touched name y)) (sym (ap (λ m. get_or (insert js i j) m x) is ∙ get_or-insert_at js i j x within))
           (subst (λ m. IsCurrent e after m (marked touched name j)) (sym is) fresh_not)
-      | inr not ↦ behind_it k x in_it current (omega (arith, above.1, not))
+      | inr not ↦ behind_it k x opened in_it current (omega (arith, above.1, not))
     ]
   ]
 
-  pub inserted_current : AreCurrent e js → AreCurrent e after
-  inserted_current current k x in_it =
+  pub inserted_current : are_open (templates_of js) ≡ are_open (templates_of after) → AreCurrent e js → AreCurrent e after
+  inserted_current opened current k x in_it =
       let inside : k < length (insert js i j) = omega (arith, in_it, marked_length touched name (insert js i j)) in
-      subst (λ y. IsCurrent e after k y) (sym (marked_at touched name (insert js i j) k x inside)) (at_place k x inside current)
+      subst (λ y. IsCurrent e after k y) (sym (marked_at touched name (insert js i j) k x inside)) (at_place k x opened inside current)

@@ -58,10 +58,10 @@ module _ (file : List ℕ) (number : ℕ) where
         record { name = h.name; arguments = h.arguments; rest = h.rest; same_file = old ∙ sym now; span = inl old; own = refl } in
         subst (λ x. AreAlikeBut file number x j) (sym is) (subst (λ y. AreAlikeBut file number (known_at m t at d) y) (sym js) made)
 
-    pub template_alike : (n : List ℕ) → HaveOneHeadIfAny (definition_named n (definitions_of t.parsed)) (definition_named n (definitions_of u.parsed))
+    pub template_alike : (n : List ℕ) → HaveOneHeadIfAny (definition_named n (definitions_of t)) (definition_named n (definitions_of u))
         → (m : ℕ) → AreAlikeButIfAny file number (first_named n (defined_in m t)) (first_named n (defined_in m u))
     template_alike n h m =
-        heads_alike m _ _ _ _ (first_is m t n 0 (definitions_of t.parsed)) (first_is m u n 0 (definitions_of u.parsed)) h
+        heads_alike m _ _ _ _ (first_is m t n 0 (definitions_of t)) (first_is m u n 0 (definitions_of u)) h
 
   -- under a name, by all templates
   pub all_alike : (n : List ℕ) (u d : Template) (from : ℕ) (ts : List Template) (i : ℕ) → i < length ts

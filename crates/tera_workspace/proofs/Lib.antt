@@ -14,6 +14,7 @@ pub mod MarkLemmas
 pub mod NameSets
 pub mod NewsLemmas
 pub mod NumberLemmas
+pub mod OpenedLemmas
 pub mod PlaceLemmas
 pub mod ReadSoFar
 pub mod ReadingLemmas

@@ -9,10 +9,11 @@ use Rattle.std.specs.declared.cmp.Ordering.TheVariants.{Less, Equal, Greater}
 use Rattle.std.proofs.lemmas.Map.Text.{is_eq-slice_cmp}
 use Rattle.std.specs.Str.{bytes_eq}
 use Rattle.std.proofs.lemmas.Slice.Eq.{bytes_eq-Decides}
+use Rattle.tera_check.specs.Lost.{are_open}
 use Rattle.tera_check.specs.Named.{definitions_of}
 use Rattle.tera_workspace.specs.Diagnostics.{DiagnosticVal}
 use Rattle.tera_workspace.specs.Heads.{definition_named, HaveOneHeadIfAny}
-use Rattle.tera_workspace.specs.Kept.{source_of, sources_of, told_of, told_named, has_name, NoneBefore, IsNumbered, IsPlaceOf, IsWhole, IsAnew, AllWhole, AreCurrent, StayKept, IsTextAt, marked}
+use Rattle.tera_workspace.specs.Kept.{source_of, sources_of, templates_of, told_of, told_named, has_name, NoneBefore, IsNumbered, IsPlaceOf, IsWhole, IsAnew, AllWhole, AreCurrent, StayKept, IsTextAt, marked}
 use Rattle.tera_workspace.specs.Names.{is_among}
 use Rattle.tera_workspace.specs.Sources.{Source, AreInOrder, AreAscending, text_named}
 use Rattle.tera_workspace.specs.declared.diagnostics.Diagnostic.{Diagnostic}
@@ -21,6 +22,7 @@ use Rattle.tera_workspace.proofs.NumberLemmas.{text_numbered}
 use Rattle.tera_workspace.proofs.PlaceLemmas.{differ}
 use Rattle.tera_workspace.proofs.CurrentLemmas.{replaced_current, marked_sources, marked_at, marked_length, sources_set}
 use Rattle.tera_workspace.proofs.InsertLemmas.{inserted_current}
+use Rattle.tera_workspace.proofs.OpenedLemmas.{StayIf, now_marked, kept_if, text_if}
 
 false_true : false ≡ true → ⊥
 false_true e = cc
@@ -204,7 +206,7 @@ module _ (name : List ℕ) (j : Judged) (named : string_bytes j.template.file �
 -- ---- another text of one that is among them
 
 module _ (name : List ℕ) (touched : List (List ℕ)) (js : List Judged) (i : ℕ) (j d : Judged) (number : IsNumbered name js i) (anew : IsAnew name j.text j)
-    (heads : (n : List ℕ) → is_among n touched ≡ false → HaveOneHeadIfAny (definition_named n (definitions_of (get_or js i d).template.parsed)) (definition_named n (definitions_of j.template.parsed))) where
+    (heads : (n : List ℕ) → is_among n touched ≡ false → HaveOneHeadIfAny (definition_named n (definitions_of (get_or js i d).template)) (definition_named n (definitions_of j.template))) where
   -- it keeps what was told
   abbrev pub with_told : Judged
   with_told = record j { told = (get_or js i d).told }
@@ -218,12 +220,13 @@ module _ (name : List ℕ) (touched : List (List ℕ)) (js : List Judged) (i : �
   told_same : told_of with_told ≡ told_of (get_or (map (marked touched name) js) i with_told)
   told_same = ap told_of (default_same js i d with_told number.within) ∙ sym (ap told_of (marked_at touched name js i with_told number.within))
 
-  pub put_kept : StayKept js put_there
-  put_kept = record {
+  put_stays : StayIf js put_there
+  put_stays = record {
     whole = λ w. set_whole (map (marked touched name) js) i with_told whole_told (marked_whole touched name js w);
-    current = λ e w current.
+    current = λ e w opened current.
         subst (λ file. AreCurrent e (set (map (marked touched file) js) i with_told)) anew.named
-        (replaced_current e touched js i with_told d number.within (equal (string_bytes (get_or js i d).template.file) name (number.is d) ∙ sym anew.named) anew.stale w heads current);
+        (replaced_current e touched js i with_told d number.within (equal (string_bytes (get_or js i d).template.file) name (number.is d) ∙ sym anew.named) anew.stale w heads
+        (subst (λ file. are_open (templates_of js) ≡ are_open (templates_of (set (map (marked touched file) js) i with_told))) (sym anew.named) opened) current);
     ordered = λ o. subst AreInOrder (sym (names_set (map (marked touched name) js) i with_told
         (ap (λ x. string_bytes x.template.file) (marked_at touched name js i with_told number.within) ∙ equal (string_bytes (get_or js i with_told).template.file) name (number.is with_told) ∙ sym anew.named)
         ∙ ap (map (λ (s : Source). s.name)) (marked_sources touched name js))) o;
@@ -234,10 +237,16 @@ module _ (name : List ℕ) (touched : List (List ℕ)) (js : List Judged) (i : �
         ∙ marked_told n touched name js;
   }
 
-  pub put_text : IsTextAt name j.text js put_there
+  put_text : IsTextAt name j.text js put_there
   put_text n =
       ap (text_named n) (sources_set (map (marked touched name) js) i with_told ∙ ap (λ ss. set ss i (source_of j)) (marked_sources touched name js))
       ∙ text_set name j anew.named js i number.within (number.is j) (λ m h. number.first m j h) n
+
+  pub put_kept : StayKept js (now_marked js put_there)
+  put_kept = kept_if js put_there put_stays
+
+  pub put_read : IsTextAt name j.text js (now_marked js put_there)
+  put_read = text_if js put_there name j.text put_text
 
   -- as the code puts it there: the mark, and then the other text
   pub put_is : (items : List Judged) (m n : Judged) (told : Vec Diagnostic Global) → items ≡ map (marked touched name) js → m ≡ get_or items i m → told ≡ m.told
@@ -260,19 +269,28 @@ text_stays name text js i d number same n =
 -- ---- one more
 
 module _ (name : List ℕ) (touched : List (List ℕ)) (js : List Judged) (i : ℕ) (j : Judged) (place : IsPlaceOf name js i) (none : NoneBefore name js (length js)) (anew : IsAnew name j.text j)
-    (heads : (n : List ℕ) → is_among n touched ≡ false → HaveOneHeadIfAny None (definition_named n (definitions_of j.template.parsed))) where
+    (heads : (n : List ℕ) → is_among n touched ≡ false → HaveOneHeadIfAny None (definition_named n (definitions_of j.template))) where
   text_more : (n : List ℕ) → text_named n (sources_of (insert js i j)) ≡ cond (bytes_eq name n) j.text (text_named n (sources_of js))
   text_more n = text_insert name j anew.named js i place.within (λ m h. none m j h) n
 
-  pub insert_kept : StayKept js (map (marked touched name) (insert js i j))
-  insert_kept = record {
+  abbrev pub inserted : List Judged
+  inserted = map (marked touched name) (insert js i j)
+
+  insert_stays : StayIf js inserted
+  insert_stays = record {
     whole = λ w. marked_whole touched name (insert js i j) (insert_whole js i j place.within anew.whole w);
-    current = λ e w current.
+    current = λ e w opened current.
         inserted_current e name touched js i j place.within anew.stale w heads
-        (λ n other. text_more n ∙ ap (λ b. cond b j.text (text_named n (sources_of js))) (differ name n (λ same. other (sym same)))) current;
+        (λ n other. text_more n ∙ ap (λ b. cond b j.text (text_named n (sources_of js))) (differ name n (λ same. other (sym same)))) opened current;
     ordered = λ o. subst AreAscending (sym (marked_sources touched name (insert js i j))) (insert_sorted name j anew.named js i place (λ m h. none m j h) o);
     told = λ n. marked_told n touched name (insert js i j) ∙ told_insert name j anew.named js i place.within anew.untold (λ m h. none m j h) n;
   }
 
-  pub insert_text : IsTextAt name j.text js (map (marked touched name) (insert js i j))
+  insert_text : IsTextAt name j.text js inserted
   insert_text n = ap (text_named n) (marked_sources touched name (insert js i j)) ∙ text_more n
+
+  pub insert_kept : StayKept js (now_marked js inserted)
+  insert_kept = kept_if js inserted insert_stays
+
+  pub insert_read : IsTextAt name j.text js (now_marked js inserted)
+  insert_read = text_if js inserted name j.text insert_text

@@ -86,7 +86,7 @@ module _ (n : List ℕ) (number : ℕ) (t : Template) (ds : List ComponentDefini
 
 -- the definitions of the next document, and those of the others
 pub document_begun : (n : List ℕ) (js : List Judged) (number : ℕ) (j : Judged) (ds : List ComponentDefinition) (all : Option KnownVal) → number < length js → j ≡ get_or js number j
-    → map definition_view ds ≡ definitions_of j.template.parsed → all ≡ first_named n (defined_by number (templates_of (drop number js)))
+    → map definition_view ds ≡ definitions_of j.template → all ≡ first_named n (defined_by number (templates_of (drop number js)))
     → all ≡ or_else (first_from n number j.template ds 0) (first_named n (defined_by (number + 1) (templates_of (drop (number + 1) js))))
 document_begun n js number j ds all within is same held =
     document_next n js number j None (first_named n (defined_in number j.template)) all within is held refl

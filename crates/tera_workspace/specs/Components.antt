@@ -11,9 +11,9 @@ use Rattle.tera_check.specs.declared.templates.Template.{Template}
 use Rattle.tera_workspace.specs.Kept.{name_of, templates_of}
 use Rattle.tera_workspace.specs.declared.workspace.Workspace.{Workspace}
 
--- the names of the components that a template defines, in order, and those of templates; one with a fault defines none
+-- the names of the components that a template defines, in order, and those of templates
 abbrev pub names_defined : Template → List (List ℕ)
-names_defined t = map (λ d. d.name) (definitions_of t.parsed)
+names_defined t = map (λ d. d.name) (definitions_of t)
 
 abbrev pub components_by : List Template → List (List ℕ)
 components_by ts = flat_map names_defined ts

@@ -77,7 +77,7 @@ pub record IsParameterIn (ts : List Template) (name parameter : List ℕ) : Type
   pub among : Contains ts template
   pub definition : TreeDefinition
   pub at : ℕ
-  pub here : slice_get (definitions_of template.parsed) at ≡ Some definition
+  pub here : slice_get (definitions_of template) at ≡ Some definition
   pub named : definition.name ≡ name
   pub argument : List ℕ × Argument
   pub there : Contains definition.arguments argument

@@ -1,7 +1,6 @@
 -- What is found in documents, computed afresh.
-use Rattle.std.specs.Prelude.{◌≡◌, ℕ, ◌<◌, List, [], ◌∷◌, length, map, string_bytes, slice_index_or, IfOk, IfErr, MatchResult}
+use Rattle.std.specs.Prelude.{◌≡◌, ℕ, ◌<◌, List, [], ◌++◌, length, map, string_bytes, slice_index_or, None, IfOk, IfErr, IfSome, MatchOption, MatchResult}
 use Rattle.std.specs.List.Sorted.{IsPermutation}
-use Rattle.tera_base.specs.ErrorView.{error_view}
 use Rattle.tera_grammar.specs.Limits.{usual}
 use Rattle.tera_grammar.specs.statements.Places.{Places}
 use Rattle.tera_grammar.specs.statements.Reading.Meeting.{group_all, nothing_grouped}
@@ -13,14 +12,22 @@ use Rattle.tera_statements.specs.Known.{grouped_of}
 use Rattle.tera_tree.specs.Outputs.{output_view}
 use Rattle.tera_tree.specs.Tree.{Output}
 use Rattle.tera_check.specs.Faults.{IsSyntaxError}
-use Rattle.tera_check.specs.Findings.{finding_view, IsOfError}
-use Rattle.tera_check.specs.Named.{tree_findings, first_named, defined_by}
+use Rattle.tera_check.specs.Due.{due_findings}
+use Rattle.tera_check.specs.FaultFindings.{AreFaultsOf}
+use Rattle.tera_check.specs.Findings.{FindingVal, finding_view}
+use Rattle.tera_check.specs.Lost.{are_open}
+use Rattle.tera_check.specs.Mended.{IsMended, text_of}
+use Rattle.tera_check.specs.Named.{tree_of, first_named, defined_by}
 use Rattle.tera_check.specs.OrderAndStatus.{IsInOrder}
 use Rattle.tera_check.specs.declared.finding.Finding.{Finding}
 use Rattle.tera_check.specs.declared.templates.Template.{Template}
 use Rattle.text_edits.specs.declared.positions.Encoding.{Encoding}
 use Rattle.tera_workspace.specs.Diagnostics.{DiagnosticVal, diagnostic_of}
 use Rattle.tera_workspace.specs.Sources.{Source}
+
+-- how many faults of a document are reported at the most
+abbrev pub most_faults : ℕ
+most_faults = 100
 
 -- the template is what `read_template` gives for the source
 pub record IsRead (s : Source) (t : Template) : Type 0 where
@@ -31,16 +38,20 @@ pub record IsRead (s : Source) (t : Template) : Type 0 where
   pub fault : IfErr t.parsed IsSyntaxError
   pub refusal : IfErr t.parsed (Refuses default_marks s.text)
   pub notes : IfErr t.parsed (NotesName s.name)
-  pub places : MatchResult t.parsed
-      (λ o. (names : Places) × DerivesNames usual default_marks s.text (output_view o) names × (t.defined_at.items ≡ map (λ n. n.span) names.components)
+  pub unmended : IfOk t.parsed (λ _. t.mended ≡ None)
+  pub mended : IfSome t.mended (IsMended s.name s.text most_faults)
+  pub places : MatchOption (tree_of t)
+      ((t.defined_at.items ≡ []) × (grouped_of t.parameters_at ≡ nothing_grouped))
+      (λ o. (names : Places) × DerivesNames usual default_marks (text_of s.text t) (output_view o) names × (t.defined_at.items ≡ map (λ n. n.span) names.components)
       × (grouped_of t.parameters_at ≡ group_all names.parameters nothing_grouped))
-      (λ _. (t.defined_at.items ≡ []) × (grouped_of t.parameters_at ≡ nothing_grouped))
 
--- what is found in the template of a number beside all of these, as `findings_of` gives it
-abbrev pub IsFound : List Template → ℕ → Template → List Finding → Type 0
-IsFound ts number t fs = MatchResult t.parsed
-    (λ o. IsPermutation (tree_findings (λ n. first_named n (defined_by 0 ts)) number t (output_view o)) (map finding_view fs) × IsInOrder fs)
-    (λ e. (f : Finding) × (fs ≡ f ∷ []) × IsOfError (error_view e) (finding_view f))
+-- what is found in the template of a number beside all of these, as `findings_of` gives it: its faults, and what is due
+-- of its tree
+pub record IsFound (ts : List Template) (number : ℕ) (t : Template) (fs : List Finding) : Type 0 where
+  pub ordered : IsInOrder fs
+  pub faults : List FindingVal
+  pub are : AreFaultsOf t faults
+  pub found : IsPermutation (faults ++ due_findings (λ n. first_named n (defined_by 0 ts)) (are_open ts) number t) (map finding_view fs)
 
 -- and what is to be told of it in a text
 abbrev pub IsTold : Encoding → List Source → List Template → ℕ → List ℕ → Template → List DiagnosticVal → Type 0

@@ -1,5 +1,5 @@
 -- What documents that were judged stand for, and what is so of them.
-use Rattle.std.specs.Prelude.{◌≡◌, ◌||◌, if◌then◌else◌, ℕ, ◌<◌, ◌≤◌, List, [], ◌∷◌, Bool, true, false, cond, length, map, String, string_bytes, slice_index_or, MatchResult}
+use Rattle.std.specs.Prelude.{◌≡◌, ◌||◌, if◌then◌else◌, ℕ, ◌<◌, ◌≤◌, List, [], ◌∷◌, Bool, true, false, cond, length, map, String, string_bytes, slice_index_or, MatchOption}
 use Rattle.std.specs.BTreeSet.{BTreeSet}
 use Rattle.std.specs.Borrow.{Bor}
 use Rattle.std.specs.Cmp.Lexicographic.{slice_cmp}
@@ -9,6 +9,7 @@ use Rattle.std.specs.Str.{bytes_eq}
 use Rattle.std.specs.declared.alloc.Global.{Global}
 use Rattle.tera_tree.specs.Outputs.{output_view}
 use Rattle.tera_check.specs.Alike.{names_in}
+use Rattle.tera_check.specs.Named.{tree_of}
 use Rattle.tera_check.specs.declared.templates.Template.{Template}
 use Rattle.text_edits.specs.declared.positions.Encoding.{Encoding}
 use Rattle.tera_workspace.specs.Diagnostics.{DiagnosticVal, diagnostic_view}
@@ -56,9 +57,10 @@ pub record IsPlaceOf (n : List ℕ) (js : List Judged) (k : ℕ) : Type 0 where
   pub before : (m : ℕ) (d : Judged) → m < k → is_gt (slice_cmp nat_cmp (string_bytes (slice_index_or js m d).template.file) n) ≡ false
   pub behind : (d : Judged) → k < length js → is_gt (slice_cmp nat_cmp (string_bytes (slice_index_or js k d).template.file) n) ≡ true
 
--- these are the names of the components that the template defines and calls; of one with a fault none are asked for
+-- these are the names of the components that the tree of the template defines and calls; of one without a tree none are
+-- asked for
 abbrev pub HasNames : List (String Global) → Template → Type 0
-HasNames names t = MatchResult t.parsed (λ o. map string_bytes names ≡ names_in (output_view o)) (λ _. Unit {0})
+HasNames names t = MatchOption (tree_of t) (Unit {0}) (λ o. map string_bytes names ≡ names_in (output_view o))
 
 -- a document was read
 pub record IsWhole (j : Judged) : Type 0 where
@@ -97,6 +99,16 @@ is_told_in file j = list_any (is_about file) j.told.items
 abbrev pub marked : List (List ℕ) → List ℕ → Judged → Judged
 marked touched file j =
     record j { stale = if list_any (λ n. is_among n (map string_bytes j.names.items)) touched || is_told_in file j then true else j.stale }
+
+-- all of them, if these differ: whether one may define more components than its tree, before and now
+abbrev pub made_stale : Judged → Judged
+made_stale j = record j { stale = true }
+
+abbrev pub marked_if : Bool → Bool → List Judged → List Judged
+marked_if true true js = js
+marked_if false false js = js
+marked_if true false js = map made_stale js
+marked_if false true js = map made_stale js
 
 -- the names have all by which the documents are judged that are stale
 abbrev pub WantsAll : BTreeSet (Bor (List ℕ)) → List Judged → Type 0

@@ -4,16 +4,20 @@ ghost use Rattle.std.specs.Prelude.{◌≡◌, ◌++◌, IfOk, OnOk, map, length
 ghost use Rattle.std.specs.List.{flat_map};
 ghost use Rattle.tera_tree.specs.View.{definition_view};
 ghost use Rattle.tera_check.specs.Alike.{name_called};
+ghost use Rattle.tera_check.specs.Lost.{are_open};
 ghost use Rattle.tera_check.specs.Named.{definitions_of};
 ghost use Rattle.tera_check.specs.Pending.{seen};
-ghost use Rattle.tera_workspace.specs.Kept.{HasNames, IsAnew, NoneBefore, IsNumbered};
+ghost use Rattle.tera_workspace.specs.Kept.{HasNames, IsAnew, NoneBefore, IsNumbered, templates_of};
 
 use crate::diagnostics::Diagnostic;
 use crate::lined_text::LinedText;
 use std::alloc::{AllocError, Global};
-use tera_check::{Template, calls_of, read_template};
+use tera_check::{Template, calls_of, is_open, read_template, tree_of};
 use tera_parser::ast::{ComponentCall, ComponentDefinition};
 use tera_parser::value::Spanned;
+
+/// How many faults of a document are reported at the most.
+const MOST_FAULTS: usize = 100;
 
 /// A document: the text that was read, and what was told of it.
 #[derive(Drop)]
@@ -33,7 +37,7 @@ impl Judged {
         ensures { IfOk result (IsAnew name.now text.now) }
     {
         let lined = LinedText::of(alloc, text)?;
-        let template = read_template(alloc, name, text)?;
+        let template = read_template(alloc, name, text, MOST_FAULTS)?;
         let names = names_of(alloc, &template)?;
         Ok(Judged {
             text: lined,
@@ -47,12 +51,19 @@ impl Judged {
 
 /// The components that the template defines.
 pub(crate) fn definitions_of(template: &Template) -> &[ComponentDefinition]
-    ensures { map definition_view result.now ≡ definitions_of template.now.parsed }
+    ensures { map definition_view result.now ≡ definitions_of template.now }
 {
-    match &template.parsed {
-        Ok(output) => output.component_definitions.as_slice(),
-        Err(_) => &[],
+    match tree_of(template) {
+        Some(output) => output.component_definitions.as_slice(),
+        None => &[],
     }
+}
+
+/// Whether a document may define more components than its tree.
+pub(crate) fn are_open(all: &Vec<Judged>) -> bool
+    ensures { result ≡ are_open (templates_of all.now.items) }
+{
+    all.iter().any(|judged| is_open(&judged.template))
 }
 
 /// Adds the names of the components that have these definitions.
@@ -73,7 +84,7 @@ fn names_of(alloc: Global, template: &Template) -> Result<Vec<String>, AllocErro
     ensures { IfOk result (λ v. HasNames v.items template.now) }
 {
     let mut names = Vec::new(alloc);
-    let Ok(output) = &template.parsed else {
+    let Some(output) = tree_of(template) else {
         return Ok(names);
     };
     push_defined(&mut names, output.component_definitions.as_slice())?;

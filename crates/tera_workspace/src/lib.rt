@@ -2,7 +2,10 @@
 //!
 //! It takes documents as `text_edits` keeps them, and tells what `tera_check` finds in each, with positions of
 //! `text_edits` in the place of spans. After an edit the document is read again, unless it has the text that was judged;
-//! judged again are it and those that name a component that may be another now, or that were told a place in it.
+//! judged again are it and those that name a component that may be another now, or that were told a place in it. All are
+//! judged again where a document may define more components than its tree now and none could before, or the other way
+//! round.
+//!
 //! It tells which components and files there are, which parameters a component has and where it is defined, and which texts
 //! it has read, too.
 //!

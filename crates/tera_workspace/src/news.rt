@@ -2,6 +2,7 @@
 
 ghost use Rattle.std.specs.Prelude.{◌≡◌, ℕ, List, true, IfOk, length, map, string_bytes};
 ghost use Rattle.std.specs.Bool.{Decides};
+ghost use Rattle.tera_check.specs.Lost.{are_open};
 ghost use Rattle.tera_check.specs.Named.{known_in, first_named, defined_by};
 ghost use Rattle.tera_workspace.specs.Kept.{IsWhole, AllWhole, WantsAll, templates_of, told_of};
 ghost use Rattle.tera_workspace.specs.Names.{is_among};
@@ -9,7 +10,7 @@ ghost use Rattle.tera_workspace.specs.Told.{IsNews, AreNews, AreOfOthers, told_o
 
 use crate::catalogue::catalogue_for;
 use crate::diagnostics::{Diagnostic, diagnostics_of};
-use crate::judged::Judged;
+use crate::judged::{Judged, are_open};
 use std::alloc::{AllocError, Global};
 use std::collections::BTreeSet;
 use tera_check::{Catalogue, findings_of};
@@ -26,9 +27,10 @@ pub(crate) fn news_of(
 {
     let wanted = wanted_of(alloc, all)?;
     let catalogue = catalogue_for(alloc, all, &wanted)?;
+    let is_open = are_open(all);
     let mut news = Vec::new(alloc);
     for (number, judged) in all.iter().enumerate() {
-        news.push(news_of_one(alloc, encoding, &catalogue, all, number, judged)?)?;
+        news.push(news_of_one(alloc, encoding, &catalogue, is_open, all, number, judged)?)?;
     }
     Ok(news)
 }
@@ -37,10 +39,12 @@ fn news_of_one(
     alloc: Global,
     encoding: Encoding,
     catalogue: &Catalogue<'_>,
+    is_open: bool,
     all: &Vec<Judged>,
     number: usize,
     judged: &Judged,
 ) -> Result<Option<Vec<Diagnostic>>, AllocError>
+    requires is_open { is_open ≡ are_open (templates_of all.now.items) }
     requires known { judged.now.stale ≡ true → (n : List ℕ) →
         is_among n (map string_bytes judged.now.names.items) ≡ true →
         known_in catalogue.now n ≡ first_named n (defined_by 0 (templates_of all.now.items)) }
@@ -49,7 +53,7 @@ fn news_of_one(
     if !judged.stale {
         return Ok(None);
     }
-    let findings = findings_of(alloc, catalogue, number, &judged.template)?;
+    let findings = findings_of(alloc, catalogue, is_open, number, &judged.template)?;
     let diagnostics = diagnostics_of(alloc, encoding, all, judged, findings)?;
     Ok(Some(diagnostics))
 }

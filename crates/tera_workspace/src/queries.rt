@@ -59,7 +59,7 @@ impl Workspace {
     }
 
     /// The names of the components that the documents define that were read, in the order of the documents and of their
-    /// definitions. One with a fault defines none.
+    /// definitions. One with a fault defines those of what is left of it.
     pub fn components(&self, alloc: Global) -> Result<Vec<&str>, AllocError>
         ensures { IfOk result (λ v. map (λ n. n.now) v.items ≡ components_of self.now) }
     {

@@ -7,8 +7,8 @@ ghost use Rattle.tera_workspace.specs.Kept.{sources_of, IsAnew, NoneBefore, IsNu
 ghost use Rattle.tera_workspace.specs.Names.{is_among};
 ghost use Rattle.tera_workspace.specs.Sources.{text_named};
 
-use crate::judged::{Judged, definitions_of, number_of, push_defined};
-use crate::touched::{mark, touched_names};
+use crate::judged::{Judged, are_open, definitions_of, number_of, push_defined};
+use crate::touched::{mark, mark_if_opened, touched_names};
 use std::alloc::{AllocError, Global};
 use std::mem;
 use text_edits::Documents;
@@ -63,9 +63,11 @@ fn replace(
 {
     let mut judged = judged;
     let touched = touched_names(alloc, &all[number].template, &judged.template)?;
+    let was_open = are_open(all);
     mark(all, &touched, name);
     mem::swap(&mut judged.told, &mut all[number].told);
     all[number] = judged;
+    mark_if_opened(all, was_open);
     Ok(())
 }
 
@@ -84,9 +86,11 @@ fn insert(
 {
     let mut touched = Vec::new(alloc);
     push_defined(&mut touched, definitions_of(&judged.template))?;
+    let was_open = are_open(all);
     let place = place_of(all, name);
     all.insert(place, judged)?;
     mark(all, &touched, name);
+    mark_if_opened(all, was_open);
     Ok(())
 }
 

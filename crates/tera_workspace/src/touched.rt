@@ -3,12 +3,13 @@
 ghost use Rattle.std.specs.Prelude.{◌≡◌, ◌||◌, ℕ, List, true, false, IfOk, OnOk, map, string_bytes, length};
 ghost use Rattle.std.specs.List.{list_any};
 ghost use Rattle.tera_tree.specs.View.{definition_view};
+ghost use Rattle.tera_check.specs.Lost.{are_open};
 ghost use Rattle.tera_check.specs.Named.{definitions_of};
 ghost use Rattle.tera_workspace.specs.Heads.{definition_named, HaveOneHead, HaveOneHeadIfAny};
-ghost use Rattle.tera_workspace.specs.Kept.{is_told_in, marked};
+ghost use Rattle.tera_workspace.specs.Kept.{is_told_in, made_stale, marked, marked_if, templates_of};
 ghost use Rattle.tera_workspace.specs.Names.{is_among};
 
-use crate::judged::{Judged, definitions_of, push_defined};
+use crate::judged::{Judged, are_open, definitions_of, push_defined};
 use std::alloc::{AllocError, Global};
 use tera_check::Template;
 use tera_parser::ast::ComponentDefinition;
@@ -21,8 +22,8 @@ pub(crate) fn touched_names(
     new: &Template,
 ) -> Result<Vec<String>, AllocError>
     ensures { IfOk result (λ v. (n : List ℕ) → is_among n (map string_bytes v.items) ≡ false →
-        HaveOneHeadIfAny (definition_named n (definitions_of old.now.parsed))
-        (definition_named n (definitions_of new.now.parsed))) }
+        HaveOneHeadIfAny (definition_named n (definitions_of old.now))
+        (definition_named n (definitions_of new.now))) }
 {
     let before = definitions_of(old);
     let after = definitions_of(new);
@@ -73,6 +74,24 @@ pub(crate) fn mark(all: &mut Vec<Judged>, touched: &Vec<String>, file: &str)
         if is_touched(judged, touched, file) {
             judged.stale = true;
         }
+    }
+}
+
+/// Marks all documents, if one may define more components than its tree now and none did before, or the other way round.
+pub(crate) fn mark_if_opened(all: &mut Vec<Judged>, was_open: bool)
+    ensures { all.new.items ≡ marked_if was_open (are_open (templates_of all.old.items))
+        all.old.items }
+{
+    if are_open(all) != was_open {
+        mark_all(all);
+    }
+}
+
+fn mark_all(all: &mut Vec<Judged>)
+    ensures { all.new.items ≡ map made_stale all.old.items }
+{
+    for judged in all.iter_mut() {
+        judged.stale = true;
     }
 }
 

@@ -1,8 +1,8 @@
 use Rattle.tera_check.proofs.JudgedLemmas.{all_found_in}
 use Rattle.tera_check.proofs.checked.findings_of_tree.Goals as goal
 
-pub returns-clause-found : goal.returns-clause-found
-returns-clause-found c =
+pub returns : goal.returns
+returns c =
     let calls = rw c.as_str.ensures.value at c.in_ok-push_calls.ensures in
-    all_found_in _ c.push_all_again.new.findings.items c.push_all_unused.new.findings.items c.push_calls.new.findings.items _ _ _ _
-    c.new-findings.ensures.items c.in_ok-push_all_again.ensures c.in_ok-push_all_unused.ensures calls c.in_ok-put_in_order.ensures.same
+    all_found_in _ c.push_all_again.new.findings.items c.push_all_unused.new.findings.items c.push_calls.new.findings.items _ _ _
+    c.new-findings.ensures.items c.in_ok-push_all_again.ensures c.in_ok-push_all_unused.ensures calls

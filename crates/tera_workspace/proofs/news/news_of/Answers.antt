@@ -36,6 +36,7 @@ news_of_one-requires c = record {
       let within : at < length js = omega (arith, ap length c.deref-judged-items.ensures.value) in
       let is : j ≡ get_or js at j = c.judged-item.is ∙ ap (λ xs. get_or xs at j) c.deref-judged-items.ensures.value in
       c.in_ok-catalogue.ensures n (wants_at c.in_ok-wanted.wanted js at j within is c.in_ok-wanted.ensures stale n among);
+  is_open = c.are_open-is_open.ensures;
 }
 
 pub returns-clause-as_many : goal.returns-clause-as_many

@@ -7,9 +7,10 @@ use Rattle.tera_workspace.proofs.news.news_of_one.Goals as goal
 pub returns : goal.returns
 returns c = λ whole.
     let stale : c.args.judged.now.stale ≡ true = search rules in
-    let findings = c.in_ok-findings.findings.items in (
+    let findings = c.in_ok-findings.findings.items in
+    let (faults, are, found) = c.in_ok-findings.ensures.found in (
       findings,
-      found_here (known_in c.args.catalogue.now) (templates_of c.args.all.now.items) c.args.number c.args.judged.now.template c.args.judged.now.names.items findings
-          (c.requires.known stale) whole.names c.in_ok-findings.ensures.found c.in_ok-findings.ensures.ordered c.in_ok-findings.ensures.fault,
+      found_here (known_in c.args.catalogue.now) c.args.is_open (templates_of c.args.all.now.items) c.args.number c.args.judged.now.template c.args.judged.now.names.items findings
+          (c.requires.known stale) c.requires.is_open whole.names c.in_ok-findings.ensures.ordered faults are found,
       c.in_ok-diagnostics.ensures,
     )

@@ -1,11 +1,13 @@
 use Rattle.std.proofs.Common.{◌≡◌, ◌∙◌, ◌++◌, ℕ, List, [], false, None, map, string_bytes, refl, ap, sym, subst}
 use Rattle.std.specs.List.{insert}
 use Rattle.tera_tree.specs.View.{definition_view}
+use Rattle.tera_check.specs.Lost.{are_open}
 use Rattle.tera_check.specs.Named.{definitions_of}
 use Rattle.tera_workspace.specs.Heads.{definition_named, HaveOneHeadIfAny}
-use Rattle.tera_workspace.specs.Kept.{StayKept, IsTextAt, marked}
+use Rattle.tera_workspace.specs.Kept.{StayKept, IsTextAt, marked, marked_if, templates_of}
 use Rattle.tera_workspace.specs.Names.{is_among}
-use Rattle.tera_workspace.proofs.ReadingLemmas.{insert_kept, insert_text, stay_same}
+use Rattle.tera_workspace.proofs.OpenedLemmas.{now_marked}
+use Rattle.tera_workspace.proofs.ReadingLemmas.{insert_kept, insert_read, stay_same}
 use Rattle.tera_workspace.proofs.TouchedLemmas.{all_pushed}
 use Rattle.tera_workspace.proofs.reading.insert.Goals as goal
 
@@ -16,12 +18,14 @@ returns-clause-kept c =
     let j = c.args.judged in
     let place = c.place_of-place.result in
     let touched = map string_bytes c.push_defined.new.names.items in
-    let pushed : touched ≡ [] ++ map (λ d. d.name) (definitions_of j.template.parsed) =
+    let pushed : touched ≡ [] ++ map (λ d. d.name) (definitions_of j.template) =
     c.in_ok-push_defined.ensures ∙ ap (λ (ns : List (List ℕ)). ns ++ map (λ d. d.name) (map definition_view c.definitions_of.result.now)) (ap (map string_bytes) c.new-touched.ensures.items)
     ∙ ap (map (λ d. d.name)) c.definitions_of.ensures in
-    let heads : (n : List ℕ) → is_among n touched ≡ false → HaveOneHeadIfAny None (definition_named n (definitions_of j.template.parsed)) =
-    λ n free. all_pushed n [] (definitions_of j.template.parsed) [] [] touched refl refl pushed free in
-    let is : c.mark.new.all.items ≡ map (marked touched name) (insert js place j) = c.mark.ensures ∙ ap (map (marked touched name)) c.in_ok-insert.ensures.items in
+    let heads : (n : List ℕ) → is_among n touched ≡ false → HaveOneHeadIfAny None (definition_named n (definitions_of j.template)) =
+    λ n free. all_pushed n [] (definitions_of j.template) [] [] touched refl refl pushed free in
+    let put : c.mark.new.all.items ≡ map (marked touched name) (insert js place j) = c.mark.ensures ∙ ap (map (marked touched name)) c.in_ok-insert.ensures.items in
+    let is : c.mark_if_opened.new.all.items ≡ now_marked js (map (marked touched name) (insert js place j)) =
+    c.mark_if_opened.ensures ∙ (λ i. marked_if (c.are_open-was_open.ensures i) (are_open (templates_of (put i))) (put i)) in
     subst (StayKept js) (sym is) (insert_kept name touched js place j c.place_of-place.ensures c.requires.none c.requires.anew heads)
 
 pub returns-clause-read : goal.returns-clause-read
@@ -31,13 +35,15 @@ returns-clause-read c =
     let j = c.args.judged in
     let place = c.place_of-place.result in
     let touched = map string_bytes c.push_defined.new.names.items in
-    let pushed : touched ≡ [] ++ map (λ d. d.name) (definitions_of j.template.parsed) =
+    let pushed : touched ≡ [] ++ map (λ d. d.name) (definitions_of j.template) =
     c.in_ok-push_defined.ensures ∙ ap (λ (ns : List (List ℕ)). ns ++ map (λ d. d.name) (map definition_view c.definitions_of.result.now)) (ap (map string_bytes) c.new-touched.ensures.items)
     ∙ ap (map (λ d. d.name)) c.definitions_of.ensures in
-    let heads : (n : List ℕ) → is_among n touched ≡ false → HaveOneHeadIfAny None (definition_named n (definitions_of j.template.parsed)) =
-    λ n free. all_pushed n [] (definitions_of j.template.parsed) [] [] touched refl refl pushed free in
-    let is : c.mark.new.all.items ≡ map (marked touched name) (insert js place j) = c.mark.ensures ∙ ap (map (marked touched name)) c.in_ok-insert.ensures.items in
-    subst (IsTextAt name j.text js) (sym is) (insert_text name touched js place j c.place_of-place.ensures c.requires.none c.requires.anew heads)
+    let heads : (n : List ℕ) → is_among n touched ≡ false → HaveOneHeadIfAny None (definition_named n (definitions_of j.template)) =
+    λ n free. all_pushed n [] (definitions_of j.template) [] [] touched refl refl pushed free in
+    let put : c.mark.new.all.items ≡ map (marked touched name) (insert js place j) = c.mark.ensures ∙ ap (map (marked touched name)) c.in_ok-insert.ensures.items in
+    let is : c.mark_if_opened.new.all.items ≡ now_marked js (map (marked touched name) (insert js place j)) =
+    c.mark_if_opened.ensures ∙ (λ i. marked_if (c.are_open-was_open.ensures i) (are_open (templates_of (put i))) (put i)) in
+    subst (IsTextAt name j.text js) (sym is) (insert_read name touched js place j c.place_of-place.ensures c.requires.none c.requires.anew heads)
 
 pub returns-in_err-insert-clause-kept : goal.returns-in_err-insert-clause-kept
 returns-in_err-insert-clause-kept c = subst (StayKept c.args.all.now.items) (sym c.in_err-insert.ensures.items) (stay_same c.args.all.now.items)

@@ -1,10 +1,12 @@
-use Rattle.std.proofs.Common.{◌≡◌, ℕ, List, false, map, get_or, string_bytes, sym, subst}
+use Rattle.std.proofs.Common.{◌≡◌, ◌∙◌, ℕ, List, false, map, get_or, string_bytes, sym, subst}
+use Rattle.tera_check.specs.Lost.{are_open}
 use Rattle.tera_check.specs.Named.{definitions_of}
 use Rattle.tera_workspace.specs.Heads.{definition_named, HaveOneHeadIfAny}
-use Rattle.tera_workspace.specs.Kept.{StayKept, IsTextAt}
+use Rattle.tera_workspace.specs.Kept.{StayKept, IsTextAt, marked_if, templates_of}
 use Rattle.tera_workspace.specs.Names.{is_among}
 use Rattle.tera_workspace.specs.declared.judged.Judged.{Judged}
-use Rattle.tera_workspace.proofs.ReadingLemmas.{put_is, put_kept, put_text}
+use Rattle.tera_workspace.proofs.ReadingLemmas.{put_is, put_kept, put_read, put_there}
+use Rattle.tera_workspace.proofs.OpenedLemmas.{now_marked}
 use Rattle.tera_workspace.proofs.reading.replace.Goals as goal
 
 pub returns-clause-kept : goal.returns-clause-kept
@@ -15,13 +17,14 @@ returns-clause-kept c =
     let d = c.index.result.now in
     let touched = map string_bytes c.in_ok-touched.touched.items in
     let heads : (n : List ℕ) → is_among n touched ≡ false
-    → HaveOneHeadIfAny (definition_named n (definitions_of (get_or js c.args.number d).template.parsed)) (definition_named n (definitions_of j.template.parsed)) =
-    subst (λ (x : Judged). (n : List ℕ) → is_among n touched ≡ false → HaveOneHeadIfAny (definition_named n (definitions_of x.template.parsed)) (definition_named n (definitions_of j.template.parsed)))
+    → HaveOneHeadIfAny (definition_named n (definitions_of (get_or js c.args.number d).template)) (definition_named n (definitions_of j.template)) =
+    subst (λ (x : Judged). (n : List ℕ) → is_among n touched ≡ false → HaveOneHeadIfAny (definition_named n (definitions_of x.template)) (definition_named n (definitions_of j.template)))
     c.index.ensures c.in_ok-touched.ensures in
-    subst (StayKept js)
-    (sym (put_is name touched js c.args.number j d c.requires.number c.requires.anew heads c.mark.new.all.items c.index_mut.result.now
-    (record c.index_mut.result.now { told = c.swap.new.y }) c.swap.new.x c.mark.ensures c.index_mut.ensures.value c.swap.ensures.x_after))
-    (put_kept name touched js c.args.number j d c.requires.number c.requires.anew heads)
+    let put = put_is name touched js c.args.number j d c.requires.number c.requires.anew heads c.mark.new.all.items c.index_mut.result.now
+    (record c.index_mut.result.now { told = c.swap.new.y }) c.swap.new.x c.mark.ensures c.index_mut.ensures.value c.swap.ensures.x_after in
+    let is : c.mark_if_opened.new.all.items ≡ now_marked js (put_there name touched js c.args.number j d c.requires.number c.requires.anew heads) =
+    c.mark_if_opened.ensures ∙ (λ i. marked_if (c.are_open-was_open.ensures i) (are_open (templates_of (put i))) (put i)) in
+    subst (StayKept js) (sym is) (put_kept name touched js c.args.number j d c.requires.number c.requires.anew heads)
 
 pub returns-clause-read : goal.returns-clause-read
 returns-clause-read c =
@@ -31,10 +34,11 @@ returns-clause-read c =
     let d = c.index.result.now in
     let touched = map string_bytes c.in_ok-touched.touched.items in
     let heads : (n : List ℕ) → is_among n touched ≡ false
-    → HaveOneHeadIfAny (definition_named n (definitions_of (get_or js c.args.number d).template.parsed)) (definition_named n (definitions_of j.template.parsed)) =
-    subst (λ (x : Judged). (n : List ℕ) → is_among n touched ≡ false → HaveOneHeadIfAny (definition_named n (definitions_of x.template.parsed)) (definition_named n (definitions_of j.template.parsed)))
+    → HaveOneHeadIfAny (definition_named n (definitions_of (get_or js c.args.number d).template)) (definition_named n (definitions_of j.template)) =
+    subst (λ (x : Judged). (n : List ℕ) → is_among n touched ≡ false → HaveOneHeadIfAny (definition_named n (definitions_of x.template)) (definition_named n (definitions_of j.template)))
     c.index.ensures c.in_ok-touched.ensures in
-    subst (IsTextAt name j.text js)
-    (sym (put_is name touched js c.args.number j d c.requires.number c.requires.anew heads c.mark.new.all.items c.index_mut.result.now
-    (record c.index_mut.result.now { told = c.swap.new.y }) c.swap.new.x c.mark.ensures c.index_mut.ensures.value c.swap.ensures.x_after))
-    (put_text name touched js c.args.number j d c.requires.number c.requires.anew heads)
+    let put = put_is name touched js c.args.number j d c.requires.number c.requires.anew heads c.mark.new.all.items c.index_mut.result.now
+    (record c.index_mut.result.now { told = c.swap.new.y }) c.swap.new.x c.mark.ensures c.index_mut.ensures.value c.swap.ensures.x_after in
+    let is : c.mark_if_opened.new.all.items ≡ now_marked js (put_there name touched js c.args.number j d c.requires.number c.requires.anew heads) =
+    c.mark_if_opened.ensures ∙ (λ i. marked_if (c.are_open-was_open.ensures i) (are_open (templates_of (put i))) (put i)) in
+    subst (IsTextAt name j.text js) (sym is) (put_read name touched js c.args.number j d c.requires.number c.requires.anew heads)

@@ -17,5 +17,5 @@ returns c = λ n free.
           all_pushed n before after (map string_bytes c.new-touched.result.items) (map string_bytes w.push_defined.new.names.items) (map string_bytes c.if-before-after.touched.items)
           (ap (map string_bytes) c.new-touched.ensures.items) w.in_ok-push_defined.ensures (ap (λ t. map string_bytes t.items) w.touched-is ∙ w.in_ok-push_defined-2.ensures) free
     ] in
-    subst (λ ds. HaveOneHeadIfAny (definition_named n ds) (definition_named n (definitions_of c.args.new.now.parsed))) c.definitions_of-before.ensures
+    subst (λ ds. HaveOneHeadIfAny (definition_named n ds) (definition_named n (definitions_of c.args.new.now))) c.definitions_of-before.ensures
     (subst (λ es. HaveOneHeadIfAny (definition_named n before) (definition_named n es)) c.definitions_of-after.ensures agree)

@@ -1,0 +1,83 @@
+-- Templates with a fault.
+use Rattle.std.proofs.Common.{◌≡◌, ◌<◌, ◌==◌, inl, inr, arith, length, vec_len, Global, Vec, ℕ, List, [], Bool, true, false, map, Option, None, Some, Result, Ok, Err, IfOk, IfErr, IfSome, MatchOption, MatchResult, refl, sym, ap, subst, ◌∙◌, string_bytes}
+use Rattle.std.proofs.lemmas.Bool.Decides.{eqb_tells}
+use Rattle.tera_base.specs.Errors.{KindTells, TellsBy}
+use Rattle.tera_base.specs.declared.errors.Error.{Error}
+use Rattle.tera_base.specs.declared.errors.ErrorKind.{ErrorKind}
+use Rattle.tera_base.specs.declared.errors.ErrorKind.TheVariants.{Memory, Message, SyntaxError}
+use Rattle.tera_base.specs.declared.utils.Span.{Span}
+use Rattle.tera_lexer.specs.grammar.Faults.{Faults}
+use Rattle.tera_lexer.specs.grammar.Marks.{default_marks}
+use Rattle.tera_lexer.specs.grammar.Place.{IsWithin}
+use Rattle.tera_lexer.specs.grammar.Tokens.{Items, AreTokensOf}
+use Rattle.tera_grammar.specs.Limits.{usual}
+use Rattle.tera_grammar.specs.statements.Places.{Places}
+use Rattle.tera_grammar.specs.statements.Top.{Derives, DerivesNames}
+use Rattle.tera_grammar.specs.statements.Reading.Meeting.{group_all, nothing_grouped}
+use Rattle.tera_parser.specs.Notes.{NotesName}
+use Rattle.tera_parser.specs.Refusal.{Refuses}
+use Rattle.tera_mend.specs.Readings.{AreOf}
+use Rattle.tera_statements.specs.Known.{grouped_of}
+use Rattle.tera_statements.specs.declared.names.Names.{Names}
+use Rattle.tera_tree.specs.Outputs.{output_view}
+use Rattle.tera_tree.specs.declared.outputs.ParserOutput.{ParserOutput}
+use Rattle.tera_check.specs.Faults.{IsSyntaxError, IsSyntaxErrorKind, is_memory, is_memory_kind}
+use Rattle.tera_check.specs.Mended.{IsMended, text_by, text_of}
+use Rattle.tera_check.specs.Named.{tree_by, tree_of}
+use Rattle.tera_check.specs.declared.mended.Mended.{Mended}
+use Rattle.tera_check.specs.declared.templates.Template.{Template}
+
+-- two facts of a result
+pub both_ok : {X E : Type 0} (P Q R : X → Type 0) (r : Result X E) → ((x : X) → P x → Q x → R x) → IfOk r P → IfOk r Q → IfOk r R
+both_ok P Q R (Ok x) f p q = f x p q
+both_ok P Q R (Err e) f p q = tt
+
+syntax_by : (P : List ℕ → Span → Type 0) (e : Error) (k : ErrorKind) → e.kind ≡ k → TellsBy P e → false ≡ is_memory e → IsSyntaxErrorKind k
+syntax_by P e Memory is tells other = let no : false ≡ true = other ∙ ap is_memory_kind is in absurd (let never : false ≡ true = no in cc)
+syntax_by P e (Message s) is tells other = subst (λ k. KindTells P k) is tells
+syntax_by P e (SyntaxError b) is tells other = tt
+
+-- a refusal for which memory was found is a syntax error
+pub refused : (source : List ℕ) (e : Error) → Refuses default_marks source e → false ≡ is_memory e → IsSyntaxError e
+refused source e refuses other =
+    syntax_by (λ text span. IsWithin source span × ((items : Items) × AreTokensOf default_marks source items × Faults items text span)) e e.kind refl refuses other
+
+-- what is said of the fault of a template
+pub of_fault : (P : Error → Type 0) (t : Template) (e : Error) → t.parsed ≡ Err e → P e → IfErr t.parsed P
+of_fault P t e is p = subst (λ r. IfErr r P) (sym is) p
+
+-- .. and of its tree there is nothing
+pub no_tree : (P : ParserOutput → Type 0) (t : Template) (e : Error) → t.parsed ≡ Err e → IfOk t.parsed P
+no_tree P t e is = subst (λ r. IfOk r P) (sym is) tt
+
+abbrev pub ArePlaces : List ℕ → Template → ParserOutput → Type 0
+ArePlaces text t o = (names : Places) × DerivesNames usual default_marks text (output_view o) names
+    × (t.defined_at.items ≡ map (λ n. n.span) names.components) × (grouped_of t.parameters_at ≡ group_all names.parameters nothing_grouped)
+
+abbrev pub AreNone : Template → Type 0
+AreNone t = (t.defined_at.items ≡ []) × (grouped_of t.parameters_at ≡ nothing_grouped)
+
+-- where the components are defined, of a template with a fault
+mended_places : (source : List ℕ) (t : Template) (e : Error) (m : Option Mended) → t.mended ≡ m → MatchOption m (AreNone t) (λ m. ArePlaces (string_bytes m.text) t m.output)
+    → MatchOption (tree_by (Err e) m) (AreNone t) (ArePlaces (text_by source m) t)
+mended_places source t e None is there = there
+mended_places source t e (Some m) is there = there
+
+pub fault_places : (source : List ℕ) (t : Template) (e : Error) → t.parsed ≡ Err e → MatchOption t.mended (AreNone t) (λ m. ArePlaces (string_bytes m.text) t m.output)
+    → MatchOption (tree_of t) (AreNone t) (ArePlaces (text_of source t) t)
+fault_places source t e is there =
+    subst (λ r. MatchOption (tree_by r t.mended) (AreNone t) (ArePlaces (text_of source t) t)) (sym is) (mended_places source t e t.mended refl there)
+
+-- ---- what was read of a source with faults
+
+pub not_none : {X : Type 0} (v : Vec X Global) → false ≡ (vec_len v == 0) → 0 < length v.items
+not_none v is = elim (eqb_tells (vec_len v) 0) [
+  | inl none ↦ let never : false ≡ true = is ∙ none.0 in absurd (let no : false ≡ true = never in cc)
+  | inr some ↦ omega (arith, some.1, v.ok.0)
+]
+
+abbrev pub IsReadAs : List ℕ → List ℕ → ℕ → Mended × Names → Type 0
+IsReadAs file source most m = IsMended file source most m.0 × AreOf (string_bytes m.0.text) m.0.output m.1
+
+pub read_as : (file source : List ℕ) (most : ℕ) (o : Option (Mended × Names)) (m : Mended × Names) → o ≡ Some m → IfSome o (IsReadAs file source most) → IsReadAs file source most m
+read_as file source most o m is read = subst (λ o. IfSome o (IsReadAs file source most)) is read

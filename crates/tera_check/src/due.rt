@@ -1,0 +1,170 @@
+//! Which findings of a tree are due, where some of its text was written for faults.
+
+ghost use Rattle.std.specs.Prelude.{◌≡◌, ◌∷◌, [], ◌++◌, ◌&&◌, map, nat_le, nat_lt, OnOk};
+ghost use Rattle.std.specs.BTreeSet.{keys};
+ghost use Rattle.std.specs.List.{filter, find, list_any};
+ghost use Rattle.std.specs.Option.{option_map};
+ghost use Rattle.tera_check.specs.Due.{is_boundary, is_due, is_written, end_of_definition, is_doubtful, is_lost_between, is_same_part, mark_of, may_name, name_at};
+ghost use Rattle.tera_check.specs.Findings.{finding_view};
+
+use crate::finding::{Finding, Kind, push_finding};
+use crate::mended::Mended;
+use crate::templates::Template;
+use std::alloc::AllocError;
+use std::collections::BTreeSet;
+use tera_parser::value::Span;
+
+/// Adds those of the findings that are due. `is_open` says that a text may define more components than are known.
+pub(crate) fn push_due(
+    findings: &mut Vec<Finding>,
+    is_open: bool,
+    template: &Template,
+    found: Vec<Finding>,
+) -> Result<(), AllocError>
+    ensures { OnOk result (map finding_view findings.new.items ≡ map finding_view findings.old.items
+        ++ filter (is_due is_open template.now) (map finding_view found.items)) }
+{
+    for finding in found {
+        push_if_due(findings, is_open, template, finding)?;
+    }
+    Ok(())
+}
+
+fn push_if_due(
+    findings: &mut Vec<Finding>,
+    is_open: bool,
+    template: &Template,
+    finding: Finding,
+) -> Result<(), AllocError>
+    ensures { OnOk result (map finding_view findings.new.items ≡ map finding_view findings.old.items
+        ++ filter (is_due is_open template.now) (finding_view finding ∷ [])) }
+{
+    if is_due(is_open, template, &finding) {
+        push_finding(findings, finding)
+    } else {
+        Ok(())
+    }
+}
+
+fn is_due(is_open: bool, template: &Template, finding: &Finding) -> bool
+    ensures { result ≡ is_due is_open template.now (finding_view finding.now) }
+{
+    if is_open && finding.kind == Kind::UndefinedComponent {
+        return false;
+    }
+    match &template.mended {
+        Some(mended) => is_written(mended, finding) && !is_doubtful(mended, finding),
+        None => true,
+    }
+}
+
+// Whether the source has what the finding is about, at the same place.
+fn is_written(mended: &Mended, finding: &Finding) -> bool
+    ensures { result ≡ is_written mended.now (finding_view finding.now) }
+{
+    let (start, end) = mark_of(finding);
+    is_same_part(mended.source.as_str(), mended.text.as_str(), start, end)
+}
+
+// Whether two texts have the same between these bytes.
+fn is_same_part(one: &str, other: &str, start: usize, end: usize) -> bool
+    ensures { result ≡ is_same_part one.now other.now (start, end) }
+{
+    let Some(part) = one.as_bytes().get(start..end) else {
+        return false;
+    };
+    let Some(there) = other.as_bytes().get(start..end) else {
+        return false;
+    };
+    part == there
+}
+
+// The first byte that the finding is about, and the one after it: of a call its `<`, as its body may have faults.
+fn mark_of(finding: &Finding) -> (usize, usize)
+    ensures { result ≡ mark_of (finding_view finding.now) }
+{
+    let range = &finding.span.range;
+    match finding.kind {
+        Kind::UndefinedComponent | Kind::MissingArgument => {
+            (range.start, range.start.saturating_add(1))
+        }
+        _ => (range.start, range.end),
+    }
+}
+
+// Whether something that was written over in the definition may name the parameter that is found to be unused.
+fn is_doubtful(mended: &Mended, finding: &Finding) -> bool
+    ensures { result ≡ is_doubtful mended.now (finding_view finding.now) }
+{
+    finding.kind == Kind::UnusedParameter && may_name(mended, &finding.span)
+}
+
+// Whether something that was written over in the definition may name the parameter at this span: a word, an `include`, the
+// variable that shows all others, or a call.
+fn may_name(mended: &Mended, span: &Span) -> bool
+    ensures { result ≡ may_name mended.now span.now }
+{
+    let Some(name) = name_at(mended, span) else {
+        return true;
+    };
+    let start = span.range.start;
+    let end = end_of_definition(mended, start);
+    is_lost(mended, name, start, end)
+        || is_lost(mended, "include", start, end)
+        || is_lost(mended, "__tera_context", start, end)
+        || is_lost(mended, "<", start, end)
+}
+
+// What the source has at the span, if that is between characters.
+fn name_at<'m>(mended: &'m Mended, span: &Span) -> Option<&'m str>
+    ensures { option_map (λ n. n.now) result ≡ name_at mended.now span.now }
+{
+    let source = mended.source.as_str();
+    let range = &span.range;
+    if is_boundary(source, range.start) && is_boundary(source, range.end) {
+        source.get(range.start..range.end)
+    } else {
+        None
+    }
+}
+
+fn is_boundary(text: &str, at: usize) -> bool
+    ensures { result ≡ is_boundary text.now at }
+{
+    text.is_char_boundary(at)
+}
+
+// Where the definition ends in which this byte is.
+fn end_of_definition(mended: &Mended, start: usize) -> usize
+    ensures { result ≡ end_of_definition mended.now start }
+{
+    match first_from(&mended.ends, start) {
+        Some(end) => end,
+        None => mended.text.len(),
+    }
+}
+
+fn first_from(places: &BTreeSet<usize>, start: usize) -> Option<usize>
+    ensures { result ≡ find (λ at. nat_le start at) (keys places.now) }
+{
+    places.range(start..).next().copied()
+}
+
+// Whether the word is lost somewhere between these bytes.
+fn is_lost(mended: &Mended, word: &str, start: usize, end: usize) -> bool
+    ensures { result ≡ is_lost_between mended.now word.now start end }
+{
+    match mended.lost.get(word) {
+        Some(places) => has_between(places, start, end),
+        None => false,
+    }
+}
+
+fn has_between(places: &BTreeSet<usize>, start: usize, end: usize) -> bool
+    ensures { result ≡ list_any (λ at. nat_le start at && nat_lt at end) (keys places.now) }
+{
+    if end <= start {
+        return false;
+    }
+    places.range(start..end).next().is_some()
+}

@@ -1,0 +1,98 @@
+-- What stays so where all documents are marked, if one may define more components than its tree now and none did before, or
+-- the other way round.
+use Rattle.std.proofs.Common.{◌≡◌, ◌∙◌, ◌<◌, ◌+◌, ◌||◌, ℕ, zero, suc, List, [], ◌∷◌, ◌++◌, length, take, drop, get_or, set, map, Bool, true, false, cond, string_bytes, refl, sym, ap, subst, arith}
+use Rattle.std.specs.List.{list_any}
+use Rattle.std.specs.Str.{bytes_eq}
+use Rattle.std.proofs.lemmas.List.Edits.{map_over_more}
+use Rattle.tera_check.specs.Lost.{is_open, are_open}
+use Rattle.text_edits.specs.declared.positions.Encoding.{Encoding}
+use Rattle.tera_workspace.specs.Kept.{source_of, sources_of, templates_of, told_of, told_named, AllWhole, AreCurrent, StayKept, IsTextAt, made_stale, marked_if}
+use Rattle.tera_workspace.specs.Sources.{AreAscending, text_named}
+use Rattle.tera_workspace.specs.declared.judged.Judged.{Judged}
+use Rattle.tera_workspace.proofs.CurrentLemmas.{map_length}
+
+false_true : false ≡ true → ⊥
+false_true e = cc
+
+-- ---- all are marked
+
+stale_whole : (js : List Judged) → AllWhole js → AllWhole (map made_stale js)
+stale_whole [] w = tt
+stale_whole (j ∷ js) w = (record { read = w.0.read; names = w.0.names }, stale_whole js w.1)
+
+stale_sources : (js : List Judged) → sources_of (map made_stale js) ≡ sources_of js
+stale_sources [] = refl
+stale_sources (j ∷ js) = ap (λ ss. source_of j ∷ ss) (stale_sources js)
+
+stale_told : (n : List ℕ) (js : List Judged) → told_named n (map made_stale js) ≡ told_named n js
+stale_told n [] = refl
+stale_told n (j ∷ js) = ap (cond (bytes_eq (string_bytes j.template.file) n) (told_of j)) (stale_told n js)
+
+stale_at : (js : List Judged) (k : ℕ) (d : Judged) → k < length js → (get_or (map made_stale js) k d).stale ≡ true
+stale_at [] k d h = absurd (omega arith)
+stale_at (j ∷ js) zero d h = refl
+stale_at (j ∷ js) (suc k) d h = stale_at js k d (omega arith)
+
+stale_current : (e : Encoding) (js : List Judged) → AreCurrent e (map made_stale js)
+stale_current e js k d h fresh =
+    let within : k < length js = omega (arith, h, map_length made_stale js) in
+    absurd (false_true (sym fresh ∙ stale_at js k d within))
+
+pub stale_next : (old items : List Judged) (i : ℕ) (j : Judged) → i < length old
+    → items ≡ map made_stale (take i old) ++ drop i old → j ≡ get_or items i j
+    → set items i (record j { stale = true }) ≡ map made_stale (take (i + 1) old) ++ drop (i + 1) old
+stale_next old items i j within before is = map_over_more made_stale old items i j within before is
+
+-- ---- .. or none
+
+if_whole : (was now : Bool) (js : List Judged) → AllWhole js → AllWhole (marked_if was now js)
+if_whole true true js w = w
+if_whole false false js w = w
+if_whole true false js w = stale_whole js w
+if_whole false true js w = stale_whole js w
+
+if_sources : (was now : Bool) (js : List Judged) → sources_of (marked_if was now js) ≡ sources_of js
+if_sources true true js = refl
+if_sources false false js = refl
+if_sources true false js = stale_sources js
+if_sources false true js = stale_sources js
+
+if_told : (was now : Bool) (n : List ℕ) (js : List Judged) → told_named n (marked_if was now js) ≡ told_named n js
+if_told true true n js = refl
+if_told false false n js = refl
+if_told true false n js = stale_told n js
+if_told false true n js = stale_told n js
+
+if_current : (was now : Bool) (e : Encoding) (js : List Judged) → (was ≡ now → AreCurrent e js) → AreCurrent e (marked_if was now js)
+if_current true true e js h = h refl
+if_current false false e js h = h refl
+if_current true false e js h = stale_current e js
+if_current false true e js h = stale_current e js
+
+-- documents in the place of others, of which may be said what was told where as many may define more as before
+pub record StayIf (old now : List Judged) : Type 0 where
+  pub whole : AllWhole old → AllWhole now
+  pub current : (e : Encoding) → AllWhole old → are_open (templates_of old) ≡ are_open (templates_of now) → AreCurrent e old → AreCurrent e now
+  pub ordered : AreAscending (sources_of old) → AreAscending (sources_of now)
+  pub told : (n : List ℕ) → told_named n now ≡ told_named n old
+
+module _ (old now : List Judged) where
+  abbrev pub now_marked : List Judged
+  now_marked = marked_if (are_open (templates_of old)) (are_open (templates_of now)) now
+
+  pub kept_if : StayIf old now → StayKept old now_marked
+  kept_if h = record {
+    whole = λ w. if_whole (are_open (templates_of old)) (are_open (templates_of now)) now (h.whole w);
+    current = λ e w current. if_current (are_open (templates_of old)) (are_open (templates_of now)) e now (λ same. h.current e w same current);
+    ordered = λ o. subst AreAscending (sym (if_sources (are_open (templates_of old)) (are_open (templates_of now)) now)) (h.ordered o);
+    told = λ n. if_told (are_open (templates_of old)) (are_open (templates_of now)) n now ∙ h.told n;
+  }
+
+  pub text_if : (name text : List ℕ) → IsTextAt name text old now → IsTextAt name text old now_marked
+  text_if name text h n = ap (text_named n) (if_sources (are_open (templates_of old)) (are_open (templates_of now)) now) ∙ h n
+
+-- ---- whether one may define more
+
+pub any_open : (js : List Judged) → are_open (templates_of js) ≡ list_any (λ j. is_open j.template) js
+any_open [] = refl
+any_open (j ∷ js) = ap (λ b. is_open j.template || b) (any_open js)
