@@ -1,11 +1,16 @@
 -- Members that may be left out, as they are written.
-use Rattle.std.proofs.Common.{◌≡◌, ◌++◌, ◌∷◌, [], ℕ, List, Bool, true, false, Option, None, Some, refl}
-use Rattle.json.specs.Json.{Members}
-use Rattle.json.specs.Token.{end_object}
-use Rattle.json.specs.Tree.{members_tokens}
-use Rattle.tera_workspace.specs.Diagnostics.{RelatedVal}
-use Rattle.tera_server.specs.Findings.{related_members, related_tokens, with_version, version_tokens}
+use Rattle.std.proofs.Common.{◌≡◌, ◌∙◌, ◌++◌, ◌∷◌, [], ℕ, List, Bool, true, false, Option, None, Some, codes, map, refl, ap, append_assoc}
+use Rattle.std.specs.List.{flat_map}
+use Rattle.std.specs.Option.{option_map, option_to_list}
+use Rattle.json.specs.Json.{Json, Members}
+use Rattle.json.specs.Token.{Token, begin_object, end_object, begin_array, end_array, key, string}
+use Rattle.json.specs.Tree.{json_tokens, items_tokens, members_tokens}
+use Rattle.json.specs.Value.{items_of}
+use Rattle.tera_workspace.specs.Diagnostics.{DiagnosticVal, RelatedVal}
+use Rattle.tera_server.specs.Editors.{seen_of, uri_in, version_in}
+use Rattle.tera_server.specs.Findings.{related_members, related_tokens, with_version, version_tokens, unread_json, unread_tokens, diagnostic_json, diagnostics_json, one_found, found_json}
 use Rattle.tera_server.specs.declared.editor.Editor.{Editor}
+use Rattle.tera_server.proofs.ArrayLemmas.{items_written}
 
 pub version_written : (v : Option ℕ) (ms : Members) → members_tokens (with_version v ms) ≡ version_tokens v ++ members_tokens ms
 version_written None ms = refl
@@ -14,3 +19,29 @@ version_written (Some n) ms = refl
 pub related_written : (e : Editor) (told : Bool) (rs : List RelatedVal) → members_tokens (related_members e told rs) ≡ related_tokens e told rs ++ end_object ∷ []
 related_written e true rs = refl
 related_written e false rs = refl
+
+pub unread_written : (why : Option (List ℕ)) (js : List Json) →
+    items_tokens (items_of (option_to_list (option_map unread_json why) ++ js)) ≡ unread_tokens why ++ items_tokens (items_of js)
+unread_written None js = refl
+unread_written (Some text) js = refl
+
+-- what is published of a document, as it is written
+abbrev pub found_tokens : Editor → Bool → List ℕ → Option (List ℕ) → List DiagnosticVal → List Token
+found_tokens e told name why ds =
+    begin_object ∷ (key (codes "uri") ∷ (string (uri_in name (seen_of e name)) ∷ (version_tokens (version_in (seen_of e name))
+    ++ (key (codes "diagnostics") ∷ (begin_array ∷ (unread_tokens why ++ (flat_map (one_found e told) ds ++ (end_array ∷ (end_object ∷ [])))))))))
+
+diagnostics_written : (e : Editor) (told : Bool) (why : Option (List ℕ)) (ds : List DiagnosticVal) →
+    items_tokens (items_of (diagnostics_json e told why ds)) ++ end_object ∷ [] ≡ unread_tokens why ++ (flat_map (one_found e told) ds ++ (end_array ∷ (end_object ∷ [])))
+unfolding one_found
+diagnostics_written e told why ds =
+    let found = flat_map (λ d. json_tokens (diagnostic_json e told d)) ds in
+    ap (λ ts. ts ++ end_object ∷ []) (unread_written why (map (diagnostic_json e told) ds) ∙ ap (λ ts. unread_tokens why ++ ts) (items_written (diagnostic_json e told) ds))
+    ∙ (append_assoc (unread_tokens why) (found ++ end_array ∷ []) (end_object ∷ [])
+    ∙ ap (λ ts. unread_tokens why ++ ts) (append_assoc found (end_array ∷ []) (end_object ∷ [])))
+
+pub found_written : (e : Editor) (told : Bool) (name : List ℕ) (why : Option (List ℕ)) (ds : List DiagnosticVal) → json_tokens (found_json e told name why ds) ≡ found_tokens e told name why ds
+found_written e told name why ds =
+    let version = version_in (seen_of e name) in
+    ap (λ ts. begin_object ∷ (key (codes "uri") ∷ (string (uri_in name (seen_of e name)) ∷ ts)))
+    (version_written version _ ∙ ap (λ ts. version_tokens version ++ (key (codes "diagnostics") ∷ (begin_array ∷ ts))) (diagnostics_written e told why ds))

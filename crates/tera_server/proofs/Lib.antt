@@ -18,4 +18,5 @@ pub mod StepLemmas
 pub mod Tails
 pub mod TemplateNames
 pub mod TokenLemmas
+pub mod UnreadLemmas
 pub mod WithName

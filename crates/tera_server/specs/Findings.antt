@@ -1,5 +1,6 @@
 -- What is found in a document, as it is published.
-use Rattle.std.specs.Prelude.{ℕ, List, [], Bool, if◌then◌else◌, codes, map, Option, None, Some}
+use Rattle.std.specs.Prelude.{ℕ, List, [], ◌++◌, Bool, if◌then◌else◌, codes, map, Option, None, Some}
+use Rattle.std.specs.Option.{option_map, option_to_list}
 use Rattle.json.specs.Json.{Json, string, array, object, Members, no_members, member}
 use Rattle.json.specs.Token.{Token}
 use Rattle.json.specs.Tree.{json_tokens}
@@ -10,6 +11,7 @@ use Rattle.tera_check.specs.Findings.{kind_name, severity_of}
 use Rattle.tera_check.specs.declared.finding.Severity.{Severity}
 use Rattle.tera_check.specs.declared.finding.Severity.TheVariants.{Error, Warning}
 use Rattle.tera_workspace.specs.Diagnostics.{DiagnosticVal, RelatedVal}
+use Rattle.text_edits.specs.declared.positions.Position.{Position}
 use Rattle.tera_server.specs.Editors.{seen_of, uri_in, version_in}
 use Rattle.tera_server.specs.declared.editor.Editor.{Editor}
 
@@ -58,12 +60,33 @@ abbrev pub version_tokens : Option ℕ → List Token
 version_tokens None = []
 version_tokens (Some n) = member_tokens (codes "version") (number_json n)
 
-abbrev pub found_json : Editor → Bool → List ℕ → List DiagnosticVal → Json
-found_json e told name ds =
+-- why a file cannot be read, at its beginning
+abbrev pub beginning : Position
+beginning = record { line = 0; character = 0 }
+
+abbrev pub unread_json : List ℕ → Json
+unread_json why =
+    object (member (codes "range") (range_json beginning beginning)
+    (member (codes "severity") (number_json (severity_number Error))
+    (member (codes "code") (string (codes "unread"))
+    (member (codes "source") (string (codes "tera"))
+    (member (codes "message") (string why) no_members)))))
+
+-- that, as it is written where it is so
+abbrev pub unread_tokens : Option (List ℕ) → List Token
+unread_tokens None = []
+unread_tokens (Some why) = json_tokens (unread_json why)
+
+-- all that is published of a file: first why it cannot be read, if it cannot
+abbrev pub diagnostics_json : Editor → Bool → Option (List ℕ) → List DiagnosticVal → List Json
+diagnostics_json e told why ds = option_to_list (option_map unread_json why) ++ map (diagnostic_json e told) ds
+
+abbrev pub found_json : Editor → Bool → List ℕ → Option (List ℕ) → List DiagnosticVal → Json
+found_json e told name why ds =
     object (member (codes "uri") (string (uri_in name (seen_of e name)))
     (with_version (version_in (seen_of e name))
-    (member (codes "diagnostics") (array (items_of (map (diagnostic_json e told) ds))) no_members)))
+    (member (codes "diagnostics") (array (items_of (diagnostics_json e told why ds))) no_members)))
 
 -- the message that publishes what is found in the document of a name
-abbrev pub published : Editor → Bool → List ℕ → List DiagnosticVal → Json
-published e told name ds = notification (codes "textDocument/publishDiagnostics") (found_json e told name ds)
+abbrev pub published : Editor → Bool → List ℕ → Option (List ℕ) → List DiagnosticVal → Json
+published e told name why ds = notification (codes "textDocument/publishDiagnostics") (found_json e told name why ds)

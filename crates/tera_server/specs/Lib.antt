@@ -17,3 +17,4 @@ pub mod Settling
 pub mod States
 pub mod Steps
 pub mod Templates
+pub mod UnreadFiles

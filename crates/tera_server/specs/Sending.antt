@@ -12,14 +12,16 @@ use Rattle.tera_server.specs.declared.editor.Editor.{Editor}
 use Rattle.tera_server.specs.declared.editor.Stand.{Stand}
 use Rattle.tera_server.specs.declared.editor.Stand.TheVariants.{Open, Lost, Closed}
 use Rattle.tera_server.specs.declared.server.Server.{Server}
+use Rattle.tera_server.specs.declared.unread.UnreadFiles.{UnreadFiles}
+use Rattle.tera_server.specs.UnreadFiles.{why_of}
 
 -- more messages, in order
 abbrev pub with_all : Outgoing → List (List ℕ) → Outgoing
 with_all o messages = record { sent = o.sent ++ messages; reserved = o.reserved }
 
--- what is published of the document of a name: what was told of it last
-unfoldable pub found_message : Editor → Bool → Workspace → List ℕ → List ℕ
-found_message e related w n = body (published e related n (told_of_name w n))
+-- what is published of the document of a name: why its file cannot be read, and what was told of it last
+unfoldable pub found_message : Editor → UnreadFiles → Bool → Workspace → List ℕ → List ℕ
+found_message e unread related w n = body (published e related n (why_of unread n) (told_of_name w n))
 
 -- .. unless the editor has it open with a text that is not known
 abbrev pub unless_lost : Stand → List ℕ → List (List ℕ)
@@ -28,11 +30,11 @@ unless_lost Lost message = []
 unless_lost Closed message = message ∷ []
 
 -- that of documents, in order
-abbrev pub messages_in : Editor → Bool → Workspace → List (List ℕ) → List (List ℕ)
-messages_in e related w ns = flat_map (λ n. unless_lost (stand_of e n) (found_message e related w n)) ns
+abbrev pub messages_in : Editor → UnreadFiles → Bool → Workspace → List (List ℕ) → List (List ℕ)
+messages_in e unread related w ns = flat_map (λ n. unless_lost (stand_of e n) (found_message e unread related w n)) ns
 
 abbrev pub messages_of : Server → List (List ℕ) → List (List ℕ)
-messages_of s ns = messages_in s.editor s.client.related s.workspace ns
+messages_of s ns = messages_in s.editor s.unread s.client.related s.workspace ns
 
 -- the messages of the first ones of some documents were sent
 abbrev pub SendsFirst : (List (List ℕ) → List (List ℕ)) → List (List ℕ) → Outgoing → Outgoing → Type 0

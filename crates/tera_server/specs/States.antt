@@ -1,19 +1,22 @@
 -- What is seen of a server: the documents by their names, and what it asks for.
-use Rattle.std.specs.Prelude.{◌≡◌, ◌++◌, ◌&&◌, if◌then◌else◌, cond, ℕ, List, [], ◌∷◌, Bool, true, false, map, string_bytes, Option, None, Some}
+use Rattle.std.specs.Prelude.{◌≡◌, ◌⊎◌, ◌++◌, ◌&&◌, if◌then◌else◌, cond, ℕ, List, [], ◌∷◌, Bool, true, false, map, string_bytes, Option, None, Some}
 use Rattle.std.specs.List.{list_any}
-use Rattle.std.specs.Option.{option_map, is_some}
+use Rattle.std.specs.Option.{option_eq, option_map, is_some}
 use Rattle.std.specs.Str.{bytes_eq}
 use Rattle.file_uris.specs.Names.{is_rooted}
 use Rattle.tera_workspace.specs.Workspaces.{told_of_name, IsKept}
 use Rattle.text_edits.specs.Documents.{DocumentVal, opened, changed, closed, written, removed}
 use Rattle.text_edits.specs.Edits.{ChangeView, NewText, NewPart}
-use Rattle.text_edits.specs.Stored.{document_of}
+use Rattle.text_edits.specs.Stored.{document_of, IsChangedAt, AreSame}
 use Rattle.text_edits.specs.declared.positions.Encoding.{Encoding}
 use Rattle.tera_server.specs.Editors.{SeenVal, seen_of, stand_in, standing, lost}
 use Rattle.tera_server.specs.declared.editor.Stand.{Stand}
 use Rattle.tera_server.specs.declared.editor.Stand.TheVariants.{Open, Lost, Closed}
 use Rattle.tera_server.specs.declared.notes.WantedKind.{WantedKind}
 use Rattle.tera_server.specs.declared.notes.WantedKind.TheVariants as kinds
+use Rattle.tera_server.specs.UnreadFiles.{why_of, IsWhyAt}
+use Rattle.tera_server.specs.declared.server.OnDisk.{OnDisk}
+use Rattle.tera_server.specs.declared.server.OnDisk.TheVariants as on_disk
 use Rattle.tera_server.specs.declared.server.Server.{Server}
 use Rattle.tera_server.specs.declared.server.Wanted.{Wanted}
 use Rattle.tera_server.specs.declared.server.Wanted.TheVariants.{Folder, File}
@@ -96,6 +99,36 @@ edited_of s = map string_bytes s.edited.items
 abbrev pub with_name : List ℕ → List (List ℕ) → List (List ℕ)
 with_name n ns = if list_any (λ m. bytes_eq m n) ns then ns else ns ++ n ∷ []
 
+-- ---- what is on disk
+
+-- the text there, if there is one, and why there is none that could be read
+abbrev pub text_on : OnDisk → Option (List ℕ)
+text_on (on_disk.Text text) = Some (string_bytes text)
+text_on (on_disk.Unread why) = None
+text_on on_disk.Nothing = None
+
+abbrev pub why_on : OnDisk → Option (List ℕ)
+why_on (on_disk.Text text) = None
+why_on (on_disk.Unread why) = Some (string_bytes why)
+why_on on_disk.Nothing = None
+
+-- the names of those that are published anyhow, when this is why a file cannot be read: where it is something else than
+-- before, the file is among them
+abbrev pub edited_by : List ℕ → Option (List ℕ) → Server → List (List ℕ)
+edited_by path why s = if option_eq bytes_eq (why_of s.unread path) why then edited_of s else with_name path (edited_of s)
+
+-- this text is on disk under a path, or none is; and this is why the file there cannot be read, or nothing is
+pub record IsLoadedAs (path : List ℕ) (text why : Option (List ℕ)) (s t : Server) : Type 0 where
+  pub documents : IsChangedAt path (loaded_as text) s.workspace.documents t.workspace.documents
+  pub unread : IsWhyAt path why s.unread t.unread
+  pub edited : edited_of t ≡ edited_by path why s
+
+-- an allocation failed for that: the texts are what they were, and so is why each other file cannot be read
+pub record IsNotLoaded (path : List ℕ) (s t : Server) : Type 0 where
+  pub documents : AreSame s.workspace.documents t.workspace.documents
+  pub unread : (n : List ℕ) → bytes_eq path n ≡ false → why_of t.unread n ≡ why_of s.unread n
+  pub edited : (edited_of t ≡ edited_of s) ⊎ (edited_of t ≡ with_name path (edited_of s))
+
 -- ---- what may have been a change
 
 -- what was not read may have been a change of whatever document: the text of none that is open is known any more
@@ -103,12 +136,21 @@ pub record IsMissed (s t : Server) : Type 0 where
   pub same : t ≡ record s { editor = t.editor }
   pub seen : (n : List ℕ) → seen_of t.editor n ≡ option_map lost (seen_of s.editor n)
 
+-- ---- what files do not change
+
+-- what was told of documents, and how positions are counted
+pub record KeepsTold (s t : Server) : Type 0 where
+  pub encoding : t.workspace.encoding ≡ s.workspace.encoding
+  pub told : (n : List ℕ) → told_of_name t.workspace n ≡ told_of_name s.workspace n
+  pub kept : IsKept s.workspace → IsKept t.workspace
+
 -- ---- what no notification changes
 
 pub record StaysBut (s t : Server) : Type 0 where
   pub phase : t.phase ≡ s.phase
   pub client : t.client ≡ s.client
   pub folders : t.folders ≡ s.folders
+  pub unread : t.unread ≡ s.unread
   pub encoding : t.workspace.encoding ≡ s.workspace.encoding
   pub untold : t.untold ≡ s.untold
   pub told : (n : List ℕ) → told_of_name t.workspace n ≡ told_of_name s.workspace n

@@ -1,14 +1,17 @@
 //! What is found in a document, as it is published.
 
 ghost use Rattle.std.specs.Prelude.{◌≡◌, ◌++◌, ◌∷◌, [], map, string_bytes, IfOk, OnOk, OnErr};
+ghost use Rattle.std.specs.Option.{option_map};
 ghost use Rattle.json.specs.Tree.{json_tokens};
 ghost use Rattle.tera_workspace.specs.Diagnostics.{diagnostic_view, related_view};
 ghost use Rattle.tera_server.specs.Editors.{seen_of, uri_in, version_in};
-ghost use Rattle.tera_server.specs.Findings.{one_related, related_tokens, severity_number, one_found, found_json, version_tokens};
+ghost use Rattle.tera_server.specs.Findings.{one_related, related_tokens, severity_number, one_found, found_json, unread_tokens, version_tokens};
 ghost use Rattle.tera_server.specs.Sending.{with_all, messages_in, SendsFirst, names_beside};
+ghost use Rattle.tera_server.specs.UnreadFiles.{why_of};
 
 use crate::editor::{Editor, Stand};
 use crate::notes::has_name;
+use crate::unread::UnreadFiles;
 use file_uris::uri_of;
 use json::{Token, Writer};
 use json_rpc::{Outbox, begin_notification, end_message};
@@ -16,14 +19,22 @@ use protocol_values::{put_location, put_number, put_range, put_tokens};
 use std::alloc::{AllocError, Global};
 use tera_check::Severity;
 use tera_workspace::{Diagnostic, Related, Workspace};
+use text_edits::Position;
 
 /// How findings are told.
 #[derive(Clone, Copy)]
 pub(crate) struct Telling<'e> {
     pub(crate) editor: &'e Editor,
+    /// What is told of a file that cannot be read, before what is found in it.
+    pub(crate) unread: &'e UnreadFiles,
     /// Whether what explains a finding is told beside it.
     pub(crate) related: bool,
 }
+
+const BEGINNING: Position = Position {
+    line: 0,
+    character: 0,
+};
 
 /// Publishes what was told last of the documents of these names, but not of the others among them. Where the editor has one
 /// open with a text that is not known, nothing is published of it.
@@ -35,9 +46,11 @@ pub(crate) fn publish_each(
     others: &[String],
     out: &mut Outbox,
 ) -> Result<(), AllocError>
-    ensures published { OnOk result (out.new ≡ with_all out.old (messages_in telling.entry.editor.now telling.entry.related workspace.now
+    ensures published { OnOk result (out.new ≡ with_all out.old (messages_in telling.entry.editor.now
+        telling.entry.unread.now telling.entry.related workspace.now
         (names_beside (map string_bytes others.now) (map string_bytes names.now)))) }
-    ensures in_part { OnErr result (SendsFirst (λ ns. messages_in telling.entry.editor.now telling.entry.related workspace.now
+    ensures in_part { OnErr result (SendsFirst (λ ns. messages_in telling.entry.editor.now
+        telling.entry.unread.now telling.entry.related workspace.now
         (names_beside (map string_bytes others.now) ns)) (map string_bytes names.now) out.old out.new) }
 {
     for name in names {
@@ -56,7 +69,8 @@ fn publish(
     out: &mut Outbox,
 ) -> Result<(), AllocError>
     ensures published { OnOk result (out.new ≡ with_all out.old
-        (messages_in telling.entry.editor.now telling.entry.related workspace.now (name.now ∷ []))) }
+        (messages_in telling.entry.editor.now telling.entry.unread.now telling.entry.related workspace.now
+        (name.now ∷ []))) }
     ensures err { OnErr result (out.new ≡ out.old) }
 {
     match telling.editor.stand(name) {
@@ -77,7 +91,8 @@ fn put_published(
     found: &[Diagnostic],
 ) -> Result<(), AllocError>
     ensures tokens { OnOk result (out.new.tokens ≡ out.old.tokens
-        ++ json_tokens (found_json telling.entry.editor.now telling.entry.related name.now (map diagnostic_view found.now))) }
+        ++ json_tokens (found_json telling.entry.editor.now telling.entry.related name.now
+        (why_of telling.entry.unread.now name.now) (map diagnostic_view found.now))) }
     ensures before { out.new.before ≡ out.old.before }
 {
     let uri = uri_by(alloc, telling.editor, name)?;
@@ -91,6 +106,7 @@ fn put_published(
     )?;
     put_version(out, telling.editor, name)?;
     put_tokens(out, &[Token::Key("diagnostics"), Token::BeginArray])?;
+    put_unread(out, telling.unread.of(name))?;
     for diagnostic in found {
         put_diagnostic(alloc, out, telling, diagnostic)?;
     }
@@ -119,6 +135,32 @@ fn put_version(out: &mut Writer, editor: &Editor, name: &str) -> Result<(), Allo
         }
     }
     Ok(())
+}
+
+// Why the file cannot be read, if it cannot.
+fn put_unread(out: &mut Writer, why: Option<&str>) -> Result<(), AllocError>
+    ensures tokens { OnOk result (out.new.tokens
+        ≡ out.old.tokens ++ unread_tokens (option_map (λ t. t.now) why.entry)) }
+    ensures before { out.new.before ≡ out.old.before }
+{
+    let Some(why) = why else {
+        return Ok(());
+    };
+    out.begin_object()?;
+    put_range(out, "range", BEGINNING, BEGINNING)?;
+    put_number(out, "severity", severity_number(Severity::Error))?;
+    put_tokens(
+        out,
+        &[
+            Token::Key("code"),
+            Token::String("unread"),
+            Token::Key("source"),
+            Token::String("tera"),
+            Token::Key("message"),
+            Token::String(why),
+            Token::EndObject,
+        ],
+    )
 }
 
 fn put_diagnostic(

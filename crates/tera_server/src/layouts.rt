@@ -56,7 +56,7 @@ fn is_template(alloc: Global, text: &str) -> Result<bool, AllocError>
     ensures template { IfOk result (λ is. is ≡ true → IsTemplate text.now) }
     ensures none { IfOk result (λ is. is ≡ false → ¬ (IsTemplate text.now)) }
 {
-    let template = read_template(alloc, "", text)?;
+    let template = read_template(alloc, "", text, 0)?;
     Ok(template.parsed.is_ok())
 }
 

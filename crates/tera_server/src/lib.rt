@@ -6,9 +6,9 @@
 //! them, on `tera_layout`, and on `tera_outline` for outlines, names, coloured tokens and what may be typed.
 //!
 //! In the order of reading: specs `States`, `Requests`, `Notes`, `Steps`, `Settling`; `server`, and `requests` and `notes`,
-//! which a message may be; `client` and `editor`, what is known of them; `templates`, which files have which names;
-//! `abilities`, `layouts`, `symbols`, `definitions`, `hovers`, `references`, `completions` and `semantic_tokens`, which
-//! write results; `findings`, which publishes what is found; `laws`.
+//! which a message may be; `client` and `editor`, what is known of them; `unread`, files that cannot be read; `templates`,
+//! which files have which names; `abilities`, `layouts`, `symbols`, `definitions`, `hovers`, `references`, `completions` and
+//! `semantic_tokens`, which write results; `findings`, which publishes what is found; `laws`.
 #![tactic(auto)]
 
 mod abilities;
@@ -27,5 +27,6 @@ mod semantic_tokens;
 mod server;
 mod symbols;
 mod templates;
+mod unread;
 
-pub use server::{Ended, Server, Wanted};
+pub use server::{Ended, OnDisk, Server, Wanted};

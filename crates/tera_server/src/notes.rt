@@ -230,9 +230,11 @@ fn is_any_whole(changes: &[Change<'_>]) -> bool
     false
 }
 
-// Adds the name, where it is not one of these.
-fn add_name(alloc: Global, name: &str, names: &mut Vec<String>) -> Result<(), AllocError>
-    ensures { OnOk result (map string_bytes names.new.items ≡ with_name name.now (map string_bytes names.old.items)) }
+/// Adds the name, where it is not one of these.
+pub(crate) fn add_name(alloc: Global, name: &str, names: &mut Vec<String>) -> Result<(), AllocError>
+    ensures added { OnOk result (map string_bytes names.new.items
+        ≡ with_name name.now (map string_bytes names.old.items)) }
+    ensures err { OnErr result (names.new.items ≡ names.old.items) }
 {
     if has_name(names.as_slice(), name) {
         return Ok(());

@@ -1,6 +1,6 @@
 //! The server.
 
-ghost use Rattle.std.specs.Prelude.{◌≡◌, ◌++◌, ◌∷◌, [], ℕ, List, IsTrue, None, IfOk, OnOk, OnErr};
+ghost use Rattle.std.specs.Prelude.{◌≡◌, ◌⊎◌, ◌++◌, ◌∷◌, [], ℕ, List, IsTrue, None, IfOk, OnOk, OnErr, string_bytes};
 ghost use Rattle.std.specs.Option.{option_map, option_to_list};
 ghost use Rattle.json_rpc.specs.Ids.{NullId};
 ghost use Rattle.json_rpc.specs.Messages.{message_of};
@@ -11,18 +11,19 @@ ghost use Rattle.json_rpc.specs.Writing.{body, refusal};
 ghost use Rattle.json_rpc.specs.declared.code.Code.TheVariants.{InternalError, ParseError};
 ghost use Rattle.tera_workspace.specs.Workspaces.{told_of_name, IsKept};
 ghost use Rattle.text_edits.specs.Documents.{no_document};
-ghost use Rattle.text_edits.specs.Stored.{IsChangedAt, AreSame};
 ghost use Rattle.tera_server.specs.Sending.{untold_of};
 ghost use Rattle.tera_server.specs.Settling.{IsSettling, ArePublishedInPart, OnlyTells};
-ghost use Rattle.tera_server.specs.States.{IsMissed, known_of, loaded_as, wanted_of, wanted_view, edited_of, StaysBut};
+ghost use Rattle.tera_server.specs.States.{IsMissed, IsLoadedAs, IsNotLoaded, known_of, text_on, why_on, wanted_of, wanted_view, edited_of, edited_by, with_name, KeepsTold, StaysBut};
 ghost use Rattle.tera_server.specs.Steps.{ended_at, Step, IsRefused, IsUntaken, IsUntakenBy, KeepsUp};
+ghost use Rattle.tera_server.specs.UnreadFiles.{why_of, IsWhyAt};
 ghost use Rattle.tera_server.specs.declared.server.Phase.TheVariants.{New};
 
 use crate::client::Client;
 use crate::editor::Editor;
 use crate::findings::{Telling, publish_each};
-use crate::notes::Noted;
+use crate::notes::{Noted, add_name};
 use crate::requests::Asked;
+use crate::unread::UnreadFiles;
 use json::Scratch;
 use json_rpc::{Code, Id, Incoming, Message, Outbox, id_to_answer};
 use std::alloc::{AllocError, Global};
@@ -54,6 +55,17 @@ pub enum Wanted {
     File(String),
 }
 
+/// What is on disk under a path.
+#[derive(Debug, Drop)]
+pub enum OnDisk {
+    /// A file with this text.
+    Text(String),
+    /// A file that cannot be read, and why.
+    Unread(String),
+    /// No file, or one that is left out.
+    Nothing,
+}
+
 /// The state of a server.
 #[derive(Drop)]
 pub struct Server {
@@ -62,9 +74,11 @@ pub struct Server {
     pub(crate) workspace: Workspace,
     pub(crate) editor: Editor,
     pub(crate) folders: Vec<String>,
+    // Of the files that were asked for.
+    unread: UnreadFiles,
     pub(crate) wanted: Vec<Wanted>,
     // The names of the documents whose findings are to be published, whatever they are: the editor opened, changed or closed
-    // them, or they were not published in time.
+    // them, their files cannot be read or can again, or they were not published in time.
     pub(crate) edited: Vec<String>,
     // The names of those whose findings are others than were published.
     untold: Vec<String>,
@@ -77,7 +91,8 @@ impl Server {
         ensures known { (n : List ℕ) → known_of result n ≡ record { seen = None; texts = no_document } }
         ensures told { (n : List ℕ) → told_of_name result.workspace n ≡ [] }
         ensures kept { IsKept result.workspace }
-        ensures none { (wanted_of result ≡ []) × (edited_of result ≡ []) × (untold_of result ≡ []) }
+        ensures none { (wanted_of result ≡ []) × (edited_of result ≡ []) × (untold_of result ≡ [])
+            × ((n : List ℕ) → why_of result.unread n ≡ None) }
     {
         Server {
             phase: Phase::New,
@@ -85,6 +100,7 @@ impl Server {
             workspace: Workspace::new(alloc, Client::UNKNOWN.encoding),
             editor: Editor::new(alloc),
             folders: Vec::new(alloc),
+            unread: UnreadFiles::new(alloc),
             wanted: Vec::new(alloc),
             edited: Vec::new(alloc),
             untold: Vec::new(alloc),
@@ -243,18 +259,51 @@ impl Server {
         Ok(())
     }
 
-    /// This text is in the file now; none where there is no file, or no text in it.
-    pub fn load(&mut self, alloc: Global, path: &str, text: Option<&str>) -> Result<(), AllocError>
-        ensures stays { StaysBut self.old self.new }
-        ensures same { self.new ≡ record self.old { workspace = self.new.workspace } }
-        ensures loaded { OnOk result (IsChangedAt path.now
-            (loaded_as (option_map (λ t. t.now) text.entry)) self.old.workspace.documents self.new.workspace.documents) }
-        ensures err { OnErr result (AreSame self.old.workspace.documents self.new.workspace.documents) }
+    /// This is on disk under the path now. After an allocation failure the texts are what they were.
+    pub fn load(&mut self, alloc: Global, path: &str, found: OnDisk) -> Result<(), AllocError>
+        ensures stays { KeepsTold self.old self.new }
+        ensures same { self.new ≡ record self.old
+            { workspace = self.new.workspace; unread = self.new.unread; edited = self.new.edited } }
+        ensures loaded { OnOk result (IsLoadedAs path.now (text_on found) (why_on found) self.old self.new) }
+        ensures err { OnErr result (IsNotLoaded path.now self.old self.new) }
     {
-        match text {
-            Some(text) => self.workspace.set_file(alloc, path, text),
-            None => self.workspace.remove_file(alloc, path),
+        match found {
+            OnDisk::Text(text) => {
+                self.set_why(alloc, path, None)?;
+                self.workspace.set_file(alloc, path, text.as_str())
+            }
+            OnDisk::Unread(why) => self.unload(alloc, path, Some(why)),
+            OnDisk::Nothing => self.unload(alloc, path, None),
         }
+    }
+
+    // No text is on disk, where this is why the file cannot be read, or nothing is.
+    fn unload(&mut self, alloc: Global, path: &str, why: Option<String>) -> Result<(), AllocError>
+        ensures stays { KeepsTold self.old self.new }
+        ensures same { self.new ≡ record self.old
+            { workspace = self.new.workspace; unread = self.new.unread; edited = self.new.edited } }
+        ensures loaded { OnOk result (IsLoadedAs path.now None (option_map string_bytes why) self.old self.new) }
+        ensures err { OnErr result (IsNotLoaded path.now self.old self.new) }
+    {
+        self.set_why(alloc, path, why)?;
+        self.workspace.remove_file(alloc, path)
+    }
+
+    // This is why the file cannot be read, or nothing is. Where that is something else than before, it is published.
+    fn set_why(&mut self, alloc: Global, path: &str, why: Option<String>) -> Result<(), AllocError>
+        ensures same { self.new ≡ record self.old { unread = self.new.unread; edited = self.new.edited } }
+        ensures set { OnOk result (IsWhyAt path.now (option_map string_bytes why) self.old.unread self.new.unread) }
+        ensures edited { OnOk result (edited_of self.new
+            ≡ edited_by path.now (option_map string_bytes why) self.old) }
+        ensures unset { OnErr result ((n : List ℕ) → why_of self.new.unread n ≡ why_of self.old.unread n) }
+        ensures unedited { OnErr result ((edited_of self.new ≡ edited_of self.old)
+            ⊎ (edited_of self.new ≡ with_name path.now (edited_of self.old))) }
+    {
+        if self.unread.is(path, why.as_deref()) {
+            return Ok(());
+        }
+        add_name(alloc, path, &mut self.edited)?;
+        self.unread.set(alloc, path, why)
     }
 
     /// Publishes what is found in the texts as they are, where it is something else than was published, or the version is.
@@ -272,6 +321,7 @@ impl Server {
         self.untold = self.workspace.settle(alloc)?;
         let telling = Telling {
             editor: &self.editor,
+            unread: &self.unread,
             related: self.client.related,
         };
         // Of those that are untold it is published behind.

@@ -10,11 +10,12 @@ pub returns-in_ok-end_message-in-Open-clause-published : goal.returns-in_ok-end_
 unfolding found_message
 returns-in_ok-end_message-in-Open-clause-published c =
     let e = c.args.telling.editor.now in
+    let u = c.args.telling.unread.now in
     let related = c.args.telling.related in
     let w = c.args.workspace.now in
     let name = c.args.name.now in
     let message = c.in_ok-end_message-in-Open.field-0.items in
-    let is : message ≡ found_message e related w name =
+    let is : message ≡ found_message e u related w name =
     rw (
       c.in_ok-end_message-in-Open.ensures.bytes,
       c.in_ok-put_published-in-Open.ensures.before,
@@ -25,4 +26,4 @@ returns-in_ok-end_message-in-Open-clause-published c =
     )
     (simp append_assoc refl) in
     and_so c.push.result c.push.ensures.ok
-    (λ h. h ∙ one_sent e related w name message c.args.out.now (subst (λ (s : Stand). (s ≡ Open) ⊎ (s ≡ Closed)) c.stand.ensures c.in-Open.is) is)
+    (λ h. h ∙ one_sent e u related w name message c.args.out.now (subst (λ (s : Stand). (s ≡ Open) ⊎ (s ≡ Closed)) c.stand.ensures c.in-Open.is) is)
