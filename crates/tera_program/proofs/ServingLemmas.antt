@@ -21,11 +21,11 @@ use Rattle.tera_server.specs.declared.server.Ended.{Ended}
 use Rattle.tera_server.specs.declared.server.Phase.{Phase}
 use Rattle.tera_server.specs.declared.server.Phase.TheVariants.{New, Running, ShutDown}
 use Rattle.tera_server.specs.Steps.{ended_at}
-use Rattle.tera_server.specs.States.{loaded_as, wanted_of, wanted_view, StaysBut}
+use Rattle.tera_server.specs.States.{text_on, why_on, IsLoadedAs, IsNotLoaded, wanted_of, wanted_view, KeepsTold}
+use Rattle.tera_server.specs.declared.server.OnDisk.{OnDisk}
 use Rattle.tera_server.specs.declared.server.Server.{Server}
 use Rattle.tera_server.specs.declared.server.Wanted.{Wanted}
 use Rattle.tera_files.specs.Finding.{AreOf, AreOfAll}
-use Rattle.text_edits.specs.Stored.{IsChangedAt, AreSame}
 use Rattle.tera_program.specs.Serving.{Takes, SettlesSo, Settles, IsNew, IsAsked, IsLoaded, AreLoaded, LoadedNone, LoadedNext, Gives, Talks, Silent, Took, Settled, Given, Rounds, NoRound, NextRound, or_short, IsAtRest, IsOver, IsServed, IsTalking, ended_of, IsLeft, IsWaiting, Rests}
 use Rattle.tera_program.specs.declared.server.Left.{Left}
 use Rattle.tera_program.specs.declared.server.Left.TheVariants as lefts
@@ -85,22 +85,22 @@ pub folder_unread : (extensions : List (List ℕ)) (folder : List ℕ) (s : Serv
 folder_unread extensions folder s = ([], folder ∷ [], inl refl, LoadedNone)
 
 -- a text was loaded
-pub is_loaded : {T E : Type 0} (r : Result T E) (path : List ℕ) (text : Option (List ℕ)) (s t : Server) → StaysBut s t → t ≡ record s { workspace = t.workspace } →
-    OnOk r (IsChangedAt path (loaded_as text) s.workspace.documents t.workspace.documents) → OnErr r (AreSame s.workspace.documents t.workspace.documents) → IsLoaded path s t
-is_loaded (Ok v) path text s t stays same changed unchanged = record { documents = inl (text, changed); same = same; stays = stays }
-is_loaded (Err e) path text s t stays same changed unchanged = record { documents = inr unchanged; same = same; stays = stays }
+pub is_loaded : {T E : Type 0} (r : Result T E) (path : List ℕ) (found : OnDisk) (s t : Server) → KeepsTold s t → t ≡ record s { workspace = t.workspace; unread = t.unread; edited = t.edited } →
+    OnOk r (IsLoadedAs path (text_on found) (why_on found) s t) → OnErr r (IsNotLoaded path s t) → IsLoaded path s t
+is_loaded (Ok v) path found s t stays same loaded unchanged = record { documents = inl (found, loaded); same = same; stays = stays }
+is_loaded (Err e) path found s t stays same loaded unchanged = record { documents = inr unchanged; same = same; stays = stays }
 
-pub some_text : {T E : Type 0} (r : Result T E) (path : List ℕ) (text : Option (List ℕ)) (s t : Server) → OnOk r (IsChangedAt path (loaded_as text) s.workspace.documents t.workspace.documents) →
-    OnOk r ((text : Option (List ℕ)) × IsChangedAt path (loaded_as text) s.workspace.documents t.workspace.documents)
-some_text (Ok v) path text s t changed = (text, changed)
-some_text (Err e) path text s t changed = tt
+pub some_found : {T E : Type 0} (r : Result T E) (path : List ℕ) (found : OnDisk) (s t : Server) → OnOk r (IsLoadedAs path (text_on found) (why_on found) s t) →
+    OnOk r ((found : OnDisk) × IsLoadedAs path (text_on found) (why_on found) s t)
+some_found (Ok v) path found s t loaded = (found, loaded)
+some_found (Err e) path found s t loaded = tt
 
 -- no memory was found to read a file
 pub unloaded : (path : List ℕ) (s : Server) → IsLoaded path s s
 unloaded path s = record {
-  documents = inr (λ n. refl);
+  documents = inr (record { documents = λ n. refl; unread = λ n e. refl; edited = inl refl });
   same = refl;
-  stays = record { phase = refl; client = refl; folders = refl; encoding = refl; untold = refl; told = λ n. refl; kept = λ k. k };
+  stays = record { encoding = refl; told = λ n. refl; kept = λ k. k };
 }
 
 -- no whole message is left, and none ended the exchange

@@ -1,4 +1,4 @@
--- Findings as text, in each form.
+-- Findings, and files that could not be read, as text in each form.
 use Rattle.std.specs.Prelude.{ℕ, List, [], ◌∷◌, ◌++◌, codes}
 use Rattle.std.specs.List.{flat_map}
 use Rattle.json.specs.Token.{Token}
@@ -8,9 +8,10 @@ use Rattle.tera_check.specs.Objects.{object_of}
 use Rattle.tera_report.specs.Annotations.{annotation}
 use Rattle.tera_report.specs.Logs.{log_begin, log_end, result_object}
 use Rattle.tera_report.specs.Told.{told}
+use Rattle.tera_report.specs.Unread.{unread_annotation, unread_object, unread_result}
 use Rattle.terminal_text.specs.declared.style.Style.{Style}
 use Rattle.tera_program.specs.Found.{FoundVal}
-use Rattle.tera_program.specs.Sources.{Known}
+use Rattle.tera_program.specs.Sources.{Known, UnreadVal}
 use Rattle.tera_program.specs.declared.job.Form.{Form}
 use Rattle.tera_program.specs.declared.job.Form.TheVariants as forms
 
@@ -30,14 +31,31 @@ finding_text forms.Json style known file finding = print (object_of file finding
 finding_text forms.Github style known file finding = annotation file finding
 finding_text forms.Sarif style known file finding = []
 
--- the tokens of a log
-abbrev pub log_of : List FoundVal → List Token
-log_of all = log_begin version ++ (flat_map (of_each result_object) all ++ log_end)
+-- what is written of a file that could not be read
+abbrev pub of_unread : {A : Type 0} → (List ℕ → List ℕ → List A) → UnreadVal → List A
+of_unread of_one unread = of_one unread.0 unread.1
 
--- what is written of the findings in all files
-abbrev pub text_of : Form → Style → Known → List FoundVal → List ℕ
-text_of forms.Sarif style known all = print (log_of all) ++ 10 ∷ []
-text_of forms.Full style known all = flat_map (of_each (finding_text forms.Full style known)) all
-text_of forms.Concise style known all = flat_map (of_each (finding_text forms.Concise style known)) all
-text_of forms.Json style known all = flat_map (of_each (finding_text forms.Json style known)) all
-text_of forms.Github style known all = flat_map (of_each (finding_text forms.Github style known)) all
+-- the text of a file that could not be read; for people standard error has it, and a log has none of single results
+abbrev pub unread_text : Form → UnreadVal → List ℕ
+unread_text forms.Full unread = []
+unread_text forms.Concise unread = []
+unread_text forms.Json unread = print (of_unread unread_object unread) ++ 10 ∷ []
+unread_text forms.Github unread = of_unread unread_annotation unread
+unread_text forms.Sarif unread = []
+
+-- the tokens of a log
+abbrev pub log_of : List UnreadVal → List FoundVal → List Token
+log_of unread all =
+    log_begin version ++ (flat_map (of_unread unread_result) unread ++ (flat_map (of_each result_object) all ++ log_end))
+
+-- what is written of the files that could not be read, and of the findings in all others
+abbrev pub texts_of : Form → Style → Known → List UnreadVal → List FoundVal → List ℕ
+texts_of form style known unread all =
+    flat_map (unread_text form) unread ++ flat_map (of_each (finding_text form style known)) all
+
+abbrev pub text_of : Form → Style → Known → List UnreadVal → List FoundVal → List ℕ
+text_of forms.Sarif style known unread all = print (log_of unread all) ++ 10 ∷ []
+text_of forms.Full style known unread all = texts_of forms.Full style known unread all
+text_of forms.Concise style known unread all = texts_of forms.Concise style known unread all
+text_of forms.Json style known unread all = texts_of forms.Json style known unread all
+text_of forms.Github style known unread all = texts_of forms.Github style known unread all

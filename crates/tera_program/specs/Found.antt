@@ -1,14 +1,12 @@
 -- What is found in templates.
-use Rattle.std.specs.Prelude.{◌≡◌, ◌<◌, ◌≤◌, ℕ, suc, ◌^◌, ◌-◌, min, List, [], ◌∷◌, Bool, true, false, nat_lt, map, length, Option, MatchResult, string_bytes}
+use Rattle.std.specs.Prelude.{◌≡◌, ◌<◌, ◌≤◌, ℕ, suc, ◌^◌, ◌-◌, min, List, [], ◌∷◌, ◌++◌, Bool, true, false, nat_lt, map, length, Option, string_bytes}
 use Rattle.std.specs.List.Sorted.{IsPermutation}
 use Rattle.std.specs.List.{count_by, list_any, sum_by}
-use Rattle.tera_base.specs.ErrorView.{error_view}
-use Rattle.tera_base.specs.declared.errors.Error.{Error}
-use Rattle.tera_tree.specs.Outputs.{output_view}
-use Rattle.tera_tree.specs.declared.outputs.ParserOutput.{ParserOutput}
-use Rattle.tera_check.specs.Findings.{FindingVal, finding_view, IsOfError, severity_of}
+use Rattle.tera_check.specs.Due.{due_findings}
+use Rattle.tera_check.specs.FaultFindings.{AreFaultsOf}
+use Rattle.tera_check.specs.Findings.{FindingVal, finding_view, severity_of}
 use Rattle.tera_check.specs.Judged.{KnownVal}
-use Rattle.tera_check.specs.Named.{tree_findings, first_named, defined_by}
+use Rattle.tera_check.specs.Named.{first_named, defined_by}
 use Rattle.tera_check.specs.OrderAndStatus.{IsInOrder}
 use Rattle.tera_check.specs.declared.finding.Finding.{Finding}
 use Rattle.tera_check.specs.declared.finding.Severity.{Severity}
@@ -20,32 +18,29 @@ use Rattle.tera_program.specs.declared.found.Found.{Found}
 abbrev pub defined_in : List Template → List ℕ → Option KnownVal
 defined_in templates name = first_named name (defined_by 0 templates)
 
--- what is found of a fault
-abbrev pub IsFault : Error → List Finding → Type 0
-IsFault error findings = (finding : Finding) × (findings ≡ finding ∷ []) × IsOfError (error_view error) (finding_view finding)
+-- the faults of a template, and what is due of its tree
+pub record IsAllOf (known : List ℕ → Option KnownVal) (open_text : Bool) (number : ℕ) (template : Template) (findings : List Finding) : Type 0 where
+  pub faults : List FindingVal
+  pub are : AreFaultsOf template faults
+  pub found : IsPermutation (faults ++ due_findings known open_text number template) (map finding_view findings)
 
--- what is found in a tree: what the checker finds there, in the order of the places; of the library, which stands behind
--- the templates that are checked, nothing
-pub record IsOfTree (known : List ℕ → Option KnownVal) (checked number : ℕ) (template : Template) (output : ParserOutput) (findings : List Finding) : Type 0 where
-  pub in_order : number < checked → IsInOrder findings
-  pub found : number < checked → IsPermutation (tree_findings known number template (output_view output)) (map finding_view findings)
-  pub of_library : checked ≤ number → findings ≡ []
-
--- what is found in a template of this number: its fault, or what is found in its tree
-abbrev pub IsFoundOf : (List ℕ → Option KnownVal) → ℕ → ℕ → Template → List Finding → Type 0
-IsFoundOf known checked number template findings =
-    MatchResult template.parsed (λ output. IsOfTree known checked number template output findings) (λ error. IsFault error findings)
+-- what is found in a template of this number, in the order of the places: all of that; of the library, which is after the
+-- templates that are checked, the faults
+pub record IsFoundOf (known : List ℕ → Option KnownVal) (open_text : Bool) (checked number : ℕ) (template : Template) (findings : List Finding) : Type 0 where
+  pub in_order : IsInOrder findings
+  pub found : number < checked → IsAllOf known open_text number template findings
+  pub of_library : checked ≤ number → AreFaultsOf template (map finding_view findings)
 
 -- what is found in each template, under the name of its file
-pub record IsFoundUnder (known : List ℕ → Option KnownVal) (checked number : ℕ) (template : Template) (found : Found) : Type 0 where
+pub record IsFoundUnder (known : List ℕ → Option KnownVal) (open_text : Bool) (checked number : ℕ) (template : Template) (found : Found) : Type 0 where
   pub file : found.file.now ≡ string_bytes template.file
-  pub findings : IsFoundOf known checked number template found.findings.items
+  pub findings : IsFoundOf known open_text checked number template found.findings.items
 
-pub data AreFound (known : List ℕ → Option KnownVal) (checked : ℕ) : ℕ → List Template → List Found → Type 0 where
-  none : {number : ℕ} → AreFound known checked number [] []
+pub data AreFound (known : List ℕ → Option KnownVal) (open_text : Bool) (checked : ℕ) : ℕ → List Template → List Found → Type 0 where
+  none : {number : ℕ} → AreFound known open_text checked number [] []
   one : {number : ℕ} {template : Template} {found : Found} {templates : List Template} {all : List Found}
-      → IsFoundUnder known checked number template found → AreFound known checked (suc number) templates all
-      → AreFound known checked number (template ∷ templates) (found ∷ all)
+      → IsFoundUnder known open_text checked number template found → AreFound known open_text checked (suc number) templates all
+      → AreFound known open_text checked number (template ∷ templates) (found ∷ all)
 
 -- what is seen of it: a file and what is found there
 abbrev pub FoundVal : Type 0

@@ -34,14 +34,14 @@ abbrev pub common_view : Common → CommonVal
 common_view c = record { extensions = lists_view c.extensions; stdin = c.stdin.now; colours = c.colours; quiet = c.quiet }
 
 pub data JobVal : Type 0 where
-  Checks : Form → Option (List (List ℕ)) → Option (List (List ℕ)) → CommonVal → JobVal
+  Checks : Form → Option (List (List ℕ)) → List ℕ → Option (List (List ℕ)) → CommonVal → JobVal
   Shows : Bool → List ℕ → CommonVal → JobVal
   Lists : Bool → Option (List (List ℕ)) → CommonVal → JobVal
   LaysOut : Mode → Option (List ℕ) → Option (List (List ℕ)) → CommonVal → JobVal
   Serves : JobVal
 
 abbrev pub check_view : Check → JobVal
-check_view j = Checks j.form (lists_view j.library) (lists_view j.files) (common_view j.common)
+check_view j = Checks j.form (lists_view j.library) j.max_faults.now (lists_view j.files) (common_view j.common)
 
 abbrev pub tree_view : Tree → JobVal
 tree_view j = Shows j.json j.file.now (common_view j.common)
@@ -115,7 +115,7 @@ common_of rows = record {
 
 abbrev pub check_of : List Row → JobVal
 check_of rows =
-    Checks (form_of (first_of (codes "output-format") rows)) (all_of (codes "library") rows) (all_of (codes "files") rows) (common_of rows)
+    Checks (form_of (first_of (codes "output-format") rows)) (all_of (codes "library") rows) (text_or [] (codes "max-faults") rows) (all_of (codes "files") rows) (common_of rows)
 
 abbrev pub tree_of : List Row → JobVal
 tree_of rows = Shows (is_set (codes "json") rows) (text_or (codes "-") (codes "file") rows) (common_of rows)

@@ -9,5 +9,6 @@ pub mod Lines
 pub mod Plans
 pub mod Sources
 pub mod Told
+pub mod Reasons
 pub mod Sent
 pub mod Serving

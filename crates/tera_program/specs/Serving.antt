@@ -18,22 +18,24 @@ use Rattle.tera_program.specs.declared.server.Left.{Left}
 use Rattle.tera_program.specs.declared.server.Left.TheVariants as lefts
 use Rattle.tera_server.specs.Settling.{due_of, IsSettling, ArePublishedInPart}
 use Rattle.tera_server.specs.Sending.{untold_of}
-use Rattle.tera_server.specs.States.{known_of, loaded_as, WantedVal, WantsFile, WantsFolder, wanted_of, edited_of, StaysBut}
+use Rattle.tera_server.specs.States.{known_of, text_on, why_on, IsLoadedAs, IsNotLoaded, WantedVal, WantsFile, WantsFolder, wanted_of, edited_of, KeepsTold}
 use Rattle.tera_server.specs.Steps.{ended_at, Step, IsRefused, IsUntaken}
 use Rattle.tera_server.specs.declared.server.Ended.{Ended}
 use Rattle.tera_server.specs.declared.server.Phase.TheVariants.{New, Running}
+use Rattle.tera_server.specs.UnreadFiles.{why_of}
+use Rattle.tera_server.specs.declared.server.OnDisk.{OnDisk}
 use Rattle.tera_server.specs.declared.server.Server.{Server}
 use Rattle.tera_workspace.specs.Workspaces.{told_of_name, IsKept}
 use Rattle.text_edits.specs.Documents.{no_document}
-use Rattle.text_edits.specs.Stored.{IsChangedAt, AreSame}
 
--- nothing was sent to a server: it knows no document, tells nothing, asks for nothing, and has nothing to publish
+-- nothing was sent to a server: it knows no document, tells nothing, asks for nothing, has nothing to publish, and knows of no
+-- file that cannot be read
 pub record IsNew (s : Server) : Type 0 where
   pub phase : s.phase ≡ New
   pub known : (n : List ℕ) → known_of s n ≡ record { seen = None; texts = no_document }
   pub told : (n : List ℕ) → told_of_name s.workspace n ≡ []
   pub kept : IsKept s.workspace
-  pub none : (wanted_of s ≡ []) × (edited_of s ≡ []) × (untold_of s ≡ [])
+  pub none : (wanted_of s ≡ []) × (edited_of s ≡ []) × (untold_of s ≡ []) × ((n : List ℕ) → why_of s.unread n ≡ None)
 
 -- what a message does, and what is to be sent then; what is too long is missed, and what is no message is refused: each
 -- may have been a change
@@ -60,13 +62,12 @@ pub record IsAsked (next : Option WantedVal) (s t : Server) : Type 0 where
   pub none : next ≡ None → wanted_of s ≡ []
   pub same : t ≡ record s { wanted = t.wanted }
 
--- a text is in the file of this path, or none is; or that found no memory, and the texts are what they were
+-- a text is in the file of this path, or it cannot be read, or there is none; or an allocation failed for that, and the texts
+-- are what they were
 pub record IsLoaded (path : List ℕ) (s t : Server) : Type 0 where
-  pub documents :
-      ((text : Option (List ℕ)) × IsChangedAt path (loaded_as text) s.workspace.documents t.workspace.documents)
-      ⊎ AreSame s.workspace.documents t.workspace.documents
-  pub same : t ≡ record s { workspace = t.workspace }
-  pub stays : StaysBut s t
+  pub documents : ((found : OnDisk) × IsLoadedAs path (text_on found) (why_on found) s t) ⊎ IsNotLoaded path s t
+  pub same : t ≡ record s { workspace = t.workspace; unread = t.unread; edited = t.edited }
+  pub stays : KeepsTold s t
 
 -- files of these paths were given, in order
 pub data AreLoaded (s : Server) : List (List ℕ) → Server → Type 0 where

@@ -1,5 +1,6 @@
 -- Sources by the names of their files, and the templates that are read of them.
-use Rattle.std.specs.Prelude.{◌≡◌, ◌++◌, ℕ, List, [], ◌∷◌, Bool, true, false, Option, None, Some, IfErr, IfOk, if◌then◌else◌, bytes_eq, string_bytes}
+use Rattle.std.specs.Prelude.{◌≡◌, ◌++◌, ℕ, List, [], ◌∷◌, Bool, true, false, Option, None, Some, IfErr, IfOk, IfSome, if◌then◌else◌, bytes_eq, map, string_bytes}
+use Rattle.tera_check.specs.Mended.{IsMended}
 use Rattle.tera_check.specs.declared.templates.Template.{Template}
 use Rattle.tera_files.specs.declared.reading.Source.{Source}
 use Rattle.tera_grammar.specs.Limits.{usual}
@@ -8,6 +9,7 @@ use Rattle.tera_lexer.specs.grammar.Marks.{default_marks}
 use Rattle.tera_parser.specs.Refusal.{Refuses}
 use Rattle.tera_tree.specs.Outputs.{output_view}
 use Rattle.tera_program.specs.declared.reading.Templates.{Templates}
+use Rattle.tera_program.specs.declared.reading.Unreadable.{Unreadable}
 
 -- what is known of the source of a file
 abbrev pub Known : Type 0
@@ -25,11 +27,12 @@ abbrev pub with_sources : Known → List Source → Known
 with_sources known [] = known
 with_sources known (source ∷ more) = with_sources (with_source known source) more
 
--- A template is that of the source of a file.
-pub record IsReadFrom (file source : List ℕ) (template : Template) : Type 0 where
+-- A template is that of the source of a file, of which at most so many faults are reported.
+pub record IsReadFrom (file source : List ℕ) (faults : ℕ) (template : Template) : Type 0 where
   pub named : string_bytes template.file ≡ file
   pub read : IfOk template.parsed (λ output. Derives usual default_marks source (output_view output))
   pub refused : IfErr template.parsed (Refuses default_marks source)
+  pub mended : IfSome template.mended (IsMended file source faults)
 
 -- What is kept of a source: itself, or nothing.
 abbrev pub AddsKept : Bool → List ℕ → List ℕ → List Source → List Source → Type 0
@@ -38,8 +41,21 @@ AddsKept true file text old new =
 AddsKept false file text old new = new ≡ old
 
 -- The template of a file goes behind the others, and so does its source where it is kept.
-pub record AddsRead (file text : List ℕ) (keeps : Bool) (old new : Templates) : Type 0 where
+pub record AddsRead (file text : List ℕ) (faults : ℕ) (keeps : Bool) (old new : Templates) : Type 0 where
   pub template : Template
-  pub read : IsReadFrom file text template
+  pub read : IsReadFrom file text faults template
   pub behind : new.templates.items ≡ old.templates.items ++ template ∷ []
   pub kept : AddsKept keeps file text old.sources.items new.sources.items
+
+-- a file that could not be read, and why
+abbrev pub UnreadVal : Type 0
+UnreadVal = List ℕ × List ℕ
+
+abbrev pub unreadable_view : Unreadable → UnreadVal
+unreadable_view one = (string_bytes one.file, string_bytes one.why)
+
+-- A file that could not be read goes after the others, and why.
+pub record AddsUnread (file why : List ℕ) (old new : Templates) : Type 0 where
+  pub unread : map unreadable_view new.unread.items ≡ map unreadable_view old.unread.items ++ (file, why) ∷ []
+  pub templates : new.templates ≡ old.templates
+  pub checked : new.checked ≡ old.checked

@@ -1,5 +1,5 @@
 -- What is told of templates, and how the program ends.
-use Rattle.std.specs.Prelude.{◌≡◌, ◌<◌, ◌||◌, ℕ, List, true, false, nat_lt, map, length, take, Option, None, Some, is_some, Result, Ok, Err, MatchResult}
+use Rattle.std.specs.Prelude.{◌≡◌, ◌<◌, ◌||◌, ℕ, List, true, false, nat_lt, map, length, take, Option, None, Some, is_some, Result, Ok, Err, MatchResult, vec_len}
 use Rattle.std.specs.declared.alloc.AllocError.{AllocError}
 use Rattle.std.specs.Io.KnownBytes.{Appends, Keeps}
 use Rattle.std.specs.List.{list_any}
@@ -7,8 +7,9 @@ use Rattle.std.specs.declared.io.Error.{Error}
 use Rattle.tera_check.specs.declared.templates.Template.{Template}
 use Rattle.terminal_text.specs.declared.style.Style.{Style}
 use Rattle.tera_program.specs.Forms.{text_of}
+use Rattle.tera_check.specs.Lost.{are_open}
 use Rattle.tera_program.specs.Found.{AreFound, defined_in, count_in, faulty_in, found_view, is_wrong}
-use Rattle.tera_program.specs.Sources.{Known, nothing, with_sources}
+use Rattle.tera_program.specs.Sources.{Known, UnreadVal, nothing, unreadable_view, with_sources}
 use Rattle.tera_program.specs.declared.counting.Checked.{Checked}
 use Rattle.tera_program.specs.declared.found.Found.{Found}
 use Rattle.tera_program.specs.declared.job.Form.{Form}
@@ -21,18 +22,18 @@ abbrev pub Takes : Option (List ℕ) → Option (List ℕ) → List ℕ → Opti
 Takes old new text None = Appends old new text
 Takes old new text (Some error) = (n : ℕ) × (n < length text) × Appends old new (take n text)
 
--- what was found in the templates was written whole, or a beginning of it, and counted
-pub record IsTold (form : Form) (style : Style) (known : Known) (templates : List Template) (checked : ℕ) (old new : Option (List ℕ)) (told : Told) : Type 0 where
+-- what could not be read and what was found in the templates was written whole, or a beginning of it, and counted
+pub record IsTold (form : Form) (style : Style) (known : Known) (unread : List UnreadVal) (templates : List Template) (checked : ℕ) (old new : Option (List ℕ)) (told : Told) : Type 0 where
   pub all : List Found
-  pub are : AreFound (defined_in templates) checked 0 templates all
-  pub written : Takes old new (text_of form style known (map found_view all)) told.stopped
+  pub are : AreFound (defined_in templates) (are_open templates) checked 0 templates all
+  pub written : Takes old new (text_of form style known unread (map found_view all)) told.stopped
   pub errors : told.errors ≡ list_any is_wrong all
   pub findings : told.findings ≡ count_in all
   pub faulty : told.faulty ≡ faulty_in all
 
 -- what the last line counts: the findings that were written, and the files that were read
 abbrev pub counts_of : Templates → Told → Checked
-counts_of all told = record { files = all.checked; findings = told.findings; faulty = told.faulty; unread = all.unread }
+counts_of all told = record { files = all.checked; findings = told.findings; faulty = told.faulty; unread = vec_len all.unread }
 
 -- how the program ends where so many files could not be read
 abbrev pub ended_of : Result Told AllocError → ℕ → Ended
@@ -44,6 +45,7 @@ ended_of (Err error) unread = record { found = false; failed = true }
 pub record IsChecked (form : Form) (style : Style) (all : Templates) (old new : Option (List ℕ)) (ended : Ended) : Type 0 where
   pub told : Result Told AllocError
   pub written : MatchResult told
-      (IsTold form style (with_sources nothing all.sources.items) all.templates.items all.checked old new)
+      (IsTold form style (with_sources nothing all.sources.items) (map unreadable_view all.unread.items) all.templates.items
+      all.checked old new)
       (λ _. Keeps old new)
-  pub ends : ended ≡ ended_of told all.unread
+  pub ends : ended ≡ ended_of told (vec_len all.unread)

@@ -1,9 +1,10 @@
 //! `tera check`.
 
-ghost use Rattle.std.specs.Prelude.{◌≡◌, ◌++◌, ◌∷◌, [], string_bytes, IfOk, OnErr};
+ghost use Rattle.std.specs.Prelude.{◌≡◌, ◌<◌, ◌^◌, ◌++◌, ◌∷◌, [], ℕ, Some, string_bytes, map, IfOk, IfSome, OnErr};
+ghost use Rattle.std.specs.Fmt.{decimal};
 ghost use Rattle.std.specs.Io.KnownBytes.{Keeps};
 ghost use Rattle.tera_program.specs.Counting.{checked_line};
-ghost use Rattle.tera_program.specs.Sources.{nothing, with_sources};
+ghost use Rattle.tera_program.specs.Sources.{nothing, unreadable_view, with_sources};
 ghost use Rattle.tera_program.specs.Told.{IsChecked, IsTold, counts_of, ended_of};
 
 use crate::colours::{Terminals, style};
@@ -35,9 +36,13 @@ pub(crate) fn run<R: Files + Env + Input + Print + Eprint + AllocGlobal + Clone 
         tell(rt, "tera", "--library: a file or a folder is wanted");
         return Ended::failed();
     }
+    let Some(faults) = number_from_1(job.max_faults) else {
+        tell(rt, "tera", "--max-faults: a number from 1 on is wanted");
+        return Ended::failed();
+    };
     // Excerpts alone want the sources.
     let keeps_sources = matches!(job.form, Form::Full);
-    match read_all(rt, job.common, files, job.library, keeps_sources) {
+    match read_all(rt, job.common, files, job.library, keeps_sources, faults) {
         Ok(all) => {
             let (ended, is_said) = run_on(rt, style, job, &all, &mut io::writer(rt));
             all.forget();
@@ -47,6 +52,17 @@ pub(crate) fn run<R: Files + Env + Input + Print + Eprint + AllocGlobal + Clone 
             tell(rt, "tera", "out of memory");
             Ended::failed()
         }
+    }
+}
+
+// The number that the word is, unless that is 0.
+fn number_from_1(word: &str) -> Option<usize>
+    ensures above { IfSome result (λ n. 0 < n) }
+    ensures decimal { (n : ℕ) → 0 < n → n < 2 ^ 64 → word.now ≡ decimal n → result ≡ Some n }
+{
+    match word.parse::<usize>() {
+        Ok(number) if number > 0 => Some(number),
+        _ => None,
     }
 }
 
@@ -78,7 +94,7 @@ fn run_on<R: Eprint + AllocGlobal, W: Write>(
             false
         }
     };
-    (ended(&told, all.unread), is_said)
+    (ended(&told, all.unread.len()), is_said)
 }
 
 fn tell_all<W: Write>(
@@ -89,7 +105,8 @@ fn tell_all<W: Write>(
     writer: &mut W,
 ) -> Result<Told, AllocError>
     ensures told { IfOk result (IsTold form style (with_sources nothing all.now.sources.items)
-        all.now.templates.items all.now.checked (W.contents writer.old) (W.contents writer.new)) }
+        (map unreadable_view all.now.unread.items) all.now.templates.items all.now.checked
+        (W.contents writer.old) (W.contents writer.new)) }
     ensures memory { OnErr result (Keeps (W.contents writer.old) (W.contents writer.new)) }
 {
     let mut sources = all.texts(alloc)?;
@@ -99,6 +116,7 @@ fn tell_all<W: Write>(
         form,
         style,
         &mut sources,
+        &all.unread,
         &all.templates,
         all.checked,
     )
@@ -159,6 +177,6 @@ fn counts_of(all: &Templates, told: &Told) -> Checked
         files: all.checked,
         findings: told.findings,
         faulty: told.faulty,
-        unread: all.unread,
+        unread: all.unread.len(),
     }
 }

@@ -39,7 +39,7 @@ fn listed<R: Files + Env + Input + Print + Eprint + AllocGlobal + Clone + Drop>(
     let Some(files) = job.files else {
         return Ok(Ended::failed());
     };
-    let all = read_all(rt, job.common, files, None, true)?;
+    let all = read_all(rt, job.common, files, None, true, 0)?;
     let faults = faults_of(alloc, style, &all)?;
     let mut said = put_error(rt, faults.text.as_str());
     let components = components_of(alloc, &all.templates)?;
@@ -50,7 +50,7 @@ fn listed<R: Files + Env + Input + Print + Eprint + AllocGlobal + Clone + Drop>(
             components: components.len(),
             files: all.templates.len(),
             faulty: faults.count,
-            unread: all.unread,
+            unread: all.unread.len(),
         };
         let mut line = listed_line(alloc, counts)?;
         line.push('\n')?;
@@ -58,7 +58,7 @@ fn listed<R: Files + Env + Input + Print + Eprint + AllocGlobal + Clone + Drop>(
     }
     Ok(Ended {
         found: faults.count > 0,
-        failed: all.unread > 0 || !written || !said,
+        failed: !all.unread.is_empty() || !written || !said,
     })
 }
 
@@ -87,8 +87,8 @@ fn faults_of(alloc: Global, style: Style, all: &Templates) -> Result<Faults, All
     let mut count = 0usize;
     for template in &all.templates {
         if let Err(error) = &template.parsed {
-            let finding = finding_of_fault(alloc, error)?;
             let file = template.file.as_str();
+            let finding = finding_of_fault(alloc, file, error)?;
             push_told(alloc, &mut text, style, file, &mut sources, &finding)?;
             count = count.saturating_add(1);
         }

@@ -8,7 +8,7 @@ use crate::colours::{Terminals, style};
 use crate::counting::{LaidOut, laid_out_line};
 use crate::job::{Format, Mode};
 use crate::markers::{markers_of, tell_unfit};
-use crate::output::{name_line, put, put_error, tell, tell_unread, tell_unwritten};
+use crate::output::{difference_for, name_line, put, put_error, tell, tell_unread, tell_unwritten};
 use crate::plan::{Action, Plan, action_of, plan_of};
 use crate::reading::{found, name_of, tell_unlisted};
 use crate::status::Ended;
@@ -17,7 +17,7 @@ use std::alloc::AllocError;
 use std::rt::{Env, Files};
 use tera_files::{Source, read_source, replace};
 use tera_parser::lexer::Delimiters;
-use terminal_text::{Style, difference};
+use terminal_text::Style;
 
 // What became of one file.
 #[derive(Clone, Copy)]
@@ -195,7 +195,14 @@ fn put_action<R: Print + Eprint + AllocGlobal>(
         Action::Nothing => Ok(true),
         Action::Show(text) => Ok(put(rt, text.as_bytes())),
         Action::Difference(layout) => {
-            let text = difference(rt.alloc(), styles.out, name, source.text.as_str(), layout)?;
+            let text = difference_for(
+                rt.alloc(),
+                styles.out,
+                styles.is_terminal,
+                name,
+                source.text.as_str(),
+                layout,
+            )?;
             Ok(put(rt, text.as_bytes()))
         }
         Action::Name | Action::Replace(_) => put_name(rt, styles, name),

@@ -1,4 +1,4 @@
-//! Findings as text, in each form.
+//! Findings, and files that could not be read, as text in each form.
 
 ghost use Rattle.std.specs.Prelude.{◌≡◌, ◌++◌, ◌∷◌, [], ℕ, List, IfOk, OnOk, map};
 ghost use Rattle.json.specs.Print.{print};
@@ -6,62 +6,98 @@ ghost use Rattle.std.specs.List.{flat_map};
 ghost use Rattle.tera_check.specs.Findings.{finding_view};
 ghost use Rattle.tera_report.specs.Logs.{result_object};
 ghost use Rattle.terminal_text.specs.Files.{source_of};
-ghost use Rattle.tera_program.specs.Forms.{text_of, finding_text, log_of, of_each};
+ghost use Rattle.tera_report.specs.Unread.{unread_result};
+ghost use Rattle.tera_program.specs.Forms.{text_of, finding_text, unread_text, log_of, of_each, of_unread};
 ghost use Rattle.tera_program.specs.Found.{found_view};
+ghost use Rattle.tera_program.specs.Sources.{unreadable_view};
 
 use crate::found::Found;
 use crate::job::Form;
 use crate::options::VERSION;
+use crate::reading::Unreadable;
 use json::Writer;
 use std::alloc::{AllocError, Global};
 use tera_check::{Finding, lines_of, object_of};
-use tera_report::{begin_log, end_log, push_annotation, push_told, put_result};
+use tera_report::{
+    begin_log, end_log, push_annotation, push_told, push_unread_annotation, put_result, put_unread,
+    unread_object_of,
+};
 use terminal_text::{Sources, Style};
 
 // Most findings are told in so many bytes.
 const ROOM: usize = 1024;
 
-/// The text of what is found in some templates.
+/// The text of files that could not be read, and of what is found in some templates.
 pub(crate) fn text_of(
     alloc: Global,
     form: Form,
     style: Style,
     sources: &mut Sources<'_>,
+    unread: &[Unreadable],
     all: &[Found<'_>],
 ) -> Result<Vec<u8>, AllocError>
-    ensures { IfOk result (λ text. text.items
-        ≡ text_of form style (source_of sources.old) (map found_view all.now)) }
+    ensures { IfOk result (λ text. text.items ≡ text_of form style (source_of sources.old)
+        (map unreadable_view unread.now) (map found_view all.now)) }
 {
     match form {
-        Form::Sarif => log_of(alloc, all),
-        _ => texts_of(alloc, form, style, sources, all),
+        Form::Sarif => log_of(alloc, unread, all),
+        _ => {
+            let mut text = unread_texts(alloc, form, unread)?;
+            push_all(alloc, &mut text, form, style, sources, all)?;
+            Ok(text)
+        }
     }
 }
 
-// The texts of the findings, one behind another.
-fn texts_of(
+// The texts of files that could not be read, one after another.
+fn unread_texts(alloc: Global, form: Form, unread: &[Unreadable]) -> Result<Vec<u8>, AllocError>
+    ensures { IfOk result (λ text. text.items
+        ≡ flat_map (unread_text form) (map unreadable_view unread.now)) }
+{
+    let mut text = Vec::new(alloc);
+    for one in unread {
+        push_unread(alloc, &mut text, form, one)?;
+    }
+    Ok(text)
+}
+
+fn push_unread(
     alloc: Global,
+    to: &mut Vec<u8>,
+    form: Form,
+    one: &Unreadable,
+) -> Result<(), AllocError>
+    ensures { OnOk result (to.new.items ≡ to.old.items ++ unread_text form (unreadable_view one.now)) }
+{
+    let (file, why) = (one.file.as_str(), one.why.as_str());
+    match form {
+        Form::Json => to.extend_from_slice(unread_object_of(alloc, file, why)?.as_slice()),
+        Form::Github => {
+            let mut text = String::with_capacity(alloc, ROOM)?;
+            push_unread_annotation(alloc, &mut text, file, why)?;
+            to.extend_from_slice(text.as_bytes())
+        }
+        // Standard error is enough for people, and a log has no text of single results.
+        Form::Full | Form::Concise | Form::Sarif => Ok(()),
+    }
+}
+
+// The texts of the findings, one after another.
+fn push_all(
+    alloc: Global,
+    to: &mut Vec<u8>,
     form: Form,
     style: Style,
     sources: &mut Sources<'_>,
     all: &[Found<'_>],
-) -> Result<Vec<u8>, AllocError>
-    ensures { IfOk result (λ text. text.items ≡ flat_map
+) -> Result<(), AllocError>
+    ensures { OnOk result (to.new.items ≡ to.old.items ++ flat_map
         (of_each (finding_text form style (source_of sources.old))) (map found_view all.now)) }
 {
-    let mut text = Vec::new(alloc);
     for found in all {
-        push_found(
-            alloc,
-            &mut text,
-            form,
-            style,
-            sources,
-            found.file,
-            &found.findings,
-        )?;
+        push_found(alloc, to, form, style, sources, found.file, &found.findings)?;
     }
-    Ok(text)
+    Ok(())
 }
 
 fn push_found(
@@ -115,19 +151,41 @@ fn push_finding(
     }
 }
 
-// The log of all findings, and a line feed.
-fn log_of(alloc: Global, all: &[Found<'_>]) -> Result<Vec<u8>, AllocError>
-    ensures { IfOk result (λ text. text.items ≡ print (log_of (map found_view all.now)) ++ 10 ∷ []) }
+// The log of all, and a line feed.
+fn log_of(alloc: Global, unread: &[Unreadable], all: &[Found<'_>]) -> Result<Vec<u8>, AllocError>
+    ensures { IfOk result (λ text. text.items
+        ≡ print (log_of (map unreadable_view unread.now) (map found_view all.now)) ++ 10 ∷ []) }
 {
     let mut out = Writer::new(Vec::new(alloc));
     begin_log(&mut out, VERSION)?;
-    for found in all {
-        put_results(alloc, &mut out, found.file, &found.findings)?;
-    }
+    put_all_unread(alloc, &mut out, unread)?;
+    put_all(alloc, &mut out, all)?;
     end_log(&mut out)?;
     let mut text = out.into_inner();
     text.push(b'\n')?;
     Ok(text)
+}
+
+fn put_all_unread(alloc: Global, out: &mut Writer, unread: &[Unreadable]) -> Result<(), AllocError>
+    ensures tokens { OnOk result (out.new.tokens ≡ out.old.tokens
+        ++ flat_map (of_unread unread_result) (map unreadable_view unread.now)) }
+    ensures before { out.new.before ≡ out.old.before }
+{
+    for one in unread {
+        put_unread(alloc, out, one.file.as_str(), one.why.as_str())?;
+    }
+    Ok(())
+}
+
+fn put_all(alloc: Global, out: &mut Writer, all: &[Found<'_>]) -> Result<(), AllocError>
+    ensures tokens { OnOk result (out.new.tokens ≡ out.old.tokens
+        ++ flat_map (of_each result_object) (map found_view all.now)) }
+    ensures before { out.new.before ≡ out.old.before }
+{
+    for found in all {
+        put_results(alloc, out, found.file, &found.findings)?;
+    }
+    Ok(())
 }
 
 fn put_results(

@@ -2,11 +2,14 @@
 
 ghost use Rattle.std.specs.Prelude.{◌≡◌, IfOk, List, ℕ};
 ghost use Rattle.std.specs.List.{list_any};
+ghost use Rattle.tera_check.specs.Lost.{are_open};
 ghost use Rattle.tera_check.specs.Named.{known_in};
 ghost use Rattle.tera_program.specs.Found.{AreFound, IsFoundOf, defined_in, is_error, is_of_error, is_wrong, count_in, faulty_in};
 
 use std::alloc::{AllocError, Global};
-use tera_check::{Catalogue, Finding, Severity, Template, catalogue_of, findings_of};
+use tera_check::{
+    Catalogue, Finding, Severity, Template, catalogue_of, faults_of, findings_of, is_open,
+};
 
 /// What is found in one template.
 #[derive(Drop)]
@@ -23,35 +26,48 @@ pub(crate) fn all_found<'a>(
     checked: usize,
 ) -> Result<Vec<Found<'a>>, AllocError>
     ensures { IfOk result (λ all.
-        AreFound (defined_in templates.now.items) checked 0 templates.now.items all.items) }
+        AreFound (defined_in templates.now.items) (are_open templates.now.items) checked 0
+        templates.now.items all.items) }
 {
     let catalogue = catalogue_of(alloc, templates)?;
+    let is_open = are_open(templates);
     let mut all = Vec::new(alloc);
     for (number, template) in templates.iter().enumerate() {
         all.push(Found {
             file: template.file.as_str(),
-            findings: found_in(alloc, &catalogue, checked, number, template)?,
+            findings: found_in(alloc, &catalogue, is_open, checked, number, template)?,
         })?;
     }
     Ok(all)
 }
 
+// Whether one of them may define more components than are known.
+fn are_open(templates: &Vec<Template>) -> bool
+    ensures { result ≡ are_open templates.now.items }
+{
+    for template in templates {
+        if is_open(template) {
+            return true;
+        }
+    }
+    false
+}
+
 fn found_in(
     alloc: Global,
     catalogue: &Catalogue<'_>,
+    is_open: bool,
     checked: usize,
     number: usize,
     template: &Template,
 ) -> Result<Vec<Finding>, AllocError>
     ensures { IfOk result (λ findings.
-        IsFoundOf (known_in catalogue.now) checked number template.now findings.items) }
+        IsFoundOf (known_in catalogue.now) is_open checked number template.now findings.items) }
 {
     if number < checked {
-        return findings_of(alloc, catalogue, number, template);
-    }
-    match &template.parsed {
-        Ok(_) => Ok(Vec::new(alloc)),
-        Err(_) => findings_of(alloc, catalogue, number, template),
+        findings_of(alloc, catalogue, is_open, number, template)
+    } else {
+        faults_of(alloc, template)
     }
 }
 

@@ -34,6 +34,8 @@ pub(crate) struct Check<'b, 'a> {
     pub(crate) form: Form,
     /// Where the components stand that may be called, beside those of the files.
     pub(crate) library: Option<&'b [&'a str]>,
+    /// How many faults of a file are reported at the most: a word, which need be no number.
+    pub(crate) max_faults: &'a str,
     pub(crate) files: Option<&'b [&'a str]>,
     pub(crate) common: Common<'b, 'a>,
 }
@@ -132,6 +134,7 @@ fn check_in<'b, 'a>(found: &'b ArgMatches<'a>) -> Check<'b, 'a>
     Check {
         form: form_named(text(found, "output-format")),
         library: texts_in(found, "library"),
+        max_faults: text_or(found, "max-faults", ""),
         files: texts_in(found, "files"),
         common: common_in(found),
     }

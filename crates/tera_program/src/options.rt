@@ -6,6 +6,9 @@ use std::alloc::{AllocError, Global};
 /// The version that `--version` tells.
 pub(crate) const VERSION: &str = "0.1.0";
 
+/// How many syntax errors of a file are reported, where nothing else is asked for.
+const MAX_FAULTS: &str = "100";
+
 /// How the names of templates end in a folder.
 pub(crate) static EXTENSIONS: [&str; 4] = ["html", "htm", "xml", "tera"];
 
@@ -32,8 +35,11 @@ const OF_CHECK: &str = "\
 A folder means the templates below it: the files whose names end in .html, .htm, .xml or .tera, except hidden files and
 those in `node_modules`. A file that is given twice is checked once.
 
-This parser does not read floating-point numbers. Tera does: a template that has one gets the error `Float literals are
-not supported`, and the rest of it is not checked.
+All syntax errors of a file are reported, and what else is found in the rest of it. Nothing is reported that may come of
+a syntax error: no component is undefined while the tag of a definition has one.
+
+This parser does not read floating-point numbers. Tera does: a tag that has one gets the error `Float literals are not
+supported`, and is not checked.
 
 Examples:
   tera check templates
@@ -104,6 +110,13 @@ fn check<'a>(alloc: Global) -> Result<Command<'a>, AllocError> {
             "full",
             "Format of the findings",
         ))?
+        .arg(option(
+            alloc,
+            "max-faults",
+            "NUMBER",
+            "How many syntax errors of a file are reported at the most, from 1 on",
+        )
+        .default_value(MAX_FAULTS))?
         .arg(several(
             alloc,
             "library",

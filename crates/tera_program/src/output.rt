@@ -1,13 +1,17 @@
 //! What is written beside the answer.
 
-ghost use Rattle.std.specs.Prelude.{◌≡◌, ◌++◌, IfOk, OnOk, string_bytes};
+ghost use Rattle.std.specs.Prelude.{◌≡◌, ◌++◌, ℕ, IfOk, OnOk, string_bytes};
+ghost use Rattle.tera_files.specs.declared.reading.Unread.TheVariants.{NotUtf8};
+ghost use Rattle.terminal_text.specs.Differences.{difference_text};
 ghost use Rattle.tera_program.specs.Lines.{error_line, name_for, name_line, lines_for};
+ghost use Rattle.tera_program.specs.Reasons.{not_utf8};
 
 use line_text::{push_on_lines, push_on_one_line};
 use std::alloc::{AllocError, Global};
 use std::io;
 use std::io::Write;
 use tera_files::{Unread, Unwritten};
+use terminal_text::{Style, difference};
 
 /// The line that says what went wrong with a file: `FILE: error: WHY`.
 pub(crate) fn error_line(alloc: Global, file: &str, why: &str) -> Result<String, AllocError>
@@ -58,6 +62,30 @@ pub(crate) fn lines_for(
     Ok(safe)
 }
 
+/// The difference of two texts of a file: as it is for another program, and of what `lines_for` shows of them on a terminal.
+pub(crate) fn difference_for(
+    alloc: Global,
+    style: Style,
+    is_terminal: bool,
+    name: &str,
+    old: &str,
+    new: &str,
+) -> Result<String, AllocError>
+    ensures { IfOk result (λ t. string_bytes t ≡ difference_text style (name_for is_terminal name.now)
+        (lines_for is_terminal old.now) (lines_for is_terminal new.now)) }
+{
+    if !is_terminal {
+        return difference(alloc, style, name, old, new);
+    }
+    let mut file = String::new(alloc);
+    push_name(&mut file, true, name)?;
+    let mut before = String::new(alloc);
+    push_on_lines(&mut before, old)?;
+    let mut after = String::new(alloc);
+    push_on_lines(&mut after, new)?;
+    difference(alloc, style, file.as_str(), before.as_str(), after.as_str())
+}
+
 /// Writes the text to standard error. The answer is whether that went well.
 pub(crate) fn put_error<R: Eprint>(rt: &R, text: &str) -> bool {
     eprint!(rt; "{text}").is_ok()
@@ -80,7 +108,10 @@ pub(crate) fn tell_unread<R: Eprint + AllocGlobal>(rt: &R, file: &str, why: Unre
     }
 }
 
-fn why_unread(alloc: Global, why: Unread) -> Result<String, AllocError> {
+/// Why a file was not read, in words.
+pub(crate) fn why_unread(alloc: Global, why: Unread) -> Result<String, AllocError>
+    ensures { (at : ℕ) → why ≡ NotUtf8 at → IfOk result (λ text. string_bytes text ≡ not_utf8 at) }
+{
     match why {
         Unread::Memory => Err(AllocError),
         Unread::NotUtf8(at) => format!(in alloc; "it is not UTF-8 (at byte {at})"),

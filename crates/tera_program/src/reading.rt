@@ -1,17 +1,17 @@
 //! Templates that are read.
 
-ghost use Rattle.std.specs.Prelude.{◌≡◌, ℕ, List, IfOk, OnOk, string_bytes};
+ghost use Rattle.std.specs.Prelude.{◌≡◌, ◌++◌, ℕ, List, IfOk, OnOk, codes, string_bytes};
 ghost use Rattle.terminal_text.specs.Files.{source_of};
-ghost use Rattle.tera_program.specs.Sources.{AddsRead, nothing, with_source, with_sources};
+ghost use Rattle.tera_program.specs.Sources.{AddsRead, AddsUnread, nothing, with_source, with_sources};
 
 use crate::job::Common;
 use crate::options::EXTENSIONS;
-use crate::output::{tell, tell_unread};
+use crate::output::{tell, why_unread};
 use std::alloc::{AllocError, Global};
 use std::mem;
 use std::rt::Files;
 use tera_check::{Template, read_template};
-use tera_files::{Found, Sought, Source, Unread, files_of, read_source};
+use tera_files::{Found, Sought, Source, Unlisted, Unread, files_of, read_source};
 use terminal_text::Sources;
 
 /// Templates, beside the sources that they were read from.
@@ -22,8 +22,16 @@ pub(crate) struct Templates {
     pub(crate) sources: Vec<Source>,
     /// How many of the templates are those that were asked for; behind these stand those of the library.
     pub(crate) checked: usize,
-    /// How many files and folders could not be read.
-    pub(crate) unread: usize,
+    /// What could not be read.
+    pub(crate) unread: Vec<Unreadable>,
+}
+
+/// A file or a folder that could not be read.
+#[derive(Drop)]
+pub(crate) struct Unreadable {
+    pub(crate) file: String,
+    /// Why, as the forms for other programs have it.
+    pub(crate) why: String,
 }
 
 impl Templates {
@@ -32,7 +40,7 @@ impl Templates {
             templates: Vec::new(alloc),
             sources: Vec::new(alloc),
             checked: 0,
-            unread: 0,
+            unread: Vec::new(alloc),
         }
     }
 
@@ -53,8 +61,12 @@ impl Templates {
         mem::forget(self);
     }
 
-    fn count_unread(&mut self, count: usize) {
-        self.unread = self.unread.saturating_add(count);
+    // Adds a file that could not be read.
+    fn add_unread(&mut self, file: String, why: String) -> Result<(), AllocError>
+        ensures { OnOk result (AddsUnread (string_bytes file) (string_bytes why) self.old self.new) }
+    {
+        self.unread.push(Unreadable { file, why })?;
+        Ok(())
     }
 }
 
@@ -113,13 +125,21 @@ pub(crate) fn tell_unlisted<R: Eprint + AllocGlobal>(
     found: &Found,
 ) -> Result<(), AllocError> {
     for one in &found.unlisted {
-        let folder = one.folder.as_str();
-        match one.error {
-            Some(error) => tell_unread(rt, folder, Unread::Failed(error)),
-            None => tell(rt, folder, without_templates(rt.alloc(), common)?.as_str()),
-        }
+        let why = why_unlisted(rt.alloc(), common, one)?;
+        tell(rt, one.folder.as_str(), why.as_str());
     }
     Ok(())
+}
+
+fn why_unlisted(
+    alloc: Global,
+    common: Common<'_, '_>,
+    one: &Unlisted,
+) -> Result<String, AllocError> {
+    match one.error {
+        Some(error) => why_unread(alloc, Unread::Failed(error)),
+        None => without_templates(alloc, common),
+    }
 }
 
 // That no template was found, and what was looked for.
@@ -133,29 +153,73 @@ fn without_templates(alloc: Global, common: Common<'_, '_>) -> Result<String, Al
 }
 
 /// Reads the templates that the paths mean, and behind them those of the library that are not among these. Standard error
-/// says which cannot be read. Their sources are kept where `keeps_sources` says so.
+/// says which cannot be read. Their sources are kept where `keeps_sources` says so. Of each at most so many faults are
+/// sought.
 pub(crate) fn read_all<R: Files + Input + Eprint + AllocGlobal + Clone + Drop>(
     rt: &R,
     common: Common<'_, '_>,
     paths: &[&str],
     library: Option<&[&str]>,
     keeps_sources: bool,
+    faults: usize,
 ) -> Result<Templates, AllocError> {
     let (found, asked) = found_with(rt, common, paths, library)?;
     tell_unlisted(rt, common, &found)?;
     let mut all = Templates::none(rt.alloc());
-    all.count_unread(found.unlisted.len());
+    add_unlisted(rt.alloc(), common, &found, &mut all)?;
     for (number, file) in found.files.iter().enumerate() {
         let name = name_of(file.as_str(), common.stdin);
-        if let Err(why) = add(rt, file.as_str(), name, keeps_sources, &mut all) {
-            tell_unread(rt, name, why);
-            all.count_unread(1);
+        if let Err(why) = add(rt, file.as_str(), name, keeps_sources, faults, &mut all) {
+            refuse(rt, name, why, &mut all)?;
         }
         if number < asked {
             all.checked = all.templates.len();
         }
     }
     Ok(all)
+}
+
+// Adds what could not be listed to what could not be read.
+fn add_unlisted(
+    alloc: Global,
+    common: Common<'_, '_>,
+    found: &Found,
+    all: &mut Templates,
+) -> Result<(), AllocError> {
+    for one in &found.unlisted {
+        let why = why_unlisted(alloc, common, one)?;
+        let why = match one.error {
+            Some(_) => cannot_be_read(alloc, why.as_str())?,
+            None => why,
+        };
+        all.add_unread(String::from_str(alloc, one.folder.as_str())?, why)?;
+    }
+    Ok(())
+}
+
+// Says on standard error why a file cannot be read, and adds it to those.
+fn refuse<R: Eprint + AllocGlobal>(
+    rt: &R,
+    name: &str,
+    why: Unread,
+    all: &mut Templates,
+) -> Result<(), AllocError> {
+    let alloc = rt.alloc();
+    let why = match why_unread(alloc, why) {
+        Ok(why) => why,
+        Err(_) => String::from_str(alloc, "out of memory")?,
+    };
+    tell(rt, name, why.as_str());
+    let why = cannot_be_read(alloc, why.as_str())?;
+    all.add_unread(String::from_str(alloc, name)?, why)
+}
+
+fn cannot_be_read(alloc: Global, why: &str) -> Result<String, AllocError>
+    ensures { IfOk result (λ text. string_bytes text ≡ codes "cannot be read: " ++ why.now) }
+{
+    let mut text = String::from_str(alloc, "cannot be read: ")?;
+    text.push_str(why)?;
+    Ok(text)
 }
 
 // The files of the paths, and behind them those of the library; and how many the former are. A file of both is met first
@@ -183,12 +247,14 @@ fn add<R: Files + Input + AllocGlobal>(
     file: &str,
     name: &str,
     keeps_source: bool,
+    faults: usize,
     all: &mut Templates,
 ) -> Result<(), Unread>
-    ensures { OnOk result ((text : List ℕ) × AddsRead name.now text keeps_source all.old all.new) }
+    ensures { OnOk result ((text : List ℕ) ×
+        AddsRead name.now text faults keeps_source all.old all.new) }
 {
     let source = read_source(rt, file, name)?;
-    Ok(add_source(rt.alloc(), source, keeps_source, all)?)
+    Ok(add_source(rt.alloc(), source, keeps_source, faults, all)?)
 }
 
 // Reads the template of a source, and puts it behind the others; the source too, where it is kept.
@@ -196,12 +262,13 @@ fn add_source(
     alloc: Global,
     source: Source,
     keeps_source: bool,
+    faults: usize,
     all: &mut Templates,
 ) -> Result<(), AllocError>
-    ensures { OnOk result (AddsRead (string_bytes source.file) (string_bytes source.text) keeps_source
-        all.old all.new) }
+    ensures { OnOk result (AddsRead (string_bytes source.file) (string_bytes source.text) faults
+        keeps_source all.old all.new) }
 {
-    let template = read_template(alloc, source.file.as_str(), source.text.as_str())?;
+    let template = read_template(alloc, source.file.as_str(), source.text.as_str(), faults)?;
     all.templates.push(template)?;
     if keeps_source {
         all.sources.push(source)?;

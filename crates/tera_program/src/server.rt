@@ -7,14 +7,16 @@ ghost use Rattle.json_rpc.specs.Outgoing.{Outgoing, nothing};
 ghost use Rattle.message_frames.specs.Shown.{Message, shown};
 ghost use Rattle.message_frames.specs.Standing.{Stands};
 ghost use Rattle.message_frames.specs.Writing.{frame as frame_text};
+ghost use Rattle.tera_files.specs.declared.reading.Unread.TheVariants.{NotUtf8};
+ghost use Rattle.tera_program.specs.Reasons.{not_utf8, IsUnread};
 ghost use Rattle.tera_program.specs.Serving.{Takes, SettlesSo, Rests, IsLoaded, AreGiven, IsGivenInPart, Gives, IsTalking, IsWaiting, IsServed};
-ghost use Rattle.tera_server.specs.States.{WantsFolder, wanted_view, wanted_of, loaded_as};
+ghost use Rattle.tera_server.specs.States.{WantsFolder, wanted_view, wanted_of, text_on, why_on, IsLoadedAs};
+ghost use Rattle.tera_server.specs.declared.server.OnDisk.{OnDisk};
 ghost use Rattle.tera_server.specs.declared.server.Server.{Server};
-ghost use Rattle.text_edits.specs.Stored.{IsChangedAt};
 
 use crate::aside::is_left_out;
 use crate::options::EXTENSIONS;
-use crate::output::tell;
+use crate::output::{tell, why_unread};
 use crate::sending::send;
 use crate::status::Ended;
 use json_rpc::Outbox;
@@ -24,7 +26,7 @@ use std::io::{Read, Write};
 use std::rt::Files;
 use std::{fs, io};
 use tera_files::{Sought, Unread, files_of, read_source};
-use tera_server::{Ended as Finished, Server, Wanted};
+use tera_server::{Ended as Finished, OnDisk, Server, Wanted};
 
 // How the messages that came left the exchange.
 #[derive(Clone, Copy)]
@@ -341,7 +343,7 @@ fn give_single<F: Files + Input + AllocGlobal>(
     ensures { IsLoaded path.now server.old server.new }
 {
     if is_left_out(files, server.folders(), path) {
-        return server.load(files.alloc(), path, None);
+        return server.load(files.alloc(), path, OnDisk::Nothing);
     }
     give_file(files, server, path)
 }
@@ -370,32 +372,45 @@ fn give_file<F: Files + Input + AllocGlobal>(
     path: &str,
 ) -> Result<(), AllocError>
     ensures given { IsLoaded path.now server.old server.new }
-    ensures loaded { OnOk result ((text : Option (List ℕ)) × IsChangedAt path.now (loaded_as text)
-        server.old.workspace.documents server.new.workspace.documents) }
+    ensures loaded { OnOk result ((found : OnDisk)
+        × IsLoadedAs path.now (text_on found) (why_on found) server.old server.new) }
 {
-    let text = text_of(files, path)?;
-    server.load(files.alloc(), path, text.as_deref())
+    let found = on_disk(files, path)?;
+    server.load(files.alloc(), path, found)
 }
 
-// A pipe or a device is never read, nor what is too large, nor what is no text.
-fn text_of<F: Files + Input + AllocGlobal>(
-    files: &F,
-    path: &str,
-) -> Result<Option<String>, AllocError> {
-    if !may_be_read(files, path)? {
-        return Ok(None);
-    }
-    match read_source(files, path, path) {
-        Ok(source) => Ok(Some(source.text)),
-        Err(Unread::Memory) => Err(AllocError),
-        Err(Unread::NotUtf8(_) | Unread::Failed(_)) => Ok(None),
-    }
-}
-
-fn may_be_read(files: &impl Files, path: &str) -> Result<bool, AllocError> {
+// A pipe or a device is never read, nor what is too large.
+fn on_disk<F: Files + Input + AllocGlobal>(files: &F, path: &str) -> Result<OnDisk, AllocError> {
+    let alloc = files.alloc();
     match fs::metadata(files, path) {
-        Ok(data) => Ok(data.is_file() && data.len() <= LARGEST),
-        Err(error) if error.kind() == io::ErrorKind::OutOfMemory => Err(AllocError),
-        Err(_) => Ok(false),
+        Ok(data) if data.is_dir() => Ok(OnDisk::Nothing),
+        Ok(data) if !data.is_file() => unread_for(alloc, "it is not a regular file"),
+        Ok(data) if data.len() > LARGEST => unread_for(alloc, "it has more than 16 MiB"),
+        Ok(_) => match read_source(files, path, path) {
+            Ok(source) => Ok(OnDisk::Text(source.text)),
+            Err(why) => unread_by(alloc, why),
+        },
+        Err(error) => unread_by(alloc, Unread::from(error)),
     }
+}
+
+// What is not there is no file that cannot be read.
+fn unread_by(alloc: Global, why: Unread) -> Result<OnDisk, AllocError>
+    ensures none { IfOk result (λ found. text_on found ≡ None) }
+    ensures not_utf8 { (at : ℕ) → why ≡ NotUtf8 at → IfOk result (IsUnread (not_utf8 at)) }
+{
+    match why {
+        Unread::Failed(error) if is_gone(error.kind()) => Ok(OnDisk::Nothing),
+        why => Ok(OnDisk::Unread(why_unread(alloc, why)?)),
+    }
+}
+
+fn unread_for(alloc: Global, why: &str) -> Result<OnDisk, AllocError>
+    ensures { IfOk result (IsUnread why.now) }
+{
+    Ok(OnDisk::Unread(String::from_str(alloc, why)?))
+}
+
+fn is_gone(kind: io::ErrorKind) -> bool {
+    matches!(kind, io::ErrorKind::NotFound | io::ErrorKind::NotADirectory)
 }

@@ -95,10 +95,10 @@ pub(crate) fn fault_text(
     source: &Source,
     error: &Error,
 ) -> Result<String, AllocError> {
-    let finding = finding_of_fault(alloc, error)?;
+    let file = source.file.as_str();
+    let finding = finding_of_fault(alloc, file, error)?;
     let mut sources = text_of(alloc, source)?;
     let mut text = String::new(alloc);
-    let file = source.file.as_str();
     push_told(alloc, &mut text, style, file, &mut sources, &finding)?;
     Ok(text)
 }

@@ -1,4 +1,5 @@
-use Rattle.std.proofs.Common.{◌∙◌, IfOk, IfErr, refl, subst}
+use Rattle.std.proofs.Common.{◌∙◌, IfOk, IfErr, IfSome, string_bytes, refl, subst}
+use Rattle.tera_check.specs.Mended.{IsMended}
 use Rattle.tera_grammar.specs.Limits.{usual}
 use Rattle.tera_grammar.specs.statements.Top.{Derives}
 use Rattle.tera_lexer.specs.grammar.Marks.{default_marks}
@@ -16,6 +17,8 @@ returns-in_ok-push-2 c =
         named = c.in_ok-template.ensures.file ∙ c.as_str.ensures.value;
         read = subst (λ source. IfOk template.parsed (λ output. Derives usual default_marks source (output_view output))) text c.in_ok-template.ensures.sound;
         refused = subst (λ source. IfErr template.parsed (Refuses default_marks source)) text c.in_ok-template.ensures.refusal;
+        mended = subst (λ file. IfSome template.mended (IsMended file (string_bytes c.args.source.text) c.args.faults)) c.as_str.ensures.value
+            (subst (λ source. IfSome template.mended (IsMended c.as_str.result.now source c.args.faults)) text c.in_ok-template.ensures.mended);
       };
       behind = c.in_ok-push.ensures.items;
       kept = rw c.if-keeps_source.true (c.args.source, refl, refl, c.in_ok-push-2.ensures.items);
@@ -31,6 +34,8 @@ returns-else-keeps_source c =
         named = c.in_ok-template.ensures.file ∙ c.as_str.ensures.value;
         read = subst (λ source. IfOk template.parsed (λ output. Derives usual default_marks source (output_view output))) text c.in_ok-template.ensures.sound;
         refused = subst (λ source. IfErr template.parsed (Refuses default_marks source)) text c.in_ok-template.ensures.refusal;
+        mended = subst (λ file. IfSome template.mended (IsMended file (string_bytes c.args.source.text) c.args.faults)) c.as_str.ensures.value
+            (subst (λ source. IfSome template.mended (IsMended c.as_str.result.now source c.args.faults)) text c.in_ok-template.ensures.mended);
       };
       behind = c.in_ok-push.ensures.items;
       kept = rw c.if-keeps_source.false refl;

@@ -3,7 +3,7 @@ use Rattle.std.specs.List.{flat_map}
 use Rattle.tera_report.specs.Logs.{result_object}
 use Rattle.tera_program.specs.Forms.{of_each}
 use Rattle.tera_program.specs.Found.{found_view}
-use Rattle.tera_program.proofs.forms.log_of.Given as goal
+use Rattle.tera_program.proofs.forms.put_all.Given as goal
 
 abbrev pub invariant-loop-found : goal.invariant-loop-found
 invariant-loop-found l = record {
