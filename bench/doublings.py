@@ -1,4 +1,4 @@
-"""What `tera` does with inputs that double: one long line, and many documents that are opened without a folder.
+"""What `tera` does with inputs that double: one long line, many faults, and many documents opened without a folder.
 
 `doublings(program)` counts, under valgrind's callgrind, the instructions of each job of JOBS at its sizes, and gives
 the jobs of which a doubling of the input takes more than MOST times the instructions. A job goes no further than that.
@@ -11,6 +11,7 @@ import tempfile
 
 MOST = 2.6
 SIZES = [1000 * 2 ** n for n in range(7)]
+FAULTS = [250 * 2 ** n for n in range(6)]
 DOCUMENTS = [50 * 2 ** n for n in range(6)]
 URI = "file:///t/page.html"
 
@@ -32,6 +33,26 @@ def blocks(n):
 def references(n):
     """A component, and calls of it, in one line."""
     return "{% component ui.box() %}x{% endcomponent %}" + "{{ <ui.box/> }}" * n
+
+
+def broken_tags(n):
+    """Tags with a fault each, one in a line."""
+    return "{{ a b }}\n" * n
+
+
+def open_tags(n):
+    """Tags without an end, one in a line."""
+    return "{{ a\n" * n
+
+
+def open_heads(n):
+    """Heads without an end tag, one in a line."""
+    return "{% if a %}\n" * n
+
+
+def stray_ends(n):
+    """End tags that close nothing, one in a line."""
+    return "{% endif %}\n" * n
 
 
 def frame(message):
@@ -134,6 +155,10 @@ JOBS = {
     "check, json": (of_file("check", "--output-format=json", text=findings), SIZES),
     "check, github": (of_file("check", "--output-format=github", text=findings), SIZES),
     "check, sarif": (of_file("check", "--output-format=sarif", text=findings), SIZES),
+    "check, broken tags": (of_file("check", "--output-format=concise", text=broken_tags), FAULTS),
+    "check, open tags": (of_file("check", "--output-format=concise", text=open_tags), FAULTS),
+    "check, open heads": (of_file("check", "--output-format=concise", text=open_heads), FAULTS),
+    "check, stray ends": (of_file("check", "--output-format=concise", text=stray_ends), FAULTS),
     "format": (of_file("format", text=edits), SIZES),
     "format, differences": (of_file("format", "--diff", text=edits), SIZES),
     "tree": (of_file("tree", text=references), SIZES),

@@ -1,11 +1,11 @@
 /* The tree of a Tera template as text or as JSON, or its fault, from the static library libtera_c.a.
  *
- * Each call parses a source anew and writes one text into a buffer of the caller's: no call keeps anything, and what it
+ * Each call parses a source and writes one text into a buffer of the caller's: no call keeps anything, and what it
  * takes from malloc it gives back. Calls may run at the same time in several threads, where their buffers differ.
  *
- * The text that is written has no zero behind it. `needed` tells its length, whether or not there was room for it; so a
- * call with no buffer asks for the length alone. Where the buffer is too short, nothing is written. Bytes of the buffer
- * behind the text stay as they were.
+ * The text that is written has no zero after it. `needed` is its length, whether or not there was room for it; so a
+ * call with no buffer asks only for the length. If the buffer is too short, nothing is written. Bytes of the buffer
+ * after the text stay as they were.
  *
  * Link with liblibc_c.a of the kit, which calls malloc, realloc and free. Call nothing here from a signal handler, nor
  * from the forked child of a process with threads.
@@ -24,10 +24,10 @@ extern "C" {
 /* What a call comes to. The numbers never change. */
 enum tera_status {
     TERA_WRITTEN = 0,     /* the text is in the buffer */
-    TERA_SHORT = 1,       /* the buffer is too short: nothing was written, and `needed` tells what the text needs */
+    TERA_SHORT = 1,       /* the buffer is too short: nothing was written, and `needed` is what the text needs */
     TERA_FAULTY = 2,      /* tera_tree, tera_json: the source has a fault, so it has no tree */
     TERA_NOTHING = 3,     /* tera_fault, tera_note: the source has a tree, or its fault has no such note */
-    TERA_NOT_UTF8 = 4,    /* the source is no UTF-8 */
+    TERA_NOT_UTF8 = 4,    /* the source is not UTF-8 */
     TERA_BAD_MARKERS = 5, /* not twelve bytes that are six texts of two bytes, of which the three starts differ */
     TERA_BAD_LIMITS = 6,  /* a limit is 0, or greater than the greatest that is taken */
     TERA_NO_MEMORY = 7    /* malloc gave none */
@@ -42,7 +42,7 @@ struct tera_limits {
     size_t bodies;     /* bodies that are open one in another */
 };
 
-/* Where something stands in the source: lines from 1, columns from 0 in characters, and the range in bytes. */
+/* Where something is in the source: lines from 1, columns from 0 in characters, and the range in bytes. */
 struct tera_place {
     size_t start_line;
     size_t start_column;
@@ -52,7 +52,7 @@ struct tera_place {
     size_t end;
 };
 
-/* Where a fault stands, and how many notes on other places it has. */
+/* Where a fault is, and how many notes on other places it has. */
 struct tera_fault {
     struct tera_place place;
     size_t notes;
@@ -99,7 +99,7 @@ static inline struct tera_source tera_source_given(const struct tera_source *sou
     return given;
 }
 
-/* Writes the text of the tree: TERA_WRITTEN, TERA_SHORT, TERA_FAULTY or a refusal. `text` and `needed` may be null. */
+/* Writes the text of the tree: TERA_WRITTEN, TERA_SHORT, TERA_FAULTY or an error. `text` and `needed` may be null. */
 static inline uint32_t tera_tree(const struct tera_source *source, void *text, size_t length, size_t *needed) {
     struct tera_source given = tera_source_given(source);
     uint8_t none = 0;
@@ -119,8 +119,8 @@ static inline uint32_t tera_json(const struct tera_source *source, void *text, s
                        text == NULL ? 0 : length, needed == NULL ? &untold : needed);
 }
 
-/* Writes the text of the fault, and tells where it stands: TERA_WRITTEN, TERA_SHORT, TERA_NOTHING or a refusal. The
- * place is told also where the buffer is too short, and stays as it was with the other answers. `text`, `needed` and
+/* Writes the text of the fault, and where it is: TERA_WRITTEN, TERA_SHORT, TERA_NOTHING or an error. The place is
+ * written also if the buffer is too short, and stays as it was with the other answers. `text`, `needed` and
  * `fault` may be null. */
 static inline uint32_t tera_fault(const struct tera_source *source, void *text, size_t length, size_t *needed,
                                   struct tera_fault *fault) {
@@ -134,7 +134,7 @@ static inline uint32_t tera_fault(const struct tera_source *source, void *text, 
                         fault == NULL ? &unwanted : fault);
 }
 
-/* Writes the text of a note of the fault, counted from 0, and tells where it stands, in the same way. */
+/* Writes the text of a note of the fault, counted from 0, and where it is, in the same way. */
 static inline uint32_t tera_note(const struct tera_source *source, size_t index, void *text, size_t length,
                                  size_t *needed, struct tera_place *place) {
     struct tera_source given = tera_source_given(source);

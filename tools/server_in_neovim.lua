@@ -89,7 +89,7 @@ end
 local found = findings(page, function(f) return #f == 1 end)
 must("a fault is told", #found == 1 and found[1]:match("^2:25%-2:27 ") ~= nil, found)
 
--- It is mended by an edit behind a character of two units; what the checker finds is told instead.
+-- It is mended by an edit after a character of two units; what the checker finds is reported instead.
 vim.api.nvim_buf_set_text(page, 2, 24, 2, 24, { ">" })
 found = findings(page, function(f) return #f == 1 and f[1]:match("missing") ~= nil end)
 local text = vim.api.nvim_buf_get_lines(page, 2, 3, true)[1]
@@ -130,7 +130,7 @@ local edits = ask(page, "textDocument/formatting", {
 })
 must("and is laid out as it is", type(edits) == "table" and #edits == 0, edits)
 
--- The outline, and where things are defined: a request right behind an edit is answered by the text as it is.
+-- The outline, and where things are defined: a request right after an edit is answered by the current text.
 local symbols = ask(page, "textDocument/documentSymbol", { textDocument = vim.lsp.util.make_text_document_params(page) })
 must("the outline has the block", type(symbols) == "table" and #symbols == 1 and symbols[1].name == "body", symbols)
 vim.api.nvim_buf_set_lines(ui, 0, 0, true, { "" })
@@ -152,7 +152,7 @@ end
 told = table.concat(told, ", ")
 must("the tokens are coloured", told:match("0:3%-10 keyword, 0:11%-22 string, ") and told:match(", 2:6%-8 class, 2:9%-12 class, ")
   and told:match(", 2:29%-30 variable, 2:31%-32 operator, 2:33%-38 function, "), told)
--- What is told of a component, and where it is named, in all files and by the texts as they are.
+-- What hover shows of a component, and where it is named, in all files and by the current texts.
 local hover = ask(page, "textDocument/hover", at(page, 2, 9))
 must("the head of the definition is told", type(hover) == "table" and type(hover.contents) == "table"
   and hover.contents.value == "ui.box(size: string = 'l')", hover)
