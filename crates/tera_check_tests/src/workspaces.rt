@@ -6,24 +6,27 @@ use std::test::Fail;
 use tera_workspace::Workspace;
 use text_edits::{Change, Encoding, Position};
 
-const TEXT: &str = "{% component box() %}{{<lid/>}}{% endcomponent %}{{<box x/>}}";
+const DEFINING: &str = "{% component box() %}{{<lid/>}}{% endcomponent %}";
 
-// Opens a document and changes it.
+const CALLING: &str = "{{<box x/>}}";
+
+// Opens two documents and changes the first.
 #[derive(Drop)]
 struct Telling;
 
 impl Attempt for Telling {
     fn attempt(&self, alloc: Global) -> Seen {
         match told(alloc) {
-            Ok(found) => Seen::answer(found == 2),
+            Ok((defining, calling)) => Seen::answer(defining == 1 && calling == 1),
             Err(_) => Seen::Memory,
         }
     }
 }
 
-fn told(alloc: Global) -> Result<usize, AllocError> {
+fn told(alloc: Global) -> Result<(usize, usize), AllocError> {
     let mut workspace = Workspace::new(alloc, Encoding::Utf16);
-    workspace.open(alloc, "b", TEXT)?;
+    workspace.open(alloc, "b", DEFINING)?;
+    workspace.open(alloc, "a", CALLING)?;
     workspace.settle(alloc)?;
     let start = Position {
         line: 0,
@@ -31,13 +34,16 @@ fn told(alloc: Global) -> Result<usize, AllocError> {
     };
     workspace.change(alloc, "b", &[Change::Part(start, start, "é")])?;
     workspace.settle(alloc)?;
-    Ok(workspace.told("b").len())
+    Ok((workspace.told("b").len(), workspace.told("a").len()))
 }
 
 #[test]
 fn each_request_of_memory_may_be_refused(rt: HostRuntime) -> Result<(), Fail> {
+    let (defining, calling) = told(rt.alloc())?;
+    assert!(rt; defining == 1 && calling == 1);
+    // The usual end needs more than all pieces of a room.
     let verdict = refuse(rt.alloc(), &Telling)?;
-    let is_refused = matches!(verdict, Verdict::Refused(n) if n > 0);
+    let is_refused = matches!(verdict, Verdict::NeverUsual);
     assert!(rt; is_refused, "{verdict:?}");
     Ok(())
 }
