@@ -16,6 +16,7 @@ use Rattle.tera_grammar.specs.expressions.Reading.Front.{Place, at, Reads, takes
 use Rattle.tera_grammar.specs.expressions.Reading.Bracketed.{Room, Reader, element_of, comma_at, after_element, row_of, arguments_of}
 use Rattle.tera_grammar.proofs.expressions.Fronts.{bind_ok, fails_ok, none_skip}
 use Rattle.tera_grammar.proofs.expressions.Repeated.{twice}
+use Rattle.tera_grammar.proofs.expressions.Arguments.{arguments_are}
 use Rattle.tera_expect.specs.Taking.{Fails}
 use Rattle.tera_expr_parts.specs.declared.rows.Values.{Values}
 use Rattle.tera_expr_parts.specs.CommaLists.{Continues, has_argument, new_name_at, reader_of}
@@ -64,13 +65,11 @@ distinct_row o = o >>= λ r. cond (are_distinct (argument_names r.0)) (Some r) N
 
 pub arguments_given : (f : Reader) (w : Room) (p q : Place) (r : Row) → row_of f w of_arguments p ≡ Some (r, q) → are_distinct (argument_names r) ≡ true
     → arguments_of f w p ≡ Some (r, q)
-unfolding arguments_of
-arguments_given f w p q r read distinct = ap distinct_row read ∙ ap (λ b. cond b (Some (r, q)) None) distinct
+arguments_given f w p q r read distinct = arguments_are f w p ∙ ap distinct_row read ∙ ap (λ b. cond b (Some (r, q)) None) distinct
 
 pub arguments_missed : (f : Reader) (w : Room) (p : Place) (e : Error) → Fails (row_of f w of_arguments p) e → Fails (arguments_of f w p) e
-unfolding arguments_of
 arguments_missed f w p e (inl memory) = inl memory
-arguments_missed f w p e (inr none) = inr (ap distinct_row none)
+arguments_missed f w p e (inr none) = inr (arguments_are f w p ∙ ap distinct_row none)
 
 -- a name that is met again
 first_at : (more : Place → Reads Row) (n : Name) (s : Span) (t : Tree) (p : Place) (y : Row × Place) (o : Reads Span)
@@ -97,9 +96,8 @@ none_of (Some x) g h = h x refl
 
 pub met_again : (l : Bool) (done : Args) (f : Reader) (w : Room) (p : Place) (i : ℕ) (old us : Items) (n : Name) → Opening f w of_arguments (row_of f w of_arguments p) (at i old) (Arguing l done)
     → taken_name old ≡ Some (n, us) → has_argument n.text done ≡ true → arguments_of f w p ≡ None
-unfolding arguments_of
 met_again l done f w p i old us n o name again =
-    none_of (row_of f w of_arguments p) (λ r. cond (are_distinct (argument_names r.0)) (Some r) None) (λ x read.
+    arguments_are f w p ∙ none_of (row_of f w of_arguments p) (λ r. cond (are_distinct (argument_names r.0)) (Some r) None) (λ x read.
     let (y, came, made) = bind_ok (element_of f w of_arguments (at i old) >>= λ x. after_element (row_of f w of_arguments) of_arguments x.0 x.1) (λ r. Some (o.put r.0, r.1)) x (sym o.reads ∙ read) in
     let (e, element, after) = bind_ok (element_of f w of_arguments (at i old)) (λ x. after_element (row_of f w of_arguments) of_arguments x.0 x.1) y came in
     let (ns, names) = first_name (row_of f w of_arguments) n e y f w i old us name element after in
@@ -110,8 +108,7 @@ met_again l done f w p i old us n o name again =
 
 name_missed : (l : Bool) (done : Args) (f : Reader) (w : Room) (p : Place) (i : ℕ) (old : Items) (t : Option (Name × Items)) → taken_name old ≡ t → Opening f w of_arguments (row_of f w of_arguments p) (at i old) (Arguing l done)
     → (t >>= λ n. cond (has_argument n.0.text done) None (Some n)) ≡ None → arguments_of f w p ≡ None
-unfolding arguments_of
-name_missed l done f w p i old None is o h = ap distinct_row (element_fails f w of_arguments (row_of f w of_arguments p) (at i old) (Arguing l done) o (no_name f w i old is))
+name_missed l done f w p i old None is o h = arguments_are f w p ∙ ap distinct_row (element_fails f w of_arguments (row_of f w of_arguments p) (at i old) (Arguing l done) o (no_name f w i old is))
 name_missed l done f w p i old (Some x) is o h = met_again l done f w p i old x.1 x.0 o is (has_true (has_argument x.0.text done) h)
   where
     has_true : (b : Bool) → cond b None (Some x) ≡ None → b ≡ true

@@ -1,6 +1,8 @@
 pub mod Fronts
 pub mod Quiet
 pub mod Longer
+pub mod Repeated
+pub mod Arguments
 pub mod FoundRows
 pub mod FoundParts
 pub mod FoundAtoms
@@ -17,6 +19,5 @@ mod Examples
 pub mod Steps
 pub mod Later
 pub mod Numbers
-pub mod Repeated
 pub mod Bodiless
 pub mod InFront

@@ -7,6 +7,7 @@ pub mod Components
 pub mod Found
 pub mod Unrolled
 pub mod Complete
+pub mod Walks
 pub mod Tops
 pub mod Closed
 pub mod Wholes

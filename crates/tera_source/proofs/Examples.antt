@@ -10,7 +10,7 @@ use Rattle.tera_grammar.specs.Limits.{usual}
 use Rattle.tera_grammar.specs.Words.{is_none, is_reserved, is_loop_field}
 use Rattle.tera_grammar.specs.expressions.Output.{output}
 use Rattle.tera_grammar.specs.expressions.Reading.Front.{skip, bump, name_of, literal_at, quote_at, link_of, front_of_token, head_mark, begins_sign}
-use Rattle.tera_grammar.specs.expressions.Reading.Bracketed.{inside_subscript, inside_array, extra_of, part_of, slice_of, sub_of, element_of, after_element, row_by, row_of, arguments_of, args_of, links_by, links_of, dotted_by, dotted_of, attributes_by, attributes_of}
+use Rattle.tera_grammar.specs.expressions.Reading.Bracketed.{inside_subscript, inside_array, extra_of, part_of, slice_of, sub_of, element_of, after_element, row_by, row_of, arguments_by, arguments_of, args_of, links_by, links_of, dotted_by, dotted_of, attributes_by, attributes_of}
 use Rattle.tera_grammar.specs.expressions.Reading.Atoms.{prefix_of, paren_of, variables_of, comprehension_of, items_from, array_of, map_of, component_of, chain_of, word_head}
 use Rattle.tera_grammar.specs.expressions.Reading.Loop.{operator_of, suffix_in, join_of, close_of, step, loop_by, expr}
 use Rattle.tera_grammar.specs.expressions.Reading.Whole.{expression_of}
@@ -21,7 +21,7 @@ written None = None
 written (Some x) = source_of (output false x.0)
 
 back : Items → Option (List ℕ)
-unfolding skip bump name_of literal_at quote_at link_of front_of_token head_mark begins_sign inside_subscript inside_array extra_of part_of slice_of sub_of element_of after_element row_by row_of arguments_of args_of links_by links_of dotted_by dotted_of attributes_by attributes_of prefix_of paren_of variables_of comprehension_of items_from array_of map_of component_of chain_of word_head operator_of suffix_in join_of close_of step loop_by expr is_none is_reserved is_loop_field expression_of
+unfolding skip bump name_of literal_at quote_at link_of front_of_token head_mark begins_sign inside_subscript inside_array extra_of part_of slice_of sub_of element_of after_element row_by row_of arguments_by arguments_of args_of links_by links_of dotted_by dotted_of attributes_by attributes_of prefix_of paren_of variables_of comprehension_of items_from array_of map_of component_of chain_of word_head operator_of suffix_in join_of close_of step loop_by expr is_none is_reserved is_loop_field expression_of
 back items = written (expression_of usual false items)
 
 -- tokens with no place of their own

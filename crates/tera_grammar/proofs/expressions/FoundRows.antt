@@ -1,6 +1,6 @@
 -- What the reading of rows and attributes has found, for any way to count links: those of the values add up in
 -- one expression, and each value has links of its own where values are outermost.
-use Rattle.std.proofs.Common.{◌≡◌, ℕ, zero, suc, ◌+◌, ◌≤◌, true, cond, Some, None, refl, ap, subst, ◌∙◌, arith}
+use Rattle.std.proofs.Common.{◌≡◌, ℕ, zero, suc, ◌+◌, ◌≤◌, true, cond, Some, None, refl, sym, ap, subst, ◌∙◌, arith}
 use Rattle.std.proofs.lemmas.Option.{same_Some}
 use Rattle.tera_base.specs.declared.utils.Span.{Span}
 use Rattle.tera_lexer.specs.grammar.Tokens.{Token}
@@ -17,6 +17,7 @@ use Rattle.tera_grammar.proofs.Words.{distinct_ok}
 use Rattle.tera_grammar.proofs.Options.{bound}
 use Rattle.tera_grammar.proofs.expressions.Fronts.{holds_ok, skip_ok, name_of_ok, literal_at_ok, quote_at_ok}
 use Rattle.tera_grammar.proofs.expressions.Quiet.{Stops, Quiet}
+use Rattle.tera_grammar.proofs.expressions.Arguments.{arguments_are}
 
 -- What a reading of a whole expression has found, where d expressions may open in some room. What it costs is
 -- told by toll, and what else is known of it by fits.
@@ -258,9 +259,8 @@ module _ (toll : Tree → ℕ) (fits : Room → Tree → Type 0) (d : ℕ) (f : 
 
   pub arguments_found : (p : Place) (x : Row × Place) → arguments_of f w p ≡ Some x → FoundRow toll fits d w of_arguments p x.0 x.1
       × AreDistinct (argument_names x.0)
-  unfolding arguments_of
   arguments_found p x h =
-      bound (row_of f w of_arguments p) (λ r. cond (are_distinct (argument_names r.0)) (Some r) None) x h (λ r read rest.
+      bound (row_of f w of_arguments p) (λ r. cond (are_distinct (argument_names r.0)) (Some r) None) x (sym (arguments_are f w p) ∙ h) (λ r read rest.
       let (distinct, made) = holds_ok (are_distinct (argument_names r.0)) (Some r) x rest in
       let e = same_Some r x made in (
         subst (λ (z : Row × Place). FoundRow toll fits d w of_arguments p z.0 z.1) e (row_found of_arguments p r read),

@@ -1,12 +1,12 @@
 -- Rows, attributes and argument_names are read from their tokens, for any way to count links.
-use Rattle.std.proofs.Common.{◌≡◌, ℕ, zero, suc, ◌+◌, ◌<◌, true, false, Option, Some, None, refl, sym, ap, subst, ◌∙◌, arith}
+use Rattle.std.proofs.Common.{◌≡◌, ℕ, zero, suc, ◌+◌, ◌<◌, true, false, cond, Option, Some, None, refl, sym, ap, subst, ◌∙◌, arith}
 use Rattle.std.proofs.lemmas.Option.{none-some}
 use Rattle.tera_base.specs.declared.utils.Span.{Span}
 use Rattle.tera_lexer.specs.grammar.Tokens.{Items, Token}
 use Rattle.tera_lexer.specs.code.Cursors.{size}
 use Rattle.tera_grammar.specs.expressions.Marks.{Mark, RightParen, RightBracket, LeftBrace, RightBrace, Comma, Colon, Dot, Spread, Assign, mark_token, mark}
 use Rattle.tera_grammar.specs.expressions.Concrete.{Name, Quote, Simple, Escaped, Lit, Number, Quoted, Truth, Dotted, no_dots, dots, Kind, of_arguments, of_items, of_entries, Tree, Row, ended, only, then, Element, plain, spread, pair, argument, Attributes, no_attributes, bare, quoted, valued, spreading, quote_token, literal_token, name_yield, dotted_yield, closing, yield, row_yield, element_yield, attributes_yield}
-use Rattle.tera_grammar.specs.Words.{AreDistinct}
+use Rattle.tera_grammar.specs.Words.{are_distinct, AreDistinct}
 use Rattle.tera_grammar.specs.expressions.Conditions.{is_element_of, argument_names, IsRow, IsElement, AreAttributes}
 use Rattle.tera_grammar.specs.expressions.Measures.{EachElement, EachRow, EachAttribute}
 use Rattle.tera_grammar.specs.expressions.Reading.Front.{Place, at, Reads, same_token, takes, skip, taken_name, name_of, literal_at, quote_at}
@@ -15,6 +15,8 @@ use Rattle.tera_grammar.specs.expressions.Ends.{IsStopMark}
 use Rattle.tera_grammar.proofs.Words.{distinct_true}
 use Rattle.tera_grammar.proofs.expressions.Fronts.{takes_ok, none_skip, skip_mark, name_read}
 use Rattle.tera_grammar.proofs.expressions.Longer.{longer, longer_element}
+use Rattle.tera_grammar.specs.Options.{◌>>=◌}
+use Rattle.tera_grammar.proofs.expressions.Arguments.{arguments_are}
 use Rattle.tera_grammar.proofs.expressions.FoundRows.{element_toll, row_toll, attributes_toll}
 
 -- the expression is read whole before each stop
@@ -243,8 +245,11 @@ module _ (f : Reader) (toll : Tree → ℕ) (bars : Bars f) (w : Room) where
   pub arguments_read : (row : Row) (j : ℕ) (r : Items) → IsRow w.in_loop of_arguments row → AreDistinct (argument_names row)
       → EachRow (Whole f toll w) row
       → arguments_of f w (at (row_toll toll row + j) (row_yield of_arguments row r)) ≡ Some (row, at j r)
-  unfolding arguments_of
-  arguments_read row j r is distinct whole = rw (row_read row of_arguments j r is whole, distinct_true (argument_names row) distinct)
+  arguments_read row j r is distinct whole =
+      let p : Place = at (row_toll toll row + j) (row_yield of_arguments row r) in
+      let read : (row_of f w of_arguments p >>= λ x. cond (are_distinct (argument_names x.0)) (Some x) None) ≡ Some (row, at j r) =
+      rw (row_read row of_arguments j r is whole, distinct_true (argument_names row) distinct) refl in
+      arguments_are f w p ∙ read
 
   attributes_end : (n j : ℕ) (r : Items) → NoAttribute r → attributes_by (suc n) f w (at j r) ≡ Some (no_attributes, at j r)
   unfolding attributes_by name_of skip

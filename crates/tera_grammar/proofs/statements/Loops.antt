@@ -35,6 +35,7 @@ use Rattle.tera_grammar.proofs.statements.Names.{met_located}
 use Rattle.tera_grammar.proofs.statements.Components.{parameters_steps}
 use Rattle.tera_grammar.proofs.statements.Found.{body_sound}
 use Rattle.tera_grammar.proofs.statements.Unrolled.{body_steps, branches_steps}
+use Rattle.tera_grammar.proofs.statements.Walks.{template_reads}
 use Rattle.tera_grammar.proofs.statements.Tops.{phases-join}
 
 pub bind_assoc : {A B C : Type 0} (o : Option A) (f : A → Option B) (g : B → Option C) → ((o >>= f) >>= g) ≡ (o >>= λ x. f x >>= g)
@@ -379,8 +380,7 @@ module _ (l : Limits) (d : ℕ) (opens : l.bodies ≡ suc d) (ts : Items) (here 
   TopOn p o q = Topping l d First p o q
 
   template_is : template l ts ≡ (body (suc d) l [] First >>= last_steps)
-  unfolding template
-  template_is = ap (λ n. body n l [] First >>= last_steps) opens
+  template_is = template_reads l ts ∙ ap (λ n. body n l [] First >>= last_steps) opens
 
   pub topping_starts : out ≡ record { parent = None; nodes = []; definitions = [] } → here ≡ First → ph ≡ Starting → TopOn here out ph
   unfolding going_starts

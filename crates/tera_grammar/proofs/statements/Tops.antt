@@ -5,17 +5,18 @@ use Rattle.tera_base.specs.declared.utils.Span.{Span}
 use Rattle.tera_lexer.specs.code.Cursors.{is_end}
 use Rattle.tera_lexer.specs.grammar.Tokens.{Items, Ended, Failed, Token}
 use Rattle.tera_grammar.specs.expressions.Concrete.{Quote}
-use Rattle.tera_grammar.specs.Options.{◌>>=◌}
+use Rattle.tera_grammar.specs.Options.{◌>>=◌, guard}
 use Rattle.tera_grammar.specs.statements.Reading.Meeting.{nothing_seen}
 use Rattle.tera_grammar.specs.statements.TagParts.{Tag}
 use Rattle.tera_grammar.specs.statements.Expressions.{Limits}
 use Rattle.tera_grammar.specs.statements.Names.{NamesAreDistinct}
 use Rattle.tera_grammar.specs.statements.Places.{places}
 use Rattle.tera_grammar.specs.statements.Grammar.{Text, Shown, Set, Include, Extends, Break, Continue, Body, Done, Then, Item, Single, Block, Define, Capturing, For, If, yield}
-use Rattle.tera_grammar.specs.statements.Reading.{at, Phase, Starting, Standing, Extending, behind_text, from_start, next_phase, phases, template}
+use Rattle.tera_grammar.specs.statements.Reading.{at, body, Phase, Starting, Standing, Extending, behind_text, from_start, next_phase, phases, template}
 use Rattle.tera_grammar.proofs.statements.Names.{names_distinct, names_new, same_names}
 use Rattle.tera_grammar.specs.statements.Top.{is_blank, is_silent, is_kept, IsExtends, Each, join, Child, TopLevel, IsTemplate}
 use Rattle.tera_grammar.proofs.Options.{bound, guard_ok}
+use Rattle.tera_grammar.proofs.statements.Walks.{template_reads}
 use Rattle.tera_grammar.proofs.statements.Found.{body_sound}
 use Rattle.tera_grammar.proofs.statements.Complete.{whole}
 
@@ -127,9 +128,9 @@ end_is (Token t span ts) h = cc
 
 -- what is read is a template of these tokens
 pub template_sound : (l : Limits) (ts : Items) (b : Body) → template l ts ≡ Some b → IsTemplate l ts b
-unfolding template
 template_sound l ts b h =
-    bound _ _ _ h (λ x read rest. bound _ _ _ rest (λ u left more. bound _ _ _ more (λ ph phased made.
+    let k : (body l.bodies l [] (at nothing_seen ts) >>= λ x. guard (is_end x.1.tokens) >>= λ u. phases Starting x.0 >>= λ q. Some x.0) ≡ Some b = sym (template_reads l ts) ∙ h in
+    bound _ _ _ k (λ x read rest. bound _ _ _ rest (λ u left more. bound _ _ _ more (λ ph phased made.
     let found = body_sound l l.bodies [] (at nothing_seen ts) x read in
     let same : x.0 ≡ b = same_Some _ _ made in
     subst (IsTemplate l ts) same (record {
@@ -142,10 +143,11 @@ template_sound l ts b h =
 
 -- each is read
 pub template_complete : (l : Limits) (ts : Items) (b : Body) → IsTemplate l ts b → template l ts ≡ Some b
-unfolding template
 template_complete l ts b h =
     let (ph, phased) = top_read b h.top in
-    rw (h.tokens, whole b l l.bodies [] nothing_seen Ended h.fits h.low (names_new (places b) (subst NamesAreDistinct (sym (same_names b)) h.distinct)) tt, phased) refl
+    let k : (body l.bodies l [] (at nothing_seen ts) >>= λ x. guard (is_end x.1.tokens) >>= λ u. phases Starting x.0 >>= λ q. Some x.0) ≡ Some b =
+    rw (h.tokens, whole b l l.bodies [] nothing_seen Ended h.fits h.low (names_new (places b) (subst NamesAreDistinct (sym (same_names b)) h.distinct)) tt, phased) refl in
+    template_reads l ts ∙ k
 
 -- no list of tokens has two
 pub one_template : (l : Limits) (ts : Items) (b c : Body) → IsTemplate l ts b → IsTemplate l ts c → b ≡ c

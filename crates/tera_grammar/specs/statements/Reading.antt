@@ -187,7 +187,7 @@ unfoldable pub body : ℕ → Limits → Reader
 body zero l path p = None
 body (suc d) l path p = items l (body d l) path p
 
--- The top level, read in order: from the start, in a template that extends no other, or in one that does.
+-- The top level: from the start, in a template that extends no other, or in one that does.
 pub data Phase : Type 0 where
   Starting : Phase
   Standing : Phase
@@ -214,7 +214,31 @@ abbrev pub phases : Phase → Body → Option Phase
 phases ph Done = Some ph
 phases ph (Then i b) = next_phase ph i >>= λ q. phases q b
 
+-- an `extends` of the top level: where a template may no longer extend another, it is refused at its string
+abbrev pub extends_at : Phase → Edge → Span → Seen → Items → Reads Item
+extends_at Starting start first seen items = extends_of [] start first seen items
+extends_at phase start first seen items = taken_quote items >>= λ q. None
+
+-- what comes next on the top level
+unfoldable pub top_step : Limits → Reader → Phase → Seen → Front → Option (Option (Item × Place))
+top_step l self phase seen (Opens OpensExtends start first items) = extends_at phase start first seen items >>= λ x. Some (Some x)
+top_step l self phase seen front = step l self [] seen front
+
+-- an item that the phase lets in, and what stands behind it
+abbrev pub top_on : (Phase → Place → Reads Body) → Phase → Place → Option (Item × Place) → Reads Body
+top_on again phase p None = Some (Done, p)
+top_on again phase p (Some x) = next_phase phase x.0 >>= λ q. again q x.1 >>= λ b. Some (Then x.0 b.0, b.1)
+
+-- The first number bounds the items. One more than the tokens is enough.
+unfoldable pub top_by : ℕ → Limits → Reader → Phase → Place → Reads Body
+top_by zero l self phase p = None
+top_by (suc n) l self phase p = top_step l self phase p.seen (front p.tokens) >>= top_on (top_by n l self) phase p
+
+-- The first number is how many bodies may open, of which the top level is one.
+unfoldable pub top : ℕ → Limits → Place → Reads Body
+top zero l p = None
+top (suc d) l p = top_by (suc (size p.tokens)) l (body d l) Starting p
+
 -- a whole template
 unfoldable pub template : Limits → Items → Option Body
-template l ts =
-    body l.bodies l [] (at nothing_seen ts) >>= λ b. guard (is_end b.1.tokens) >>= λ u. phases Starting b.0 >>= λ ph. Some b.0
+template l ts = top l.bodies l (at nothing_seen ts) >>= λ b. guard (is_end b.1.tokens) >>= λ u. Some b.0

@@ -1,12 +1,12 @@
 -- Reading what stands between brackets, as functions on places. Each takes the reading of whole expressions as
 -- an argument.
-use Rattle.std.specs.Prelude.{ℕ, zero, suc, Bool, cond, Option, Some, None}
+use Rattle.std.specs.Prelude.{ℕ, zero, suc, Bool, cond, List, [], ◌∷◌, ◌++◌, Option, Some, None}
 use Rattle.tera_base.specs.declared.utils.Span.{Span}
 use Rattle.tera_lexer.specs.code.Cursors.{size}
-use Rattle.tera_grammar.specs.expressions.Marks.{Mark, LeftParen, RightBracket, LeftBrace, RightBrace, Comma, Colon, Dot, Spread, Assign}
+use Rattle.tera_grammar.specs.expressions.Marks.{Mark, LeftParen, RightParen, RightBracket, LeftBrace, RightBrace, Comma, Colon, Dot, Spread, Assign}
 use Rattle.tera_grammar.specs.expressions.Concrete.{Name, Quote, Kind, of_arguments, of_items, of_entries, closing, Tree, Links, no_links, field, item, Sub, index, slice, Part, absent, present, Extra, no_extra, extra, Row, ended, only, then, Element, plain, spread, pair, argument, Args, no_args, args, Dotted, no_dots, dots, Attributes, no_attributes, bare, quoted, valued, spreading}
-use Rattle.tera_grammar.specs.Words.{are_distinct}
-use Rattle.tera_grammar.specs.expressions.Conditions.{is_field_of, argument_names}
+use Rattle.tera_grammar.specs.Words.{is_one_of}
+use Rattle.tera_grammar.specs.expressions.Conditions.{is_field_of}
 use Rattle.tera_grammar.specs.Options.{◌>>=◌}
 use Rattle.tera_grammar.specs.expressions.Reading.Front.{Place, at, Reads, skip, lowered, bump, name_of, literal_at, quote_at, Link, no_link, jointed, bracketed, called, link_of}
 
@@ -75,9 +75,12 @@ entry_at self w p (Some x) = spread_at self w x.0 x.1
 entry_at self w p None = literal_at p >>= λ l. skip Colon l.1 >>= λ s. self w 0 s.1 >>= λ e. Some
     (pair l.0.0 l.0.1 s.0 e.0, e.1)
 
+-- an argument, behind its name
+abbrev pub argument_at : Reader → Room → Name → Place → Reads Element
+argument_at self w n p = skip Assign p >>= λ s. self w 0 s.1 >>= λ e. Some (argument n s.0 e.0, e.1)
+
 unfoldable pub element_of : Reader → Room → Kind → Place → Reads Element
-element_of self w of_arguments p = name_of p >>= λ n. skip Assign n.1 >>= λ s. self w 0 s.1 >>= λ e. Some
-    (argument n.0 s.0 e.0, e.1)
+element_of self w of_arguments p = name_of p >>= λ n. argument_at self w n.0 n.1
 element_of self w of_items p = item_at self w p (skip Spread p)
 element_of self w of_entries p = entry_at self w p (skip Spread p)
 
@@ -101,9 +104,20 @@ row_by (suc n) self w k p = row_at (row_by n self w k) self w k p (skip (closing
 unfoldable pub row_of : Reader → Room → Kind → Place → Reads Row
 row_of self w k p = row_by (suc (size p.tokens)) self w k p
 
--- arguments with distinct argument_names
+-- Arguments, each with a name that none before it has; `names` are those before. A name that comes again is refused where it
+-- stands, whatever follows.
+abbrev pub arguments_at : (List (List ℕ) → Place → Reads Row) → Reader → Room → List (List ℕ) → Place → Reads Span → Reads Row
+arguments_at more self w names p (Some x) = Some (ended x.0, x.1)
+arguments_at more self w names p None =
+    name_of p >>= λ n. cond (is_one_of names n.0.text) None
+    (argument_at self w n.0 n.1 >>= λ x. after_element (more (names ++ n.0.text ∷ [])) of_arguments x.0 x.1)
+
+unfoldable pub arguments_by : ℕ → Reader → Room → List (List ℕ) → Place → Reads Row
+arguments_by zero self w names p = None
+arguments_by (suc n) self w names p = arguments_at (arguments_by n self w) self w names p (skip RightParen p)
+
 unfoldable pub arguments_of : Reader → Room → Place → Reads Row
-arguments_of self w p = row_of self w of_arguments p >>= λ r. cond (are_distinct (argument_names r.0)) (Some r) None
+arguments_of self w p = arguments_by (suc (size p.tokens)) self w [] p
 
 abbrev pub args_at : Reader → Room → Place → Reads Span → Reads Args
 args_at self w p None = Some (no_args, p)
