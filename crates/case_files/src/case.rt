@@ -6,7 +6,7 @@ use std::alloc::{AllocError, AllocFailed};
 /// Cases under a title, which share their options.
 #[derive(Drop)]
 pub struct Section {
-    /// What is written behind the mark of a title.
+    /// What is written after the mark of a title.
     pub title: String,
     /// The line of the title, from 1.
     pub line: usize,
@@ -21,7 +21,7 @@ pub struct Case {
     pub line: usize,
     pub source: String,
     /// The answer, without the line feed at its end.
-    pub wanted: String,
+    pub expected: String,
 }
 
 /// Why the cases of a file were not read.

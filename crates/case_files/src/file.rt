@@ -14,7 +14,7 @@ struct Open<'a> {
     lines: Vec<Line<'a>>,
 }
 
-/// The sections of a file. What stands before the first title is a remark.
+/// The sections of a file. What is before the first title is a remark.
 pub fn read_cases(alloc: Global, text: &str) -> Result<Vec<Section>, CaseError> {
     let mut sections = Vec::new(alloc);
     let mut open = None;
@@ -37,7 +37,7 @@ pub fn read_cases(alloc: Global, text: &str) -> Result<Vec<Section>, CaseError> 
     Ok(sections)
 }
 
-// A line behind a title.
+// A line after a title.
 fn take<'a>(
     alloc: Global,
     section: &mut Open<'a>,

@@ -1,6 +1,6 @@
 //! Files of cases: what a program is to answer to some sources, as text that is written by hand.
 //!
-//! `docs/CASES.md` says what stands in a file.
+//! `docs/CASES.md` says what is in a file.
 #![tactic(auto)]
 
 mod case;

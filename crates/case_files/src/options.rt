@@ -25,37 +25,37 @@ pub enum Shown {
     TokenNames,
     /// The context of the component that the source defines and calls.
     Context,
-    /// What is told of the components that the source defines.
+    /// What is reported for the components that the source defines.
     Parameters,
     /// The source, laid out.
     Layout,
     /// What a cursor over the tokens shows ahead, place by place.
     Cursor,
-    /// The expression behind the first token.
+    /// The expression after the first token.
     Expression,
-    /// The filter behind the first token.
+    /// The filter after the first token.
     Filter,
-    /// The attributes of a component behind the first token.
+    /// The attributes of a component after the first token.
     Attributes,
-    /// The arguments with their parentheses behind the first token.
+    /// The arguments with their parentheses after the first token.
     Arguments,
-    /// The names joined by dots behind the first token.
+    /// The names joined by dots after the first token.
     Name,
-    /// The array of constants behind the first token.
+    /// The array of constants after the first token.
     Array,
-    /// The map of constants behind the first token.
+    /// The map of constants after the first token.
     Map,
     /// Whether the source names markers that a template can be read with.
     Markers,
     /// Whether the source names limits that a template can be read within.
     Limits,
-    /// The lines, a place or a byte of a text, or the text behind changes, with positions in UTF-8.
+    /// The lines, a place or a byte of a text, or the text after changes, with positions in UTF-8.
     EditsInUtf8,
     /// The same, in UTF-16.
     EditsInUtf16,
     /// The same, in UTF-32.
     EditsInUtf32,
-    /// What is told of a stream of messages in pieces.
+    /// What is reported for a stream of messages in pieces.
     Frames,
 }
 
@@ -94,11 +94,11 @@ pub struct Options {
     pub limits: Numbers,
     pub repeats: Vec<Repeat>,
     pub shown: Shown,
-    /// Each source is an expression, which stands in a variable tag.
+    /// Each source is an expression, which is in a variable tag.
     pub expressions: bool,
-    /// What is read behind the first token stands in a loop.
+    /// What is read after the first token is in a loop.
     pub in_loop: bool,
-    /// The sources, and layouts and texts behind edits, are written with escapes.
+    /// The sources, and layouts and texts after edits, are written with escapes.
     pub escapes: bool,
     /// The sources are too long to try each of their beginnings.
     pub uncut: bool,

@@ -15,7 +15,7 @@ pub(crate) struct Line<'a> {
 // The line between a source and its answer.
 const BETWEEN: &str = "---";
 
-/// The cases that stand on the lines behind a title.
+/// The cases that are on the lines after a title.
 pub(crate) fn cases_of(
     alloc: Global,
     title: usize,
@@ -54,13 +54,13 @@ fn push_line(text: &mut String, line: &str) -> Result<(), AllocError> {
 // The one case of lines of which the first such line is that between the source and the answer.
 fn one_case(alloc: Global, title: usize, lines: &[Line<'_>]) -> Result<Vec<Case>, CaseError> {
     let mut source = String::new(alloc);
-    let mut wanted = String::new(alloc);
-    let mut is_behind = false;
+    let mut expected = String::new(alloc);
+    let mut is_after = false;
     for line in lines {
-        if is_behind {
-            push_line(&mut wanted, line.text)?;
+        if is_after {
+            push_line(&mut expected, line.text)?;
         } else if line.text == BETWEEN {
-            is_behind = true;
+            is_after = true;
         } else {
             push_line(&mut source, line.text)?;
         }
@@ -72,7 +72,7 @@ fn one_case(alloc: Global, title: usize, lines: &[Line<'_>]) -> Result<Vec<Case>
     let case = Case {
         line,
         source: without_last(alloc, source.as_str())?,
-        wanted: String::from_str(alloc, wanted.as_str().trim_end_matches('\n'))?,
+        expected: String::from_str(alloc, expected.as_str().trim_end_matches('\n'))?,
     };
     let mut cases = Vec::new(alloc);
     cases.push(case)?;
@@ -133,8 +133,8 @@ impl Rows {
             return wrong(number, "an answer without a source");
         }
         if let Some(last) = self.done.last_mut() {
-            last.wanted.push_str("\n")?;
-            last.wanted.push_str(answer)?;
+            last.expected.push_str("\n")?;
+            last.expected.push_str(answer)?;
         }
         Ok(())
     }
@@ -160,11 +160,11 @@ impl Rows {
         source: String,
         answer: &str,
     ) -> Result<(), CaseError> {
-        let wanted = String::from_str(alloc, answer)?;
+        let expected = String::from_str(alloc, answer)?;
         self.done.push(Case {
             line,
             source,
-            wanted,
+            expected,
         })?;
         self.is_answered = true;
         Ok(())
@@ -203,7 +203,7 @@ fn prepare(alloc: Global, options: &Options, case: &mut Case) -> Result<(), Case
     if options.escapes {
         case.source = plain(alloc, case.line, case.source.as_str())?;
         if options.shown.is_text() {
-            case.wanted = plain(alloc, case.line, case.wanted.as_str())?;
+            case.expected = plain(alloc, case.line, case.expected.as_str())?;
         }
     }
     for repeat in &options.repeats {
@@ -212,8 +212,8 @@ fn prepare(alloc: Global, options: &Options, case: &mut Case) -> Result<(), Case
             .source
             .as_str()
             .replace(alloc, name, repeat.text.as_str())?;
-        case.wanted = case
-            .wanted
+        case.expected = case
+            .expected
             .as_str()
             .replace(alloc, name, repeat.text.as_str())?;
     }

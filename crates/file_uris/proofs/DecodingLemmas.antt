@@ -7,7 +7,7 @@ use Rattle.std.proofs.lemmas.Nat.{div-add-mod'}
 use Rattle.std.specs.List.{AllByRecursion}
 use Rattle.std.specs.Str.{IsUtf8}
 use Rattle.file_uris.specs.Decoding.{decoded, are_slashes, begins_doubled, single_slashed, is_digit, is_encoded, value_of}
-use Rattle.file_uris.specs.Encoding.{stands, hex_digit, encoded, encoded_path, reference}
+use Rattle.file_uris.specs.Encoding.{sound, hex_digit, encoded, encoded_path, reference}
 use Rattle.file_uris.specs.Names.{scheme, is_rooted, uri_of, IsHere, IsOfFile, IsNameOf}
 
 pub encoded_first : (a b c : ℕ) (rest : List ℕ) → is_encoded a b c ≡ true → decoded (a ∷ b ∷ c ∷ rest) ≡ (value_of b * 16 + value_of c) ∷ decoded rest
@@ -57,7 +57,7 @@ digit_by n false e fits = digit_high n (grind (arith, nat_tests)) fits
 pub digit : (n : ℕ) → n < 16 → (is_digit (hex_digit n) ≡ true) × (value_of (hex_digit n) ≡ n)
 digit n fits = digit_by n (nat_lt n 10) refl fits
 
--- what is no percent sign stands for itself
+-- what is not a percent sign stands for itself
 pub itself : (b : ℕ) (rest : List ℕ) → (b == 37) ≡ false → decoded (b ∷ rest) ≡ b ∷ decoded rest
 unfolding decoded
 itself b [] e = refl
@@ -74,14 +74,14 @@ by_digits b rest fits =
     encoded_first 37 (hex_digit (b / 16)) (hex_digit (b % 16)) rest (pair_is (hex_digit (b / 16)) (hex_digit (b % 16)) high.0 low.0)
     ∙ rw (high.1, low.1, div-add-mod' b 16) refl
 
-byte_by : (b : ℕ) (rest : List ℕ) (plain : Bool) → stands b ≡ plain → b < 256 → decoded ((if plain then b ∷ [] else encoded b) ++ rest) ≡ b ∷ decoded rest
+byte_by : (b : ℕ) (rest : List ℕ) (plain : Bool) → sound b ≡ plain → b < 256 → decoded ((if plain then b ∷ [] else encoded b) ++ rest) ≡ b ∷ decoded rest
 byte_by b rest true e fits = itself b rest (grind (arith, nat_tests))
 byte_by b rest false e fits = by_digits b rest fits
 
 pub encoded_decoded : (path : List ℕ) → AllByRecursion (λ b. b < 256) path → decoded (encoded_path path) ≡ path
 unfolding decoded
 encoded_decoded [] fits = refl
-encoded_decoded (b ∷ path) fits = byte_by b (encoded_path path) (stands b) refl fits.0 ∙ ap (λ bs. b ∷ bs) (encoded_decoded path fits.1)
+encoded_decoded (b ∷ path) fits = byte_by b (encoded_path path) (sound b) refl fits.0 ∙ ap (λ bs. b ∷ bs) (encoded_decoded path fits.1)
 
 -- ---- slashes
 
@@ -217,11 +217,11 @@ slash_first b false more rest is = absurd (omega (arith, ap (λ l. get_or l 0 0)
 slashes_first : (path rest : List ℕ) → encoded_path path ≡ 47 ∷ 47 ∷ rest → (more : List ℕ) × (path ≡ 47 ∷ 47 ∷ more)
 slashes_first [] rest is = absurd (omega (arith, ap length is))
 slashes_first (b ∷ []) rest is =
-    let one = slash_first b (stands b) [] (47 ∷ rest) is in
+    let one = slash_first b (sound b) [] (47 ∷ rest) is in
     absurd (omega (arith, ap length one.1))
 slashes_first (b ∷ c ∷ cs) rest is =
-    let one = slash_first b (stands b) (encoded_path (c ∷ cs)) (47 ∷ rest) is in
-    let two = slash_first c (stands c) (encoded_path cs) rest one.1 in
+    let one = slash_first b (sound b) (encoded_path (c ∷ cs)) (47 ∷ rest) is in
+    let two = slash_first c (sound c) (encoded_path cs) rest one.1 in
     (cs, rw (one.0, two.0) refl)
 
 pub names_no_host : (path rest : List ℕ) → reference path ≢ codes "//" ++ rest

@@ -27,7 +27,7 @@ unfoldable pub single_slashed : List ℕ → List ℕ
 single_slashed [] = []
 single_slashed (b ∷ bs) = if begins_doubled (b ∷ bs) then single_slashed bs else b ∷ single_slashed bs
 
--- the bytes: one where a percent sign and two digits stand, and else each byte itself
+-- the bytes: one where a percent sign and two digits are, and else each byte itself
 unfoldable pub decoded : List ℕ → List ℕ
 decoded [] = []
 decoded (a ∷ []) = a ∷ []

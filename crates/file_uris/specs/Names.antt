@@ -1,4 +1,4 @@
--- The names of documents: the paths of files, and of what is no file the URI itself.
+-- The names of documents: the paths of files, and of what is not a file the URI itself.
 use Rattle.std.specs.Prelude.{◌≡◌, ◌⊎◌, ◌++◌, ◌==◌, if◌then◌else◌, ℕ, Bool, true, false, List, [], ◌∷◌, codes}
 use Rattle.std.specs.Str.{IsUtf8}
 use Rattle.file_uris.specs.Decoding.{decoded, single_slashed}

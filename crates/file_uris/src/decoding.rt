@@ -1,11 +1,11 @@
-//! Bytes of URIs as they stand in paths.
+//! Bytes of URIs as they are in paths.
 
 ghost use Rattle.std.specs.Prelude.{◌≡◌, ◌<◌, ◌≤◌, ◌++◌, ◌∷◌, true, length, drop, IfOk, OnOk};
 ghost use Rattle.file_uris.specs.Decoding.{decoded, are_slashes, begins_doubled, single_slashed, is_digit, value_of, is_encoded};
 
 use std::alloc::{AllocError, Global};
 
-/// The bytes that the text stands for: one where a percent sign and two digits in base 16 stand, and else each itself.
+/// The bytes that the text stands for: one where a percent sign and two digits in base 16 are, and else each itself.
 pub(crate) fn decoded_of(alloc: Global, text: &str) -> Result<Vec<u8>, AllocError>
     ensures { IfOk result (λ v. v.items ≡ decoded text.now) }
 {
@@ -14,8 +14,8 @@ pub(crate) fn decoded_of(alloc: Global, text: &str) -> Result<Vec<u8>, AllocErro
     'bytes: while !rest.is_empty() {
         let (byte, len) = first_of(rest);
         bytes.push(byte)?;
-        let (_, behind) = rest.split_at(len);
-        rest = behind;
+        let (_, following) = rest.split_at(len);
+        rest = following;
     }
     Ok(bytes)
 }
@@ -28,8 +28,8 @@ pub(crate) fn single_slashed_of(alloc: Global, path: &[u8]) -> Result<Vec<u8>, A
     let mut rest = path;
     'slashes: while !rest.is_empty() {
         push_first(rest, &mut bytes)?;
-        let (_, behind) = rest.split_at(1);
-        rest = behind;
+        let (_, following) = rest.split_at(1);
+        rest = following;
     }
     Ok(bytes)
 }
@@ -62,7 +62,7 @@ fn are_slashes(first: u8, second: u8) -> bool
     first == b'/' && second == b'/'
 }
 
-// The first of them, and for how many bytes of the text it stands.
+// The first of them, and for how many bytes of the text it is.
 fn first_of(text: &[u8]) -> (u8, usize)
     requires { 0 < length text.now }
     ensures some { 0 < result.1 }

@@ -1,13 +1,13 @@
-//! Bytes of paths as they stand in URIs.
+//! Bytes of paths as they are in URIs.
 
 ghost use Rattle.std.specs.Prelude.{◌≡◌, ◌<◌, ◌++◌, [], ◌∷◌, true, string_bytes, IfOk, OnOk};
-ghost use Rattle.file_uris.specs.Encoding.{stands, hex_digit, encoded, encoded_byte, encoded_path, reference};
+ghost use Rattle.file_uris.specs.Encoding.{sound, hex_digit, encoded, encoded_byte, encoded_path, reference};
 
 use crate::decoding::single_slashed_of;
 use std::alloc::{AllocError, Global};
 
-/// The path as a reference that names no host: with one slash in the place of several, and what is no letter, digit or mark
-/// that stands for itself is written by its bytes, as `%20`.
+/// The path as a reference that names no host: with one slash in the place of several, and what is not a letter, digit
+/// or mark that stands for itself is written by its bytes, as `%20`.
 pub fn reference_of(alloc: Global, path: &str) -> Result<String, AllocError>
     ensures { IfOk result (λ t. string_bytes t ≡ reference path.now) }
 {
@@ -44,7 +44,7 @@ fn push_byte(uri: &mut String, byte: u8) -> Result<(), AllocError>
 }
 
 fn is_plain(byte: u8) -> bool
-    ensures is { result ≡ stands byte }
+    ensures is { result ≡ sound byte }
     ensures ascii { result ≡ true → byte < 128 }
 {
     matches!(byte, b'-'..=b'9' | b'A'..=b'Z' | b'_' | b'a'..=b'z' | b'~')

@@ -1,7 +1,8 @@
-//! Files by their URIs: what stands in a URI for the bytes of a path, and the path that a URI of a file has.
+//! Paths of files as URIs: the URI and the relative reference of a path, and the path that a URI stands for.
 //!
-//! It takes and gives text, and stands on nothing. In the order of reading: specs `Encoding`, `Decoding` and `Names`;
-//! `encoding`, `decoding`, `names` and `laws`.
+//! It takes and gives text, and depends on the standard library alone.
+//!
+//! In the order of reading: specs `Encoding`, `Decoding` and `Names`; `encoding`, `decoding`, `names` and `laws`.
 #![tactic(auto)]
 
 mod decoding;

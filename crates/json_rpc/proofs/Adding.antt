@@ -1,4 +1,4 @@
--- Bytes that are added one behind the other.
+-- Bytes that are added one after the other.
 use Rattle.std.proofs.Common.{ℕ, ◌+◌, ◌≤◌, List, ◌++◌, Result, Ok, Err, Vec, append_assoc, ap, ◌∙◌, arith}
 use Rattle.std.specs.declared.alloc.Global.{Global}
 use Rattle.json_rpc.specs.Room.{Adds}

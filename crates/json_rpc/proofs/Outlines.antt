@@ -219,7 +219,7 @@ pub next_some : (r : Option rust.Token) (old new : List Token) → Yields old r 
 next_some None old new h e = cc
 next_some (Some t) old new h e = (token_of t, h)
 
--- ---- a value that is no array and no object is read with its token
+-- ---- a value that is not an array and no object is read with its token
 
 read_one : (old ts : List Token) (j : Json) (t : Token) → old ≡ t ∷ ts → t ≡ first_token j →
     value 127 (first_token j ∷ ts) ≡ Some (j, ts) → IsRead 127 old t ts

@@ -41,18 +41,18 @@ abbrev error_by : Code → List ℕ → List ℕ
 error_by code text =
     codes ",\"error\":{\"code\":" ++ (code_number code ++ (codes ",\"message\":\"" ++ (text ++ codes "\"}}")))
 
-behind : (id : IdVal) (code : Code) →
+following : (id : IdVal) (code : Code) →
     body (refusal id code)
     ≡ codes "{\"jsonrpc\":\"2.0\",\"id\":" ++ (token_text (id_token id) ++ error_by code (escape (code_text code)))
 unfolding escape_byte print_from
-behind NullId code = simp append_assoc
-behind (NumberId s) code = simp append_assoc
-behind (TextId s) code = simp append_assoc
+following NullId code = simp append_assoc
+following (NumberId s) code = simp append_assoc
+following (TextId s) code = simp append_assoc
 
 pub refusal_text : (id : IdVal) (code : Code) →
     body (refusal id code)
     ≡ codes "{\"jsonrpc\":\"2.0\",\"id\":" ++ (token_text (id_token id) ++ error_member code)
-refusal_text id code = rw (text-plain code) at (behind id code)
+refusal_text id code = rw (text-plain code) at (following id code)
 
 -- it begins with a brace
 pub refusal_begins : (id : IdVal) (code : Code) → (rest : List ℕ) × (body (refusal id code) ≡ 123 ∷ rest)

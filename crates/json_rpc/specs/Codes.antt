@@ -13,7 +13,7 @@ code_number InternalError = codes "-32603"
 code_number ServerNotInitialized = codes "-32002"
 code_number RequestFailed = codes "-32803"
 
--- what is told of it
+-- what is reported for it
 abbrev pub code_text : Code → List ℕ
 code_text ParseError = codes "the message is no JSON"
 code_text InvalidRequest = codes "the message is no request that is allowed here"

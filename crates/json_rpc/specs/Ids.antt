@@ -27,7 +27,7 @@ IsId NullId = ⊤
 IsId (NumberId s) = (length s ≤ max_id) × IsNumber s
 IsId (TextId s) = length s ≤ max_id
 
--- what may name a request is no number but one of JSON
+-- what may name a request is not a number but one of JSON
 abbrev pub HasNumberText : Option Json → Type 0
 HasNumberText member = (s : List ℕ) → member ≡ Some (number s) → IsNumber s
 

@@ -16,11 +16,11 @@ nothing = record { sent = []; reserved = true }
 abbrev pub more : Outgoing → List ℕ → Outgoing
 more o message = record { sent = o.sent ++ message ∷ []; reserved = o.reserved }
 
--- with the refusal of a request for want of memory, which is in the reserve
+-- with the refusal of a request because an allocation failed, which is in the reserve
 abbrev pub with_refusal : Outgoing → IdVal → Outgoing
 with_refusal o id = record { sent = o.sent ++ body (refusal id InternalError) ∷ []; reserved = false }
 
--- one answer more: the one that is wanted or, where no memory was found for it, the refusal
+-- one answer more: the one that is wanted or, if an allocation fails for it, the refusal
 abbrev pub IsAnswered : Outgoing → Outgoing → IdVal → List ℕ → Type 0
 IsAnswered old new id wanted = (new ≡ more old wanted) ⊎ (new ≡ with_refusal old id)
 

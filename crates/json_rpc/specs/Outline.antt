@@ -104,7 +104,7 @@ opens_object (Token.bad ∷ ts) = false
 abbrev pub document_at : List Token → Option Json
 document_at ts = option_and_then (λ p. if_last p.0 p.1) (value max_depth ts)
 
--- a value stood in front that begins with a token, and these tokens are left
+-- a value was in front that begins with a token, and these tokens are left
 pub record IsRead (depth : ℕ) (old : List Token) (t : Token) (new : List Token) : Type 0 where
   pub json : Json
   pub value : value depth old ≡ Some (json, new)

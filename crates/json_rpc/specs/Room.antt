@@ -16,7 +16,7 @@ pub record Adds {E : Type 0} (r : Result (Unit {0}) E) (old new : Vec ℕ Global
 abbrev pub id_room : ℕ
 id_room = 6 * max_id + 2
 
--- what stands behind the id of a refusal
+-- what comes after the id of a refusal
 abbrev pub error_member : Code → List ℕ
 error_member code =
     codes ",\"error\":{\"code\":" ++ (code_number code ++ (codes ",\"message\":\"" ++ (code_text code ++ codes "\"}}")))

@@ -18,7 +18,7 @@ id_json NullId = null
 id_json (NumberId s) = number s
 id_json (TextId s) = string s
 
--- an object of these members behind the version of the protocol
+-- an object of these members after the version of the protocol
 abbrev pub versioned : Members → Json
 versioned ms = object (member (codes "jsonrpc") (string (codes "2.0")) ms)
 

@@ -16,7 +16,7 @@ pub enum Code {
     MethodNotFound,
     /// -32602
     InvalidParams,
-    /// -32603: no memory was found for it.
+    /// -32603: an allocation failed for it.
     InternalError,
     /// -32002: a request before the server was initialized.
     ServerNotInitialized,

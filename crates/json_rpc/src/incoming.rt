@@ -13,7 +13,7 @@ use std::alloc::{AllocError, Global};
 /// What came, read as JSON.
 #[derive(Debug, Drop)]
 pub struct Incoming<'a> {
-    // None where it is no JSON.
+    // None where it is not JSON.
     tree: Option<Value<'a>>,
     ghost number: { HasNumberText (option_and_then (get (codes "id")) (option_map value_view tree)) } by { Prim.hlevel props },
 }
@@ -24,7 +24,7 @@ impl<'a> Incoming<'a> {
     ghost use Rattle.json_rpc.specs.Read.{incoming_view};
     ghost use Rattle.json_rpc.specs.Shown.{message_view};
 
-    /// Reads bytes. What is no UTF-8, is no JSON, or nests deeper than 128 is read as [`Message::NotJson`].
+    /// Reads bytes. What is not UTF-8, is not JSON, or nests deeper than 128 is read as [`Message::NotJson`].
     pub fn read(
         alloc: Global,
         bytes: &'a [u8],

@@ -1,12 +1,13 @@
-//! The messages of JSON-RPC 2.0 as the Language Server Protocol has them: each by itself, with no batches.
+//! Messages of JSON-RPC 2.0 as the Language Server Protocol has them, without batches.
 //!
-//! [`Incoming`] reads what came, and [`Message`] says what it is; where it finds no memory, [`id_to_answer`] needs no
-//! more than a scratch. What is sent begins and ends as `writing` says, with a value between that the caller writes;
-//! [`Outbox`] holds it, and memory in reserve, so that each request has an answer. It stands on `json` of the kit alone,
-//! and knows nothing of what methods there are, nor of the headers that stand before messages in a stream.
+//! [`Incoming`] reads the bytes of a message, and [`Message`] says what it is. If an allocation fails, [`id_to_answer`]
+//! finds the id with a scratch alone. A message to send is begun and ended by the functions of `writing`, and the
+//! caller writes the value between. [`Outbox`] holds messages to send, and memory in reserve, so that each request has
+//! an answer. It depends on `json` of the kit alone. It knows no methods, and nothing of the headers before messages in
+//! a stream.
 //!
-//! A message is an object; its member `jsonrpc` is not looked at. Of two members of one name the last counts. An id is
-//! a number or a text of at most 128 bytes, and the number's text is kept as it was written.
+//! A message is an object; its member `jsonrpc` is not read. If two members have one name, the last counts. An id is a
+//! number or a text of at most 128 bytes, and the text of the number is kept as it was written.
 //!
 //! In the order of reading: specs `Ids`, `Messages` and `Read`; `id`, `message` and `incoming`, with `Shown`; specs
 //! `Codes` and `Writing`; `code` and `writing`; `Outgoing`; `outbox`, and `refusing` with `Room`; `unread`, with

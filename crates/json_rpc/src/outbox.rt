@@ -80,14 +80,14 @@ impl Outbox {
         self.reserve.clear();
     }
 
-    /// Whether the reserve is free. It holds an answer from a want of memory on until the next [`Outbox::clear`].
+    /// Whether the reserve is free. It holds an answer from an allocation failure on until the next [`Outbox::clear`].
     pub fn has_reserve(&self) -> bool
         ensures { result ≡ self.now.reserved }
     {
         self.reserve.is_empty()
     }
 
-    /// Adds a message. Where the reserve is not free it is refused for want of memory.
+    /// Adds a message. Where the reserve is not free it is refused because an allocation failed.
     pub fn push(&mut self, message: Vec<u8>) -> Result<(), AllocError>
         ensures ok { OnOk result (self.new ≡ more self.old message.items) }
         ensures err { OnErr result (self.new ≡ self.old) }
@@ -99,8 +99,8 @@ impl Outbox {
         Ok(())
     }
 
-    /// Answers a request by its result, a message that [`crate::begin_answer`] began, or refuses it. Where no memory
-    /// is found for that, it is refused for want of memory, in the reserve, which is not free from then on.
+    /// Answers a request by its result, a message that [`crate::begin_answer`] began, or refuses it. If an allocation
+    /// fails for that, it is refused because an allocation failed, in the reserve, which is not free from then on.
     pub fn answer(&mut self, alloc: Global, id: &Id<'_>, result_or_code: Result<Vec<u8>, Code>)
         requires { IsTrue self.old.reserved }
         ensures { MatchResult result_or_code
@@ -134,7 +134,7 @@ impl Outbox {
         }
     }
 
-    // Refuses a request for want of memory, in the reserve.
+    // Refuses a request because an allocation failed, in the reserve.
     fn refuse(&mut self, id: &Id<'_>)
         requires { IsTrue self.old.reserved }
         ensures { self.new ≡ with_refusal self.old id.now }

@@ -44,7 +44,7 @@ fn push_quoted(out: &mut Vec<u8>, text: &str) -> Result<(), AllocError>
     push(out, b"\"")
 }
 
-// A byte of a text, as it stands between quotes.
+// A byte of a text, as it is between quotes.
 fn push_escaped(out: &mut Vec<u8>, byte: u8) -> Result<(), AllocError>
     ensures { Adds result out.old out.new (escape_byte byte) 6 }
 {
@@ -58,7 +58,7 @@ fn push_escaped(out: &mut Vec<u8>, byte: u8) -> Result<(), AllocError>
     }
 }
 
-// The letter that stands for a byte behind a backslash.
+// The letter that stands for a byte after a backslash.
 fn letter(byte: u8) -> Option<u8>
     ensures { MatchOption result (escape_letter byte ≡ 0)
         (λ letter. (escape_letter byte ≡ letter) × (0 < letter)) }
@@ -86,7 +86,7 @@ fn digit(value: u8) -> u8
     }
 }
 
-// What stands behind the id.
+// What comes after the id.
 fn push_error(out: &mut Vec<u8>, code: Code) -> Result<(), AllocError>
     ensures { Adds result out.old out.new (error_member code) 96 }
 {

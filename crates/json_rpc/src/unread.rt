@@ -1,4 +1,4 @@
-//! The ids under which messages are to be answered that find no memory to be read.
+//! The ids under which messages are to be answered that fail to allocate to be read.
 
 ghost use Rattle.std.specs.Prelude.{◌≡◌, ◌∷◌, ◌<◌, ◌≤◌, length, Some, None, IsTrue, IfOk, OnOk, OnErr, MatchResult};
 ghost use Rattle.json.specs.Json.{members, value};
@@ -38,9 +38,9 @@ pub(crate) enum Method {
     Other,
 }
 
-/// The id under which bytes are to be answered, if they are to be: that of a request or of what is no message, or null
-/// where that has none. It is for where [`crate::Incoming::read`] finds no memory: it builds no tree, and room for the
-/// bytes in the scratch is all that it needs.
+/// The id under which bytes are to be answered, if they are to be: that of a request or of what is not a message, or
+/// null where that has none. It is for where [`crate::Incoming::read`] fails to allocate: it builds no tree, and room
+/// for the bytes in the scratch is all that it needs.
 pub fn id_to_answer<'a>(
     bytes: &'a [u8],
     scratch: &'a mut Scratch,

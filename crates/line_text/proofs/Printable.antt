@@ -8,7 +8,7 @@ use Rattle.std.proofs.lemmas.Str.{chars-IsAscii, encodes-chars}
 use Rattle.std.proofs.lemmas.Str.Ascii.{IsAscii-from_all}
 use Rattle.line_text.specs.Line.{is_printable, is_unsafe, safe_as, on_one_line}
 
--- a character of ASCII that is no control character
+-- a character of ASCII that is not a control character
 pub record IsPlain (c : ℕ) : Type 0 where
   pub low : 32 ≤ c
   pub high : c < 127

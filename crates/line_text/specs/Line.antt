@@ -18,7 +18,7 @@ is_unsafe c = is_control c || (separates_lines c || turns_direction c)
 abbrev pub IsSafe : ℕ → Type 0
 IsSafe c = is_unsafe c ≡ false
 
--- a character of ASCII that is no control character
+-- a character of ASCII that is not a control character
 abbrev pub is_printable : ℕ → Bool
 is_printable c = is_in_range 0x20 0x7E c
 

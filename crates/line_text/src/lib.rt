@@ -1,8 +1,8 @@
-//! Texts on one line, which a terminal shows and does not obey.
+//! Texts on one line that are safe to show on a terminal.
 //!
-//! It takes a text from anywhere, as a template or the name of a file, and puts it at the end of another one, with an
-//! escape for each character that would end the line or turn its direction, or that a terminal would obey. It depends on
-//! nothing.
+//! It takes any text, as a part of a template or the name of a file, and adds it to the end of another text. It writes
+//! an escape for each character that would end the line, turn its direction or control the terminal. It depends on the
+//! standard library alone.
 //!
 //! In the order of reading: spec `Line`; `lines`; `laws`.
 #![tactic(auto)]

@@ -1,4 +1,4 @@
--- A line before and behind its first colon.
+-- A line before and after its first colon.
 use Rattle.std.proofs.Common.{◌≡◌, ℕ, zero, suc, ◌<◌, true, false, List, [], ◌∷◌, length, get_or, take, drop, Some, None, refl, arith}
 use Rattle.memchr.specs.Find.{IsFirstByte, is_byte}
 use Rattle.message_frames.specs.Header.{is_colon}

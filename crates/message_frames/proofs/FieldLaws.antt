@@ -1,11 +1,11 @@
--- What a line is read as is what it tells.
+-- What a line is read as is what it says.
 use Rattle.std.proofs.Common.{◌≡◌, ℕ, ◌<◌, Bool, true, false, ◌||◌, eqb, List, [], ◌∷◌, ◌++◌, length, Option, Some, None, refl, sym, ap, ◌∙◌, arith, inl, inr}
 use Rattle.std.specs.List.{list_any}
 use Rattle.std.specs.Option.{option_map}
 use Rattle.std.proofs.lemmas.Bool.{eqb-true, eqb-false}
 use Rattle.message_frames.specs.declared.field.Field.TheVariants as fields
 use Rattle.message_frames.specs.declared.field.Number.TheVariants.{Before}
-use Rattle.message_frames.specs.Header.{is_colon, colon, names_length, IsField, TellsLength, TellsOther}
+use Rattle.message_frames.specs.Header.{is_colon, colon, names_length, IsField, StatesLength, StatesOther}
 use Rattle.message_frames.specs.Reading.{cut, reads, length_field, field_at, field_of}
 use Rattle.message_frames.proofs.Numbers.{which, read_is, is_read}
 
@@ -111,13 +111,13 @@ field_from line name value e some = let r = cut_is line name value e in record {
 
 -- ---- the line
 
-pub field_length : (line : List ℕ) (n : ℕ) → field_of line ≡ fields.Length n → TellsLength line n
+pub field_length : (line : List ℕ) (n : ℕ) → field_of line ≡ fields.Length n → StatesLength line n
 unfolding field_of
 field_length line n e =
     let a = at_length (cut line) n e in
     record { name = a.name; value = a.value; field = field_from line a.name a.value a.is a.named; names = a.names; number = read_is a.value n a.number }
 
-pub field_other : (line : List ℕ) → field_of line ≡ fields.Other → TellsOther line
+pub field_other : (line : List ℕ) → field_of line ≡ fields.Other → StatesOther line
 unfolding field_of
 field_other line e =
     let a = at_other (cut line) e in
@@ -130,13 +130,13 @@ some_name : (name : List ℕ) → 0 < length name → eqb (length name) 0 ≡ fa
 some_name name h =
     elim (which (eqb (length name) 0)) [ inl holds ↦ absurd (omega (arith, eqb-true (length name) 0 holds)) | inr fails ↦ fails ]
 
-pub length_read : (line : List ℕ) (n : ℕ) → TellsLength line n → field_of line ≡ fields.Length n
+pub length_read : (line : List ℕ) (n : ℕ) → StatesLength line n → field_of line ≡ fields.Length n
 unfolding field_of
 length_read line n t =
     let number : reads Before t.value ≡ Some n = is_read t.value n t.number in
     ap field_at (cut_field line t.name t.value t.field) ∙ rw (some_name t.name t.field.named, t.names, number) refl
 
-pub other_read : (line : List ℕ) → TellsOther line → field_of line ≡ fields.Other
+pub other_read : (line : List ℕ) → StatesOther line → field_of line ≡ fields.Other
 unfolding field_of
 other_read line t =
     ap field_at (cut_field line t.name t.value t.field) ∙ rw (some_name t.name t.field.named, t.names) refl

@@ -2,10 +2,10 @@
 use Rattle.std.proofs.Common.{◌≡◌, ℕ, suc, ◌+◌, List, [], ◌∷◌, ◌++◌, length, refl, sym, ap, subst, ◌∙◌, append_assoc, arith}
 use Rattle.std.specs.List.{AllByRecursion, flat_map}
 use Rattle.std.proofs.lemmas.List.{length-append}
-use Rattle.message_frames.specs.declared.field.Told.TheVariants as told
+use Rattle.message_frames.specs.declared.field.Stated.TheVariants as stated
 use Rattle.message_frames.specs.Header.{EndsAt, NoneEndsBefore, IsLine, line_end, ended, head_text, IsHead, IsHeader}
-use Rattle.message_frames.specs.Reading.{told_after}
-use Rattle.message_frames.proofs.ToldLaws.{once_told, told_once}
+use Rattle.message_frames.specs.Reading.{stated_after}
+use Rattle.message_frames.proofs.StatedLaws.{once_stated, stated_once}
 
 abbrev Whole : List ℕ → Type 0
 Whole line = NoneEndsBefore line (length line)
@@ -65,15 +65,15 @@ heads_alike a b x y h k e =
 
 -- ---- lines without an empty one
 
-ends_behind : (line x : List ℕ) → EndsAt (ended line ++ x) (length line)
-ends_behind [] x = (refl, refl)
-ends_behind (b ∷ line) x = ends_behind line x
+ends_after : (line x : List ℕ) → EndsAt (ended line ++ x) (length line)
+ends_after [] x = (refl, refl)
+ends_after (b ∷ line) x = ends_after line x
 
 no_line_whole : (line x bytes : List ℕ) → NoneEndsBefore bytes (length bytes) → bytes ≡ ended line ++ x → ⊥
 no_line_whole line x bytes none e =
     let len : length bytes ≡ length line + 2 + length x =
     ap length e ∙ length-append (ended line) x ∙ ap (λ n. n + length x) (length-append line line_end) in
-    none (length line) (omega arith) (subst (λ (t : List ℕ). EndsAt t (length line)) (sym e) (ends_behind line x))
+    none (length line) (omega arith) (subst (λ (t : List ℕ). EndsAt t (length line)) (sym e) (ends_after line x))
 
 pub no_head : (lines others : List (List ℕ)) (bytes more : List ℕ) → AllByRecursion IsLine lines
     → AllByRecursion IsLine others → NoneEndsBefore bytes (length bytes)
@@ -93,21 +93,21 @@ no_head (l ∷ lines) (m ∷ others) bytes more h k none e =
 pub header_head : (header : List ℕ) (n : ℕ) → IsHeader header n → IsHead header
 header_head header n h = (h.lines, h.whole, h.each)
 
--- what lines that end with an empty one tell is the length in their header
-pub header_told : (lines : List (List ℕ)) (n : ℕ) → AllByRecursion IsLine lines → IsHeader (head_text lines) n
-    → told_after told.Nothing lines ≡ told.Length n
-header_told lines n each h =
+-- what lines that end with an empty one say is the length in their header
+pub header_stated : (lines : List (List ℕ)) (n : ℕ) → AllByRecursion IsLine lines → IsHeader (head_text lines) n
+    → stated_after stated.Nothing lines ≡ stated.Length n
+header_stated lines n each h =
     let e : head_text lines ++ [] ≡ head_text h.lines ++ [] = ap (λ (t : List ℕ). t ++ []) h.whole in
     let r = head_once lines h.lines [] [] each h.each e in
-    ap (told_after told.Nothing) r.0 ∙ once_told h.lines n h.once
+    ap (stated_after stated.Nothing) r.0 ∙ once_stated h.lines n h.once
 
-pub told_header : (lines : List (List ℕ)) (n : ℕ) → AllByRecursion IsLine lines
-    → told_after told.Nothing lines ≡ told.Length n → IsHeader (head_text lines) n
-told_header lines n each e = record { lines = lines; whole = refl; each = each; once = told_once lines n e }
+pub stated_header : (lines : List (List ℕ)) (n : ℕ) → AllByRecursion IsLine lines
+    → stated_after stated.Nothing lines ≡ stated.Length n → IsHeader (head_text lines) n
+stated_header lines n each e = record { lines = lines; whole = refl; each = each; once = stated_once lines n e }
 
 pub headers_alike : (header : List ℕ) (m n : ℕ) → IsHeader header m → IsHeader header n → m ≡ n
 headers_alike header m n h k =
-    let a : told_after told.Nothing h.lines ≡ told.Length m = once_told h.lines m h.once in
-    let b : told_after told.Nothing h.lines ≡ told.Length n =
-    header_told h.lines n h.each (subst (λ (t : List ℕ). IsHeader t n) h.whole k) in
+    let a : stated_after stated.Nothing h.lines ≡ stated.Length m = once_stated h.lines m h.once in
+    let b : stated_after stated.Nothing h.lines ≡ stated.Length n =
+    header_stated h.lines n h.each (subst (λ (t : List ℕ). IsHeader t n) h.whole k) in
     cc

@@ -2,9 +2,9 @@ pub mod Cuts
 pub mod LineEnds
 pub mod Numbers
 pub mod FieldLaws
-pub mod ToldLaws
+pub mod StatedLaws
 pub mod Heads
-pub mod StandingLaws
+pub mod RepresentingLaws
 pub mod Splitting
 pub mod Taking
 pub mod ReadBack

@@ -4,9 +4,9 @@ use Rattle.std.specs.List.{AllByRecursion, flat_map}
 use Rattle.std.proofs.lemmas.Bool.{cases_lt}
 use Rattle.std.proofs.lemmas.List.{get_or-drop, get_or-take, get_or_past, length-take, length-drop, length-append, drop_at, flat_map_more}
 use Rattle.memchr.specs.Find.{FindsNeedle, OccursAt}
-use Rattle.message_frames.specs.declared.field.Told.{Told}
+use Rattle.message_frames.specs.declared.field.Stated.{Stated}
 use Rattle.message_frames.specs.Header.{EndsAt, NoneEndsBefore, IsLine, ended, line_end, head_text}
-use Rattle.message_frames.specs.Reading.{told_after, told_with, field_of}
+use Rattle.message_frames.specs.Reading.{stated_after, stated_with, field_of}
 use Rattle.message_frames.specs.Lines.{IsEndFrom, LinesBefore}
 
 -- a line end has room
@@ -17,7 +17,7 @@ end_fits bytes k h =
       | inr le ↦ let past : get_or bytes (suc k) 0 ≡ 0 = get_or_past bytes (suc k) 0 le in absurd (omega (arith, h.1, past))
     ]
 
--- ---- found by a search behind the first places
+-- ---- found by a search after the first places
 
 ends_there : (bytes : List ℕ) (s j : ℕ) → OccursAt (drop s bytes) (13 ∷ 10 ∷ []) j → EndsAt bytes (s + j)
 ends_there bytes s j occurs =
@@ -68,7 +68,7 @@ first_end bytes s j before found = (
   ],
 )
 
--- ---- a line and what stands behind it
+-- ---- a line and what comes after it
 
 pub ended_front : (k : ℕ) (bytes : List ℕ) → EndsAt bytes k → bytes ≡ ended (take k bytes) ++ drop 2 (drop k bytes)
 ended_front k [] h = absurd (omega (arith, h.1))
@@ -107,29 +107,29 @@ pub all_push : {X : Type 0} (P : X → Type 0) (xs : List X) (x : X) → AllByRe
 all_push P [] x each p = (p, tt)
 all_push P (y ∷ xs) x each p = (each.0, all_push P xs x each.1 p)
 
-tell_push : (told : Told) (lines : List (List ℕ)) (line : List ℕ)
-    → told_after told (lines ++ line ∷ []) ≡ told_with (told_after told lines) (field_of line)
-tell_push told [] line = refl
-tell_push told (l ∷ lines) line = tell_push (told_with told (field_of l)) lines line
+state_push : (stated : Stated) (lines : List (List ℕ)) (line : List ℕ)
+    → stated_after stated (lines ++ line ∷ []) ≡ stated_with (stated_after stated lines) (field_of line)
+state_push stated [] line = refl
+state_push stated (l ∷ lines) line = state_push (stated_with stated (field_of l)) lines line
 
-pub line_more : (bytes : List ℕ) (told : Told) (rest : List ℕ) (after : Told) (k : ℕ)
-    → LinesBefore bytes told rest after → 0 < k → EndsAt rest k → NoneEndsBefore rest k
-    → LinesBefore bytes told (drop 2 (drop k rest)) (told_with after (field_of (take k rest)))
-line_more bytes told rest after k so_far some at before = record {
+pub line_more : (bytes : List ℕ) (stated : Stated) (rest : List ℕ) (after : Stated) (k : ℕ)
+    → LinesBefore bytes stated rest after → 0 < k → EndsAt rest k → NoneEndsBefore rest k
+    → LinesBefore bytes stated (drop 2 (drop k rest)) (stated_with after (field_of (take k rest)))
+line_more bytes stated rest after k so_far some at before = record {
   lines = so_far.lines ++ take k rest ∷ [];
   whole =
       so_far.whole ∙ ap (λ (x : List ℕ). flat_map ended so_far.lines ++ x) (ended_front k rest at)
       ∙ sym (append_assoc (flat_map ended so_far.lines) (ended (take k rest)) (drop 2 (drop k rest)))
       ∙ ap (λ (x : List ℕ). x ++ drop 2 (drop k rest)) (flat_map_more ended [] so_far.lines (take k rest));
   each = all_push IsLine so_far.lines (take k rest) so_far.each (line_before k rest some at before);
-  tell = tell_push told so_far.lines (take k rest) ∙ ap (λ t. told_with t (field_of (take k rest))) so_far.tell;
+  states = state_push stated so_far.lines (take k rest) ∙ ap (λ t. stated_with t (field_of (take k rest))) so_far.states;
 }
 
-pub none_yet : (bytes : List ℕ) (told : Told) → LinesBefore bytes told bytes told
-none_yet bytes told = record { lines = []; whole = refl; each = tt; tell = refl }
+pub none_yet : (bytes : List ℕ) (stated : Stated) → LinesBefore bytes stated bytes stated
+none_yet bytes stated = record { lines = []; whole = refl; each = tt; states = refl }
 
-pub head_ended : (bytes : List ℕ) (told : Told) (rest : List ℕ) (after : Told) (so_far : LinesBefore bytes told rest after)
+pub head_ended : (bytes : List ℕ) (stated : Stated) (rest : List ℕ) (after : Stated) (so_far : LinesBefore bytes stated rest after)
     → EndsAt rest 0 → bytes ≡ head_text so_far.lines ++ drop 2 rest
-head_ended bytes told rest after so_far at =
+head_ended bytes stated rest after so_far at =
     so_far.whole ∙ ap (λ (x : List ℕ). flat_map ended so_far.lines ++ x) (ended_front 0 rest at)
     ∙ sym (append_assoc (flat_map ended so_far.lines) line_end (drop 2 rest))

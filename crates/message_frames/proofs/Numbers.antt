@@ -4,8 +4,8 @@ use Rattle.std.specs.List.{AllByRecursion}
 use Rattle.std.specs.Char.{is_ascii_digit}
 use Rattle.std.specs.Str.{all_ascii_digits}
 use Rattle.std.proofs.lemmas.Bool.{ltb-true, lt-ltb}
-use Rattle.message_frames.specs.declared.field.Number.TheVariants.{Before, Within, Behind}
-use Rattle.message_frames.specs.Header.{is_blank, number_behind, IsNumber}
+use Rattle.message_frames.specs.declared.field.Number.TheVariants.{Before, Within, After}
+use Rattle.message_frames.specs.Header.{is_blank, number_after, IsNumber}
 use Rattle.message_frames.specs.Reading.{reads}
 
 pub which : (t : Bool) → (t ≡ true) ⊎ (t ≡ false)
@@ -25,22 +25,22 @@ AreBlank = AllByRecursion (λ b. is_blank b ≡ true)
 
 -- ---- what is read is a number
 
-behind_is : (m : ℕ) (v : List ℕ) (n : ℕ) → reads (Behind m) v ≡ Some n → AreBlank v × (m ≡ n)
-behind_is m [] n e = (tt, cc)
-behind_is m (b ∷ v) n e =
+after_is : (m : ℕ) (v : List ℕ) (n : ℕ) → reads (After m) v ≡ Some n → AreBlank v × (m ≡ n)
+after_is m [] n e = (tt, cc)
+after_is m (b ∷ v) n e =
     elim (which (is_blank b)) [
-      | inl holds ↦ let h : reads (Behind m) v ≡ Some n = rw holds at e in let r = behind_is m v n h in ((holds, r.0), r.1)
+      | inl holds ↦ let h : reads (After m) v ≡ Some n = rw holds at e in let r = after_is m v n h in ((holds, r.0), r.1)
       | inr fails ↦ let h = rw fails at e in absurd cc
     ]
 
--- digits behind those of m, and blanks
+-- digits after those of m, and blanks
 record GoesOn (m : ℕ) (v : List ℕ) (n : ℕ) : Type 0 where
   digits : List ℕ
   back : List ℕ
   whole : v ≡ digits ++ back
   blank : AreBlank back
   decimal : all_ascii_digits digits ≡ true
-  is : number_behind m digits ≡ n
+  is : number_after m digits ≡ n
   fits : m < 2 ^ 64 → n < 2 ^ 64
 
 within_is : (m : ℕ) (v : List ℕ) (n : ℕ) → reads (Within m) v ≡ Some n → GoesOn m v n
@@ -48,8 +48,8 @@ within_is m [] n e = let is : m ≡ n = cc in record { digits = []; back = []; w
 within_is m (b ∷ v) n e =
     elim (which (is_blank b)) [
       | inl holds ↦
-          let h : reads (Behind m) v ≡ Some n = rw holds at e in
-          let r = behind_is m v n h in
+          let h : reads (After m) v ≡ Some n = rw holds at e in
+          let r = after_is m v n h in
           record { digits = []; back = b ∷ v; whole = refl; blank = (holds, r.0); decimal = refl; is = r.1; fits = λ lt. omega (arith, r.1) }
       | inr fails ↦
           let h = rw fails at e in
@@ -117,11 +117,11 @@ read_is (b ∷ v) n e =
 
 -- ---- each number is read
 
-behind_all : (m : ℕ) (v : List ℕ) → AreBlank v → reads (Behind m) v ≡ Some m
-behind_all m [] h = refl
-behind_all m (b ∷ v) h = let here : is_blank b ≡ true = h.0 in rw here (behind_all m v h.1)
+after_all : (m : ℕ) (v : List ℕ) → AreBlank v → reads (After m) v ≡ Some m
+after_all m [] h = refl
+after_all m (b ∷ v) h = let here : is_blank b ≡ true = h.0 in rw here (after_all m v h.1)
 
-grows : (m : ℕ) (digits : List ℕ) → m ≤ number_behind m digits
+grows : (m : ℕ) (digits : List ℕ) → m ≤ number_after m digits
 grows m [] = omega arith
 grows m (d ∷ digits) = omega (arith, grows (m * 10 + (d - 48)) digits)
 
@@ -129,9 +129,9 @@ digit_no_blank : (b : ℕ) → is_ascii_digit b ≡ true → is_blank b ≡ fals
 digit_no_blank b h = grind arith
 
 within_all : (m : ℕ) (digits back : List ℕ) → all_ascii_digits digits ≡ true → AreBlank back
-    → number_behind m digits < 2 ^ 64 → reads (Within m) (digits ++ back) ≡ Some (number_behind m digits)
+    → number_after m digits < 2 ^ 64 → reads (Within m) (digits ++ back) ≡ Some (number_after m digits)
 within_all m [] [] h blank lt = refl
-within_all m [] (b ∷ back) h blank lt = let here : is_blank b ≡ true = blank.0 in rw here (behind_all m back blank.1)
+within_all m [] (b ∷ back) h blank lt = let here : is_blank b ≡ true = blank.0 in rw here (after_all m back blank.1)
 within_all m (d ∷ digits) back h blank lt =
     let t = both_true (is_ascii_digit d) (all_ascii_digits digits) h in
     let none : is_blank d ≡ false = digit_no_blank d t.0 in
@@ -140,7 +140,7 @@ within_all m (d ∷ digits) back h blank lt =
     rw (none, one, fits) (within_all (m * 10 + (d - 48)) digits back t.1 blank lt)
 
 before_all : (digits back : List ℕ) → 0 < length digits → all_ascii_digits digits ≡ true → AreBlank back
-    → number_behind 0 digits < 2 ^ 64 → reads Before (digits ++ back) ≡ Some (number_behind 0 digits)
+    → number_after 0 digits < 2 ^ 64 → reads Before (digits ++ back) ≡ Some (number_after 0 digits)
 before_all [] back some h blank lt = absurd (omega arith)
 before_all (d ∷ digits) back some h blank lt =
     let t = both_true (is_ascii_digit d) (all_ascii_digits digits) h in

@@ -8,16 +8,16 @@ use Rattle.std.proofs.lemmas.List.{append-nil}
 use Rattle.std.proofs.lemmas.Bool.{eq-eqb}
 use Rattle.std.proofs.lemmas.Str.Parse.{IsNumeralModel, numerals_by_fold}
 use Rattle.std.proofs.lemmas.Fmt.{digits_decimal, digits_value-decimal, decimal_nonempty}
-use Rattle.message_frames.specs.Header.{NoneEndsBefore, IsLine, line_end, ended, head_text, IsField, IsNumber, number_behind, TellsLength, IsHeader}
+use Rattle.message_frames.specs.Header.{NoneEndsBefore, IsLine, line_end, ended, head_text, IsField, IsNumber, number_after, StatesLength, IsHeader}
 use Rattle.message_frames.specs.Stream.{Whole, Begins}
 use Rattle.message_frames.specs.Writing.{header_of, frame}
 use Rattle.message_frames.proofs.Numbers.{both_true}
 use Rattle.message_frames.proofs.FieldLaws.{both_false}
 
-own : IsNumeralModel (λ digits. all_ascii_digits digits ≡ true) (number_behind 0)
-own = numerals_by_fold _ (search rules) number_behind (search rules)
+own : IsNumeralModel (λ digits. all_ascii_digits digits ≡ true) (number_after 0)
+own = numerals_by_fold _ (search rules) number_after (search rules)
 
--- ---- no line end stands in the line
+-- ---- no line end is in the line
 
 no_returns : (line : List ℕ) (n : ℕ) → list_any (λ b. eqb b 13) line ≡ false → NoneEndsBefore line n
 no_returns [] n h k lt at = omega (arith, at.0)
@@ -36,8 +36,8 @@ no_return_in_digits (d ∷ digits) h =
 
 -- ---- the header
 
-pub header_told : (n : ℕ) → n < 2 ^ 64 → IsHeader (header_of n) n
-header_told n lt =
+pub header_stated : (n : ℕ) → n < 2 ^ 64 → IsHeader (header_of n) n
+header_stated n lt =
     let text = decimal n in
     let line = codes "Content-Length: " ++ text in
     let digits : all_ascii_digits text ≡ true = digits_decimal own n lt in
@@ -58,11 +58,11 @@ header_told n lt =
     } in
     let field : IsField line (codes "Content-Length") (32 ∷ text) =
     record { whole = refl; named = omega arith; first = refl } in
-    let tells : TellsLength line n =
+    let states : StatesLength line n =
     record { name = codes "Content-Length"; value = 32 ∷ text; field = field; names = refl; number = number } in
     let is : IsLine line =
     record { nonempty = omega arith; whole = no_returns line (length line) (no_return_in_digits text digits) } in
-    record { lines = line ∷ []; whole = whole; each = (is, tt); once = inl (tells, tt) }
+    record { lines = line ∷ []; whole = whole; each = (is, tt); once = inl (states, tt) }
 
 -- ---- messages
 
@@ -70,4 +70,4 @@ pub read_back : (messages : List (List ℕ)) → AllByRecursion (λ message. len
     → Begins (flat_map frame messages) (map Whole messages) []
 read_back [] small = refl
 read_back (message ∷ messages) small =
-    (frame message, flat_map frame messages, refl, (header_of (length message), refl, header_told (length message) small.0), read_back messages small.1)
+    (frame message, flat_map frame messages, refl, (header_of (length message), refl, header_stated (length message) small.0), read_back messages small.1)

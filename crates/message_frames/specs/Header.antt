@@ -8,11 +8,11 @@ use Rattle.std.specs.Str.{all_ascii_digits, str_eq_ignore_ascii_case}
 abbrev pub line_end : List ℕ
 line_end = 13 ∷ 10 ∷ []
 
--- a line end stands at this place
+-- a line end is at this place
 abbrev pub EndsAt : List ℕ → ℕ → Type 0
 EndsAt bytes k = (slice_index bytes k ≡ 13) × (slice_index bytes (suc k) ≡ 10)
 
--- no line end stands before this place
+-- no line end is before this place
 abbrev pub NoneEndsBefore : List ℕ → ℕ → Type 0
 NoneEndsBefore bytes n = (k : ℕ) → k < n → ¬ (EndsAt bytes k)
 
@@ -40,7 +40,7 @@ colon = 58
 abbrev pub is_colon : ℕ → Bool
 is_colon b = b == colon
 
--- the name stands before the first colon
+-- the name is before the first colon
 pub record IsField (line name value : List ℕ) : Type 0 where
   pub whole : line ≡ name ++ colon ∷ value
   pub named : 0 < length name
@@ -54,10 +54,10 @@ names_length name = str_eq_ignore_ascii_case name (codes "Content-Length")
 abbrev pub is_blank : ℕ → Bool
 is_blank b = b == 32 || b == 9
 
--- the number that these digits write behind those of n
-abbrev pub number_behind : ℕ → List ℕ → ℕ
-number_behind n [] = n
-number_behind n (digit ∷ digits) = number_behind (n * 10 + (digit - 48)) digits
+-- the number that these digits write after those of n
+abbrev pub number_after : ℕ → List ℕ → ℕ
+number_after n [] = n
+number_after n (digit ∷ digits) = number_after (n * 10 + (digit - 48)) digits
 
 -- a number of 64 bits in decimal digits, maybe with blanks on both sides
 pub record IsNumber (value : List ℕ) (n : ℕ) : Type 0 where
@@ -69,33 +69,33 @@ pub record IsNumber (value : List ℕ) (n : ℕ) : Type 0 where
   pub blank_back : AllByRecursion (λ b. is_blank b ≡ true) back
   pub some : 0 < length digits
   pub decimal : all_ascii_digits digits ≡ true
-  pub is : number_behind 0 digits ≡ n
+  pub is : number_after 0 digits ≡ n
   pub fits : n < 2 ^ 64
 
--- the line tells this length
-pub record TellsLength (line : List ℕ) (n : ℕ) : Type 0 where
+-- the line says this length
+pub record StatesLength (line : List ℕ) (n : ℕ) : Type 0 where
   pub name : List ℕ
   pub value : List ℕ
   pub field : IsField line name value
   pub names : names_length name ≡ true
   pub number : IsNumber value n
 
--- the line tells something else
-pub record TellsOther (line : List ℕ) : Type 0 where
+-- the line says something else
+pub record StatesOther (line : List ℕ) : Type 0 where
   pub name : List ℕ
   pub value : List ℕ
   pub field : IsField line name value
   pub names : names_length name ≡ false
 
--- one of the lines tells this length, and the others something else
-abbrev pub TellOnce : List (List ℕ) → ℕ → Type 0
-TellOnce [] n = ⊥
-TellOnce (line ∷ lines) n =
-    (TellsLength line n × AllByRecursion TellsOther lines) ⊎ (TellsOther line × TellOnce lines n)
+-- one of the lines says this length, and the others something else
+abbrev pub IsStatedOnce : List (List ℕ) → ℕ → Type 0
+IsStatedOnce [] n = ⊥
+IsStatedOnce (line ∷ lines) n =
+    (StatesLength line n × AllByRecursion StatesOther lines) ⊎ (StatesOther line × IsStatedOnce lines n)
 
 -- the header of a message of n bytes
 pub record IsHeader (header : List ℕ) (n : ℕ) : Type 0 where
   pub lines : List (List ℕ)
   pub whole : header ≡ head_text lines
   pub each : AllByRecursion IsLine lines
-  pub once : TellOnce lines n
+  pub once : IsStatedOnce lines n

@@ -11,6 +11,6 @@ pub record Held : Type 0 where
 
 -- what each stage knows of the bytes that are held
 abbrev pub IsStage : ℕ → Stage → List ℕ → Type 0
-IsStage limit (stages.Lines told searched) bytes = (searched ≤ length bytes - 1) × NoneEndsBefore bytes searched
+IsStage limit (stages.Lines stated searched) bytes = (searched ≤ length bytes - 1) × NoneEndsBefore bytes searched
 IsStage limit (stages.Message len) bytes = len ≤ limit
 IsStage limit (stages.TooLong len left) bytes = 0 < left → length bytes ≡ 0

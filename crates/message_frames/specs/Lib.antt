@@ -2,7 +2,7 @@ pub mod Header
 pub mod Stream
 pub mod Shown
 pub mod Held
-pub mod Standing
+pub mod Representing
 pub mod Reading
 pub mod Lines
 pub mod Steps

@@ -4,15 +4,15 @@ use Rattle.message_frames.specs.declared.framing.Frame.{Frame}
 use Rattle.message_frames.specs.Stream.{Item, Begins, IsPartial}
 use Rattle.message_frames.specs.Held.{Held}
 use Rattle.message_frames.specs.Shown.{shown, frame_of}
-use Rattle.message_frames.specs.Standing.{Stands}
+use Rattle.message_frames.specs.Representing.{Represents}
 
--- from what was pending items were taken, and what is told of them was added
+-- from what was pending items were taken, and what is reported for them was added
 pub record Taken (limit : ℕ) (pending : List ℕ) (old new : List Frame) (held : Held) : Type 0 where
   pub items : List Item
   pub rest : List ℕ
   pub begins : Begins pending items rest
-  pub told : map shown new ≡ map shown old ++ map (frame_of limit) items
-  pub stands : Stands held rest
+  pub stated : map shown new ≡ map shown old ++ map (frame_of limit) items
+  pub represents : Represents held rest
 
 -- the same, with nothing whole left
 pub record AllTaken (limit : ℕ) (pending : List ℕ) (old new : List Frame) (held : Held) : Type 0 where

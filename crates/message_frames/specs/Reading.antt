@@ -3,44 +3,44 @@ use Rattle.std.specs.Prelude.{ℕ, ◌+◌, ◌-◌, ◌*◌, ◌^◌, ◌&&◌,
 use Rattle.std.specs.Option.{option_map, option_and_then}
 use Rattle.std.specs.Char.{is_ascii_digit}
 use Rattle.message_frames.specs.declared.field.Number.{Number}
-use Rattle.message_frames.specs.declared.field.Number.TheVariants.{Before, Within, Behind}
+use Rattle.message_frames.specs.declared.field.Number.TheVariants.{Before, Within, After}
 use Rattle.message_frames.specs.declared.field.Field.{Field}
 use Rattle.message_frames.specs.declared.field.Field.TheVariants as fields
-use Rattle.message_frames.specs.declared.field.Told.{Told}
-use Rattle.message_frames.specs.declared.field.Told.TheVariants as told
+use Rattle.message_frames.specs.declared.field.Stated.{Stated}
+use Rattle.message_frames.specs.declared.field.Stated.TheVariants as stated
 use Rattle.message_frames.specs.Header.{is_blank, is_colon, names_length}
 
 -- ---- a number
 
-abbrev pub behind_blank : Number → Number
-behind_blank Before = Before
-behind_blank (Within n) = Behind n
-behind_blank (Behind n) = Behind n
+abbrev pub after_blank : Number → Number
+after_blank Before = Before
+after_blank (Within n) = After n
+after_blank (After n) = After n
 
-abbrev pub behind_digit : ℕ → ℕ → Option Number
-behind_digit n b =
+abbrev pub after_digit : ℕ → ℕ → Option Number
+after_digit n b =
     if is_ascii_digit b && nat_lt (n * 10 + (b - 48)) (2 ^ 64) then Some (Within (n * 10 + (b - 48))) else None
 
-abbrev pub behind_other : Number → ℕ → Option Number
-behind_other Before b = behind_digit 0 b
-behind_other (Within n) b = behind_digit n b
-behind_other (Behind n) b = None
+abbrev pub after_other : Number → ℕ → Option Number
+after_other Before b = after_digit 0 b
+after_other (Within n) b = after_digit n b
+after_other (After n) b = None
 
-abbrev pub behind : Number → ℕ → Option Number
-behind s b = if is_blank b then Some (behind_blank s) else behind_other s b
+abbrev pub following : Number → ℕ → Option Number
+following s b = if is_blank b then Some (after_blank s) else after_other s b
 
 abbrev pub number_of : Number → Option ℕ
 number_of Before = None
 number_of (Within n) = Some n
-number_of (Behind n) = Some n
+number_of (After n) = Some n
 
 abbrev pub reads : Number → List ℕ → Option ℕ
 reads s [] = number_of s
-reads s (b ∷ bytes) = option_and_then (λ t. reads t bytes) (behind s b)
+reads s (b ∷ bytes) = option_and_then (λ t. reads t bytes) (following s b)
 
 -- ---- a line
 
--- what stands before the first colon, and what behind it
+-- what is before the first colon, and what after it
 abbrev pub cut : List ℕ → Option (List ℕ × List ℕ)
 cut [] = None
 cut (b ∷ bytes) = if is_colon b then Some ([], bytes) else option_map (λ p. (b ∷ p.0, p.1)) (cut bytes)
@@ -59,12 +59,12 @@ field_of line = field_at (cut line)
 
 -- ---- lines
 
-abbrev pub told_with : Told → Field → Told
-told_with told.Nothing (fields.Length n) = told.Length n
-told_with told.Nothing fields.Other = told.Nothing
-told_with (told.Length n) fields.Other = told.Length n
-told_with _ _ = told.Malformed
+abbrev pub stated_with : Stated → Field → Stated
+stated_with stated.Nothing (fields.Length n) = stated.Length n
+stated_with stated.Nothing fields.Other = stated.Nothing
+stated_with (stated.Length n) fields.Other = stated.Length n
+stated_with _ _ = stated.Malformed
 
-abbrev pub told_after : Told → List (List ℕ) → Told
-told_after t [] = t
-told_after t (line ∷ lines) = told_after (told_with t (field_of line)) lines
+abbrev pub stated_after : Stated → List (List ℕ) → Stated
+stated_after t [] = t
+stated_after t (line ∷ lines) = stated_after (stated_with t (field_of line)) lines

@@ -6,22 +6,22 @@ use Rattle.message_frames.specs.declared.framing.Header.{Header}
 use Rattle.message_frames.specs.declared.framing.Header.TheVariants as headers
 use Rattle.message_frames.specs.Stream.{Headless}
 use Rattle.message_frames.specs.Held.{Held}
-use Rattle.message_frames.specs.Standing.{Stands, Takes, HoldsLittle, weight}
+use Rattle.message_frames.specs.Representing.{Represents, Takes, HoldsLittle, weight}
 
 -- how many of the bytes that come are passed over
 abbrev pub passed_of : Stage → ℕ → ℕ
 passed_of (stages.TooLong len left) came = min left came
 passed_of _ came = 0
 
-abbrev pub stage_behind : Stage → ℕ → Stage
-stage_behind (stages.TooLong len left) passed = stages.TooLong len (left - passed)
-stage_behind stage passed = stage
+abbrev pub stage_after : Stage → ℕ → Stage
+stage_after (stages.TooLong len left) passed = stages.TooLong len (left - passed)
+stage_after stage passed = stage
 
 -- where a header was read to
 abbrev pub HeaderRead : Header → List ℕ → Held → Type 0
 HeaderRead headers.Open pending new = Takes None pending new
 HeaderRead headers.Malformed pending new = Takes (Some Headless) pending new
-HeaderRead _ pending new = Stands new pending
+HeaderRead _ pending new = Represents new pending
 
 abbrev pub IsAtStage : Header → Held → Type 0
 IsAtStage (headers.Message len) held = held.stage ≡ stages.Message len

@@ -1,21 +1,21 @@
-//! What a line of a header tells.
+//! What a line of a header says.
 
 ghost use Rattle.std.specs.Prelude.{◌≡◌};
 ghost use Rattle.std.specs.Option.{option_map};
-ghost use Rattle.message_frames.specs.Reading.{behind, reads, cut, field_of, told_with};
+ghost use Rattle.message_frames.specs.Reading.{following, reads, cut, field_of, stated_with};
 ghost use Rattle.message_frames.specs.declared.field.Number.TheVariants.{Before as before_digits};
 
 use memchr::memchr;
 
-/// What has been read of a number that may stand between blanks.
+/// What has been read of a number that may be between blanks.
 #[derive(Clone, Copy)]
 pub(crate) enum Number {
     Before,
     Within(usize),
-    Behind(usize),
+    After(usize),
 }
 
-/// What a line tells.
+/// What a line says.
 #[derive(Clone, Copy)]
 pub(crate) enum Field {
     Length(usize),
@@ -23,24 +23,24 @@ pub(crate) enum Field {
     Malformed,
 }
 
-/// What the lines so far tell together.
+/// What the lines so far say together.
 #[derive(Clone, Copy)]
-pub(crate) enum Told {
+pub(crate) enum Stated {
     Nothing,
     Length(usize),
     Malformed,
 }
 
-impl Told {
+impl Stated {
     /// With one line more.
-    pub(crate) fn with(self, field: Field) -> Told
-        ensures { result ≡ told_with self field }
+    pub(crate) fn with(self, field: Field) -> Stated
+        ensures { result ≡ stated_with self field }
     {
         match (self, field) {
-            (Told::Nothing, Field::Length(length)) => Told::Length(length),
-            (Told::Nothing, Field::Other) => Told::Nothing,
-            (Told::Length(length), Field::Other) => Told::Length(length),
-            _ => Told::Malformed,
+            (Stated::Nothing, Field::Length(length)) => Stated::Length(length),
+            (Stated::Nothing, Field::Other) => Stated::Nothing,
+            (Stated::Length(length), Field::Other) => Stated::Length(length),
+            _ => Stated::Malformed,
         }
     }
 }
@@ -48,17 +48,17 @@ impl Told {
 impl Number {
     // With one byte more, as long as the number fits.
     fn with(self, byte: u8) -> Option<Number>
-        ensures { result ≡ behind self byte }
+        ensures { result ≡ following self byte }
     {
         let blank = byte == b' ' || byte == b'\t';
         let number = match self {
             Number::Before if blank => return Some(Number::Before),
-            Number::Within(number) | Number::Behind(number) if blank => {
-                return Some(Number::Behind(number));
+            Number::Within(number) | Number::After(number) if blank => {
+                return Some(Number::After(number));
             }
             Number::Before => 0,
             Number::Within(number) => number,
-            Number::Behind(_) => return None,
+            Number::After(_) => return None,
         };
         if !byte.is_ascii_digit() {
             return None;
@@ -79,11 +79,11 @@ fn read_number(value: &[u8]) -> Option<usize>
     }
     match number {
         Number::Before => None,
-        Number::Within(number) | Number::Behind(number) => Some(number),
+        Number::Within(number) | Number::After(number) => Some(number),
     }
 }
 
-// What stands before the first colon, and what behind it.
+// What is before the first colon, and what after it.
 fn cut(line: &[u8]) -> Option<(&[u8], &[u8])>
     ensures { option_map (λ parts. (parts.0.now, parts.1.now)) result ≡ cut line.now }
 {

@@ -2,24 +2,24 @@
 
 ghost use Rattle.std.specs.Prelude.{◌≡◌, ◌+◌, ◌<◌, ◌≤◌, List, ℕ, [], ◌++◌, drop, length, IfOk, OnOk, OnErr};
 ghost use Rattle.message_frames.specs.Shown.{Message, shown};
-ghost use Rattle.message_frames.specs.Standing.{Stands, IsNext, IsWholeNext, HoldsWhole, IsLittle, IsNearer};
-ghost use Rattle.message_frames.specs.Steps.{HeaderRead, IsAtStage, IsLittleHeader, IsNearerHeader, passed_of, stage_behind};
+ghost use Rattle.message_frames.specs.Representing.{Represents, IsNext, IsWholeNext, HoldsWhole, IsLittle, IsNearer};
+ghost use Rattle.message_frames.specs.Steps.{HeaderRead, IsAtStage, IsLittleHeader, IsNearerHeader, passed_of, stage_after};
 ghost use Rattle.message_frames.specs.declared.framing.Stage.TheVariants as stages;
 
-use crate::field::Told;
+use crate::field::Stated;
 use crate::lines::{Lines, read_lines};
 use std::alloc::{AllocError, Global};
 use std::fmt;
 use std::marker::Model;
 
-/// What stands next in the stream.
+/// What is next in the stream.
 #[derive(Debug, Drop, PartialEq, Eq)]
 pub enum Frame {
     /// The bytes of a message.
     Message(Vec<u8>),
     /// A message of this many bytes, more than the limit, was passed over.
     TooLong(usize),
-    /// In the place of a header stood lines that are none, up to an empty line; they were passed over.
+    /// In the place of a header were lines that are none, up to an empty line; they were passed over.
     Bad,
     /// Not all of the next message has come.
     Wait,
@@ -28,8 +28,8 @@ pub enum Frame {
 /// What of the next message has come.
 #[derive(Clone, Copy)]
 enum Stage {
-    /// Lines, which tell this. Before so many of the bytes that are held no line end stands.
-    Lines { told: Told, searched: usize },
+    /// Lines, which say this. Before so many of the bytes that are held no line end is.
+    Lines { stated: Stated, searched: usize },
     /// The header of a message of so many bytes.
     Message { len: usize },
     /// The header of a message beyond the limit, of which so many bytes are still to come.
@@ -38,7 +38,7 @@ enum Stage {
 
 impl Stage {
     const START: Stage = Stage::Lines {
-        told: Told::Nothing,
+        stated: Stated::Nothing,
         searched: 0,
     };
 
@@ -53,8 +53,8 @@ impl Stage {
     }
 
     // The stage when so many were passed over.
-    fn behind(self, passed: usize) -> Stage
-        ensures { result ≡ stage_behind self passed }
+    fn following(self, passed: usize) -> Stage
+        ensures { result ≡ stage_after self passed }
     {
         match self {
             Stage::TooLong { len, left } => Stage::TooLong {
@@ -128,7 +128,7 @@ impl Frames {
     /// A stream of which nothing has come. A message of more than `limit` bytes is passed over.
     pub fn new(alloc: Global, limit: usize) -> Frames
         ensures limit { result.limit ≡ limit }
-        ensures stands { Stands result [] }
+        ensures represents { Represents result [] }
     {
         Frames {
             limit,
@@ -138,34 +138,34 @@ impl Frames {
         }
     }
 
-    /// Adds bytes that came. On want of memory nothing changes.
+    /// Adds bytes that came. After an allocation failure nothing changes.
     pub fn push(&mut self, bytes: &[u8]) -> Result<(), AllocError>
         ensures limit { self.new.limit ≡ self.old.limit }
-        ensures stands { OnOk result ((pending : List ℕ) → Stands self.old pending →
-            Stands self.new (pending ++ bytes.now)) }
+        ensures represents { OnOk result ((pending : List ℕ) → Represents self.old pending →
+            Represents self.new (pending ++ bytes.now)) }
         ensures err { OnErr result (self.new ≡ self.old) }
     {
         let passed = self.stage.passed(bytes.len());
         let (_, kept) = bytes.split_at(passed);
         self.taken = let_go(&mut self.held, self.taken);
         self.held.extend_from_slice(kept)?;
-        self.stage = self.stage.behind(passed);
+        self.stage = self.stage.following(passed);
         Ok(())
     }
 
-    /// Takes the next frame. A message that finds no memory stays, and is the next frame still; [`Frames::skip`] passes
-    /// over it.
+    /// Takes the next frame. A message that fails to allocate stays, and is the next frame still; [`Frames::skip`]
+    /// passes over it.
     ///
-    /// [`Frame::Bad`] is told of what ends with the first empty line and is no header; reading goes on behind that
-    /// line. [`Frame::TooLong`] is told when the last byte of the message has come.
+    /// [`Frame::Bad`] is reported for what ends with the first empty line and is not a header; reading goes on after
+    /// that line. [`Frame::TooLong`] is reported when the last byte of the message has come.
     pub fn next(&mut self, alloc: Global) -> Result<Frame, AllocError>
         ensures limit { self.new.limit ≡ self.old.limit }
-        ensures next { IfOk result (λ frame. (pending : List ℕ) → Stands self.old pending →
+        ensures next { IfOk result (λ frame. (pending : List ℕ) → Represents self.old pending →
             IsNext self.old.limit pending (shown frame) self.new) }
         ensures held { IfOk result (λ frame. IsLittle (shown frame) self.new) }
         ensures nearer { IfOk result (λ frame. IsNearer (shown frame) self.old self.new) }
-        ensures err { OnErr result ((pending : List ℕ) → Stands self.old pending → Stands self.new pending) }
-        ensures memory { OnErr result ((pending : List ℕ) → Stands self.old pending →
+        ensures err { OnErr result ((pending : List ℕ) → Represents self.old pending → Represents self.new pending) }
+        ensures memory { OnErr result ((pending : List ℕ) → Represents self.old pending →
             IsWholeNext self.old.limit pending) }
         ensures whole { OnErr result (HoldsWhole self.new) }
     {
@@ -177,10 +177,10 @@ impl Frames {
         }
     }
 
-    /// Passes over the message that [`Frames::next`] found no memory for. Where none is there, nothing changes.
+    /// Passes over the message that [`Frames::next`] failed to allocate for. Where none is there, nothing changes.
     pub fn skip(&mut self)
         ensures limit { self.new.limit ≡ self.old.limit }
-        ensures skipped { HoldsWhole self.old → (pending : List ℕ) → Stands self.old pending →
+        ensures skipped { HoldsWhole self.old → (pending : List ℕ) → Represents self.old pending →
             (message : List ℕ) × IsNext self.old.limit pending (Message message) self.new }
         ensures none { (HoldsWhole self.old → ⊥) → self.new ≡ self.old }
     {
@@ -203,29 +203,29 @@ impl Frames {
     // Reads lines of a header, unless it was read before.
     fn read_header(&mut self) -> Header
         ensures limit { self.new.limit ≡ self.old.limit }
-        ensures read { (pending : List ℕ) → Stands self.old pending → HeaderRead result pending self.new }
+        ensures read { (pending : List ℕ) → Represents self.old pending → HeaderRead result pending self.new }
         ensures stage { IsAtStage result self.new }
         ensures held { IsLittleHeader result self.new }
         ensures nearer { IsNearerHeader result self.old self.new }
     {
-        let (told, searched) = match self.stage {
-            Stage::Lines { told, searched } => (told, searched),
+        let (stated, searched) = match self.stage {
+            Stage::Lines { stated, searched } => (stated, searched),
             Stage::Message { len } => return Header::Message(len),
             Stage::TooLong { len, left } => return Header::TooLong(len, left),
         };
         let (_, rest) = self.held.as_slice().split_at(self.taken);
-        match read_lines(rest, told, searched) {
+        match read_lines(rest, stated, searched) {
             Lines::Open {
                 len,
-                told,
+                stated,
                 searched,
             } => {
                 self.taken += len;
-                self.stage = Stage::Lines { told, searched };
+                self.stage = Stage::Lines { stated, searched };
                 Header::Open
             }
-            Lines::Ended { len, told } => {
-                let Told::Length(length) = told else {
+            Lines::Ended { len, stated } => {
+                let Stated::Length(length) = stated else {
                     self.taken += len;
                     self.stage = Stage::START;
                     return Header::Malformed;
@@ -244,16 +244,16 @@ impl Frames {
         }
     }
 
-    // The message behind a header, when it has come whole.
+    // The message after a header, when it has come whole.
     fn take_message(&mut self, alloc: Global, len: usize) -> Result<Frame, AllocError>
         requires { self.old.stage ≡ stages.Message len }
         ensures limit { self.new.limit ≡ self.old.limit }
-        ensures next { IfOk result (λ frame. (pending : List ℕ) → Stands self.old pending →
+        ensures next { IfOk result (λ frame. (pending : List ℕ) → Represents self.old pending →
             IsNext self.old.limit pending (shown frame) self.new) }
         ensures held { IfOk result (λ frame. IsLittle (shown frame) self.new) }
         ensures nearer { IfOk result (λ frame. IsNearer (shown frame) self.old self.new) }
         ensures err { OnErr result (self.new ≡ self.old) }
-        ensures memory { OnErr result ((pending : List ℕ) → Stands self.old pending →
+        ensures memory { OnErr result ((pending : List ℕ) → Represents self.old pending →
             IsWholeNext self.old.limit pending) }
         ensures whole { OnErr result (HoldsWhole self.old) }
     {
@@ -268,12 +268,12 @@ impl Frames {
         Ok(Frame::Message(message))
     }
 
-    // Tells of a message beyond the limit, when so many bytes are left of it.
+    // Reports a message beyond the limit, when so many bytes are left of it.
     fn pass_over(&mut self, len: usize, left: usize) -> Frame
         requires stage { self.old.stage ≡ stages.TooLong len left }
         requires none { 0 < left → length self.old.bytes ≡ 0 }
         ensures limit { self.new.limit ≡ self.old.limit }
-        ensures next { (pending : List ℕ) → Stands self.old pending →
+        ensures next { (pending : List ℕ) → Represents self.old pending →
             IsNext self.old.limit pending (shown result) self.new }
         ensures held { IsLittle (shown result) self.new }
         ensures nearer { IsNearer (shown result) self.old self.new }

@@ -4,26 +4,26 @@ ghost use Rattle.std.specs.Prelude.{◌≡◌, ◌<◌, ◌≤◌, ◌-◌, leng
 ghost use Rattle.message_frames.specs.Header.{EndsAt, NoneEndsBefore};
 ghost use Rattle.message_frames.specs.Lines.{IsEndFrom, AreRead};
 
-use crate::field::{Told, read_field};
+use crate::field::{Stated, read_field};
 use memchr::memmem;
 
 /// What was read of a header.
 pub(crate) enum Lines {
-    /// Up to behind the empty line: how many bytes, and what all lines tell.
+    /// Up to after the empty line: how many bytes, and what all lines say.
     Ended {
         len: usize,
-        told: Told,
+        stated: Stated,
     },
-    /// Up to a line that has not come whole: how many bytes, what the lines tell, and before how many of its bytes no
-    /// line end stands.
+    /// Up to a line that has not come whole: how many bytes, what the lines say, and before how many of its bytes no
+    /// line end is.
     Open {
         len: usize,
-        told: Told,
+        stated: Stated,
         searched: usize,
     },
 }
 
-// The first line end, where none stands before this place.
+// The first line end, where none is before this place.
 fn find_end(bytes: &[u8], searched: usize) -> Option<usize>
     requires within { searched ≤ length bytes.now }
     requires none { NoneEndsBefore bytes.now searched }
@@ -35,28 +35,28 @@ fn find_end(bytes: &[u8], searched: usize) -> Option<usize>
 }
 
 /// Reads the lines that have come whole, up to an empty one.
-pub(crate) fn read_lines(bytes: &[u8], mut told: Told, mut searched: usize) -> Lines
+pub(crate) fn read_lines(bytes: &[u8], mut stated: Stated, mut searched: usize) -> Lines
     requires within { searched ≤ length bytes.now }
     requires none { NoneEndsBefore bytes.now searched }
-    ensures { AreRead bytes.now told result }
+    ensures { AreRead bytes.now stated result }
 {
     let mut rest = bytes;
     'lines: while let Some(len) = find_end(rest, searched) {
-        let (line, behind) = rest.split_at(len);
-        let (_, behind) = behind.split_at(2);
-        rest = behind;
+        let (line, following) = rest.split_at(len);
+        let (_, following) = following.split_at(2);
+        rest = following;
         searched = 0;
         if line.is_empty() {
             return Lines::Ended {
                 len: bytes.len() - rest.len(),
-                told,
+                stated,
             };
         }
-        told = told.with(read_field(line));
+        stated = stated.with(read_field(line));
     }
     Lines::Open {
         len: bytes.len() - rest.len(),
-        told,
+        stated,
         searched: rest.len().saturating_sub(1),
     }
 }

@@ -4,15 +4,15 @@ ghost use Rattle.std.specs.Prelude.{◌≡◌, ℕ, List, map, IfOk, OnOk};
 ghost use Rattle.std.specs.List.{flat_map};
 ghost use Rattle.message_frames.specs.Stream.{Item, Splits};
 ghost use Rattle.message_frames.specs.Shown.{shown, frame_of};
-ghost use Rattle.message_frames.specs.Standing.{Stands};
+ghost use Rattle.message_frames.specs.Representing.{Represents};
 ghost use Rattle.message_frames.specs.Pieces.{AllTaken};
 
 use crate::framing::{Frame, Frames};
 use std::alloc::{AllocError, Global};
 
-/// The frames of a stream that comes in these pieces, but for [`Frame::Wait`].
+/// The frames of a stream that comes in these pieces, except [`Frame::Wait`].
 pub fn frames_of(alloc: Global, limit: usize, pieces: &[Vec<u8>]) -> Result<Vec<Frame>, AllocError>
-    // Up to a rest that is no whole item, the stream is these messages and what stands in the place of headers.
+    // Up to a rest that is not a whole item, the stream is these messages and what is in the place of headers.
     ensures split { IfOk result (λ frames. (items : List Item) × (rest : List ℕ) ×
         Splits (flat_map (λ piece. piece.items) pieces.now) items rest ×
         (map shown frames.items ≡ map (frame_of limit) items)) }
@@ -33,7 +33,7 @@ pub fn frames_of(alloc: Global, limit: usize, pieces: &[Vec<u8>]) -> Result<Vec<
 // Takes frames until the next message has not come whole.
 fn take_all(alloc: Global, stream: &mut Frames, frames: &mut Vec<Frame>) -> Result<(), AllocError>
     ensures limit { stream.new.limit ≡ stream.old.limit }
-    ensures taken { OnOk result ((pending : List ℕ) → Stands stream.old pending →
+    ensures taken { OnOk result ((pending : List ℕ) → Represents stream.old pending →
         AllTaken stream.old.limit pending frames.old.items frames.new.items stream.new) }
 {
     'frames: loop {

@@ -36,15 +36,15 @@ pub changes_more : (before now : List ChangeView) (one : ChangeView) (items : Li
     → i < length items → v ≡ get_or items i v → Some one ≡ change_in (value_view v) → now ≡ before ++ one ∷ []
     → onward before i items ≡ each_change (map value_view items)
     → onward now (i + 1) items ≡ each_change (map value_view items)
-changes_more before now one items i v lt is told new so_far =
+changes_more before now one items i v lt is reported new so_far =
     ap (λ (b : List ChangeView). onward b (i + 1) items) new ∙ pushed before one (each_change (map value_view (drop (i + 1) items)))
-    ∙ ap (by_first before (i + 1) items) told ∙ first_is before items i v lt is ∙ so_far
+    ∙ ap (by_first before (i + 1) items) reported ∙ first_is before items i v lt is ∙ so_far
 
 pub changes_none : (before : List ChangeView) (items : List (Value Global)) (i : ℕ) (v : Value Global)
     → i < length items → v ≡ get_or items i v → None ≡ change_in (value_view v)
     → onward before i items ≡ each_change (map value_view items) → None ≡ each_change (map value_view items)
-changes_none before items i v lt is told so_far =
-    ap (by_first before (i + 1) items) told ∙ first_is before items i v lt is ∙ so_far
+changes_none before items i v lt is reported so_far =
+    ap (by_first before (i + 1) items) reported ∙ first_is before items i v lt is ∙ so_far
 
 pub changes_end : (before : List ChangeView) (items : List (Value Global)) (i : ℕ) → length items ≤ i
     → onward before i items ≡ each_change (map value_view items) → Some before ≡ each_change (map value_view items)

@@ -1,4 +1,4 @@
--- What stands in JSON values that may be absent.
+-- What is in JSON values that may be absent.
 use Rattle.std.specs.Prelude.{◌&&◌, ◌^◌, nat_lt, if◌then◌else◌, ℕ, List, [], ◌∷◌, Bool, true, false, length, Option, None, Some, unwrap_or}
 use Rattle.std.specs.Borrow.{Bor}
 use Rattle.std.specs.Char.{digit_value}
@@ -9,7 +9,7 @@ use Rattle.json.specs.Json.{Json, Items, no_items, item}
 use Rattle.json.specs.Value.{value_view}
 use Rattle.json.specs.declared.value.Value.{Value}
 
--- the value behind a reference, if there is one
+-- the value after a reference, if there is one
 abbrev pub seen : {A : Type 0} → Option (Bor (Value A)) → Option Json
 seen {A} v = option_map (λ w. value_view w.now) v
 

@@ -22,16 +22,16 @@ part_in range text =
     option_and_then (λ start. option_map (λ end. NewPart start end text)
     (position_in (member_of (codes "end") range))) (position_in (member_of (codes "start") range))
 
--- whether a range is told
-abbrev pub is_told : Option Json → Bool
-is_told None = false
-is_told (Some null) = false
-is_told (Some j) = true
+-- whether a range is reported
+abbrev pub is_reported : Option Json → Bool
+is_reported None = false
+is_reported (Some null) = false
+is_reported (Some j) = true
 
--- a change: a text in place of a range, or of all where none is told
+-- a change: a text in place of a range, or of all where none is reported
 abbrev pub change_in : Json → Option ChangeView
 change_in j =
-    option_and_then (λ text. if is_told (member_of (codes "range") (Some j)) then part_in (member_of (codes "range") (Some j)) text else Some (NewText text))
+    option_and_then (λ text. if is_reported (member_of (codes "range") (Some j)) then part_in (member_of (codes "range") (Some j)) text else Some (NewText text))
     (text_in (member_of (codes "text") (Some j)))
 
 -- all of them, in order, if each is well formed

@@ -1,7 +1,8 @@
-//! The values that messages of the Language Server Protocol (3.17) have in common, in JSON: positions, ranges, locations,
-//! changes and edits of texts, and which encodings of positions a client offers.
+//! Values that messages of the Language Server Protocol (3.17) have in common, in JSON: positions, ranges, locations,
+//! changes and edits of texts, and the encodings of positions that a client offers.
 //!
-//! It reads members of a `json::Value` and writes to a `json::Writer`. It stands on `text_edits`, and on `json` of the kit.
+//! It reads members of a `json::Value`, and writes to a `json::Writer`. It depends on `text_edits`, and on `json` of
+//! the kit.
 //!
 //! In the order of reading: specs `Members` and `Reading`; `reading`; specs `Writing`; `writing`.
 #![tactic(auto)]

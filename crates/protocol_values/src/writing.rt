@@ -12,7 +12,7 @@ use json::{Token, Writer};
 use std::alloc::AllocError;
 use text_edits::{Encoding, Position};
 
-/// Writes the tokens, one behind the other.
+/// Writes the tokens, one after the other.
 pub fn put_tokens(out: &mut Writer, tokens: &[Token<'_>]) -> Result<(), AllocError>
     requires { AllByRecursion (λ t. IsPrintable (token_of t)) tokens.now }
     ensures tokens { OnOk result (out.new.tokens ≡ out.old.tokens ++ map token_of tokens.now) }

@@ -1,7 +1,7 @@
 //! The example of the README: the variables that templates show by themselves, each with its line, or where a template
 //! is wrong: `readme_example FILE..`.
 //!
-//! `tools/readme_example` compares `told` with the README.
+//! `tools/readme_example` compares `print_variables` with the README.
 #![tactic(auto)]
 
 use std::{env, fs};
@@ -10,7 +10,7 @@ use tera_parser::ast::{Expression, Node};
 use tera_parser::lexer::Delimiters;
 use tera_parser::value::ErrorKind;
 
-fn told(rt: &HostRuntime, source: &str) {
+fn print_variables(rt: &HostRuntime, source: &str) {
     match Parser::new(rt.alloc(), "page.html", source, Delimiters::default()).parse() {
         Ok(output) => {
             for node in &output.nodes {
@@ -25,7 +25,7 @@ fn told(rt: &HostRuntime, source: &str) {
                 let (text, line) = (report.message.as_str(), report.span.start_line);
                 let _ = println!(rt; "line {line}: {text}");
             }
-            _ => {} // no memory was found
+            _ => {} // an allocation failed
         },
     }
 }
@@ -37,7 +37,7 @@ fn main(rt: HostRuntime) {
     let _program = words.next();
     for file in words {
         if let Ok(source) = fs::read_to_string(&rt, file.as_str()) {
-            told(&rt, source.as_str());
+            print_variables(&rt, source.as_str());
         }
     }
 }

@@ -6,7 +6,7 @@ use std::alloc::{AllocError, Global};
 /// How a call answered.
 #[derive(Clone, Copy, Debug, PartialEq, Eq)]
 pub enum Seen {
-    /// That it found no memory, and nothing changed.
+    /// That it failed to allocate, and nothing changed.
     Memory,
     /// As with ample memory.
     Usual,
@@ -30,7 +30,7 @@ pub trait Attempt {
 /// How a call answered in all runs.
 #[derive(Clone, Copy, Debug, PartialEq, Eq)]
 pub enum Verdict {
-    /// As usual in the last ones, and that it found no memory in so many before.
+    /// As usual in the last ones, and that it failed to allocate in so many before.
     Refused(u16),
     /// In another way in the run of this number.
     Other(u16),

@@ -27,7 +27,7 @@ impl Scarce {
         Ok(scarce)
     }
 
-    /// Gives one room back, for what stands beside the call.
+    /// Gives one room back, for what is beside the call.
     pub fn give_room(&mut self) {
         let _ = self.rooms.pop();
     }

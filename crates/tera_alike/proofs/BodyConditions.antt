@@ -22,7 +22,7 @@ use Rattle.tera_grammar.specs.statements.Components.{Default, LiteralDefault, Mi
 use Rattle.tera_grammar.specs.statements.Heads.{Loop, FitsLoop, Filters, NoFilters, Piped, filters_yield, AreFilters, Capture, SetBody, Section, CallBody, capture_end, FitsCapture}
 use Rattle.tera_grammar.specs.statements.Grammar.{Plain, Text, Shown, Set, Include, Extends, Break, Continue, Body, Done, Then, Item, Single, Block, Define, Capturing, For, If, Branches, Elif, Last, Else, NoElse, Otherwise, yield, branches_yield, else_yield, Path, InFor, InForElse, InBlock, InIf, InComponent, InCapture, in_loop, text_if_any, FitsPlain, Fits, FitsItem, FitsBranches, FitsElse, names, item_names, branch_names, else_names, inner, item_height, branch_height, else_height}
 use Rattle.tera_grammar.specs.statements.Top.{is_kept, TopLevel, IsTemplate}
-use Rattle.tera_grammar.specs.statements.Reading.{Phase, Starting, Standing, Extending, next_phase, phases}
+use Rattle.tera_grammar.specs.statements.Reading.{Phase, Starting, Standalone, Extending, next_phase, phases}
 use Rattle.tera_grammar.proofs.Options.{bind_both}
 use Rattle.tera_grammar.proofs.statements.Tops.{top_found, top_read}
 use Rattle.tera_source.proofs.Places.{tree_at, row_at, element_at, args_at, attributes_at, tokens_at}
@@ -56,7 +56,7 @@ module _ (place : Items → Span) (l : Limits) where
   attributes_within (valued n s b e c ats) r h = (within_same place l e _ h.0, attributes_within ats r h.1)
   attributes_within (spreading b s e c ats) r h = (within_same place l e _ h.0, attributes_within ats r h.1)
 
-  -- What stands in tags
+  -- What is in tags
   expression_fits : (f : Bool) (e : Expression) (r : Items) → IsExpression l f e → IsExpression l f (tree_at place e r)
   unfolding IsExpression
   expression_fits f e r h = (bound_same place f e r h.0, within_same place l e r h.1)
@@ -252,9 +252,9 @@ module _ (place : Items → Span) (l : Limits) where
   phase_same Starting (Single (Text text span)) r = refl
   phase_same Starting (Single _) r = refl
   phase_same Starting _ r = refl
-  phase_same Standing (Single (Extends t q span)) r = refl
-  phase_same Standing (Single _) r = refl
-  phase_same Standing _ r = refl
+  phase_same Standalone (Single (Extends t q span)) r = refl
+  phase_same Standalone (Single _) r = refl
+  phase_same Standalone _ r = refl
   phase_same Extending i r = ap (λ k. guard k >>= λ u. Some Extending) (kept_same i r)
 
   phases_same : (ph : Phase) (b : Body) (r : Items) → phases ph (body_at place b r) ≡ phases ph b

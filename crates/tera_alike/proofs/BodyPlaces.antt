@@ -16,12 +16,12 @@ use Rattle.tera_grammar.specs.statements.Grammar.{Plain, Text, Shown, Set, Inclu
 use Rattle.tera_source.proofs.Places.{name_at, second_at, dotted_at, tree_at, row_at, args_at, attributes_at, tokens_at, tree_tokens}
 use Rattle.tera_alike.proofs.Subexpressions.{second_tokens, dotted_tokens, row_tokens, args_tokens, attributes_tokens}
 
--- a token stands where the tokens behind it say
+-- a token is where the tokens after it say
 module _ (place : Items → Span) where
   abbrev pub edge_at : Edge → Items → Edge
   edge_at e r = record { dash = e.dash; span = place r }
 
-  -- a tag by its first token, what stands in it, and what stands behind it
+  -- a tag by its first token, what is in it, and what comes after it
   abbrev pub tag_at : Tok → Tag → Items → Items → Tag
   tag_at first t inside r =
       record { start = edge_at t.start (Token first t.first inside); first = place inside; finish = edge_at t.finish r }
@@ -92,7 +92,7 @@ module _ (place : Items → Span) where
   parameters_at (More p comma ps) r =
       let more = parameters_yield ps r in More (parameter_at p (mark Comma comma more)) (place more) (parameters_at ps r)
 
-  -- The tags around a body: what stands behind the opening one, and behind the closing one.
+  -- The tags around a body: what comes after the opening one, and after the closing one.
   abbrev pub head_at : Head → Items → Items → Head
   head_at h r q =
       let metadata = metadata_yield h.metadata (finish h.tag r) in
@@ -196,7 +196,7 @@ module _ (place : Items → Span) where
     else_at NoElse r = NoElse
     else_at (Otherwise t b) r = Otherwise (tag_at (closer_token AtElse) t (finish t (yield b r)) (yield b r)) (body_at b r)
 
--- its tokens are those at these places, before what stands at the end
+-- its tokens are those at these places, before what is at the end
 module _ (place : Items → Span) (end : Items) where
   abbrev Moves : (Items → Items) → (Items → Items) → Items → Type 0
   Moves tokens moved r = tokens_at place end (tokens r) ≡ moved (tokens_at place end r)

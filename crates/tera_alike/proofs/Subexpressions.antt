@@ -18,17 +18,17 @@ use Rattle.tera_source.proofs.SameMeasures.{deep_same}
 use Rattle.tera_source.proofs.SameOutput.{output_same}
 use Rattle.tera_source.proofs.SameConditions.{bound_same}
 
--- what stands behind the first token, and behind the first two
-abbrev behind : Items → Items
-behind (Token t span r) = r
-behind r = r
+-- what comes after the first token, and after the first two
+abbrev following : Items → Items
+following (Token t span r) = r
+following r = r
 
 -- the arguments of a call
 abbrev called : Expr → tree.Args
 called (tree.FunctionCall n g s) = g
 called e = tree.NoArgs
 
--- an operand that may stand before each filter
+-- an operand that may be before each filter
 abbrev plain_operand : Span → Tree
 plain_operand span = Atomic (Literal (Truth true) span)
 
@@ -45,12 +45,12 @@ module _ (at : Items → Span) (end : Items) where
   dotted_tokens no_dots r = refl
   dotted_tokens (dots s n ds) r = rw (dotted_tokens ds r)
 
-  -- a row behind the token that opens it
+  -- a row after the token that opens it
   pub row_tokens : (k : Kind) (row : Row) (r : Items) → AtPlaces (row_yield k row) (row_yield k (row_at at k row r)) r
-  row_tokens of_items row r = ap behind (tree_tokens at end (Atomic (Array nowhere row)) r)
-  row_tokens of_entries row r = ap behind (tree_tokens at end (Atomic (Map nowhere row)) r)
+  row_tokens of_items row r = ap following (tree_tokens at end (Atomic (Array nowhere row)) r)
+  row_tokens of_entries row r = ap following (tree_tokens at end (Atomic (Map nowhere row)) r)
   row_tokens of_arguments row r =
-      ap (λ items. behind (behind items)) (tree_tokens at end (Atomic (Call (record { text = []; span = nowhere }) nowhere row)) r)
+      ap (λ items. following (following items)) (tree_tokens at end (Atomic (Call (record { text = []; span = nowhere }) nowhere row)) r)
 
   pub args_tokens : (g : Args) (r : Items) → AtPlaces (args_yield g) (args_yield (args_at at g r)) r
   args_tokens no_args r = refl
@@ -163,7 +163,7 @@ module _ (at : Items → Span) where
     attributes_bound (valued n s b e c ats) r h = (bound_same at l e _ h.0, attributes_bound ats r h.1)
     attributes_bound (spreading b s e c ats) r h = (bound_same at l e _ h.0, attributes_bound ats r h.1)
 
-    -- those of a filter behind an operand that may stand before each
+    -- those of a filter after an operand that may be before each
     pub args_bound : (g : Args) (r : Items) → AreArgs l g → AreArgs l (args_at at g r)
     args_bound g r h =
         (bound_same at l (Suffixed (plain_operand nowhere) (Filter nowhere (record { text = []; span = nowhere }) g)) r (tt, tt, h)).2

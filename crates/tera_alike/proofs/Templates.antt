@@ -1,7 +1,7 @@
 -- Tokens that are the same apart from places are those of templates that are the same apart from places.
 use Rattle.std.proofs.Common.{◌≡◌, Bool, false, [], Some, refl, sym, ap, subst}
 use Rattle.tera_lexer.specs.grammar.Lexed.{IsClosed}
-use Rattle.tera_lexer.specs.grammar.Tiling.{in_tag_behind}
+use Rattle.tera_lexer.specs.grammar.Tiling.{in_tag_after}
 use Rattle.tera_lexer.specs.grammar.Tokens.{Tok, Items, Ended, Failed, Token, Content}
 use Rattle.tera_spelling.specs.Sources.{AreReadAs}
 use Rattle.tera_source.proofs.Places.{placed}
@@ -17,14 +17,14 @@ use Rattle.tera_alike.proofs.BodyPlaces.{body_at}
 use Rattle.tera_alike.proofs.BodyOutput.{template_same}
 use Rattle.tera_alike.proofs.BodyConditions.{template_moved}
 
--- the first token, and those behind it
+-- the first token, and those after it
 abbrev first_token : Items → Tok
 first_token (Token t span items) = t
 first_token items = Content []
 
-abbrev behind_first : Items → Items
-behind_first (Token t span items) = items
-behind_first items = items
+abbrev after_first : Items → Items
+after_first (Token t span items) = items
+after_first items = items
 
 -- tokens that end in no fault, and others that are the same
 alike_read : (inside : Bool) (a b : Items) → IsClosed inside a → AreAlike a b → AreReadAs a Ended b
@@ -35,7 +35,7 @@ alike_read inside (Failed text span) b closed h = absurd closed
 alike_read inside (Token t span a) Ended closed h = cc
 alike_read inside (Token t span a) (Failed text s) closed h = cc
 alike_read inside (Token t span a) (Token u here b) closed h =
-    (here, b, ap (λ x. Token x here b) (sym (ap first_token h)), alike_read (in_tag_behind inside t) a b closed (ap behind_first h))
+    (here, b, ap (λ x. Token x here b) (sym (ap first_token h)), alike_read (in_tag_after inside t) a b closed (ap after_first h))
 
 module _ (l : Limits) (a b : Items) (alike : AreAlike a b) where
   -- a template over the one is one over the other

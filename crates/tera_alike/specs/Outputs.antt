@@ -1,4 +1,4 @@
--- Outputs apart from where they stand.
+-- Outputs apart from where they are.
 use Rattle.std.specs.Prelude.{◌≡◌, false, List, map}
 use Rattle.tera_lexer.specs.code.Cursors.{nowhere}
 use Rattle.tera_ast.specs.Tree as tree
@@ -8,8 +8,8 @@ use Rattle.tera_grammar.specs.statements.Grammar.{Body}
 use Rattle.tera_grammar.specs.statements.Output.{output_of}
 use Rattle.tera_source.specs.Placeless.{placeless, placeless_entries}
 
--- Nodes apart from where they and their parts stand. A call of a component holds nodes where it is a node itself and
--- does not close itself.
+-- Nodes apart from where they and their parts are. A call of a component holds nodes where it is a node itself and does
+-- not close itself.
 abbrev pub placeless_filters : Filters → Filters
 placeless_filters tree.NoFilters = tree.NoFilters
 placeless_filters (tree.OneFilter e fs) = tree.OneFilter (placeless e) (placeless_filters fs)

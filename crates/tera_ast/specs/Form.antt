@@ -1,4 +1,4 @@
--- What the form of an expression or a node tells alone.
+-- What the form of an expression or a node says alone.
 use Rattle.std.specs.Prelude.{Bool, true, false, Option, None, Some}
 use Rattle.tera_base.specs.declared.utils.Spanned.{Spanned}
 use Rattle.tera_base.specs.declared.values.Value.{Value}

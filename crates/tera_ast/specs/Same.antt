@@ -1,4 +1,4 @@
--- Whether two trees are the same, with where their parts stand.
+-- Whether two trees are the same, with where their parts are.
 use Rattle.std.specs.Prelude.{ℕ, Bool, true, false, ◌&&◌, ◌==◌, List, Option}
 use Rattle.std.specs.Bool.{beq}
 use Rattle.std.specs.Option.{option_eq}
@@ -54,7 +54,7 @@ binary_eq o p = operator_place o == operator_place p
 abbrev pub name_eq : Option (List ℕ) → Option (List ℕ) → Bool
 name_eq = option_eq bytes_eq
 
--- where each expression stands counts too
+-- where each expression is counts too
 abbrev mutual
   pub expr_eq : Expr → Expr → Bool
   expr_eq (tree.Const v s) (tree.Const w u) = span_eq s u && value_eq v w

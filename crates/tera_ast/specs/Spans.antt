@@ -1,4 +1,4 @@
--- Where an expression stands.
+-- Where an expression is.
 use Rattle.std.specs.Prelude.{Bool, true, false}
 use Rattle.tera_base.specs.declared.utils.Span.{Span}
 use Rattle.tera_ast.specs.Tree.{Expr, Const, Array, Map, Var, GetAttr, GetItem, Slice, Filter, Test, Ternary, ListComprehension, ComponentCall, FunctionCall, UnaryOperation, BinaryOperation}
@@ -42,6 +42,6 @@ with_span span (FunctionCall name args old) = FunctionCall name args span
 with_span span (UnaryOperation op e old) = UnaryOperation op e span
 with_span span (BinaryOperation op l r old) = BinaryOperation op l r span
 
--- the place of a node that stands nowhere
+-- the place of a node that is nowhere
 abbrev pub nowhere : Span
 nowhere = record { start_line = 0; start_col = 0; end_line = 0; end_col = 0; range = record { start = 0; end = 0 } }

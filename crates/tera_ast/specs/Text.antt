@@ -58,7 +58,7 @@ abbrev pub count_of : Nodes → ℕ
 count_of NoNodes = 0
 count_of (OneNode n ns) = suc (count_of ns)
 
--- what stands behind the attributes of a component call: a body is told by the number of its nodes
+-- what comes after the attributes of a component call: a body is given by the number of its nodes
 abbrev pub closing_text : List ℕ → Bool → ℕ → List ℕ
 closing_text name closed n = if closed then codes "/>" else (codes ">[nodes: " ++ (decimal n ++ (codes "]<" ++ (name ++ codes "/>"))))
 
@@ -82,7 +82,7 @@ abbrev mutual
   text (UnaryOperation op e span) = codes "(" ++ (unary_text op ++ (codes " " ++ (text e ++ codes ")")))
   text (BinaryOperation op l r span) = codes "(" ++ (binary_text op ++ (codes " " ++ (text l ++ (codes " " ++ (text r ++ codes ")")))))
 
-  -- an expression that may be there, behind what stands before it
+  -- an expression that may be there, after what is before it
   pub maybe_text : List ℕ → MaybeExpr → List ℕ
   maybe_text before NoExpr = []
   maybe_text before (OneExpr e) = before ++ text e

@@ -6,7 +6,7 @@ use Rattle.tera_ast.specs.declared.ast.UnaryOperator.{UnaryOperator}
 use Rattle.tera_ast.specs.declared.ast.BinaryOperator.{BinaryOperator}
 
 mutual
-  -- an expression, with where it stands
+  -- an expression, with where it is
   pub data Expr : Type 0 where
     Const : Val → Span → Expr
     Array : Items → Span → Expr

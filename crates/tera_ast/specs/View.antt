@@ -49,7 +49,7 @@ abbrev pub nodes_of : List Stmt → Nodes
 nodes_of [] = NoNodes
 nodes_of (n ∷ ns) = OneNode n (nodes_of ns)
 
--- one level of each type, with what stands inside already seen; a component call waits for its span
+-- one level of each type, with what is inside already seen; a component call waits for its span
 abbrev pub expression_step : Expression-F Expr Stmt Stmt (Span → Expr) Stmt Stmt Stmt → Expr
 expression_step (Expression-F.Const s) = tree.Const (value_view (node_of s)) (span_of s)
 expression_step (Expression-F.Array s) = tree.Array (items_of (node_of s).items.items) (span_of s)

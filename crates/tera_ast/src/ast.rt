@@ -10,14 +10,14 @@ ghost use Rattle.tera_ast.specs.Form.{constant_in, is_if};
 use std::collections::BTreeMap;
 use tera_base::{Key, Spanned, Value};
 
-/// What stands before its one operand.
+/// What is before its one operand.
 #[derive(Clone, Copy, Debug, PartialEq, Eq)]
 pub enum UnaryOperator {
     Not,
     Minus,
 }
 
-/// What stands between its two operands.
+/// What is between its two operands.
 #[derive(Clone, Copy, Debug, PartialEq, Eq)]
 pub enum BinaryOperator {
     Mul,

@@ -1,4 +1,4 @@
-//! Equality of expressions and nodes: where each part stands counts too.
+//! Equality of expressions and nodes: where each part is counts too.
 
 mod bodies;
 

@@ -1,4 +1,4 @@
-//! Copies of expressions and nodes, which may find no memory.
+//! Copies of expressions and nodes, which may fail to allocate.
 
 mod bodies;
 

@@ -1,10 +1,10 @@
 //! Expressions and nodes of a template of the engine Tera.
 //!
-//! It takes the parts of a node, and its place, and gives expressions and nodes, their copies and equality, and the
-//! text of an expression. `expression_view` and `node_view` are what they stand for, wherever in memory they lie. It
-//! stands on `tera_base`, and `tera_tree` passes its public names on.
+//! It takes the parts of a node and its place, and makes expressions and nodes. It has their copies, their equality,
+//! and the text of an expression. `expression_view` and `node_view` are what they represent, wherever they are in
+//! memory. It depends on `tera_base`, and `tera_tree` re-exports its public names.
 //!
-//! In the order of reading: `ast`, the types; `build`, which makes them; `read`, what the form alone tells; `show` and
+//! In the order of reading: `ast`, the types; `build`, which makes them; `read`, what the form alone says; `show` and
 //! `parts`, their texts; specs `Tree`, `View` and `Text`. Then `comparison`, `copies` and `laws`.
 #![tactic(auto)]
 

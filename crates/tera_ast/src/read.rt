@@ -16,7 +16,7 @@ impl Expression {
         matches!(self, Expression::Const(_))
     }
 
-    /// Where it stands.
+    /// Where it is.
     pub fn span(&self) -> &Span
         ensures { result.now ≡ expr_span (expression_view self.now) }
     {

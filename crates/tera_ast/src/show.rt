@@ -134,7 +134,7 @@ fn count(nodes: &Vec<Node>) -> usize
     nodes.len()
 }
 
-// What stands behind the attributes of a component call with so many nodes in its body.
+// What comes after the attributes of a component call with so many nodes in its body.
 fn show_closing<W: Write>(
     name: &str,
     self_closing: bool,
@@ -365,20 +365,20 @@ fn show_operands<W: Write>(operation: &BinaryOperation, f: &mut Formatter<W>) ->
     f.write_str(")")
 }
 
-// An expression that may be there, behind what stands before it.
+// An expression that may be there, after what is before it.
 #[cycle(show)]
 fn show_maybe<W: Write>(before: &str, e: &Option<Expression>, f: &mut Formatter<W>) -> fmt::Result
     ensures { WritesOnOk W.write_str_gives f.old result
         (maybe_text before.now (maybe_view e.now)) f.new }
 {
     match e {
-        Some(e) => show_behind(before, e, f),
+        Some(e) => show_after(before, e, f),
         None => Ok(()),
     }
 }
 
 #[cycle(show)]
-fn show_behind<W: Write>(before: &str, e: &Expression, f: &mut Formatter<W>) -> fmt::Result
+fn show_after<W: Write>(before: &str, e: &Expression, f: &mut Formatter<W>) -> fmt::Result
     ensures { WritesOnOk W.write_str_gives f.old result
         (before.now ++ text (expression_view e.now)) f.new }
 {
@@ -457,7 +457,7 @@ pub(crate) fn show_item<W: Write>(
     }
     match item {
         ArrayEntry::Item(e) => show(e, f),
-        ArrayEntry::Spread(e) => show_behind("...", e, f),
+        ArrayEntry::Spread(e) => show_after("...", e, f),
     }
 }
 
@@ -489,7 +489,7 @@ pub(crate) fn show_entry<W: Write>(
     }
     match entry {
         MapEntry::KeyValue { key, value } => show_pair(key, value, f),
-        MapEntry::Spread(e) => show_behind("...", e, f),
+        MapEntry::Spread(e) => show_after("...", e, f),
     }
 }
 

@@ -32,9 +32,9 @@ pub found_entry : (n : List ℕ) (es : List Entry) → option_map value_view (lo
 found_entry n [] = refl
 found_entry n (e ∷ es) = found_by (is_eq (slice_cmp nat_cmp n (string_bytes e.0))) e _ ∙ rw (is_eq-slice_cmp n (string_bytes e.0), found_entry n es)
 
-pub seen_behind : (o : Option (Bor Value)) → option_map (λ v. value_view v.now) o ≡ option_map value_view (option_copied o)
-seen_behind None = refl
-seen_behind (Some v) = refl
+pub seen_after : (o : Option (Bor Value)) → option_map (λ v. value_view v.now) o ≡ option_map value_view (option_copied o)
+seen_after None = refl
+seen_after (Some v) = refl
 
 -- names that ascend as texts ascend as bytes
 above : (k : String Global) (es : List Entry) → AllByRecursion (λ l. string_cmp k l ≡ Less) (keys_of es) → AllByRecursion (λ m. slice_cmp nat_cmp (string_bytes k) m ≡ Less) (keys_of (map named_value es))

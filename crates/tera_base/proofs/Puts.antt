@@ -36,7 +36,7 @@ distinct_derived ks h = subst (λ (E : Key → Key → Bool). IsDistinct E ks) (
 pub new_key : (k : Key) (ls : List Key) → list_any (same_key k) ls ≡ false → insert_key (derived_eq.ghosts).eq ls k ≡ ls ++ k ∷ []
 new_key k ls new = ap (λ b. cond b ls (ls ++ k ∷ [])) (found_derived k ls ∙ new)
 
--- the place of the first key that stands for the same as k, or behind the last
+-- the place of the first key that stands for the same as k, or after the last
 abbrev pub place : Key → List Key → ℕ
 place k [] = 0
 place k (l ∷ ls) = cond (same_key k l) 0 (suc (place k ls))

@@ -15,7 +15,7 @@ pub data NoteVal : Type 0 where
 pub data ReportVal : Type 0 where
   ReportOf : List ℕ → Span → List NoteVal → ReportVal
 
--- no memory was found; a text without a place; a fault in a source
+-- an allocation failed; a text without a place; a fault in a source
 pub data ErrorVal : Type 0 where
   NoMemory : ErrorVal
   Saying : List ℕ → ErrorVal
@@ -35,7 +35,7 @@ kind_view (kinds.SyntaxError b) = Reporting (report_view b.value)
 abbrev pub error_view : Error → ErrorVal
 error_view e = kind_view e.kind
 
--- a report with one more note, behind the others
+-- a report with one more note, after the others
 abbrev pub with_note : ReportVal → NoteVal → ReportVal
 with_note (ReportOf text span notes) n = ReportOf text span (notes ++ n ∷ [])
 

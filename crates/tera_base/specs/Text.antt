@@ -11,13 +11,13 @@ key_text (TextKey s) = s
 key_text (I64Key n) = signed_decimal n
 key_text (TruthKey b) = truth_text b
 
--- a key inside a map: a text stands between quotes
+-- a key inside a map: a text is between quotes
 abbrev pub inner_key_text : KeyVal → List ℕ
 inner_key_text (TextKey s) = codes "\"" ++ (s ++ codes "\"")
 inner_key_text (I64Key n) = signed_decimal n
 inner_key_text (TruthKey b) = truth_text b
 
--- what stands before one of several: nothing before the first, a comma and a space before a later one
+-- what is before one of several: nothing before the first, a comma and a space before a later one
 abbrev pub comma_text : Bool → List ℕ
 comma_text later = if later then codes ", " else []
 
@@ -49,7 +49,7 @@ abbrev pub value_text : Val → List ℕ
 value_text (Text s) = s
 value_text v = inner_text v
 
--- a constant of an expression: a text stands between single quotes
+-- a constant of an expression: a text is between single quotes
 abbrev pub const_text : Val → List ℕ
 const_text (Text s) = codes "'" ++ (s ++ codes "'")
 const_text v = inner_text v

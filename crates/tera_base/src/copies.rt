@@ -1,4 +1,4 @@
-//! Copies of keys and values, which may find no memory.
+//! Copies of keys and values, which may fail to allocate.
 
 ghost use Rattle.std.specs.Prelude.{◌≡◌, IfOk, map};
 ghost use Rattle.std.specs.Map.{values_of};

@@ -1,7 +1,7 @@
 //! Errors with texts and spans.
 
 ghost use Rattle.std.specs.Prelude.{◌≡◌, MatchResult, Some, codes, string_bytes};
-ghost use Rattle.tera_base.specs.Errors.{IsMemory, Tells, HasNoNotes};
+ghost use Rattle.tera_base.specs.Errors.{IsMemory, Reports, HasNoNotes};
 ghost use Rattle.tera_base.specs.ErrorView.{error_view, error_text};
 
 use crate::utils::Span;
@@ -18,7 +18,7 @@ pub struct Error {
 /// What went wrong.
 #[derive(Debug, PartialEq, Eq, Drop)]
 pub enum ErrorKind {
-    /// No memory was found.
+    /// An allocation failed.
     Memory,
     /// A fault that has no place in a source.
     Message(String),
@@ -26,7 +26,7 @@ pub enum ErrorKind {
     SyntaxError(Box<ReportError>),
 }
 
-/// A fault in a source: its text, where it stands, and notes on other places.
+/// A fault in a source: its text, where it is, and notes on other places.
 #[derive(Debug, PartialEq, Eq, Drop)]
 pub struct ReportError {
     pub message: String,
@@ -79,7 +79,7 @@ impl Error {
 
     /// A syntax error with this text and place and no notes, or `Memory` where the text finds none.
     pub fn syntax_error(alloc: Global, text: &str, span: &Span) -> Error
-        ensures tells { Tells text.now span.now result }
+        ensures reports { Reports text.now span.now result }
         ensures notes { HasNoNotes result }
     {
         Error::reported(alloc, String::from_str(alloc, text), span)
@@ -88,7 +88,7 @@ impl Error {
     /// A syntax error with this place and no notes, whose text was made, or `Memory` where it was not, or
     /// where the error finds none.
     pub fn reported(alloc: Global, message: Result<String, AllocError>, span: &Span) -> Error
-        ensures tells { MatchResult message (λ text. Tells (string_bytes text) span.now result)
+        ensures reports { MatchResult message (λ text. Reports (string_bytes text) span.now result)
             (λ _. IsMemory result) }
         ensures notes { HasNoNotes result }
     {
@@ -127,7 +127,7 @@ impl ReportError {
     ghost use Rattle.tera_base.specs.Errors.{end_of};
     ghost use Rattle.tera_base.specs.ErrorView.{NoteOf, report_view, with_note};
 
-    /// Adds a note behind the others. The only refusal is `Memory`.
+    /// Adds a note after the others. The only refusal is `Memory`.
     pub fn add_note(&mut self, label: &str, filename: &str, span: &Span) -> Result<(), Error>
         ensures added { OnOk result (report_view self.new
             ≡ with_note (report_view self.old) (NoteOf label.now filename.now span.now)) }
@@ -146,10 +146,10 @@ impl ReportError {
         Ok(())
     }
 
-    /// The end of the input, behind the token at this span: a syntax error that begins where the token
-    /// ends, in whose range the token stands.
+    /// The end of the input, after the token at this span: a syntax error that begins where the token ends, in whose
+    /// range the token is.
     pub fn unexpected_end_of_input(alloc: Global, span: &Span) -> Error
-        ensures tells { Tells (codes "Unexpected end of input") (end_of span.now) result }
+        ensures reports { Reports (codes "Unexpected end of input") (end_of span.now) result }
         ensures notes { HasNoNotes result }
     {
         let end = Span {

@@ -15,8 +15,8 @@ use std::marker::Model;
 // hash that a set has by itself.
 type KeySet = IndexSet<Key, BuildHasherDefault<DefaultHasher>>;
 
-/// Keys in the order in which they came, none twice. They stand apart from the map, so that a value is small; the
-/// first key takes memory for it.
+/// Keys in the order in which they came, none twice. They are apart from the map, so that a value is small; the first
+/// key takes memory for it.
 #[derive(Debug, Drop)]
 pub(crate) struct Keys {
     alloc: Global,

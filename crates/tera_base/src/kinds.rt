@@ -82,7 +82,7 @@ impl Value {
         matches!(self, Value::Undefined)
     }
 
-    /// Whether it is no value.
+    /// Whether it is not a value.
     pub fn is_none(&self) -> bool
         ensures { IsTrue result ↔ (kind_of (value_view self.now) ≡ kinds.None) }
     {

@@ -1,8 +1,8 @@
 //! Spans, errors and values of the template engine Tera.
 //!
-//! It takes texts, keys and values, and gives spans, errors, maps of values and contexts. `value_view` is what a value
-//! stands for, and `Tells` says that an error has a text and a span. It stands on `indexmap` and `std_collections` of
-//! the kit; all other crates stand on it.
+//! It takes texts, keys and values, and has spans, errors, maps of values and contexts. `value_view` is what a value
+//! represents, and `Reports` says that an error has a text and a span. It depends on `indexmap` and `std_collections`
+//! of the kit, and all other crates of templates depend on it.
 //!
 //! In the order of reading: `utils`, spans, and nodes with spans; `errors`; `kinds`, of values; `values`, with their
 //! maps, and `keys`; `contexts`, names with values; `show`, values as text; `lanes`, of bytes; specs `Values`,

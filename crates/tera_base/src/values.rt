@@ -145,7 +145,7 @@ impl<V> MapOf<V> {
         *self.values.allocator()
     }
 
-    /// Copies of the keys, each with what stands at its place.
+    /// Copies of the keys, each with what is at its place.
     pub(crate) fn with_values(&self, values: Vec<V>) -> Result<MapOf<V>, AllocError>
     where
         V: Drop,
@@ -159,7 +159,7 @@ impl<V> MapOf<V> {
     }
 }
 
-// Puts a pair among keys and values that stand at the same places.
+// Puts a pair among keys and values that are at the same places.
 #[tactic(auto, using(crate::proofs::Puts::put_found, crate::proofs::Puts::put_new, crate::proofs::Puts::value_found, crate::proofs::Puts::value_new, crate::proofs::Puts::place_within))]
 fn put_pair<V: Drop>(
     keys: &mut Keys,

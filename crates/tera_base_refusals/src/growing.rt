@@ -115,7 +115,7 @@ fn fill<G: Growing>(rt: &impl Abort, all: &mut G, from: usize) -> usize {
     NAMES.len()
 }
 
-// How many runs find no memory for a part before one has memory enough.
+// How many runs fail to allocate for a part before one has memory enough.
 fn refuse_growth<G: Growing>(rt: &impl Abort, alloc: Global) -> Result<u16, AllocError> {
     let mut scarce = Scarce::new(alloc, RUNS)?;
     for run in 0..RUNS {

@@ -62,7 +62,7 @@ fn errors(rt: HostRuntime) -> Result<(), Fail> {
     Ok(())
 }
 
-/// Whether each part stands in the text.
+/// Whether each part is in the text.
 pub(crate) fn has_parts(text: &str, parts: &[&str]) -> bool {
     for part in parts {
         if !text.contains(part) {
@@ -115,7 +115,7 @@ fn note(alloc: Global) -> Result<Note, AllocError> {
 }
 
 #[test]
-fn notes_stand_behind_a_report(rt: HostRuntime) -> Result<(), Fail> {
+fn notes_stand_after_a_report(rt: HostRuntime) -> Result<(), Fail> {
     let (mut report, note) = (noted(rt.alloc())?, note(rt.alloc())?);
     report.add_note("there", "base", &Span::default())?;
     assert!(rt; report.notes.len() == 2 && report.notes.last() == Some(&note));
@@ -124,14 +124,14 @@ fn notes_stand_behind_a_report(rt: HostRuntime) -> Result<(), Fail> {
     Ok(())
 }
 
-// Whether the error has this text, and these parts stand in what `Debug` shows of it.
+// Whether the error has this text, and these parts are in what `Debug` shows of it.
 fn shows(alloc: Global, error: &Error, text: &str, parts: &[&str]) -> Result<bool, AllocError> {
     let shown = format!(in alloc; "{error}")?;
-    let told = format!(in alloc; "{error:?}")?;
-    Ok(shown.as_str() == text && has_parts(told.as_str(), parts))
+    let debug_text = format!(in alloc; "{error:?}")?;
+    Ok(shown.as_str() == text && has_parts(debug_text.as_str(), parts))
 }
 
-fn are_told_apart(fault: &Error, message: &Error, memory: &Error) -> bool {
+fn are_reported_apart(fault: &Error, message: &Error, memory: &Error) -> bool {
     laws::same_error(fault, fault) && !laws::same_error(fault, message) && message != memory
 }
 
@@ -147,6 +147,6 @@ fn errors_show_their_texts(rt: HostRuntime) -> Result<(), Fail> {
     assert!(rt; shows(alloc, &message, "how", &["Message(", "\"how\""])?);
     let parts = ["Syntax", "\"why\"", "Note", "\"here\"", "\"page\""];
     assert!(rt; shows(alloc, &fault, "why", &parts)?);
-    assert!(rt; are_told_apart(&fault, &message, &memory));
+    assert!(rt; are_reported_apart(&fault, &message, &memory));
     Ok(())
 }

@@ -84,7 +84,7 @@ fn map(alloc: Global, pairs: &[(&str, i64)]) -> Result<Map, Error> {
     Ok(all)
 }
 
-fn are_told_apart(all: &Map, same: &Map, other: &Map) -> bool {
+fn are_reported_apart(all: &Map, same: &Map, other: &Map) -> bool {
     laws::same_map(all, same) && all != other
 }
 
@@ -97,7 +97,7 @@ fn maps_equal_by_their_pairs_and_order(rt: HostRuntime) -> Result<(), Fail> {
     let all = map(rt.alloc(), &PAIRS)?;
     let same = map(rt.alloc(), &PAIRS)?;
     let other = map(rt.alloc(), &TURNED)?;
-    assert!(rt; are_told_apart(&all, &same, &other));
+    assert!(rt; are_reported_apart(&all, &same, &other));
     Ok(())
 }
 
@@ -188,8 +188,8 @@ fn answers_as(alloc: Global, value: &Value, name: &str, letters: &str) -> Result
 
 fn shows(alloc: Global, value: &Value, text: &str, part: &str) -> Result<bool, AllocError> {
     let shown = format!(in alloc; "{value}")?;
-    let told = format!(in alloc; "{value:?}")?;
-    Ok(shown.as_str() == text && told.as_str().contains(part))
+    let reported = format!(in alloc; "{value:?}")?;
+    Ok(shown.as_str() == text && reported.as_str().contains(part))
 }
 
 #[test]

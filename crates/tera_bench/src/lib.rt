@@ -1,4 +1,4 @@
-//! The lexer, the parser and the writing of expressions for the benchmark in `bench`, which is no Rattle.
+//! The lexer, the parser and the writing of expressions for the benchmark in `bench`, which is not Rattle.
 #![tactic(auto)]
 
 use std::alloc::Global;
@@ -7,7 +7,7 @@ use tera_parser::Parser;
 use tera_source::source_of;
 use tera_tree::Node;
 
-/// How many tokens the source has, to its end or to its fault; none if it is no text.
+/// How many tokens the source has, to its end or to its fault; none if it is not text.
 #[unsafe(no_mangle)]
 pub extern "C" fn tera_bench_tokens(alloc: Global, source: &[u8]) -> u64 {
     let Ok(text) = str::from_utf8(source) else {

@@ -5,7 +5,7 @@ use Rattle.tera_grammar.specs.Limits.{Limits}
 use Rattle.tera_expr_parts.specs.Rooms.{AreValid}
 use Rattle.tera_c.specs.declared.shapes.AskedLimits.{AskedLimits}
 
--- six markers, of two bytes each, one behind the other
+-- six markers, of two bytes each, one after the other
 abbrev pub marks_at : List ℕ → Marks
 marks_at bytes = record {
   block_start = take 2 bytes;

@@ -1,4 +1,4 @@
 pub mod Asked
 pub mod WithoutTree
 pub mod Statuses
-pub mod Told
+pub mod Results

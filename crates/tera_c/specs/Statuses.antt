@@ -14,7 +14,7 @@ number_of BadMarkers = 5
 number_of BadLimits = 6
 number_of Memory = 7
 
--- a text was put into a buffer, at its start, or nothing was, as it is too short; what the text needs is told
+-- a text was put into a buffer, at its start, or nothing was, as it is too short; what the text needs is reported
 abbrev pub IsPut : List ℕ → Status → List ℕ → List ℕ → ℕ → Type 0
 IsPut text Written old new needed =
     (needed ≡ length text) × (length text ≤ length old) × (new ≡ text ++ drop (length text) old)

@@ -4,7 +4,7 @@ ghost use Rattle.tera_c.specs.Statuses.{IsPut};
 
 use crate::status::Status;
 
-/// Puts a text at the start of a buffer, unless it is too short, and tells what the text needs.
+/// Puts a text at the start of a buffer, unless it is too short, and says what the text needs.
 pub(crate) fn put(text: &str, buffer: &mut [u8], needed: &mut usize) -> Status
     ensures { IsPut text.now result buffer.old buffer.new needed.new }
 {

@@ -2,14 +2,14 @@
 
 ghost use Rattle.std.specs.Prelude.{◌≡◌};
 ghost use Rattle.tera_base.specs.ErrorView.{report_view};
-ghost use Rattle.tera_c.specs.Told.{place_of, PutsFault, PutsNote};
+ghost use Rattle.tera_c.specs.Results.{place_of, PutsFault, PutsNote};
 
 use crate::buffer::put;
 use crate::shapes::{Fault, Place};
 use crate::status::Status;
 use tera_parser::value::{ReportError, Span};
 
-/// Puts the text of a fault into the buffer, and tells where it stands.
+/// Puts the text of a fault into the buffer, and says where it is.
 pub(crate) fn put_fault(
     report: &ReportError,
     buffer: &mut [u8],
@@ -25,7 +25,7 @@ pub(crate) fn put_fault(
     put(report.message.as_str(), buffer, needed)
 }
 
-/// Puts the label of a note of the fault into the buffer, and tells where it stands, or that there is no such note.
+/// Puts the label of a note of the fault into the buffer, and says where it is, or that there is no such note.
 pub(crate) fn put_note(
     report: &ReportError,
     index: usize,

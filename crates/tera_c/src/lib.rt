@@ -1,12 +1,13 @@
-//! The parser for other languages: a static library that writes the text of a template's tree, its JSON, or the text of
-//! its fault, into a buffer of the caller's.
+//! The parser for other languages: a static library. It writes the text of a template's tree, its JSON, or the text of
+//! its fault into a buffer of the caller's.
 //!
-//! Each call takes a source, six markers of two bytes, one behind the other, and limits; parses anew; and answers the
-//! number of a [`Status`]. `TellsTree`, `TellsJson`, `TellsFault` and `TellsNote` say what it leaves in the buffer and
-//! tells beside it, by the words of `tera_parser`, `tera_tree_text` and `tera_tree_json`, on which it stands.
+//! Each call takes a source, limits, and six markers of two bytes, one after the other. It parses the source and
+//! returns the number of a [`Status`]. `WritesTree`, `WritesJson`, `WritesFault` and `WritesNote` say what is then in
+//! the buffer, and what else is returned, in the terms of `tera_parser`, `tera_tree_text` and `tera_tree_json`, on
+//! which it depends.
 //!
 //! In the order of reading: `status` and `shapes`, the types; specs `Statuses`, what a buffer holds, `Asked`, what can
-//! be read, and `Told`. Then `buffer`; `markers`; `parsed`, with specs `WithoutTree`; `trees`; `faults`.
+//! be read, and `Results`. Then `buffer`; `markers`; `parsed`, with specs `WithoutTree`; `trees`; `faults`.
 #![tactic(auto)]
 
 mod buffer;
@@ -20,7 +21,7 @@ mod trees;
 ghost use Rattle.std.specs.Prelude.{◌≡◌};
 ghost use Rattle.tera_c.specs.Asked.{limits_at};
 ghost use Rattle.tera_c.specs.Statuses.{number_of};
-ghost use Rattle.tera_c.specs.Told.{TellsTree, TellsJson, TellsFault, TellsNote};
+ghost use Rattle.tera_c.specs.Results.{WritesTree, WritesJson, WritesFault, WritesNote};
 
 use buffer::put;
 use faults::{put_fault, put_note};
@@ -32,7 +33,7 @@ use trees::{json_of, tree_of};
 
 /// Writes the text of the tree of the source.
 ///
-/// What is needed is told in any case, and 0 where nothing is to be written.
+/// What is needed is reported in any case, and 0 where nothing is to be written.
 #[unsafe(no_mangle)]
 pub extern "C" fn tera_c_tree(
     alloc: Global,
@@ -43,7 +44,7 @@ pub extern "C" fn tera_c_tree(
     needed: &mut usize,
 ) -> u32
     ensures { (status : Status) × (result ≡ number_of status)
-        × TellsTree (limits_at limits.now) markers.now source.now status
+        × WritesTree (limits_at limits.now) markers.now source.now status
         text.old text.new needed.new }
 {
     *needed = 0;
@@ -55,7 +56,7 @@ pub extern "C" fn tera_c_tree(
 
 /// Writes the JSON of the tree of the source.
 ///
-/// What is needed is told in any case, and 0 where nothing is to be written.
+/// What is needed is reported in any case, and 0 where nothing is to be written.
 #[unsafe(no_mangle)]
 pub extern "C" fn tera_c_json(
     alloc: Global,
@@ -66,7 +67,7 @@ pub extern "C" fn tera_c_json(
     needed: &mut usize,
 ) -> u32
     ensures { (status : Status) × (result ≡ number_of status)
-        × TellsJson (limits_at limits.now) markers.now source.now status
+        × WritesJson (limits_at limits.now) markers.now source.now status
         text.old text.new needed.new }
 {
     *needed = 0;
@@ -76,9 +77,9 @@ pub extern "C" fn tera_c_json(
     }
 }
 
-/// Writes the text of the fault of the source, and tells where it stands and how many notes it has.
+/// Writes the text of the fault of the source, and says where it is and how many notes it has.
 ///
-/// Both are told also where the buffer is too short for the text.
+/// Both are reported also where the buffer is too short for the text.
 #[unsafe(no_mangle)]
 pub extern "C" fn tera_c_fault(
     alloc: Global,
@@ -90,18 +91,18 @@ pub extern "C" fn tera_c_fault(
     fault: &mut Fault,
 ) -> u32
     ensures { (status : Status) × (result ≡ number_of status)
-        × TellsFault (limits_at limits.now) markers.now source.now status
+        × WritesFault (limits_at limits.now) markers.now source.now status
         text.old text.new needed.new fault.old fault.new }
 {
     *needed = 0;
     match parsed(alloc, source, markers, limits) {
         Ok(_) => Status::Nothing.number(),
         Err(Refusal::Fault(report)) => put_fault(&report, text, needed, fault).number(),
-        Err(Refusal::Untold(status)) => status.number(),
+        Err(Refusal::NoResult(status)) => status.number(),
     }
 }
 
-/// Writes the label of the note of this number, from 0, of the fault of the source, and tells where it stands.
+/// Writes the label of the note of this number, from 0, of the fault of the source, and says where it is.
 ///
 /// It is about the source.
 #[unsafe(no_mangle)]
@@ -116,13 +117,13 @@ pub extern "C" fn tera_c_note(
     place: &mut Place,
 ) -> u32
     ensures { (status : Status) × (result ≡ number_of status)
-        × TellsNote (limits_at limits.now) markers.now source.now index status
+        × WritesNote (limits_at limits.now) markers.now source.now index status
         text.old text.new needed.new place.old place.new }
 {
     *needed = 0;
     match parsed(alloc, source, markers, limits) {
         Ok(_) => Status::Nothing.number(),
         Err(Refusal::Fault(report)) => put_note(&report, index, text, needed, place).number(),
-        Err(Refusal::Untold(status)) => status.number(),
+        Err(Refusal::NoResult(status)) => status.number(),
     }
 }

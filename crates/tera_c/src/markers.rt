@@ -10,7 +10,7 @@ use std::alloc::Global;
 use std::borrow::CowStr;
 use tera_parser::lexer::Delimiters;
 
-/// The six markers that stand in these bytes, one behind the other, or why there are none.
+/// The six markers that are in these bytes, one after the other, or why there are none.
 pub(crate) fn markers_at(alloc: Global, bytes: &[u8]) -> Result<Delimiters, Status>
     ensures ok { IfOk result (λ d. (marks_of d ≡ marks_at bytes.now) × AreMarkers bytes.now) }
     ensures err { IfErr result (λ s. (s ≡ Status.Memory)

@@ -7,7 +7,7 @@ ghost use Rattle.tera_expr_parts.specs.Rooms.{AreValid, limits_of};
 ghost use Rattle.tera_tree.specs.Outputs.{output_view};
 ghost use Rattle.tera_c.specs.Asked.{limits_at};
 ghost use Rattle.tera_c.specs.WithoutTree.{RefusesText, RefusesAsked};
-ghost use Rattle.tera_c.specs.Told.{HasTree};
+ghost use Rattle.tera_c.specs.Results.{HasTree};
 
 use crate::markers::markers_at;
 use crate::shapes::AskedLimits;
@@ -22,11 +22,11 @@ use tera_parser::{Limits, Parser, ParserOutput};
 pub(crate) enum Refusal {
     /// The source has this fault.
     Fault(Box<ReportError>),
-    /// What is asked cannot be read, or no memory was found.
-    Untold(Status),
+    /// What is asked cannot be read, or an allocation failed.
+    NoResult(Status),
 }
 
-/// The tree of the source between the markers that stand in these bytes.
+/// The tree of the source between the markers that are in these bytes.
 pub(crate) fn parsed(
     alloc: Global,
     source: &[u8],
@@ -38,15 +38,15 @@ pub(crate) fn parsed(
     ensures err { IfErr result (RefusesAsked (limits_at limits.now) markers.now source.now) }
 {
     let Ok(text) = str::from_utf8(source) else {
-        return Err(Refusal::Untold(Status::NotUtf8));
+        return Err(Refusal::NoResult(Status::NotUtf8));
     };
     let limits = limits_from(limits);
     if !limits.valid() {
-        return Err(Refusal::Untold(Status::BadLimits));
+        return Err(Refusal::NoResult(Status::BadLimits));
     }
     match markers_at(alloc, markers) {
         Ok(delimiters) => parsed_text(alloc, text, delimiters, limits),
-        Err(status) => Err(Refusal::Untold(status)),
+        Err(status) => Err(Refusal::NoResult(status)),
     }
 }
 
@@ -76,13 +76,13 @@ fn parsed_text(
         Derives (limits_of limits) (marks_of delimiters) source.now (output_view o)) }
     ensures err { IfErr result (RefusesText (limits_of limits) (marks_of delimiters) source.now) }
 {
-    // No note that is told names the file.
+    // No note that is reported names the file.
     let parser = Parser::with_limits(alloc, "", source, delimiters, limits);
     match parser.parse() {
         Ok(output) => Ok(output),
         Err(error) => match error.kind {
             ErrorKind::SyntaxError(report) => Err(Refusal::Fault(report)),
-            _ => Err(Refusal::Untold(Status::Memory)),
+            _ => Err(Refusal::NoResult(Status::Memory)),
         },
     }
 }

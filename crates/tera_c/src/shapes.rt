@@ -11,7 +11,7 @@ pub struct AskedLimits {
     pub bodies: usize,
 }
 
-/// Where something stands in its source: lines from 1, columns from 0 in characters, and the range in bytes.
+/// Where something is in its source: lines from 1, columns from 0 in characters, and the range in bytes.
 #[repr(C)]
 #[derive(Clone, Copy, Debug, PartialEq, Eq)]
 pub struct Place {
@@ -23,7 +23,7 @@ pub struct Place {
     pub end: usize,
 }
 
-/// Where a fault stands, and how many notes it has.
+/// Where a fault is, and how many notes it has.
 #[repr(C)]
 #[derive(Clone, Copy, Debug, PartialEq, Eq)]
 pub struct Fault {

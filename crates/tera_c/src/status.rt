@@ -14,13 +14,13 @@ pub enum Status {
     Faulty,
     /// The source has a tree, so it has no fault; or its fault has no such note.
     Nothing,
-    /// The source is no UTF-8.
+    /// The source is not UTF-8.
     NotUtf8,
     /// The markers are not the markers of a template.
     BadMarkers,
     /// The limits are not among those that templates are read within.
     BadLimits,
-    /// No memory was found.
+    /// An allocation failed.
     Memory,
 }
 

@@ -6,7 +6,7 @@ ghost use Rattle.tera_tree.specs.Tree.{Output};
 ghost use Rattle.tera_tree_json.specs.TreeJson.{json_text};
 ghost use Rattle.tera_tree_text.specs.TreeText.{text_of};
 ghost use Rattle.tera_c.specs.Asked.{limits_at};
-ghost use Rattle.tera_c.specs.Told.{HasTree, HasFault, IsUntold};
+ghost use Rattle.tera_c.specs.Results.{HasTree, HasFault, HasNoResult};
 
 use crate::parsed::{Refusal, parsed};
 use crate::shapes::AskedLimits;
@@ -15,7 +15,7 @@ use std::alloc::Global;
 use tera_tree_json::tree_json;
 use tera_tree_text::tree_text;
 
-/// The text of the tree of the source, between the markers that stand in these bytes.
+/// The text of the tree of the source, between the markers that are in these bytes.
 pub(crate) fn tree_of(
     alloc: Global,
     source: &[u8],
@@ -26,7 +26,7 @@ pub(crate) fn tree_of(
         × HasTree (limits_at limits.now) markers.now source.now output
         × (string_bytes text ≡ text_of output)) }
     ensures err { IfErr result (λ status.
-        IsUntold (limits_at limits.now) markers.now source.now status
+        HasNoResult (limits_at limits.now) markers.now source.now status
         ⊎ ((status ≡ Status.Faulty) × ((report : ReportVal)
         × HasFault (limits_at limits.now) markers.now source.now report))) }
 {
@@ -36,11 +36,11 @@ pub(crate) fn tree_of(
             Err(_) => Err(Status::Memory),
         },
         Err(Refusal::Fault(_)) => Err(Status::Faulty),
-        Err(Refusal::Untold(status)) => Err(status),
+        Err(Refusal::NoResult(status)) => Err(status),
     }
 }
 
-/// The JSON of the tree of the source, between the markers that stand in these bytes.
+/// The JSON of the tree of the source, between the markers that are in these bytes.
 pub(crate) fn json_of(
     alloc: Global,
     source: &[u8],
@@ -51,7 +51,7 @@ pub(crate) fn json_of(
         × HasTree (limits_at limits.now) markers.now source.now output
         × (string_bytes text ≡ json_text output)) }
     ensures err { IfErr result (λ status.
-        IsUntold (limits_at limits.now) markers.now source.now status
+        HasNoResult (limits_at limits.now) markers.now source.now status
         ⊎ ((status ≡ Status.Faulty) × ((report : ReportVal)
         × HasFault (limits_at limits.now) markers.now source.now report))) }
 {
@@ -61,6 +61,6 @@ pub(crate) fn json_of(
             Err(_) => Err(Status::Memory),
         },
         Err(Refusal::Fault(_)) => Err(Status::Faulty),
-        Err(Refusal::Untold(status)) => Err(status),
+        Err(Refusal::NoResult(status)) => Err(status),
     }
 }

@@ -11,7 +11,7 @@ use crate::fronts::front;
 use crate::layouts::layout;
 use crate::parameters::parameters;
 use crate::settings::{Setting, limits_of, markers_of};
-use crate::shown::{is_shown, told_lines};
+use crate::shown::{expected_lines, is_shown};
 use crate::spans::spans;
 use crate::tokens::listing;
 use crate::trees::{Use, read};
@@ -129,7 +129,7 @@ fn detail_of(shown: Shown) -> Detail {
 
 fn lines(alloc: Global, options: &Options, output: &ParserOutput) -> Result<String, AllocError> {
     let text = tree_text(alloc, output)?;
-    String::from_str(alloc, told_lines(options, text.as_str()))
+    String::from_str(alloc, expected_lines(options, text.as_str()))
 }
 
 // Whether six markers are valid, or the rule that they break.

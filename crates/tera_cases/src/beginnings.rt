@@ -10,7 +10,7 @@ use tera_parser::ParserOutput;
 #[derive(Clone, Copy)]
 pub(crate) enum Beginning {
     Template,
-    /// It has a fault that stands in it.
+    /// It has a fault that is in it.
     Refused,
     /// It has neither a tree nor such a fault.
     Wrong,

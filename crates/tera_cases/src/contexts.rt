@@ -6,7 +6,7 @@ use tera_base::{Context, Error, Key, Value};
 use tera_parser::ParserOutput;
 use tera_tree::{ComponentCall, ComponentDefinition, Expression, MapEntry, Node};
 
-/// The names and values with which the first component of the template is shown by the call that stands last.
+/// The names and values with which the first component of the template is shown by the call that is last.
 ///
 /// An attribute that is a name alone is given without a value. What the template sets is found for an implicit
 /// argument. The body of the call is its first text.
@@ -62,14 +62,14 @@ fn names(alloc: Global, attributes: &Vec<MapEntry>) -> Result<Vec<&str>, AllocEr
 }
 
 // The value that the call gives the name.
-fn passed(attributes: &Vec<MapEntry>, wanted: &str) -> Result<Option<Value>, Error> {
+fn passed(attributes: &Vec<MapEntry>, expected: &str) -> Result<Option<Value>, Error> {
     for attribute in attributes {
         if let MapEntry::KeyValue {
             key: Key::String(name),
             value,
         } = attribute
         {
-            if name.as_str() == wanted {
+            if name.as_str() == expected {
                 return constant(value);
             }
         }
@@ -78,10 +78,10 @@ fn passed(attributes: &Vec<MapEntry>, wanted: &str) -> Result<Option<Value>, Err
 }
 
 // The value that the template sets the name to.
-fn found(nodes: &Vec<Node>, wanted: &str) -> Result<Value, Error> {
+fn found(nodes: &Vec<Node>, expected: &str) -> Result<Value, Error> {
     for node in nodes {
         if let Node::Set(set) = node {
-            if set.name.as_str() == wanted {
+            if set.name.as_str() == expected {
                 return Ok(constant(&set.value)?.unwrap_or(Value::Undefined));
             }
         }

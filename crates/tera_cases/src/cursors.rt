@@ -43,7 +43,7 @@ fn steps(
     Ok(text)
 }
 
-// What is seen from where the cursor stands, which is then taken.
+// What is seen from where the cursor is, which is then taken.
 fn step(
     alloc: Global,
     file: &str,
@@ -55,13 +55,13 @@ fn step(
     match taking.next_or_eoi() {
         Ok(_token) => taken(alloc, seen.as_str(), taking, skipping),
         Err(error) => {
-            let is_behind = was_seen || skipping.skip();
-            refused(alloc, file, seen.as_str(), is_behind, &error)
+            let is_after = was_seen || skipping.skip();
+            refused(alloc, file, seen.as_str(), is_after, &error)
         }
     }
 }
 
-// Behind a token that was taken, which the other cursor skips.
+// After a token that was taken, which the other cursor skips.
 fn taken(
     alloc: Global,
     seen: &str,
@@ -83,11 +83,11 @@ fn refused(
     was_seen: bool,
     error: &Error,
 ) -> Result<String, AllocError> {
-    let told = error_text(alloc, file, Detail::Start, error)?;
+    let reported = error_text(alloc, file, Detail::Start, error)?;
     if was_seen {
-        format!(in alloc; "{seen}what was shown is {told}")
+        format!(in alloc; "{seen}what was shown is {reported}")
     } else {
-        format!(in alloc; "{seen}{told}")
+        format!(in alloc; "{seen}{reported}")
     }
 }
 
@@ -107,17 +107,17 @@ fn seen(alloc: Global, cursor: &Cursor<'_>) -> Result<String, AllocError> {
     }
 }
 
-// The end of the input, which is told again and again.
+// The end of the input, which is reported again and again.
 fn last(alloc: Global, file: &str, cursor: &mut Cursor<'_>) -> Result<String, AllocError> {
     let place = format!(in alloc; "{:?} sees the end: ", &cursor.current_span().range)?;
-    let told = error_text(alloc, file, Detail::Both, &cursor.eoi())?;
+    let reported = error_text(alloc, file, Detail::Both, &cursor.eoi())?;
     let again = match cursor.next_or_eoi() {
         Ok(_) => String::from_str(alloc, "a token")?,
         Err(error) => error_text(alloc, file, Detail::Both, &error)?,
     };
-    if again == told {
-        format!(in alloc; "{place}{told}")
+    if again == reported {
+        format!(in alloc; "{place}{reported}")
     } else {
-        format!(in alloc; "{place}{told}, and then {again}")
+        format!(in alloc; "{place}{reported}, and then {again}")
     }
 }

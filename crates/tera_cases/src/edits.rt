@@ -1,4 +1,4 @@
-//! Lines, places and bytes of a text, and the text behind changes.
+//! Lines, places and bytes of a text, and the text after changes.
 
 use std::alloc::{AllocError, Global};
 use text_edits::{Change, Encoding, Lines, Position, byte_at, edited, position_at};
@@ -24,7 +24,7 @@ fn answer(alloc: Global, encoding: Encoding, source: &str) -> Result<Option<Stri
     if let Some(place) = asked.strip_prefix("place ") {
         return byte_of(alloc, encoding, place, text);
     }
-    text_behind(alloc, encoding, asked, text)
+    text_after(alloc, encoding, asked, text)
 }
 
 fn number(word: &str) -> Option<usize> {
@@ -74,7 +74,7 @@ fn byte_of(
     Ok(Some(format!(in alloc; "{byte}")?))
 }
 
-fn text_behind(
+fn text_after(
     alloc: Global,
     encoding: Encoding,
     asked: &str,
@@ -90,7 +90,7 @@ fn text_behind(
     Ok(Some(edited(alloc, text, encoding, changes.as_slice())?))
 }
 
-// A range and a new text behind `[`, or that alone.
+// A range and a new text after `[`, or that alone.
 fn change(word: &str) -> Option<Change<'_>> {
     let (range, new) = word.split_once("[")?;
     if range.is_empty() {

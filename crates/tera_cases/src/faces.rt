@@ -1,4 +1,4 @@
-//! What holds of each tree that is read: an expression has the text of what stands in it, and a copy equals the tree.
+//! What holds of each tree that is read: an expression has the text of what is in it, and a copy equals the tree.
 
 use std::alloc::{AllocError, Global};
 use tera_parser::ParserOutput;
@@ -43,7 +43,7 @@ fn has_one_face(alloc: Global, part: Part<'_>) -> Result<bool, AllocError> {
     Ok(whole == inside)
 }
 
-// The text of what stands in the expression; of a constant that of the expression.
+// The text of what is in the expression; of a constant that of the expression.
 fn inside(alloc: Global, expression: &Expression) -> Result<String, AllocError> {
     match expression {
         Expression::Const(_) => format!(in alloc; "{expression}"),

@@ -12,7 +12,7 @@ pub(crate) enum Detail {
     Both,
 }
 
-/// What an error tells about a file; a failure of memory is handed on.
+/// What an error says about a file; a failure of memory is handed on.
 pub(crate) fn error_text(
     alloc: Global,
     file: &str,
@@ -42,16 +42,16 @@ fn report_text(
 }
 
 fn note_text(alloc: Global, file: &str, detail: Detail, note: &Note) -> Result<String, AllocError> {
-    let told = placed(alloc, detail, &note.span, note.label.as_str())?;
+    let reported = placed(alloc, detail, &note.span, note.label.as_str())?;
     let name = note.filename.as_str();
     if name == file {
-        format!(in alloc; "note {told}")
+        format!(in alloc; "note {reported}")
     } else {
-        format!(in alloc; "note {told} in {name}")
+        format!(in alloc; "note {reported} in {name}")
     }
 }
 
-// A text behind its place.
+// A text after its place.
 fn placed(alloc: Global, detail: Detail, span: &Span, text: &str) -> Result<String, AllocError> {
     let (line, column) = (span.start_line, span.start_col);
     let (last, end) = (span.end_line, span.end_col);

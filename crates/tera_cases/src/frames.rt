@@ -1,10 +1,10 @@
-//! What is told of a stream of messages that comes in pieces.
+//! What is reported for a stream of messages that comes in pieces.
 
 use message_frames::frames_of;
 use std::alloc::{AllocError, Global};
 
-/// What is told of the stream behind ` in `, whose pieces have bars between them; before it stands how many bytes a message
-/// may have.
+/// What is reported for the stream after ` in `, whose pieces have bars between them; before it is how many bytes a
+/// message may have.
 pub(crate) fn frames(alloc: Global, source: &str) -> Result<String, AllocError> {
     let Some((limit, stream)) = source.split_once(" in ") else {
         return String::from_str(alloc, "no stream");

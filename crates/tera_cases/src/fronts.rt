@@ -1,4 +1,4 @@
-//! What is read behind the first token of a source.
+//! What is read after the first token of a source.
 
 use crate::faults::{Detail, error_text};
 use crate::settings::Setting;
@@ -6,13 +6,13 @@ use case_files::Shown;
 use std::alloc::{AllocError, Global};
 use std::collections::BTreeMap;
 use tera_base::{Error, Value};
-use tera_expr::{
+use tera_lexer::{Cursor, tokenize};
+use tera_parser::expr::{
     Scope, attributes, component_name, expression, filter, kwargs, literal_array, literal_map,
 };
-use tera_lexer::{Cursor, tokenize};
 use tera_tree::{Expression, MapEntry};
 
-/// What is read behind the first token, and where the token taken last ends.
+/// What is read after the first token, and where the token taken last ends.
 pub(crate) fn front(
     alloc: Global,
     setting: &Setting<'_>,
@@ -27,7 +27,7 @@ pub(crate) fn front(
         limits: setting.limits,
     };
     let mut cursor = Cursor::new(tokenize(alloc, source, delimiters));
-    let answer = behind_first(alloc, &mut cursor, scope, setting.options.shown);
+    let answer = after_first(alloc, &mut cursor, scope, setting.options.shown);
     let end = cursor.current_span().range.end;
     match answer {
         Ok(text) => format!(in alloc; "{text}, up to {end}"),
@@ -36,7 +36,7 @@ pub(crate) fn front(
     }
 }
 
-fn behind_first(
+fn after_first(
     alloc: Global,
     cursor: &mut Cursor<'_>,
     scope: Scope,
@@ -47,16 +47,16 @@ fn behind_first(
         return Err(Error::message(alloc, "no limits"));
     }
     match shown {
-        Shown::Filter => expression_text(alloc, filter(alloc, cursor, scope)),
-        Shown::Attributes => attributes_text(alloc, attributes(alloc, cursor, scope)),
-        Shown::Arguments => arguments_text(alloc, kwargs(alloc, cursor, scope)),
-        Shown::Name => component_name(alloc, cursor),
-        Shown::Array => value_text(alloc, literal_array(alloc, cursor, scope.limits)),
+        Shown::Filter => expression_text(alloc, filter(cursor, scope)),
+        Shown::Attributes => attributes_text(alloc, attributes(cursor, scope)),
+        Shown::Arguments => arguments_text(alloc, kwargs(cursor, scope)),
+        Shown::Name => component_name(cursor),
+        Shown::Array => value_text(alloc, literal_array(cursor, scope.limits)),
         Shown::Map => {
-            let read = literal_map(alloc, cursor, "default argument", scope.limits);
+            let read = literal_map(cursor, "default argument", scope.limits);
             value_text(alloc, read)
         }
-        _ => expression_text(alloc, expression(alloc, cursor, scope)),
+        _ => expression_text(alloc, expression(cursor, scope)),
     }
 }
 

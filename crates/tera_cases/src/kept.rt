@@ -1,4 +1,4 @@
-//! That each expression that stands by itself in a tree is written so that it is read again.
+//! That each expression that is by itself in a tree is written so that it is read again.
 
 use crate::settings::Setting;
 use crate::written::is_kept;
@@ -8,7 +8,7 @@ use tera_parser::ParserOutput;
 use tera_tree::parts::{Part, top_parts};
 use tera_tree::{Expression, MapEntry, Node};
 
-/// Whether each expression that stands by itself in the tree is kept.
+/// Whether each expression that is by itself in the tree is kept.
 pub(crate) fn are_kept(
     alloc: Global,
     setting: &Setting<'_>,
@@ -59,7 +59,7 @@ fn are_attributes_kept(
     Ok(true)
 }
 
-// A name alone is no expression.
+// A name alone is not an expression.
 fn is_attribute_kept(
     alloc: Global,
     setting: &Setting<'_>,
@@ -81,7 +81,7 @@ fn is_name_alone(key: &Key, value: &Expression) -> bool {
     }
 }
 
-// The same of the arguments of filters that stand behind no expression.
+// The same of the arguments of filters that come after no expression.
 fn are_filters_kept(
     alloc: Global,
     setting: &Setting<'_>,

@@ -1,7 +1,7 @@
-//! Compares what the parser answers, what places and edits of texts are, and what is told of streams of messages, with files
-//! of cases: `tera_cases FILE..`.
+//! Compares what the parser answers, what places and edits of texts are, and what is reported for streams of messages,
+//! with files of cases: `tera_cases FILE..`.
 //!
-//! `docs/CASES.md` says what stands in a file.
+//! `docs/CASES.md` says what is in a file.
 #![tactic(auto)]
 
 mod answers;
@@ -38,12 +38,12 @@ enum End {
     Equal,
     // Some answer is not.
     Different,
-    // A file is no file of cases, or something failed.
+    // A file is not a file of cases, or something failed.
     Stopped,
 }
 
 // Says on standard error why the file was not compared to its end.
-fn tell(rt: &HostRuntime, file: &str, stop: Stop) -> End {
+fn print_stop(rt: &HostRuntime, file: &str, stop: Stop) -> End {
     let _ = match stop {
         Stop::Memory => eprintln!(rt; "{file}: out of memory"),
         Stop::Read => eprintln!(rt; "{file}: it cannot be read"),
@@ -79,7 +79,7 @@ fn end_of(rt: &HostRuntime, file: &str) -> End {
     match compared(rt, file) {
         Ok(count) if count.different == 0 => End::Equal,
         Ok(_) => End::Different,
-        Err(stop) => tell(rt, file, stop),
+        Err(stop) => print_stop(rt, file, stop),
     }
 }
 

@@ -1,30 +1,30 @@
-//! What is told of the components that a template defines.
+//! What is reported for the components that a template defines.
 
 use std::alloc::{AllocError, Global};
 use tera_base::Error;
 use tera_parser::ParserOutput;
 use tera_tree::{ComponentArg, ComponentDefinition, ComponentInfo};
 
-/// What is told of each component, and the names of its parameters.
+/// What is reported for each component, and the names of its parameters.
 pub(crate) fn parameters(alloc: Global, output: &ParserOutput) -> Result<String, AllocError> {
     let mut all = String::new(alloc);
     for definition in &output.component_definitions {
         if !all.is_empty() {
             all.push_str("\n")?;
         }
-        push_told(alloc, &mut all, definition)?;
+        push_reported(alloc, &mut all, definition)?;
     }
     Ok(all)
 }
 
-// What is told of the component, and on a line below it the names of its parameters.
-fn push_told(
+// What is reported for the component, and on a line below it the names of its parameters.
+fn push_reported(
     alloc: Global,
     all: &mut String,
     definition: &ComponentDefinition,
 ) -> Result<(), AllocError> {
-    let told = told(alloc, definition)?;
-    all.push_str(told.as_str())?;
+    let reported = reported(alloc, definition)?;
+    all.push_str(reported.as_str())?;
     all.push_str("\n")?;
     match definition.kwargs_list(alloc) {
         Ok(names) => push_names(all, names.as_slice()),
@@ -42,17 +42,17 @@ fn push_names(all: &mut String, names: &[&str]) -> Result<(), AllocError> {
     Ok(())
 }
 
-fn told(alloc: Global, definition: &ComponentDefinition) -> Result<String, AllocError> {
+fn reported(alloc: Global, definition: &ComponentDefinition) -> Result<String, AllocError> {
     match ComponentInfo::from_definition(alloc, definition) {
-        Ok(info) => told_twice(alloc, &info),
+        Ok(info) => reported_twice(alloc, &info),
         Err(_) => Err(AllocError),
     }
 }
 
-// What the information tells, where a copy of it tells the same.
-fn told_twice(alloc: Global, info: &ComponentInfo) -> Result<String, AllocError> {
+// What the information says, where a copy of it says the same.
+fn reported_twice(alloc: Global, info: &ComponentInfo) -> Result<String, AllocError> {
     let first = info_text(alloc, info)?;
-    let second = told_by_copy(alloc, info)?;
+    let second = reported_by_copy(alloc, info)?;
     if first == second {
         Ok(first)
     } else {
@@ -60,7 +60,7 @@ fn told_twice(alloc: Global, info: &ComponentInfo) -> Result<String, AllocError>
     }
 }
 
-fn told_by_copy(alloc: Global, info: &ComponentInfo) -> Result<String, AllocError> {
+fn reported_by_copy(alloc: Global, info: &ComponentInfo) -> Result<String, AllocError> {
     match info.clone() {
         Ok(copy) => info_text(alloc, &copy),
         Err(error) => Err(error),

@@ -14,7 +14,7 @@ use tera_parser::ParserOutput;
 struct Asked<'a> {
     setting: &'a Setting<'a>,
     source: &'a str,
-    wanted: &'a str,
+    expected: &'a str,
 }
 
 /// What is wrong with the answers to the source where memory is refused, if anything is.
@@ -22,12 +22,12 @@ pub(crate) fn wrong_refusals<'x>(
     alloc: Global,
     setting: &'x Setting<'x>,
     source: &'x str,
-    wanted: &'x str,
+    expected: &'x str,
 ) -> Result<Option<&'static str>, AllocError> {
     let asked = Asked {
         setting,
         source,
-        wanted,
+        expected,
     };
     if let Some(what) = wrong(refuse(alloc, &asked)?) {
         return Ok(Some(what));
@@ -52,7 +52,7 @@ fn wrong(verdict: Verdict) -> Option<&'static str> {
 impl Attempt for Asked<'_> {
     fn attempt(&self, alloc: Global) -> Seen {
         match answer(alloc, self.setting, self.source) {
-            Ok(found) => Seen::answer(found.as_str() == self.wanted),
+            Ok(found) => Seen::answer(found.as_str() == self.expected),
             Err(_) => Seen::Memory,
         }
     }
@@ -109,7 +109,7 @@ impl Attempt for Kept<'_> {
         }
         match (is_copied, found) {
             (Ok(is_copied), Ok(found)) => {
-                Seen::answer(is_copied && found.as_str() == self.asked.wanted)
+                Seen::answer(is_copied && found.as_str() == self.asked.expected)
             }
             _ => Seen::Memory,
         }

@@ -3,8 +3,8 @@
 use case_files::{Numbers, Options};
 use std::alloc::{AllocError, Global};
 use std::borrow::CowStr;
-use tera_expr::Limits;
 use tera_lexer::Delimiters;
+use tera_parser::Limits;
 
 /// Options of a section with their markers and limits, and the file that faults are about.
 #[derive(Drop)]

@@ -30,7 +30,7 @@ pub(crate) fn is_shown(
     match show_with(alloc, &mut rest, &mut written, limits) {
         Ok(outcome) => match str::from_utf8(written.as_slice()) {
             Ok(text) => Ok(match outcome {
-                Outcome::Tree => told_lines(setting.options, text) == answer,
+                Outcome::Tree => expected_lines(setting.options, text) == answer,
                 Outcome::Syntax => is_fault(line.as_str(), text),
                 Outcome::NotUtf8 => false,
             }),
@@ -50,7 +50,7 @@ fn is_fault(line: &str, text: &str) -> bool {
 }
 
 /// The lines of a tree in an answer: of an expression that is all of it the text alone.
-pub(crate) fn told_lines<'a>(options: &Options, text: &'a str) -> &'a str {
+pub(crate) fn expected_lines<'a>(options: &Options, text: &'a str) -> &'a str {
     let lines = text.strip_suffix("\n").unwrap_or(text);
     if options.expressions {
         lines.strip_prefix("expr ").unwrap_or(lines)

@@ -21,7 +21,7 @@ pub(crate) fn spans(alloc: Global, output: &ParserOutput) -> Result<String, Allo
     Ok(text)
 }
 
-// Puts what stands in the part where it is taken next, from left to right.
+// Puts what is in the part where it is taken next, from left to right.
 fn push_first<'a>(alloc: Global, left: &mut Parts<'a>, part: Part<'a>) -> Result<(), AllocError> {
     let mut inside = Vec::new(alloc);
     part.push_inside(&mut inside)?;

@@ -91,13 +91,13 @@ fn compare(
     let source = source_of_case(alloc, setting, case.source.as_str())?;
     let source = source.as_str();
     let found = answer(alloc, setting, source)?;
-    let wanted = case.wanted.as_str();
-    if found.as_str() != wanted {
+    let expected = case.expected.as_str();
+    if found.as_str() != expected {
         return differs(rt, setting.file, case, source, found.as_str());
     }
     let options = setting.options;
     if options.refused {
-        return match wrong_refusals(alloc, &*setting, source, wanted)? {
+        return match wrong_refusals(alloc, &*setting, source, expected)? {
             Some(what) => fails(rt, setting.file, case, what),
             None => Ok(true),
         };
@@ -131,7 +131,7 @@ fn is_cut(shown: Shown) -> bool {
     )
 }
 
-// Whether each beginning of the source is a template, or has a fault that stands in it.
+// Whether each beginning of the source is a template, or has a fault that is in it.
 fn cut(
     rt: &HostRuntime,
     setting: &Setting<'_>,
@@ -159,8 +159,8 @@ fn differs(
     found: &str,
 ) -> Result<bool, Stop> {
     let line = case.line;
-    let wanted = case.wanted.as_str();
-    match println!(rt; "{file}:{line}: {source:?}\n  wanted {wanted:?}\n  found  {found:?}") {
+    let expected = case.expected.as_str();
+    match println!(rt; "{file}:{line}: {source:?}\n  wanted {expected:?}\n  found  {found:?}") {
         Ok(()) => Ok(false),
         Err(_) => Err(Stop::Write),
     }

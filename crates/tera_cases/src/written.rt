@@ -18,13 +18,13 @@ pub(crate) fn written_back(
 ) -> Result<String, AllocError> {
     let first = match written_alone(alloc, setting, output)? {
         Ok(written) => written,
-        Err(told) => return Ok(told),
+        Err(reported) => return Ok(reported),
     };
     let text = first.source.as_str();
     match written_again(alloc, setting, text)? {
         Ok(second) if second == first => String::from_str(alloc, text),
         Ok(second) => format!(in alloc; "{text}, and then {}", second.source),
-        Err(told) => format!(in alloc; "{text}, and then {told}"),
+        Err(reported) => format!(in alloc; "{text}, and then {reported}"),
     }
 }
 
@@ -50,7 +50,7 @@ struct Written {
     tree: String,
 }
 
-// What is written, or what a fault tells.
+// What is written, or what a fault says.
 type WrittenOr = Result<Written, String>;
 
 fn written_of(

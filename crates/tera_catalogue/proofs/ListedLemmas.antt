@@ -26,11 +26,11 @@ template_next ts i t before now all h is held step =
     let here : all ≡ before ++ defined_by i (t ∷ drop (suc i) ts) = held ∙ ap (λ us. before ++ defined_by i us) (drop_next ts i t h is) in
     rw next (joined all before now (defined_in i t) (defined_by (suc i) (drop (suc i) ts)) here step)
 
--- what is told of them
-pub told_next : {W X Y Z : Type 0} (h : X → Z) (f : W → X) (g : Y → Z) (xs : List W) (i : ℕ) (x : W) (before : List Y) (y : Y) (now : List Y) → i < length xs → x ≡ get_or xs i x
+-- what is reported for them
+pub reported_next : {W X Y Z : Type 0} (h : X → Z) (f : W → X) (g : Y → Z) (xs : List W) (i : ℕ) (x : W) (before : List Y) (y : Y) (now : List Y) → i < length xs → x ≡ get_or xs i x
     → map h (map f xs) ≡ map g before ++ map h (map f (drop i xs)) → g y ≡ h (f x) → now ≡ before ++ y ∷ []
     → map h (map f xs) ≡ map g now ++ map h (map f (drop (i + 1) xs))
-told_next h f g xs i x before y now within is held same step =
+reported_next h f g xs i x before y now within is held same step =
     let next : i + 1 ≡ suc i = omega arith in
     let rest = map h (map f (drop (suc i) xs)) in
     rw next (held

@@ -1,4 +1,4 @@
--- What is written one behind another.
+-- What is written one after another.
 use Rattle.std.proofs.Common.{◌≡◌, ◌∙◌, ◌<◌, ◌+◌, ℕ, suc, List, ◌∷◌, ◌++◌, length, map, drop, get_or, Result, Ok, Err, OnOk, sym, ap, arith, drop-cons, append_assoc}
 use Rattle.std.specs.List.{flat_map}
 
@@ -7,7 +7,7 @@ on_ok (Ok x) p f = f p
 on_ok (Err e) p f = p
 
 pub before : {A : Type 0} (start now last a rest : List A) → now ≡ start ++ a → last ≡ now ++ rest → last ≡ start ++ (a ++ rest)
-before start now last a rest first behind = behind ∙ ap (λ ts. ts ++ rest) first ∙ append_assoc start a rest
+before start now last a rest first following = following ∙ ap (λ ts. ts ++ rest) first ∙ append_assoc start a rest
 
 pub three : {A : Type 0} (start t u v a b c : List A) → t ≡ start ++ a → u ≡ t ++ b → v ≡ u ++ c → v ≡ start ++ (a ++ (b ++ c))
 three start t u v a b c one two last = before start t v a (b ++ c) one (before t u v b c two last)

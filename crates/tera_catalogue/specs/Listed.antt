@@ -14,7 +14,8 @@ use Rattle.tera_grammar.specs.statements.Reading.Meeting.{Located}
 use Rattle.tera_tree.specs.Infos.{Info, info_of, info_view}
 use Rattle.tera_catalogue.specs.declared.components.Component.{Component}
 
--- a component: what is told of it, whether its body holds something, where it is defined, and where its parameters stand
+-- a component: what is reported for it, whether its body holds something, where it is defined, and where its parameters
+-- are
 pub record ListedVal : Type 0 where
   pub info : Info
   pub has_body : Bool

@@ -31,7 +31,7 @@ truth_member name truth = member name (boolean truth ∷ [])
 abbrev pub place_members : List ℕ → List ℕ → Place → List Token
 place_members line column place = number_member line place.line ++ number_member column place.column
 
--- where a parameter stands; the beginning of the file where that is not known
+-- where a parameter is; the beginning of the file where that is not known
 abbrev pub parameter_place : ListedVal → List ℕ → Place
 parameter_place l name = place_of (span_if_any (l.parameters name))
 
@@ -51,7 +51,7 @@ parameter l a =
 abbrev pub parameters_member : ListedVal → List Token
 parameters_member l = key (codes "parameters") ∷ begin_array ∷ (flat_map (parameter l) l.info.arguments ++ end_array ∷ [])
 
--- the parameter that takes what is no argument
+-- the parameter that takes what is not an argument
 abbrev pub rest_members : ListedVal → Option (List ℕ) → List Token
 rest_members l None = maybe_member (codes "rest") None
 rest_members l (Some name) =

@@ -10,8 +10,8 @@ use Rattle.tera_tree.specs.declared.argument_infos.ComponentArgType.{ComponentAr
 use Rattle.tera_tree.specs.declared.argument_infos.ComponentArgType.TheVariants as types
 use Rattle.tera_catalogue.specs.declared.components.Component.{Component}
 
--- what stands behind the name of an attribute: a constant of the type, and nothing where the type has none, so that
--- the variable of that name is passed
+-- what comes after the name of an attribute: a constant of the type, and nothing where the type has none, so that the
+-- variable of that name is passed
 abbrev pub constant_of : Option ComponentArgType → List ℕ
 constant_of None = codes "=\"\""
 constant_of (Some types.String) = codes "=\"\""

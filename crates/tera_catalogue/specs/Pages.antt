@@ -34,7 +34,7 @@ default_cell implicit (Some v) = within (codes "<td><code>") (inner_text v) (cod
 abbrev pub row : ArgumentInfo → List ℕ
 row a = name_cell a.implicit a.name ++ (type_cell (option_map shown_type_name a.typ) ++ default_cell a.implicit a.default)
 
--- the row of the parameter that takes what is no argument
+-- the row of the parameter that takes what is not an argument
 abbrev pub rest_row : Option (List ℕ) → List ℕ
 rest_row None = []
 rest_row (Some name) = within (codes "<tr><td><code>...") name (codes "</code></td><td></td><td>all else that is passed</td></tr>\n")
@@ -51,7 +51,7 @@ entry m = within (codes "<dt>") m.0 (codes "</dt>") ++ within (codes "<dd>") (va
 abbrev pub entries : List (List ℕ × Val) → List ℕ
 entries ms = codes "<dl>\n" ++ (flat_map entry ms ++ codes "</dl>\n")
 
--- what stands above the table: the name, the place and the call to copy
+-- what is above the table: the name, the place and the call to copy
 abbrev pub place_text : List ℕ → Place → Bool → List ℕ
 place_text file place has_body =
     within (codes "<p class=\"place\">") file (codes ":")
@@ -69,7 +69,7 @@ section l call =
 abbrev pub section_of : Component → List ℕ
 section_of c = section (listed_view c) (option_map string_bytes c.call)
 
--- what stands before and behind the sections, as the code has it
+-- what is before and after the sections, as the code has it
 unfoldable pub head : List ℕ
 head = HEAD.now
 

@@ -48,10 +48,10 @@ pub(crate) fn push_place(
     push(page, line.as_str())?;
     push(page, ":")?;
     push(page, column.as_str())?;
-    push(page, behind_place(has_body))
+    push(page, after_place(has_body))
 }
 
-fn behind_place(has_body: bool) -> &'static str
+fn after_place(has_body: bool) -> &'static str
     ensures { result.now ≡ (if has_body then codes "</p>\n" else codes ", with an empty body</p>\n") }
 {
     if has_body {
@@ -126,7 +126,7 @@ fn push_name(page: &mut Vec<u8>, implicit: bool, name: &str) -> Result<(), Alloc
     push_within(page, "", name, "</code></td>")
 }
 
-// What stands before the name.
+// What is before the name.
 fn sign(implicit: bool) -> &'static str
     ensures { result.now ≡ (if implicit then codes "@" else []) }
 {

@@ -22,15 +22,15 @@ use tera_parser::value::Span;
 /// A component that is listed.
 #[derive(Drop)]
 pub struct Component<'a> {
-    /// What is told of it.
+    /// What is reported for it.
     pub info: ComponentInfo,
-    /// Whether something stands in its body.
+    /// Whether something is in its body.
     pub has_body: bool,
     /// The file that defines it.
     pub file: &'a str,
     /// Where it is defined there.
     pub place: Place,
-    /// Where its parameters stand there, by their names.
+    /// Where its parameters are there, by their names.
     pub parameters: Option<&'a BTreeMap<String, Span>>,
     /// A call of it to copy, unless the parser refuses it.
     pub call: Option<String>,
@@ -49,13 +49,16 @@ pub fn components_of<'a>(
 {
     let mut known = all_known(alloc, templates)?;
     put_in_order(&mut known)?;
-    let components = told(alloc, &known)?;
+    let components = components_in(alloc, &known)?;
     Ok(components)
 }
 
-// What is told of the components.
-fn told<'a>(alloc: Global, known: &Vec<Known<'a>>) -> Result<Vec<Component<'a>>, AllocError>
-    ensures told { IfOk result (λ v. map listed_view v.items
+// What is reported for the components.
+fn components_in<'a>(
+    alloc: Global,
+    known: &Vec<Known<'a>>,
+) -> Result<Vec<Component<'a>>, AllocError>
+    ensures components_in { IfOk result (λ v. map listed_view v.items
         ≡ map listed (map known_view known.now.items)) }
     ensures offered { IfOk result (λ v. All IsOffered v.items) }
 {
@@ -67,7 +70,7 @@ fn told<'a>(alloc: Global, known: &Vec<Known<'a>>) -> Result<Vec<Component<'a>>,
 }
 
 fn component_of<'a>(alloc: Global, known: &Known<'a>) -> Result<Component<'a>, AllocError>
-    ensures told { IfOk result (λ c. listed_view c ≡ listed (known_view known.now)) }
+    ensures components_in { IfOk result (λ c. listed_view c ≡ listed (known_view known.now)) }
     ensures offered { IfOk result IsOffered }
 {
     let info = info_of(alloc, known.definition)?;
@@ -87,7 +90,7 @@ fn info_of(alloc: Global, definition: &ComponentDefinition) -> Result<ComponentI
 {
     match ComponentInfo::from_definition(alloc, definition) {
         Ok(info) => Ok(info),
-        // The only refusal is want of memory.
+        // The only refusal is an allocation failure.
         Err(_) => Err(AllocError),
     }
 }

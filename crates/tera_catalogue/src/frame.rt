@@ -1,4 +1,4 @@
-//! What stands before and behind the sections of a page.
+//! What is before and after the sections of a page.
 
 ghost use Rattle.std.specs.Prelude.{◌≡◌, ◌++◌, OnOk};
 ghost use Rattle.tera_catalogue.specs.Pages.{head, tail};
@@ -51,7 +51,7 @@ dd { white-space: pre-wrap; }
 <p><input type="search" id="search" placeholder="Search" aria-label="Search" autofocus></p>
 "#;
 
-// The end of a page, behind its last section.
+// The end of a page, after its last section.
 const TAIL: &str = r#"<p id="none" hidden>No component has these words.</p>
 <script>
 const search = document.getElementById("search");

@@ -1,12 +1,13 @@
-//! Lists the components that templates define, for people who call them: as JSON, and as a page of HTML.
+//! The components that templates define, for people who call them: as JSON, and as a page of HTML.
 //!
-//! It takes templates that were read by `tera_check`, and gives their components in a stable order (`listed`), each
-//! with a call to copy that the parser accepts (`IsOffered`); and it writes them as JSON (`catalogue_tokens`) or as a
-//! page (`page_of`). It stands on `tera_check` and `tera_parser`, and names nothing below that in its code; of the kit
-//! on `json`.
+//! It takes templates that `tera_check` has read. It returns their components in a stable order (`listed`), each with a
+//! call to copy that the parser accepts (`IsOffered`), and writes them as JSON (`catalogue_tokens`) or as a page
+//! (`page_of`). It depends on `tera_check` and `tera_parser`, and its code names nothing below them; of the kit it uses
+//! `json`.
 //!
 //! In the order of reading: specs `Listed`, `Offered`; `components`, over `offers`; then `values` and `objects`, the
-//! JSON (specs `Constants`, `Objects`), and `escapes`, `cells`, `frame` and `pages`, the HTML (specs `Escapes`, `Pages`).
+//! JSON (specs `Constants`, `Objects`), and `escapes`, `cells`, `frame` and `pages`, the HTML (specs `Escapes`,
+//! `Pages`).
 #![tactic(auto)]
 
 mod cells;

@@ -57,7 +57,7 @@ fn push_attribute(call: &mut String, argument: &ComponentArg) -> Result<(), Allo
     call.push_str(constant_of(argument.arg_type()))
 }
 
-// What stands behind the name of an attribute.
+// What comes after the name of an attribute.
 fn constant_of(typ: Option<ComponentArgType>) -> &'static str
     ensures { result.now ≡ constant_of typ }
 {

@@ -105,7 +105,8 @@ fn write_members(
     Ok(())
 }
 
-// The room one level deeper. That there is none, after more levels than a memory holds, is told as want of memory.
+// The room one level deeper. That there is none, after more levels than a memory holds, is reported as an allocation
+// failure.
 fn deeper(room: usize) -> Result<usize, AllocError>
     ensures { IfOk result (λ left. left + 1 ≡ room) }
 {

@@ -62,7 +62,7 @@ fn a_component_has_a_section(rt: HostRuntime) -> Result<(), Fail> {
 #[test]
 fn a_text_is_escaped(rt: HostRuntime) -> Result<(), Fail> {
     let text = escaped(rt.alloc(), "<a b=\"c\" d='e'>&amp;é")?;
-    let wanted = "&lt;a b=&quot;c&quot; d=&#39;e&#39;&gt;&amp;amp;é";
-    assert_eq!(rt; text.as_slice(), wanted.as_bytes());
+    let expected = "&lt;a b=&quot;c&quot; d=&#39;e&#39;&gt;&amp;amp;é";
+    assert_eq!(rt; text.as_slice(), expected.as_bytes());
     Ok(())
 }

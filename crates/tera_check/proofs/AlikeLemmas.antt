@@ -11,22 +11,22 @@ use Rattle.tera_tree.specs.Tree.{Argument, Definition, Output}
 use Rattle.tera_check.specs.Alike.{name_called, names_in, AreAlike, AreAlikeIfAny, AgreeOn}
 use Rattle.tera_check.specs.Calls.{calls_in_definition, calls_in_nodes, calls_of}
 use Rattle.tera_check.specs.Findings.{FindingVal}
-use Rattle.tera_check.specs.Judged.{KnownVal, RemarkVal, taken_by, about, told, refused_for, unless_rest, unknown, refusal, counted, refused, refused_one, is_again, refused_findings, missed, missing_findings, missing_in, judged, repeated_findings, call_findings, again, defined_again, again_findings}
+use Rattle.tera_check.specs.Judged.{KnownVal, RemarkVal, taken_by, about, remarked, refused_for, unless_rest, unknown, refusal, counted, refused, refused_one, is_again, refused_findings, missed, missing_findings, missing_in, judged, repeated_findings, call_findings, again, defined_again, again_findings}
 use Rattle.tera_check.specs.Named.{span_at, taken_in, tree_findings}
 use Rattle.tera_check.specs.Parameters.{parameter_at}
 use Rattle.tera_check.specs.Passed.{NamedVal, PassedVal, OneNamed, Whatever, has_whatever, is_passed, passed_by}
 use Rattle.tera_check.specs.declared.templates.Template.{Template}
 use Rattle.tera_check.proofs.TakenLemmas.{all_append, agree_both, unused_alike, taken_by_arguments}
 
--- ---- one component, and one that is told alike
+-- ---- one component, and one that is reported alike
 
 module _ (number other : ℕ) (k j : KnownVal) (h : AreAlike number other k j) where
   about_alike : (span : Span) (r : RemarkVal) → about k span r ≡ about j span r
   about_alike span r = λ i. about (record k { definition = record k.definition { name = h.name i }; file = h.file i; span = h.span i }) span r
 
-  told_alike : (span : Span) (r : Option RemarkVal) → told k span r ≡ told j span r
-  told_alike span None = refl
-  told_alike span (Some r) = ap (λ f. f ∷ []) (about_alike span r)
+  remarked_alike : (span : Span) (r : Option RemarkVal) → remarked k span r ≡ remarked j span r
+  remarked_alike span None = refl
+  remarked_alike span (Some r) = ap (λ f. f ∷ []) (about_alike span r)
 
   refused_for_alike : (a : Option Argument) (n : List ℕ) (v : Option Val) → refused_for a k.definition n v ≡ refused_for a j.definition n v
   refused_for_alike (Some a) n v = refl
@@ -36,7 +36,7 @@ module _ (number other : ℕ) (k j : KnownVal) (h : AreAlike number other k j) w
   refusal_alike n v = ap (λ as_given. refused_for (found n as_given) k.definition n v) h.arguments ∙ refused_for_alike (found n j.definition.arguments) n v
 
   refused_alike : (more : Bool) (p : NamedVal) → refused k more p ≡ refused j more p
-  refused_alike more p = ap (told k p.span) (refusal_alike p.name (counted more p.constant)) ∙ told_alike p.span (refusal j.definition p.name (counted more p.constant))
+  refused_alike more p = ap (remarked k p.span) (refusal_alike p.name (counted more p.constant)) ∙ remarked_alike p.span (refusal j.definition p.name (counted more p.constant))
 
   one_alike : (later more : Bool) (p : PassedVal) → refused_one k later more p ≡ refused_one j later more p
   one_alike later more (OneNamed p) = ap (λ (fs : List FindingVal). if later then [] else fs) (refused_alike more p)
@@ -47,7 +47,7 @@ module _ (number other : ℕ) (k j : KnownVal) (h : AreAlike number other k j) w
   all_refused_alike (p ∷ ps) = λ i. all_refused_alike ps i ++ one_alike (is_again p ps) (has_whatever ps) p i
 
   missing_alike : (passed : List ℕ → Bool) (span : Span) → missing_findings k passed span ≡ missing_findings j passed span
-  missing_alike passed span = λ i. flat_map (λ a. told_alike span (missed passed a) i) (h.arguments i)
+  missing_alike passed span = λ i. flat_map (λ a. remarked_alike span (missed passed a) i) (h.arguments i)
 
   missing_in_alike : (span : Span) (ps : List PassedVal) → missing_in k span ps ≡ missing_in j span ps
   missing_in_alike span ps = ap (λ (fs : List FindingVal). if has_whatever ps then [] else fs) (missing_alike (λ n. is_passed n ps) span)

@@ -14,9 +14,9 @@ use Rattle.tera_check.specs.Judged.{KnownVal, known_view}
 use Rattle.tera_check.specs.Named.{defined_from, defined_in, defined_by, definitions_in, first_named, or_else, tree_of}
 use Rattle.tera_check.specs.declared.templates.Template.{Template}
 
-pub parameters_behind : (o : Option (Bor (BTreeMap (String Global) Span))) → option_map (λ names. located_of names.now) o ≡ option_map located_of (option_copied o)
-parameters_behind None = refl
-parameters_behind (Some names) = refl
+pub parameters_after : (o : Option (Bor (BTreeMap (String Global) Span))) → option_map (λ names. located_of names.now) o ≡ option_map located_of (option_copied o)
+parameters_after None = refl
+parameters_after (Some names) = refl
 
 pub or_none : (o : Option KnownVal) → or_else o None ≡ o
 or_none None = refl
@@ -35,7 +35,7 @@ named_append n [] js = refl
 named_append n (k ∷ ks) js =
     ap (cond (bytes_eq k.definition.name n) (Some k)) (named_append n ks js) ∙ sym (or_cond (bytes_eq k.definition.name n) k (first_named n ks) (first_named n js))
 
--- some more components, behind those that are known
+-- some more components, after those that are known
 pub more_known : (n : List ℕ) (before now all : Option KnownVal) (ks js : List KnownVal)
     → all ≡ or_else before (first_named n (ks ++ js)) → now ≡ or_else before (first_named n ks) → all ≡ or_else now (first_named n js)
 more_known n before now all ks js held step =

@@ -19,7 +19,7 @@ use Rattle.tera_mend.specs.Spans.{HasPart}
 use Rattle.tera_mend.specs.Views.{edit_view, step_of}
 use Rattle.tera_mend.proofs.InPlace.{itself, joined as in_place_joined, same_length}
 use Rattle.tera_mend.proofs.Kept.{edits_keep, mends_keep, then}
-use Rattle.tera_mend.proofs.Standing.{place_stands}
+use Rattle.tera_mend.proofs.PlacesLemmas.{place_sound}
 use Rattle.tera_tree.specs.Outputs.{output_view}
 use Rattle.tera_tree.specs.declared.outputs.ParserOutput.{ParserOutput}
 use Rattle.tera_check.specs.Due.{bytes_between, due_findings, is_due, is_due_in, is_lost_in, is_same_part, is_undefined, is_written, mark_of, may_name, may_name_by, name_at}
@@ -121,9 +121,9 @@ ends_keep true rest source reached text n ends keeps within there =
     subst (λ k. AreInPlace (take k source) (take k text)) (sym zero_long) tt)
     ends.1
 
-before_stands : (file source : List ℕ) (most : ℕ) (m : Mended) (n : ℕ) → IsMended file source most m → n ≤ length source → n ≤ length (string_bytes m.text)
+before_sound : (file source : List ℕ) (most : ℕ) (m : Mended) (n : ℕ) → IsMended file source most m → n ≤ length source → n ≤ length (string_bytes m.text)
     → AreInPlace (take n source) (take n (string_bytes m.text))
-before_stands file source most m n is within there =
+before_sound file source most m n is within there =
     ends_keep m.cut (map edit_view m.rest.items) source is.reached (string_bytes m.text) n is.ends (mends_keep usual default_marks (map step_of m.faults.items) source is.reached is.mends) within there
 
 -- ---- what a finding is about
@@ -164,10 +164,10 @@ cut_at text start len = sym (take-append-drop start text) ∙ ap (λ t. take sta
 
 part_there : (source text : List ℕ) (mark : ℕ × ℕ) → is_same_part source text mark ≡ true
     → ((n : ℕ) → n ≤ length source → n ≤ length text → AreInPlace (take n source) (take n text)) → IsThere source text mark
-part_there source text (start, end) is stands =
+part_there source text (start, end) is sound =
     let both : IsSame source text start end = same_part source text start end is in
     let part = take (end - start) (drop start text) in
-    let are : AreInPlace (take start source) (take start text) = stands start (omega (arith, both.forward, both.within)) (omega (arith, both.forward, both.there)) in
+    let are : AreInPlace (take start source) (take start text) = sound start (omega (arith, both.forward, both.within)) (omega (arith, both.forward, both.there)) in
     let long : length (take start text) ≡ start = length-take-le start text (omega (arith, both.forward, both.there)) in
     let left_over : end - start ≤ length (drop start text) = omega (arith, length-drop start text, both.there) in
     let wide : length part ≡ end - start = length-take-le (end - start) (drop start text) left_over in
@@ -181,7 +181,7 @@ part_there source text (start, end) is stands =
         take start source,
         drop (end - start) (drop start source),
         cut_at source start (end - start) ∙ ap (λ t. take start source ++ (t ++ drop (end - start) (drop start source))) both.same,
-        spans _ _ _ _ (place_stands (take start source) (take start text) are) (place_stands (take start source ++ part) (take start text ++ part) with_part),
+        spans _ _ _ _ (place_sound (take start source) (take start text) are) (place_sound (take start source ++ part) (take start text ++ part) with_part),
       ),
     )
 
@@ -190,4 +190,4 @@ pub written : (known : List ℕ → Option KnownVal) (open_text : Bool) (number 
 written known open_text number t file source most m f mended is found =
     let same : is_same_part (string_bytes m.source) (string_bytes m.text) (mark_of f) ≡ true = and_left (is_written m f) _ (due_in known open_text number t m f mended found) in
     part_there source (string_bytes m.text) (mark_of f) (subst (λ s. is_same_part s (string_bytes m.text) (mark_of f) ≡ true) is.is_source same)
-    (λ n within there. before_stands file source most m n is within there)
+    (λ n within there. before_sound file source most m n is within there)

@@ -1,4 +1,4 @@
--- Faults that are not want of memory.
+-- Faults that are not an allocation failure.
 use Rattle.std.proofs.Common.{◌≡◌, false}
 use Rattle.tera_base.specs.Errors.{IsMemoryKind, IsMemory}
 use Rattle.tera_base.specs.declared.errors.Error.{Error}

@@ -33,7 +33,7 @@ use Rattle.tera_check.proofs.PassedLemmas.{passed_more}
 pub finding_more : (fs : List Finding) (f : Finding) → map finding_view (fs ++ f ∷ []) ≡ map finding_view fs ++ (finding_view f ∷ [])
 finding_more fs f = map-append finding_view fs (f ∷ [])
 
--- ---- what stands under a name
+-- ---- what is under a name
 
 abbrev pub Entry : Type 0
 Entry = String Global × ComponentArgument
@@ -46,13 +46,13 @@ pub found_argument : (n : List ℕ) (es : List Entry) → option_map argument_vi
 found_argument n [] = refl
 found_argument n (e ∷ es) = found_by (is_eq (slice_cmp nat_cmp n (string_bytes e.0))) e _ ∙ rw (is_eq-slice_cmp n (string_bytes e.0), found_argument n es)
 
-pub argument_behind : (o : Option (Bor ComponentArgument)) → option_map (λ a. argument_view a.now) o ≡ option_map argument_view (option_copied o)
-argument_behind None = refl
-argument_behind (Some a) = refl
+pub argument_after : (o : Option (Bor ComponentArgument)) → option_map (λ a. argument_view a.now) o ≡ option_map argument_view (option_copied o)
+argument_after None = refl
+argument_after (Some a) = refl
 
-pub known_behind : (o : Option (Bor Known)) → option_map (λ k. known_view k.now) o ≡ option_map known_view (option_copied o)
-known_behind None = refl
-known_behind (Some k) = refl
+pub known_after : (o : Option (Bor Known)) → option_map (λ k. known_view k.now) o ≡ option_map known_view (option_copied o)
+known_after None = refl
+known_after (Some k) = refl
 
 -- ---- what is passed and refused, from the last to the first
 
@@ -108,13 +108,13 @@ pub repeated_next : (file : List ℕ) (left rest done all : List (MapEntryOf Exp
     → old ≡ start ++ repeated_findings file (entries_of done) → ((n : List ℕ) → before n ≡ next_in n (entries_of done))
     → now ≡ old ++ repeated_by_one file a before → ((n : List ℕ) → after n ≡ next_by_one n a (before n))
     → (rest ++ (a ∷ done) ≡ all) × (now ≡ start ++ repeated_findings file (entries_of (a ∷ done))) × ((n : List ℕ) → after n ≡ next_in n (entries_of (a ∷ done)))
-repeated_next file left rest done all a before after start old now held split is behind step more = (
+repeated_next file left rest done all a before after start old now held split is following step more = (
   sym (append_assoc rest (a ∷ []) done) ∙ ap (λ es. es ++ done) (sym split) ∙ held,
   step
-      ∙ (λ i. is i ++ repeated_by_one file a (λ n. behind n i))
+      ∙ (λ i. is i ++ repeated_by_one file a (λ n. following n i))
       ∙ append_assoc start (repeated_findings file (entries_of done)) (repeated_by_one file a (λ n. next_in n (entries_of done)))
       ∙ ap (λ fs. start ++ fs) (sym (repeated_more file a done)),
-  λ n. more n ∙ ap (next_by_one n a) (behind n) ∙ sym (next_more n a done),
+  λ n. more n ∙ ap (next_by_one n a) (following n) ∙ sym (next_more n a done),
 )
 
 -- ---- a call

@@ -1,4 +1,4 @@
--- What names a parameter in a part of a body, by the parts that stand in it; and parts that are to come, in their scopes.
+-- What names a parameter in a part of a body, by the parts that are in it; and parts that are to come, in their scopes.
 use Rattle.std.proofs.Common.{◌≡◌, ◌∙◌, ℕ, List, [], ◌∷◌, ◌++◌, Bool, true, false, map, refl, sym, ap, subst}
 use Rattle.std.specs.Prelude.{◌||◌, Result, Ok, Err, OnOk}
 use Rattle.std.proofs.lemmas.List.Folds.{list_any-append}
@@ -55,7 +55,7 @@ pub or_false : (a : Bool) → (a || false) ≡ a
 or_false true = refl
 or_false false = refl
 
--- what a loop adds behind others
+-- what a loop adds after others
 pub loop_sum : (s p t b o : Bool) → ((s || b) || ((p || t) || o)) ≡ (s || (p || (t || (b || o))))
 loop_sum true p t b o = refl
 loop_sum false true t true o = refl
@@ -87,7 +87,7 @@ view_break = search (rules, the_lemmas)
 view_continue : node_view nodes.Continue ≡ Continue
 view_continue = search (rules, the_lemmas)
 
--- what the arms of a match tell
+-- what the arms of a match say
 abbrev pub PlainArm : Expression → Type 0
 PlainArm x =
     (((s : Spanned Value) × (x ≡ expressions.Const s))
@@ -140,7 +140,7 @@ is_plain_node x (inr (inr (inr (inr (inr (inr (inl is))))))) = rw (is, view_cont
 is_plain_node x (inr (inr (inr (inr (inr (inr (inr (inl (s, is))))))))) = rw (is, view_if s, if_out s) tt
 is_plain_node x (inr (inr (inr (inr (inr (inr (inr (inr (s, is))))))))) = rw (is, view_section s, section_out s) tt
 
--- ---- the parts that stand in a part
+-- ---- the parts that are in a part
 
 module _ (takes : Taking) (hidden : Bool) (n : List ℕ) where
   abbrev any : List PartVal → Bool
@@ -202,7 +202,7 @@ module _ (takes : Taking) (hidden : Bool) (n : List ℕ) where
   in_plain (UnaryOperation op e span) is = or_false (named_in takes hidden n e)
   in_plain (BinaryOperation op l r span) is = ap (λ c. named_in takes hidden n l || c) (or_false (named_in takes hidden n r))
 
-  -- what stands in a call, beside what its component takes
+  -- what is in a call, beside what its component takes
   pub in_call : (name : List ℕ) (es : Entries) (body : Nodes) (closed : Bool) (span : Span)
       → (takes name hidden n || any (parts_in_expression (ComponentCall name es body closed span))) ≡ named_in takes hidden n (ComponentCall name es body closed span)
   in_call name es body closed span = ap (λ c. takes name hidden n || c) (both (parts_of_entries es) (parts_of_nodes body) _ _ (in_entries es) (in_nodes body))
@@ -232,10 +232,10 @@ module _ (takes : Taking) (hidden : Bool) (n : List ℕ) where
   pub plain_node : (x : Node) → PlainNodeArm x → any (parts_in_node (node_view x)) ≡ named_in_node takes hidden n (node_view x)
   plain_node x arm = in_plain_node (node_view x) (is_plain_node x arm)
 
-  -- what stands in a part is put behind others
-  pub put_behind : (old new : List Part) (more : List PartVal) (b : Bool) → parts_view new ≡ parts_view old ++ more → any more ≡ b
+  -- what is in a part is put after others
+  pub put_after : (old new : List Part) (more : List PartVal) (b : Bool) → parts_view new ≡ parts_view old ++ more → any more ≡ b
       → any (parts_view new) ≡ (any (parts_view old) || b)
-  put_behind old new more b is h = ap any is ∙ both (parts_view old) more _ _ refl h
+  put_after old new more b is h = ap any is ∙ both (parts_view old) more _ _ refl h
 
   pub pushed : (old new : List Part) (p : Part) (b : Bool) → new ≡ old ++ p ∷ [] → any (parts_view (p ∷ [])) ≡ b → any (parts_view new) ≡ (any (parts_view old) || b)
   pushed old new p b is h = ap (λ ps. any (parts_view ps)) is ∙ ap any (map-append part_view old (p ∷ [])) ∙ both (parts_view old) (parts_view (p ∷ [])) _ _ refl h
@@ -245,12 +245,12 @@ pub scope_more : (takes : Taking) (n : List ℕ) (ss new : List Scope) (s : Scop
     → new ≡ ss ++ s ∷ [] → named_in_scope takes n s ≡ b → is_to_come takes n new ≡ (is_to_come takes n ss || b)
 scope_more takes n ss new s b is h = ap (is_to_come takes n) is ∙ list_any-append (named_in_scope takes n) ss (s ∷ []) ∙ ap (λ c. is_to_come takes n ss || c) (or_false _ ∙ h)
 
--- where memory was found, what stands in a part is to come in place of it
+-- where memory was found, what is in a part is to come in place of it
 pub put_ok : {E : Type 0} (takes : Taking) (named to_come hidden : List ℕ → Bool) (old new : List Part) (more : List PartVal) (b : List ℕ → Bool) (r : Result (Unit {0}) E)
     → OnOk r (parts_view new ≡ parts_view old ++ more) → ((n : List ℕ) → named_in_parts takes (hidden n) n more ≡ b n)
     → OnOk r ((n : List ℕ) → (named n || (to_come n || named_in_parts takes (hidden n) n (parts_view new)))
     ≡ (named n || (to_come n || (named_in_parts takes (hidden n) n (parts_view old) || b n))))
-put_ok takes named to_come hidden old new more b (Ok u) is h = λ n. ap (λ c. named n || (to_come n || c)) (put_behind takes (hidden n) n old new more (b n) is (h n))
+put_ok takes named to_come hidden old new more b (Ok u) is h = λ n. ap (λ c. named n || (to_come n || c)) (put_after takes (hidden n) n old new more (b n) is (h n))
 put_ok takes named to_come hidden old new more b (Err e) is h = is
 
 -- the same for a call, of whose variables some are named before
@@ -264,17 +264,17 @@ or_between false b p t a true h = rw h (between p t)
     between false false = refl
 or_between false b p t a false h = rw h refl
 
-pub call_ok : {E : Type 0} (takes : Taking) (to_come hidden : List ℕ → Bool) (before behind : Naming) (old new : List Part) (x : Expression) (call : Spanned Call) (r : Result (Unit {0}) E)
+pub call_ok : {E : Type 0} (takes : Taking) (to_come hidden : List ℕ → Bool) (before following : Naming) (old new : List Part) (x : Expression) (call : Spanned Call) (r : Result (Unit {0}) E)
     → x ≡ expressions.ComponentCall call → OnOk r (parts_view new ≡ parts_view old ++ parts_in_expression (expression_view x))
-    → ((n : List ℕ) → is_named behind n ≡ (is_named before n || takes (string_bytes (out-ComponentCall (node_of call)).name) (hidden n) n))
-    → OnOk r ((n : List ℕ) → (is_named behind n || (to_come n || named_in_parts takes (hidden n) n (parts_view new)))
+    → ((n : List ℕ) → is_named following n ≡ (is_named before n || takes (string_bytes (out-ComponentCall (node_of call)).name) (hidden n) n))
+    → OnOk r ((n : List ℕ) → (is_named following n || (to_come n || named_in_parts takes (hidden n) n (parts_view new)))
     ≡ (is_named before n || (to_come n || (named_in_parts takes (hidden n) n (parts_view old) || named_in takes (hidden n) n (expression_view x)))))
-call_ok takes to_come hidden before behind old new x call (Err e) code is h = is
-call_ok takes to_come hidden before behind old new x call (Ok u) code is h = λ n.
+call_ok takes to_come hidden before following old new x call (Err e) code is h = is
+call_ok takes to_come hidden before following old new x call (Ok u) code is h = λ n.
     let inside = named_in_parts takes (hidden n) n (parts_in_expression (expression_view x)) in
     let p = named_in_parts takes (hidden n) n (parts_view old) in
-    ap (λ b. is_named behind n || (to_come n || b)) (put_behind takes (hidden n) n old new _ inside is refl)
-    ∙ or_between (is_named before n) inside p (to_come n) (is_named behind n) _ (h n)
+    ap (λ b. is_named following n || (to_come n || b)) (put_after takes (hidden n) n old new _ inside is refl)
+    ∙ or_between (is_named before n) inside p (to_come n) (is_named following n) _ (h n)
     ∙ ap (λ b. is_named before n || (to_come n || (p || b))) (subst (λ y. (takes (string_bytes (out-ComponentCall (node_of call)).name) (hidden n) n || named_in_parts takes (hidden n) n (parts_in_expression (expression_view y))) ≡ named_in takes (hidden n) n (expression_view y)) (sym code) (in_code_call takes (hidden n) n call))
 
 -- ---- what is found of definitions, one by one

@@ -1,4 +1,4 @@
--- The calls in a part of a tree by those in the parts that stand in it, and the parts of a tree that are to come.
+-- The calls in a part of a tree by those in the parts that are in it, and the parts of a tree that are to come.
 use Rattle.std.proofs.Common.{◌≡◌, ◌∙◌, List, [], ◌∷◌, ◌++◌, map, reverse, refl, sym, ap, append_assoc, append-nil, ℕ, ◌-◌, take, Bor}
 use Rattle.std.specs.List.{flat_map}
 use Rattle.std.proofs.lemmas.List.{reverse-append, map-append}

@@ -1,7 +1,7 @@
 -- Templates with a fault.
 use Rattle.std.proofs.Common.{◌≡◌, ◌<◌, ◌==◌, inl, inr, arith, length, vec_len, Global, Vec, ℕ, List, [], Bool, true, false, map, Option, None, Some, Result, Ok, Err, IfOk, IfErr, IfSome, MatchOption, MatchResult, refl, sym, ap, subst, ◌∙◌, string_bytes}
 use Rattle.std.proofs.lemmas.Bool.Decides.{eqb_tells}
-use Rattle.tera_base.specs.Errors.{KindTells, TellsBy}
+use Rattle.tera_base.specs.Errors.{KindReports, ReportsBy}
 use Rattle.tera_base.specs.declared.errors.Error.{Error}
 use Rattle.tera_base.specs.declared.errors.ErrorKind.{ErrorKind}
 use Rattle.tera_base.specs.declared.errors.ErrorKind.TheVariants.{Memory, Message, SyntaxError}
@@ -32,10 +32,10 @@ pub both_ok : {X E : Type 0} (P Q R : X → Type 0) (r : Result X E) → ((x : X
 both_ok P Q R (Ok x) f p q = f x p q
 both_ok P Q R (Err e) f p q = tt
 
-syntax_by : (P : List ℕ → Span → Type 0) (e : Error) (k : ErrorKind) → e.kind ≡ k → TellsBy P e → false ≡ is_memory e → IsSyntaxErrorKind k
-syntax_by P e Memory is tells other = let no : false ≡ true = other ∙ ap is_memory_kind is in absurd (let never : false ≡ true = no in cc)
-syntax_by P e (Message s) is tells other = subst (λ k. KindTells P k) is tells
-syntax_by P e (SyntaxError b) is tells other = tt
+syntax_by : (P : List ℕ → Span → Type 0) (e : Error) (k : ErrorKind) → e.kind ≡ k → ReportsBy P e → false ≡ is_memory e → IsSyntaxErrorKind k
+syntax_by P e Memory is reports other = let no : false ≡ true = other ∙ ap is_memory_kind is in absurd (let never : false ≡ true = no in cc)
+syntax_by P e (Message s) is reports other = subst (λ k. KindReports P k) is reports
+syntax_by P e (SyntaxError b) is reports other = tt
 
 -- a refusal for which memory was found is a syntax error
 pub refused : (source : List ℕ) (e : Error) → Refuses default_marks source e → false ≡ is_memory e → IsSyntaxError e

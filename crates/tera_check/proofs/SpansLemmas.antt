@@ -7,7 +7,7 @@ use Rattle.tera_base.specs.declared.utils.Span.{Span}
 use Rattle.tera_lexer.specs.grammar.Marks.{Marks}
 use Rattle.tera_grammar.proofs.Options.{bytes_apart}
 use Rattle.tera_grammar.proofs.statements.Trees.{template_right}
-use Rattle.tera_grammar.proofs.statements.Wholes.{names_told}
+use Rattle.tera_grammar.proofs.statements.Wholes.{names_reported}
 use Rattle.tera_grammar.specs.Limits.{Limits}
 use Rattle.tera_grammar.specs.Words.{AreDistinct}
 use Rattle.tera_grammar.specs.expressions.Concrete.{Name}
@@ -20,13 +20,13 @@ use Rattle.tera_statements.specs.declared.names.Names.{Names}
 use Rattle.tera_tree.specs.Tree.{Output}
 use Rattle.tera_check.specs.Findings.{span_if_any}
 
--- a name that is none of these stands where it stood
+-- a name that is none of these is where it was
 untouched : (text : List ℕ) (ns : List Name) (f : Located) → AllByRecursion (λ t. text ≢ t) (texts ns) → locate_all ns f text ≡ f text
 untouched text [] f apart = refl
 untouched text (n ∷ ns) f apart =
     untouched text ns (locate n f) apart.1 ∙ rw (bytes_apart n.text text (λ same. apart.0 (sym same))) refl
 
--- each of distinct names is met where it stands
+-- each of distinct names is met where it is
 spans_met : (ns : List Name) (f : Located) → AreDistinct (texts ns) → map (λ t. span_if_any (locate_all ns f t)) (texts ns) ≡ map (λ n. n.span) ns
 spans_met [] f distinct = refl
 spans_met (n ∷ ns) f distinct =
@@ -38,11 +38,11 @@ spans_met (n ∷ ns) f distinct =
 pub spans_are : (l : Limits) (m : Marks) (source : List ℕ) (output : Output) (ns : Places) (names : Names) → DerivesNames l m source output ns → AreNames names ns
     → map (λ d. span_if_any (located_of names.components d.name)) output.definitions ≡ map (λ n. n.span) ns.components
 spans_are l m source output ns names d are =
-    let told = (names_told l m source output ns d).1 in
+    let remarked = (names_reported l m source output ns d).1 in
     let right : IsRight output = subst IsRight (sym d.2.2) (template_right l _ d.2.0 d.2.1) in
-    let distinct : AreDistinct (texts ns.components) = subst AreDistinct (sym told) right.component_names in
+    let distinct : AreDistinct (texts ns.components) = subst AreDistinct (sym remarked) right.component_names in
     let by : Located → List ℕ → Span = λ f t. span_if_any (f t) in
     sym (map-map (by (located_of names.components)) (λ d. d.name) output.definitions)
-    ∙ ap (map (by (located_of names.components))) (sym told)
+    ∙ ap (map (by (located_of names.components))) (sym remarked)
     ∙ ap (λ (s : Seen). map (by s.components) (texts ns.components)) are
     ∙ spans_met ns.components nothing_located distinct

@@ -6,7 +6,7 @@ use Rattle.std.proofs.lemmas.List.{drop-take, length-append, length-drop, length
 use Rattle.std.proofs.lemmas.List.Sums.{count_by-le-length}
 use Rattle.tera_lexer.specs.code.Counting.{stepped}
 use Rattle.tera_lexer.specs.grammar.Place.{begins_character, is_line_feed, place_after}
-use Rattle.tera_mend.proofs.Standing.{place_step}
+use Rattle.tera_mend.proofs.PlacesLemmas.{place_step}
 use Rattle.tera_check.specs.FaultFindings.{IsAt, walk_view}
 use Rattle.tera_check.specs.declared.walk.Walk.{Walk}
 

@@ -14,8 +14,8 @@ name_called _ = []
 abbrev pub names_in : Output → List (List ℕ)
 names_in o = map (λ d. d.name) o.definitions ++ flat_map name_called (calls_of o)
 
--- components that are told alike in the templates of two numbers: they have one name, the same parameters, and one span
--- in a file of one name; and both stand in the template of their number, or neither does
+-- components that are reported alike in the templates of two numbers: they have one name, the same parameters, and one
+-- span in a file of one name; and both are in the template of their number, or neither does
 pub record AreAlike (number other : ℕ) (k j : KnownVal) : Type 0 where
   pub name : k.definition.name ≡ j.definition.name
   pub arguments : k.definition.arguments ≡ j.definition.arguments

@@ -1,5 +1,5 @@
--- The calls of components that stand in a tree, from left to right, each behind those that stand in it. Of arguments
--- by name the order is that of the names.
+-- The calls of components that are in a tree, from left to right, each after those that are in it. Of arguments by name
+-- the order is that of the names.
 use Rattle.std.specs.Prelude.{List, [], ◌∷◌, ◌++◌}
 use Rattle.std.specs.List.{flat_map}
 use Rattle.tera_ast.specs.View.{nodes_of}

@@ -129,7 +129,7 @@ abbrev pub AreOfFaults : List ℕ → Mended → List FindingVal → Type 0
 AreOfFaults file m fs =
     (each : List FindingVal) × AreOfEach file (string_bytes m.source) m.faults.items each × IsPermutation each fs
 
--- those of a template: none where it has a tree, and the one that is known where its faults were not sought
+-- those of a template: none where it has a tree, and the one that is known where its faults were not looked for
 abbrev pub AreFaultsBy : List ℕ → Result ParserOutput Error → Option Mended → List FindingVal → Type 0
 AreFaultsBy file (Ok o) m fs = fs ≡ []
 AreFaultsBy file (Err e) None fs = (f : FindingVal) × (fs ≡ f ∷ []) × IsOfError file (error_view e) f

@@ -1,10 +1,10 @@
--- The faults that stand in templates that were read.
+-- The faults that are in templates that were read.
 use Rattle.std.specs.Prelude.{Bool, true, false}
 use Rattle.tera_base.specs.declared.errors.Error.{Error}
 use Rattle.tera_base.specs.declared.errors.ErrorKind.{ErrorKind}
 use Rattle.tera_base.specs.declared.errors.ErrorKind.TheVariants as kinds
 
--- a syntax error: neither a text without a place, nor want of memory
+-- a syntax error: neither a text without a place, nor an allocation failure
 abbrev pub IsSyntaxErrorKind : ErrorKind → Type 0
 IsSyntaxErrorKind kinds.Memory = ⊥
 IsSyntaxErrorKind (kinds.Message s) = ⊥
@@ -13,7 +13,7 @@ IsSyntaxErrorKind (kinds.SyntaxError b) = Unit {0}
 abbrev pub IsSyntaxError : Error → Type 0
 IsSyntaxError e = IsSyntaxErrorKind e.kind
 
--- whether no memory was found
+-- whether an allocation failed
 abbrev pub is_memory_kind : ErrorKind → Bool
 is_memory_kind kinds.Memory = true
 is_memory_kind (kinds.Message s) = false

@@ -20,7 +20,7 @@ is_one_of words word = list_any (bytes_eq word) words
 abbrev pub begins_with : List ℕ → List ℕ → Bool
 begins_with front text = starts_with nat_eq text front
 
--- .. but for the white space at its end
+-- .. except the white space at its end
 abbrev pub ends_in : List ℕ → List ℕ → Bool
 ends_in end text = ends_with nat_eq (trim_end text) end
 

@@ -32,7 +32,7 @@ use Rattle.tera_check.specs.declared.finding.Kind.{Kind}
 use Rattle.tera_check.specs.declared.finding.Kind.TheVariants as kinds
 
 -- a component that is known: its definition, the number and the file of its template, and where its name and its
--- parameters stand there
+-- parameters are there
 pub record KnownVal : Type 0 where
   pub definition : Definition
   pub template : ℕ
@@ -53,8 +53,9 @@ known_view k = record {
 abbrev pub takes_it : List ℕ → List ℕ × Argument → Bool
 takes_it n a = a.1.implicit && bytes_eq a.0 n
 
--- which variables a call may take by itself, whether it is given values for them or not: those of the implicit parameters
--- of its component, but for one that a loop hides; of a component that no template defines whichever there are
+-- which variables a call may take by itself, whether it is given values for them or not: those of the implicit
+-- parameters of its component, except one that a loop hides; of a component that no template defines whichever there
+-- are
 abbrev pub taken_by : Option KnownVal → Bool → List ℕ → Bool
 taken_by None hidden n = true
 taken_by (Some k) hidden n = not hidden && list_any (takes_it n) k.definition.arguments
@@ -77,11 +78,11 @@ remark_view r = record { kind = r.kind; text = string_bytes r.message }
 abbrev pub about : KnownVal → Span → RemarkVal → FindingVal
 about k span r = FindingOf r.kind span r.text (defined_here k ∷ [])
 
-abbrev pub told : KnownVal → Span → Option RemarkVal → List FindingVal
-told k span None = []
-told k span (Some r) = about k span r ∷ []
+abbrev pub remarked : KnownVal → Span → Option RemarkVal → List FindingVal
+remarked k span None = []
+remarked k span (Some r) = about k span r ∷ []
 
--- ---- why a value is refused under a name, if it is; of what is no constant the type is not known
+-- ---- why a value is refused under a name, if it is; of what is not a constant the type is not known
 
 abbrev pub wrong_type : List ℕ → Val → ArgType → RemarkVal
 wrong_type n v t = record { kind = kinds.WrongType; text = wrong_type_text n v t }
@@ -108,14 +109,14 @@ refused_for None d n v = refused_name d n
 abbrev pub refusal : Definition → List ℕ → Option Val → Option RemarkVal
 refusal d n v = refused_for (found n d.arguments) d n v
 
--- ---- what is passed and refused: under a name that comes again the last counts, and where more may be passed behind
+-- ---- what is passed and refused: under a name that comes again the last counts, and where more may be passed after
 -- it, a constant may not be the value that counts
 
 abbrev pub counted : Bool → Option Val → Option Val
 counted more v = if more then None else v
 
 abbrev pub refused : KnownVal → Bool → NamedVal → List FindingVal
-refused k more p = told k p.span (refusal k.definition p.name (counted more p.constant))
+refused k more p = remarked k p.span (refusal k.definition p.name (counted more p.constant))
 
 abbrev pub refused_one : KnownVal → Bool → Bool → PassedVal → List FindingVal
 refused_one k again more (OneNamed p) = if again then [] else refused k more p
@@ -141,12 +142,12 @@ abbrev pub missed : (List ℕ → Bool) → List ℕ × Argument → Option Rema
 missed passed a = if is_required a.1 && not (passed a.0) then Some (missing a) else None
 
 abbrev pub missing_findings : KnownVal → (List ℕ → Bool) → Span → List FindingVal
-missing_findings k passed span = flat_map (λ a. told k span (missed passed a)) k.definition.arguments
+missing_findings k passed span = flat_map (λ a. remarked k span (missed passed a)) k.definition.arguments
 
 abbrev pub missing_in : KnownVal → Span → List PassedVal → List FindingVal
 missing_in k span ps = if has_whatever ps then [] else missing_findings k (λ n. is_passed n ps) span
 
--- ---- a value that does not count, since its argument is written again behind it, with a note where that stands next:
+-- ---- a value that does not count, since its argument is written again after it, with a note where that is next:
 -- whatever the component, and whatever is spread between
 
 abbrev pub repeated_text : List ℕ → List ℕ
@@ -163,16 +164,16 @@ abbrev pub repeated_if : List ℕ → List ℕ → Span → Option Span → List
 repeated_if file name span None = []
 repeated_if file name span (Some next) = repeated file name span next ∷ []
 
--- by where the next value stands under each name
+-- by where the next value is under each name
 abbrev pub repeated_under : List ℕ → KeyVal → Span → (List ℕ → Option Span) → List FindingVal
 repeated_under file (TextKey n) span next = repeated_if file n span (next n)
 repeated_under file _ span next = []
 
 abbrev pub next_under_key : List ℕ → KeyVal → Span → Option Span → Option Span
-next_under_key n (TextKey m) span behind = cond (bytes_eq m n) (Some span) behind
-next_under_key n _ span behind = behind
+next_under_key n (TextKey m) span following = cond (bytes_eq m n) (Some span) following
+next_under_key n _ span following = following
 
--- where the first value stands that is written under a name
+-- where the first value is that is written under a name
 abbrev pub next_in : List ℕ → Entries → Option Span
 next_in n NoEntries = None
 next_in n (Entry k e es) = next_under_key n k (expr_span e) (next_in n es)
@@ -185,8 +186,8 @@ repeated_findings file (SpreadEntry e es) = repeated_findings file es
 
 -- the same of one attribute, before others
 abbrev pub next_by_one : List ℕ → MapEntryOf Expr → Option Span → Option Span
-next_by_one n (entries.KeyValue k e) behind = next_under_key n (key_view k) (expr_span e) behind
-next_by_one n (entries.Spread e) behind = behind
+next_by_one n (entries.KeyValue k e) following = next_under_key n (key_view k) (expr_span e) following
+next_by_one n (entries.Spread e) following = following
 
 abbrev pub repeated_by_one : List ℕ → MapEntryOf Expr → (List ℕ → Option Span) → List FindingVal
 repeated_by_one file (entries.KeyValue k e) next = repeated_under file (key_view k) (expr_span e) next
@@ -214,7 +215,7 @@ call_findings file known (ComponentCall name es body closed span) =
     repeated_findings file es ++ judged (known name) name span (passed_by es)
 call_findings file known _ = []
 
--- ---- a definition whose name stands at a span, of a component that another template defines first
+-- ---- a definition whose name is at a span, of a component that another template defines first
 
 abbrev pub again_text : List ℕ → List ℕ
 again_text name = codes "Another template already contains a component named `" ++ (name ++ codes "`")

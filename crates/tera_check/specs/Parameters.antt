@@ -104,7 +104,7 @@ located_if_any (Some names) = names
 abbrev pub parameter_at : Template → List ℕ → Located
 parameter_at t component = located_if_any (grouped_of t.parameters_at component)
 
--- a parameter that stands at this place, and is not named
+-- a parameter that is at this place, and is not named
 abbrev pub unused_text : List ℕ → List ℕ → List ℕ
 unused_text component name =
     codes "Parameter `" ++ (name ++ (codes "` is never used in the body of component `" ++ (component ++ codes "`")))

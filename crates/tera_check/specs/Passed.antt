@@ -15,13 +15,13 @@ use Rattle.tera_check.specs.declared.passed.Names.{Names}
 use Rattle.tera_check.specs.declared.passed.Passed.{Passed}
 use Rattle.tera_check.specs.declared.passed.Passed.TheVariants as code
 
--- a value under a name: where it stands, and which it is, if it is a constant
+-- a value under a name: where it is, and which it is, if it is a constant
 pub record NamedVal : Type 0 where
   pub name : List ℕ
   pub span : Span
   pub constant : Option Val
 
--- a value under a name, or whatever a spread has that is no constant map
+-- a value under a name, or whatever a spread has that is not a constant map
 pub data PassedVal : Type 0 where
   OneNamed : NamedVal → PassedVal
   Whatever : PassedVal
@@ -42,7 +42,7 @@ abbrev pub constant_of : Expr → Option Val
 constant_of (Const v span) = Some v
 constant_of _ = None
 
--- a value under a key: a key that is no text names no argument
+-- a value under a key: a key that is not text names no argument
 abbrev pub under_key : KeyVal → Span → Option Val → List PassedVal
 under_key (TextKey n) span v = OneNamed (record { name = n; span = span; constant = v }) ∷ []
 under_key _ span v = []

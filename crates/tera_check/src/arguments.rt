@@ -7,7 +7,7 @@ ghost use Rattle.tera_base.specs.Contexts.{found};
 ghost use Rattle.tera_base.specs.ValueView.{value_view};
 ghost use Rattle.tera_tree.specs.View.{argument_view, definition_view};
 ghost use Rattle.tera_check.specs.Findings.{finding_view, note_view};
-ghost use Rattle.tera_check.specs.Judged.{known_view, remark_view, defined_here, about, told, is_required, missed, refused_type, refused_name, refusal, counted, refused, refused_one, refused_findings, missing_findings};
+ghost use Rattle.tera_check.specs.Judged.{known_view, remark_view, defined_here, about, remarked, is_required, missed, refused_type, refused_name, refusal, counted, refused, refused_one, refused_findings, missing_findings};
 ghost use Rattle.tera_check.specs.Passed.{passed_view, named_view, is_in, AreNamesOf};
 
 use crate::catalogue::Known;
@@ -85,10 +85,10 @@ fn push_named(
         ++ refused (known_view known.now) more (named_view named.now)) }
 {
     let remark = refusal(alloc, known, named.name.as_str(), counted(more, named))?;
-    push_told(alloc, findings, known, named.span, remark)
+    push_remark(alloc, findings, known, named.span, remark)
 }
 
-// The constant, unless more is passed behind, so that it may not be the value that counts.
+// The constant, unless more is passed after, so that it may not be the value that counts.
 fn counted<'a>(more: bool, named: &Named<'a>) -> Option<&'a Value>
     ensures { option_map (λ v. value_view v.now) result
         ≡ counted more (named_view named.now).constant }
@@ -104,7 +104,7 @@ struct Remark {
 }
 
 // Adds a finding with the remark, if there is one.
-fn push_told(
+fn push_remark(
     alloc: Global,
     findings: &mut Vec<Finding>,
     known: &Known<'_>,
@@ -112,7 +112,7 @@ fn push_told(
     remark: Option<Remark>,
 ) -> Result<(), AllocError>
     ensures { OnOk result (map finding_view findings.new.items ≡ map finding_view findings.old.items
-        ++ told (known_view known.now) span.now (option_map remark_view remark)) }
+        ++ remarked (known_view known.now) span.now (option_map remark_view remark)) }
 {
     match remark {
         Some(remark) => push_about(alloc, findings, known, span, remark),
@@ -158,7 +158,7 @@ fn defined_here(alloc: Global, known: &Known<'_>) -> Result<Note, AllocError>
     })
 }
 
-// Why a value under the name is refused, if it is; of a value that is no constant its type is not known.
+// Why a value under the name is refused, if it is; of a value that is not a constant its type is not known.
 fn refusal(
     alloc: Global,
     known: &Known<'_>,
@@ -264,7 +264,7 @@ fn push_all_missing(
 {
     for (name, argument) in known.definition.kwargs.iter() {
         let remark = missed(alloc, passed, name.as_str(), argument)?;
-        push_told(alloc, findings, known, span, remark)?;
+        push_remark(alloc, findings, known, span, remark)?;
     }
     Ok(())
 }

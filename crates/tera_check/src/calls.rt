@@ -12,8 +12,8 @@ use tera_parser::ast::{ComponentCall, Expression, Part, Parts, top_parts};
 use tera_parser::value::Spanned;
 
 /// The calls of components in the tree, with a body or without: in the bodies of its definitions, and then in its
-/// nodes, each from left to right, a call behind those that stand in it. A tree of more parts than a `u64` counts, which
-/// no memory holds, is answered as want of memory.
+/// nodes, each from left to right, a call after those that are in it. A tree of more parts than a `u64` counts, which
+/// no memory holds, is answered as an allocation failure.
 pub fn calls_of(
     alloc: Global,
     output: &ParserOutput,
@@ -40,7 +40,7 @@ fn turned<'a>(calls: Vec<&'a Spanned<ComponentCall>>) -> Vec<&'a Spanned<Compone
     calls
 }
 
-// Takes the part. What was found stands from right to left.
+// Takes the part. What was found is from right to left.
 #[tactic(auto, using(crate::proofs::Pending::taken))]
 fn take<'a>(
     calls: &mut Vec<&'a Spanned<ComponentCall>>,

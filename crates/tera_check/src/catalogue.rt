@@ -20,9 +20,9 @@ pub struct Known<'a> {
     /// The number of its template among all.
     pub template: usize,
     pub file: &'a str,
-    /// Where its name stands there: the last part.
+    /// Where its name is there: the last part.
     pub span: Span,
-    /// Where its parameters stand there, by their names.
+    /// Where its parameters are there, by their names.
     pub parameters: Option<&'a BTreeMap<String, Span>>,
 }
 
@@ -79,7 +79,7 @@ fn add_all<'a>(
 }
 
 /// What is known of the template's component of a number, which has this definition; the template has a number too.
-#[tactic(auto, using(crate::proofs::CatalogueLemmas::parameters_behind))]
+#[tactic(auto, using(crate::proofs::CatalogueLemmas::parameters_after))]
 pub fn known_at<'a>(
     number: usize,
     template: &'a Template,

@@ -33,8 +33,8 @@ pub(crate) enum Says {
     Nothing,
 }
 
-/// The ends that were written after the source, with the heads that they close. None are sought where no fault wants
-/// them.
+/// The ends that were written after the source, with the heads that they close. None are looked for where no fault
+/// wants them.
 pub(crate) fn ends_of(alloc: Global, mended: &Mended) -> Result<Vec<Closed>, AllocError> {
     let len = mended.source.len();
     let mut faults = mended.faults.iter();
@@ -45,7 +45,7 @@ pub(crate) fn ends_of(alloc: Global, mended: &Mended) -> Result<Vec<Closed>, All
     }
 }
 
-/// What the fault comes of: by the first of its edits that tells it. Where none does, nothing, and the word is none, at
+/// What the fault comes of: by the first of its edits that says it. Where none does, nothing, and the word is none, at
 /// the end of the source.
 pub(crate) fn cause_of<'m>(source: &'m str, ends: &Vec<Closed>, fault: &Fault) -> Cause<'m>
     ensures { IsWordOf source.now result }

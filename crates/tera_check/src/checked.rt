@@ -163,7 +163,7 @@ pub fn status(errors: bool, unread: bool) -> u8
     }
 }
 
-// Adds a finding for each component of which one stands in another template.
+// Adds a finding for each component of which one is in another template.
 fn push_all_again(
     alloc: Global,
     findings: &mut Vec<Finding>,

@@ -134,7 +134,7 @@ impl Severity {
     ghost use Rattle.std.specs.Prelude.{◌≡◌};
     ghost use Rattle.tera_check.specs.Findings.{severity_name};
 
-    /// The word for it, as lines tell it.
+    /// The word for it, as lines say it.
     pub fn name(self) -> &'static str
         ensures { result.now ≡ severity_name self }
     {
@@ -197,7 +197,7 @@ impl Note {
     }
 }
 
-// Adds the finding behind the others.
+// Adds the finding after the others.
 #[tactic(auto, using(crate::proofs::JudgedLemmas::finding_more))]
 pub(crate) fn push_finding(findings: &mut Vec<Finding>, finding: Finding) -> Result<(), AllocError>
     ensures { OnOk result (map finding_view findings.new.items

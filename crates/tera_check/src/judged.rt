@@ -20,7 +20,7 @@ use std::collections::BTreeMap;
 use tera_parser::ast::{ComponentCall, MapEntry};
 use tera_parser::value::{Key, Span, Spanned};
 
-/// Adds what is found in the call, of what is known under its name; the call stands in the file.
+/// Adds what is found in the call, of what is known under its name; the call is in the file.
 pub(crate) fn push_call(
     alloc: Global,
     findings: &mut Vec<Finding>,
@@ -98,7 +98,7 @@ fn undefined(alloc: Global, span: &Span, name: &str) -> Result<Finding, AllocErr
 // Spans under names: of each name that which was put there last.
 pub(crate) type Spans<'n, 'a> = BTreeMap<&'n str, &'a Span>;
 
-// Adds a finding for each value whose argument is written again behind it, at its place, from the last to the first.
+// Adds a finding for each value whose argument is written again after it, at its place, from the last to the first.
 fn push_repeated(
     alloc: Global,
     findings: &mut Vec<Finding>,
@@ -108,10 +108,10 @@ fn push_repeated(
     ensures { OnOk result (map finding_view findings.new.items ≡ map finding_view findings.old.items
         ++ repeated_findings file.now (entries_view attributes.now.items)) }
 {
-    let mut behind = BTreeMap::new(alloc);
+    let mut following = BTreeMap::new(alloc);
     let mut left = attributes.as_slice();
     'attributes: while let Some((attribute, before)) = left.split_last() {
-        push_if_repeated(alloc, findings, file, &mut behind, attribute)?;
+        push_if_repeated(alloc, findings, file, &mut following, attribute)?;
         left = before;
     }
     Ok(())
@@ -121,18 +121,18 @@ fn push_if_repeated<'a>(
     alloc: Global,
     findings: &mut Vec<Finding>,
     file: &str,
-    behind: &mut Spans<'a, 'a>,
+    following: &mut Spans<'a, 'a>,
     attribute: &'a MapEntry,
 ) -> Result<(), AllocError>
     ensures findings { OnOk result (map finding_view findings.new.items
         ≡ map finding_view findings.old.items
-        ++ repeated_by_one file.now (entry_view attribute.now) (span_under behind.old)) }
-    ensures behind { OnOk result ((n : List ℕ) → span_under behind.new n
-        ≡ next_by_one n (entry_view attribute.now) (span_under behind.old n)) }
+        ++ repeated_by_one file.now (entry_view attribute.now) (span_under following.old)) }
+    ensures following { OnOk result ((n : List ℕ) → span_under following.new n
+        ≡ next_by_one n (entry_view attribute.now) (span_under following.old n)) }
 {
     match attribute {
         MapEntry::KeyValue { key, value } => {
-            push_under_key(alloc, findings, file, behind, key, value.span())
+            push_under_key(alloc, findings, file, following, key, value.span())
         }
         MapEntry::Spread(_) => Ok(()),
     }
@@ -142,20 +142,20 @@ fn push_under_key<'a>(
     alloc: Global,
     findings: &mut Vec<Finding>,
     file: &str,
-    behind: &mut Spans<'a, 'a>,
+    following: &mut Spans<'a, 'a>,
     key: &'a Key,
     span: &'a Span,
 ) -> Result<(), AllocError>
     ensures findings { OnOk result (map finding_view findings.new.items
         ≡ map finding_view findings.old.items
-        ++ repeated_under file.now (key_view key.now) span.now (span_under behind.old)) }
-    ensures behind { OnOk result ((n : List ℕ) → span_under behind.new n
-        ≡ next_under_key n (key_view key.now) span.now (span_under behind.old n)) }
+        ++ repeated_under file.now (key_view key.now) span.now (span_under following.old)) }
+    ensures following { OnOk result ((n : List ℕ) → span_under following.new n
+        ≡ next_under_key n (key_view key.now) span.now (span_under following.old n)) }
 {
     match key {
         Key::String(name) => {
             let name = name.as_str();
-            let next = put_span(behind, name, span)?;
+            let next = put_span(following, name, span)?;
             push_one_repeated(alloc, findings, file, name, span, next)
         }
         Key::I64(_) => Ok(()),
@@ -163,17 +163,17 @@ fn push_under_key<'a>(
     }
 }
 
-// Puts the span under the name, and answers the one that stood there.
+// Puts the span under the name, and answers the one that was there.
 pub(crate) fn put_span<'n, 'a>(
-    behind: &mut Spans<'n, 'a>,
+    following: &mut Spans<'n, 'a>,
     name: &'n str,
     span: &'a Span,
 ) -> Result<Option<&'a Span>, AllocError>
-    ensures next { IfOk result (λ s. option_map (λ s. s.now) s ≡ span_under behind.old name.now) }
-    ensures behind { OnOk result ((n : List ℕ) → span_under behind.new n
-        ≡ cond (bytes_eq name.now n) (Some span.now) (span_under behind.old n)) }
+    ensures next { IfOk result (λ s. option_map (λ s. s.now) s ≡ span_under following.old name.now) }
+    ensures following { OnOk result ((n : List ℕ) → span_under following.new n
+        ≡ cond (bytes_eq name.now n) (Some span.now) (span_under following.old n)) }
 {
-    Ok(behind.insert(name, span)?)
+    Ok(following.insert(name, span)?)
 }
 
 fn push_one_repeated(
@@ -193,7 +193,7 @@ fn push_one_repeated(
     }
 }
 
-// The value under the name does not count, and the next stands at this span.
+// The value under the name does not count, and the next is at this span.
 fn repeated(
     alloc: Global,
     file: &str,

@@ -1,17 +1,16 @@
-//! Checks templates: the fault of each, and over all of them together how components are defined and called.
+//! A checker of templates: the fault of each, and over all of them together how components are defined and called.
 //!
-//! It takes templates that were read. What it finds are the faults of each (`AreFaultsOf`), and what is found in its tree,
-//! or in the tree of what is left of it (`due_findings`); and it writes findings as lines (`lines_of`) or objects of JSON
-//! (`object_of`). It depends on `tera_parser` and `tera_mend`, and names nothing below these in its code; of the kit on
-//! `json`.
+//! It takes templates that were read. It finds the fault of each (`IsOfError`), or what is wrong in its tree
+//! (`tree_findings`), and writes findings as lines (`lines_of`) or objects of JSON (`object_of`). It depends on
+//! `tera_parser`, and its code names nothing below it; of the kit it uses `json`.
 //!
 //! In the order of reading: specs `Findings`, `Calls`, `Passed`, `Judged`, `Parameters`, `Named`, `OrderAndStatus`,
 //! `Objects`, `Faults`, `Alike`; `templates`, which reads, and `spans`; `mended`, what a source with faults is read as
 //! (specs `Mended`), and `lost`, its words (specs `Lost`); `catalogue`; `calls`, over the parts of a tree (specs
 //! `Pending`); `passed`, `arguments` and `judged`, of one call; `parameters`, of one component (specs `Scopes`); `due`,
-//! what of that is reported beside faults (specs `Due`); `checked`, of a template; `messages`, texts; `finding`, `faults`;
-//! `fault_findings`, with `causes`, `tags`, `hints` and `walk` (specs `FaultFindings`, `Hints`); `lines` and `objects`;
-//! `laws`.
+//! what of that is reported beside faults (specs `Due`); `checked`, of a template; `messages`, texts; `finding`,
+//! `faults`; `fault_findings`, with `causes`, `tags`, `hints` and `walk` (specs `FaultFindings`, `Hints`); `lines` and
+//! `objects`; `laws`.
 #![tactic(auto)]
 
 mod arguments;

@@ -58,7 +58,7 @@ fn push_line(
     lines.push_str("\n")
 }
 
-// What stands between the file and the message.
+// What is between the file and the message.
 fn between(alloc: Global, place: Place, severity: &str) -> Result<String, AllocError>
     ensures { IfOk result (λ t. string_bytes t
         ≡ codes ":" ++ (decimal place.line

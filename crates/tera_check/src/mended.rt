@@ -30,7 +30,7 @@ pub struct Mended {
     pub ends: BTreeSet<usize>,
 }
 
-// About how many bytes are parsed of a source at the most, but for the first parse and the last.
+// About how many bytes are parsed of a source at the most, except the first parse and the last.
 const MOST_BYTES: usize = 10_000_000;
 
 /// What a source with a fault is read as, and its names, where at most so many faults are reported. None where no fault

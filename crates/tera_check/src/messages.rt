@@ -1,5 +1,5 @@
-//! The texts of findings and of their notes, but of faults, and of arguments that are refused: those are told as the
-//! parser and the tree tell them.
+//! The texts of findings and of their notes, but of faults, and of arguments that are refused: those are reported as
+//! the parser and the tree say them.
 
 ghost use Rattle.std.specs.Prelude.{◌≡◌, IfOk, string_bytes};
 ghost use Rattle.tera_check.specs.FaultFindings.{not_closed_text, closes_nothing_text, belongs_to_nothing_text, met_text};

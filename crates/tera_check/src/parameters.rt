@@ -30,7 +30,7 @@ use tera_parser::ast::{
 };
 use tera_parser::value::{Span, Spanned};
 
-/// Adds a finding for each parameter that nothing in the body of its component names, where the parameter stands.
+/// Adds a finding for each parameter that nothing in the body of its component names, where the parameter is.
 pub(crate) fn push_all_unused(
     alloc: Global,
     findings: &mut Vec<Finding>,
@@ -120,7 +120,7 @@ fn push_if_unused(
     push_finding(findings, unused(alloc, component, name, span)?)
 }
 
-// Where the parameter of the component stands; where the template has none, its beginning.
+// Where the parameter of the component is; where the template has none, its beginning.
 fn place_of(template: &Template, component: &str, name: &str) -> Span
     ensures { result ≡ span_if_any (parameter_at template.now component.now name.now) }
 {
@@ -143,7 +143,7 @@ fn unused(alloc: Global, component: &str, name: &str, span: Span) -> Result<Find
     Ok(Finding::new(alloc, Kind::UnusedParameter, &span, message))
 }
 
-// What variables name, and what calls may take, each with where one of them stands; or whatever there is.
+// What variables name, and what calls may take, each with where one of them is; or whatever there is.
 #[derive(Drop)]
 struct Naming<'a, 'c> {
     all: bool,
@@ -166,7 +166,8 @@ struct Scope<'a> {
     parts: Parts<'a>,
 }
 
-// What the body names. One of more parts than a `u64` counts, which no memory holds, is answered as want of memory.
+// What the body names. One of more parts than a `u64` counts, which no memory holds, is answered as an allocation
+// failure.
 fn naming_of<'a, 'c>(
     alloc: Global,
     catalogue: &Catalogue<'c>,
@@ -239,7 +240,7 @@ fn take_last<'a, 'c>(
     }
 }
 
-// Takes the part, behind whose scope others may stand then.
+// Takes the part, after whose scope others may be then.
 fn take<'a, 'c>(
     alloc: Global,
     catalogue: &Catalogue<'c>,

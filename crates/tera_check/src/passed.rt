@@ -16,7 +16,7 @@ use tera_parser::value::{Key, Map, Span, Value};
 #[derive(Clone, Copy)]
 pub(crate) enum Passed<'a> {
     Named(Named<'a>),
-    /// Whatever a spread has that is no constant map.
+    /// Whatever a spread has that is not a constant map.
     Any,
 }
 
@@ -24,7 +24,7 @@ pub(crate) enum Passed<'a> {
 #[derive(Clone, Copy)]
 pub(crate) struct Named<'a> {
     pub(crate) name: &'a String,
-    /// Where the value stands.
+    /// Where the value is.
     pub(crate) span: &'a Span,
     /// The value, where it is a constant.
     pub(crate) constant: Option<&'a Value>,
@@ -121,7 +121,7 @@ fn push_any(passed: &mut Vec<Passed<'_>>) -> Result<(), AllocError>
     Ok(())
 }
 
-// The pairs of a map, as what stands at the span.
+// The pairs of a map, as what is at the span.
 fn push_pairs<'a>(
     passed: &mut Vec<Passed<'a>>,
     pairs: &'a Map,

@@ -10,7 +10,7 @@ use tera_parser::Names;
 use tera_parser::ast::ComponentDefinition;
 use tera_parser::value::Span;
 
-/// Where the names of the components with these definitions stand, in their order: of each the last part.
+/// Where the names of the components with these definitions are, in their order: of each the last part.
 pub(crate) fn spans_of(
     alloc: Global,
     names: &Names,
@@ -27,7 +27,7 @@ pub(crate) fn spans_of(
     Ok(spans)
 }
 
-// Where the name of this component stands; where the template has none, its beginning.
+// Where the name of this component is; where the template has none, its beginning.
 fn span_named(names: &Names, name: &str) -> Span
     ensures { result ≡ span_if_any (located_of names.now.components name.now) }
 {

@@ -36,7 +36,7 @@ pub struct Template {
     pub mended: Option<Mended>,
     /// Where each component of its tree is defined: the last part of its name, for `ui.button` that is `button`.
     pub defined_at: Vec<Span>,
-    /// Where the parameters of each component stand, by the name of the component and their own.
+    /// Where the parameters of each component are, by the name of the component and their own.
     pub parameters_at: BTreeMap<String, BTreeMap<String, Span>>,
 }
 
@@ -150,7 +150,7 @@ pub fn is_open(template: &Template) -> bool
     }
 }
 
-// Whether no memory was found.
+// Whether an allocation failed.
 fn is_memory(error: &Error) -> bool
     ensures { result ≡ is_memory error.now }
 {

@@ -43,7 +43,7 @@ fn spans_are_those_of_the_tokens(rt: HostRuntime) -> Result<(), Fail> {
     Ok(())
 }
 
-// Whether the one definition is that of `c`, which stands in the second line.
+// Whether the one definition is that of `c`, which is in the second line.
 fn defines_c(alloc: Global, source: &str) -> Result<bool, AllocError> {
     let template = read_template(alloc, "t", source, 0)?;
     Ok(matches!(template.defined_at.as_slice(), [span] if is_c(source, span)))
@@ -59,7 +59,7 @@ fn is_c(source: &str, span: &Span) -> bool {
 
 fn begins_with_c(source: &str, byte: usize) -> bool {
     match source.split_at_checked(byte) {
-        Some((_, behind)) => behind.starts_with("c"),
+        Some((_, following)) => following.starts_with("c"),
         None => false,
     }
 }
@@ -88,7 +88,7 @@ fn definition_spans(alloc: Global, source: &str) -> Result<Vec<Span>, AllocError
     let mut spans = Vec::new(alloc);
     let mut cursor = Cursor::new(tokenize(alloc, source, Delimiters::default()));
     for _tag in 0..u64::MAX {
-        match next_definition(alloc, &mut cursor) {
+        match next_definition(&mut cursor) {
             Ok(Some(span)) => spans.push(span)?,
             Ok(None) => return Ok(spans),
             Err(_) => return Err(AllocError),
@@ -97,10 +97,10 @@ fn definition_spans(alloc: Global, source: &str) -> Result<Vec<Span>, AllocError
     Ok(spans)
 }
 
-fn next_definition(alloc: Global, cursor: &mut Cursor<'_>) -> Result<Option<Span>, Error> {
+fn next_definition(cursor: &mut Cursor<'_>) -> Result<Option<Span>, Error> {
     for _token in 0..u64::MAX {
         if is_definition(cursor) {
-            return Ok(Some(named_span(alloc, cursor)?));
+            return Ok(Some(named_span(cursor)?));
         }
         if !cursor.skip() {
             return end(cursor);
@@ -116,10 +116,10 @@ fn is_definition(cursor: &Cursor<'_>) -> bool {
     }
 }
 
-fn named_span(alloc: Global, cursor: &mut Cursor<'_>) -> Result<Span, Error> {
+fn named_span(cursor: &mut Cursor<'_>) -> Result<Span, Error> {
     cursor.skip();
     cursor.skip();
-    let _name = component_name(alloc, cursor)?;
+    let _name = component_name(cursor)?;
     Ok(cursor.current_span().copied())
 }
 

@@ -19,13 +19,13 @@ const SOURCES: [&str; 6] = [
 #[derive(Drop)]
 struct Reading<'a> {
     source: &'a str,
-    wanted: &'a Template,
+    expected: &'a Template,
 }
 
 impl Attempt for Reading<'_> {
     fn attempt(&self, alloc: Global) -> Seen {
         match read_template(alloc, "t", self.source, 100) {
-            Ok(read) => Seen::answer(are_same(&read, self.wanted)),
+            Ok(read) => Seen::answer(are_same(&read, self.expected)),
             Err(_) => Seen::Memory,
         }
     }
@@ -47,8 +47,8 @@ fn text_read(template: &Template) -> Option<&str> {
 }
 
 fn is_refused(alloc: Global, source: &str) -> Result<bool, AllocError> {
-    let wanted = &read_template(alloc, "t", source, 100)?;
-    let verdict = refuse(alloc, &Reading { source, wanted })?;
+    let expected = &read_template(alloc, "t", source, 100)?;
+    let verdict = refuse(alloc, &Reading { source, expected })?;
     Ok(matches!(verdict, Verdict::Refused(n) if n > 0))
 }
 

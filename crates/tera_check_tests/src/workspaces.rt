@@ -12,18 +12,18 @@ const CALLING: &str = "{{<box x/>}}";
 
 // Opens two documents and changes the first.
 #[derive(Drop)]
-struct Telling;
+struct Reporting;
 
-impl Attempt for Telling {
+impl Attempt for Reporting {
     fn attempt(&self, alloc: Global) -> Seen {
-        match told(alloc) {
+        match reported(alloc) {
             Ok((defining, calling)) => Seen::answer(defining == 1 && calling == 1),
             Err(_) => Seen::Memory,
         }
     }
 }
 
-fn told(alloc: Global) -> Result<(usize, usize), AllocError> {
+fn reported(alloc: Global) -> Result<(usize, usize), AllocError> {
     let mut workspace = Workspace::new(alloc, Encoding::Utf16);
     workspace.open(alloc, "b", DEFINING)?;
     workspace.open(alloc, "a", CALLING)?;
@@ -34,15 +34,15 @@ fn told(alloc: Global) -> Result<(usize, usize), AllocError> {
     };
     workspace.change(alloc, "b", &[Change::Part(start, start, "é")])?;
     workspace.settle(alloc)?;
-    Ok((workspace.told("b").len(), workspace.told("a").len()))
+    Ok((workspace.reported("b").len(), workspace.reported("a").len()))
 }
 
 #[test]
 fn each_request_of_memory_may_be_refused(rt: HostRuntime) -> Result<(), Fail> {
-    let (defining, calling) = told(rt.alloc())?;
+    let (defining, calling) = reported(rt.alloc())?;
     assert!(rt; defining == 1 && calling == 1);
     // The usual end needs more than all pieces of a room.
-    let verdict = refuse(rt.alloc(), &Telling)?;
+    let verdict = refuse(rt.alloc(), &Reporting)?;
     let is_refused = matches!(verdict, Verdict::NeverUsual);
     assert!(rt; is_refused, "{verdict:?}");
     Ok(())

@@ -33,7 +33,7 @@ pub fails_by : {B P : Type 0} (r : Option B) (e : Error) → (P → r ≡ None) 
 fails_by r e refuses (inl memory) = inl memory
 fails_by r e refuses (inr h) = inr (refuses h)
 
--- a test behind a step
+-- a test after a step
 test_kept : {A B : Type 0} (b : Bool) (x : A) (k : A → Option B) → (guard b >>= λ u. k x) ≡ ((guard b >>= λ u. Some x) >>= k)
 test_kept true x k = refl
 test_kept false x k = refl

@@ -3,7 +3,7 @@ use Rattle.std.specs.Prelude.{◌≡◌, ◌⊎◌, ◌<◌, ◌≤◌, List, �
 use Rattle.std.specs.declared.alloc.Global.{Global}
 use Rattle.std.specs.Borrow.{Bor}
 use Rattle.tera_base.specs.ErrorView.{ErrorVal, NoMemory, NoteVal, Reporting, Saying, error_view, with_note}
-use Rattle.tera_base.specs.Errors.{IsMemory, TellsBy}
+use Rattle.tera_base.specs.Errors.{IsMemory, ReportsBy}
 use Rattle.tera_base.specs.declared.errors.Error.{Error}
 use Rattle.tera_base.specs.declared.errors.ErrorKind.{ErrorKind}
 use Rattle.tera_base.specs.declared.errors.ErrorKind.TheVariants.{Memory, Message, SyntaxError}
@@ -34,14 +34,14 @@ Refuses old e = RefusesFrom old e
 
 -- a refusal in the tokens that a cursor has left, or of the fault in which they end
 unfoldable pub RefusesIn : Position → Error → Type 0
-RefusesIn old e = TellsBy (λ text span. IsWithin old.source span × Faults old.left text span) e
+RefusesIn old e = ReportsBy (λ text span. IsWithin old.source span × Faults old.left text span) e
 
 -- a number of a source is not negative, and is one of 64 bits
 abbrev pub IsCounted : Tok → Type 0
 IsCounted (toks.Integer n) = IsCount n
 IsCounted _ = Unit {0}
 
--- No memory was found, or nothing is read.
+-- An allocation failed, or nothing is read.
 abbrev pub Fails : {A : Type 0} → Option A → Error → Type 0
 Fails read e = IsMemory e ⊎ (read ≡ None)
 
@@ -60,7 +60,7 @@ abbrev pub Passes : {E T Q : Type 0} → Result E Error → Q → Option (T × Q
 Passes {T = T} (Ok e) q read = (t : T) × (read ≡ Some (t, q))
 Passes (Err e) q read = Fails read e
 
--- a token was taken that stood there, or none was
+-- a token was taken that was there, or none was
 abbrev pub Eats : Bool → Position → Position → Option (Span × Items) → Type 0
 Eats true old new read = (read ≡ Some (new.span, new.left)) × Took old new
 Eats false old new read = (read ≡ None) × (new ≡ old)
@@ -126,22 +126,22 @@ mark_of If = marks.If
 mark_of Else = marks.Else
 mark_of Not = marks.Not
 
--- what an error tells, without its notes
-pub data Told : Type 0 where
-  no_memory : Told
-  says : List ℕ → Told
-  tells : List ℕ → Span → Told
+-- what an error says, without its notes
+pub data Reported : Type 0 where
+  no_memory : Reported
+  says : List ℕ → Reported
+  reports : List ℕ → Span → Reported
 
-abbrev pub kind_told : ErrorKind → Told
-kind_told Memory = no_memory
-kind_told (Message s) = says (string_bytes s)
-kind_told (SyntaxError b) = tells (string_bytes b.value.message) b.value.span
+abbrev pub kind_reported : ErrorKind → Reported
+kind_reported Memory = no_memory
+kind_reported (Message s) = says (string_bytes s)
+kind_reported (SyntaxError b) = reports (string_bytes b.value.message) b.value.span
 
--- the same is told, or no memory was found
-abbrev pub TellsAs : Error → Error → Type 0
-TellsAs old new = IsMemory new ⊎ (kind_told new.kind ≡ kind_told old.kind)
+-- the same is reported, or an allocation failed
+abbrev pub ReportsAs : Error → Error → Type 0
+ReportsAs old new = IsMemory new ⊎ (kind_reported new.kind ≡ kind_reported old.kind)
 
--- a fault has one more note; another error stays, and so does what it tells
+-- a fault has one more note; another error stays, and so does what it says
 abbrev pub noted_view : ErrorVal → NoteVal → ErrorVal
 noted_view NoMemory n = NoMemory
 noted_view (Saying text) n = Saying text

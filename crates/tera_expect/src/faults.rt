@@ -2,9 +2,9 @@
 
 ghost use Rattle.std.specs.Prelude.{[], MatchResult, string_bytes};
 ghost use Rattle.tera_base.specs.ErrorView.{NoteOf};
-ghost use Rattle.tera_base.specs.Errors.{IsMemory, Tells};
-ghost use Rattle.tera_lexer.specs.code.Cursors.{TellsAt};
-ghost use Rattle.tera_expect.specs.Taking.{IsNoted, Refuses, TellsAs};
+ghost use Rattle.tera_base.specs.Errors.{IsMemory, Reports};
+ghost use Rattle.tera_lexer.specs.code.Cursors.{ReportsAt};
+ghost use Rattle.tera_expect.specs.Taking.{IsNoted, Refuses, ReportsAs};
 
 use std::alloc::{AllocError, Global};
 use tera_base::{Error, ErrorKind, Span};
@@ -13,7 +13,7 @@ use tera_lexer::{Cursor, Token};
 /// A fault at the token taken last; `Memory` where its text finds none.
 #[tactic(auto, using(crate::proofs::TakingLemmas::last_refused))]
 pub fn fault(cursor: &Cursor<'_>, text: &str) -> Error
-    ensures tells { Tells text.now cursor.now.span result }
+    ensures reports { Reports text.now cursor.now.span result }
     ensures refusal { Refuses cursor.now result }
 {
     Error::syntax_error(cursor.alloc(), text, cursor.current_span())
@@ -22,18 +22,18 @@ pub fn fault(cursor: &Cursor<'_>, text: &str) -> Error
 /// A fault at the token taken last, whose text was made; `Memory` where it was not.
 #[tactic(auto, using(crate::proofs::TakingLemmas::last_refused, crate::proofs::TakingLemmas::memory_refused))]
 pub fn reported(cursor: &Cursor<'_>, message: Result<String, AllocError>) -> Error
-    ensures tells { MatchResult message (λ text. Tells (string_bytes text) cursor.now.span result)
+    ensures reports { MatchResult message (λ text. Reports (string_bytes text) cursor.now.span result)
         (λ _. IsMemory result) }
     ensures refusal { Refuses cursor.now result }
 {
     Error::reported(cursor.alloc(), message, cursor.current_span())
 }
 
-/// The fault of a token, which stands at the span, where another has to stand.
-pub fn unexpected(alloc: Global, token: &Token<'_>, wanted: &str, span: &Span) -> Error
-    ensures { TellsAt span.now result }
+/// The fault of a token, which is at the span, where another is required.
+pub fn unexpected(alloc: Global, token: &Token<'_>, expected: &str, span: &Span) -> Error
+    ensures { ReportsAt span.now result }
 {
-    let message = format!(in alloc; "Found {token} but expected {wanted}.");
+    let message = format!(in alloc; "Found {token} but expected {expected}.");
     Error::reported(alloc, message, span)
 }
 
@@ -41,7 +41,7 @@ pub fn unexpected(alloc: Global, token: &Token<'_>, wanted: &str, span: &Span) -
 /// The note names no file.
 pub fn noted(error: Error, label: &str, span: &Span) -> Error
     ensures adds { IsNoted error (NoteOf label.now [] span.now) result }
-    ensures tells { TellsAs error result }
+    ensures reports { ReportsAs error result }
 {
     match error.kind {
         ErrorKind::SyntaxError(mut report) => match report.add_note(label, "", span) {

@@ -111,22 +111,22 @@ impl Fixed {
 }
 
 /// Whether the next token is this one.
-pub fn begins(cursor: &Cursor<'_>, wanted: Fixed) -> bool
-    ensures { result ≡ begins (mark_of wanted) cursor.now.left }
+pub fn begins(cursor: &Cursor<'_>, expected: Fixed) -> bool
+    ensures { result ≡ begins (mark_of expected) cursor.now.left }
 {
     match cursor.first() {
-        Some(token) => wanted.is(token),
+        Some(token) => expected.is(token),
         None => false,
     }
 }
 
 /// Takes the next token where it is this one.
 #[tactic(auto, unfolding(crate::specs::Taking::Took, crate::specs::Taking::Refuses))]
-pub fn eat(cursor: &mut Cursor<'_>, wanted: Fixed) -> bool
-    ensures { Eats result cursor.old cursor.new (takes (mark_of wanted) cursor.old.left) }
+pub fn eat(cursor: &mut Cursor<'_>, expected: Fixed) -> bool
+    ensures { Eats result cursor.old cursor.new (takes (mark_of expected) cursor.old.left) }
 {
     match cursor.first() {
-        Some(token) if wanted.is(token) => cursor.skip(),
+        Some(token) if expected.is(token) => cursor.skip(),
         _ => false,
     }
 }
@@ -157,17 +157,17 @@ pub fn take<'a>(cursor: &mut Cursor<'a>) -> Result<(Token<'a>, Span), Error>
 
 /// Takes the next token, which has to be this one: another is a fault at that token.
 #[tactic(auto, unfolding(crate::specs::Taking::Took, crate::specs::Taking::Refuses))]
-pub fn expect(cursor: &mut Cursor<'_>, wanted: Fixed) -> Result<(), Error>
+pub fn expect(cursor: &mut Cursor<'_>, expected: Fixed) -> Result<(), Error>
     ensures gives { GivesAs (place_at cursor.new.span) result cursor.new.left
-        (takes (mark_of wanted) cursor.old.left) }
+        (takes (mark_of expected) cursor.old.left) }
     ensures refusal { IfErr result (Refuses cursor.old) }
     ensures later { IfOk result (λ _. Took cursor.old cursor.new) }
 {
-    if eat(cursor, wanted) {
+    if eat(cursor, expected) {
         return Ok(());
     }
     let (token, span) = cursor.next_or_eoi()?;
-    Err(unexpected(cursor.alloc(), &token, wanted.text(), &span))
+    Err(unexpected(cursor.alloc(), &token, expected.text(), &span))
 }
 
 /// Takes the next token, which has to be a name: another is a fault at that token.

@@ -1,9 +1,9 @@
-//! What a reader of forms and tags asks of the next token: one that has to come, one that may, and the fault where
-//! another stands.
+//! What a reader of expressions and statements requires of the next token: a token that must come, one that may come,
+//! and the fault if there is another.
 //!
-//! It takes a cursor, and the token that is wanted, and gives that token, taken, or a fault. `GivesAs` says what was
-//! read, `Took` that the cursor went on, and `Refuses` where a fault may stand. It stands on `tera_lexer`, and on
-//! `tera_grammar` for what tokens begin with; expressions and statements stand on it.
+//! It takes a cursor and the expected token, and returns this token, which is then taken, or a fault. `GivesAs` says
+//! what was read, `Took` that the cursor went on, and `Refuses` where a fault may be. It depends on `tera_lexer`, and
+//! on `tera_grammar` for what tokens begin with. Expressions and statements depend on it.
 //!
 //! In the order of reading: specs `Taking`; `fixed`, the tokens of fixed places; `faults`.
 #![tactic(auto)]

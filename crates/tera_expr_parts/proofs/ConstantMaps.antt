@@ -90,7 +90,7 @@ pub map_stays : (es : List (MapEntryOf Expression)) (span : Span) → list_all (
     → tree.Map (entries_view es) span ≡ map_of (entries_view es) span
 map_stays es span other = ap (map_made (entries_view es) span) (sym (some_other (map entry_view es) NoPairs (mapped_all is_constant_entry entry_view es ∙ other)))
 
--- a map is no number
+-- a map is not a number
 made_negatable : (es : Entries) (span : Span) (o : Option Pairs) → MayBeNegated (map_made es span o)
 made_negatable es span None = tt
 made_negatable es span (Some ps) = tt

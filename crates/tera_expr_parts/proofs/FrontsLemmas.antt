@@ -1,4 +1,4 @@
--- What stands behind an operand, looked at and then taken.
+-- What comes after an operand, looked at and then taken.
 use Rattle.std.proofs.Common.{◌≡◌, ◌≢◌, ℕ, ◌+◌, Bool, true, false, is_some, List, Option, Some, None, Ok, refl, sym, ap, subst, ◌∙◌, codes, arith}
 use Rattle.std.specs.Str.{bytes_eq}
 use Rattle.std.specs.Prelude.{cond}
@@ -153,17 +153,17 @@ operator_taken old new b h sees o n is =
     let there : reading.front old.left ≡ marked_front (among front_marks t) new.span new.left = ap reading.front left ∙ front_is t new.span new.left in
     subst (λ fr. OneOrTwo o n fr new.left) (sym there) (joined_there o n (among front_marks t) new.span new.left (is ∙ ap kind_of there))
 
-behind : Items → Items
-behind (Token t s us) = us
-behind r = r
+following : Items → Items
+following (Token t s us) = us
+following r = r
 
 not_in_unseen : (x : Span × Items) (items : Items) → takes (Operation operators.In) items ≡ Some x → Sight 2 items 0 → ⊥
 not_in_unseen x items is h = subst (λ us. Sight 2 us 0) (takes_ok (Operation operators.In) items x is) h
 
 pub not_in_taken : (fr : reading.Front) (o : BinaryOperator) (mid new : Position) (b : Bool) → OneOrTwo o true fr mid.left → Skips mid b new → SeesTwo new → IsOperatorBefore fr o true new.left
-unfolding behind
+unfolding following
 not_in_taken fr o mid new false (x, is, before) h sees = absurd (not_in_unseen x mid.left is (unseen mid new h sees))
-not_in_taken fr o mid new true (x, is, before) (p, h) sees = subst (IsOperatorBefore fr o true) (ap behind (sym (takes_ok (Operation operators.In) mid.left x is) ∙ h.1)) before
+not_in_taken fr o mid new true (x, is, before) (p, h) sees = subst (IsOperatorBefore fr o true) (ap following (sym (takes_ok (Operation operators.In) mid.left x is) ∙ h.1)) before
 
 pub not_in_took : (fr : reading.Front) (o : BinaryOperator) (mid new : Position) (b : Bool) → OneOrTwo o true fr mid.left → Skips mid b new → SeesTwo new → Took mid new
 not_in_took fr o mid new false (x, is, before) h sees = absurd (not_in_unseen x mid.left is (unseen mid new h sees))

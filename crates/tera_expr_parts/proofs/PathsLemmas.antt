@@ -15,7 +15,7 @@ use Rattle.tera_grammar.proofs.expressions.Fronts.{takes_ok, skip_mark, none_ski
 use Rattle.tera_expect.specs.Taking.{Fails}
 use Rattle.tera_grammar.proofs.expressions.Steps.{dotted_steps}
 
--- the names so far and their text, and the tokens behind them
+-- the names so far and their text, and the tokens after them
 pub record Joining (old : Items) (text : List ℕ) (now : Items) : Type 0 where
   pub rest : Dotted → Path
   pub reads : path_of old ≡ left_over (dotted_of (at 0 now) >>= λ ds. Some (rest ds.0, ds.1))

@@ -1,4 +1,4 @@
--- What stands between brackets, parted by commas.
+-- What is between brackets, parted by commas.
 use Rattle.std.specs.Prelude.{◌≡◌, ◌⊎◌, ℕ, Bool, true, false, ◌||◌, cond, List, Option, Some, None, Result, Ok, Err}
 use Rattle.std.specs.Str.{bytes_eq}
 use Rattle.tera_base.specs.Errors.{IsMemory}
@@ -23,7 +23,7 @@ reader_by d (Some n) = fresh n (expr d)
 abbrev pub reader_of : Values → Reader
 reader_of v = reader_by v.depth v.own
 
--- Behind an element the row ends, at once or behind a comma; or another element stands behind a comma.
+-- After an element the row ends, at once or after a comma; or another element comes after a comma.
 abbrev pub EndsAt : Mark → Items → Position → Type 0
 EndsAt end old new = takes end old ≡ Some (new.span, new.left)
 

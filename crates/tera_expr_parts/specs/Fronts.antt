@@ -1,4 +1,4 @@
--- What stands behind an operand, without where it stands.
+-- What comes after an operand, without where it is.
 use Rattle.std.specs.Prelude.{◌≡◌, ℕ, Bool, true, false, ltb, List, codes, if◌then◌else◌, is_some}
 use Rattle.std.specs.Str.{bytes_eq}
 use Rattle.tera_base.specs.declared.utils.Span.{Span}
@@ -73,7 +73,7 @@ front_kind Chooses = chosen
 front_kind (Closes e) = ending_kind e
 front_kind Misplaced = misplaced
 
--- how a test, a filter or a subscript begins whose first token stands there
+-- how a test, a filter or a subscript begins whose first token is there
 abbrev pub ending_of : Ending → Span → reading.Ending
 ending_of Test span = reading.ends_test span
 ending_of Filter span = reading.ends_filter span
@@ -93,16 +93,16 @@ abbrev pub IsName : Tok → Type 0
 IsName (Ident name) = Unit {0}
 IsName _ = ⊥
 
--- the tokens behind an operator, and behind the first token of what else goes on with an operand
+-- the tokens after an operator, and after the first token of what else goes on with an operand
 abbrev pub IsOperatorBefore : reading.Front → BinaryOperator → Bool → Items → Type 0
-IsOperatorBefore front o n behind =
-    (op : Op) × (front ≡ reading.joins (reading.leads_binary op) behind) × (operator_in op ≡ o) × (is_negated op ≡ n)
+IsOperatorBefore front o n following =
+    (op : Op) × (front ≡ reading.joins (reading.leads_binary op) following) × (operator_in op ≡ o) × (is_negated op ≡ n)
 
 abbrev pub second_is_in : Items → Bool
 second_is_in (Token u s ts) = is_some (takes (Operation operators.In) ts)
 second_is_in _ = false
 
--- what a word is, where `in` stands behind it or not
+-- what a word is, where `in` comes after it or not
 abbrev pub word_kind : List ℕ → Bool → Kind
 word_kind text before_in =
     if bytes_eq text (codes "or") then joined_by operators.Or false

@@ -17,7 +17,7 @@ pub record AreValid (l : Limits) : Type 0 where
   pub arrays : (1 ≤ l.arrays) × (l.arrays ≤ 8)
   pub bodies : (1 ≤ l.bodies) × (l.bodies ≤ 100)
 
--- a test tells whether something holds
+-- a test says whether something holds
 abbrev pub Decides : Bool → Type 0 → Type 0
 Decides true P = P
 Decides false P = P → ⊥

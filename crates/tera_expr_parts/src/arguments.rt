@@ -16,7 +16,7 @@ use tera_lexer::Cursor;
 use tera_tree::Expression;
 
 /// The name of an argument, which no argument before it has.
-#[tactic(auto, using(tera_expect::proofs::TakingLemmas::behind_tokens))]
+#[tactic(auto, using(tera_expect::proofs::TakingLemmas::after_tokens))]
 pub fn argument_name<'a>(
     cursor: &mut Cursor<'a>,
     arguments: &BTreeMap<String, Expression>,

@@ -13,7 +13,7 @@ use tera_lexer::{Cursor, Token};
 use tera_tree::Expression;
 
 /// A string that is the value of an attribute.
-#[tactic(auto, using(tera_expect::proofs::TakingLemmas::behind_tokens))]
+#[tactic(auto, using(tera_expect::proofs::TakingLemmas::after_tokens))]
 pub fn quote(cursor: &mut Cursor<'_>) -> Result<Expression, Error>
     ensures gives { GivesQuote result cursor.new (taken_quote cursor.old.left) }
     ensures refusal { IfErr result (Refuses cursor.old) }
@@ -29,7 +29,7 @@ pub fn quote(cursor: &mut Cursor<'_>) -> Result<Expression, Error>
 }
 
 /// The end of a call of a component that closes itself.
-#[tactic(auto, using(tera_expect::proofs::TakingLemmas::behind_tokens))]
+#[tactic(auto, using(tera_expect::proofs::TakingLemmas::after_tokens))]
 pub fn close_component(cursor: &mut Cursor<'_>) -> Result<(), Error>
     ensures gives { ClosesAt result cursor.new (closed_at cursor.old.left) }
     ensures refusal { IfErr result (Refuses cursor.old) }

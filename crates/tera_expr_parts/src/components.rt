@@ -9,7 +9,7 @@ use tera_expect::{Fixed, eat, name};
 use tera_lexer::Cursor;
 
 /// Reads names joined by dots.
-#[tactic(auto, using(tera_expect::proofs::TakingLemmas::behind_tokens))]
+#[tactic(auto, using(tera_expect::proofs::TakingLemmas::after_tokens))]
 pub fn dotted_name(cursor: &mut Cursor<'_>) -> Result<String, Error>
     ensures gives { GivesPath cursor.old.left result cursor.new.left }
     ensures refusal { IfErr result (Refuses cursor.old) }

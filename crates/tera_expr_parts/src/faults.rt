@@ -1,8 +1,8 @@
 //! The faults of expressions, in the order in which the language's document lists them.
 
 ghost use Rattle.std.specs.Prelude.{◌⊎◌};
-ghost use Rattle.tera_base.specs.Errors.{TellsBy};
-ghost use Rattle.tera_lexer.specs.code.Cursors.{TellsAt};
+ghost use Rattle.tera_base.specs.Errors.{ReportsBy};
+ghost use Rattle.tera_lexer.specs.code.Cursors.{ReportsAt};
 ghost use Rattle.tera_lexer.specs.grammar.Faults.{BeginsWith, EndsWith};
 ghost use Rattle.tera_lexer.specs.grammar.Place.{IsWithin};
 ghost use Rattle.tera_expr_parts.specs.Ranges.{RunsFrom};
@@ -24,8 +24,8 @@ pub(crate) fn no_expression(cursor: &Cursor<'_>, token: &Token<'_>) -> Error
     reported(cursor, message)
 }
 
-/// That a prefix stands behind a prefix; it is taken.
-#[tactic(auto, unfolding(tera_expect::specs::Taking::Refuses, tera_expect::specs::Taking::Took), using(tera_expect::proofs::TakingLemmas::refused_behind))]
+/// That a prefix comes after a prefix; it is taken.
+#[tactic(auto, unfolding(tera_expect::specs::Taking::Refuses, tera_expect::specs::Taking::Took), using(tera_expect::proofs::TakingLemmas::refused_after))]
 pub fn consecutive(cursor: &mut Cursor<'_>) -> Error
     ensures { Refuses cursor.old result }
 {
@@ -39,8 +39,8 @@ pub fn consecutive(cursor: &mut Cursor<'_>) -> Error
     }
 }
 
-/// That a `not` stands behind an operand without `in`; it is taken.
-#[tactic(auto, using(tera_expect::proofs::TakingLemmas::refused_behind))]
+/// That a `not` comes after an operand without `in`; it is taken.
+#[tactic(auto, using(tera_expect::proofs::TakingLemmas::refused_after))]
 pub fn misplaced_not(cursor: &mut Cursor<'_>) -> Error
     ensures { Refuses cursor.old result }
 {
@@ -50,8 +50,8 @@ pub fn misplaced_not(cursor: &mut Cursor<'_>) -> Error
     }
 }
 
-/// That a prefix stands behind `~`.
-pub(crate) fn prefix_behind_tilde(cursor: &Cursor<'_>, prefix: UnaryOperator) -> Error
+/// That a prefix comes after `~`.
+pub(crate) fn prefix_after_tilde(cursor: &Cursor<'_>, prefix: UnaryOperator) -> Error
     ensures { Refuses cursor.now result }
 {
     let message = format!(in cursor.alloc(); "`{prefix}` is not allowed after `~`");
@@ -69,7 +69,7 @@ pub fn too_complex(cursor: &Cursor<'_>) -> Error
 
 /// The same at a word, which comes next.
 pub(crate) fn too_complex_at(cursor: &Cursor<'_>, word: &Span) -> Error
-    ensures { TellsAt word.now result }
+    ensures { ReportsAt word.now result }
 {
     Error::syntax_error(cursor.alloc(), TOO_COMPLEX, word)
 }
@@ -92,7 +92,7 @@ pub(crate) fn too_many_arrays(cursor: &Cursor<'_>, most: usize) -> Error
     reported(cursor, message)
 }
 
-/// That an argument of this name was defined before, where the names tell.
+/// That an argument of this name was defined before, where the names say.
 #[tactic(auto, using(tera_expect::proofs::TakingLemmas::same_refused))]
 pub(crate) fn repeated_argument(cursor: &Cursor<'_>, name: &str, names: &[(&str, Span)]) -> Error
     ensures { Refuses cursor.now result }
@@ -107,9 +107,9 @@ pub(crate) fn repeated_argument(cursor: &Cursor<'_>, name: &str, names: &[(&str,
     error
 }
 
-/// That a token, which stands at the span, is no key of a map.
+/// That a token, which is at the span, is not a key of a map.
 pub(crate) fn no_key(alloc: Global, token: &Token<'_>, span: &Span) -> Error
-    ensures { TellsAt span.now result }
+    ensures { ReportsAt span.now result }
 {
     let message = format!(in alloc;
         "Found {token} but expected `...`, a string, an integer or a bool."
@@ -127,7 +127,7 @@ pub(crate) fn reserved(cursor: &Cursor<'_>, name: &str, purpose: &str) -> Error
     reported(cursor, message)
 }
 
-/// That no name stands behind the `<` of a component, which was taken last.
+/// That no name comes after the `<` of a component, which was taken last.
 pub fn no_component_name(cursor: &Cursor<'_>) -> Error
     ensures { Refuses cursor.now result }
 {
@@ -137,7 +137,7 @@ pub fn no_component_name(cursor: &Cursor<'_>) -> Error
     )
 }
 
-/// That a token, which was taken, is no value of an attribute.
+/// That a token, which was taken, is not a value of an attribute.
 pub(crate) fn no_attribute_value(cursor: &Cursor<'_>, token: &Token<'_>) -> Error
     ensures { Refuses cursor.now result }
 {
@@ -147,7 +147,7 @@ pub(crate) fn no_attribute_value(cursor: &Cursor<'_>, token: &Token<'_>) -> Erro
     reported(cursor, message)
 }
 
-/// That the next token does not end a component; it is told at the token before.
+/// That the next token does not end a component; it is reported at the token before.
 #[tactic(auto, unfolding(tera_expect::specs::Taking::Refuses), using(tera_expect::proofs::TakingLemmas::last_refused))]
 pub(crate) fn unclosed_component(cursor: &mut Cursor<'_>) -> Error
     ensures { Refuses cursor.old result }
@@ -180,7 +180,7 @@ pub fn reported_from(
     message: Result<String, AllocError>,
 ) -> Error
     requires { IsWithin cursor.now.source first.now }
-    ensures { TellsBy (λ text span. RunsFrom first.now cursor.now span) result }
+    ensures { ReportsBy (λ text span. RunsFrom first.now cursor.now span) result }
 {
     Error::reported(cursor.alloc(), message, &up_to_last(cursor, first))
 }

@@ -1,4 +1,4 @@
-//! What stands behind an operand.
+//! What comes after an operand.
 
 ghost use Rattle.std.specs.Prelude.{◌≡◌, ◌⊎◌, ◌<◌};
 ghost use Rattle.tera_base.specs.declared.utils.Span.{Span};
@@ -24,12 +24,12 @@ pub enum Ending {
     Subscript,
 }
 
-/// What the tokens behind an operand begin with.
+/// What the tokens after an operand begin with.
 #[derive(Clone, Copy)]
 pub enum Front {
     /// Nothing that goes on with the operand.
     Nothing,
-    /// An operator between two operands, and whether `not` stands before it.
+    /// An operator between two operands, and whether `not` is before it.
     Joins(Operator, bool),
     /// `if`, of a ternary.
     Chooses,
@@ -66,7 +66,7 @@ impl Front {
     }
 }
 
-// What a token begins that is no name.
+// What a token begins that is not a name.
 #[tactic(auto, unfolding(crate::specs::Unfold::front_of_token))]
 fn symbol_front(token: &Token<'_>) -> Front
     ensures { IsName (seen token.now) ⊎ ((span : Span) (items : Items) →
@@ -93,7 +93,7 @@ fn symbol_front(token: &Token<'_>) -> Front
     }
 }
 
-// What a word begins, where `in` stands behind it or not.
+// What a word begins, where `in` comes after it or not.
 fn word_front(word: &str, before_in: bool) -> Front
     ensures { front_kind result ≡ word_kind word.now before_in }
 {
@@ -109,7 +109,7 @@ fn word_front(word: &str, before_in: bool) -> Front
     }
 }
 
-// Whether the token behind the next one is the word `in`.
+// Whether the token after the next one is the word `in`.
 fn in_is_second(cursor: &Cursor<'_>) -> bool
     requires { 0 < cursor.now.sight }
     ensures { result ≡ second_is_in cursor.now.left }

@@ -9,14 +9,14 @@ use std::alloc::{AllocError, Global};
 use tera_base::{Span, Spanned, Value};
 use tera_tree::{Expression, Var};
 
-/// A whole number that stands at the span.
+/// A whole number that is at the span.
 pub fn integer(alloc: Global, n: i64, span: Span) -> Result<Expression, AllocError>
     ensures { IfOk result (λ e. expression_view e ≡ tree.Const (values.I64 n) span) }
 {
     Ok(Expression::Const(Spanned::new(alloc, Value::I64(n), span)?))
 }
 
-/// A text that stands at the span.
+/// A text that is at the span.
 pub fn text(alloc: Global, text: &str, span: Span) -> Result<Expression, AllocError>
     ensures { IfOk result (λ e. expression_view e ≡ tree.Const (values.Text text.now) span) }
 {
@@ -24,7 +24,7 @@ pub fn text(alloc: Global, text: &str, span: Span) -> Result<Expression, AllocEr
     Ok(Expression::Const(Spanned::new(alloc, value, span)?))
 }
 
-/// A text that was made, which stands at the span.
+/// A text that was made, which is at the span.
 pub fn string(alloc: Global, text: String, span: Span) -> Result<Expression, AllocError>
     ensures { IfOk result (λ e.
         expression_view e ≡ tree.Const (values.Text (string_bytes text)) span) }
@@ -32,7 +32,7 @@ pub fn string(alloc: Global, text: String, span: Span) -> Result<Expression, All
     Ok(Expression::Const(Spanned::new(alloc, Value::String(text), span)?))
 }
 
-/// A truth that stands at the span.
+/// A truth that is at the span.
 pub fn truth(alloc: Global, b: bool, span: Span) -> Result<Expression, AllocError>
     ensures { IfOk result (λ e. expression_view e ≡ tree.Const (values.Truth b) span) }
 {
@@ -46,7 +46,7 @@ pub fn none(alloc: Global, span: Span) -> Result<Expression, AllocError>
     Ok(Expression::Const(Spanned::new(alloc, Value::None, span)?))
 }
 
-/// A variable whose name stands at the span.
+/// A variable whose name is at the span.
 pub fn variable(alloc: Global, name: &str, span: Span) -> Result<Expression, AllocError>
     ensures { IfOk result (λ e. expression_view e ≡ tree.Var name.now span) }
 {

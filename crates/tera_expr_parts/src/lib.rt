@@ -1,11 +1,11 @@
-//! The parts of expressions that are read without reading an expression inside of them.
+//! The parts of expressions that are read without reading an expression in them.
 //!
-//! It takes a cursor, and gives operators and what else goes on with an operand (`kind_of`), constants, names, keys,
-//! the marks between elements (`Continues`), what may still open (`room_of`), and the faults of these. It stands on
-//! `tera_expect`; `tera_expr_reader` and `tera_statements` stand on it.
+//! It takes a cursor. It has operators and what else may follow an operand (`kind_of`), constants, names, keys, the
+//! marks between elements (`Continues`), how many more may open (`room_of`), and the faults of all these. It depends on
+//! `tera_expect`; `tera_expr_reader` and `tera_statements` depend on it.
 //!
-//! In the order of reading: `limits`; `operators`; `front`, what stands behind an operand; `parts` and `leaves`, which
-//! make expressions; `literals`, arrays and maps that may be constants; `rows`, what stands between elements; `words`,
+//! In the order of reading: `limits`; `operators`; `front`, what comes after an operand; `parts` and `leaves`, which
+//! make expressions; `literals`, arrays and maps that may be constants; `rows`, what is between elements; `words`,
 //! `names`, `arguments`, `keys`, `components` and `attributes`; `faults`.
 #![tactic(auto)]
 

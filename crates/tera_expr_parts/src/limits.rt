@@ -69,10 +69,10 @@ fn lies(n: usize, most: usize) -> bool
     (1..=most).contains(&n)
 }
 
-/// Where an expression stands, and how far it may go.
+/// Where an expression is, and how far it may go.
 #[derive(Clone, Copy, Debug, PartialEq, Eq)]
 pub struct Scope {
-    /// Whether it stands in the body of a loop, or is what a loop goes over.
+    /// Whether it is in the body of a loop, or is what a loop goes over.
     pub in_loop: bool,
     /// What the template is read within.
     pub limits: Limits,
@@ -81,7 +81,7 @@ pub struct Scope {
 /// What may still open inside of an expression, beside expressions.
 #[derive(Clone, Copy)]
 pub struct Room {
-    /// Where the outermost expression stands.
+    /// Where the outermost expression is.
     pub scope: Scope,
     /// Subscripts, one in another.
     pub subscripts: usize,
@@ -137,7 +137,7 @@ impl Room {
     }
 }
 
-/// Counts one link, behind the token taken last, where one may still come.
+/// Counts one link, after the token taken last, where one may still come.
 pub fn count_link(cursor: &Cursor<'_>, links: &mut usize) -> Result<(), Error>
     ensures counts { IfOk result (λ _. lowered links.old ≡ Some links.new) }
     ensures fails { IfErr result (λ e. IsMemory e ⊎ (lowered links.old ≡ None)) }
@@ -151,7 +151,7 @@ pub fn count_link(cursor: &Cursor<'_>, links: &mut usize) -> Result<(), Error>
 }
 
 /// Counts the link of a binary operator, which comes next, where one may still come. In front of a `not in` the `not`
-/// is told of.
+/// is reported for.
 #[tactic(auto, using(tera_expect::proofs::TakingLemmas::next_refused))]
 pub fn count_operator(cursor: &Cursor<'_>, links: &mut usize, negated: bool) -> Result<(), Error>
     ensures counts { IfOk result (λ _. lowered links.old ≡ Some links.new) }

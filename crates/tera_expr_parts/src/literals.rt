@@ -1,4 +1,4 @@
-//! Arrays and maps, which are constants where all that stands in them is.
+//! Arrays and maps, which are constants where all that is in them is.
 
 ghost use Rattle.std.specs.Prelude.{◌≡◌, IfErr, IfOk, OnOk, Some, map};
 ghost use Rattle.std.specs.List.{flat_map, fold, list_all};

@@ -13,8 +13,8 @@ use tera_base::Error;
 use tera_expect::{Fixed, eat, name};
 use tera_lexer::Cursor;
 
-/// A name that is not reserved; `purpose` ends the sentence that tells of one that is.
-#[tactic(auto, using(tera_expect::proofs::TakingLemmas::refused_behind))]
+/// A name that is not reserved; `purpose` ends the sentence that reports one that is.
+#[tactic(auto, using(tera_expect::proofs::TakingLemmas::refused_after))]
 pub fn free_name<'a>(cursor: &mut Cursor<'a>, purpose: &str) -> Result<&'a str, Error>
     ensures gives { GivesAs (name_at cursor.new.span) result cursor.new.left
         (free_name cursor.old.left) }
@@ -28,9 +28,9 @@ pub fn free_name<'a>(cursor: &mut Cursor<'a>, purpose: &str) -> Result<&'a str, 
     Ok(name)
 }
 
-/// The variables of a loop or a comprehension: the name of the key, if any, and that of the value. What is told of a
-/// reserved name ends in the same way.
-#[tactic(auto, using(tera_expect::proofs::TakingLemmas::behind_tokens))]
+/// The variables of a loop or a comprehension: the name of the key, if any, and that of the value. What is reported for
+/// a reserved name ends in the same way.
+#[tactic(auto, using(tera_expect::proofs::TakingLemmas::after_tokens))]
 pub fn variables(cursor: &mut Cursor<'_>, purpose: &str) -> Result<(Option<String>, String), Error>
     ensures gives { (i : ℕ) →
         GivesBy AreVariables result (at i cursor.new.left) (variables_of (at i cursor.old.left)) }

@@ -56,7 +56,7 @@ impl Operator {
         }
     }
 
-    /// How tightly it binds what stands before it.
+    /// How tightly it binds what is before it.
     pub fn left_power(self) -> u8
         ensures { result ≡ left_of (operator_of self) }
     {
@@ -80,7 +80,7 @@ impl Operator {
         }
     }
 
-    /// How tightly it binds what stands behind it.
+    /// How tightly it binds what comes after it.
     pub fn right_power(self) -> u8
         ensures { result ≡ right_of (operator_of self) }
     {
@@ -91,13 +91,13 @@ impl Operator {
     }
 }
 
-/// How tightly a test binds what stands before it.
+/// How tightly a test binds what is before it.
 pub(crate) const TEST_POWER: u8 = 5;
 
-/// How tightly a filter binds what stands before it.
+/// How tightly a filter binds what is before it.
 pub(crate) const FILTER_POWER: u8 = 17;
 
-/// How tightly a prefix binds what stands behind it.
+/// How tightly a prefix binds what comes after it.
 pub fn prefix_power(sign: UnaryOperator) -> u8
     ensures { (span : Span) → result ≡ sign_power (sign_of sign span) }
 {

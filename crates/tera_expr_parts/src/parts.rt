@@ -14,7 +14,7 @@ ghost use Rattle.tera_expr_parts.specs.Literals.{GivesLiteral, MayBeNegated, num
 ghost use Rattle.tera_expr_parts.specs.Fronts.{operator_of, sign_of};
 ghost use Rattle.tera_expect.specs.Taking.{IsCounted, Refuses};
 
-use crate::faults::{no_expression, prefix_behind_tilde};
+use crate::faults::{no_expression, prefix_after_tilde};
 use crate::leaves;
 use crate::operators::Operator;
 use std::alloc::{AllocError, Global};
@@ -31,7 +31,7 @@ pub fn spanning(start: &Span, end: &Span) -> Span
     span
 }
 
-/// The constant that the token is, which stands at the span and was taken last.
+/// The constant that the token is, which is at the span and was taken last.
 #[tactic(auto, using(tera_expect::proofs::TakingLemmas::memory_refused, crate::proofs::LiteralsLemmas::count_negatable))]
 pub fn literal(cursor: &Cursor<'_>, token: Token<'_>, span: &Span) -> Result<Expression, Error>
     requires { IsCounted (seen token) }
@@ -128,7 +128,7 @@ pub fn refuse_prefix(
 {
     match (operator, right) {
         (Operator::StrConcat, Expression::UnaryOperation(operation)) => {
-            Err(prefix_behind_tilde(cursor, operation.node().op))
+            Err(prefix_after_tilde(cursor, operation.node().op))
         }
         _ => Ok(()),
     }

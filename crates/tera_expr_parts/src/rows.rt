@@ -1,4 +1,4 @@
-//! What stands between brackets, parted by commas.
+//! What is between brackets, parted by commas.
 
 ghost use Rattle.std.specs.Prelude.{IfErr, IfOk};
 ghost use Rattle.tera_expr_parts.specs.Rooms.{room_of};
@@ -40,7 +40,7 @@ impl Values {
     }
 }
 
-/// Behind an element of a row: whether another one stands there, behind a comma, or else the end of the row is taken.
+/// After an element of a row: whether another one is there, after a comma, or else the end of the row is taken.
 #[tactic(auto, using(tera_expect::proofs::TakingLemmas::on_the_way))]
 pub fn more(cursor: &mut Cursor<'_>, end: Fixed) -> Result<bool, Error>
     ensures gives { Continues (mark_of end) cursor.old.left cursor.new result }

@@ -20,7 +20,7 @@ use Rattle.tera_grammar.proofs.expressions.Arguments.{arguments_are}
 use Rattle.tera_expect.specs.Taking.{Fails}
 use Rattle.tera_expr_parts.specs.declared.rows.Values.{Values}
 use Rattle.tera_expr_parts.specs.CommaLists.{Continues, has_argument, new_name_at, reader_of}
-use Rattle.tera_expr_reader.proofs.RowsLemmas.{Opening, Rowing, skip_taken, element_read, element_fails, behind, behind_fails, fails_by}
+use Rattle.tera_expr_reader.proofs.RowsLemmas.{Opening, Rowing, skip_taken, element_read, element_fails, following, after_fails, fails_by}
 use Rattle.tera_expr_reader.proofs.ArgumentsLemmas.{Arguing, Argued, one_more, last_one, all_of}
 
 pub new_name_ok : (args : Args) (r us : Items) (n : Name) → new_name_at args r ≡ Some (n, us)
@@ -134,18 +134,18 @@ module _ (l : Bool) (done : Args) (v : Values) (w : Room) (p : Place) (i : ℕ) 
       (λ none. element_fails (reader_of v) w of_arguments whole (at i old) (Arguing l done) o (no_value (reader_of v) w i old us vs n s (new_name_ok done old us n name).0 assign none)) h)
 
   module _ (vs : Items) (s : Span) (assign : takes Assign us ≡ Some (s, vs)) (t : Tree) (j : ℕ) (ts : Items) (read : reader_of v w 0 (at i vs) ≡ Some (t, at j ts)) where
-    behind_value : whole ≡ (after_element (row_of (reader_of v) w of_arguments) of_arguments (argument n s t) (at j ts) >>= λ r. Some (o.put r.0, r.1))
-    behind_value = element_read (reader_of v) w of_arguments whole (at i old) (Arguing l done) o (argument n s t) (at j ts)
+    after_value : whole ≡ (after_element (row_of (reader_of v) w of_arguments) of_arguments (argument n s t) (at j ts) >>= λ r. Some (o.put r.0, r.1))
+    after_value = element_read (reader_of v) w of_arguments whole (at i old) (Arguing l done) o (argument n s t) (at j ts)
         (argument_read (reader_of v) w i old us vs n s t (at j ts) (new_name_ok done old us n name).0 assign read)
 
     pub lacks_end : (new : Position) (e : Error) → Continues RightParen ts new (Err e) → Fails (arguments_of (reader_of v) w p) e
-    lacks_end new e h = arguments_missed (reader_of v) w p e (behind_fails v w of_arguments whole o.put (argument n s t) j ts new e behind_value h)
+    lacks_end new e h = arguments_missed (reader_of v) w p e (after_fails v w of_arguments whole o.put (argument n s t) j ts new e after_value h)
 
     pub one_argument : (new : Position) (b : Bool) → Continues RightParen ts new (Ok b) → (x : Expr) → x ≡ output l t → (with : Args) → with ≡ put_arg n.text x done
         → Rowing b (reader_of v) w of_arguments whole (at j new.left) (Arguing l with) (Argued l with new.span)
     one_argument new b goes x shown with is =
         let fresh_name = (new_name_ok done old us n name).1 in
         subst (λ d. Rowing b (reader_of v) w of_arguments whole (at j new.left) (Arguing l d) (Argued l d new.span)) (sym is)
-        (behind v w of_arguments whole o.put (argument n s t) j ts new b (Arguing l (put_arg n.text x done)) (Argued l (put_arg n.text x done) new.span) behind_value goes
+        (following v w of_arguments whole o.put (argument n s t) j ts new b (Arguing l (put_arg n.text x done)) (Argued l (put_arg n.text x done) new.span) after_value goes
         (λ c. one_more l done o.put o.keeps n s t x shown fresh_name c) (last_one l done o.put o.keeps n s t x shown fresh_name new.span)
         (λ c. all_of l (put_arg n.text x done) (λ r. o.put (then (argument n s t) c r)) (one_more l done o.put o.keeps n s t x shown fresh_name c) new.span))

@@ -154,7 +154,7 @@ module _ (f : Reader) (w : Room) (k : ℕ) where
       → (f w 0 p >>= λ e. skip RightBrace e.1 >>= λ c. g e.0 c.0 c.1) ≡ (braced_of f w p >>= λ x. g x.0.0 x.0.1 x.1)
   braced_bind p g = read_bind (f w 0 p) g
 
-  -- what is read of a value, of an attribute behind its name, and of an attribute, whatever is read of those behind it
+  -- what is read of a value, of an attribute after its name, and of an attribute, whatever is read of those after it
   abbrev value_in : Name → Span → Items → (Place → Reads Attributes) → Reads Attributes
   value_in n s ts more = value_at more f w n s (at k ts) (quote_at (at k ts))
 
@@ -197,7 +197,7 @@ module _ (f : Reader) (w : Room) (k : ℕ) where
   value_quoted l ts (Err e) new brace (inl memory) = λ n s. inl memory
   value_quoted l ts (Err e) new brace (inr none) = λ n s. inr (λ more. rw (no_quote k ts none, unskipped LeftBrace k ts brace) refl)
 
-  -- an attribute behind its name
+  -- an attribute after its name
   bare_adds : (n : Name) (ts : Items) → takes Assign ts ≡ None → Adds (named_in n ts) (bare n) (at k ts)
   bare_adds n ts none = λ more. rw (unskipped Assign k ts none) refl
 

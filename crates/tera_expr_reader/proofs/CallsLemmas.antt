@@ -25,7 +25,7 @@ use Rattle.tera_grammar.specs.expressions.Reading.Loop.{suffix_in}
 use Rattle.tera_expect.specs.Taking.{Fails, GivesBy, Eats}
 use Rattle.tera_expect.proofs.Steps.{failed, failed_past, failed_as, skipped, unskipped, named, unnamed}
 
--- a name with the arguments that are read behind it
+-- a name with the arguments that are read after it
 abbrev paired : Name → Reads Args → Reads Filtering
 paired n o = o >>= λ a. Some (filtering n a.0, a.1)
 
@@ -62,7 +62,7 @@ module _ (f : Reader) (w : Room) where
   pub call_fails : (k : ℕ) (ts us : Items) (n : Name) (e : Error) → taken_name ts ≡ Some (n, us) → Fails (args_of f w (at k us)) e → Fails (call_of f w (at k ts)) e
   call_fails k ts us n e name h = failed_past (name_of (at k ts)) _ (n, at k us) e (named k ts us n name) (failed (args_of f w (at k us)) _ e h)
 
-  -- a test behind `is`, a subscript behind its bracket
+  -- a test after `is`, a subscript after its bracket
   pub test_is : (s : Span) (k : ℕ) (ts : Items) → takes Not ts ≡ None → suffix_in f w (ends_test s) (at k ts) ≡ (call_of f w (at k ts) >>= λ x. Some (Test s plainly x.0.name x.0.args, x.1))
   unfolding suffix_in
   test_is s k ts none = rw (unskipped Not k ts none) (bind_call f w (at k ts) (λ n g q. Some (Test s plainly n g, q)))
@@ -79,11 +79,11 @@ module _ (f : Reader) (w : Room) where
   test_fails s k false old mid e h fails = rw (test_is s k old.left h.0) (failed (call_of f w (at k old.left)) _ e (subst (λ p. Fails (call_of f w (at k p.left)) e) h.1 fails))
   test_fails s k true old mid e h fails = rw (negated_is s mid.span k old.left mid.left h.0) (failed (call_of f w (at k mid.left)) _ e fails)
 
-  pub arguments_behind : (l : Bool) (before here : Span) (r : Result (BTreeMap (String Global) Expression) Error) (q : Place) (k : ℕ) (ts us : Items) (s : Span) → takes LeftParen ts ≡ Some (s, us)
+  pub arguments_after : (l : Bool) (before here : Span) (r : Result (BTreeMap (String Global) Expression) Error) (q : Place) (k : ℕ) (ts us : Items) (s : Span) → takes LeftParen ts ≡ Some (s, us)
       → GivesBy (AreArguments l here) r q (arguments_of f w (at k us)) → GivesBy (AreArgs l before here) r q (args_of f w (at k ts))
-  arguments_behind l before here (Ok m) q k ts us s paren (row, read, shows) =
+  arguments_after l before here (Ok m) q k ts us s paren (row, read, shows) =
       (args s row, some_arguments k ts us s paren ∙ ap (λ o. o >>= λ r. Some (args s r.0, r.1)) read, (shows.0, λ n h. shows.1))
-  arguments_behind l before here (Err e) q k ts us s paren h = rw (some_arguments k ts us s paren) (failed (arguments_of f w (at k us)) _ e h)
+  arguments_after l before here (Err e) q k ts us s paren h = rw (some_arguments k ts us s paren) (failed (arguments_of f w (at k us)) _ e h)
 
 pub test_made : (l : Bool) (here : Span) (c : Call) (x : Filtering) (e : Expr) → IsCall l here c x
     → tree.Test e (string_bytes c.name) (args_view c.kwargs.entries) c.span ≡ tree.Test e x.name.text (args_output l x.args) (spanning x.name.span (call_end x))

@@ -36,7 +36,7 @@ pub shrinks : (old new : Position) → Took old new → size new.left < size old
 unfolding Took
 shrinks old new a = a.1
 
--- no link stands where no token is seen
+-- no link is where no token is seen
 unseen_link : (items : Items) → Sight 2 items 0 → link_of items ≡ no_link
 unfolding link_of
 unseen_link Ended h = refl
@@ -169,7 +169,7 @@ module _ (f : Reader) (w : Room) (c : Bool) (k : ℕ) (ts : Items) (x : reading.
       by more (jointed (plain_dot s) us) is = cc
       by more (jointed (optional_dot s) us) is = cc
 
--- where links end is told by the span before them
+-- where links end is given by the span before them
 pub ends_alike : (n m : Name) (ls : Links) → n.span ≡ m.span → links_end n ls ≡ links_end m ls
 ends_alike n m no_links h = h
 ends_alike n m (field d o ls) h = refl

@@ -26,8 +26,8 @@ use Rattle.std.specs.Borrow.{Bor}
 abbrev dotted_with : Span → Name → Reads Dotted → Reads Dotted
 dotted_with s n o = o >>= λ ds. Some (dots s n ds.0, ds.1)
 
-abbrev dots_behind : ℕ → Span → Reads Name → Reads Dotted
-dots_behind f s o = o >>= λ n. dotted_with s n.0 (dotted_by f n.1)
+abbrev dots_after : ℕ → Span → Reads Name → Reads Dotted
+dots_after f s o = o >>= λ n. dotted_with s n.0 (dotted_by f n.1)
 
 abbrev Alike : ℕ → (Place → Reads Dotted) → Items → Type 0
 Alike k read ts = read (at k ts) ≡ moved k (left_over (read (at 0 ts)))
@@ -36,16 +36,16 @@ carried : (k : ℕ) (s : Span) (n : Name) (o : Reads Dotted) → dotted_with s n
 carried k s n None = refl
 carried k s n (Some ds) = refl
 
-behind_dot : (f k : ℕ) (s : Span) (us : Items) (o : Option (Name × Items)) → taken_name us ≡ o → ((vs : Items) → Alike k (dotted_by f) vs)
-    → dots_behind f s (name_of (at k us)) ≡ moved k (left_over (dots_behind f s (name_of (at 0 us))))
-behind_dot f k s us None is same = rw (unnamed k us is, unnamed 0 us is) refl
-behind_dot f k s us (Some n) is same =
+after_dot : (f k : ℕ) (s : Span) (us : Items) (o : Option (Name × Items)) → taken_name us ≡ o → ((vs : Items) → Alike k (dotted_by f) vs)
+    → dots_after f s (name_of (at k us)) ≡ moved k (left_over (dots_after f s (name_of (at 0 us))))
+after_dot f k s us None is same = rw (unnamed k us is, unnamed 0 us is) refl
+after_dot f k s us (Some n) is same =
     rw (named k us n.1 n.0 is, named 0 us n.1 n.0 is) (ap (dotted_with s n.0) (same n.1) ∙ carried k s n.0 (dotted_by f (at 0 n.1)))
 
 at_dot : (f k : ℕ) (ts : Items) (o : Option (Span × Items)) → takes Dot ts ≡ o → ((vs : Items) → Alike k (dotted_by f) vs)
     → Alike k (λ p. dotted_at (dotted_by f) p (skip Dot p)) ts
 at_dot f k ts None is same = rw (unskipped Dot k ts is, unskipped Dot 0 ts is) refl
-at_dot f k ts (Some x) is same = rw (skipped Dot k ts x.1 x.0 is, skipped Dot 0 ts x.1 x.0 is) (behind_dot f k x.0 x.1 (taken_name x.1) refl same)
+at_dot f k ts (Some x) is same = rw (skipped Dot k ts x.1 x.0 is, skipped Dot 0 ts x.1 x.0 is) (after_dot f k x.0 x.1 (taken_name x.1) refl same)
 
 further_by : (f k : ℕ) (ts : Items) → Alike k (dotted_by f) ts
 unfolding dotted_by
@@ -56,43 +56,43 @@ further : (k : ℕ) (ts : Items) → Alike k dotted_of ts
 unfolding dotted_of
 further k ts = further_by (suc (size ts)) k ts
 
--- what is read behind a name
+-- what is read after a name
 abbrev path_with : Name → Reads Dotted → Reads Path
 path_with n o = o >>= λ ds. Some (record { name = n; further = ds.0 }, ds.1)
 
 module _ {B : Type 0} (k : ℕ) (g : Name → Dotted → Place → Option B) where
-  abbrev behind_path : Option (Path × Items) → Option B
-  behind_path o = o >>= λ x. g x.0.name x.0.further (at k x.1)
+  abbrev after_path : Option (Path × Items) → Option B
+  after_path o = o >>= λ x. g x.0.name x.0.further (at k x.1)
 
-  abbrev behind_dots : Name → Reads Dotted → Option B
-  behind_dots n o = o >>= λ ds. g n ds.0 ds.1
+  abbrev after_dots : Name → Reads Dotted → Option B
+  after_dots n o = o >>= λ ds. g n ds.0 ds.1
 
-  abbrev behind_name : Reads Name → Option B
-  behind_name o = o >>= λ n. behind_dots n.0 (dotted_of n.1)
+  abbrev after_name : Reads Name → Option B
+  after_name o = o >>= λ n. after_dots n.0 (dotted_of n.1)
 
-  dots_on : (n : Name) (o : Reads Dotted) → behind_dots n (moved k (left_over o)) ≡ behind_path (left_over (path_with n o))
+  dots_on : (n : Name) (o : Reads Dotted) → after_dots n (moved k (left_over o)) ≡ after_path (left_over (path_with n o))
   dots_on n None = refl
   dots_on n (Some ds) = refl
 
-  path_by : (ts : Items) (o : Option (Name × Items)) → taken_name ts ≡ o → behind_name (name_of (at k ts)) ≡ behind_path (path_of ts)
+  path_by : (ts : Items) (o : Option (Name × Items)) → taken_name ts ≡ o → after_name (name_of (at k ts)) ≡ after_path (path_of ts)
   unfolding path_of
   path_by ts None is = rw (unnamed k ts is, unnamed 0 ts is) refl
-  path_by ts (Some n) is = rw (named k ts n.1 n.0 is, named 0 ts n.1 n.0 is) (ap (behind_dots n.0) (further k n.1) ∙ dots_on n.0 (dotted_of (at 0 n.1)))
+  path_by ts (Some n) is = rw (named k ts n.1 n.0 is, named 0 ts n.1 n.0 is) (ap (after_dots n.0) (further k n.1) ∙ dots_on n.0 (dotted_of (at 0 n.1)))
 
--- what is read behind `/` and `>`
+-- what is read after `/` and `>`
 module _ {B : Type 0} (k : ℕ) (g : Span → Span → Place → Option B) where
-  abbrev behind_close : Option ((Span × Span) × Items) → Option B
-  behind_close o = o >>= λ x. g x.0.0 x.0.1 (at k x.1)
+  abbrev after_close : Option ((Span × Span) × Items) → Option B
+  after_close o = o >>= λ x. g x.0.0 x.0.1 (at k x.1)
 
-  abbrev behind_slash : Reads Span → Option B
-  behind_slash o = o >>= λ t. skip (Operation GreaterThan) t.1 >>= λ u. g t.0 u.0 u.1
+  abbrev after_slash : Reads Span → Option B
+  after_slash o = o >>= λ t. skip (Operation GreaterThan) t.1 >>= λ u. g t.0 u.0 u.1
 
   slash_on : (t : Span) (us : Items) (o : Option (Span × Items)) → takes (Operation GreaterThan) us ≡ o
-      → behind_slash (Some (t, at k us)) ≡ behind_close (takes (Operation GreaterThan) us >>= λ u. Some ((t, u.0), u.1))
+      → after_slash (Some (t, at k us)) ≡ after_close (takes (Operation GreaterThan) us >>= λ u. Some ((t, u.0), u.1))
   slash_on t us None is = rw (unskipped (Operation GreaterThan) k us is, is) refl
   slash_on t us (Some u) is = rw (skipped (Operation GreaterThan) k us u.1 u.0 is, is) refl
 
-  close_by : (ts : Items) (o : Option (Span × Items)) → takes (Operation Div) ts ≡ o → behind_slash (skip (Operation Div) (at k ts)) ≡ behind_close (closed_at ts)
+  close_by : (ts : Items) (o : Option (Span × Items)) → takes (Operation Div) ts ≡ o → after_slash (skip (Operation Div) (at k ts)) ≡ after_close (closed_at ts)
   close_by ts None is = rw (unskipped (Operation Div) k ts is, is) refl
   close_by ts (Some t) is = rw (skipped (Operation Div) k ts t.1 t.0 is, is) (slash_on t.0 t.1 (takes (Operation GreaterThan) t.1) refl)
 
@@ -110,12 +110,12 @@ module _ (f : Reader) (w : Room) (s : Span) (k : ℕ) where
   closing_call n ds o =
       o >>= λ r. skip (Operation Div) r.1 >>= λ t. skip (Operation GreaterThan) t.1 >>= λ u. Some (Atomic (Component s n ds r.0 t.0 u.0), u.1)
 
-  abbrev behind_call_name : Name → Dotted → Place → Reads Tree
-  behind_call_name n ds q = closing_call n ds (attributes_of f w q)
+  abbrev after_call_name : Name → Dotted → Place → Reads Tree
+  after_call_name n ds q = closing_call n ds (attributes_of f w q)
 
-  component_is : (ts : Items) → component_of f w s (at k ts) ≡ behind_path k behind_call_name (path_of ts)
+  component_is : (ts : Items) → component_of f w s (at k ts) ≡ after_path k after_call_name (path_of ts)
   unfolding component_of
-  component_is ts = path_by k behind_call_name ts (taken_name ts) refl
+  component_is ts = path_by k after_call_name ts (taken_name ts) refl
 
   pub unnamed_component : (ts : Items) → is_name ts ≡ false → component_of f w s (at k ts) ≡ None
   unfolding component_of
@@ -131,18 +131,18 @@ module _ (f : Reader) (w : Room) (s : Span) (k : ℕ) where
   call_made x r t u q = Some (Atomic (Component s x.name x.further r t u), q)
 
   closed_component : (ts us vs : Items) (j : ℕ) (x : Path) (r : Attributes) → path_of ts ≡ Some (x, us) → attributes_of f w (at k us) ≡ Some (r, at j vs)
-      → component_of f w s (at k ts) ≡ behind_close j (call_made x r) (closed_at vs)
+      → component_of f w s (at k ts) ≡ after_close j (call_made x r) (closed_at vs)
   closed_component ts us vs j x r path read =
-      component_is ts ∙ ap (behind_path k behind_call_name) path ∙ ap (closing_call x.name x.further) read ∙ close_by j (call_made x r) vs (takes (Operation Div) vs) refl
+      component_is ts ∙ ap (after_path k after_call_name) path ∙ ap (closing_call x.name x.further) read ∙ close_by j (call_made x r) vs (takes (Operation Div) vs) refl
 
   pub component_unclosed : (ts us vs : Items) (j : ℕ) (x : Path) (r : Attributes) (e : Error) → path_of ts ≡ Some (x, us) → attributes_of f w (at k us) ≡ Some (r, at j vs)
       → Fails (closed_at vs) e → Fails (component_of f w s (at k ts)) e
   component_unclosed ts us vs j x r e path read (inl memory) = inl memory
-  component_unclosed ts us vs j x r e path read (inr none) = inr (closed_component ts us vs j x r path read ∙ ap (behind_close j (call_made x r)) none)
+  component_unclosed ts us vs j x r e path read (inr none) = inr (closed_component ts us vs j x r path read ∙ ap (after_close j (call_made x r)) none)
 
   pub component_given : (ts us vs zs : Items) (j : ℕ) (x : Path) (r : Attributes) (t u : Span) → path_of ts ≡ Some (x, us) → attributes_of f w (at k us) ≡ Some (r, at j vs)
       → closed_at vs ≡ Some ((t, u), zs) → component_of f w s (at k ts) ≡ Some (Atomic (Component s x.name x.further r t u), at j zs)
-  component_given ts us vs zs j x r t u path read closed = closed_component ts us vs j x r path read ∙ ap (behind_close j (call_made x r)) closed
+  component_given ts us vs zs j x r t u path read closed = closed_component ts us vs j x r path read ∙ ap (after_close j (call_made x r)) closed
 
 pub component_shown : (l : Bool) (s t u : Span) (x : Path) (r : Attributes) (name : List ℕ) (es : tree.Entries) (body : tree.Nodes) (span : Span)
     → name ≡ path_output x → es ≡ attributes_output l r → body ≡ tree.NoNodes → span ≡ spanning s u

@@ -1,4 +1,4 @@
--- The parts of a comprehension, one behind another.
+-- The parts of a comprehension, one after another.
 use Rattle.std.proofs.Common.{◌≡◌, ℕ, List, Option, Some, None, refl, ap, ◌∙◌}
 use Rattle.tera_base.specs.declared.utils.Span.{Span}
 use Rattle.tera_lexer.specs.grammar.Tokens.{Items}
@@ -13,7 +13,7 @@ use Rattle.tera_grammar.specs.expressions.Reading.Atoms.{variables_of, comprehen
 use Rattle.tera_grammar.proofs.expressions.Fronts.{none_skip}
 use Rattle.tera_expr_reader.proofs.RowsLemmas.{skip_taken}
 
--- an expression behind a mark of its own
+-- an expression after a mark of its own
 module _ (f : Reader) (w : Room) (m : Mark) (k i : ℕ) (r : Items) where
   pub extra_absent : takes m r ≡ None → extra_of f w m k (at i r) ≡ Some (no_extra, at i r)
   unfolding extra_of
@@ -26,45 +26,45 @@ module _ (f : Reader) (w : Room) (m : Mark) (k i : ℕ) (r : Items) where
   unfolding extra_of
   extra_present s us o h read = ap (extra_at f w k (at i r)) (skip_taken m i r us s h) ∙ ap (extra_made s) read
 
--- a comprehension behind its `for`
+-- a comprehension after its `for`
 module _ (f : Reader) (w : Room) (b : Span) (e : Tree) (s : Span) where
-  abbrev pub behind_end : (Name × Second) → Span → Tree → Extra → Reads Span → Reads Tree
-  behind_end v i t g o = o >>= λ c. Some (Atomic (Comprehension b e s v.0 v.1 i t g c.0), c.1)
+  abbrev pub after_end : (Name × Second) → Span → Tree → Extra → Reads Span → Reads Tree
+  after_end v i t g o = o >>= λ c. Some (Atomic (Comprehension b e s v.0 v.1 i t g c.0), c.1)
 
-  abbrev pub behind_condition : (Name × Second) → Span → Tree → Reads Extra → Reads Tree
-  behind_condition v i t o = o >>= λ g. behind_end v i t g.0 (skip RightBracket g.1)
+  abbrev pub after_condition : (Name × Second) → Span → Tree → Reads Extra → Reads Tree
+  after_condition v i t o = o >>= λ g. after_end v i t g.0 (skip RightBracket g.1)
 
-  abbrev pub behind_target : (Name × Second) → Span → Reads Tree → Reads Tree
-  behind_target v i o = o >>= λ t. behind_condition v i t.0 (extra_of f w If 1 t.1)
+  abbrev pub after_target : (Name × Second) → Span → Reads Tree → Reads Tree
+  after_target v i o = o >>= λ t. after_condition v i t.0 (extra_of f w If 1 t.1)
 
-  abbrev pub behind_in : (Name × Second) → Reads Span → Reads Tree
-  behind_in v o = o >>= λ i. behind_target v i.0 (f w 1 i.1)
+  abbrev pub after_in : (Name × Second) → Reads Span → Reads Tree
+  after_in v o = o >>= λ i. after_target v i.0 (f w 1 i.1)
 
-  abbrev pub behind_variables : Reads (Name × Second) → Reads Tree
-  behind_variables o = o >>= λ v. behind_in v.0 (skip (Operation In) v.1)
+  abbrev pub after_variables : Reads (Name × Second) → Reads Tree
+  after_variables o = o >>= λ v. after_in v.0 (skip (Operation In) v.1)
 
-  pub by_variables : (p : Place) (o : Reads (Name × Second)) → variables_of p ≡ o → comprehension_of f w b e s p ≡ behind_variables o
+  pub by_variables : (p : Place) (o : Reads (Name × Second)) → variables_of p ≡ o → comprehension_of f w b e s p ≡ after_variables o
   unfolding comprehension_of
-  by_variables p o h = ap behind_variables h
+  by_variables p o h = ap after_variables h
 
   module _ (p : Place) (v : Name × Second) (i : ℕ) (us : Items) (named : variables_of p ≡ Some (v, at i us)) where
     pub no_in : takes (Operation In) us ≡ None → comprehension_of f w b e s p ≡ None
-    no_in h = by_variables p (Some (v, at i us)) named ∙ ap (behind_in v) (none_skip (Operation In) i us h)
+    no_in h = by_variables p (Some (v, at i us)) named ∙ ap (after_in v) (none_skip (Operation In) i us h)
 
     module _ (vs : Items) (n : Span) (inside : takes (Operation In) us ≡ Some (n, vs)) where
-      pub by_target : (o : Reads Tree) → f w 1 (at i vs) ≡ o → comprehension_of f w b e s p ≡ behind_target v n o
-      by_target o h = by_variables p (Some (v, at i us)) named ∙ ap (behind_in v) (skip_taken (Operation In) i us vs n inside) ∙ ap (behind_target v n) h
+      pub by_target : (o : Reads Tree) → f w 1 (at i vs) ≡ o → comprehension_of f w b e s p ≡ after_target v n o
+      by_target o h = by_variables p (Some (v, at i us)) named ∙ ap (after_in v) (skip_taken (Operation In) i us vs n inside) ∙ ap (after_target v n) h
 
       module _ (t : Tree) (q : Place) (target : f w 1 (at i vs) ≡ Some (t, q)) where
-        pub by_condition : (o : Reads Extra) → extra_of f w If 1 q ≡ o → comprehension_of f w b e s p ≡ behind_condition v n t o
-        by_condition o h = by_target (Some (t, q)) target ∙ ap (behind_condition v n t) h
+        pub by_condition : (o : Reads Extra) → extra_of f w If 1 q ≡ o → comprehension_of f w b e s p ≡ after_condition v n t o
+        by_condition o h = by_target (Some (t, q)) target ∙ ap (after_condition v n t) h
 
         module _ (g : Extra) (j : ℕ) (ws : Items) (condition : extra_of f w If 1 q ≡ Some (g, at j ws)) where
           pub by_end : (c : Span) (ts : Items) → takes RightBracket ws ≡ Some (c, ts) → comprehension_of f w b e s p ≡ Some (Atomic (Comprehension b e s v.0 v.1 n t g c), at j ts)
-          by_end c ts h = by_condition (Some (g, at j ws)) condition ∙ ap (behind_end v n t g) (skip_taken RightBracket j ws ts c h)
+          by_end c ts h = by_condition (Some (g, at j ws)) condition ∙ ap (after_end v n t g) (skip_taken RightBracket j ws ts c h)
 
           pub no_end : takes RightBracket ws ≡ None → comprehension_of f w b e s p ≡ None
-          no_end h = by_condition (Some (g, at j ws)) condition ∙ ap (behind_end v n t g) (none_skip RightBracket j ws h)
+          no_end h = by_condition (Some (g, at j ws)) condition ∙ ap (after_end v n t g) (none_skip RightBracket j ws h)
 
 pub same_parts : (e f : Expr) (k l : Option (List ℕ)) (n m : List ℕ) (t u : Expr) (g h : MaybeExpr) (s r : Span) → e ≡ f → k ≡ l → n ≡ m → t ≡ u → g ≡ h → s ≡ r
     → ListComprehension e k n t g s ≡ ListComprehension f l m u h r

@@ -23,7 +23,7 @@ use Rattle.tera_expr_reader.specs.Elements.{IsItem}
 use Rattle.tera_expr_parts.specs.declared.rows.Values.{Values}
 use Rattle.tera_expr_parts.specs.CommaLists.{Continues, reader_of}
 use Rattle.tera_expect.specs.Taking.{Fails}
-use Rattle.tera_expr_reader.proofs.RowsLemmas.{Opening, Rowing, skip_taken, bind_some, element_read, element_fails, behind, behind_fails, fails_by}
+use Rattle.tera_expr_reader.proofs.RowsLemmas.{Opening, Rowing, skip_taken, bind_some, element_read, element_fails, following, after_fails, fails_by}
 
 -- an item in front of others
 abbrev pub onto_item : ArrayEntryOf Expr → Items → Items
@@ -107,13 +107,13 @@ module _ (l : Bool) (done : List (ArrayEntryOf Expression)) (v : Values) (w : Ro
 
   module _ (x : Element) (j : ℕ) (ts : Left) (read : element_of (reader_of v) w of_items (at i old) ≡ Some (x, at j ts)) where
     pub lacks_bracket : (new : Position) (e : Error) → Continues marks.RightBracket ts new (Err e) → Fails whole e
-    lacks_bracket new e h = behind_fails v w of_items whole o.put x j ts new e (element_read (reader_of v) w of_items whole (at i old) (Listing l done) o x (at j ts) read) h
+    lacks_bracket new e h = after_fails v w of_items whole o.put x j ts new e (element_read (reader_of v) w of_items whole (at i old) (Listing l done) o x (at j ts) read) h
 
     pub one_item : (new : Position) (b : Bool) → Continues marks.RightBracket ts new (Ok b) → (e : ArrayEntryOf Expression) → IsItem l e x → (with : List (ArrayEntryOf Expression)) → with ≡ done ++ e ∷ []
         → Rowing b (reader_of v) w of_items whole (at j new.left) (Listing l with) (Listed l with new.span)
     one_item new b goes e is with same =
         subst (λ d. Rowing b (reader_of v) w of_items whole (at j new.left) (Listing l d) (Listed l d new.span)) (sym same)
-        (behind v w of_items whole o.put x j ts new b (Listing l (done ++ e ∷ [])) (Listed l (done ++ e ∷ []) new.span)
+        (following v w of_items whole o.put x j ts new b (Listing l (done ++ e ∷ [])) (Listed l (done ++ e ∷ []) new.span)
         (element_read (reader_of v) w of_items whole (at i old) (Listing l done) o x (at j ts) read) goes
         (λ c. one_more l done o.put o.keeps e x is c) (last_one l done o.put o.keeps e x is new.span)
         (λ c. all_of l (done ++ e ∷ []) (λ r. o.put (then x c r)) (one_more l done o.put o.keeps e x is c) new.span))
@@ -127,12 +127,12 @@ module _ (l : Bool) (v : Values) (w : Room) (i : ℕ) (old : Left) (x : Element)
       → Rowing b (reader_of v) w of_items first_whole (at i new.left) (Listing l with) (Listed l with new.span)
   first_item new b goes e is with same =
       subst (λ d. Rowing b (reader_of v) w of_items first_whole (at i new.left) (Listing l d) (Listed l d new.span)) (sym same)
-      (behind v w of_items first_whole (λ r. r) x i old new b (Listing l (e ∷ [])) (Listed l (e ∷ []) new.span) (sym (bind_some first_whole)) goes
+      (following v w of_items first_whole (λ r. r) x i old new b (Listing l (e ∷ [])) (Listed l (e ∷ []) new.span) (sym (bind_some first_whole)) goes
       (λ c. one_more l [] (λ r. r) (no_items l) e x is c) (last_one l [] (λ r. r) (no_items l) e x is new.span)
       (λ c. all_of l (e ∷ []) (λ r. then x c r) (one_more l [] (λ r. r) (no_items l) e x is c) new.span))
 
   pub first_lacks_end : (new : Position) (e : Error) → Continues marks.RightBracket old new (Err e) → Fails first_whole e
-  first_lacks_end new e h = behind_fails v w of_items first_whole (λ r. r) x i old new e (sym (bind_some first_whole)) h
+  first_lacks_end new e h = after_fails v w of_items first_whole (λ r. r) x i old new e (sym (bind_some first_whole)) h
 
 -- the array of a row
 pub array_read : (f : Reader) (w : Room) (s : Span) (x : Element) (p q : Place) (r : Row) → after_element (row_of f w of_items) of_items x p ≡ Some (r, q) → items_from f w s x p ≡ Some (Atomic (Array s r), q)

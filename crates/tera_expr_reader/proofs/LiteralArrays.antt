@@ -21,39 +21,39 @@ use Rattle.tera_grammar.specs.expressions.Reading.Whole.{widest, outermost, left
 use Rattle.tera_grammar.proofs.expressions.Fronts.{skip_ok, none_skip}
 use Rattle.tera_expr_parts.specs.Folding.{constant_of}
 use Rattle.tera_expect.specs.Taking.{Fails}
-use Rattle.tera_expr_reader.proofs.ComprehensionsLemmas.{behind_end, behind_condition, behind_target, behind_in, behind_variables, by_variables}
+use Rattle.tera_expr_reader.proofs.ComprehensionsLemmas.{after_end, after_condition, after_target, after_in, after_variables, by_variables}
 use Rattle.tera_expr_reader.proofs.LiteralMaps.{opened}
 use Rattle.tera_expr_reader.proofs.RowsLemmas.{skip_taken, fails_by, bind_assoc, steps_by}
 
--- an array is read where its row is; a comprehension has none, and is no constant
+-- an array is read where its row is; a comprehension has none, and is not a constant
 abbrev Agrees : Span → Reads Tree → Reads Row → Type 0
 Agrees s None rows = rows ≡ None
 Agrees s (Some x) rows =
     ((r : Row) × (x.0 ≡ Atomic (Array s r)) × (rows ≡ Some (r, x.1))) ⊎ (((l : Bool) → constant_of (output l x.0) ≡ None) × (rows ≡ None))
 
--- what is read is no constant
+-- what is read is not a constant
 abbrev IsNone : Reads Tree → Type 0
 IsNone None = Unit {0}
 IsNone (Some x) = (l : Bool) → constant_of (output l x.0) ≡ None
 
 module _ (f : Reader) (w : Room) (b : Span) (e : Tree) (s : Span) where
-  end_is : (v : Name × Second) (i : Span) (t : Tree) (g : Extra) (o : Reads Span) → IsNone (behind_end f w b e s v i t g o)
+  end_is : (v : Name × Second) (i : Span) (t : Tree) (g : Extra) (o : Reads Span) → IsNone (after_end f w b e s v i t g o)
   end_is v i t g None = tt
   end_is v i t g (Some c) = λ l. refl
 
-  condition_is : (v : Name × Second) (i : Span) (t : Tree) (o : Reads Extra) → IsNone (behind_condition f w b e s v i t o)
+  condition_is : (v : Name × Second) (i : Span) (t : Tree) (o : Reads Extra) → IsNone (after_condition f w b e s v i t o)
   condition_is v i t None = tt
   condition_is v i t (Some g) = end_is v i t g.0 (skip RightBracket g.1)
 
-  target_is : (v : Name × Second) (i : Span) (o : Reads Tree) → IsNone (behind_target f w b e s v i o)
+  target_is : (v : Name × Second) (i : Span) (o : Reads Tree) → IsNone (after_target f w b e s v i o)
   target_is v i None = tt
   target_is v i (Some t) = condition_is v i t.0 (extra_of f w If 1 t.1)
 
-  in_is : (v : Name × Second) (o : Reads Span) → IsNone (behind_in f w b e s v o)
+  in_is : (v : Name × Second) (o : Reads Span) → IsNone (after_in f w b e s v o)
   in_is v None = tt
   in_is v (Some i) = target_is v i.0 (f w 1 i.1)
 
-  variables_are : (o : Reads (Name × Second)) → IsNone (behind_variables f w b e s o)
+  variables_are : (o : Reads (Name × Second)) → IsNone (after_variables f w b e s o)
   variables_are None = tt
   variables_are (Some v) = in_is v.0 (skip (Operation In) v.1)
 
@@ -135,9 +135,9 @@ module _ (limits : Limits) where
   no_bracket old e h = fails_by (literal_array_of limits old) (takes LeftBracket old) e (λ none. ap array_in (none_skip LeftBracket 0 old none)) h
 
   module _ (old mid : Items) (s : Span) (h : takes LeftBracket old ≡ Some (s, mid)) where
-    behind_bracket : (o : Reads Row) → rows mid ≡ o → literal_array_of limits old ≡ left_over (o >>= array_row s)
+    after_bracket : (o : Reads Row) → rows mid ≡ o → literal_array_of limits old ≡ left_over (o >>= array_row s)
     unfolding literal_array_of
-    behind_bracket o read =
+    after_bracket o read =
         ap array_in (skip_taken LeftBracket 0 old mid s h)
         ∙ ap left_over (sym (bind_assoc (inside_array (widest limits false)) (λ u. row_of (outermost limits) u of_items (at 0 mid)) (array_row s)))
         ∙ ap (λ o. left_over (o >>= array_row s)) read
@@ -148,7 +148,7 @@ module _ (limits : Limits) where
     pub array_fails : (first : Span) (e : Error) → Fails (array_of (outermost limits) (widest limits false) first (at 0 mid)) e → Fails (literal_array_of limits old) e
     array_fails first e fails =
         fails_by (literal_array_of limits old) (array_of (outermost limits) (widest limits false) first (at 0 mid)) e
-        (λ none. behind_bracket None (agrees_with first None none)) fails
+        (λ none. after_bracket None (agrees_with first None none)) fails
 
     module _ (first : Span) (t : Tree) (q : Place) (read : array_of (outermost limits) (widest limits false) first (at 0 mid) ≡ Some (t, q)) where
       pub array_comes : (v : Val) → Some v ≡ constant_of (output false t) → (x : Opened × Vals) × (literal_array_of limits old ≡ Some (x, q.tokens)) × (v ≡ values.Array x.1)
@@ -158,7 +158,7 @@ module _ (limits : Limits) where
           by (inl (r, made, row)) =
               let whole = is ∙ ap (λ u. constant_of (output false u)) made in
               let (vs, value, same) = constant_array (items_output false r) _ (constant_items (items_output false r)) v whole in
-              ((opened s r, vs), behind_bracket (Some (r, q)) row ∙ ap (λ o. left_over (with_array (opened s r) q o)) value, same)
+              ((opened s r, vs), after_bracket (Some (r, q)) row ∙ ap (λ o. left_over (with_array (opened s r) q o)) value, same)
           by (inr (none, row)) = absurd (none-some _ (sym (is ∙ none false)))
 
       pub no_array_comes : None ≡ constant_of (output false t) → literal_array_of limits old ≡ None
@@ -167,5 +167,5 @@ module _ (limits : Limits) where
           by : Agrees first (Some (t, q)) (rows mid) → literal_array_of limits old ≡ None
           by (inl (r, made, row)) =
               let whole = is ∙ ap (λ u. constant_of (output false u)) made in
-              behind_bracket (Some (r, q)) row ∙ ap (λ o. left_over (with_array (opened s r) q o)) (no_constant_array (items_output false r) _ (constant_items (items_output false r)) whole)
-          by (inr (none, row)) = behind_bracket None row
+              after_bracket (Some (r, q)) row ∙ ap (λ o. left_over (with_array (opened s r) q o)) (no_constant_array (items_output false r) _ (constant_items (items_output false r)) whole)
+          by (inr (none, row)) = after_bracket None row

@@ -62,15 +62,15 @@ module _ (limits : Limits) where
   no_brace old e h = fails_by (literal_map_of limits old) (takes LeftBrace old) e (λ none. ap map_at (none_skip LeftBrace 0 old none)) h
 
   module _ (old mid : Items) (s : Span) (h : takes LeftBrace old ≡ Some (s, mid)) where
-    behind_brace : (o : Reads Row) → row_of (outermost limits) (widest limits false) of_entries (at 0 mid) ≡ o → literal_map_of limits old ≡ map_from s o
+    after_brace : (o : Reads Row) → row_of (outermost limits) (widest limits false) of_entries (at 0 mid) ≡ o → literal_map_of limits old ≡ map_from s o
     unfolding literal_map_of
-    behind_brace o read = ap map_at (skip_taken LeftBrace 0 old mid s h) ∙ ap (map_from s) read
+    after_brace o read = ap map_at (skip_taken LeftBrace 0 old mid s h) ∙ ap (map_from s) read
 
     pub map_fails : (first : Span) (e : Error) → Fails (map_of (outermost limits) (widest limits false) first (at 0 mid)) e → Fails (literal_map_of limits old) e
     unfolding map_of
     map_fails first e fails =
         fails_by (literal_map_of limits old) (map_of (outermost limits) (widest limits false) first (at 0 mid)) e
-        (λ none. behind_brace None (no_row first (row_of (outermost limits) (widest limits false) of_entries (at 0 mid)) none)) fails
+        (λ none. after_brace None (no_row first (row_of (outermost limits) (widest limits false) of_entries (at 0 mid)) none)) fails
 
     -- a map is read
     module _ (first : Span) (t : Tree) (q : Place) (read : map_of (outermost limits) (widest limits false) first (at 0 mid) ≡ Some (t, q)) where
@@ -83,10 +83,10 @@ module _ (limits : Limits) where
           let (r, row, made) = row_read in
           let whole = is ∙ ap (λ u. constant_of (output false u)) made in
           let (ps, value, same) = constant_map (entries_output false r) _ (constant_entries (entries_output false r) NoPairs) v whole in
-          ((opened s r, ps), behind_brace (Some (r, q)) row ∙ ap (λ o. left_over (with_map (opened s r) q o)) value, same)
+          ((opened s r, ps), after_brace (Some (r, q)) row ∙ ap (λ o. left_over (with_map (opened s r) q o)) value, same)
 
       pub no_map_comes : None ≡ constant_of (output false t) → literal_map_of limits old ≡ None
       no_map_comes is =
           let (r, row, made) = row_read in
           let whole = is ∙ ap (λ u. constant_of (output false u)) made in
-          behind_brace (Some (r, q)) row ∙ ap (λ o. left_over (with_map (opened s r) q o)) (no_constant_map (entries_output false r) _ (constant_entries (entries_output false r) NoPairs) whole)
+          after_brace (Some (r, q)) row ∙ ap (λ o. left_over (with_map (opened s r) q o)) (no_constant_map (entries_output false r) _ (constant_entries (entries_output false r) NoPairs) whole)

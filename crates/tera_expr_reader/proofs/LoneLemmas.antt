@@ -4,7 +4,7 @@ use Rattle.std.specs.Str.{bytes_eq}
 use Rattle.std.specs.Prelude.{codes}
 use Rattle.std.proofs.lemmas.Option.{same_Some}
 use Rattle.tera_base.specs.declared.utils.Span.{Span}
-use Rattle.tera_lexer.specs.code.Cursors.{FirstIs, FirstStandsAt, Position, Skips}
+use Rattle.tera_lexer.specs.code.Cursors.{FirstIs, FirstIsAt, Position, Skips}
 use Rattle.tera_lexer.specs.grammar.Tokens as toks
 use Rattle.tera_lexer.specs.grammar.Tokens.{Tok, Items, Ended, Failed, Token, Finish, Ident, Symbol}
 use Rattle.tera_ast.specs.Tree as tree
@@ -72,7 +72,7 @@ module _ (d : ℕ) (w : Room) (m k : ℕ) (s : Span) (us : Items) (ends : Ends u
   leaf_read (toks.Truth b) e h = (Atomic (Literal (Truth b) s), constant_read (Truth b), sym (same_Some _ _ h))
   leaf_read _ e h = cc
 
--- what is read where an expression of one token stands
+-- what is read where an expression of one token is
 pub lone_read : (d : ℕ) (w : Room) (m k : ℕ) (ts us : Items) (e : Expr) → lone_of d ts ≡ Some (e, us)
     → (r : Tree) × (expr d w m (at k ts) ≡ Some (r, at k us)) × (e ≡ output w.in_loop r)
 lone_read zero w m k ts us e h = cc
@@ -90,9 +90,9 @@ one_token : (ts us vs ws : Items) (t u v : Tok) (s q r : Span) → ts ≡ Token 
 one_token ts us vs ws t u v s q r one two three = cc
 
 pub lone_taken : (d : ℕ) (old new : Position) (b : Bool) (t : Tok) (s : Span) (e : Expression) → d ≢ 0 → second_is_stop old.left ≡ true
-    → FirstIs old.left t → FirstStandsAt old.left s → 0 < old.sight → leaf_of t s ≡ Some (expression_view e) → Skips old b new → GivesLone d (Some e) old new
-lone_taken d old new false t s e opens stop first stands seen leaf (unseen, same) = absurd (omega arith)
-lone_taken zero old new true t s e opens stop first stands seen leaf h = absurd (opens refl)
+    → FirstIs old.left t → FirstIsAt old.left s → 0 < old.sight → leaf_of t s ≡ Some (expression_view e) → Skips old b new → GivesLone d (Some e) old new
+lone_taken d old new false t s e opens stop first sound seen leaf (unseen, same) = absurd (omega arith)
+lone_taken zero old new true t s e opens stop first sound seen leaf h = absurd (opens refl)
 lone_taken (suc d) old new true t s e opens stop (q, vs, one) (u, ws, two) seen leaf (p, h) = (
   rw stop (ap leaf_at (one_token _ _ _ _ _ _ _ _ _ _ one two h.1) ∙ ap (λ o. o >>= λ e. Some (e, new.left)) leaf),
   took_token old new p h,

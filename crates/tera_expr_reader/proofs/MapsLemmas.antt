@@ -29,7 +29,7 @@ use Rattle.tera_expr_parts.specs.Keys.{taken_literal}
 use Rattle.tera_expr_parts.specs.declared.rows.Values.{Values}
 use Rattle.tera_expr_parts.specs.CommaLists.{Continues, reader_of}
 use Rattle.tera_expect.specs.Taking.{Fails}
-use Rattle.tera_expr_reader.proofs.RowsLemmas.{Opening, Rowing, skip_taken, element_read, element_fails, behind, behind_fails, fails_by}
+use Rattle.tera_expr_reader.proofs.RowsLemmas.{Opening, Rowing, skip_taken, element_read, element_fails, following, after_fails, fails_by}
 
 -- an entry in front of others
 abbrev pub onto_entry : MapEntryOf Expr → Entries → Entries
@@ -120,14 +120,14 @@ module _ (f : Reader) (w : Room) (i : ℕ) (r : Left) where
       abbrev valued : Span → Reads Tree → Reads Element
       valued s o = o >>= λ e. Some (pair x.0 x.1 s e.0, e.1)
 
-      behind_key : element_of f w of_entries (at i r) ≡ parted (skip Colon (at i us))
-      behind_key = by_key ∙ ap (λ o. keyed (moved i o)) key
+      after_key : element_of f w of_entries (at i r) ≡ parted (skip Colon (at i us))
+      after_key = by_key ∙ ap (λ o. keyed (moved i o)) key
 
       pub no_colon : takes Colon us ≡ None → element_of f w of_entries (at i r) ≡ None
-      no_colon h = behind_key ∙ ap parted (none_skip Colon i us h)
+      no_colon h = after_key ∙ ap parted (none_skip Colon i us h)
 
       pub pair_read : (s : Span) (vs : Left) (o : Reads Tree) → takes Colon us ≡ Some (s, vs) → f w 0 (at i vs) ≡ o → element_of f w of_entries (at i r) ≡ valued s o
-      pair_read s vs o colon read = behind_key ∙ ap parted (skip_taken Colon i us vs s colon) ∙ ap (valued s) read
+      pair_read s vs o colon read = after_key ∙ ap parted (skip_taken Colon i us vs s colon) ∙ ap (valued s) read
 
 -- one turn of the loop, and its end
 module _ (l : Bool) (done : List (MapEntryOf Expression)) (v : Values) (w : Room) (whole : Reads Row) (i : ℕ) (old : Left) (o : Opening (reader_of v) w of_entries whole (at i old) (Pairing l done)) where
@@ -136,13 +136,13 @@ module _ (l : Bool) (done : List (MapEntryOf Expression)) (v : Values) (w : Room
 
   module _ (x : Element) (j : ℕ) (ts : Left) (read : element_of (reader_of v) w of_entries (at i old) ≡ Some (x, at j ts)) where
     pub lacks_end : (new : Position) (e : Error) → Continues marks.RightBrace ts new (Err e) → Fails whole e
-    lacks_end new e h = behind_fails v w of_entries whole o.put x j ts new e (element_read (reader_of v) w of_entries whole (at i old) (Pairing l done) o x (at j ts) read) h
+    lacks_end new e h = after_fails v w of_entries whole o.put x j ts new e (element_read (reader_of v) w of_entries whole (at i old) (Pairing l done) o x (at j ts) read) h
 
     pub one_entry : (new : Position) (b : Bool) → Continues marks.RightBrace ts new (Ok b) → (e : MapEntryOf Expression) → IsEntry l e x → (with : List (MapEntryOf Expression)) → with ≡ done ++ e ∷ []
         → Rowing b (reader_of v) w of_entries whole (at j new.left) (Pairing l with) (Paired l with new.span)
     one_entry new b goes e is with same =
         subst (λ d. Rowing b (reader_of v) w of_entries whole (at j new.left) (Pairing l d) (Paired l d new.span)) (sym same)
-        (behind v w of_entries whole o.put x j ts new b (Pairing l (done ++ e ∷ [])) (Paired l (done ++ e ∷ []) new.span)
+        (following v w of_entries whole o.put x j ts new b (Pairing l (done ++ e ∷ [])) (Paired l (done ++ e ∷ []) new.span)
         (element_read (reader_of v) w of_entries whole (at i old) (Pairing l done) o x (at j ts) read) goes
         (λ c. one_more l done o.put o.keeps e x is c) (last_one l done o.put o.keeps e x is new.span)
         (λ c. all_of l (done ++ e ∷ []) (λ r. o.put (then x c r)) (one_more l done o.put o.keeps e x is c) new.span))

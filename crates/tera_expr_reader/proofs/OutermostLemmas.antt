@@ -64,11 +64,11 @@ module _ (limits : Limits) (l : Bool) (old new : Items) (k : ℕ) where
   abbrev ShowArguments : BTreeMap (String Global) Expression → Opened → Type 0
   ShowArguments m x = AreKwargs l m.entries x
 
-  abbrev behind_paren : Reads Span → Reads Opened
-  behind_paren o = o >>= λ s. arguments_of (outermost limits) (widest limits l) s.1 >>= λ r. Some (record { mark = s.0; row = r.0 }, r.1)
+  abbrev after_paren : Reads Span → Reads Opened
+  after_paren o = o >>= λ s. arguments_of (outermost limits) (widest limits l) s.1 >>= λ r. Some (record { mark = s.0; row = r.0 }, r.1)
 
   abbrev kwargs_read : Reads Opened
-  kwargs_read = behind_paren (skip LeftParen (at 0 old))
+  kwargs_read = after_paren (skip LeftParen (at 0 old))
 
   pub no_paren : (e : Error) → Fails (takes LeftParen old) e → Fails (kwargs_of limits l old) e
   unfolding kwargs_of
@@ -88,7 +88,7 @@ module _ (limits : Limits) (l : Bool) (old new : Items) (k : ℕ) where
   unfolding kwargs_of
   kwargs_alone mid span here r paren gives = alone ShowArguments r k new kwargs_read (kwargs_by mid span here r paren gives)
 
-  -- a filter, whose input is no value at the span
+  -- a filter, whose input is not a value at the span
   abbrev filter_read : Reads Filtering
   filter_read = call_of (outermost limits) (widest limits l) (at 0 old)
 

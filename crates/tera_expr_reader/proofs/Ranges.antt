@@ -1,7 +1,7 @@
 -- Faults over several tokens that were taken.
 use Rattle.std.proofs.Common.{◌≡◌, ◌⊎◌, inl, inr, ⊎_elim, ℕ, zero, suc, Some, subst, sym, ◌∙◌}
-use Rattle.tera_base.proofs.Tellings.{tells_weaker}
-use Rattle.tera_base.specs.Errors.{TellsBy}
+use Rattle.tera_base.proofs.Tellings.{reports_weaker}
+use Rattle.tera_base.specs.Errors.{ReportsBy}
 use Rattle.tera_base.specs.declared.utils.Span.{Span}
 use Rattle.tera_base.specs.declared.errors.Error.{Error}
 use Rattle.tera_lexer.specs.code.Cursors.{Position, FaultsFrom, Passes}
@@ -21,19 +21,19 @@ passed (suc n) Ended last left here passes span ends = absurd passes
 passed (suc n) (Failed text at) last left here passes span ends = absurd passes
 passed (suc n) (Token t at items) last left here passes span ends = inr (passed n items at left here passes span ends)
 
--- the span lies in the same source behind tokens that were taken
+-- the span lies in the same source after tokens that were taken
 pub still_within : (old new : Position) (span : Span) → Took old new → IsWithin old.source span → IsWithin new.source span
 unfolding Took
 still_within old new span took within = subst (λ s. IsWithin s span) (sym took.0.source) within
 
 -- a fault from a mark on is one of the tokens from the mark on
 pub refused_from : (m : Mark) (old mid new : Position) (e : Error) → takes m old.left ≡ Some (mid.span, mid.left) → Took old mid → Took mid new
-    → TellsBy (λ text span. RunsFrom mid.span new span) e → Refuses old e
+    → ReportsBy (λ text span. RunsFrom mid.span new span) e → Refuses old e
 unfolding Took Refuses
-refused_from m old mid new e read first more told =
-    tells_weaker (λ text span. RunsFrom mid.span new span) (λ text span. IsWithin old.source span × FaultsFrom old.span old.left text span) e
+refused_from m old mid new e read first more reported =
+    reports_weaker (λ text span. RunsFrom mid.span new span) (λ text span. IsWithin old.source span × FaultsFrom old.span old.left text span) e
     (λ text span (within, starts, ends). (
       subst (λ s. IsWithin s span) (more.0.source ∙ first.0.source) within,
       inr (inr (inr (inr (subst (λ ts. Covers ts span) (sym (takes_ok m old.left (mid.span, mid.left) read))
           (inl (starts, ⊎_elim (λ here. inl here) (λ there. passed more.0.count mid.left mid.span new.left new.span more.0.passes span there) ends)))))),
-    )) told
+    )) reported

@@ -53,7 +53,7 @@ pub bind_some : {A B : Type 0} (o : Option (A × B)) → (o >>= λ x. Some (x.0,
 bind_some None = refl
 bind_some (Some x) = refl
 
--- a row whose next element stands here
+-- a row whose next element is here
 abbrev pub coming : Reader → Room → Kind → Place → Reads Row
 coming f w k p = row_at (row_of f w k) f w k p None
 
@@ -116,34 +116,34 @@ module _ (v : Values) (w : Room) (k : Kind) (whole : Reads Row) (put : Row → R
   abbrev onto : Span → Reads Row → Reads Row
   onto s o = on s o >>= λ r. Some (put r.0, r.1)
 
-  -- behind an element
-  pub behind : (new : Position) (b : Bool) (Keeps : (Row → Row) → Type 0) (Is : Row → Type 0) → After → Continues (closing k) old new (Ok b)
+  -- after an element
+  pub following : (new : Position) (b : Bool) (Keeps : (Row → Row) → Type 0) (Is : Row → Type 0) → After → Continues (closing k) old new (Ok b)
       → ((c : Span) → Keeps (λ r. put (then x c r))) → Is (put (only x new.span)) → ((c : Span) → Is (put (then x c (ended new.span))))
       → Rowing b (reader_of v) w k whole (at i new.left) Keeps Is
   unfolding after_element
-  behind new true Keeps Is after (s, comma, none) keeps last_is is = record {
+  following new true Keeps Is after (s, comma, none) keeps last_is is = record {
     put = λ r. put (then x s r);
     reads = after ∙ ap at_comma (skip_taken Comma i old new.left s comma)
         ∙ ap (onto s) (steps v w k (at i new.left) ∙ ap (row_at (row_of (reader_of v) w k) (reader_of v) w k (at i new.left)) (none_skip (closing k) i new.left none))
         ∙ bind_assoc (coming (reader_of v) w k (at i new.left)) (λ r. Some (then x s r.0, r.1)) (λ r. Some (put r.0, r.1));
     keeps = keeps s;
   }
-  behind new false Keeps Is after (inl ends) keeps last_is is = record {
+  following new false Keeps Is after (inl ends) keeps last_is is = record {
     row = put (only x new.span);
     reads = after ∙ ap at_comma (none_skip Comma i old (closed_no_comma k old new.left new.span ends)) ∙ ap at_end (skip_taken (closing k) i old new.left new.span ends);
     is = last_is;
   }
-  behind new false Keeps Is after (inr (s, us, comma, ends)) keeps last_is is = record {
+  following new false Keeps Is after (inr (s, us, comma, ends)) keeps last_is is = record {
     row = put (then x s (ended new.span));
     reads = after ∙ ap at_comma (skip_taken Comma i old us s comma)
         ∙ ap (onto s) (steps v w k (at i us) ∙ ap (row_at (row_of (reader_of v) w k) (reader_of v) w k (at i us)) (skip_taken (closing k) i us new.left new.span ends));
     is = is s;
   }
 
-  pub behind_fails : (new : Position) (e : Error) → After → Continues (closing k) old new (Err e) → Fails whole e
+  pub after_fails : (new : Position) (e : Error) → After → Continues (closing k) old new (Err e) → Fails whole e
   unfolding after_element
-  behind_fails new e after (inl memory) = inl memory
-  behind_fails new e after (inr (ends, comma)) = inr (after ∙ ap at_comma (none_skip Comma i old comma) ∙ ap at_end (none_skip (closing k) i old ends))
+  after_fails new e after (inl memory) = inl memory
+  after_fails new e after (inr (ends, comma)) = inr (after ∙ ap at_comma (none_skip Comma i old comma) ∙ ap at_end (none_skip (closing k) i old ends))
 
 -- an element of a row that goes on
 module _ (f : Reader) (w : Room) (k : Kind) (whole : Reads Row) (now : Place) (Keeps : (Row → Row) → Type 0) (o : Opening f w k whole now Keeps) where

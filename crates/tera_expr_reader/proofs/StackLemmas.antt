@@ -38,7 +38,7 @@ use Rattle.tera_expr_parts.specs.Fronts.{Kind, joined_by, tested, filtered, subs
 use Rattle.tera_expr_parts.proofs.FrontsLemmas.{stops_alike}
 use Rattle.tera_expect.proofs.TakingLemmas.{took_goes}
 
--- a token that is no constant, no name and no mark at which an operand begins
+-- a token that is not a constant, no name and no mark at which an operand begins
 abbrev pub BeginsNone : Tok → Type 0
 BeginsNone (Ident n) = ⊥
 BeginsNone (Symbol o) = head_mark (Symbol o) ≡ Other
@@ -151,7 +151,7 @@ pub tilde_refused : (w : Room) (v : Level) (x : Operand) (p : Place) (o : Binary
 tilde_refused w v x p o n a e (inl memory) = inl memory
 tilde_refused w v x p o n a e (inr h) = inr (refuses_right w v x p o n a h)
 
--- behind `)` and behind `else`
+-- after `)` and after `else`
 pub encloses_all : (w : Room) (v : Level) (x : Operand) (k : ℕ) (ts us : Items) (s t : Span) → takes RightParen ts ≡ Some (t, us)
     → going w v (x.0, spanning s t) (at k us) ≡ resume w (in_paren v s) (x, at k ts)
 encloses_all w v x k ts us s t h = sym (encloses w v x (at k ts) s t us h)
@@ -254,12 +254,12 @@ goes_no_further w v a p f (inr is) kind h = goes_astray w v a p (ap front_kind (
 
 -- how the cursor goes on from state to state
 pub went_goes : (s : State) (old new : Position) → Went s old new → GoesOn old new
-went_goes (states.Wants d m) old new h = h
+went_goes (states.Needs d m) old new h = h
 went_goes (states.Holds v a) old new h = took_goes old new h
 went_goes (states.Done a) old new h = took_goes old new h
 
 pub took_went : (s : State) (old new : Position) → Took old new → Went s old new
-took_went (states.Wants d m) old new h = took_goes old new h
+took_went (states.Needs d m) old new h = took_goes old new h
 took_went (states.Holds v a) old new h = h
 took_went (states.Done a) old new h = h
 

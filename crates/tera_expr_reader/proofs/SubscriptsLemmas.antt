@@ -20,11 +20,11 @@ use Rattle.tera_expr_reader.specs.declared.subscripts.Subscript as read
 use Rattle.tera_expr_reader.specs.declared.subscripts.Subscript.TheVariants.{Index, Slice}
 use Rattle.tera_expect.proofs.Steps.{failed, failed_past, failed_as, skipped, unskipped}
 
--- a mark that stands there, and one that doesn't
-stands : (m : Mark) (ts : Items) → begins m ts ≡ true → (s : Span) × (us : Items) × (takes m ts ≡ Some (s, us))
-stands m Ended h = cc
-stands m (Failed text span) h = cc
-stands m (Token t s us) h = (s, us, rw h refl)
+-- a mark that is there, and one that doesn't
+sound : (m : Mark) (ts : Items) → begins m ts ≡ true → (s : Span) × (us : Items) × (takes m ts ≡ Some (s, us))
+sound m Ended h = cc
+sound m (Failed text span) h = cc
+sound m (Token t s us) h = (s, us, rw h refl)
 
 pub lacking : (m : Mark) (ts : Items) → begins m ts ≡ false → takes m ts ≡ None
 lacking m Ended h = refl
@@ -35,12 +35,12 @@ module _ (f : Reader) (w : Room) where
   -- the end of a slice
   pub end_before_colon : (k : ℕ) (ts : Items) → begins Colon ts ≡ true → part_of f w (at k ts) ≡ Some (absent, at k ts)
   unfolding part_of
-  end_before_colon k ts h = let (s, us, colon) = stands Colon ts h in rw (skipped Colon k ts us s colon) refl
+  end_before_colon k ts h = let (s, us, colon) = sound Colon ts h in rw (skipped Colon k ts us s colon) refl
 
   pub end_before_bracket : (k : ℕ) (ts : Items) → begins Colon ts ≡ false → begins RightBracket ts ≡ true → part_of f w (at k ts) ≡ Some (absent, at k ts)
   unfolding part_of
   end_before_bracket k ts none h =
-      let (s, us, bracket) = stands RightBracket ts h in rw (unskipped Colon k ts (lacking Colon ts none), skipped RightBracket k ts us s bracket) refl
+      let (s, us, bracket) = sound RightBracket ts h in rw (unskipped Colon k ts (lacking Colon ts none), skipped RightBracket k ts us s bracket) refl
 
   pub end_given : (k : ℕ) (ts : Items) (t : Tree) (q : Place) → begins Colon ts ≡ false → begins RightBracket ts ≡ false → f w 0 (at k ts) ≡ Some (t, q) → part_of f w (at k ts) ≡ Some (present t, q)
   unfolding part_of
@@ -77,7 +77,7 @@ module _ (f : Reader) (w : Room) where
       failed_past (part_of f w p) _ (b, q) e ended (failed_past (extra_of f w Colon 0 q) _ (x, at k ts) e stepped
       (failed (skip RightBracket (at k ts)) _ e (failed_as (takes RightBracket ts) (skip RightBracket (at k ts)) e (unskipped RightBracket k ts) h)))
 
-  -- what stands in a subscript
+  -- what is in a subscript
   pub sub_from_colon : (v : Room) (k : ℕ) (ts us : Items) (s : Span) → inside_subscript w ≡ Some v → takes Colon ts ≡ Some (s, us) → sub_of f w (at k ts) ≡ slice_of f v absent s (at k us)
   unfolding sub_of
   sub_from_colon v k ts us s opens colon = rw (opens, skipped Colon k ts us s colon) refl

@@ -21,7 +21,7 @@ use Rattle.tera_grammar.specs.expressions.Reading.Bracketed.{Room, Reader, value
 use Rattle.tera_expr_reader.specs.Chains.{Adds, Lacks}
 use Rattle.tera_expect.specs.Taking.{Took}
 
--- an expression and the brace behind it
+-- an expression and the brace after it
 abbrev pub braced_of : Reader → Room → Place → Reads (Tree × Span)
 braced_of f w p = f w 0 p >>= λ e. skip RightBrace e.1 >>= λ c. Some ((e.0, c.0), c.1)
 

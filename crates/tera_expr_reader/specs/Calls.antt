@@ -35,7 +35,7 @@ IsCall l here c x =
 abbrev pub IsFilter : Bool → Expr → Span → Expression → Filtering → Type 0
 IsFilter l e here r x = (expression_view r ≡ tree.Filter e x.name.text (args_output l x.args) (spanning x.name.span (call_end x))) × (here ≡ call_end x)
 
--- the arguments behind a name, which ends there
+-- the arguments after a name, which ends there
 abbrev pub AreArgs : Bool → Span → Span → BTreeMap (String Global) Expression → Args → Type 0
 AreArgs l before here m g = (args_view m.entries ≡ args_output l g) × ((n : Name) → n.span ≡ before → here ≡ args_end n g)
 

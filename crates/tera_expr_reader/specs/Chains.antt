@@ -35,7 +35,7 @@ IsSubscript l here x s = ((o : Bool) (e : Expr) → subscripted x o e here ≡ s
 abbrev pub IsPart : Bool → Option Expression → Part → Type 0
 IsPart l x a = maybe_view x ≡ part_output l a
 
--- how a link begins, without where it stands
+-- how a link begins, without where it is
 abbrev pub link_kind : reading.Link → Link
 link_kind reading.no_link = Nothing
 link_kind reading.called = Called
@@ -44,7 +44,7 @@ link_kind (reading.jointed (optional_dot s) us) = Field true
 link_kind (reading.bracketed (plain_bracket s) us) = Item false
 link_kind (reading.bracketed (optional_bracket s) us) = Item true
 
--- where it begins, and what stands behind its first token
+-- where it begins, and what comes after its first token
 abbrev pub LinkAt : reading.Link → Span → Items → Type 0
 LinkAt reading.no_link here left = Unit {0}
 LinkAt reading.called here left = Unit {0}
@@ -62,7 +62,7 @@ FieldGives c o x (Ok e) new read =
     (n : Name) × (read ≡ Some (n, new.left)) × (new.span ≡ n.span) × ((d : Joint) → is_optional_joint d ≡ o → expression_view e ≡ field_output c x d n)
 FieldGives c o x (Err e) new read = Fails read e
 
--- One element of a list is read, whatever is read of the others behind it; or no list is read, whatever they are.
+-- One element of a list is read, whatever is read of the others after it; or no list is read, whatever they are.
 abbrev pub Adds : {R : Type 0} → ((Place → Reads R) → Reads R) → (R → R) → Place → Type 0
 Adds {R = R} whole put q = (more : Place → Reads R) → whole more ≡ (more q >>= λ r. Some (put r.0, r.1))
 

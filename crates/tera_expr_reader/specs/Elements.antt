@@ -21,6 +21,6 @@ IsEntry l (entries.KeyValue k e) (pair x s t u) = (key_view k ≡ key_of x) × (
 IsEntry l (entries.Spread e) (spread s t) = expression_view e ≡ output l t
 IsEntry l _ _ = ⊥
 
--- an expression behind a mark of its own, or none
+-- an expression after a mark of its own, or none
 abbrev pub IsExtra : Bool → Option Expression → Extra → Type 0
 IsExtra l e x = maybe_view e ≡ extra_output l x

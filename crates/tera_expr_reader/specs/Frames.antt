@@ -37,7 +37,7 @@ frame_view (frames.TernaryCondition v a) = stack.in_condition (level_view v) (op
 frame_view (frames.TernaryLast v a c) = stack.in_last (level_view v) (operand_view a) (expression_view c)
 
 abbrev pub state_view : State → stack.State
-state_view (states.Wants d m) = stack.wants d m
+state_view (states.Needs d m) = stack.needs d m
 state_view (states.Holds v a) = stack.holds (level_view v) (operand_view a)
 state_view (states.Done a) = stack.done (operand_view a)
 
@@ -52,23 +52,23 @@ abbrev pub Falls : Result State Error → List Frame → Place → ℕ → Type 
 Falls result fs p n = stack.Falls state_view result fs p n
 
 abbrev pub HoldsNegatable : State → Type 0
-HoldsNegatable (states.Wants d m) = Unit {0}
+HoldsNegatable (states.Needs d m) = Unit {0}
 HoldsNegatable (states.Holds v a) = MayBeNegated (expression_view a.expr)
 HoldsNegatable (states.Done a) = Unit {0}
 
--- how the cursor goes on: an operand stands behind some token
+-- how the cursor goes on: an operand comes after some token
 abbrev pub Went : State → Position → Position → Type 0
-Went (states.Wants d m) old new = GoesOn old new
+Went (states.Needs d m) old new = GoesOn old new
 Went (states.Holds v a) old new = Took old new
 Went (states.Done a) old new = Took old new
 
--- what an open expression comes to behind a prefix
-abbrev pub behind_sign : Room → Level → Sign → Place → stack.Shows
-behind_sign r v s p = cond (begins_sign p.tokens) None (stack.prefixing (room_of r) (level_view v) s p)
+-- what an open expression comes to after a prefix
+abbrev pub after_sign : Room → Level → Sign → Place → stack.Shows
+after_sign r v s p = cond (begins_sign p.tokens) None (stack.prefixing (room_of r) (level_view v) s p)
 
--- what an open expression comes to behind a word
-abbrev pub behind_word : Room → Level → Name → Place → stack.Shows
-behind_word r v n p = stack.outcome r.scope.in_loop (word_head (expr v.depth) (room_of r) n p) >>= λ h. stack.going (room_of r) (level_view v) h.0 h.1
+-- what an open expression comes to after a word
+abbrev pub after_word : Room → Level → Name → Place → stack.Shows
+after_word r v n p = stack.outcome r.scope.in_loop (word_head (expr v.depth) (room_of r) n p) >>= λ h. stack.going (room_of r) (level_view v) h.0 h.1
 
 abbrev pub operand_at : Level → Expression → Span → State
 operand_at v e span = states.Holds v (record { expr = e; span = span })

@@ -14,7 +14,7 @@ use Rattle.tera_grammar.specs.Words.{is_none, is_not, is_one_of}
 use Rattle.tera_grammar.specs.expressions.Reading.Front.{Takes}
 use Rattle.tera_expect.specs.Taking.{Took}
 
--- the tokens, but for words, before which every expression ends
+-- the tokens, except words, before which every expression ends
 abbrev pub is_stop : Tok → Bool
 is_stop (Finish kind dash) = true
 is_stop (Symbol o) = is_one_of (codes "," ∷ codes ":" ∷ codes ")" ∷ codes "]" ∷ codes "}" ∷ []) o
@@ -28,7 +28,7 @@ abbrev pub second_is_stop : Items → Bool
 second_is_stop (Token t s us) = begins_stop us
 second_is_stop _ = false
 
--- the expression that a token is by itself: a variable, or a constant that is no string with escapes
+-- the expression that a token is by itself: a variable, or a constant that is not a string with escapes
 abbrev pub leaf_of : Tok → Span → Option Expr
 leaf_of (Ident n) s = cond (is_none n || is_not n) None (Some (tree.Var n s))
 leaf_of (toks.Integer n) s = Some (tree.Const (values.I64 n) s)

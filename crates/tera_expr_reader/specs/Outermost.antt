@@ -12,7 +12,7 @@ use Rattle.tera_grammar.specs.expressions.Companions.{Opened, kwargs_output}
 use Rattle.tera_grammar.specs.statements.Expressions as expressions
 use Rattle.tera_grammar.specs.statements.Expressions.{Filtering, Attributes, ComponentName, LiteralArray, LiteralMap, expression_output, filter_output, attributes_output, component_text, array_output, map_output}
 
--- an expression, in a loop or not; a filter of a tag, whose input stands at the span
+-- an expression, in a loop or not; a filter of a tag, whose input is at the span
 abbrev pub IsExpression : Bool → Expression → expressions.Expression → Type 0
 IsExpression in_loop e t = expression_view e ≡ expression_output in_loop t
 

@@ -23,9 +23,9 @@ use tera_expr_parts::{Values, array_or_constant, more, spanning, variables};
 use tera_lexer::Cursor;
 use tera_tree::{ArrayEntry, Expression, build};
 
-/// An array or a comprehension, behind its bracket, which stands at the span and was taken last.
+/// An array or a comprehension, after its bracket, which is at the span and was taken last.
 #[cycle(reader)]
-#[tactic(auto, using(tera_expect::proofs::TakingLemmas::behind_tokens, crate::proofs::ArraysLemmas::array_negatable))]
+#[tactic(auto, using(tera_expect::proofs::TakingLemmas::after_tokens, crate::proofs::ArraysLemmas::array_negatable))]
 pub(crate) fn array(
     cursor: &mut Cursor<'_>,
     links: &mut usize,
@@ -60,9 +60,9 @@ pub(crate) fn array(
     items(cursor, links, inside, first, element)
 }
 
-// The items behind the first one of an array, whose bracket stands at the span.
+// The items after the first one of an array, whose bracket is at the span.
 #[cycle(reader)]
-#[tactic(auto, using(tera_expect::proofs::TakingLemmas::behind_tokens, crate::proofs::ArraysLemmas::array_negatable))]
+#[tactic(auto, using(tera_expect::proofs::TakingLemmas::after_tokens, crate::proofs::ArraysLemmas::array_negatable))]
 fn items(
     cursor: &mut Cursor<'_>,
     links: &mut usize,
@@ -93,7 +93,7 @@ fn items(
 
 // An item of an array, or a spread.
 #[cycle(reader)]
-#[tactic(auto, using(tera_expect::proofs::TakingLemmas::behind_tokens))]
+#[tactic(auto, using(tera_expect::proofs::TakingLemmas::after_tokens))]
 fn item(cursor: &mut Cursor<'_>, links: &mut usize, values: Values) -> Result<ArrayEntry, Error>
     ensures gives { GivesBy (IsItem values.room.scope.in_loop) result (at links.new cursor.new.left)
         (element_of (reader_of values)
@@ -109,7 +109,7 @@ fn item(cursor: &mut Cursor<'_>, links: &mut usize, values: Values) -> Result<Ar
     Ok(ArrayEntry::Item(element))
 }
 
-// A comprehension behind its `for`, which was taken last; its bracket stands at the span.
+// A comprehension after its `for`, which was taken last; its bracket is at the span.
 #[cycle(reader)]
 #[tactic(auto, using(tera_expect::proofs::TakingLemmas::on_the_way, crate::proofs::ArraysLemmas::comprehension_negatable))]
 fn comprehension(
@@ -145,7 +145,7 @@ fn comprehension(
     )?)
 }
 
-/// An expression behind a token of its own, at a least power, where that token stands.
+/// An expression after a token of its own, at a least power, where that token is.
 #[cycle(reader)]
 #[tactic(auto, using(tera_expect::proofs::TakingLemmas::on_the_way))]
 pub(crate) fn extra(
@@ -169,8 +169,8 @@ pub(crate) fn extra(
     }
 }
 
-// The bracket behind a comprehension.
-#[tactic(auto, using(tera_expect::proofs::TakingLemmas::refused_behind))]
+// The bracket after a comprehension.
+#[tactic(auto, using(tera_expect::proofs::TakingLemmas::refused_after))]
 fn close_comprehension(cursor: &mut Cursor<'_>) -> Result<(), Error>
     ensures gives { GivesAs (place_at cursor.new.span) result cursor.new.left
         (takes RightBracket cursor.old.left) }

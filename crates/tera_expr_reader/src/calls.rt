@@ -21,7 +21,7 @@ use tera_expr_parts::{Ending, Room, Values, negation};
 use tera_lexer::Cursor;
 use tera_tree::{Expression, build};
 
-/// A name with its arguments, and where both stand.
+/// A name with its arguments, and where both are.
 #[derive(Drop)]
 pub(crate) struct Call {
     pub name: String,
@@ -29,10 +29,10 @@ pub(crate) struct Call {
     pub span: Span,
 }
 
-/// Reads a test, a filter or a subscript of an operand that begins at `start`, behind its first token, which was
-/// taken last; its link is counted.
+/// Reads a test, a filter or a subscript of an operand that begins at `start`, after its first token, which was taken
+/// last; its link is counted.
 #[cycle(reader)]
-#[tactic(auto, unfolding(crate::specs::Unfold::suffix_in), using(tera_expect::proofs::TakingLemmas::behind_tokens))]
+#[tactic(auto, unfolding(crate::specs::Unfold::suffix_in), using(tera_expect::proofs::TakingLemmas::after_tokens))]
 pub(crate) fn suffix(
     cursor: &mut Cursor<'_>,
     links: &mut usize,
@@ -67,7 +67,7 @@ pub(crate) fn suffix(
 
 // A test of an operand that begins at `start`, whose `is` was taken last.
 #[cycle(reader)]
-#[tactic(auto, using(tera_expect::proofs::TakingLemmas::behind_tokens))]
+#[tactic(auto, using(tera_expect::proofs::TakingLemmas::after_tokens))]
 fn test(
     cursor: &mut Cursor<'_>,
     links: &mut usize,
@@ -94,7 +94,7 @@ fn test(
 
 /// A filter of an expression, whose name comes next.
 #[cycle(reader)]
-#[tactic(auto, using(tera_expect::proofs::TakingLemmas::behind_tokens))]
+#[tactic(auto, using(tera_expect::proofs::TakingLemmas::after_tokens))]
 pub(crate) fn filter_with(
     cursor: &mut Cursor<'_>,
     links: &mut usize,
@@ -130,7 +130,7 @@ fn read_call(cursor: &mut Cursor<'_>, links: &mut usize, values: Values) -> Resu
     Ok(Call { name, kwargs, span })
 }
 
-// The arguments behind a name, which was taken last, if it has some.
+// The arguments after a name, which was taken last, if it has some.
 #[cycle(reader)]
 #[tactic(auto, using(tera_expect::proofs::TakingLemmas::on_the_way))]
 fn maybe_arguments(

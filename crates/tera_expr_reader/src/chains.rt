@@ -17,7 +17,7 @@ ghost use Rattle.tera_expect.specs.Taking.{GivesBy, GoesOn, Refuses, Took, name_
 ghost use Rattle.tera_expr_reader.specs.declared.chains.Link.TheVariants as variants;
 
 use crate::arguments::arguments;
-use crate::faults::{call_behind_link, no_loop_field};
+use crate::faults::{call_after_link, no_loop_field};
 use crate::subscripts::{read_subscript, with_subscript};
 use tera_base::{Error, Span};
 use tera_expect::{Fixed, eat, name};
@@ -25,7 +25,7 @@ use tera_expr_parts::{Room, Values, count_link, leaves};
 use tera_lexer::{Cursor, Token};
 use tera_tree::{Expression, build};
 
-/// What the tokens behind a chain begin with.
+/// What the tokens after a chain begin with.
 #[derive(Clone, Copy)]
 pub(crate) enum Link {
     /// Nothing that goes on with the chain.
@@ -55,14 +55,14 @@ impl Link {
     }
 }
 
-/// A chain behind which nothing goes on with it, or one with a link more.
+/// A chain after which nothing goes on with it, or one with a link more.
 #[derive(Drop)]
 pub(crate) enum Linked {
     Whole(Expression),
     Longer(Expression),
 }
 
-/// Reads a chain or a call of a function, whose name stands at the span and was taken last.
+/// Reads a chain or a call of a function, whose name is at the span and was taken last.
 #[cycle(reader)]
 #[tactic(auto, unfolding(crate::specs::Unfold::chain_of, crate::specs::Unfold::skip), using(tera_expect::proofs::TakingLemmas::on_the_way, crate::proofs::ChainsLemmas::chain_negatable, crate::proofs::ChainsLemmas::call_negatable))]
 pub(crate) fn chain(
@@ -89,9 +89,9 @@ pub(crate) fn chain(
     }
 }
 
-// A call of a function, whose name stands at the span and whose opening parenthesis was taken last.
+// A call of a function, whose name is at the span and whose opening parenthesis was taken last.
 #[cycle(reader)]
-#[tactic(auto, using(tera_expect::proofs::TakingLemmas::behind_tokens))]
+#[tactic(auto, using(tera_expect::proofs::TakingLemmas::after_tokens))]
 fn function_call(
     cursor: &mut Cursor<'_>,
     links: &mut usize,
@@ -120,7 +120,7 @@ fn function_call(
     Ok(build::function_call(alloc, name, kwargs, span)?)
 }
 
-// The links of a chain, whose name stands at the span.
+// The links of a chain, whose name is at the span.
 #[cycle(reader)]
 #[tactic(auto, using(tera_expect::proofs::TakingLemmas::on_the_way))]
 fn with_links(
@@ -157,9 +157,9 @@ fn is_loop(in_loop: bool, name: &str) -> bool
     in_loop && name == "loop"
 }
 
-// A chain with its next link, which counts, if one stands there.
+// A chain with its next link, which counts, if one is there.
 #[cycle(reader)]
-#[tactic(auto, using(tera_expect::proofs::TakingLemmas::behind_tokens))]
+#[tactic(auto, using(tera_expect::proofs::TakingLemmas::after_tokens))]
 fn with_link(
     cursor: &mut Cursor<'_>,
     links: &mut usize,
@@ -177,7 +177,7 @@ fn with_link(
 {
     match Link::at(cursor) {
         Link::Nothing => Ok(Linked::Whole(chain)),
-        Link::Called => Err(call_behind_link(cursor)),
+        Link::Called => Err(call_after_link(cursor)),
         Link::Field(optional) => {
             count_link(cursor, links)?;
             take_link(cursor);
@@ -204,7 +204,7 @@ fn take_link(cursor: &mut Cursor<'_>)
 }
 
 // A field of a chain, whose dot was taken last.
-#[tactic(auto, using(tera_expect::proofs::TakingLemmas::behind_tokens))]
+#[tactic(auto, using(tera_expect::proofs::TakingLemmas::after_tokens))]
 fn field(
     cursor: &mut Cursor<'_>,
     of_loop: bool,

@@ -23,7 +23,7 @@ use tera_expr_parts::{
 use tera_lexer::Cursor;
 use tera_tree::{Expression, MapEntry, build};
 
-/// A call of a component that closes itself, behind its `<`, which stands at the span and was taken last.
+/// A call of a component that closes itself, after its `<`, which is at the span and was taken last.
 #[cycle(reader)]
 #[tactic(auto, using(tera_expect::proofs::TakingLemmas::on_the_way))]
 pub(crate) fn component(
@@ -78,7 +78,7 @@ pub(crate) fn attributes(
     Ok(attributes)
 }
 
-// An attribute, where one stands.
+// An attribute, where one is.
 #[cycle(reader)]
 #[tactic(auto, using(tera_expect::proofs::TakingLemmas::on_the_way))]
 fn attribute(
@@ -105,7 +105,7 @@ fn attribute(
     Ok(Some(MapEntry::Spread(spread)))
 }
 
-// An attribute behind its name, which was taken last.
+// An attribute after its name, which was taken last.
 #[cycle(reader)]
 #[tactic(auto, using(tera_expect::proofs::TakingLemmas::on_the_way))]
 fn named_attribute(
@@ -136,7 +136,7 @@ fn named_attribute(
 
 // The value of an attribute: a string, or an expression between braces.
 #[cycle(reader)]
-#[tactic(auto, using(tera_expect::proofs::TakingLemmas::behind_tokens))]
+#[tactic(auto, using(tera_expect::proofs::TakingLemmas::after_tokens))]
 fn attribute_value(
     cursor: &mut Cursor<'_>,
     links: &mut usize,
@@ -153,9 +153,9 @@ fn attribute_value(
     quote(cursor)
 }
 
-// A value and the brace behind it.
+// A value and the brace after it.
 #[cycle(reader)]
-#[tactic(auto, using(tera_expect::proofs::TakingLemmas::behind_tokens))]
+#[tactic(auto, using(tera_expect::proofs::TakingLemmas::after_tokens))]
 fn braced(cursor: &mut Cursor<'_>, links: &mut usize, values: Values) -> Result<Expression, Error>
     ensures gives { GivesBy
         (IsBraced values.room.scope.in_loop) result (at links.new cursor.new.left)

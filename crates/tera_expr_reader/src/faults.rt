@@ -1,7 +1,7 @@
 //! The faults of what holds expressions, in the order in which the language's document lists them. Those of the parts
-//! of expressions stand in `tera_expr_parts`.
+//! of expressions are in `tera_expr_parts`.
 
-ghost use Rattle.tera_base.specs.Errors.{TellsBy};
+ghost use Rattle.tera_base.specs.Errors.{ReportsBy};
 ghost use Rattle.tera_lexer.specs.grammar.Place.{IsWithin};
 ghost use Rattle.tera_expr_parts.specs.Ranges.{RunsFrom};
 ghost use Rattle.tera_expect.specs.Taking.{Refuses};
@@ -12,7 +12,7 @@ use tera_expr_parts::reported_from;
 use tera_lexer::Cursor;
 
 /// That a call hangs on a chain with links, the last of which was taken last.
-pub(crate) fn call_behind_link(cursor: &Cursor<'_>) -> Error
+pub(crate) fn call_after_link(cursor: &Cursor<'_>) -> Error
     ensures { Refuses cursor.now result }
 {
     fault(
@@ -41,10 +41,10 @@ pub(crate) fn second_for(cursor: &Cursor<'_>) -> Error
     )
 }
 
-/// That an array which has to be a constant is none; its bracket stands at the span, and it was taken last.
+/// That an array which has to be a constant is none; its bracket is at the span, and it was taken last.
 pub(crate) fn array_not_constant(cursor: &Cursor<'_>, first: &Span) -> Error
     requires { IsWithin cursor.now.source first.now }
-    ensures { TellsBy (λ text span. RunsFrom first.now cursor.now span) result }
+    ensures { ReportsBy (λ text span. RunsFrom first.now cursor.now span) result }
 {
     let message = String::from_str(
         cursor.alloc(),
@@ -53,10 +53,10 @@ pub(crate) fn array_not_constant(cursor: &Cursor<'_>, first: &Span) -> Error
     reported_from(cursor, first, message)
 }
 
-/// The same of a map, which stands in this context.
+/// The same of a map, which is in this context.
 pub(crate) fn map_not_constant(cursor: &Cursor<'_>, first: &Span, context: &str) -> Error
     requires { IsWithin cursor.now.source first.now }
-    ensures { TellsBy (λ text span. RunsFrom first.now cursor.now span) result }
+    ensures { ReportsBy (λ text span. RunsFrom first.now cursor.now span) result }
 {
     let message = format!(in cursor.alloc();
         "Invalid {context}: this map should only contain literal values."

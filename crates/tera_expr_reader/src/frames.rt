@@ -1,10 +1,10 @@
-//! Open expressions, and where the reading stands.
+//! Open expressions, and where the reading is.
 
 use tera_base::Span;
 use tera_expr_parts::Operator;
 use tera_tree::{Expression, UnaryOperator};
 
-/// An expression that was read, and where it stands with its parentheses.
+/// An expression that was read, and where it is with its parentheses.
 #[derive(Drop)]
 pub(crate) struct Operand {
     pub expr: Expression,
@@ -21,23 +21,23 @@ pub(crate) struct Level {
 /// An open expression that waits for one inside of it.
 #[derive(Drop)]
 pub(crate) enum Frame {
-    /// Behind the parenthesis at the span.
+    /// After the parenthesis at the span.
     Paren(Level, Span),
-    /// Behind the prefix at the span.
+    /// After the prefix at the span.
     Prefix(Level, UnaryOperator, Span),
-    /// Behind an operator, which is negated or not.
+    /// After an operator, which is negated or not.
     Binary {
         level: Level,
         operator: Operator,
         negated: bool,
         left: Operand,
     },
-    /// Behind the `if` of a ternary.
+    /// After the `if` of a ternary.
     TernaryCondition {
         level: Level,
         left: Operand,
     },
-    /// Behind the `else` of a ternary.
+    /// After the `else` of a ternary.
     TernaryLast {
         level: Level,
         left: Operand,
@@ -45,11 +45,11 @@ pub(crate) enum Frame {
     },
 }
 
-/// Where the reading stands.
+/// Where the reading is.
 #[derive(Drop)]
 pub(crate) enum State {
     /// An expression opens, inside of which so many may open, from a least power on.
-    Wants(usize, u8),
+    Needs(usize, u8),
     /// An open expression has this operand so far.
     Holds(Level, Operand),
     /// All is read.

@@ -1,8 +1,8 @@
-//! Reads expressions over a stack of those that are open, and what stands in them between brackets.
+//! Reads expressions over a stack of open expressions, and what is in them between brackets.
 //!
-//! It takes a cursor, and where an expression stands (`Scope`), and gives what the reading function of `tera_grammar`
-//! gives (the clauses `gives`). It stands on `tera_expr_parts`. Its functions call one another and are proved together,
-//! as the cycle `reader`; the answers to their goals stand in `proofs/+reader`.
+//! It takes a cursor, and where an expression is (`Scope`). It returns what the reading function of `tera_grammar`
+//! gives (the clauses `gives`). It depends on `tera_expr_parts`. Its functions call one another and are proved
+//! together, as the cycle `reader`; the answers to their goals are in `proofs/+reader`.
 //!
 //! In the order of reading: `outermost`, the calls for the crates above; `lone`, expressions of one token; `frames` and
 //! `stack`, the loop over what is open; `chains` and `subscripts`; `calls` and `arguments`; `rows`, `arrays` and

@@ -13,7 +13,7 @@ use tera_expr_parts::{is_none, is_not, leaves};
 use tera_lexer::{Cursor, Token};
 use tera_tree::Expression;
 
-/// Reads an expression of one token, where so many may open, if the token behind it ends it. Else it takes nothing.
+/// Reads an expression of one token, where so many may open, if the token after it ends it. Else it takes nothing.
 pub(crate) fn lone(cursor: &mut Cursor<'_>, depth: usize) -> Result<Option<Expression>, AllocError>
     ensures { IfOk result (λ e. GivesLone depth e cursor.old cursor.new) }
 {
@@ -36,7 +36,7 @@ pub(crate) fn lone(cursor: &mut Cursor<'_>, depth: usize) -> Result<Option<Expre
     Ok(Some(expr))
 }
 
-// Whether every expression ends before the token behind the next one.
+// Whether every expression ends before the token after the next one.
 fn stop_is_second(cursor: &Cursor<'_>) -> bool
     requires { 0 < cursor.now.sight }
     ensures { result ≡ second_is_stop cursor.now.left }
@@ -47,7 +47,7 @@ fn stop_is_second(cursor: &Cursor<'_>) -> bool
     }
 }
 
-// Whether every expression ends before the token, which is no word.
+// Whether every expression ends before the token, which is not a word.
 fn is_stop(token: &Token<'_>) -> bool
     ensures { result ≡ is_stop (seen token.now) }
 {
@@ -59,8 +59,8 @@ fn is_stop(token: &Token<'_>) -> bool
     }
 }
 
-// The expression that the token is by itself, which stands at the span. The text of a string with escapes is left in
-// its token.
+// The expression that the token is by itself, which is at the span. The text of a string with escapes is left in its
+// token.
 fn leaf(alloc: Global, token: &Token<'_>, span: &Span) -> Result<Option<Expression>, AllocError>
     ensures { IfOk result (λ e.
         option_map expression_view e ≡ leaf_of (seen token.now) span.now) }
@@ -74,7 +74,7 @@ fn leaf(alloc: Global, token: &Token<'_>, span: &Span) -> Result<Option<Expressi
     }
 }
 
-// The variable of the name, which stands at the span, if it is one.
+// The variable of the name, which is at the span, if it is one.
 fn variable(alloc: Global, name: &str, span: &Span) -> Result<Option<Expression>, AllocError>
     ensures { IfOk result (λ e.
         option_map expression_view e ≡ leaf_of (Ident name.now) span.now) }

@@ -20,7 +20,7 @@ use tera_expr_parts::{Values, key, map_or_constant, more, spanning};
 use tera_lexer::Cursor;
 use tera_tree::{Expression, MapEntry};
 
-/// A map, behind its brace, which stands at the span and was taken last.
+/// A map, after its brace, which is at the span and was taken last.
 #[cycle(reader)]
 #[tactic(auto, using(tera_expect::proofs::TakingLemmas::on_the_way))]
 pub(crate) fn map(
@@ -50,7 +50,7 @@ pub(crate) fn map(
 
 // A pair of a key and a value, or a spread.
 #[cycle(reader)]
-#[tactic(auto, using(tera_expect::proofs::TakingLemmas::behind_tokens))]
+#[tactic(auto, using(tera_expect::proofs::TakingLemmas::after_tokens))]
 fn entry(cursor: &mut Cursor<'_>, links: &mut usize, values: Values) -> Result<MapEntry, Error>
     ensures gives { GivesBy
         (IsEntry values.room.scope.in_loop) result (at links.new cursor.new.left)

@@ -31,7 +31,7 @@ pub fn expression(cursor: &mut Cursor<'_>, scope: Scope) -> Result<Expression, E
     crate::stack::expression(cursor, &mut links, room, scope.limits.depth, 0)
 }
 
-/// Reads the attributes of a call of a component, as many as stand there.
+/// Reads the attributes of a call of a component, as many as are there.
 pub fn attributes(cursor: &mut Cursor<'_>, scope: Scope) -> Result<Vec<MapEntry>, Error>
     ensures gives { GivesBy (λ es a. AreAttributes scope.in_loop es.items a) result cursor.new.left
         (attributes_of (limits_of scope.limits) scope.in_loop cursor.old.left) }
@@ -43,7 +43,7 @@ pub fn attributes(cursor: &mut Cursor<'_>, scope: Scope) -> Result<Vec<MapEntry>
 }
 
 /// Reads arguments with their parentheses.
-#[tactic(auto, using(tera_expect::proofs::TakingLemmas::behind_tokens))]
+#[tactic(auto, using(tera_expect::proofs::TakingLemmas::after_tokens))]
 pub fn kwargs(cursor: &mut Cursor<'_>, scope: Scope) -> Result<BTreeMap<String, Expression>, Error>
     ensures gives { GivesBy (λ m x. AreKwargs scope.in_loop m.entries x) result cursor.new.left
         (kwargs_of (limits_of scope.limits) scope.in_loop cursor.old.left) }
@@ -55,7 +55,7 @@ pub fn kwargs(cursor: &mut Cursor<'_>, scope: Scope) -> Result<BTreeMap<String, 
     arguments(cursor, &mut links, Values::outermost(scope))
 }
 
-/// Reads the name of a filter and its arguments. What it filters is no value, at the token taken last before.
+/// Reads the name of a filter and its arguments. What it filters is not a value, at the token taken last before.
 #[tactic(auto, using(tera_expect::proofs::TakingLemmas::memory_refused))]
 pub fn filter(cursor: &mut Cursor<'_>, scope: Scope) -> Result<Expression, Error>
     ensures gives { GivesBy (IsFilter scope.in_loop cursor.old.span) result cursor.new.left
@@ -78,7 +78,7 @@ pub fn component_name(cursor: &mut Cursor<'_>) -> Result<String, Error>
 }
 
 /// Reads an array of constants from its bracket on.
-#[tactic(auto, using(tera_expect::proofs::TakingLemmas::behind_tokens))]
+#[tactic(auto, using(tera_expect::proofs::TakingLemmas::after_tokens))]
 pub fn literal_array(cursor: &mut Cursor<'_>, limits: Limits) -> Result<Value, Error>
     ensures gives { GivesBy IsArray result cursor.new.left
         (array_of (limits_of limits) cursor.old.left) }
@@ -99,8 +99,8 @@ pub fn literal_array(cursor: &mut Cursor<'_>, limits: Limits) -> Result<Value, E
     }
 }
 
-/// Reads a map of constants from its brace on; a fault tells of what it stands in as the context.
-#[tactic(auto, using(tera_expect::proofs::TakingLemmas::behind_tokens))]
+/// Reads a map of constants from its brace on; a fault reports what it is in as the context.
+#[tactic(auto, using(tera_expect::proofs::TakingLemmas::after_tokens))]
 pub fn literal_map(cursor: &mut Cursor<'_>, context: &str, limits: Limits) -> Result<Value, Error>
     ensures gives { GivesBy IsMap result cursor.new.left
         (map_of (limits_of limits) cursor.old.left) }

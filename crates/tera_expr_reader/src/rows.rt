@@ -1,4 +1,4 @@
-//! What stands between brackets, parted by commas.
+//! What is between brackets, parted by commas.
 
 ghost use Rattle.std.specs.Prelude.{IfErr, IfOk};
 ghost use Rattle.tera_ast.specs.View.{expression_view};

@@ -8,7 +8,7 @@ ghost use Rattle.tera_grammar.specs.expressions.Reading.Loop.{expr};
 ghost use Rattle.tera_grammar.specs.expressions.Stack as stack;
 ghost use Rattle.tera_grammar.specs.expressions.Stack.{work};
 ghost use Rattle.tera_expr_parts.specs.declared.limits.Room.{Room};
-ghost use Rattle.tera_expr_reader.specs.Frames.{Falls, HoldsNegatable, Keeps, behind_sign, behind_word, frame_view, level_view, operand_at, operand_view, unwind};
+ghost use Rattle.tera_expr_reader.specs.Frames.{Falls, HoldsNegatable, Keeps, after_sign, after_word, frame_view, level_view, operand_at, operand_view, unwind};
 ghost use Rattle.tera_expr_parts.specs.Literals.{MayBeNegated};
 ghost use Rattle.tera_expr_parts.specs.Fronts.{sign_of};
 ghost use Rattle.tera_expr_parts.specs.Rooms.{room_of};
@@ -51,10 +51,10 @@ pub(crate) fn expression(
         return Ok(expr);
     }
     let mut frames = Vec::new(cursor.alloc());
-    let mut state = State::Wants(depth, least);
+    let mut state = State::Needs(depth, least);
     'steps: loop {
         let next = match state {
-            State::Wants(depth, least) => {
+            State::Needs(depth, least) => {
                 operand(cursor, links, &mut frames, room, depth, least)?
             }
             State::Holds(level, left) => { turn(cursor, links, &mut frames, room, level, left)? }
@@ -124,7 +124,7 @@ fn head(
         Token::Minus => return prefix(cursor, frames, level, UnaryOperator::Minus, span),
         Token::LeftParen => {
             frames.push(Frame::Paren(level, span))?;
-            return Ok(State::Wants(level.depth, 0));
+            return Ok(State::Needs(level.depth, 0));
         }
         Token::Ident(name) => return word(cursor, links, frames, room, level, name, span),
         Token::LeftBracket => {
@@ -155,7 +155,7 @@ fn holds(cursor: &Cursor<'_>, level: Level, expr: Expression, first: &Span) -> S
     State::Holds(level, Operand { expr, span })
 }
 
-// A word at the start of an operand, which stands at the span and was taken last.
+// A word at the start of an operand, which is at the span and was taken last.
 #[inline(always)]
 #[cycle(reader)]
 #[tactic(auto, using(tera_expect::proofs::TakingLemmas::on_the_way))]
@@ -171,7 +171,7 @@ fn word(
     requires { cursor.old.span ≡ span }
     ensures keeps { Keeps room result frames.new.items (at links.new cursor.new.left)
         (unwind room frames.old.items
-        (behind_word room level (name_in name.now span) (at links.old cursor.old.left))) }
+        (after_word room level (name_in name.now span) (at links.old cursor.old.left))) }
     ensures falls { Falls result frames.new.items (at links.new cursor.new.left)
         (work frames.old.items (at links.old cursor.old.left) + 2) }
     ensures negatable { IfOk result HoldsNegatable }
@@ -189,7 +189,7 @@ fn word(
     Ok(holds(cursor, level, expr, &span))
 }
 
-// Opens the operand of a prefix, which stands at the span and was taken.
+// Opens the operand of a prefix, which is at the span and was taken.
 #[inline(always)]
 #[tactic(auto, using(tera_expect::proofs::TakingLemmas::on_the_way))]
 fn prefix(
@@ -201,7 +201,7 @@ fn prefix(
 ) -> Result<State, Error>
     ensures keeps { (room : Room) (links : ℕ) →
         Keeps room result frames.new.items (at links cursor.new.left) (unwind room frames.old.items
-        (behind_sign room level (sign_of sign span) (at links cursor.old.left))) }
+        (after_sign room level (sign_of sign span) (at links cursor.old.left))) }
     ensures falls { (links : ℕ) → Falls result frames.new.items (at links cursor.new.left)
         (work frames.old.items (at links cursor.old.left) + 2) }
     ensures negatable { IfOk result HoldsNegatable }
@@ -212,7 +212,7 @@ fn prefix(
         return Err(consecutive(cursor));
     }
     frames.push(Frame::Prefix(level, sign, span))?;
-    Ok(State::Wants(level.depth, prefix_power(sign)))
+    Ok(State::Needs(level.depth, prefix_power(sign)))
 }
 
 // One turn: what the operand is followed by, if the power lets it in.
@@ -251,12 +251,12 @@ fn turn(
                 negated,
                 left,
             })?;
-            Ok(State::Wants(level.depth, operator.right_power()))
+            Ok(State::Needs(level.depth, operator.right_power()))
         }
         Front::Chooses => {
             take_condition(cursor);
             frames.push(Frame::TernaryCondition { level, left })?;
-            Ok(State::Wants(level.depth, 0))
+            Ok(State::Needs(level.depth, 0))
         }
         Front::Closes(ending) => {
             count_link(cursor, links)?;
@@ -349,7 +349,7 @@ fn resume(
                 left,
                 condition,
             })?;
-            Ok(State::Wants(level.depth, 0))
+            Ok(State::Needs(level.depth, 0))
         }
         Frame::TernaryLast {
             level,

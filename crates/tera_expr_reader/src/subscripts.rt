@@ -21,7 +21,7 @@ use tera_expr_parts::Room;
 use tera_lexer::Cursor;
 use tera_tree::{Expression, build};
 
-/// What stands between the brackets of a subscript.
+/// What is between the brackets of a subscript.
 #[derive(Drop)]
 pub(crate) enum Subscript {
     Index(Expression),
@@ -32,9 +32,9 @@ pub(crate) enum Subscript {
     },
 }
 
-/// Reads what stands in a subscript, whose opening bracket was taken last, up to the closing one.
+/// Reads what is in a subscript, whose opening bracket was taken last, up to the closing one.
 #[cycle(reader)]
-#[tactic(auto, unfolding(crate::specs::Unfold::sub_of), using(tera_expect::proofs::TakingLemmas::behind_tokens))]
+#[tactic(auto, unfolding(crate::specs::Unfold::sub_of), using(tera_expect::proofs::TakingLemmas::after_tokens))]
 pub(crate) fn read_subscript(
     cursor: &mut Cursor<'_>,
     links: &mut usize,
@@ -101,7 +101,7 @@ fn end(
     Ok(Some(expression(cursor, links, room, depth, 0)?))
 }
 
-// The step of a slice behind a second colon, if it has one.
+// The step of a slice after a second colon, if it has one.
 #[cycle(reader)]
 #[tactic(auto, unfolding(crate::specs::Unfold::extra_of, crate::specs::Unfold::skip), using(tera_expect::proofs::TakingLemmas::on_the_way))]
 fn step(

@@ -16,7 +16,7 @@ use Rattle.std.proofs.lemmas.List.Elements.{All-contains, All-map, All-nil, All-
 use Rattle.std.proofs.lemmas.List.MinMax.{ranks_by}
 use Rattle.std.proofs.lemmas.List.Quantifiers.{all_pairs_push}
 use Rattle.std.proofs.lemmas.List.Sorted.{All-permutation, sorted_far}
-use Rattle.tera_files.specs.Below.{AddsEach, AddsEntry, AddsSome, AreTemplates, IsBefore, IsUnlisted, Tells, an_entry, path_of}
+use Rattle.tera_files.specs.Below.{AddsEach, AddsEntry, AddsSome, AreTemplates, IsBefore, IsUnlisted, Reports, an_entry, path_of}
 use Rattle.tera_files.specs.declared.below.Below.{Below}
 use Rattle.tera_files.specs.declared.below.Template.{Template}
 use Rattle.tera_files.specs.declared.seen.Entry.{Entry}
@@ -28,16 +28,16 @@ use Rattle.tera_files.specs.Paths.{IsKnown, IsPathIn, IsTemplate, IsWithin, at_t
 -- what is known by the names below the top is within the folder at the top
 pub within_of : (top itself path known : List ℕ) → IsKnown top itself path known → IsWithin top path
 within_of top itself _ _ top_is_known = at_top
-within_of top itself _ _ (known_inside {folder} {known} name path is kept told) =
-    inside name path (within_of top itself folder known is) kept told
+within_of top itself _ _ (known_inside {folder} {known} name path is kept path_of_name) =
+    inside name path (within_of top itself folder known is) kept path_of_name
 
 -- an entry of a folder that is known by its name there
 pub known_entry : (top itself folder known name path : List ℕ) (entry : Option (String Global)) → IsKnown top itself folder known
     → ¬ (IsLeftOut name) → IsPathIn folder name path → IfSome entry (λ text. string_bytes text ≡ path_join known name)
     → IfSome entry (λ text. IsKnown top itself path (string_bytes text))
-known_entry top itself folder known name path None is kept told same = tt
-known_entry top itself folder known name path (Some text) is kept told same =
-    subst (IsKnown top itself path) (sym same) (known_inside name path is kept told)
+known_entry top itself folder known name path None is kept path_of_name same = tt
+known_entry top itself folder known name path (Some text) is kept path_of_name same =
+    subst (IsKnown top itself path) (sym same) (known_inside name path is kept path_of_name)
 
 abbrev pub goes_before : Template → Template → Bool
 goes_before one other = is_lt (slice_cmp nat_cmp (path_of one) (path_of other))
@@ -75,12 +75,12 @@ templates_in_order extensions top templates sorted all moved ordered =
 pub adds_none : (old : List (List ℕ)) → AddsSome [] old old
 adds_none old = record {
   more = [];
-  behind = sym (append-nil old);
+  following = sym (append-nil old);
   among = All-nil (Contains []);
   sorted = λ i j d before below. absurd (omega arith);
 }
 
--- one that stands among the first of them stands before the next
+-- one that is among the first of them is before the next
 stands_before : (paths : List (List ℕ)) (i : ℕ) (path one : List ℕ) → AllPairs IsBefore paths → i < length paths
     → path ≡ get_or paths i path → Contains (take i paths) one → IsBefore one path
 stands_before paths i path one sorted below is at =
@@ -99,10 +99,10 @@ adds_more paths old middle new i path sorted below is part added =
     let among = All-weaker (Contains (take i paths)) (Contains (take (i + 1) paths)) wider part.more part.among in
     let here : Contains (take (i + 1) paths) path = subst (λ l. Contains l path) (sym grown) (Contains-push (take i paths) path) in
     ⊎_elim
-    (λ same. record { more = part.more; behind = same ∙ part.behind; among = among; sorted = part.sorted })
+    (λ same. record { more = part.more; following = same ∙ part.following; among = among; sorted = part.sorted })
     (λ one. record {
       more = part.more ++ path ∷ [];
-      behind = one ∙ ap (λ l. l ++ path ∷ []) part.behind ∙ append_assoc old part.more (path ∷ []);
+      following = one ∙ ap (λ l. l ++ path ∷ []) part.following ∙ append_assoc old part.more (path ∷ []);
       among = All-push (Contains (take (i + 1) paths)) part.more path among here;
       sorted = all_pairs_push IsBefore part.more path part.sorted
           (λ k d inside. stands_before paths i path (get_or part.more k d) sorted below is (part.among k d inside));
@@ -117,13 +117,13 @@ some_templates extensions top from old new all part = record {
   sorted = part.sorted;
 }
 
--- nothing is told
-pub tells_none : (top : List ℕ) (old : List Unlisted) → Tells top old old
-tells_none top old = record { more = []; behind = sym (append-nil old); unlisted = All-nil (IsUnlisted top) }
+-- nothing is reported
+pub reports_none : (top : List ℕ) (old : List Unlisted) → Reports top old old
+reports_none top old = record { more = []; following = sym (append-nil old); unlisted = All-nil (IsUnlisted top) }
 
 -- more folders are unlisted
-pub tells_more : (top : List ℕ) (old more new : List Unlisted) → new ≡ old ++ more → All (IsUnlisted top) more → Tells top old new
-tells_more top old more new behind unlisted = record { more = more; behind = behind; unlisted = unlisted }
+pub reports_more : (top : List ℕ) (old more new : List Unlisted) → new ≡ old ++ more → All (IsUnlisted top) more → Reports top old new
+reports_more top old more new following unlisted = record { more = more; following = following; unlisted = unlisted }
 
 -- one entry after the others
 pub adds_next : (extensions : List (List ℕ)) (folder : List ℕ) (old middle new : Below) (entries : List Entry) (i : ℕ) (entry : Entry)

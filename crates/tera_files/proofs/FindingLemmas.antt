@@ -11,7 +11,7 @@ use Rattle.std.proofs.lemmas.List.Quantifiers.{Any-push}
 use Rattle.tera_files.specs.declared.below.Template.{Template}
 use Rattle.tera_files.specs.declared.finding.Unlisted.{Unlisted}
 use Rattle.tera_files.specs.declared.listing.Listing.{Listing}
-use Rattle.tera_files.specs.Below.{AreTemplates, IsUnlisted, Tells}
+use Rattle.tera_files.specs.Below.{AreTemplates, IsUnlisted, Reports}
 use Rattle.tera_files.specs.Finding.{AddsAll, AddsTemplate, AddsTemplates, AreOf, AreOfAll, a_template, input}
 use Rattle.tera_files.specs.Listing.{IsAdded}
 use Rattle.tera_files.specs.Paths.{IsTemplate}
@@ -27,8 +27,8 @@ no_templates extensions top = record {
 pub adds_itself : (extensions : List (List ℕ)) (path : List ℕ) (old new : List (List ℕ)) → IsAdded path old new → AddsAll extensions path old new
 adds_itself extensions path old new added =
     ⊎_elim
-    (λ same. record { more = []; behind = same ∙ sym (append-nil old); of_path = inr (no_templates extensions path) })
-    (λ one. record { more = path ∷ []; behind = one; of_path = inl refl })
+    (λ same. record { more = []; following = same ∙ sym (append-nil old); of_path = inr (no_templates extensions path) })
+    (λ one. record { more = path ∷ []; following = one; of_path = inl refl })
     added
 
 pub adds_key : (extensions : List (List ℕ)) (path text : List ℕ) (old new : List (List ℕ)) → text ≡ path
@@ -56,7 +56,7 @@ pub found_more : (extensions paths old new : List (List ℕ)) (i : ℕ) (path : 
     → AreOfAll extensions (take i paths) old → AddsAll extensions path old new → AreOfAll extensions (take (i + 1) paths) new
 found_more extensions paths old new i path below is before adds = record {
   pieces = before.pieces ++ adds.more ∷ [];
-  joined = adds.behind ∙ ap (λ l. l ++ adds.more) before.joined ∙ ap (λ l. flat_map (λ piece. piece) before.pieces ++ l) (sym (append-nil adds.more)) ∙ sym (flat_map-append (λ piece. piece) before.pieces (adds.more ∷ []));
+  joined = adds.following ∙ ap (λ l. l ++ adds.more) before.joined ∙ ap (λ l. flat_map (λ piece. piece) before.pieces ++ l) (sym (append-nil adds.more)) ∙ sym (flat_map-append (λ piece. piece) before.pieces (adds.more ∷ []));
   each = subst (λ l. AllZip (AreOf extensions) l (before.pieces ++ adds.more ∷ [])) (sym (taken paths i path below is))
       (AllZip-push (AreOf extensions) (take i paths) before.pieces path adds.more before.each adds.of_path);
 }
@@ -67,7 +67,7 @@ pub input_more : (extensions paths old new : List (List ℕ)) (i : ℕ) (path : 
     → Contains (take (i + 1) paths) input → Contains new input
 input_more extensions paths old new i path below is before adds here at =
     ⊎_elim
-    (λ earlier. subst (λ l. Contains l input) (sym adds.behind) (Contains-append_left old adds.more input (before earlier)))
+    (λ earlier. subst (λ l. Contains l input) (sym adds.following) (Contains-append_left old adds.more input (before earlier)))
     here
     (Contains-push_cases (take i paths) path input (subst (λ l. Contains l input) (taken paths i path below is) at))
 
@@ -82,19 +82,19 @@ pub ok_anyway : {T E P : Type 0} (result : Result T E) → P → OnOk result P
 ok_anyway (Ok value) is = is
 ok_anyway (Err error) is = tt
 
--- what is told of one path after another
-pub told_more : (paths : List (List ℕ)) (i : ℕ) (path : List ℕ) (old new : List Unlisted) → i < length paths → path ≡ get_or paths i path
-    → All (λ one. Any (λ top. IsUnlisted top one) (take i paths)) old → Tells path old new
+-- what is reported for one path after another
+pub reported_more : (paths : List (List ℕ)) (i : ℕ) (path : List ℕ) (old new : List Unlisted) → i < length paths → path ≡ get_or paths i path
+    → All (λ one. Any (λ top. IsUnlisted top one) (take i paths)) old → Reports path old new
     → All (λ one. Any (λ top. IsUnlisted top one) (take (i + 1) paths)) new
-told_more paths i path old new below is before tells =
+reported_more paths i path old new below is before reports =
     let grown = taken paths i path below is in
     let Is : Unlisted → Type 0 = λ one. Any (λ top. IsUnlisted top one) (take i paths ++ path ∷ []) in
     let earlier : All Is old = All-weaker (λ one. Any (λ top. IsUnlisted top one) (take i paths)) Is
     (λ one any. Any-append_left (λ top. IsUnlisted top one) (take i paths) (path ∷ []) any) old before in
-    let here : All Is tells.more = All-weaker (IsUnlisted path) Is
-    (λ one told. Any-push (λ top. IsUnlisted top one) (take i paths) path told) tells.more tells.unlisted in
+    let here : All Is reports.more = All-weaker (IsUnlisted path) Is
+    (λ one path_of_name. Any-push (λ top. IsUnlisted top one) (take i paths) path path_of_name) reports.more reports.unlisted in
     subst (λ l. All (λ one. Any (λ top. IsUnlisted top one) l) new) (sym grown)
-    (All-same Is new (old ++ tells.more) tells.behind (All-append Is old tells.more earlier here))
+    (All-same Is new (old ++ reports.more) reports.following (All-append Is old reports.more earlier here))
 
 -- one template after the others
 pub next_template : (old middle new : Listing) (templates : List Template) (i : ℕ) (template : Template) → i < length templates

@@ -43,8 +43,8 @@ pub parts : (c : ℕ) (name front back : List ℕ) → SplitsAroundMatch (RFinds
 parts c name front back found low =
     let i = found.0 in
     let j = found.1 in
-    let behind = drop_at_char c name i j found.2.1 low in
-    let whole : name ≡ take i name ++ c ∷ drop j name = sym (take-append-drop i name) ∙ ap (λ text. take i name ++ text) behind in
+    let following = drop_at_char c name i j found.2.1 low in
+    let whole : name ≡ take i name ++ c ∷ drop j name = sym (take-append-drop i name) ∙ ap (λ text. take i name ++ text) following in
     let none : ¬ (Contains (drop j name) c) = λ at. NoCharPasses-char c (drop j name) at.0 found.2.0 low at.1 (get_or_default (drop j name) at.0 0 c at.1 ∙ at.2) in
     rw (found.3, found.4) (whole, none)
 

@@ -27,7 +27,7 @@ longest_is bytes (suc n) m above below text =
     (cases_lt m (suc n)))
     (cases_Bool (is_utf8 (take (suc n) bytes)))
 
--- bytes that are no text stop to be one at a place
+-- bytes that are not text stop to be one at a place
 pub valid_up_to : (bytes : List ℕ) → ¬ (IsUtf8 bytes) → IsValidUpTo bytes (utf8_valid_len bytes)
 unfolding utf8_valid_len
 valid_up_to bytes none =

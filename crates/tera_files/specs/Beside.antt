@@ -5,7 +5,7 @@ use Rattle.std.specs.Prelude.{◌≡◌, ◌≤◌, ℕ, List, ◌++◌, Contain
 abbrev pub slash : ℕ
 slash = 47
 
--- The front of a name, which leaves room for what stands behind it.
+-- The front of a name, which leaves room for what comes after it.
 pub record IsFront (name front : List ℕ) : Type 0 where
   pub rest : List ℕ
   pub whole : name ≡ front ++ rest
@@ -15,7 +15,7 @@ pub record IsFront (name front : List ℕ) : Type 0 where
 abbrev pub numbered : List ℕ → ℕ → List ℕ
 numbered front number = front ++ (codes "." ++ (decimal number ++ codes ".tera-new"))
 
--- A path in the folder of the file at `path`: the front of its name, with a number behind it.
+-- A path in the folder of the file at `path`: the front of its name, with a number after it.
 pub record IsBeside (path : List ℕ) (number : ℕ) (beside : List ℕ) : Type 0 where
   pub folder : List ℕ
   pub name : List ℕ

@@ -11,10 +11,10 @@ use Rattle.tera_files.specs.declared.listing.Listing.{Listing}
 abbrev pub AreOf : List (List ℕ) → List ℕ → List (List ℕ) → Type 0
 AreOf extensions path files = (files ≡ path ∷ []) ⊎ AreTemplates extensions path files
 
--- It adds the files that it means behind the others.
+-- It adds the files that it means after the others.
 pub record AddsAll (extensions : List (List ℕ)) (path : List ℕ) (old new : List (List ℕ)) : Type 0 where
   pub more : List (List ℕ)
-  pub behind : new ≡ old ++ more
+  pub following : new ≡ old ++ more
   pub of_path : AreOf extensions path more
 
 -- These files are those of each path in turn.
@@ -35,7 +35,8 @@ pub record IsFound (extensions paths : List (List ℕ)) (found : Found) : Type 0
   pub input_read : Contains paths input → Contains (map string_bytes found.files.items) input
   pub answered : 0 < length paths → (0 < vec_len found.files) ⊎ (0 < vec_len found.unlisted)
 
--- A template that is no link is added as the file that the system knows by its place, and a link as the one that it leads to.
+-- A template that is not a link is added as the file that the system knows by its place, and a link as the one that it
+-- leads to.
 abbrev pub AddsTemplate : Template → Listing → Listing → Type 0
 AddsTemplate template old new = MatchOption template.itself
     ((itself : List ℕ) × AddsFile (path_of template) itself old new)

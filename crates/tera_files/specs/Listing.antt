@@ -12,7 +12,7 @@ files_in listing = map string_bytes listing.files.keys
 abbrev pub IsStarted : Listing → Type 0
 IsStarted listing = (0 < length (files_in listing)) ⊎ ((itself : List ℕ) → contains_text listing.known itself ≡ false)
 
--- A path went behind the others, or was left out.
+-- A path went after the others, or was left out.
 abbrev pub IsAdded : List ℕ → List (List ℕ) → List (List ℕ) → Type 0
 IsAdded path old new = (new ≡ old) ⊎ (new ≡ old ++ path ∷ [])
 

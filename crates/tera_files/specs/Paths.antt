@@ -1,4 +1,4 @@
--- The paths of what stands in folders.
+-- The paths of what is in folders.
 use Rattle.std.specs.Prelude.{◌≡◌, ◌≢◌, ◌⊎◌, ℕ, List, [], ◌++◌, codes}
 use Rattle.std.specs.Path.{path_join}
 use Rattle.tera_files.specs.Names.{EndsIn, IsLeftOut}
@@ -22,19 +22,19 @@ pub data IsWithin (top : List ℕ) : List ℕ → Type 0 where
   inside : {folder : List ℕ} (name path : List ℕ) → IsWithin top folder → ¬ (IsLeftOut name) → IsPathIn folder name path
       → IsWithin top path
 
--- The folder at the top, or what stands below it and is no link, and the path by which the system knows it: that of the
--- folder at the top, and behind it the same names.
+-- The folder at the top, or what is below it and is not a link, and the path by which the system knows it: that of the
+-- folder at the top, and after it the same names.
 pub data IsKnown (top itself : List ℕ) : List ℕ → List ℕ → Type 0 where
   top_is_known : IsKnown top itself top itself
   known_inside : {folder known : List ℕ} (name path : List ℕ) → IsKnown top itself folder known → ¬ (IsLeftOut name)
       → IsPathIn folder name path → IsKnown top itself path (path_join known name)
 
--- A template below the folder at the top: it stands in such a folder, and its name ends in one of the extensions and is not
+-- A template below the folder at the top: it is in such a folder, and its name ends in one of the extensions and is not
 -- left out.
 pub record IsTemplate (extensions : List (List ℕ)) (top path : List ℕ) : Type 0 where
   pub folder : List ℕ
   pub name : List ℕ
   pub within : IsWithin top folder
-  pub told : IsPathIn folder name path
+  pub path_of_name : IsPathIn folder name path
   pub kept : ¬ (IsLeftOut name)
   pub ends : EndsIn name extensions

@@ -11,6 +11,6 @@ abbrev pub unread_as : ErrorKind → Error → Unread
 unread_as OutOfMemory error = Memory
 unread_as _ error = Failed error
 
--- want of memory is told as such
+-- an allocation failure is reported as such
 abbrev pub unread_of : Error → Unread
 unread_of error = unread_as (error_kind error) error

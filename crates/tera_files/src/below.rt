@@ -3,7 +3,7 @@
 ghost use Rattle.std.specs.Prelude.{◌≡◌, ◌⊎◌, ◌<◌, ℕ, List, [], All, AllPairs, IfOk, IfSome, OnOk, map, string_bytes, vec_len};
 ghost use Rattle.std.specs.List.Sorted.{IsPermutation};
 ghost use Rattle.std.specs.Path.{path_join};
-ghost use Rattle.tera_files.specs.Below.{AddsEach, AddsEntry, AreBelow, AreTemplates, IsBefore, IsKnownTemplate, Tells, path_of};
+ghost use Rattle.tera_files.specs.Below.{AddsEach, AddsEntry, AreBelow, AreTemplates, IsBefore, IsKnownTemplate, Reports, path_of};
 ghost use Rattle.tera_files.specs.Names.{texts};
 ghost use Rattle.tera_files.specs.Paths.{IsKnown, IsPathIn};
 
@@ -18,7 +18,7 @@ use std::rt::Files;
 /// A template that was found below a folder.
 #[derive(Drop)]
 pub(crate) struct Template {
-    /// The path by which it is told.
+    /// The path by which it is reported.
     pub(crate) path: String,
     /// The path by which the system knows it, unless it is a link.
     pub(crate) itself: Option<String>,
@@ -27,21 +27,21 @@ pub(crate) struct Template {
 // A folder that is to be listed.
 #[derive(Drop)]
 struct Folder {
-    // The path by which it is told.
+    // The path by which it is reported.
     path: String,
     // The path by which the system knows it.
     itself: String,
 }
 
 impl Folder {
-    // The path by which what has this name in the folder is told.
-    fn told(&self, alloc: Global, name: &str) -> Result<String, AllocError>
-        ensures { IfOk result (λ told. IsPathIn (string_bytes self.now.path) name.now (string_bytes told)) }
+    // The path by which what has this name in the folder is reported.
+    fn path_of_name(&self, alloc: Global, name: &str) -> Result<String, AllocError>
+        ensures { IfOk result (λ path_of_name. IsPathIn (string_bytes self.now.path) name.now (string_bytes path_of_name)) }
     {
         path_in(alloc, self.path.as_str(), name)
     }
 
-    // The path by which the system knows what has this name in the folder and is no link.
+    // The path by which the system knows what has this name in the folder and is not a link.
     fn known(&self, alloc: Global, name: &str) -> Result<String, AllocError>
         ensures { IfOk result (λ known. string_bytes known
             ≡ path_join (string_bytes self.now.itself) name.now) }
@@ -71,8 +71,8 @@ pub(crate) fn templates_below<R: Files + AllocGlobal>(
     ensures templates { IfOk result (λ below. AreTemplates (texts extensions.now) top.now
         (map path_of below.items)) }
     ensures known { IfOk result (λ below. (itself : List ℕ) × All (IsKnownTemplate top.now itself) below.items) }
-    ensures told { IfOk result (λ below. (0 < vec_len below) ⊎ (vec_len unlisted.old < vec_len unlisted.new)) }
-    ensures unlisted { OnOk result (Tells top.now unlisted.old.items unlisted.new.items) }
+    ensures path_of_name { IfOk result (λ below. (0 < vec_len below) ⊎ (vec_len unlisted.old < vec_len unlisted.new)) }
+    ensures unlisted { OnOk result (Reports top.now unlisted.old.items unlisted.new.items) }
 {
     let mut below = walked(rt, extensions, top)?;
     add_top_if_empty(rt.alloc(), top, &mut below)?;
@@ -225,19 +225,19 @@ fn add_entry(
     match entry.place(extensions) {
         Place::Nowhere => Ok(()),
         Place::Folders => {
-            let path = folder.told(alloc, name)?;
+            let path = folder.path_of_name(alloc, name)?;
             let itself = folder.known(alloc, name)?;
             below.folders.push(Folder { path, itself })?;
             Ok(())
         }
         Place::Templates => {
-            let path = folder.told(alloc, name)?;
+            let path = folder.path_of_name(alloc, name)?;
             let itself = known_in(alloc, folder, name, entry.kind)?;
             below.templates.push(Template { path, itself })?;
             Ok(())
         }
         Place::Unlisted => {
-            let folder = folder.told(alloc, name)?;
+            let folder = folder.path_of_name(alloc, name)?;
             let error = Some(io::Error::new(
                 io::ErrorKind::InvalidFilename,
                 "its name is not UTF-8",

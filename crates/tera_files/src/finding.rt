@@ -1,7 +1,7 @@
 //! Which files the paths of a command line mean.
 
 ghost use Rattle.std.specs.Prelude.{◌≡◌, ◌⊎◌, ◌<◌, ℕ, List, [], AllPairs, Contains, IfOk, OnOk, length, map, vec_len};
-ghost use Rattle.tera_files.specs.Below.{AddsSome, IsBefore, Tells, path_of};
+ghost use Rattle.tera_files.specs.Below.{AddsSome, IsBefore, Reports, path_of};
 ghost use Rattle.tera_files.specs.Finding.{AddsAll, AddsTemplate, AddsTemplates, IsFound, input};
 ghost use Rattle.tera_files.specs.Listing.{files_in, AddsFile, IsAdded, IsStarted};
 ghost use Rattle.tera_files.specs.Names.{texts};
@@ -15,7 +15,7 @@ use std::{fs, io};
 
 /// How paths are understood.
 #[derive(Clone, Copy, Debug)]
-pub struct Sought<'a> {
+pub struct Selection<'a> {
     /// How the names of templates end in a folder, without the point.
     pub extensions: &'a [&'a str],
     /// The file that standard input stands for, or `-`.
@@ -46,15 +46,15 @@ pub struct Unlisted {
 /// path leads to it. Any other path means itself. A file that is met again is left out, by whatever path.
 pub fn files_of<R: Files + AllocGlobal + Clone + Drop>(
     rt: &R,
-    sought: Sought<'_>,
+    selection: Selection<'_>,
     paths: &[&str],
 ) -> Result<Found, AllocError>
-    ensures { IfOk result (IsFound (texts sought.entry.extensions.now) (texts paths.now)) }
+    ensures { IfOk result (IsFound (texts selection.entry.extensions.now) (texts paths.now)) }
 {
-    let mut listing = begun(rt, sought.stdin, paths)?;
+    let mut listing = begun(rt, selection.stdin, paths)?;
     let mut unlisted = Vec::new(rt.alloc());
     for path in paths {
-        add(rt, sought.extensions, path, &mut listing, &mut unlisted)?;
+        add(rt, selection.extensions, path, &mut listing, &mut unlisted)?;
     }
     let files = listing.into_files(rt.alloc())?;
     Ok(Found { files, unlisted })
@@ -85,7 +85,7 @@ fn add<R: Files + AllocGlobal + Clone + Drop>(
     ensures input_read { OnOk result (path.now ≡ input → Contains (files_in listing.new) input) }
     ensures answered { OnOk result (IsStarted listing.old → IsStarted listing.new
         × ((0 < length (files_in listing.new)) ⊎ (vec_len unlisted.old < vec_len unlisted.new))) }
-    ensures unlisted { OnOk result (Tells path.now unlisted.old.items unlisted.new.items) }
+    ensures unlisted { OnOk result (Reports path.now unlisted.old.items unlisted.new.items) }
 {
     let alloc = rt.alloc();
     if path == "-" {

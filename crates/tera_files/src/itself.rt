@@ -17,7 +17,7 @@ pub(crate) fn itself_of<R: Files + AllocGlobal>(rt: &R, path: &str) -> Result<St
     }
 }
 
-/// The error, unless it is want of memory.
+/// The error, unless it is an allocation failure.
 pub(crate) fn fault(error: io::Error) -> Result<io::Error, AllocError> {
     if error.kind() == io::ErrorKind::OutOfMemory {
         Err(AllocError)

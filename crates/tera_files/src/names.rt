@@ -56,7 +56,7 @@ pub(crate) fn path_in(alloc: Global, folder: &str, name: &str) -> Result<String,
     joined(alloc, base_of(folder), name)
 }
 
-/// The path of what has this name behind a path.
+/// The path of what has this name after a path.
 pub(crate) fn joined(alloc: Global, path: &str, name: &str) -> Result<String, AllocError>
     ensures { IfOk result (λ joined. string_bytes joined ≡ path_join path.now name.now) }
 {

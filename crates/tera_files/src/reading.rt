@@ -1,4 +1,4 @@
-//! What stands in a file.
+//! What is in a file.
 
 ghost use Rattle.std.specs.Prelude.{◌≡◌, ◌≢◌, ℕ, Err, IfOk, IfSome, string_bytes};
 ghost use Rattle.std.specs.IoError.{error_kind};
@@ -16,9 +16,9 @@ use std::{fs, io};
 /// A file that was read.
 #[derive(Debug, Drop)]
 pub struct Source {
-    /// The name by which it is told.
+    /// The name by which it is reported.
     pub file: String,
-    /// All that stands in it.
+    /// All that is in it.
     pub text: String,
 }
 

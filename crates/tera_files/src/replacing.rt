@@ -172,7 +172,7 @@ fn overwrite<F: Write + Seek + OpenFile>(
     Ok(())
 }
 
-// Writes what the new text has more behind the old one, which is whole while there may be no room for that.
+// Writes what the new text has more after the old one, which is whole while there may be no room for that.
 fn lengthen<F: Write + Seek + OpenFile>(file: &mut F, old: &[u8], new: &[u8]) -> io::Result<()> {
     if let Some(more) = new.get(old.len()..) {
         // A limit of the size ends the process here, and not in the middle of the text.

@@ -18,7 +18,7 @@ pub(crate) enum Fault {
 /// What is typed.
 pub(crate) const TYPED: &[u8] = b"{{ typed }}\n";
 
-/// The system, but for the calls that fail. A write takes four bytes at most.
+/// The system, except the calls that fail. A write takes four bytes at most.
 #[derive(Clone, Copy)]
 pub(crate) struct Failing<'a> {
     pub(crate) rt: &'a HostRuntime,

@@ -5,7 +5,7 @@ use crate::room::{Room, expect};
 use std::cell::Cell;
 use std::io::ErrorKind;
 use std::test::Fail;
-use tera_files::{Found, Sought, files_of};
+use tera_files::{Found, Selection, files_of};
 
 const EXTENSIONS: [&str; 2] = ["html", "tera"];
 
@@ -69,12 +69,12 @@ fn meant(rt: &HostRuntime, room: &Room<'_>, stdin: &str, names: &[&str]) -> Resu
         words.push(path.as_str())?;
     }
     let stdin = path_of(rt, room, stdin)?;
-    let sought = Sought {
+    let selection = Selection {
         extensions: &EXTENSIONS,
         stdin: stdin.as_str(),
     };
-    let found = files_of(rt, sought, words.as_slice())?;
-    told(rt, room, &found)
+    let found = files_of(rt, selection, words.as_slice())?;
+    reported(rt, room, &found)
 }
 
 fn path_of(rt: &HostRuntime, room: &Room<'_>, name: &str) -> Result<String, Fail> {
@@ -84,7 +84,7 @@ fn path_of(rt: &HostRuntime, room: &Room<'_>, name: &str) -> Result<String, Fail
     room.at(name)
 }
 
-fn told(rt: &HostRuntime, room: &Room<'_>, found: &Found) -> Result<String, Fail> {
+fn reported(rt: &HostRuntime, room: &Room<'_>, found: &Found) -> Result<String, Fail> {
     let mut text = String::new(rt.alloc());
     for file in &found.files {
         text.push_str(room.name(file.as_str()))?;
@@ -152,14 +152,14 @@ fn paths_mean_files(rt: HostRuntime) -> Result<(), Fail> {
     room.remove()
 }
 
-// Of a call that fails something is told: a folder that was not listed, or the path itself as that of a file.
-fn is_told(found: &Found, top: &str) -> bool {
+// Of a call that fails something is reported: a folder that was not listed, or the path itself as that of a file.
+fn is_reported(found: &Found, top: &str) -> bool {
     found.files.len() >= 5
         || found.files.iter().any(|file| file.as_str() == top)
         || found.unlisted.iter().any(|one| one.error.is_some())
 }
 
-// Whether this call fails, of which something is told.
+// Whether this call fails, of which something is reported.
 fn fails(rt: &HostRuntime, top: &str, call: u32) -> Result<bool, Fail> {
     let calls = Cell::new(0);
     let runtime = Failing {
@@ -168,14 +168,14 @@ fn fails(rt: &HostRuntime, top: &str, call: u32) -> Result<bool, Fail> {
         fault: Fault::At(call),
         kind: ErrorKind::Other,
     };
-    let sought = Sought {
+    let selection = Selection {
         extensions: &EXTENSIONS,
         stdin: "-",
     };
-    let found = files_of(&runtime, sought, &[top])?;
+    let found = files_of(&runtime, selection, &[top])?;
     let has_failed = runtime.has_failed();
     expect(
-        !has_failed || is_told(&found, top),
+        !has_failed || is_reported(&found, top),
         "a call that fails is not told",
     )?;
     Ok(has_failed)

@@ -5,7 +5,7 @@ use scarce_memory::{Attempt, Seen, Verdict, refuse};
 use std::alloc::Global;
 use std::io::ErrorKind;
 use std::test::Fail;
-use tera_files::{Sought, Unread, Unwritten, files_of, read_source, replace};
+use tera_files::{Selection, Unread, Unwritten, files_of, read_source, replace};
 
 #[derive(Clone, Copy)]
 struct Finding<'a> {
@@ -15,11 +15,11 @@ struct Finding<'a> {
 
 impl Attempt for Finding<'_> {
     fn attempt(&self, _alloc: Global) -> Seen {
-        let sought = Sought {
+        let selection = Selection {
             extensions: &["html"],
             stdin: "-",
         };
-        match files_of(self.rt, sought, &[self.top, "absent.html"]) {
+        match files_of(self.rt, selection, &[self.top, "absent.html"]) {
             Ok(found) => Seen::answer(found.files.len() == 3 && found.unlisted.is_empty()),
             Err(_) => Seen::Memory,
         }

@@ -1,4 +1,4 @@
-//! What stands in a file.
+//! What is in a file.
 
 use crate::failing::{Failing, Fault, TYPED};
 use crate::room::{Room, expect};
@@ -49,7 +49,7 @@ fn is_absent(read: Result<Source, Unread>) -> bool {
     }
 }
 
-fn no_texts_are_told(rt: &HostRuntime, room: &Room<'_>) -> Result<(), Fail> {
+fn no_texts_are_reported(rt: &HostRuntime, room: &Room<'_>) -> Result<(), Fail> {
     for (bytes, at) in &NO_TEXTS {
         room.write("a.html", bytes)?;
         let read = read_source(rt, room.at("a.html")?.as_str(), "name");
@@ -59,15 +59,15 @@ fn no_texts_are_told(rt: &HostRuntime, room: &Room<'_>) -> Result<(), Fail> {
 }
 
 #[test]
-fn what_is_no_text_is_told(rt: HostRuntime) -> Result<(), Fail> {
+fn what_is_no_text_is_reported(rt: HostRuntime) -> Result<(), Fail> {
     let room = Room::new(&rt, "what_is_no_text")?;
     let read = read_source(&rt, room.at("absent.html")?.as_str(), "name");
     expect(is_absent(read), "absent")?;
-    no_texts_are_told(&rt, &room)?;
+    no_texts_are_reported(&rt, &room)?;
     room.remove()
 }
 
-// Whether this call of reading fails, of which is told; else the text is read.
+// Whether this call of reading fails, of which is reported; else the text is read.
 fn fails(rt: &HostRuntime, room: &Room<'_>, call: u32) -> Result<bool, Fail> {
     let calls = Cell::new(0);
     let runtime = Failing {
@@ -78,12 +78,12 @@ fn fails(rt: &HostRuntime, room: &Room<'_>, call: u32) -> Result<bool, Fail> {
     };
     let read = read_source(&runtime, room.at("a.html")?.as_str(), "name");
     let has_failed = runtime.has_failed();
-    let is_told = if has_failed {
+    let is_reported = if has_failed {
         matches!(read, Err(Unread::Failed(_)))
     } else {
         read.is_ok()
     };
-    expect(is_told, "a call that fails is not told")?;
+    expect(is_reported, "a call that fails is not told")?;
     Ok(has_failed)
 }
 

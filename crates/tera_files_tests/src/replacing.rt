@@ -31,7 +31,7 @@ fn mode_and_number(rt: &HostRuntime, path: &str) -> Result<(u32, u64), Fail> {
     Ok((metadata.mode(), metadata.ino()))
 }
 
-// Another file stands there, of the same mode.
+// Another file is there, of the same mode.
 fn a_mode_stays(rt: &HostRuntime, room: &Room<'_>) -> Result<(), Fail> {
     let path = room.at("a.html")?;
     fs::set_permissions(rt, path.as_str(), Permissions::from_mode(0o640))?;
@@ -173,8 +173,8 @@ struct Outcome {
     is_kept: bool,
 }
 
-// Whether at an error the old text is there whole, and else the new one. Where the file is overwritten and all calls behind
-// one fail, the error may say that it is incomplete.
+// Whether at an error the old text is there whole, and else the new one. Where the file is overwritten and all calls
+// after one fail, the error may say that it is incomplete.
 fn is_whole(room: &Room<'_>, it: Try<'_>, replaced: Result<(), Unwritten>) -> Result<bool, Fail> {
     let (old, new) = it.texts;
     match replaced {
@@ -227,7 +227,7 @@ fn replace_failing(rt: &HostRuntime, room: &Room<'_>, it: Try<'_>) -> Result<Out
     })
 }
 
-// Whether this call of replacing fails. The text is kept then, also where all calls behind it fail.
+// Whether this call of replacing fails. The text is kept then, also where all calls after it fail.
 fn fails(rt: &HostRuntime, room: &Room<'_>, it: Try<'_>, call: u32) -> Result<bool, Fail> {
     let once = replace_failing(
         rt,

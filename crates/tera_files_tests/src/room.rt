@@ -4,7 +4,7 @@ use std::rt::Files;
 use std::test::Fail;
 use std::{env, fs, process};
 
-/// Fails, and tells this, unless something holds.
+/// Fails, and says this, unless something holds.
 pub(crate) fn expect(holds: bool, what: &str) -> Result<(), Fail> {
     if holds { Ok(()) } else { Err(Fail::new(what)) }
 }
@@ -17,7 +17,7 @@ pub(crate) struct Room<'a> {
 }
 
 impl<'a> Room<'a> {
-    /// Makes the folder anew.
+    /// Makes the folder again.
     pub(crate) fn new(rt: &'a HostRuntime, name: &str) -> Result<Room<'a>, Fail> {
         let (all, process) = (env::temp_dir(rt)?.into_string(), process::id(rt.process()));
         let path = format!(in rt.alloc(); "{all}/tera_files_{name}_{process}")?;
@@ -26,7 +26,7 @@ impl<'a> Room<'a> {
         Ok(Room { rt, path })
     }
 
-    /// The path of what stands in the folder.
+    /// The path of what is in the folder.
     pub(crate) fn at(&self, name: &str) -> Result<String, Fail> {
         let path = self.path.as_str();
         Ok(format!(in self.rt.alloc(); "{path}/{name}")?)
@@ -56,8 +56,8 @@ impl<'a> Room<'a> {
 
     /// Whether the file has this text.
     pub(crate) fn holds(&self, name: &str, text: &str) -> Result<bool, Fail> {
-        let stands = fs::read_to_string(self.rt, self.at(name)?.as_str())?;
-        Ok(stands.as_str() == text)
+        let sound = fs::read_to_string(self.rt, self.at(name)?.as_str())?;
+        Ok(sound.as_str() == text)
     }
 
     pub(crate) fn has(&self, name: &str) -> Result<bool, Fail> {

@@ -19,7 +19,7 @@ is_reserved name =
     is_one_of (codes "loop" ∷ codes "self" ∷ codes "and" ∷ codes "or" ∷ codes "not" ∷ codes "is" ∷ codes "in" ∷ codes "continue"
     ∷ codes "break" ∷ codes "none" ∷ codes "None" ∷ codes "null" ∷ []) name
 
--- what a loop tells of itself
+-- what a loop reports itself
 abbrev pub is_loop : List ℕ → Bool
 is_loop name = bytes_eq name (codes "loop")
 

@@ -43,7 +43,7 @@ ghost use Rattle.tera_grammar.specs.statements.Output.{output_of};
 ghost use Rattle.tera_grammar.specs.statements.Places.{Places, texts};
 ghost use Rattle.tera_grammar.specs.statements.Reading.{template};
 ghost use Rattle.tera_grammar.specs.statements.Top.{IsTemplate, Derives, DerivesNames};
-ghost use Rattle.tera_grammar.specs.statements.Trees.{IsRight, blocks, definition_tells, group_tells};
+ghost use Rattle.tera_grammar.specs.statements.Trees.{IsRight, blocks, definition_names, group_names};
 
 /// What is read as an expression is one, within the limits, and its tokens are those that were taken. Each
 /// expression within the limits is read before a token that ends it. So no other has the same tokens.
@@ -178,13 +178,13 @@ pub fn placed_names()
     ensures one { (l : Limits) (m : Marks) → IsValid m → (source : List ℕ)
         (one other : Output) (ones others : Places) → DerivesNames l m source one ones →
         DerivesNames l m source other others → (one ≡ other) × (ones ≡ others) }
-    ensures told { (l : Limits) (m : Marks) (source : List ℕ) (output : Output) (names : Places) →
+    ensures in_output { (l : Limits) (m : Marks) (source : List ℕ) (output : Output) (names : Places) →
         DerivesNames l m source output names →
         (texts names.blocks ≡ blocks (nodes_of output.nodes))
         × (texts names.components ≡ map (λ d. d.name) output.definitions) }
     ensures parameters { (l : Limits) (m : Marks) (source : List ℕ) (output : Output)
         (names : Places) → DerivesNames l m source output names →
-        map group_tells names.parameters ≡ map definition_tells output.definitions }
+        map group_names names.parameters ≡ map definition_names output.definitions }
 {}
 
 /// The tree of a source has no two blocks and no two components of one name, each `break` and `continue` in a

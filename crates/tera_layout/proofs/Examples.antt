@@ -8,9 +8,9 @@ variable_tag : laid_out default_marks (codes "a  {{b}}") ≡ Some (codes "a  {{ 
 unfolding division_by inside_by front_of
 variable_tag = refl
 
-minus_behind_a_dash : laid_out default_marks (codes "{{-1}}") ≡ Some (codes "{{- 1 }}")
+minus_after_a_dash : laid_out default_marks (codes "{{-1}}") ≡ Some (codes "{{- 1 }}")
 unfolding division_by inside_by front_of
-minus_behind_a_dash = refl
+minus_after_a_dash = refl
 
 white_space_in_a_string : laid_out default_marks (codes "{{  'b  c'|d  }}") ≡ Some (codes "{{ 'b  c' | d }}")
 unfolding division_by inside_by front_of

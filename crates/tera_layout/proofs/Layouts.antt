@@ -10,18 +10,18 @@ use Rattle.tera_lexer.specs.grammar.Lexeme.{Item, Lexeme, spelled, IsLexeme, End
 use Rattle.tera_lexer.specs.grammar.Tokens.{token_of}
 use Rattle.tera_lexer.specs.grammar.Division.{Piece, Text, Comment, Raw, Tag, Ending, Complete, OpenTag, BadTag, OpenRaw, OpenComment, IsPiece, IsDivision}
 use Rattle.tera_lexer.specs.reading.Front.{division_of}
-use Rattle.tera_lexer.proofs.Divisions.{division_stands, division_found}
+use Rattle.tera_lexer.proofs.Divisions.{division_sound, division_found}
 use Rattle.tera_layout.specs.Respaced.{IsRespaced}
 use Rattle.tera_layout.specs.Apart.{may_touch_first, meet_in_end, stay_apart}
 use Rattle.tera_layout.specs.Steady.{is_steady}
 use Rattle.tera_layout.specs.Widened.{pieces_bytes, Widens}
-use Rattle.tera_layout.specs.Narrowed.{Narrows, AreNarrowedBehind, AreNarrowedItems, IsNarrowed, AreNarrowed}
+use Rattle.tera_layout.specs.Narrowed.{Narrows, AreNarrowedAfter, AreNarrowedItems, IsNarrowed, AreNarrowed}
 use Rattle.tera_layout.specs.declared.sides.Side.{Side}
 use Rattle.tera_layout.specs.declared.sides.Left.{Left}
 use Rattle.tera_layout.specs.declared.sides.Join.{Join}
 use Rattle.tera_layout.specs.declared.sides.Join.TheVariants.{Space, Nothing, Kept}
-use Rattle.tera_layout.specs.Sides.{side_of, stand_together, stand_apart, placed, is_start, at_start, behind}
-use Rattle.tera_layout.specs.Layout.{has_line_feed, laid_edge, laid_gap, join_inside, unless_end, join_behind, laid_items, laid_piece, laid_pieces, IsLaidOut, laid_out_by, laid_out}
+use Rattle.tera_layout.specs.Sides.{side_of, are_together, are_apart, placed, is_start, at_start, following}
+use Rattle.tera_layout.specs.Layout.{has_line_feed, laid_edge, laid_gap, join_inside, unless_end, join_after, laid_items, laid_piece, laid_pieces, IsLaidOut, laid_out_by, laid_out}
 use Rattle.tera_layout.proofs.Narrowed.{widens_narrows, narrowed_respaced, narrowed_divides}
 use Rattle.tera_layout.proofs.Steadies.{pair_true}
 use Rattle.tera_layout.proofs.Together.{together_apart}
@@ -66,59 +66,59 @@ unless_same Nothing ends h = rw (h refl) refl
 
 -- between the default markers an end of a tag never comes of it
 pub default_joins : (l r : Lexeme) (more rest : List ℕ) (before : Left) → IsLexeme l more → IsLexeme r rest →
-    join_behind default_marks (spelled l) (behind before (token_of l)) r ≡ join_inside (behind before (token_of l)) (token_of r)
+    join_after default_marks (spelled l) (following before (token_of l)) r ≡ join_inside (following before (token_of l)) (token_of r)
 default_joins l r more rest before left_is right_is =
-    let left : Left = behind before (token_of l) in
+    let left : Left = following before (token_of l) in
     let right : Side = placed left (side_of (token_of r)) in
     unless_same (join_inside left (token_of r)) (meet_in_end default_marks (spelled l) (spelled r))
     (λ none. (together_apart l r more rest left_is right_is before left refl
-    (nothing_joins (is_start left.side) (stand_together left.side right) (stand_apart left.side right) none)).no_end)
+    (nothing_joins (is_start left.side) (are_together left.side right) (are_apart left.side right) none)).no_end)
 
 -- the items of a tag, and the gap before its end
 module _ (m : Marks) (end gap rest : List ℕ) (dash : Bool) where
   end_white : (is : List Item) (bytes : List ℕ) → IsInside end is (End gap dash rest) bytes → AreWhite gap
   end_white [] bytes (at, splits, is_gap, ends) = is_gap.0
-  end_white (i ∷ is) bytes (behind, splits, is_gap, no_end, stands, inside) = end_white is behind inside
+  end_white (i ∷ is) bytes (following, splits, is_gap, no_end, sound, inside) = end_white is following inside
 
   others_narrow : (l : Lexeme) (after : List ℕ) → IsLexeme l after → (before left : Left) → left.side ≡ placed before (side_of (token_of l)) →
       (is : List Item) (bytes : List ℕ) →
-      IsInside end is (End gap dash rest) bytes → AreNarrowedBehind m l is (laid_items m (spelled l) left is)
+      IsInside end is (End gap dash rest) bytes → AreNarrowedAfter m l is (laid_items m (spelled l) left is)
   others_narrow l after is_lexeme before left side [] bytes inside = tt
-  others_narrow l after is_lexeme before left side (i ∷ is) bytes (more, splits, is_gap, no_end, stands, inside) =
+  others_narrow l after is_lexeme before left side (i ∷ is) bytes (more, splits, is_gap, no_end, sound, inside) =
       let right : Side = placed left (side_of (token_of i.lexeme)) in
       let join : Join = join_inside left (token_of i.lexeme) in
       let ends : Bool = meet_in_end m (spelled l) (spelled i.lexeme) in
       let touch : join ≡ Nothing → may_touch_first l (spelled i.lexeme) ≡ true =
-      λ none. (together_apart l i.lexeme after more is_lexeme stands before left side
-      (nothing_joins (is_start left.side) (stand_together left.side right) (stand_apart left.side right) none)).touch in
+      λ none. (together_apart l i.lexeme after more is_lexeme sound before left side
+      (nothing_joins (is_start left.side) (are_together left.side right) (are_apart left.side right) none)).touch in
       let apart : unless_end join ends ≡ Nothing → stay_apart m l i.lexeme ≡ true =
       λ none. let (nothing, no_end) = unless_nothing join ends none in pair_true (may_touch_first l (spelled i.lexeme)) (not ends) (touch nothing) no_end in (
         gap_narrows m l i.lexeme i.gap (unless_end join ends) is_gap.0 apart,
         refl,
-        others_narrow i.lexeme more stands left (behind left (token_of i.lexeme)) refl is more inside,
+        others_narrow i.lexeme more sound left (following left (token_of i.lexeme)) refl is more inside,
       )
 
   items_narrow : (before : List ℕ) (is : List Item) (bytes : List ℕ) → IsInside end is (End gap dash rest) bytes →
       AreNarrowedItems m is (laid_items m before at_start is)
   items_narrow before [] bytes inside = tt
-  items_narrow before (i ∷ is) bytes (more, splits, is_gap, no_end, stands, inside) = (
+  items_narrow before (i ∷ is) bytes (more, splits, is_gap, no_end, sound, inside) = (
     edge_widens i.gap is_gap.0,
     refl,
-    others_narrow i.lexeme more stands at_start (behind at_start (token_of i.lexeme)) refl is more inside,
+    others_narrow i.lexeme more sound at_start (following at_start (token_of i.lexeme)) refl is more inside,
   )
 
 piece_narrows : (m : Marks) (p : Piece) (bytes rest : List ℕ) → IsPiece m p bytes rest → IsNarrowed m p (laid_piece m p)
 piece_narrows m (Text text) bytes rest h = refl
 piece_narrows m (Comment dash inside) bytes rest h = refl
 piece_narrows m (Raw dash opening body closing) bytes rest h = refl
-piece_narrows m (Tag kind dash items gap last) bytes rest (inside, starts, opens, stands) =
+piece_narrows m (Tag kind dash items gap last) bytes rest (inside, starts, opens, sound) =
     let end : List ℕ = end_marker kind m in
     let before : List ℕ = start_marker kind m ++ dash_bytes dash in (
       laid_items m before at_start items,
       laid_edge gap,
       refl,
-      items_narrow m end gap rest last before items inside stands,
-      edge_widens gap (end_white m end gap rest last items inside stands),
+      items_narrow m end gap rest last before items inside sound,
+      edge_widens gap (end_white m end gap rest last items inside sound),
     )
 
 pieces_narrow : (m : Marks) (ps : List Piece) (one : List ℕ) → IsDivision m ps Complete one → AreNarrowed m ps (laid_pieces m ps)
@@ -141,8 +141,8 @@ gap_twice Kept (b ∷ bs) = kept_twice b bs
 items_twice : (m : Marks) (before : List ℕ) (l : Left) (is : List Item) → laid_items m before l (laid_items m before l is) ≡ laid_items m before l is
 items_twice m before l [] = refl
 items_twice m before l (i ∷ is) =
-    ap₂ (λ g js. record { gap = g; lexeme = i.lexeme } ∷ js) (gap_twice (join_behind m before l i.lexeme) i.gap)
-    (items_twice m (spelled i.lexeme) (behind l (token_of i.lexeme)) is)
+    ap₂ (λ g js. record { gap = g; lexeme = i.lexeme } ∷ js) (gap_twice (join_after m before l i.lexeme) i.gap)
+    (items_twice m (spelled i.lexeme) (following l (token_of i.lexeme)) is)
 
 piece_twice : (m : Marks) (p : Piece) → laid_piece m (laid_piece m p) ≡ laid_piece m p
 piece_twice m (Text text) = refl
@@ -197,6 +197,6 @@ laid_by m one other ps (OpenComment dash) h e = cc
 pub laid_out_is : (m : Marks) → IsValid m → (one other : List ℕ) → (laid_out m one ≡ Some other) ↔ IsLaidOut m one other
 laid_out_is m valid one other = (
   laid_by m one other (division_of m one).0 (division_of m one).1
-      (division_stands m valid (suc (length one)) one (omega arith)),
+      (division_sound m valid (suc (length one)) one (omega arith)),
   λ (ps, h, is). ap (laid_out_by m) (division_found m valid ps Complete (suc (length one)) one h (omega arith)) ∙ ap Some (sym is),
 )

@@ -30,10 +30,10 @@ agree_less (suc n) [] (y ∷ b) h = absurd h
 agree_less (suc n) (x ∷ a) [] h = absurd h
 agree_less (suc n) (x ∷ a) (y ∷ b) h = (h.0, agree_less n a b h.1)
 
-pub agree_behind : (n : ℕ) (front a b : List ℕ) → Agree n a b → Agree n (front ++ a) (front ++ b)
-agree_behind n [] a b h = h
-agree_behind zero (x ∷ front) a b h = tt
-agree_behind (suc n) (x ∷ front) a b h = (refl, agree_behind n front a b (agree_less n a b h))
+pub agree_after : (n : ℕ) (front a b : List ℕ) → Agree n a b → Agree n (front ++ a) (front ++ b)
+agree_after n [] a b h = h
+agree_after zero (x ∷ front) a b h = tt
+agree_after (suc n) (x ∷ front) a b h = (refl, agree_after n front a b (agree_less n a b h))
 
 pub begins_agree : (marker a b : List ℕ) → Agree (length marker) a b → begins marker a ≡ begins marker b
 begins_agree [] a b h = refl
@@ -45,7 +45,7 @@ begins_agree (m ∷ ms) (x ∷ a) (y ∷ b) h = ap₂ (λ c d. nat_eq m c && d) 
 pub nowhere_agree : (test : List ℕ → Bool) → ((a b : List ℕ) → Agree 2 a b → test a ≡ test b) → (text a b : List ℕ) → Agree 1 a b → NowhereIn test text a → NowhereIn test text b
 nowhere_agree test same [] a b h nowhere = tt
 nowhere_agree test same (x ∷ text) a b h nowhere =
-    (sym (same (x ∷ (text ++ a)) (x ∷ (text ++ b)) (refl, agree_behind 1 text a b h)) ∙ nowhere.0, nowhere_agree test same text a b h nowhere.1)
+    (sym (same (x ∷ (text ++ a)) (x ∷ (text ++ b)) (refl, agree_after 1 text a b h)) ∙ nowhere.0, nowhere_agree test same text a b h nowhere.1)
 
 pub dash_agree : (dash : Bool) (a b : List ℕ) → Agree 1 a b → TakesDash dash a → TakesDash dash b
 dash_agree true a b h takes = tt
@@ -56,15 +56,15 @@ abbrev pub BeginAlike : List ℕ → List ℕ → Type 0
 BeginAlike old [] = old ≡ []
 BeginAlike old (c ∷ new) = (is_ascii_whitespace c ≡ true) ⊎ ((more : List ℕ) × (old ≡ c ∷ more))
 
-pub begin_behind : (front old new : List ℕ) → 0 < length front → BeginAlike (front ++ old) (front ++ new)
-begin_behind [] old new some = absurd (omega (arith, some))
-begin_behind (x ∷ front) old new some = inr (front ++ old, refl)
+pub begin_after : (front old new : List ℕ) → 0 < length front → BeginAlike (front ++ old) (front ++ new)
+begin_after [] old new some = absurd (omega (arith, some))
+begin_after (x ∷ front) old new some = inr (front ++ old, refl)
 
 pub begin_gap : (gap new a b : List ℕ) → Widens gap new → BeginAlike a b → BeginAlike (gap ++ a) (new ++ b)
 begin_gap gap [] a b widens h = subst (λ g. BeginAlike (g ++ a) b) (sym (widens.1 refl)) h
 begin_gap gap (x ∷ new) a b widens h = inl widens.0.0
 
--- the two bytes stand side by side in an operator, or in the end of a tag with its dash
+-- the two bytes are side by side in an operator, or in the end of a tag with its dash
 abbrev pub joins : Marks → ℕ → ℕ → Bool
 joins m a c = in_operator a c || in_end m a c
 
@@ -126,11 +126,11 @@ last_passes : (p : ℕ → Bool) (b : ℕ) (bs : List ℕ) → p b ≡ true → 
 last_passes p b [] h all = h
 last_passes p b (c ∷ bs) h all = last_passes p c bs all.0 all.1
 
-last_behind : (a b : ℕ) (front : List ℕ) → last_from a (front ++ b ∷ []) ≡ b
-last_behind a b [] = refl
-last_behind a b (x ∷ front) = last_behind x b front
+last_after : (a b : ℕ) (front : List ℕ) → last_from a (front ++ b ∷ []) ≡ b
+last_after a b [] = refl
+last_after a b (x ∷ front) = last_after x b front
 
--- bytes that stand before no other in an operator, nor in an end between the default markers
+-- bytes that are before no other in an operator, nor in an end between the default markers
 abbrev is_loose : ℕ → Bool
 is_loose a = not (list_any (λ x. x == a) (codes "./*=!><?-}%"))
 
@@ -169,7 +169,7 @@ IsNoOperator l = Unit {0}
 last_loose : (l : Lexeme) (rest : List ℕ) → IsNoOperator l → IsLexeme l rest → is_loose (last_from 0 (spelled l)) ≡ true
 last_loose (Name b bs) rest plain is = name_loose (last_from b bs) (last_passes goes_on_name b bs (begins_goes_on b is.0) is.1.0)
 last_loose (Number b bs) rest plain is = digit_loose (last_from b bs) (last_passes is_ascii_digit b bs is.0.0 is.0.1.0)
-last_loose (Quoted quote inner) rest plain is = ap is_loose (last_behind quote quote (written inner)) ∙ quote_loose quote is.0.0
+last_loose (Quoted quote inner) rest plain is = ap is_loose (last_after quote quote (written inner)) ∙ quote_loose quote is.0.0
 last_loose (Operator op) rest plain is = absurd plain
 
 pub loose_last : (l : Lexeme) (rest : List ℕ) (c : ℕ) → IsNoOperator l → IsLexeme l rest → in_end default_marks (last_from 0 (spelled l)) c ≡ false
@@ -184,8 +184,8 @@ loose_or_alone (Operator op) rest c is h = not_true (in_operator (last_from 0 op
 
 -- Between given markers
 module _ (marks : Marks) where
-  -- Behind a byte the same, as far as some number of them, or as far as white space among the new ones, or as far as a byte
-  -- that joins nothing with the one before it
+  -- After a byte the same, as far as some number of them, or as far as white space among the new ones, or as far as a
+  -- byte that joins nothing with the one before it
   abbrev pub Like : ℕ → ℕ → List ℕ → List ℕ → Type 0
   Like a zero old new = Unit {0}
   Like a (suc n) old [] = old ≡ []
@@ -225,28 +225,28 @@ module _ (marks : Marks) where
       (ap₂ (λ x y. x && y) here (begins_like n c ms same.0 new few solid.1 (subst (λ x. Linked x ms) one linked.1) same.2 more))))
       h
 
-  begins_behind : (n a : ℕ) (front marker old new : List ℕ) → fits n marker ≡ true → IsSolid marker → Linked a marker →
+  begins_after : (n a : ℕ) (front marker old new : List ℕ) → fits n marker ≡ true → IsSolid marker → Linked a marker →
       Like (last_from a front) n old new → begins marker (front ++ new) ≡ true → begins marker (front ++ old) ≡ true
-  begins_behind n a [] marker old new few solid linked h is = begins_like n a marker old new few solid linked h is
-  begins_behind n a (x ∷ xs) [] old new few solid linked h is = refl
-  begins_behind zero a (x ∷ xs) (m ∷ ms) old new few solid linked h is = cc
-  begins_behind (suc n) a (x ∷ xs) (m ∷ ms) old new few solid linked h is =
+  begins_after n a [] marker old new few solid linked h is = begins_like n a marker old new few solid linked h is
+  begins_after n a (x ∷ xs) [] old new few solid linked h is = refl
+  begins_after zero a (x ∷ xs) (m ∷ ms) old new few solid linked h is = cc
+  begins_after (suc n) a (x ∷ xs) (m ∷ ms) old new few solid linked h is =
       let (here, more) = and_ok (nat_eq m x) (begins ms (xs ++ new)) is in
       ap₂ (λ y z. y && z) here
-      (begins_behind n x xs ms old new few solid.1 (subst (λ y. Linked y ms) (eqb-true m x here) linked.1) (like_less n (last_from x xs) old new h) more)
+      (begins_after n x xs ms old new few solid.1 (subst (λ y. Linked y ms) (eqb-true m x here) linked.1) (like_less n (last_from x xs) old new h) more)
 
   -- a text of at most three bytes, without white space, of which each is joined to the one before it
   abbrev pub IsShort : List ℕ → Type 0
   IsShort [] = Unit {0}
   IsShort (m ∷ ms) = (fits 2 ms ≡ true) × IsSolid ms × Linked m ms
 
-  -- it begins no more behind some bytes than it did
+  -- it begins no more after some bytes than it did
   begins_front : (b : ℕ) (bs marker old new : List ℕ) → IsShort marker → Like (last_from b bs) 2 old new →
       begins marker (b ∷ (bs ++ new)) ≡ true → begins marker (b ∷ (bs ++ old)) ≡ true
   begins_front b bs [] old new short h is = refl
   begins_front b bs (m ∷ ms) old new (few, solid, linked) h is =
       let (here, more) = and_ok (nat_eq m b) (begins ms (bs ++ new)) is in
-      ap₂ (λ y z. y && z) here (begins_behind 2 b bs ms old new few solid (subst (λ y. Linked y ms) (eqb-true m b here) linked) h more)
+      ap₂ (λ y z. y && z) here (begins_after 2 b bs ms old new few solid (subst (λ y. Linked y ms) (eqb-true m b here) linked) h more)
 
   pub front_not : (front marker old new : List ℕ) → 0 < length front → IsShort marker → Like (last_from 0 front) 2 old new →
       begins marker (front ++ old) ≡ false → begins marker (front ++ new) ≡ false
@@ -279,7 +279,7 @@ module _ (marks : Marks) where
   operator_like (b ∷ bs) old new h is =
       long_like b bs old new (find (λ x. begins x (b ∷ (bs ++ old))) long_operators) h refl is
 
-  -- the byte may stand behind the lexeme, and no end of a tag comes of it
+  -- the byte may come after the lexeme, and no end of a tag comes of it
   abbrev pub Touches : Lexeme → ℕ → Type 0
   Touches l c = (may_touch l c ≡ true) × (in_end marks (last_from 0 (spelled l)) c ≡ false)
 
@@ -317,7 +317,7 @@ module _ (marks : Marks) where
       (λ (same : (more : List ℕ) × (old ≡ c ∷ more) × Like c 1 more new). inr (inr same)))
       h
 
-  -- a lexeme stands before other bytes as before
+  -- a lexeme is before other bytes as before
   pub lexeme_beside : (l : Lexeme) (old new : List ℕ) → Beside l old new → IsLexeme l old → IsLexeme l new
   lexeme_beside (Name b bs) old new h is =
       (is.0, (is.1.0, beside_stops (Name b bs) goes_on_name white_no_name (λ c touch. name_touch c b bs touch) old new h is.1.1))
@@ -329,13 +329,13 @@ module _ (marks : Marks) where
   lexeme_beside (Quoted quote inner) old new h is = is
   lexeme_beside (Operator op) old new h is = operator_like op old new (beside_like (Operator op) old new is h) is
 
-  -- behind some bytes they are so one byte further
+  -- after some bytes they are so one byte further
   pub like_front : (n a : ℕ) (front old new : List ℕ) → Like (last_from a front) n old new → Like a n (front ++ old) (front ++ new)
   like_front n a [] old new h = h
   like_front zero a (x ∷ front) old new h = tt
   like_front (suc n) a (x ∷ front) old new h = inr (inr (front ++ old, refl, like_front n x front old new (like_less n (last_from x front) old new h)))
 
-  -- beside a lexeme stand the same bytes of another, or white space, or what may touch it
+  -- beside a lexeme are the same bytes of another, or white space, or what may touch it
   pub beside_front : (l : Lexeme) (front old new : List ℕ) → 0 < length front → Like (last_from 0 front) 2 old new → Beside l (front ++ old) (front ++ new)
   beside_front l [] old new some h = absurd (omega (arith, some))
   beside_front l (x ∷ front) old new some h =

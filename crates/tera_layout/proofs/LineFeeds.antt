@@ -12,9 +12,9 @@ use Rattle.tera_lexer.specs.grammar.Division.{Piece, Text, Comment, Raw, Tag}
 use Rattle.tera_layout.specs.declared.sides.Left.{Left}
 use Rattle.tera_layout.specs.declared.sides.Join.{Join}
 use Rattle.tera_layout.specs.declared.sides.Join.TheVariants.{Space, Nothing, Kept}
-use Rattle.tera_layout.specs.Sides.{at_start, behind}
+use Rattle.tera_layout.specs.Sides.{at_start, following}
 use Rattle.tera_layout.specs.Widened.{items_bytes, word_tag_front, piece_bytes, pieces_bytes}
-use Rattle.tera_layout.specs.Layout.{has_line_feed, laid_edge, laid_gap, join_behind, laid_items, laid_piece, laid_pieces, IsLaidOut}
+use Rattle.tera_layout.specs.Layout.{has_line_feed, laid_edge, laid_gap, join_after, laid_items, laid_piece, laid_pieces, IsLaidOut}
 use Rattle.tera_layout.proofs.Bytes.{source_bytes}
 
 -- how many line feeds the bytes have
@@ -59,15 +59,15 @@ gap_feeds Kept (b ∷ bs) = edge_feeds (b ∷ bs)
 items_feeds : (m : Marks) (before : List ℕ) (l : Left) (is : List Item) (x y : List ℕ) → feeds x ≡ feeds y → feeds (items_bytes (laid_items m before l is) x) ≡ feeds (items_bytes is y)
 items_feeds m before l [] x y e = e
 items_feeds m before l (i ∷ is) x y e =
-    let now = items_bytes (laid_items m (spelled i.lexeme) (behind l (token_of i.lexeme)) is) x in
+    let now = items_bytes (laid_items m (spelled i.lexeme) (following l (token_of i.lexeme)) is) x in
     let old = items_bytes is y in
-    join (laid_gap (join_behind m before l i.lexeme) i.gap) i.gap (spelled i.lexeme ++ now) (spelled i.lexeme ++ old)
-    (gap_feeds (join_behind m before l i.lexeme) i.gap)
-    (front (spelled i.lexeme) now old (items_feeds m (spelled i.lexeme) (behind l (token_of i.lexeme)) is x y e))
+    join (laid_gap (join_after m before l i.lexeme) i.gap) i.gap (spelled i.lexeme ++ now) (spelled i.lexeme ++ old)
+    (gap_feeds (join_after m before l i.lexeme) i.gap)
+    (front (spelled i.lexeme) now old (items_feeds m (spelled i.lexeme) (following l (token_of i.lexeme)) is x y e))
 
 word_feeds : (word end : List ℕ) (t : WordTag) (x y : List ℕ) → feeds x ≡ feeds y → feeds (word_tag_front word end t x) ≡ feeds (word_tag_front word end t y)
 word_feeds word end t x y e =
-    front (dash_bytes t.dash_in) _ _ (front t.before _ _ (front word _ _ (front t.behind _ _ (front (dash_bytes t.dash_out) _ _ (front end x y e)))))
+    front (dash_bytes t.dash_in) _ _ (front t.before _ _ (front word _ _ (front t.following _ _ (front (dash_bytes t.dash_out) _ _ (front end x y e)))))
 
 piece_feeds : (m : Marks) (p : Piece) (x y : List ℕ) → feeds x ≡ feeds y → feeds (piece_bytes m (laid_piece m p) x) ≡ feeds (piece_bytes m p y)
 piece_feeds m (Text text) x y e = front text x y e

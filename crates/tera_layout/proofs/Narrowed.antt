@@ -16,8 +16,8 @@ use Rattle.tera_layout.specs.Respaced.{without_gap, without_gaps, IsRespaced}
 use Rattle.tera_layout.specs.Apart.{last_from, first_from, in_end, may_touch_first, meet_in_end, stay_apart}
 use Rattle.tera_layout.specs.Steady.{is_steady}
 use Rattle.tera_layout.specs.Widened.{items_bytes, word_tag_front, piece_bytes, pieces_bytes, Widens, AreWidenedItems, IsWidened, AreWidened}
-use Rattle.tera_layout.specs.Narrowed.{Narrows, AreNarrowedBehind, AreNarrowedItems, IsNarrowed, AreNarrowed}
-use Rattle.tera_layout.proofs.Likeness.{joins, and_ok, not_true, Agree, agree_less, agree_behind, begins_agree, nowhere_agree, dash_agree, BeginAlike, begin_behind, begin_gap, Like, IsSolid, IsShort, front_not, Beside, beside_like, beside_front, lexeme_beside}
+use Rattle.tera_layout.specs.Narrowed.{Narrows, AreNarrowedAfter, AreNarrowedItems, IsNarrowed, AreNarrowed}
+use Rattle.tera_layout.proofs.Likeness.{joins, and_ok, not_true, Agree, agree_less, agree_after, begins_agree, nowhere_agree, dash_agree, BeginAlike, begin_after, begin_gap, Like, IsSolid, IsShort, front_not, Beside, beside_like, beside_front, lexeme_beside}
 use Rattle.tera_layout.proofs.Openings.{opens_no_raw}
 use Rattle.tera_layout.proofs.RawPieces.{word_tag_moved, raw_dash, body_moved}
 use Rattle.tera_layout.proofs.Steadies.{Two, Twelve, both, marks_by, twelve_of, Sign, SteadyEnd, Steady, steady_of, EndOf, variable_ends, block_ends}
@@ -52,9 +52,9 @@ module _ (m : Marks) (t : Two) (steady : SteadyEnd t) (ends : EndOf m t) where
   end_beside l true r s = inr (inr (marker ++ r, refl, inr (inr (t.two ∷ r, refl, tt))))
   end_beside l false r s = inr (inr (t.two ∷ r, refl, inr (inr (r, refl, tt))))
 
-  end_stands : (dash : Bool) (s : List ℕ) → IsEnd marker dash (closed dash s) s
-  end_stands true s = refl
-  end_stands false s = (refl, ap (λ b. b && begins marker (t.two ∷ s)) steady.sign.no_dash)
+  end_sound : (dash : Bool) (s : List ℕ) → IsEnd marker dash (closed dash s) s
+  end_sound true s = refl
+  end_sound false s = (refl, ap (λ b. b && begins marker (t.two ∷ s)) steady.sign.no_dash)
 
   end_stops : (dash : Bool) (s : List ℕ) → StopsAt is_ascii_whitespace (closed dash s)
   end_stops true s = refl
@@ -87,78 +87,78 @@ module _ (m : Marks) (t : Two) (steady : SteadyEnd t) (ends : EndOf m t) where
       (narrows.1 refl)
   beside_narrow l r gap (w ∷ new) a b some narrows h = inl narrows.0.0
 
-  -- it has the same lexemes behind other white space, and behind a lexeme
-  record Behind (l : Lexeme) (js : List Item) (new : List ℕ) (dash : Bool) (bytes s : List ℕ) : Type 0 where
-    pub stands : IsInside marker js (End new dash s) (items_bytes js (new ++ closed dash s))
+  -- it has the same lexemes after other white space, and after a lexeme
+  record After (l : Lexeme) (js : List Item) (new : List ℕ) (dash : Bool) (bytes s : List ℕ) : Type 0 where
+    pub sound : IsInside marker js (End new dash s) (items_bytes js (new ++ closed dash s))
     pub beside : Beside m l bytes (items_bytes js (new ++ closed dash s))
 
-  -- one lexeme, before those behind it
-  item_stands : (i j : Item) (js : List Item) (new : List ℕ) (dash : Bool) (s rest : List ℕ) → j.lexeme ≡ i.lexeme →
+  -- one lexeme, before those after it
+  item_sound : (i j : Item) (js : List Item) (new : List ℕ) (dash : Bool) (s rest : List ℕ) → j.lexeme ≡ i.lexeme →
       AllByRecursion (λ b. is_ascii_whitespace b ≡ true) j.gap → IsGap i.gap (spelled i.lexeme ++ rest) →
-      is_at_end marker (spelled i.lexeme ++ rest) ≡ false → IsLexeme i.lexeme rest → Behind i.lexeme js new dash rest s →
+      is_at_end marker (spelled i.lexeme ++ rest) ≡ false → IsLexeme i.lexeme rest → After i.lexeme js new dash rest s →
       IsInside marker (j ∷ js) (End new dash s) (items_bytes (j ∷ js) (new ++ closed dash s))
-  item_stands i j js new dash s rest lexeme white is_gap no_end stands more =
-      let behind : List ℕ = items_bytes js (new ++ closed dash s) in
-      let some = spelled_some i.lexeme rest stands in
+  item_sound i j js new dash s rest lexeme white is_gap no_end sound more =
+      let following : List ℕ = items_bytes js (new ++ closed dash s) in
+      let some = spelled_some i.lexeme rest sound in
       let front : List ℕ = spelled i.lexeme in
-      let like = beside_like m i.lexeme rest behind stands more.beside in
+      let like = beside_like m i.lexeme rest following sound more.beside in
       let back : (P : Lexeme → Type 0) → P i.lexeme → P j.lexeme = λ P h. subst P (sym lexeme) h in (
-        behind,
+        following,
         refl,
-        (white, back (λ l. StopsAt is_ascii_whitespace (spelled l ++ behind)) (stops_before is_ascii_whitespace front rest behind some is_gap.1)),
-        back (λ l. is_at_end marker (spelled l ++ behind) ≡ false) (at_end_like front rest behind some like no_end),
-        back (λ l. IsLexeme l behind) (lexeme_beside m i.lexeme rest behind more.beside stands),
-        more.stands,
+        (white, back (λ l. StopsAt is_ascii_whitespace (spelled l ++ following)) (stops_before is_ascii_whitespace front rest following some is_gap.1)),
+        back (λ l. is_at_end marker (spelled l ++ following) ≡ false) (at_end_like front rest following some like no_end),
+        back (λ l. IsLexeme l following) (lexeme_beside m i.lexeme rest following more.beside sound),
+        more.sound,
       )
 
-  inside_behind : (l : Lexeme) (is js : List Item) → AreNarrowedBehind m l is js → (gap new : List ℕ) → Widens gap new → (dash : Bool) (r s bytes : List ℕ) →
-      IsInside marker is (End gap dash r) bytes → Behind l js new dash bytes s
-  inside_behind l [] [] same gap new widens dash r s bytes (at, splits, is_gap, ends) = record {
-    stands = (closed dash s, refl, (widens.0, end_stops dash s), end_stands dash s);
+  inside_after : (l : Lexeme) (is js : List Item) → AreNarrowedAfter m l is js → (gap new : List ℕ) → Widens gap new → (dash : Bool) (r s bytes : List ℕ) →
+      IsInside marker is (End gap dash r) bytes → After l js new dash bytes s
+  inside_after l [] [] same gap new widens dash r s bytes (at, splits, is_gap, ends) = record {
+    sound = (closed dash s, refl, (widens.0, end_stops dash s), end_sound dash s);
     beside =
         let whole : bytes ≡ gap ++ closed dash r = splits ∙ ap (λ b. gap ++ b) (end_is dash at r ends) in
         subst (λ b. Beside m l b (new ++ closed dash s)) (sym whole) (beside_gap l gap new (closed dash r) (closed dash s) widens (end_beside l dash r s));
   }
-  inside_behind l [] (j ∷ js) same gap new widens dash r s bytes inside = absurd same
-  inside_behind l (i ∷ is) [] same gap new widens dash r s bytes inside = absurd same
-  inside_behind l (i ∷ is) (j ∷ js) (narrow, lexeme, same) gap new widens dash r s bytes (rest, splits, is_gap, no_end, stands, inside) =
-      let more = inside_behind i.lexeme is js same gap new widens dash r s rest inside in
-      let behind : List ℕ = items_bytes js (new ++ closed dash s) in
-      let some = spelled_some i.lexeme rest stands in
+  inside_after l [] (j ∷ js) same gap new widens dash r s bytes inside = absurd same
+  inside_after l (i ∷ is) [] same gap new widens dash r s bytes inside = absurd same
+  inside_after l (i ∷ is) (j ∷ js) (narrow, lexeme, same) gap new widens dash r s bytes (rest, splits, is_gap, no_end, sound, inside) =
+      let more = inside_after i.lexeme is js same gap new widens dash r s rest inside in
+      let following : List ℕ = items_bytes js (new ++ closed dash s) in
+      let some = spelled_some i.lexeme rest sound in
       let front : List ℕ = spelled i.lexeme in
-      let like = beside_like m i.lexeme rest behind stands more.beside in
+      let like = beside_like m i.lexeme rest following sound more.beside in
       record {
-        stands = item_stands i j js new dash s rest lexeme narrow.0 is_gap no_end stands more;
-        beside = subst (λ b. Beside m l b (j.gap ++ (spelled j.lexeme ++ behind))) (sym splits)
-            (subst (λ k. Beside m l (i.gap ++ (front ++ rest)) (j.gap ++ (spelled k ++ behind))) (sym lexeme)
-            (beside_narrow l i.lexeme i.gap j.gap rest behind some narrow (beside_front m l front rest behind some like)));
+        sound = item_sound i j js new dash s rest lexeme narrow.0 is_gap no_end sound more;
+        beside = subst (λ b. Beside m l b (j.gap ++ (spelled j.lexeme ++ following))) (sym splits)
+            (subst (λ k. Beside m l (i.gap ++ (front ++ rest)) (j.gap ++ (spelled k ++ following))) (sym lexeme)
+            (beside_narrow l i.lexeme i.gap j.gap rest following some narrow (beside_front m l front rest following some like)));
       }
 
-  -- the whole inside, which begins behind a marker
+  -- the whole inside, which begins after a marker
   record Inside (js : List Item) (new : List ℕ) (dash : Bool) (bytes s : List ℕ) : Type 0 where
-    pub stands : IsInside marker js (End new dash s) (items_bytes js (new ++ closed dash s))
+    pub sound : IsInside marker js (End new dash s) (items_bytes js (new ++ closed dash s))
     pub begins : BeginAlike bytes (items_bytes js (new ++ closed dash s))
 
   inside_like : (is js : List Item) → AreNarrowedItems m is js → (gap new : List ℕ) → Widens gap new → (dash : Bool) (r s bytes : List ℕ) →
       IsInside marker is (End gap dash r) bytes → Inside js new dash bytes s
   inside_like [] [] same gap new widens dash r s bytes (at, splits, is_gap, ends) = record {
-    stands = (closed dash s, refl, (widens.0, end_stops dash s), end_stands dash s);
+    sound = (closed dash s, refl, (widens.0, end_stops dash s), end_sound dash s);
     begins =
         let whole : bytes ≡ gap ++ closed dash r = splits ∙ ap (λ b. gap ++ b) (end_is dash at r ends) in
         subst (λ b. BeginAlike b (new ++ closed dash s)) (sym whole) (begin_gap gap new (closed dash r) (closed dash s) widens (end_begins dash r s));
   }
   inside_like [] (j ∷ js) same gap new widens dash r s bytes inside = absurd same
   inside_like (i ∷ is) [] same gap new widens dash r s bytes inside = absurd same
-  inside_like (i ∷ is) (j ∷ js) (wide, lexeme, same) gap new widens dash r s bytes (rest, splits, is_gap, no_end, stands, inside) =
-      let more = inside_behind i.lexeme is js same gap new widens dash r s rest inside in
-      let behind : List ℕ = items_bytes js (new ++ closed dash s) in
-      let some = spelled_some i.lexeme rest stands in
+  inside_like (i ∷ is) (j ∷ js) (wide, lexeme, same) gap new widens dash r s bytes (rest, splits, is_gap, no_end, sound, inside) =
+      let more = inside_after i.lexeme is js same gap new widens dash r s rest inside in
+      let following : List ℕ = items_bytes js (new ++ closed dash s) in
+      let some = spelled_some i.lexeme rest sound in
       let front : List ℕ = spelled i.lexeme in
       record {
-        stands = item_stands i j js new dash s rest lexeme wide.0 is_gap no_end stands more;
-        begins = subst (λ b. BeginAlike b (j.gap ++ (spelled j.lexeme ++ behind))) (sym splits)
-            (subst (λ k. BeginAlike (i.gap ++ (front ++ rest)) (j.gap ++ (spelled k ++ behind))) (sym lexeme)
-            (begin_gap i.gap j.gap (front ++ rest) (front ++ behind) wide (begin_behind front rest behind some)));
+        sound = item_sound i j js new dash s rest lexeme wide.0 is_gap no_end sound more;
+        begins = subst (λ b. BeginAlike b (j.gap ++ (spelled j.lexeme ++ following))) (sym splits)
+            (subst (λ k. BeginAlike (i.gap ++ (front ++ rest)) (j.gap ++ (spelled k ++ following))) (sym lexeme)
+            (begin_gap i.gap j.gap (front ++ rest) (front ++ following) wide (begin_after front rest following some)));
       }
 
 white_no_dash : (b : ℕ) → is_ascii_whitespace b ≡ true → nat_eq 45 b ≡ false
@@ -179,7 +179,7 @@ module _ (t : Twelve) (steady : Steady t) where
   m = marks_by t
 
   record Moved (q : Piece) (bytes rest : List ℕ) : Type 0 where
-    pub stands : IsPiece m q (piece_bytes m q rest) rest
+    pub sound : IsPiece m q (piece_bytes m q rest) rest
     pub agrees : Agree 2 bytes (piece_bytes m q rest)
 
   start_agree : (a b : List ℕ) → Agree 2 a b → is_at_start m a ≡ is_at_start m b
@@ -194,38 +194,38 @@ module _ (t : Twelve) (steady : Steady t) where
   tag_moved : (kind : Kind) (dash : Bool) (is : List Item) (gap : List ℕ) (end : Bool) (js : List Item) (new : List ℕ) →
       AreNarrowedItems m is js → Widens gap new → (bytes r s : List ℕ) →
       IsPiece m (Tag kind dash is gap end) bytes r → Moved (Tag kind dash js new end) bytes s
-  tag_moved Variable dash is gap end js new same widens bytes r s (inside, (splits, takes), opens, stands) =
-      let moved = inside_like m t.variable_end steady.variable (variable_ends t) is js same gap new widens end r s inside stands in record {
-        stands = (_, (refl, takes_like dash inside _ moved.begins takes), tt, moved.stands);
+  tag_moved Variable dash is gap end js new same widens bytes r s (inside, (splits, takes), opens, sound) =
+      let moved = inside_like m t.variable_end steady.variable (variable_ends t) is js same gap new widens end r s inside sound in record {
+        sound = (_, (refl, takes_like dash inside _ moved.begins takes), tt, moved.sound);
         agrees = subst (λ b. Agree 2 b (piece_bytes m (Tag Variable dash js new end) s)) (sym splits) (refl, (refl, tt));
       }
-  tag_moved Block dash is gap end js new same widens bytes r s (inside, (splits, takes), opens, stands) =
-      let moved = inside_like m t.block_end steady.block (block_ends t) is js same gap new widens end r s inside stands in record {
-        stands = (_, (refl, takes_like dash inside _ moved.begins takes), opens_no_raw t steady.block.sign gap new widens end r s is js same inside _ stands opens moved.stands, moved.stands);
+  tag_moved Block dash is gap end js new same widens bytes r s (inside, (splits, takes), opens, sound) =
+      let moved = inside_like m t.block_end steady.block (block_ends t) is js same gap new widens end r s inside sound in record {
+        sound = (_, (refl, takes_like dash inside _ moved.begins takes), opens_no_raw t steady.block.sign gap new widens end r s is js same inside _ sound opens moved.sound, moved.sound);
         agrees = subst (λ b. Agree 2 b (piece_bytes m (Tag Block dash js new end) s)) (sym splits) (refl, (refl, tt));
       }
 
   piece_moved : (p q : Piece) → IsNarrowed m p q → (bytes r s : List ℕ) → Agree 2 r s → IsPiece m p bytes r → Moved q bytes s
   piece_moved (Text text) q w bytes r s h (splits, some, nowhere, ends) = subst (λ x. Moved x bytes s) (sym w) (record {
-    stands = (refl, some, nowhere_agree (is_at_start m) start_agree text r s (agree_less 1 r s h) nowhere, ends_agree r s h ends);
-    agrees = subst (λ b. Agree 2 b (text ++ s)) (sym splits) (agree_behind 2 text r s h);
+    sound = (refl, some, nowhere_agree (is_at_start m) start_agree text r s (agree_less 1 r s h) nowhere, ends_agree r s h ends);
+    agrees = subst (λ b. Agree 2 b (text ++ s)) (sym splits) (agree_after 2 text r s h);
   })
-  piece_moved (Comment dash inside) q w bytes r s h (behind, (splits, takes), is, nowhere) = subst (λ x. Moved x bytes s) (sym w) (record {
-    stands = (
+  piece_moved (Comment dash inside) q w bytes r s h (following, (splits, takes), is, nowhere) = subst (λ x. Moved x bytes s) (sym w) (record {
+    sound = (
       inside ++ (m.comment_end ++ s),
-      (refl, dash_agree dash (inside ++ (m.comment_end ++ r)) (inside ++ (m.comment_end ++ s)) (agree_behind 1 inside (m.comment_end ++ r) (m.comment_end ++ s) (refl, tt)) (subst (TakesDash dash) is takes)),
+      (refl, dash_agree dash (inside ++ (m.comment_end ++ r)) (inside ++ (m.comment_end ++ s)) (agree_after 1 inside (m.comment_end ++ r) (m.comment_end ++ s) (refl, tt)) (subst (TakesDash dash) is takes)),
       refl,
       nowhere_agree (begins m.comment_end) (begins_agree m.comment_end) inside (m.comment_end ++ r) (m.comment_end ++ s) (refl, tt) nowhere,
     );
     agrees = subst (λ b. Agree 2 b (piece_bytes m (Comment dash inside) s)) (sym splits) (refl, (refl, tt));
   })
-  piece_moved (Raw dash opening body closing) q w bytes r s h (behind, inside, (splits, takes), opens, body_is) = subst (λ x. Moved x bytes s) (sym w) (record {
-    stands =
+  piece_moved (Raw dash opening body closing) q w bytes r s h (following, inside, (splits, takes), opens, body_is) = subst (λ x. Moved x bytes s) (sym w) (record {
+    sound =
         let whole = body ++ (m.block_start ++ word_tag_front endraw_word m.block_end closing s) in (
           word_tag_front raw_word m.block_end opening whole,
           whole,
-          (refl, raw_dash t steady.start steady.block.sign dash opening behind inside whole opens takes),
-          word_tag_moved t steady.start steady.block.sign 114 (97 ∷ 119 ∷ []) refl opening behind inside whole opens,
+          (refl, raw_dash t steady.start steady.block.sign dash opening following inside whole opens takes),
+          word_tag_moved t steady.start steady.block.sign 114 (97 ∷ 119 ∷ []) refl opening following inside whole opens,
           body_moved t steady.start steady.block.sign body closing inside r s body_is,
         );
     agrees = subst (λ b. Agree 2 b (piece_bytes m (Raw dash opening body closing) s)) (sym splits) (refl, (refl, tt));
@@ -245,19 +245,19 @@ module _ (t : Twelve) (steady : Steady t) where
   divided (p ∷ ps) (q ∷ qs) w bytes (rest, piece, more) =
       let d = divided ps qs w.1 rest more in
       let moved = piece_moved p q w.0 bytes rest (pieces_bytes m qs) d.agrees piece in
-      record { divides = (pieces_bytes m qs, moved.stands, d.divides); agrees = moved.agrees }
+      record { divides = (pieces_bytes m qs, moved.sound, d.divides); agrees = moved.agrees }
 
-behind_same : (m : Marks) (l : Lexeme) (is js : List Item) → AreNarrowedBehind m l is js → map without_gap is ≡ map without_gap js
-behind_same m l [] [] w = refl
-behind_same m l [] (j ∷ js) w = absurd w
-behind_same m l (i ∷ is) [] w = absurd w
-behind_same m l (i ∷ is) (j ∷ js) w = ap₂ (λ k ks. record { gap = []; lexeme = k } ∷ ks) (sym w.1) (behind_same m i.lexeme is js w.2)
+after_same : (m : Marks) (l : Lexeme) (is js : List Item) → AreNarrowedAfter m l is js → map without_gap is ≡ map without_gap js
+after_same m l [] [] w = refl
+after_same m l [] (j ∷ js) w = absurd w
+after_same m l (i ∷ is) [] w = absurd w
+after_same m l (i ∷ is) (j ∷ js) w = ap₂ (λ k ks. record { gap = []; lexeme = k } ∷ ks) (sym w.1) (after_same m i.lexeme is js w.2)
 
 items_same : (m : Marks) (is js : List Item) → AreNarrowedItems m is js → map without_gap is ≡ map without_gap js
 items_same m [] [] w = refl
 items_same m [] (j ∷ js) w = absurd w
 items_same m (i ∷ is) [] w = absurd w
-items_same m (i ∷ is) (j ∷ js) w = ap₂ (λ k ks. record { gap = []; lexeme = k } ∷ ks) (sym w.1) (behind_same m i.lexeme is js w.2)
+items_same m (i ∷ is) (j ∷ js) w = ap₂ (λ k ks. record { gap = []; lexeme = k } ∷ ks) (sym w.1) (after_same m i.lexeme is js w.2)
 
 piece_same : (m : Marks) (p q : Piece) → IsNarrowed m p q → without_gaps p ≡ without_gaps q
 piece_same m (Text text) q w = ap without_gaps (sym w)
@@ -289,17 +289,17 @@ module _ (m : Marks) (valid : IsValid m) (steady : is_steady m ≡ true) where
 pub widens_narrows : (m : Marks) (l r : Lexeme) (gap new : List ℕ) → Widens gap new → Narrows m l r gap new
 widens_narrows m l r gap new widens = (widens.0, λ none. inl (widens.1 none))
 
-behind_narrowed : (m : Marks) (l : Lexeme) (is js : List Item) → AreWidenedItems is js → AreNarrowedBehind m l is js
-behind_narrowed m l [] [] w = tt
-behind_narrowed m l [] (j ∷ js) w = absurd w
-behind_narrowed m l (i ∷ is) [] w = absurd w
-behind_narrowed m l (i ∷ is) (j ∷ js) w = (widens_narrows m l i.lexeme i.gap j.gap w.0, w.1, behind_narrowed m i.lexeme is js w.2)
+after_narrowed : (m : Marks) (l : Lexeme) (is js : List Item) → AreWidenedItems is js → AreNarrowedAfter m l is js
+after_narrowed m l [] [] w = tt
+after_narrowed m l [] (j ∷ js) w = absurd w
+after_narrowed m l (i ∷ is) [] w = absurd w
+after_narrowed m l (i ∷ is) (j ∷ js) w = (widens_narrows m l i.lexeme i.gap j.gap w.0, w.1, after_narrowed m i.lexeme is js w.2)
 
 items_narrowed : (m : Marks) (is js : List Item) → AreWidenedItems is js → AreNarrowedItems m is js
 items_narrowed m [] [] w = tt
 items_narrowed m [] (j ∷ js) w = absurd w
 items_narrowed m (i ∷ is) [] w = absurd w
-items_narrowed m (i ∷ is) (j ∷ js) w = (w.0, w.1, behind_narrowed m i.lexeme is js w.2)
+items_narrowed m (i ∷ is) (j ∷ js) w = (w.0, w.1, after_narrowed m i.lexeme is js w.2)
 
 piece_narrowed : (m : Marks) (p q : Piece) → IsWidened p q → IsNarrowed m p q
 piece_narrowed m (Text text) q w = w

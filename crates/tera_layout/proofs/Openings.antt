@@ -10,13 +10,13 @@ use Rattle.tera_lexer.specs.grammar.Marks.{Marks, begins, dash_bytes, TakesDash}
 use Rattle.tera_lexer.specs.grammar.Lexeme.{StopsAt, IsGap, begins_name, goes_on_name, is_quote, operator_at, Item, Lexeme, Name, Number, Quoted, Operator, spelled, IsLexeme, End, is_at_end, IsEnd, IsInside}
 use Rattle.tera_lexer.specs.grammar.Raw.{WordTag, raw_word, OpensRaw}
 use Rattle.tera_lexer.specs.grammar.Division.{OpensTag}
-use Rattle.tera_lexer.specs.reading.Front.{behind_run}
+use Rattle.tera_lexer.specs.reading.Front.{after_run}
 use Rattle.tera_lexer.proofs.Markers.{splits_begins}
-use Rattle.tera_lexer.proofs.Runs.{behind_found}
+use Rattle.tera_lexer.proofs.Runs.{after_found}
 use Rattle.tera_lexer.proofs.Operators.{name_no_operator}
 use Rattle.tera_lexer.proofs.Insides.{spelled_some}
 use Rattle.tera_layout.specs.Widened.{Widens}
-use Rattle.tera_layout.specs.Narrowed.{AreNarrowedBehind, AreNarrowedItems}
+use Rattle.tera_layout.specs.Narrowed.{AreNarrowedAfter, AreNarrowedItems}
 use Rattle.tera_layout.proofs.Likeness.{white_no_name}
 use Rattle.tera_layout.proofs.Steadies.{Twelve, both, marks_by, Sign}
 
@@ -24,14 +24,14 @@ none_some : {A : Type 0} {a : A} → None ≡ Some a → ⊥
 none_some e = cc
 
 -- two gaps at one place are one
-behind_gaps : (one other a b : List ℕ) → IsGap one a → IsGap other b → one ++ a ≡ other ++ b → a ≡ b
-behind_gaps one other a b is are e =
-    sym (behind_found is_ascii_whitespace one a is) ∙ ap (behind_run is_ascii_whitespace) e ∙ behind_found is_ascii_whitespace other b are
+after_gaps : (one other a b : List ℕ) → IsGap one a → IsGap other b → one ++ a ≡ other ++ b → a ≡ b
+after_gaps one other a b is are e =
+    sym (after_found is_ascii_whitespace one a is) ∙ ap (after_run is_ascii_whitespace) e ∙ after_found is_ascii_whitespace other b are
 
 abbrev word : Lexeme
 word = Name 114 (97 ∷ 119 ∷ [])
 
--- the lexeme that stands where the word does is the word
+-- the lexeme that is where the word does is the word
 is_word : (l : Lexeme) (rest x : List ℕ) → IsLexeme l rest → StopsAt goes_on_name x → spelled l ++ rest ≡ raw_word ++ x → (l ≡ word) × (rest ≡ x)
 is_word (Name b []) rest x is stops e =
     let more : rest ≡ 97 ∷ 119 ∷ x = cc in let clash = subst (StopsAt goes_on_name) more is.1.1 in absurd (false≢true (sym clash))
@@ -58,13 +58,13 @@ is_word (Operator (b ∷ bs)) rest x is stops e =
 white_no_dash : (b : ℕ) → is_ascii_whitespace b ≡ true → nat_eq 45 b ≡ false
 white_no_dash b h = grind (arith, nat_tests)
 
--- no dash stands before the word
+-- no dash is before the word
 takes_none : (dash : Bool) (gap rest : List ℕ) → AllByRecursion (λ b. is_ascii_whitespace b ≡ true) gap → TakesDash dash (gap ++ (raw_word ++ rest))
 takes_none true gap rest white = tt
 takes_none false [] rest white = refl
 takes_none false (b ∷ bs) rest white = rw (white_no_dash b white.0) refl
 
--- a dash that stands first is a lexeme
+-- a dash that is first is a lexeme
 is_dash : (l : Lexeme) (rest x : List ℕ) → IsLexeme l rest → spelled l ++ rest ≡ 45 ∷ x → (l ≡ Operator (45 ∷ [])) × (rest ≡ x)
 is_dash (Name b bs) rest x is e = let one : b ≡ 45 = cc in absurd (false≢true (subst (λ c. begins_name c ≡ true) one is.0))
 is_dash (Number b bs) rest x is e = let one : b ≡ 45 = cc in absurd (false≢true (subst (λ c. is_ascii_digit c ≡ true) one is.0.0))
@@ -87,17 +87,17 @@ SameLexemes [] [] = Unit {0}
 SameLexemes (i ∷ is) (j ∷ js) = (j.lexeme ≡ i.lexeme) × SameLexemes is js
 SameLexemes _ _ = ⊥
 
-same_behind : (m : Marks) (l : Lexeme) (is js : List Item) → AreNarrowedBehind m l is js → SameLexemes is js
-same_behind m l [] [] same = tt
-same_behind m l [] (j ∷ js) same = absurd same
-same_behind m l (i ∷ is) [] same = absurd same
-same_behind m l (i ∷ is) (j ∷ js) same = (same.1, same_behind m i.lexeme is js same.2)
+same_after : (m : Marks) (l : Lexeme) (is js : List Item) → AreNarrowedAfter m l is js → SameLexemes is js
+same_after m l [] [] same = tt
+same_after m l [] (j ∷ js) same = absurd same
+same_after m l (i ∷ is) [] same = absurd same
+same_after m l (i ∷ is) (j ∷ js) same = (same.1, same_after m i.lexeme is js same.2)
 
 same_items : (m : Marks) (is js : List Item) → AreNarrowedItems m is js → SameLexemes is js
 same_items m [] [] same = tt
 same_items m [] (j ∷ js) same = absurd same
 same_items m (i ∷ is) [] same = absurd same
-same_items m (i ∷ is) (j ∷ js) same = (same.1, same_behind m i.lexeme is js same.2)
+same_items m (i ∷ is) (j ∷ js) same = (same.1, same_after m i.lexeme is js same.2)
 
 -- Between markers of which the end of a statement's tag begins with a sign
 module _ (t : Twelve) (sign : Sign t.block_end.one) where
@@ -134,22 +134,22 @@ module _ (t : Twelve) (sign : Sign t.block_end.one) where
   gap_stops [] dash rest h = closed_stops dash rest
   gap_stops (g ∷ gs) dash rest h = white_no_name g h.0.0
 
-  -- where the word and the end of a tag stand, the word is the one lexeme
+  -- where the word and the end of a tag are, the word is the one lexeme
   word_alone : (js : List Item) (new : List ℕ) (e : Bool) (s bytes before gap : List ℕ) (dash : Bool) (last : List ℕ) → IsInside end js (End new e s) bytes →
       IsGap before (raw_word ++ (gap ++ closed dash last)) → IsGap gap (closed dash last) → bytes ≡ before ++ (raw_word ++ (gap ++ closed dash last)) →
       (j : Item) × (js ≡ j ∷ []) × (j.lexeme ≡ word)
   word_alone [] new e s bytes before gap dash last (at, splits, is_gap, ends) first second is =
       absurd (closed_no_word e s (gap ++ closed dash last)
-      (sym (end_is e at s ends) ∙ behind_gaps new before at (raw_word ++ (gap ++ closed dash last)) is_gap first (sym splits ∙ is)))
-  word_alone (j ∷ js) new e s bytes before gap dash last (rest, splits, is_gap, no_end, stands, more) first second is =
-      let here = behind_gaps j.gap before (spelled j.lexeme ++ rest) (raw_word ++ (gap ++ closed dash last)) is_gap first (sym splits ∙ is) in
-      let (same, behind) = is_word j.lexeme rest (gap ++ closed dash last) stands (gap_stops gap dash last second) here in
-      (j, ap (λ x. j ∷ x) (no_more js more behind), same)
+      (sym (end_is e at s ends) ∙ after_gaps new before at (raw_word ++ (gap ++ closed dash last)) is_gap first (sym splits ∙ is)))
+  word_alone (j ∷ js) new e s bytes before gap dash last (rest, splits, is_gap, no_end, sound, more) first second is =
+      let here = after_gaps j.gap before (spelled j.lexeme ++ rest) (raw_word ++ (gap ++ closed dash last)) is_gap first (sym splits ∙ is) in
+      let (same, following) = is_word j.lexeme rest (gap ++ closed dash last) sound (gap_stops gap dash last second) here in
+      (j, ap (λ x. j ∷ x) (no_more js more following), same)
     where
       no_more : (js : List Item) → IsInside end js (End new e s) rest → rest ≡ gap ++ closed dash last → js ≡ []
-      no_more [] inside behind = refl
-      no_more (k ∷ ks) (rest', splits', is_gap', no_end', stands', more') behind =
-          let there = behind_gaps k.gap gap (spelled k.lexeme ++ rest') (closed dash last) is_gap' second (sym splits' ∙ behind) in
+      no_more [] inside following = refl
+      no_more (k ∷ ks) (rest', splits', is_gap', no_end', sound', more') following =
+          let there = after_gaps k.gap gap (spelled k.lexeme ++ rest') (closed dash last) is_gap' second (sym splits' ∙ following) in
           absurd (false≢true (sym no_end' ∙ ap (is_at_end end) there ∙ at_closed dash last))
 
   out_taken : (dash : Bool) (rest : List ℕ) → TakesDash dash (end ++ rest)
@@ -157,18 +157,18 @@ module _ (t : Twelve) (sign : Sign t.block_end.one) where
   out_taken false rest = ap (λ b. b && true) sign.no_dash
 
   abbrev tag : Bool → List ℕ → List ℕ → Bool → WordTag
-  tag dash before behind out = record { dash_in = dash; before = before; behind = behind; dash_out = out }
+  tag dash before following out = record { dash_in = dash; before = before; following = following; dash_out = out }
 
   word_opens : (i : Item) (gap : List ℕ) (e : Bool) (r bytes : List ℕ) → IsInside end (i ∷ []) (End gap e r) bytes → i.lexeme ≡ word → (dash : Bool) →
       OpensRaw m (tag dash i.gap gap e) (dash_bytes dash ++ bytes) r
-  word_opens i gap e r bytes (rest, splits, is_gap, no_end, stands, (at, splits', is_gap', ends)) is dash =
+  word_opens i gap e r bytes (rest, splits, is_gap, no_end, sound, (at, splits', is_gap', ends)) is dash =
       let whole : bytes ≡ i.gap ++ (raw_word ++ (gap ++ closed e r)) =
       splits ∙ ap (λ l. i.gap ++ (spelled l ++ rest)) is ∙ ap (λ b. i.gap ++ (raw_word ++ b)) (splits' ∙ ap (λ b. gap ++ b) (end_is e at r ends)) in
       record {
         splits = ap (λ b. dash_bytes dash ++ b) whole;
         takes_in = takes_none dash i.gap (gap ++ closed e r) is_gap.0;
         gap_before = (is_gap.0, refl);
-        gap_behind = subst (IsGap gap) (end_is e at r ends) is_gap';
+        gap_after = subst (IsGap gap) (end_is e at r ends) is_gap';
         takes_out = out_taken e r;
       }
 
@@ -188,35 +188,35 @@ module _ (t : Twelve) (sign : Sign t.block_end.one) where
     was_word (i ∷ k ∷ is) js same j one lexeme old inside dash = let clash = subst (SameLexemes (i ∷ k ∷ is)) one same in absurd clash.1
 
     dash_before : (is js : List Item) → AreNarrowedItems m is js → (old bytes : List ℕ) → IsInside end is (End gap e r) old → IsInside end js (End new e s) bytes →
-        (before behind : List ℕ) (out : Bool) (last : List ℕ) → OpensRaw m (tag true before behind out) bytes last → (w : WordTag) × OpensRaw m w old r
-    dash_before [] [] same old bytes inside (at, splits, is_gap, ends) before behind out last opens =
-        let x = before ++ (raw_word ++ (behind ++ closed out last)) in
+        (before following : List ℕ) (out : Bool) (last : List ℕ) → OpensRaw m (tag true before following out) bytes last → (w : WordTag) × OpensRaw m w old r
+    dash_before [] [] same old bytes inside (at, splits, is_gap, ends) before following out last opens =
+        let x = before ++ (raw_word ++ (following ++ closed out last)) in
         let none = none_before new at x is_gap.0 (sym splits ∙ opens.splits) in
         let all : at ≡ 45 ∷ x = sym (ap (λ g. g ++ at) none) ∙ sym splits ∙ opens.splits in
         let tail = closed_dash e s x (sym (end_is e at s ends) ∙ all) in
-        absurd (closed_no_word false s (behind ++ closed out last)
-        (behind_gaps [] before (end ++ s) (raw_word ++ (behind ++ closed out last)) (tt, sign.solid) opens.gap_before tail))
-    dash_before (i ∷ is) [] same old bytes inside new_inside before behind out last opens = absurd same
-    dash_before [] (j ∷ js) same old bytes inside new_inside before behind out last opens = absurd same
-    dash_before (i ∷ is) (j ∷ js) same old bytes (rest, splits, is_gap, no_end, stands, more) (rest', splits', is_gap', no_end', stands', more') before behind out last opens =
-        let x = before ++ (raw_word ++ (behind ++ closed out last)) in
+        absurd (closed_no_word false s (following ++ closed out last)
+        (after_gaps [] before (end ++ s) (raw_word ++ (following ++ closed out last)) (tt, sign.solid) opens.gap_before tail))
+    dash_before (i ∷ is) [] same old bytes inside new_inside before following out last opens = absurd same
+    dash_before [] (j ∷ js) same old bytes inside new_inside before following out last opens = absurd same
+    dash_before (i ∷ is) (j ∷ js) same old bytes (rest, splits, is_gap, no_end, sound, more) (rest', splits', is_gap', no_end', sound', more') before following out last opens =
+        let x = before ++ (raw_word ++ (following ++ closed out last)) in
         let none = none_before j.gap (spelled j.lexeme ++ rest') x is_gap'.0 (sym splits' ∙ opens.splits) in
         let all : spelled j.lexeme ++ rest' ≡ 45 ∷ x = sym (ap (λ g. g ++ (spelled j.lexeme ++ rest')) none) ∙ sym splits' ∙ opens.splits in
-        let (dash, tail) = is_dash j.lexeme rest' x stands' all in
-        let (k, one, is_word_too) = word_alone js new e s rest' before behind out last more' opens.gap_before opens.gap_behind tail in
-        let (w, opens_old) = was_word is js (same_behind m i.lexeme is js same.2) k one is_word_too rest more true in
+        let (dash, tail) = is_dash j.lexeme rest' x sound' all in
+        let (k, one, is_word_too) = word_alone js new e s rest' before following out last more' opens.gap_before opens.gap_after tail in
+        let (w, opens_old) = was_word is js (same_after m i.lexeme is js same.2) k one is_word_too rest more true in
         let begun : old ≡ 45 ∷ rest = splits ∙ ap (λ g. g ++ (spelled i.lexeme ++ rest)) (same.0.1 none) ∙ ap (λ l. spelled l ++ rest) (sym same.1 ∙ dash) in
         (w, subst (λ b. OpensRaw m w b r) (sym begun) opens_old)
 
     opened_before : (is js : List Item) → AreNarrowedItems m is js → (old bytes : List ℕ) → IsInside end is (End gap e r) old → IsInside end js (End new e s) bytes →
-        (dash : Bool) (before behind : List ℕ) (out : Bool) (last : List ℕ) → OpensRaw m (tag dash before behind out) bytes last → (w : WordTag) × OpensRaw m w old r
-    opened_before is js same old bytes inside new_inside false before behind out last opens =
-        let (j, one, lexeme) = word_alone js new e s bytes before behind out last new_inside opens.gap_before opens.gap_behind opens.splits in
+        (dash : Bool) (before following : List ℕ) (out : Bool) (last : List ℕ) → OpensRaw m (tag dash before following out) bytes last → (w : WordTag) × OpensRaw m w old r
+    opened_before is js same old bytes inside new_inside false before following out last opens =
+        let (j, one, lexeme) = word_alone js new e s bytes before following out last new_inside opens.gap_before opens.gap_after opens.splits in
         was_word is js (same_items m is js same) j one lexeme old inside false
-    opened_before is js same old bytes inside new_inside true before behind out last opens =
-        dash_before is js same old bytes inside new_inside before behind out last opens
+    opened_before is js same old bytes inside new_inside true before following out last opens =
+        dash_before is js same old bytes inside new_inside before following out last opens
 
     pub opens_no_raw : (is js : List Item) → AreNarrowedItems m is js → (old bytes : List ℕ) → IsInside end is (End gap e r) old → OpensTag m Block old →
         IsInside end js (End new e s) bytes → OpensTag m Block bytes
     opens_no_raw is js same old bytes inside none new_inside = λ w last opens.
-        let (u, opened) = opened_before is js same old bytes inside new_inside w.dash_in w.before w.behind w.dash_out last opens in none u r opened
+        let (u, opened) = opened_before is js same old bytes inside new_inside w.dash_in w.before w.following w.dash_out last opens in none u r opened

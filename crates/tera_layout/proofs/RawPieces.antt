@@ -8,7 +8,7 @@ use Rattle.tera_lexer.specs.grammar.Marks.{Marks, begins, dash_bytes, TakesDash}
 use Rattle.tera_lexer.specs.grammar.Lexeme.{StopsAt, goes_on_name}
 use Rattle.tera_lexer.specs.grammar.Raw.{WordTag, IsWordTag, raw_word, endraw_word, OpensRaw, ClosesRaw, ClosesNothing, body_of, AreParts, IsBody}
 use Rattle.tera_layout.specs.Widened.{word_tag_front}
-use Rattle.tera_layout.proofs.Likeness.{agree_behind, begins_agree, nowhere_agree, dash_agree}
+use Rattle.tera_layout.proofs.Likeness.{agree_after, begins_agree, nowhere_agree, dash_agree}
 use Rattle.tera_layout.proofs.Steadies.{Two, Twelve, both, marks_by, Sign}
 
 -- a byte that passes no test that another does is not that one
@@ -18,21 +18,21 @@ other_byte p a b passes fails =
     (λ (same : nat_eq a b ≡ true). absurd (false≢true (sym fails ∙ ap p (sym (eqb-true a b same)) ∙ passes)))
     (λ other. other) (cases_Bool (nat_eq a b))
 
--- what stands in front of the end of a tag that holds a word
+-- what is in front of the end of a tag that holds a word
 abbrev front_of : List ℕ → WordTag → List ℕ
-front_of word t = dash_bytes t.dash_in ++ (t.before ++ (word ++ (t.behind ++ dash_bytes t.dash_out)))
+front_of word t = dash_bytes t.dash_in ++ (t.before ++ (word ++ (t.following ++ dash_bytes t.dash_out)))
 
 front_splits : (word : List ℕ) (t : WordTag) (z : List ℕ) →
-    front_of word t ++ z ≡ dash_bytes t.dash_in ++ (t.before ++ (word ++ (t.behind ++ (dash_bytes t.dash_out ++ z))))
+    front_of word t ++ z ≡ dash_bytes t.dash_in ++ (t.before ++ (word ++ (t.following ++ (dash_bytes t.dash_out ++ z))))
 front_splits word t z =
-    append_assoc (dash_bytes t.dash_in) (t.before ++ (word ++ (t.behind ++ dash_bytes t.dash_out))) z
-    ∙ ap (λ l. dash_bytes t.dash_in ++ l) (append_assoc t.before (word ++ (t.behind ++ dash_bytes t.dash_out)) z
-    ∙ ap (λ l. t.before ++ l) (append_assoc word (t.behind ++ dash_bytes t.dash_out) z
-    ∙ ap (λ l. word ++ l) (append_assoc t.behind (dash_bytes t.dash_out) z)))
+    append_assoc (dash_bytes t.dash_in) (t.before ++ (word ++ (t.following ++ dash_bytes t.dash_out))) z
+    ∙ ap (λ l. dash_bytes t.dash_in ++ l) (append_assoc t.before (word ++ (t.following ++ dash_bytes t.dash_out)) z
+    ∙ ap (λ l. t.before ++ l) (append_assoc word (t.following ++ dash_bytes t.dash_out) z
+    ∙ ap (λ l. word ++ l) (append_assoc t.following (dash_bytes t.dash_out) z)))
 
-same_behind : (xs a b : List ℕ) → xs ++ a ≡ xs ++ b → a ≡ b
-same_behind [] a b e = e
-same_behind (x ∷ xs) a b e = let more : xs ++ a ≡ xs ++ b = cc in same_behind xs a b more
+same_after : (xs a b : List ℕ) → xs ++ a ≡ xs ++ b → a ≡ b
+same_after [] a b e = e
+same_after (x ∷ xs) a b e = let more : xs ++ a ≡ xs ++ b = cc in same_after xs a b more
 
 -- Between markers of which the start of a statement's tag and its end begin with a sign
 module _ (t : Twelve) (start_sign : Sign t.block_start.one) (end_sign : Sign t.block_end.one) where
@@ -58,12 +58,12 @@ module _ (t : Twelve) (start_sign : Sign t.block_start.one) (end_sign : Sign t.b
     pub word_tag_moved : (o : WordTag) (bytes r s : List ℕ) → IsWordTag (w ∷ ws) end o bytes r →
         IsWordTag (w ∷ ws) end o (word_tag_front (w ∷ ws) end o s) s
     word_tag_moved o bytes r s h =
-        let old = (w ∷ ws) ++ (o.behind ++ (dash_bytes o.dash_out ++ (end ++ r))) in
-        let new = (w ∷ ws) ++ (o.behind ++ (dash_bytes o.dash_out ++ (end ++ s))) in record {
+        let old = (w ∷ ws) ++ (o.following ++ (dash_bytes o.dash_out ++ (end ++ r))) in
+        let new = (w ∷ ws) ++ (o.following ++ (dash_bytes o.dash_out ++ (end ++ s))) in record {
           splits = refl;
-          takes_in = dash_agree o.dash_in (o.before ++ old) (o.before ++ new) (agree_behind 1 o.before old new (refl, tt)) h.takes_in;
+          takes_in = dash_agree o.dash_in (o.before ++ old) (o.before ++ new) (agree_after 1 o.before old new (refl, tt)) h.takes_in;
           gap_before = (h.gap_before.0, solid);
-          gap_behind = (h.gap_behind.0, gap_stops o.dash_out r s h.gap_behind.1);
+          gap_after = (h.gap_after.0, gap_stops o.dash_out r s h.gap_after.1);
           takes_out = out_taken o.dash_out r s h.takes_out;
         }
 
@@ -71,12 +71,12 @@ module _ (t : Twelve) (start_sign : Sign t.block_start.one) (end_sign : Sign t.b
   pub raw_dash : (dash : Bool) (o : WordTag) (bytes r s : List ℕ) → OpensRaw m o bytes r → TakesDash dash bytes →
       TakesDash dash (word_tag_front raw_word end o s)
   raw_dash dash o bytes r s h takes =
-      let old = raw_word ++ (o.behind ++ (dash_bytes o.dash_out ++ (end ++ r))) in
-      let new = raw_word ++ (o.behind ++ (dash_bytes o.dash_out ++ (end ++ s))) in
+      let old = raw_word ++ (o.following ++ (dash_bytes o.dash_out ++ (end ++ r))) in
+      let new = raw_word ++ (o.following ++ (dash_bytes o.dash_out ++ (end ++ s))) in
       dash_agree dash (dash_bytes o.dash_in ++ (o.before ++ old)) (dash_bytes o.dash_in ++ (o.before ++ new))
-      (agree_behind 1 (dash_bytes o.dash_in) (o.before ++ old) (o.before ++ new) (agree_behind 1 o.before old new (refl, tt))) (subst (TakesDash dash) h.splits takes)
+      (agree_after 1 (dash_bytes o.dash_in) (o.before ++ old) (o.before ++ new) (agree_after 1 o.before old new (refl, tt))) (subst (TakesDash dash) h.splits takes)
 
-  -- Bytes without the first byte of a start stand before the first one
+  -- Bytes without the first byte of a start are before the first one
   abbrev HasNoStart : List ℕ → Type 0
   HasNoStart bytes = AllByRecursion (λ b. nat_eq b t.block_start.one ≡ false) bytes
 
@@ -101,7 +101,7 @@ module _ (t : Twelve) (start_sign : Sign t.block_start.one) (end_sign : Sign t.b
       (startless o.before _ (gap_startless o.before h.gap_before.0)
       (startless endraw_word _
       (letter 101 refl, (letter 110 refl, (letter 100 refl, (letter 114 refl, (letter 97 refl, (letter 119 refl, tt))))))
-      (startless o.behind _ (gap_startless o.behind h.gap_behind.0) (dash_startless o.dash_out))))
+      (startless o.following _ (gap_startless o.following h.gap_after.0) (dash_startless o.dash_out))))
 
   before_start : (xs bytes rest more : List ℕ) → HasNoStart xs → xs ++ rest ≡ bytes ++ (start ++ more) → (between : List ℕ) × (bytes ≡ xs ++ between)
   before_start [] bytes rest more none e = (bytes, refl)
@@ -109,8 +109,8 @@ module _ (t : Twelve) (start_sign : Sign t.block_start.one) (end_sign : Sign t.b
       let same : x ≡ t.block_start.one = cc in absurd (false≢true (sym none.0 ∙ eq-eqb x t.block_start.one same))
   before_start (x ∷ xs) (b ∷ bytes) rest more none e =
       let same : b ≡ x = cc in
-      let behind : xs ++ rest ≡ bytes ++ (start ++ more) = cc in
-      let (between, is) = before_start xs bytes rest more none.1 behind in (between, λ i. same i ∷ is i)
+      let following : xs ++ rest ≡ bytes ++ (start ++ more) = cc in
+      let (between, is) = before_start xs bytes rest more none.1 following in (between, λ i. same i ∷ is i)
 
   -- an end that begins before a start, or with it, ends with it at the latest
   end_within : (between rest more : List ℕ) → end ++ rest ≡ between ++ (start ++ more) →
@@ -135,7 +135,7 @@ module _ (t : Twelve) (start_sign : Sign t.block_start.one) (end_sign : Sign t.b
       let whole : front ++ (end ++ rest) ≡ bytes ++ (start ++ y) = front_splits endraw_word o (end ++ rest) ∙ sym closes.splits in
       let (between, is) = before_start front bytes (end ++ rest) y (front_startless o (bytes ++ (start ++ y)) rest closes) whole in
       let tail : end ++ rest ≡ between ++ (start ++ y) =
-      same_behind front (end ++ rest) (between ++ (start ++ y))
+      same_after front (end ++ rest) (between ++ (start ++ y))
       (whole ∙ ap (λ l. l ++ (start ++ y)) is ∙ append_assoc front between (start ++ y)) in
       let (last, ends) = end_within between rest y tail in
       let moved = word_tag_moved 101 (codes "ndraw") refl o (bytes ++ (start ++ y)) rest (last ++ x) closes in
@@ -147,29 +147,29 @@ module _ (t : Twelve) (start_sign : Sign t.block_start.one) (end_sign : Sign t.b
   -- The body, with its closing tag
   parts_are : (parts : List (List ℕ)) (last : List ℕ) (close : WordTag) (bytes r : List ℕ) → AreParts m parts last close bytes r →
       (more : List ℕ) × (bytes ≡ body_of m parts last ++ (start ++ more))
-  parts_are [] last close bytes r (behind, (splits, nowhere), closes) = (behind, splits)
-  parts_are (part ∷ parts) last close bytes r (behind, (splits, nowhere), none, are) =
-      let (more, is) = parts_are parts last close behind r are in
+  parts_are [] last close bytes r (following, (splits, nowhere), closes) = (following, splits)
+  parts_are (part ∷ parts) last close bytes r (following, (splits, nowhere), none, are) =
+      let (more, is) = parts_are parts last close following r are in
       (more, splits ∙ ap (λ b. part ++ (start ++ b)) is ∙ sym (append_assoc part (start ++ body_of m parts last) (start ++ more)))
 
   parts_moved : (parts : List (List ℕ)) (last : List ℕ) (close : WordTag) (bytes r s : List ℕ) → AreParts m parts last close bytes r →
       AreParts m parts last close (body_of m parts last ++ (start ++ word_tag_front endraw_word end close s)) s
-  parts_moved [] last close bytes r s (behind, (splits, nowhere), closes) = (
+  parts_moved [] last close bytes r s (following, (splits, nowhere), closes) = (
     word_tag_front endraw_word end close s,
-    (refl, nowhere_agree (begins start) (begins_agree start) last (start ++ behind) (start ++ word_tag_front endraw_word end close s) (refl, tt) nowhere),
-    word_tag_moved 101 (codes "ndraw") refl close behind r s closes,
+    (refl, nowhere_agree (begins start) (begins_agree start) last (start ++ following) (start ++ word_tag_front endraw_word end close s) (refl, tt) nowhere),
+    word_tag_moved 101 (codes "ndraw") refl close following r s closes,
   )
-  parts_moved (part ∷ parts) last close bytes r s (behind, (splits, nowhere), none, are) =
+  parts_moved (part ∷ parts) last close bytes r s (following, (splits, nowhere), none, are) =
       let body : List ℕ = body_of m parts last in
       let tag : List ℕ = word_tag_front endraw_word end close s in
-      let (more, is) = parts_are parts last close behind r are in (
+      let (more, is) = parts_are parts last close following r are in (
         body ++ (start ++ tag),
         (
           append_assoc part (start ++ body) (start ++ tag),
-          nowhere_agree (begins start) (begins_agree start) part (start ++ behind) (start ++ (body ++ (start ++ tag))) (refl, tt) nowhere,
+          nowhere_agree (begins start) (begins_agree start) part (start ++ following) (start ++ (body ++ (start ++ tag))) (refl, tt) nowhere,
         ),
         closes_nothing body more tag (subst (ClosesNothing m) is none),
-        parts_moved parts last close behind r s are,
+        parts_moved parts last close following r s are,
       )
 
   pub body_moved : (body : List ℕ) (close : WordTag) (bytes r s : List ℕ) → IsBody m body close bytes r →

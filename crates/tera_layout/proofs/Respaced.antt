@@ -23,13 +23,13 @@ end_same (Comment dash inside ∷ right) = refl
 end_same (Raw dash opening body closing ∷ right) = refl
 end_same (Tag kind dash items gap end ∷ right) = refl
 
-lexemes_same : (f g : List ℕ) (is : List Item) (follows behind : List ℕ → Items) →
-    ((x y : List ℕ) → placeless_tokens (follows x) ≡ placeless_tokens (behind y)) →
-    placeless_tokens (lexemes f is follows) ≡ placeless_tokens (lexemes g (map without_gap is) behind)
-lexemes_same f g [] follows behind h = h f g
-lexemes_same f g (i ∷ is) follows behind h = ap (Token (token_of i.lexeme) nowhere) (lexemes_same _ _ is follows behind h)
+lexemes_same : (f g : List ℕ) (is : List Item) (follows following : List ℕ → Items) →
+    ((x y : List ℕ) → placeless_tokens (follows x) ≡ placeless_tokens (following y)) →
+    placeless_tokens (lexemes f is follows) ≡ placeless_tokens (lexemes g (map without_gap is) following)
+lexemes_same f g [] follows following h = h f g
+lexemes_same f g (i ∷ is) follows following h = ap (Token (token_of i.lexeme) nowhere) (lexemes_same _ _ is follows following h)
 
--- what stands before the pieces has no part in it, nor do gaps
+-- what is before the pieces has no part in it, nor do gaps
 pieces_same : (m : Marks) (f g : List ℕ) (left ps : List Piece) →
     placeless_tokens (tokens_of m f left ps Complete) ≡ placeless_tokens (tokens_of m g (map without_gaps left) (map without_gaps ps) Complete)
 pieces_same m f g left [] = refl

@@ -67,7 +67,7 @@ twelve_of m valid =
       }),
     )
 
--- a byte that is no white space, no dash, and none of a name
+-- a byte that is not white space, not a dash, and not one of a name
 pub record Sign (b : ℕ) : Type 0 where
   pub solid : is_ascii_whitespace b ≡ false
   pub no_dash : nat_eq 45 b ≡ false
@@ -109,7 +109,7 @@ steady_of t h =
       variable = steady_end t.variable_end variable;
     }
 
--- What stands side by side in an end joins
+-- What is side by side in an end joins
 or_first : (a b c : Bool) → a ≡ true → (a || (b || c)) ≡ true
 or_first a b c h = rw h refl
 

@@ -1,4 +1,4 @@
--- Lexemes that stand together stay two by themselves, and between the default markers no end of a tag comes of them.
+-- Lexemes that are together stay two by themselves, and between the default markers no end of a tag comes of them.
 use Rattle.std.proofs.Common.{◌≡◌, ◌<◌, ℕ, Bool, true, false, not, ◌&&◌, ◌||◌, List, [], ◌∷◌, ◌++◌, length, inl, inr, ⊎_elim, ap, sym, ◌∙◌, refl, subst, codes, arith}
 use Rattle.std.specs.Prelude.{◌⊎◌, ◌==◌, nat_eq, if◌then◌else◌}
 use Rattle.std.specs.List.{AllByRecursion, list_any}
@@ -20,7 +20,7 @@ use Rattle.tera_layout.specs.declared.sides.Owner.TheVariants.{Argument, Target,
 use Rattle.tera_layout.specs.declared.sides.Left.{Left}
 use Rattle.tera_layout.specs.Apart.{in_operator, in_end, last_from, first_from, may_touch, may_touch_first, meet_in_end}
 use Rattle.tera_layout.proofs.Likeness.{not_true, loose_last}
-use Rattle.tera_layout.specs.Sides.{operators, side_among, words, is_among, word_side, side_of, ends_a_value, has_no_slice, equals_of, stand_together, placed}
+use Rattle.tera_layout.specs.Sides.{operators, side_among, words, is_among, word_side, side_of, ends_a_value, has_no_slice, equals_of, are_together, placed}
 
 -- what follows for one of two sides follows for the one that is taken
 either_side : (P : Side → Type 0) (b : Bool) (x y : Side) → P x → P y → P (if b then x else y)
@@ -61,11 +61,11 @@ side_any P name word number string rows other (lexeme.Quoted quote is) =
     ⊎_elim (λ escape. rw escape (string quote is)) (λ plain. rw plain (string quote is)) (cases_Bool (has_escape is))
 side_any P name word number string rows other (lexeme.Operator op) = operator_side (λ x s. P (lexeme.Operator x) s) operators op rows (other op)
 
--- the two bytes stand side by side in an operator, or in the end of a tag between the default markers with its dash
+-- the two bytes are side by side in an operator, or in the end of a tag between the default markers with its dash
 abbrev joins : ℕ → ℕ → Bool
 joins a c = in_operator a c || in_end default_marks a c
 
--- the lexeme stays as it is where this byte stands behind it; and an operator ends no tag with it
+-- the lexeme stays as it is where this byte comes after it; and an operator ends no tag with it
 abbrev touches : Lexeme → ℕ → Bool
 touches (lexeme.Name b bs) c = may_touch (lexeme.Name b bs) c
 touches (lexeme.Number b bs) c = may_touch (lexeme.Number b bs) c
@@ -133,7 +133,7 @@ other_allowed (lexeme.Number b bs) c h = one_of (λ x. touches (lexeme.Number b 
 other_allowed (lexeme.Quoted quote is) c h = refl
 other_allowed (lexeme.Operator op) c h = one_of (λ x. touches (lexeme.Operator op) x ≡ true) plain c (plain_joins (last_from 0 op)) h
 
--- a dot, or what stands before a name
+-- a dot, or what is before a name
 before_name : (a : ℕ) → ((c : ℕ) → begins_name c ≡ true → not (joins a c) ≡ true) → (c : ℕ) → (begins_name c || list_any (λ x. x == c) plain) ≡ true →
     not (joins a c) ≡ true
 before_name a name c h = one_or (λ x. not (joins a x) ≡ true) begins_name plain c (name c) (plain_joins a) h
@@ -166,13 +166,13 @@ left_allowed l =
     side_any LeftAllowed (λ b bs. λ left. λ c h. h) (λ b bs. λ left. λ c h. h) (λ b bs. λ left. λ c h. h) (λ quote is. λ left. λ c h. refl) rows_allowed
     (λ op. λ left. other_allowed (lexeme.Operator op)) l
 
--- On the right: what is so stands behind what allows its first byte
+-- On the right: what is so comes after what allows its first byte
 abbrev pub Fits : Side → ℕ → Type 0
-Fits r c = (l : Side) → stand_together l r ≡ true → allows l c ≡ true
+Fits r c = (l : Side) → are_together l r ≡ true → allows l c ≡ true
 
 -- by the sides on the left, one after another
 abbrev at_side : Side → ℕ → Side → Bool
-at_side r c l = not (stand_together l r) || allows l c
+at_side r c l = not (are_together l r) || allows l c
 
 abbrev all_sides : List Side
 all_sides =
@@ -208,7 +208,7 @@ at_one r c Operator h = h.1.1.1.1.1.1.1.1.1.1.1.1.1.1.1.1.1.1.0
 at_one r c Other h = h.1.1.1.1.1.1.1.1.1.1.1.1.1.1.1.1.1.1.1.0
 
 fits : (r : Side) (c : ℕ) → AtAll r c → Fits r c
-fits r c h l is = pass (stand_together l r) (allows l c) (at_one r c l h) is
+fits r c h l is = pass (are_together l r) (allows l c) (at_one r c l h) is
 
 other_fits : (c : ℕ) → Fits Other c
 other_fits c = fits Other c (refl, (refl, (refl, (refl, (refl, (refl, (refl, (refl, (refl, (refl, (refl, (refl, (refl, (refl, (refl, (refl, (refl, (refl, (refl, (refl, tt))))))))))))))))))))
@@ -335,13 +335,13 @@ first_is : (l : Lexeme) (bytes : List ℕ) → 0 < length bytes → may_touch l 
 first_is l [] some h = absurd (omega (arith, some))
 first_is l (c ∷ bytes) some h = h
 
--- behind what stands on the left of each
+-- after what is on the left of each
 pub record Apart (l r : Lexeme) : Type 0 where
   pub touch : may_touch_first l (spelled r) ≡ true
   pub no_end : meet_in_end default_marks (spelled l) (spelled r) ≡ false
 
 pub together_apart : (l r : Lexeme) (more rest : List ℕ) → IsLexeme l more → IsLexeme r rest → (before left : Left) →
-    left.side ≡ placed before (side_of (token_of l)) → stand_together left.side (placed left (side_of (token_of r))) ≡ true → Apart l r
+    left.side ≡ placed before (side_of (token_of l)) → are_together left.side (placed left (side_of (token_of r))) ≡ true → Apart l r
 together_apart l r more rest is_left is before left side h =
     let allowed : Allowed l left.side = subst (Allowed l) (sym side) (left_allowed l before) in
     let here : Fits (placed left (side_of (token_of r))) (first_from (spelled r)) = right_fits r (begins r rest is) left in

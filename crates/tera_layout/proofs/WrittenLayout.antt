@@ -7,12 +7,12 @@ use Rattle.std.proofs.lemmas.Bool.{cases_Bool}
 use Rattle.std.proofs.lemmas.List.{length-append}
 use Rattle.std.proofs.lemmas.Slice.Eq.{bytes_eq-Decides}
 use Rattle.std.proofs.lemmas.Str.{IsCharBoundary-start}
-use Rattle.tera_base.specs.Errors.{IsMemoryKind, IsMemory, KindTells}
+use Rattle.tera_base.specs.Errors.{IsMemoryKind, IsMemory, KindReports}
 use Rattle.tera_base.specs.declared.errors.Error.{Error}
 use Rattle.tera_base.specs.declared.errors.ErrorKind.{ErrorKind}
 use Rattle.tera_base.specs.declared.errors.ErrorKind.TheVariants.{Memory, Message, SyntaxError}
 use Rattle.tera_base.specs.declared.utils.Span.{Span}
-use Rattle.tera_base.proofs.Tellings.{tells_weaker}
+use Rattle.tera_base.proofs.Tellings.{reports_weaker}
 use Rattle.tera_lexer.specs.code.Seen.{seen}
 use Rattle.tera_lexer.specs.code.Steps.{Steps}
 use Rattle.tera_lexer.specs.declared.lexer.tokens.Token as rust
@@ -26,7 +26,7 @@ use Rattle.tera_lexer.specs.grammar.Lexeme.{Item, Lexeme, Name, Number, Quoted, 
 use Rattle.tera_lexer.specs.grammar.Raw.{WordTag, word_tag_bytes, raw_word, endraw_word}
 use Rattle.tera_lexer.specs.grammar.Division.{Piece, Text, Comment, Raw, Tag, Ending, Complete, OpenTag, BadTag, OpenRaw, OpenComment, IsPiece, IsDivision}
 use Rattle.tera_lexer.specs.grammar.Trimming.{trims_start, trims_end, trimmed}
-use Rattle.tera_lexer.specs.grammar.Tiling.{in_tag_behind, Tile}
+use Rattle.tera_lexer.specs.grammar.Tiling.{in_tag_after, Tile}
 use Rattle.tera_lexer.specs.grammar.Tokens as toks
 use Rattle.tera_lexer.specs.grammar.Tokens.{Tok, Items, Ended, Failed, Token, name_token, token_of, lexemes, tag_start, tag_end, failed, comment_bytes, raw_bytes, piece_tokens, ending_tokens, tokens_of, AreTokensOf}
 use Rattle.tera_lexer.proofs.Divisions.{division_found}
@@ -40,13 +40,13 @@ use Rattle.tera_layout.specs.Widened.{items_bytes, word_tag_front, piece_bytes}
 use Rattle.tera_layout.specs.declared.sides.Left.{Left}
 use Rattle.tera_layout.specs.declared.sides.Join.{Join}
 use Rattle.tera_layout.specs.declared.sides.Join.TheVariants.{Space, Nothing, Kept}
-use Rattle.tera_layout.specs.Sides.{outside, at_start, behind}
+use Rattle.tera_layout.specs.Sides.{outside, at_start, following}
 use Rattle.tera_layout.specs.Apart.{first_from, in_end, last_from, meet_in_end}
-use Rattle.tera_layout.specs.Layout.{laid_edge, laid_gap, join_inside, unless_end, join_behind, laid_items, laid_piece, laid_out_by, laid_out}
+use Rattle.tera_layout.specs.Layout.{laid_edge, laid_gap, join_inside, unless_end, join_after, laid_items, laid_piece, laid_out_by, laid_out}
 use Rattle.tera_layout.specs.Refusal.{Refuses}
 use Rattle.tera_layout.specs.WrittenLayout.{AreWritten, gap_text, has_bytes, is_finish, join_of, put, nothing, reached, token_text, written, Follow, KeepsFaults, RefusesTokens}
 
--- Texts, one behind the other
+-- Texts, one after the other
 same_put : (f g : List ℕ → List ℕ) → ((r : List ℕ) → f r ≡ g r) → (o : Option (List ℕ)) → option_map f o ≡ option_map g o
 same_put f g h None = refl
 same_put f g h (Some r) = ap Some (h r)
@@ -55,18 +55,18 @@ put_put : (f g : List ℕ → List ℕ) (o : Option (List ℕ)) → option_map f
 put_put f g None = refl
 put_put f g (Some r) = refl
 
--- A lexeme is no marker
+-- A lexeme is not a marker
 no_finish : (l : Lexeme) → is_finish (token_of l) ≡ false
 no_finish (Name b bs) = name_any (λ t. is_finish t ≡ false) (b ∷ bs) refl refl refl
 no_finish (Number b bs) = refl
 no_finish (Quoted quote is) = ⊎_elim (λ escape. rw escape refl) (λ plain. rw plain refl) (cases_Bool (has_escape is))
 no_finish (Operator op) = refl
 
--- how far the source is written behind some bytes of it
+-- how far the source is written after some bytes of it
 abbrev so_far : List ℕ → Bool → Left → Reached
 so_far front in_tag left = record { end = length front; in_tag = in_tag; left = left }
 
--- the last byte of bytes is that of what stands last among them
+-- the last byte of bytes is that of what is last among them
 last_of : (a : ℕ) (front text : List ℕ) → 0 < length text → last_from a (front ++ text) ≡ last_from 0 text
 last_of a front [] some = absurd (omega (arith, some))
 last_of a [] (b ∷ text) some = refl
@@ -78,12 +78,12 @@ start_some m Variable dash valid = omega (arith, valid.variable_start, length-ap
 start_some m Block dash valid = omega (arith, valid.block_start, length-append m.block_start (dash_bytes dash))
 
 module _ (m : Marks) (source : List ℕ) where
-  -- a token behind a gap
+  -- a token after a gap
   token_written : (front gap bytes rest : List ℕ) (in_tag : Bool) (left : Left) (t : Tok) (items : Items) →
       source ≡ front ++ (gap ++ (bytes ++ rest)) →
       written m source (so_far front in_tag left) (Token t (span_of (front ++ gap) bytes) items)
       ≡ put (laid_gap (unless_end (join_of left t) (meet_in_end m front bytes)) gap ++ bytes)
-      (written m source (so_far ((front ++ gap) ++ bytes) (in_tag_behind in_tag t) (behind left t)) items)
+      (written m source (so_far ((front ++ gap) ++ bytes) (in_tag_after in_tag t) (following left t)) items)
   unfolding place_after
   token_written front gap bytes rest in_tag left t items splits =
       let here : slice_range source (length front) (length (front ++ gap)) ≡ gap =
@@ -95,14 +95,14 @@ module _ (m : Marks) (source : List ℕ) where
       ap (λ s. slice_range s 0 (length front)) splits ∙ span_slice [] front (gap ++ (bytes ++ rest)) in
       let text : List ℕ → List ℕ → List ℕ → Option (List ℕ) =
       λ f g b. put (laid_gap (unless_end (join_of left t) (meet_in_end m f b)) g ++ b)
-      (written m source (so_far ((front ++ gap) ++ bytes) (in_tag_behind in_tag t) (behind left t)) items) in
+      (written m source (so_far ((front ++ gap) ++ bytes) (in_tag_after in_tag t) (following left t)) items) in
       ap (λ f. text f (slice_range source (length front) (length (front ++ gap))) (slice_range source (length (front ++ gap)) (length ((front ++ gap) ++ bytes)))) before
       ∙ ap₂ (text front) here there
 
   -- a token where no gap comes first
   token_here : (front bytes rest : List ℕ) (t : Tok) (items : Items) → source ≡ front ++ (bytes ++ rest) → join_of outside t ≡ Kept →
       written m source (so_far front false outside) (Token t (span_of front bytes) items)
-      ≡ put bytes (written m source (so_far (front ++ bytes) (in_tag_behind false t) (behind outside t)) items)
+      ≡ put bytes (written m source (so_far (front ++ bytes) (in_tag_after false t) (following outside t)) items)
   unfolding place_after
   token_here front bytes rest t items splits plain =
       let none : length front - length front ≡ 0 = omega arith in
@@ -111,7 +111,7 @@ module _ (m : Marks) (source : List ℕ) where
       ap (λ s. slice_range s (length front) (length (front ++ bytes))) splits ∙ span_slice front bytes rest in
       let ends : List ℕ → Bool = λ b. meet_in_end m (slice_range source 0 (length front)) b in
       let text : List ℕ → List ℕ → Join → Option (List ℕ) =
-      λ g b j. put (laid_gap (unless_end j (ends b)) g ++ b) (written m source (so_far (front ++ bytes) (in_tag_behind false t) (behind outside t)) items) in
+      λ g b j. put (laid_gap (unless_end j (ends b)) g ++ b) (written m source (so_far (front ++ bytes) (in_tag_after false t) (following outside t)) items) in
       ap₂ (λ g b. text g b (join_of outside t)) here there ∙ ap (text [] bytes) plain
 
   module _ (valid : IsValid m) (more : Option (List ℕ)) (rest : List ℕ) (follows : List ℕ → Items)
@@ -135,25 +135,25 @@ module _ (m : Marks) (source : List ℕ) where
         ∙ ap (put (laid_edge gap ++ marker)) (h ((front ++ gap) ++ marker) there)
         ∙ same_put (λ r. (laid_edge gap ++ marker) ++ r) (end_from [] kind gap last)
         (λ r. append_assoc (laid_edge gap) marker r ∙ ap (λ l. laid_edge gap ++ l) (append_assoc (dash_bytes last) end r)) more
-    inside_written kind (i ∷ is) gap last before left front bytes ends_so splits (more_bytes, is_bytes, is_gap, no_end, stands, inside) =
+    inside_written kind (i ∷ is) gap last before left front bytes ends_so splits (more_bytes, is_bytes, is_gap, no_end, sound, inside) =
         let text : List ℕ = spelled i.lexeme in
         let t : Tok = token_of i.lexeme in
         let whole : source ≡ front ++ (i.gap ++ (text ++ more_bytes)) = splits ∙ ap (λ l. front ++ l) is_bytes in
         let there : source ≡ ((front ++ i.gap) ++ text) ++ more_bytes =
         whole ∙ sym (append_assoc front i.gap (text ++ more_bytes)) ∙ sym (append_assoc (front ++ i.gap) text more_bytes) in
         let items : Items = lexemes ((front ++ i.gap) ++ text) is (λ g. tag_end m (g ++ gap) kind last follows) in
-        let gap_is : List ℕ = laid_gap (join_behind m before left i.lexeme) i.gap in
+        let gap_is : List ℕ = laid_gap (join_after m before left i.lexeme) i.gap in
         let inner : join_of left t ≡ join_inside left t = ap (λ b. if b then Space else join_inside left t) (no_finish i.lexeme) in
-        let join : unless_end (join_of left t) (meet_in_end m front text) ≡ join_behind m before left i.lexeme =
+        let join : unless_end (join_of left t) (meet_in_end m front text) ≡ join_after m before left i.lexeme =
         ap₂ (λ j a. unless_end j (in_end m a (first_from text))) inner ends_so in
         let some : last_from 0 ((front ++ i.gap) ++ text) ≡ last_from 0 text =
-        last_of 0 (front ++ i.gap) text (spelled_some i.lexeme more_bytes stands) in
+        last_of 0 (front ++ i.gap) text (spelled_some i.lexeme more_bytes sound) in
         token_written front i.gap text more_bytes true left t items whole
-        ∙ ap₂ (λ j b. put (laid_gap j i.gap ++ text) (written m source (so_far ((front ++ i.gap) ++ text) b (behind left t)) items)) join (lexeme_inside i.lexeme)
-        ∙ ap (put (gap_is ++ text)) (inside_written kind is gap last text (behind left t) ((front ++ i.gap) ++ text) more_bytes some there inside)
-        ∙ put_put (λ r. (gap_is ++ text) ++ r) (end_from (laid_items m text (behind left t) is) kind gap last) more
-        ∙ same_put (λ r. (gap_is ++ text) ++ end_from (laid_items m text (behind left t) is) kind gap last r) (end_from (laid_items m before left (i ∷ is)) kind gap last)
-        (λ r. append_assoc gap_is text (end_from (laid_items m text (behind left t) is) kind gap last r)) more
+        ∙ ap₂ (λ j b. put (laid_gap j i.gap ++ text) (written m source (so_far ((front ++ i.gap) ++ text) b (following left t)) items)) join (lexeme_inside i.lexeme)
+        ∙ ap (put (gap_is ++ text)) (inside_written kind is gap last text (following left t) ((front ++ i.gap) ++ text) more_bytes some there inside)
+        ∙ put_put (λ r. (gap_is ++ text) ++ r) (end_from (laid_items m text (following left t) is) kind gap last) more
+        ∙ same_put (λ r. (gap_is ++ text) ++ end_from (laid_items m text (following left t) is) kind gap last r) (end_from (laid_items m before left (i ∷ is)) kind gap last)
+        (λ r. append_assoc gap_is text (end_from (laid_items m text (following left t) is) kind gap last r)) more
 
     comment_front : (dash : Bool) (inside r : List ℕ) → comment_bytes m dash inside ++ r ≡ piece_bytes m (Comment dash inside) r
     comment_front dash inside r =
@@ -162,11 +162,11 @@ module _ (m : Marks) (source : List ℕ) where
 
     word_front : (word end : List ℕ) (t : WordTag) (r : List ℕ) → word_tag_bytes word end t ++ r ≡ word_tag_front word end t r
     word_front word end t r =
-        append_assoc (dash_bytes t.dash_in) (t.before ++ (word ++ (t.behind ++ (dash_bytes t.dash_out ++ end)))) r
-        ∙ ap (λ l. dash_bytes t.dash_in ++ l) (append_assoc t.before (word ++ (t.behind ++ (dash_bytes t.dash_out ++ end))) r
-        ∙ ap (λ l. t.before ++ l) (append_assoc word (t.behind ++ (dash_bytes t.dash_out ++ end)) r
-        ∙ ap (λ l. word ++ l) (append_assoc t.behind (dash_bytes t.dash_out ++ end) r
-        ∙ ap (λ l. t.behind ++ l) (append_assoc (dash_bytes t.dash_out) end r))))
+        append_assoc (dash_bytes t.dash_in) (t.before ++ (word ++ (t.following ++ (dash_bytes t.dash_out ++ end)))) r
+        ∙ ap (λ l. dash_bytes t.dash_in ++ l) (append_assoc t.before (word ++ (t.following ++ (dash_bytes t.dash_out ++ end))) r
+        ∙ ap (λ l. t.before ++ l) (append_assoc word (t.following ++ (dash_bytes t.dash_out ++ end)) r
+        ∙ ap (λ l. word ++ l) (append_assoc t.following (dash_bytes t.dash_out ++ end) r
+        ∙ ap (λ l. t.following ++ l) (append_assoc (dash_bytes t.dash_out) end r))))
 
     raw_front : (dash : Bool) (opening : WordTag) (body : List ℕ) (closing : WordTag) (r : List ℕ) →
         raw_bytes m dash opening body closing ++ r ≡ piece_bytes m (Raw dash opening body closing) r
@@ -184,7 +184,7 @@ module _ (m : Marks) (source : List ℕ) where
 
     -- a piece whose token is its bytes
     bytes_written : (p : Piece) (front text bytes : List ℕ) (t : Tok) → source ≡ front ++ bytes → bytes ≡ text ++ rest →
-        join_of outside t ≡ Kept → behind outside t ≡ outside → in_tag_behind false t ≡ false → ((r : List ℕ) → text ++ r ≡ piece_bytes m p r) →
+        join_of outside t ≡ Kept → following outside t ≡ outside → in_tag_after false t ≡ false → ((r : List ℕ) → text ++ r ≡ piece_bytes m p r) →
         written m source (so_far front false outside) (Token t (span_of front text) (follows (front ++ text)))
         ≡ option_map (piece_bytes m p) more
     bytes_written p front text bytes t splits is_bytes kept left_is not_in same =
@@ -206,13 +206,13 @@ module _ (m : Marks) (source : List ℕ) where
         bytes_written (Raw dash opening body closing) front (raw_bytes m dash opening body closing) bytes
         (toks.Content (trimmed (opening.dash_out || start) (closing.dash_in || end) body)) splits
         (raw_splits m valid dash opening body closing bytes rest piece) refl refl refl (raw_front dash opening body closing)
-    piece_written (Tag kind dash items gap last) start end front bytes splits (inside, (is_bytes, takes), opens, stands) =
+    piece_written (Tag kind dash items gap last) start end front bytes splits (inside, (is_bytes, takes), opens, sound) =
         let first : List ℕ = start_marker kind m ++ dash_bytes dash in
         let whole : source ≡ front ++ (first ++ inside) =
         splits ∙ ap (λ l. front ++ l) (is_bytes ∙ sym (append_assoc (start_marker kind m) (dash_bytes dash) inside)) in
         let there : source ≡ (front ++ first) ++ inside = whole ∙ sym (append_assoc front first inside) in
         token_here front first inside (toks.Start kind dash) (lexemes (front ++ first) items (λ g. tag_end m (g ++ gap) kind last follows)) whole refl
-        ∙ ap (put first) (inside_written kind items gap last first at_start (front ++ first) inside (last_of 0 front first (start_some m kind dash valid)) there stands)
+        ∙ ap (put first) (inside_written kind items gap last first at_start (front ++ first) inside (last_of 0 front first (start_some m kind dash valid)) there sound)
         ∙ put_put (λ r. first ++ r) (end_from (laid_items m first at_start items) kind gap last) more
         ∙ same_put (λ r. first ++ end_from (laid_items m first at_start items) kind gap last r) (piece_bytes m (laid_piece m (Tag kind dash items gap last)))
         (λ r. append_assoc (start_marker kind m) (dash_bytes dash) (end_from (laid_items m first at_start items) kind gap last r)) more
@@ -225,7 +225,7 @@ module _ (m : Marks) (source : List ℕ) where
       let t : Tok = token_of i.lexeme in
       let span : Span = span_of (front ++ i.gap) (spelled i.lexeme) in
       ap (put (token_text m source r t span))
-      (open_written is last h ((front ++ i.gap) ++ spelled i.lexeme) (reached r t span.range.end) (ap (λ b. in_tag_behind b t) inside ∙ lexeme_inside i.lexeme))
+      (open_written is last h ((front ++ i.gap) ++ spelled i.lexeme) (reached r t span.range.end) (ap (λ b. in_tag_after b t) inside ∙ lexeme_inside i.lexeme))
 
   ending_written : (ending : Ending) (front : List ℕ) →
       written m source (so_far front false outside) (ending_tokens m front ending) ≡ laid_out_by m ([], ending)
@@ -278,7 +278,7 @@ tile_follow (Failed text span) inside front rest tile = tt
 tile_follow (Token t span items) inside front rest (gap, bytes, more, e, between, some, belongs, shows, is, tile) =
     let start : span.range.start ≡ length (front ++ gap) = ap (λ (s : Span). s.range.start) is in
     let end : span.range.end ≡ length ((front ++ gap) ++ bytes) = ap (λ (s : Span). s.range.end) is in
-    (omega (arith, start, length-append front gap), subst (λ n. Follow n items) (sym end) (tile_follow items (in_tag_behind inside t) ((front ++ gap) ++ bytes) more tile))
+    (omega (arith, start, length-append front gap), subst (λ n. Follow n items) (sym end) (tile_follow items (in_tag_after inside t) ((front ++ gap) ++ bytes) more tile))
 
 pub source_follow : (m : Marks) → IsValid m → (source : List ℕ) (items : Items) → AreTokensOf m source items → Follow 0 items
 source_follow m valid source items are = tile_follow items false [] source (tokens_tile m valid source items are)
@@ -297,7 +297,7 @@ source_written m valid source old new items are empty is =
 pub source_refused : (m : Marks) → IsValid m → (source : List ℕ) (items : Items) (e : Error) → AreTokensOf m source items →
     RefusesTokens m source items e → Refuses m source e
 source_refused m valid source items e are =
-    tells_weaker
+    reports_weaker
     (λ text span. IsWithin source span × (written m source nothing items ≡ None) × (IsFaultOf items text span ⊎ IsEndOf items text span))
     (λ text span. IsWithin source span × (laid_out m source ≡ None)
     × ((tokens : Items) × AreTokensOf m source tokens × (IsFaultOf tokens text span ⊎ IsEndOf tokens text span)))
@@ -307,23 +307,23 @@ source_refused m valid source items e are =
 some_none : {text : List ℕ} → None ≡ Some text → ⊥
 some_none e = cc
 
-kind_memory : (P : List ℕ → Span → Type 0) (k : ErrorKind) → ((text : List ℕ) (span : Span) → P text span → ⊥) → KindTells P k → IsMemoryKind k
-kind_memory P Memory never told = tt
-kind_memory P (Message s) never told = absurd told
-kind_memory P (SyntaxError b) never told = absurd (never (string_bytes b.value.message) b.value.span told)
+kind_memory : (P : List ℕ → Span → Type 0) (k : ErrorKind) → ((text : List ℕ) (span : Span) → P text span → ⊥) → KindReports P k → IsMemoryKind k
+kind_memory P Memory never reported = tt
+kind_memory P (Message s) never reported = absurd reported
+kind_memory P (SyntaxError b) never reported = absurd (never (string_bytes b.value.message) b.value.span reported)
 
--- a source that has a layout is refused for want of memory alone
+-- a source that has a layout is refused because an allocation failed alone
 pub laid_refused : (m : Marks) (source layout : List ℕ) (e : Error) → laid_out m source ≡ Some layout → Refuses m source e → IsMemory e
-laid_refused m source layout e is told =
+laid_refused m source layout e is reported =
     kind_memory
     (λ text span. IsWithin source span × (laid_out m source ≡ None)
     × ((tokens : Items) × AreTokensOf m source tokens × (IsFaultOf tokens text span ⊎ IsEndOf tokens text span)))
-    e.kind (λ text span (within, none, fault). some_none (sym none ∙ is)) told
+    e.kind (λ text span (within, none, fault). some_none (sym none ∙ is)) reported
 
 -- One token further
 first_kept : (items : Items) (last : Span) → KeepsFaults items last items
 first_kept Ended last text span = (λ h. h, λ ends. inr refl)
-first_kept (Failed told here) last text span = (λ h. h, λ ends. absurd ends)
+first_kept (Failed reported here) last text span = (λ h. h, λ ends. absurd ends)
 first_kept (Token t here items) last text span = (λ h. h, λ ends. inl ends)
 
 token_kept : (items : Items) (last : Span) (t : Tok) (here : Span) (left : Items) → KeepsFaults items last (Token t here left) → KeepsFaults items here left
@@ -342,13 +342,13 @@ text_kept m source out new r next t span left is is_next =
 
 -- The run that is not pushed yet
 range_split : (s : List ℕ) (i j k : ℕ) → i ≤ j → j ≤ k → slice_range s i k ≡ slice_range s i j ++ slice_range s j k
-range_split s i j k before behind =
+range_split s i j k before following =
     let len : k - i ≡ (j - i) + (k - j) = omega arith in
     let at : i + (j - i) ≡ j = omega arith in
     ap (λ n. take n (drop i s)) len ∙ take-add (j - i) (k - j) (drop i s)
     ∙ ap (λ l. slice_range s i j ++ take (k - j) l) (drop-drop (j - i) i s ∙ ap (λ n. drop n s) at)
 
--- where no gap is, the same stands whatever the texts beside it would end
+-- where no gap is, the same is whatever the texts beside it would end
 gap_kept : (join : Join) (gap : List ℕ) (ends : Bool) → laid_gap (unless_end join (has_bytes gap && ends)) gap ≡ laid_gap (unless_end join ends) gap
 gap_kept Space [] ends = refl
 gap_kept Nothing [] true = refl
@@ -361,12 +361,12 @@ pub run_goes_on : (m : Marks) (source out : List ℕ) (c : Cut) (join joined : J
     joined ≡ unless_end join (has_bytes (slice_range source c.gap c.token) && meet_in_end m (slice_range source 0 c.gap) (slice_range source c.token c.end)) →
     bytes_eq (laid_gap joined (slice_range source c.gap c.token)) (slice_range source c.gap c.token) ≡ true →
     out ++ slice_range source c.run c.token ≡ (out ++ slice_range source c.run c.gap) ++ gap_text m source c join
-run_goes_on m source out c join joined before behind is stays =
+run_goes_on m source out c join joined before following is stays =
     let gap : List ℕ = slice_range source c.gap c.token in
     let ends : Bool = meet_in_end m (slice_range source 0 c.gap) (slice_range source c.token c.end) in
     let same : gap ≡ gap_text m source c join =
     sym ((bytes_eq-Decides (laid_gap joined gap) gap).0 stays) ∙ ap (λ j. laid_gap j gap) is ∙ gap_kept join gap ends in
-    ap (λ l. out ++ l) (range_split source c.run c.gap c.token before behind ∙ ap (λ l. slice_range source c.run c.gap ++ l) same)
+    ap (λ l. out ++ l) (range_split source c.run c.gap c.token before following ∙ ap (λ l. slice_range source c.run c.gap ++ l) same)
     ∙ sym (append_assoc out (slice_range source c.run c.gap) (gap_text m source c join))
 
 -- a token goes on with the run
@@ -374,8 +374,8 @@ token_goes_on : (m : Marks) (source out new : List ℕ) (c : Cut) (run : ℕ) (j
     new ++ slice_range source run c.token ≡ (out ++ slice_range source c.run c.gap) ++ gap_text m source c join →
     new ++ slice_range source run c.end
     ≡ (out ++ slice_range source c.run c.gap) ++ (gap_text m source c join ++ slice_range source c.token c.end)
-token_goes_on m source out new c run join before behind is =
-    ap (λ l. new ++ l) (range_split source run c.token c.end before behind)
+token_goes_on m source out new c run join before following is =
+    ap (λ l. new ++ l) (range_split source run c.token c.end before following)
     ∙ sym (append_assoc new (slice_range source run c.token) (slice_range source c.token c.end))
     ∙ ap (λ l. l ++ slice_range source c.token c.end) is
     ∙ append_assoc (out ++ slice_range source c.run c.gap) (gap_text m source c join) (slice_range source c.token c.end)
@@ -399,7 +399,7 @@ first_written m source out r last items utf8 is start end follow =
       within = (omega (arith, start), subst (IsCharBoundary source) (sym start) begins, subst (IsCharBoundary source) (sym end) begins);
     })
 
--- .. and behind the next
+-- .. and after the next
 pub further_written : {m : Marks} {source : List ℕ} {all : Items} {whole : Option (List ℕ)} {out : List ℕ} {run : ℕ} {r : Reached} {last : Span}
     (old new : Stream) (p : rust.Token × Span) (next : Reached) (pushed : List ℕ) (next_run : ℕ) (join : Join) →
     AreWritten m source all whole out run r last old.left → old.source ≡ source → Steps old (Some (Ok p)) new →
@@ -410,10 +410,10 @@ pub further_written : {m : Marks} {source : List ℕ} {all : Items} {whole : Opt
     ++ gap_text m source (record { run = run; gap = r.end; token = p.1.range.start; end = p.1.range.end }) join →
     AreWritten m source all whole pushed next_run next p.1 new.left
 further_written {m} {source} {all} {whole} {out} {run} {r} {last} old new (token, span) next pushed next_run join
-    so_far same (left, is_new, stands) is_next is_join (cut, before) is =
+    so_far same (left, is_new, sound) is_next is_join (cut, before) is =
     let t : Tok = seen token in
     let at : Cut = record { run = run; gap = r.end; token = span.range.start; end = span.range.end } in
-    let within : IsWithin source span = subst (λ s. IsWithin s span) same stands.0 in
+    let within : IsWithin source span = subst (λ s. IsWithin s span) same sound.0 in
     let end : next.end ≡ span.range.end = ap (λ (r : Reached). r.end) is_next in
     let text : pushed ++ slice_range source next_run next.end ≡ (out ++ slice_range source run r.end) ++ token_text m source r t span =
     ap (λ n. pushed ++ slice_range source next_run n) end

@@ -1,4 +1,4 @@
--- Tokens apart from where they stand.
+-- Tokens apart from where they are.
 use Rattle.std.specs.Prelude.{◌≡◌, ℕ, List}
 use Rattle.tera_lexer.specs.code.Cursors.{nowhere}
 use Rattle.tera_lexer.specs.grammar.Marks.{Marks}

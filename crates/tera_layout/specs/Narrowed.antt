@@ -13,17 +13,17 @@ abbrev pub Narrows : Marks → Lexeme → Lexeme → List ℕ → List ℕ → T
 Narrows m l r gap new =
     AllByRecursion (λ b. is_ascii_whitespace b ≡ true) new × (new ≡ [] → (gap ≡ []) ⊎ (stay_apart m l r ≡ true))
 
--- the same lexemes behind such white space, and behind a lexeme
-abbrev pub AreNarrowedBehind : Marks → Lexeme → List Item → List Item → Type 0
-AreNarrowedBehind m l [] [] = Unit {0}
-AreNarrowedBehind m l (i ∷ is) (j ∷ js) =
-    Narrows m l i.lexeme i.gap j.gap × (j.lexeme ≡ i.lexeme) × AreNarrowedBehind m i.lexeme is js
-AreNarrowedBehind m l _ _ = ⊥
+-- the same lexemes after such white space, and after a lexeme
+abbrev pub AreNarrowedAfter : Marks → Lexeme → List Item → List Item → Type 0
+AreNarrowedAfter m l [] [] = Unit {0}
+AreNarrowedAfter m l (i ∷ is) (j ∷ js) =
+    Narrows m l i.lexeme i.gap j.gap × (j.lexeme ≡ i.lexeme) × AreNarrowedAfter m i.lexeme is js
+AreNarrowedAfter m l _ _ = ⊥
 
--- the same lexemes, of which the first stands beside a marker
+-- the same lexemes, of which the first is beside a marker
 abbrev pub AreNarrowedItems : Marks → List Item → List Item → Type 0
 AreNarrowedItems m [] [] = Unit {0}
-AreNarrowedItems m (i ∷ is) (j ∷ js) = Widens i.gap j.gap × (j.lexeme ≡ i.lexeme) × AreNarrowedBehind m i.lexeme is js
+AreNarrowedItems m (i ∷ is) (j ∷ js) = Widens i.gap j.gap × (j.lexeme ≡ i.lexeme) × AreNarrowedAfter m i.lexeme is js
 AreNarrowedItems m _ _ = ⊥
 
 -- the same piece; of a tag with such white space

@@ -21,6 +21,6 @@ IsRespaced m one other =
     (ps qs : List Piece) × IsDivision m ps Complete one × IsDivision m qs Complete other
     × (map without_gaps ps ≡ map without_gaps qs)
 
--- the bytes that are no white space
+-- the bytes that are not white space
 abbrev pub without_white : List ℕ → List ℕ
 without_white bytes = filter (λ b. not (is_ascii_whitespace b)) bytes

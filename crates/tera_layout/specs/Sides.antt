@@ -1,4 +1,4 @@
--- What the tokens of a tag are to those beside them, and which of them stand together.
+-- What the tokens of a tag are to those beside them, and which of them are together.
 use Rattle.std.specs.Prelude.{◌≡◌, ℕ, Bool, true, false, not, ◌&&◌, ◌||◌, if◌then◌else◌, List, [], ◌∷◌, codes}
 use Rattle.std.specs.Str.{bytes_eq}
 use Rattle.std.specs.List.{list_any}
@@ -12,7 +12,7 @@ use Rattle.tera_layout.specs.declared.sides.Left.{Left}
 use Rattle.tera_layout.specs.declared.sides.Join.{Join}
 use Rattle.tera_layout.specs.declared.sides.Join.TheVariants.{Space, Nothing, Kept}
 
--- what the operators are to those beside them, wherever they stand
+-- what the operators are to those beside them, wherever they are
 abbrev pub operators : List (List ℕ × Side)
 operators =
     (codes "(", Paren) ∷ (codes "[", Bracket) ∷ (codes "?[", Bracket) ∷ (codes "{", Brace) ∷ (codes ")", Closing)
@@ -26,7 +26,7 @@ abbrev pub side_among : List (List ℕ × Side) → List ℕ → Side
 side_among [] op = Other
 side_among ((other, side) ∷ more) op = if bytes_eq op other then side else side_among more op
 
--- the words behind which an expression begins; another name
+-- the words after which an expression begins; another name
 abbrev pub words : List (List ℕ)
 words =
     codes "if" ∷ codes "elif" ∷ codes "else" ∷ codes "and" ∷ codes "or" ∷ codes "not" ∷ codes "in" ∷ codes "is" ∷ []
@@ -37,7 +37,7 @@ is_among names name = list_any (λ n. bytes_eq name n) names
 abbrev pub word_side : List ℕ → Side
 word_side name = if is_among words name then Word else Name
 
--- what a token is to those beside it, wherever it stands
+-- what a token is to those beside it, wherever it is
 abbrev pub side_of : Tok → Side
 side_of (toks.Start kind dash) = Start
 side_of (toks.Ident name) = word_side name
@@ -124,26 +124,26 @@ goes_on Minus r = goes_on_with_a_minus r
 goes_on Equals r = begins_a_value r
 goes_on l r = false
 
--- before these stands nothing
+-- before these is nothing
 abbrev pub closes : Side → Bool
 closes Closing = true
 closes Comma = true
 closes Colon = true
 closes s = false
 
--- nothing stands between the two
-abbrev pub stand_together : Side → Side → Bool
-stand_together l r = closes r || goes_on l r
+-- nothing is between the two
+abbrev pub are_together : Side → Side → Bool
+are_together l r = closes r || goes_on l r
 
--- one space stands between the two, where they do not stand together
-abbrev pub stand_apart : Side → Side → Bool
-stand_apart Operator r = true
-stand_apart Comma r = true
-stand_apart Word r = is_operator r || begins_a_value r
-stand_apart l r = is_operator r || (ends_a_value l && begins_apart r)
+-- one space is between the two, where they are not together
+abbrev pub are_apart : Side → Side → Bool
+are_apart Operator r = true
+are_apart Comma r = true
+are_apart Word r = is_operator r || begins_a_value r
+are_apart l r = is_operator r || (ends_a_value l && begins_apart r)
 
 abbrev pub join_between : Side → Side → Join
-join_between l r = if stand_together l r then Nothing else (if stand_apart l r then Space else Kept)
+join_between l r = if are_together l r then Nothing else (if are_apart l r then Space else Kept)
 
 -- what an `=` is to those beside it
 abbrev pub equals_of : Owner → Side
@@ -163,7 +163,7 @@ is_parameter o = false
 abbrev pub has_no_slice : Left → Bool
 has_no_slice l = is_quoted l.side || is_parameter l.owner
 
--- what a token is to those beside it, behind what stands on its left
+-- what a token is to those beside it, after what is on its left
 abbrev pub placed : Left → Side → Side
 placed l Equals = equals_of l.owner
 placed l Minus = if ends_a_value l.side then Operator else Minus
@@ -171,7 +171,7 @@ placed l Less = if ends_a_value l.side then Operator else Prefix
 placed l Colon = if has_no_slice l then Comma else Colon
 placed l s = s
 
--- whose the next `=` is behind the first token of a tag: that of a name that is set, a parameter's, or an argument's
+-- whose the next `=` is after the first token of a tag: that of a name that is set, a parameter's, or an argument's
 abbrev pub owner_of : List ℕ → Owner
 owner_of name =
     if is_among (codes "set" ∷ codes "set_global" ∷ []) name then Target
@@ -181,7 +181,7 @@ abbrev pub owner_named : Tok → Owner
 owner_named (toks.Ident name) = owner_of name
 owner_named t = Argument
 
--- .. and behind another: the `=` of a name that is set stands right behind it
+-- .. and after another: the `=` of a name that is set comes right after it
 abbrev pub is_target : Owner → Bool
 is_target Target = true
 is_target o = false
@@ -198,16 +198,16 @@ is_no_lexeme Start = true
 is_no_lexeme Outside = true
 is_no_lexeme s = false
 
-abbrev pub owner_behind : Left → Tok → Side → Owner
-owner_behind l t s =
+abbrev pub owner_after : Left → Tok → Side → Owner
+owner_after l t s =
     if is_no_lexeme s then Argument else (if is_start l.side then owner_named t else owner_past l.owner s)
 
--- outside of tags; behind the start of one; behind a token
+-- outside of tags; after the start of one; after a token
 abbrev pub outside : Left
 outside = record { side = Outside; owner = Argument }
 
 abbrev pub at_start : Left
 at_start = record { side = Start; owner = Argument }
 
-abbrev pub behind : Left → Tok → Left
-behind l t = record { side = placed l (side_of t); owner = owner_behind l t (side_of t) }
+abbrev pub following : Left → Tok → Left
+following l t = record { side = placed l (side_of t); owner = owner_after l t (side_of t) }

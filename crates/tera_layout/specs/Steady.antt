@@ -5,7 +5,7 @@ use Rattle.tera_lexer.specs.grammar.Bytes.{dash_byte}
 use Rattle.tera_lexer.specs.grammar.Marks.{Marks}
 use Rattle.tera_lexer.specs.grammar.Lexeme.{goes_on_name}
 
--- the byte is no white space, no dash, and none of a name
+-- the byte is not white space, not a dash, and not one of a name
 abbrev pub is_sign : ℕ → Bool
 is_sign b = not (is_ascii_whitespace b) && (not (dash_byte == b) && not (goes_on_name b))
 
@@ -14,7 +14,7 @@ abbrev pub begins_with_sign : List ℕ → Bool
 begins_with_sign [] = false
 begins_with_sign (b ∷ bs) = is_sign b
 
--- .. and no white space stands behind it
+-- .. and no white space comes after it
 abbrev pub is_steady_end : List ℕ → Bool
 is_steady_end (b ∷ c ∷ []) = is_sign b && not (is_ascii_whitespace c)
 is_steady_end marker = false

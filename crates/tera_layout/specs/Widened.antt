@@ -1,4 +1,4 @@
--- What a formatter may write: the same pieces with other white space in tags, where what stood apart stays apart.
+-- What a formatter may write: the same pieces with other white space in tags, where what was apart stays apart.
 use Rattle.std.specs.Prelude.{◌≡◌, ℕ, true, List, [], ◌∷◌, ◌++◌}
 use Rattle.std.specs.List.{AllByRecursion}
 use Rattle.std.specs.Char.{is_ascii_whitespace}
@@ -14,7 +14,7 @@ items_bytes (i ∷ is) rest = i.gap ++ (spelled i.lexeme ++ items_bytes is rest)
 
 abbrev pub word_tag_front : List ℕ → List ℕ → WordTag → List ℕ → List ℕ
 word_tag_front word end t rest =
-    dash_bytes t.dash_in ++ (t.before ++ (word ++ (t.behind ++ (dash_bytes t.dash_out ++ (end ++ rest)))))
+    dash_bytes t.dash_in ++ (t.before ++ (word ++ (t.following ++ (dash_bytes t.dash_out ++ (end ++ rest)))))
 
 abbrev pub piece_bytes : Marks → Piece → List ℕ → List ℕ
 piece_bytes m (Text text) rest = text ++ rest
@@ -33,7 +33,7 @@ pieces_bytes m (p ∷ ps) = piece_bytes m p (pieces_bytes m ps)
 abbrev pub Widens : List ℕ → List ℕ → Type 0
 Widens gap new = AllByRecursion (λ b. is_ascii_whitespace b ≡ true) new × (new ≡ [] → gap ≡ [])
 
--- the same lexemes behind such white space
+-- the same lexemes after such white space
 abbrev pub AreWidenedItems : List Item → List Item → Type 0
 AreWidenedItems [] [] = Unit {0}
 AreWidenedItems (i ∷ is) (j ∷ js) = Widens i.gap j.gap × (j.lexeme ≡ i.lexeme) × AreWidenedItems is js

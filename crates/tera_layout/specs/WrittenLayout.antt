@@ -1,14 +1,14 @@
--- The layout as it is written: token by token, each with what stands in the place of the gap before it.
+-- The layout as it is written: token by token, each with what is in the place of the gap before it.
 use Rattle.std.specs.Prelude.{◌≡◌, ◌⊎◌, ◌≤◌, ℕ, Bool, true, false, if◌then◌else◌, List, [], ◌∷◌, ◌++◌, Option, Some, None, slice_range}
 use Rattle.std.specs.Option.{option_map}
 use Rattle.std.specs.Str.{IsCharBoundary}
-use Rattle.tera_base.specs.Errors.{TellsBy}
+use Rattle.tera_base.specs.Errors.{ReportsBy}
 use Rattle.tera_base.specs.declared.utils.Span.{Span}
 use Rattle.tera_base.specs.declared.errors.Error.{Error}
 use Rattle.tera_lexer.specs.grammar.Marks.{Marks}
 use Rattle.tera_lexer.specs.grammar.Place.{IsWithin}
-use Rattle.tera_lexer.specs.grammar.Faults.{IsFaultOf, IsEndBehind, IsEndOf}
-use Rattle.tera_lexer.specs.grammar.Tiling.{in_tag_behind}
+use Rattle.tera_lexer.specs.grammar.Faults.{IsFaultOf, IsEndAfter, IsEndOf}
+use Rattle.tera_lexer.specs.grammar.Tiling.{in_tag_after}
 use Rattle.tera_lexer.specs.grammar.Tokens as toks
 use Rattle.tera_lexer.specs.grammar.Tokens.{Tok, Items, Ended, Failed, Token}
 use Rattle.tera_layout.specs.declared.formatting.Reached.{Reached}
@@ -16,7 +16,7 @@ use Rattle.tera_layout.specs.declared.formatting.Cut.{Cut}
 use Rattle.tera_layout.specs.declared.sides.Left.{Left}
 use Rattle.tera_layout.specs.declared.sides.Join.{Join}
 use Rattle.tera_layout.specs.declared.sides.Join.TheVariants.{Space, Nothing, Kept}
-use Rattle.tera_layout.specs.Sides.{outside, behind}
+use Rattle.tera_layout.specs.Sides.{outside, following}
 use Rattle.tera_layout.specs.Apart.{meet_in_end}
 use Rattle.tera_layout.specs.Layout.{laid_gap, join_inside, unless_end}
 
@@ -25,11 +25,11 @@ abbrev pub is_finish : Tok → Bool
 is_finish (toks.Finish kind dash) = true
 is_finish t = false
 
--- what joins a token to what stands on its left
+-- what joins a token to what is on its left
 abbrev pub join_of : Left → Tok → Join
 join_of l t = if is_finish t then Space else join_inside l t
 
--- a text and what is written behind it, if that is
+-- a text and what is written after it, if that is
 abbrev pub put : List ℕ → Option (List ℕ) → Option (List ℕ)
 put text written = option_map (λ more. text ++ more) written
 
@@ -37,9 +37,9 @@ put text written = option_map (λ more. text ++ more) written
 abbrev pub nothing : Reached
 nothing = record { end = 0; in_tag = false; left = outside }
 
--- behind a token that ends there
+-- after a token that ends there
 abbrev pub reached : Reached → Tok → ℕ → Reached
-reached r t end = record { end = end; in_tag = in_tag_behind r.in_tag t; left = behind r.left t }
+reached r t end = record { end = end; in_tag = in_tag_after r.in_tag t; left = following r.left t }
 
 -- what joins it to what was reached
 abbrev pub join_at : Marks → List ℕ → Reached → Tok → Span → Join
@@ -53,7 +53,7 @@ token_text m source r t span =
     laid_gap (join_at m source r t span) (slice_range source r.end span.range.start)
     ++ slice_range source span.range.start span.range.end
 
--- what is written of tokens that stand behind what was reached: nothing where they end in a fault, or in a tag
+-- what is written of tokens that come after what was reached: nothing where they end in a fault, or in a tag
 abbrev pub written : Marks → List ℕ → Reached → Items → Option (List ℕ)
 written m source r Ended = if r.in_tag then None else Some []
 written m source r (Failed text span) = None
@@ -66,21 +66,21 @@ Follow end Ended = Unit {0}
 Follow end (Failed text span) = Unit {0}
 Follow end (Token t span items) = (end ≤ span.range.start) × Follow span.range.end items
 
--- a fault of the tokens that are left, or their end behind the last that was taken, is one of all
+-- a fault of the tokens that are left, or their end after the last that was taken, is one of all
 abbrev pub KeepsFaults : Items → Span → Items → Type 0
 KeepsFaults items last left =
     (text : List ℕ) (span : Span) →
     (IsFaultOf left text span → IsFaultOf items text span)
-    × (IsEndBehind last left text span → IsEndOf items text span ⊎ (items ≡ Ended))
+    × (IsEndAfter last left text span → IsEndOf items text span ⊎ (items ≡ Ended))
 
--- a refusal of tokens: nothing is written of them, and what is told is the fault in which they end, or their end where a
--- tag is open
+-- a refusal of tokens: nothing is written of them, and what is reported is the fault in which they end, or their end
+-- where a tag is open
 abbrev pub RefusesTokens : Marks → List ℕ → Items → Error → Type 0
 RefusesTokens m source items e =
-    TellsBy (λ text span. IsWithin source span × (written m source nothing items ≡ None)
+    ReportsBy (λ text span. IsWithin source span × (written m source nothing items ≡ None)
     × (IsFaultOf items text span ⊎ IsEndOf items text span)) e
 
--- one space stands in the place of a gap without a line feed
+-- one space is in the place of a gap without a line feed
 abbrev pub is_one_space : Join → List ℕ → Bool
 is_one_space Space gap = true
 is_one_space Nothing gap = false
@@ -98,19 +98,19 @@ pub record IsCut (source : List ℕ) (c : Cut) : Type 0 where
   pub gap : IsCharBoundary source c.gap
   pub token : IsCharBoundary source c.token
   pub end : IsCharBoundary source c.end
-  pub behind_run : c.run ≤ c.gap
-  pub behind_gap : c.gap ≤ c.token
-  pub behind_token : c.token ≤ c.end
+  pub after_run : c.run ≤ c.gap
+  pub after_gap : c.gap ≤ c.token
+  pub after_token : c.token ≤ c.end
 
--- what stands in the place of the gap, where this is what joins the token to what stands on its left
+-- what is in the place of the gap, where this is what joins the token to what is on its left
 abbrev pub gap_text : Marks → List ℕ → Cut → Join → List ℕ
 gap_text m source c join =
     laid_gap
     (unless_end join (meet_in_end m (slice_range source 0 c.gap) (slice_range source c.token c.end)))
     (slice_range source c.gap c.token)
 
--- tokens are written up to those that are left: what was pushed, the run behind it and what is written of those are the
--- whole; the run may be cut out of the source; and a fault of those, or their end behind the last that was written, is
+-- tokens are written up to those that are left: what was pushed, the run after it and what is written of those are the
+-- whole; the run may be cut out of the source; and a fault of those, or their end after the last that was written, is
 -- one of all
 pub record AreWritten (m : Marks) (source : List ℕ) (all : Items) (whole : Option (List ℕ))
     (out : List ℕ) (run : ℕ) (r : Reached) (last : Span) (left : Items) : Type 0 where

@@ -6,25 +6,25 @@ ghost use Rattle.tera_base.specs.Errors.{IsMemory};
 ghost use Rattle.tera_lexer.specs.grammar.Bytes.{dash_byte, space as space_byte};
 ghost use Rattle.tera_lexer.specs.grammar.Marks.{marks_of, default_marks, IsValid};
 ghost use Rattle.tera_lexer.specs.code.Seen.{seen};
-ghost use Rattle.tera_lexer.specs.grammar.Tiling.{in_tag_behind};
+ghost use Rattle.tera_lexer.specs.grammar.Tiling.{in_tag_after};
 ghost use Rattle.tera_layout.specs.Apart.{has_pair, first_from, last_from, meet_in_end};
 ghost use Rattle.tera_layout.specs.Layout.{laid_gap, laid_out, unless_end};
 ghost use Rattle.tera_layout.specs.Refusal.{Refuses};
 ghost use Rattle.tera_layout.specs.Steady.{is_steady};
-ghost use Rattle.tera_layout.specs.WrittenLayout.{gap_text, has_bytes, is_one_space, nothing, reached as behind_token, put, written, Follow, IsCut, RefusesTokens};
+ghost use Rattle.tera_layout.specs.WrittenLayout.{gap_text, has_bytes, is_one_space, nothing, reached as after_token, put, written, Follow, IsCut, RefusesTokens};
 
 use crate::sides::{Join, Left};
 use std::alloc::{AllocError, Global};
 use tera_base::{Error, ReportError, Span};
 use tera_lexer::{Delimiters, Token, Tokens, tokenize};
 
-/// The source in its layout, between the default markers: in each tag one space behind the start and
-/// before the end, nothing between what stands together, as `a.b` and `f(x=1)`, one space between
-/// what stands apart, as `a | b`, and one space in the place of other white space. White space with a
-/// line feed stays as it is, and so does all that stands outside of tags.
+/// The source in its layout, between the default markers: in each tag one space after the start and before the end,
+/// nothing between what touches, as `a.b` and `f(x=1)`, one space between what is apart, as `a | b`, and one space in
+/// the place of other white space. White space with a line feed stays as it is, and so does all that is outside of
+/// tags.
 ///
-/// A source with a lexical fault, or with a tag that never ends, is refused, and its fault told;
-/// whether it is a template is not asked. The only other refusal is `Memory`.
+/// A source with a lexical fault, or with a tag that never ends, is refused, and its fault reported; whether it is a
+/// template is not asked. The only other refusal is `Memory`.
 pub fn format(alloc: Global, source: &str) -> Result<String, Error>
     ensures sound { IfOk result (λ text.
         laid_out default_marks source.now ≡ Some (string_bytes text)) }
@@ -58,8 +58,8 @@ pub fn format_between(alloc: Global, source: &str, delimiters: &Delimiters) -> R
     }
 }
 
-// Writes the tokens, each behind what stands in the place of the gap before it. A run of the source in which each gap
-// stays as it is, is pushed as one.
+// Writes the tokens, each after what is in the place of the gap before it. A run of the source in which each gap stays
+// as it is, is pushed as one.
 fn push_tokens(
     alloc: Global,
     out: &mut String,
@@ -82,7 +82,7 @@ fn push_tokens(
     let mut last = Span::default();
     'tokens: while let Some(item) = tokens.next() {
         let (token, span) = item?;
-        let next = behind(reached, &token, span.range.end);
+        let next = following(reached, &token, span.range.end);
         let join = reached.left.join(&token, next.left);
         let cut = Cut {
             run,
@@ -122,20 +122,20 @@ fn before_all() -> Reached
     }
 }
 
-// Behind a token that ends there.
-fn behind(reached: Reached, token: &Token<'_>, end: usize) -> Reached
-    ensures { result ≡ behind_token reached (seen token.now) end }
+// After a token that ends there.
+fn following(reached: Reached, token: &Token<'_>, end: usize) -> Reached
+    ensures { result ≡ after_token reached (seen token.now) end }
 {
     Reached {
         end,
         in_tag: goes_on_inside(reached.in_tag, token),
-        left: reached.left.behind(token),
+        left: reached.left.following(token),
     }
 }
 
-// Whether a tag is open behind the token.
+// Whether a tag is open after the token.
 fn goes_on_inside(in_tag: bool, token: &Token<'_>) -> bool
-    ensures { result ≡ in_tag_behind in_tag (seen token.now) }
+    ensures { result ≡ in_tag_after in_tag (seen token.now) }
 {
     match token {
         Token::VariableStart(_) | Token::TagStart(_) => true,
@@ -157,8 +157,8 @@ struct Cut {
     end: usize,
 }
 
-// Writes what stands in the place of the gap, and answers where the run before the token begins: a gap that stays as it
-// is belongs to the run, and behind another a new run begins.
+// Writes what is in the place of the gap, and answers where the run before the token begins: a gap that stays as it is
+// belongs to the run, and after another a new run begins.
 fn push_gap(
     out: &mut String,
     source: &str,
@@ -185,7 +185,7 @@ fn push_gap(
     }
 }
 
-// Writes a run and the space behind it, if one stands there.
+// Writes a run and the space after it, if one is there.
 fn push_changed(out: &mut String, run: &str, space: bool) -> Result<(), AllocError>
     ensures { OnOk result (string_bytes out.new
         ≡ (string_bytes out.old ++ run.now) ++ (if space then space_byte ∷ [] else [])) }
@@ -206,7 +206,7 @@ fn unless_end(join: Join, delimiters: &Delimiters, before: &str, gap: &str, text
     }
 }
 
-// Whether the last byte of the one text and the first of the other stand side by side in an end.
+// Whether the last byte of the one text and the first of the other are side by side in an end.
 fn meet_in_end(delimiters: &Delimiters, before: &str, text: &str) -> bool
     requires { IsValid (marks_of delimiters.now) }
     ensures { result ≡ meet_in_end (marks_of delimiters.now) before.now text.now }
@@ -217,13 +217,13 @@ fn meet_in_end(delimiters: &Delimiters, before: &str, text: &str) -> bool
         || has_pair(delimiters.block_end.as_str(), last, first)
 }
 
-// Whether the bytes stand side by side in the marker behind a dash.
-fn has_pair(marker: &str, before: u8, behind: u8) -> bool
+// Whether the bytes are side by side in the marker after a dash.
+fn has_pair(marker: &str, before: u8, following: u8) -> bool
     requires { length marker.now ≡ 2 }
-    ensures { result ≡ has_pair before behind (dash_byte ∷ marker.now) }
+    ensures { result ≡ has_pair before following (dash_byte ∷ marker.now) }
 {
     let bytes = marker.as_bytes();
-    (b'-' == before && bytes[0] == behind) || (bytes[0] == before && bytes[1] == behind)
+    (b'-' == before && bytes[0] == following) || (bytes[0] == before && bytes[1] == following)
 }
 
 // The last byte, and 0 where there is none.
@@ -246,7 +246,7 @@ fn first_of(bytes: &[u8]) -> u8
     }
 }
 
-// Whether the gap itself stands in its place.
+// Whether the gap itself is in its place.
 fn stays(join: Join, gap: &str) -> bool
     ensures { result ≡ bytes_eq (laid_gap join gap.now) gap.now }
 {
@@ -257,7 +257,7 @@ fn stays(join: Join, gap: &str) -> bool
     }
 }
 
-// Whether one space stands in the place of a gap without a line feed.
+// Whether one space is in the place of a gap without a line feed.
 fn is_space(join: Join, gap: &str) -> bool
     ensures { result ≡ is_one_space join gap.now }
 {

@@ -8,16 +8,15 @@ ghost use Rattle.tera_lexer.specs.grammar.Lexeme.{Lexeme, IsLexeme, spelled};
 ghost use Rattle.tera_lexer.specs.grammar.Tokens.{token_of};
 ghost use Rattle.tera_layout.specs.declared.sides.Left.{Left};
 ghost use Rattle.tera_layout.specs.Alike.{AreAlikeSources};
-ghost use Rattle.tera_layout.specs.Layout.{join_behind, join_inside, IsLaidOut, laid_out};
+ghost use Rattle.tera_layout.specs.Layout.{join_after, join_inside, IsLaidOut, laid_out};
 ghost use Rattle.tera_layout.specs.Narrowed.{AreNarrowed};
 ghost use Rattle.tera_layout.specs.Respaced.{IsRespaced, without_white};
-ghost use Rattle.tera_layout.specs.Sides.{behind};
+ghost use Rattle.tera_layout.specs.Sides.{following};
 ghost use Rattle.tera_layout.specs.Steady.{is_steady};
 ghost use Rattle.tera_layout.specs.Widened.{pieces_bytes, AreWidened};
 
-/// A source is the bytes of its pieces. So sources that differ in the white space inside tags alone
-/// are the same, byte for byte, elsewhere. They have the same bytes but for white space, and the
-/// same tokens apart from places.
+/// A source is the bytes of its pieces. So sources that differ in the white space inside tags alone are the same, byte
+/// for byte, elsewhere. They have the same bytes except white space, and the same tokens apart from places.
 pub fn respaced()
     ensures bytes { (m : Marks) (ps : List Piece) (source : List ℕ) →
         IsDivision m ps Complete source → source ≡ pieces_bytes m ps }
@@ -27,8 +26,8 @@ pub fn respaced()
         AreAlikeSources m one m other }
 {}
 
-/// Between steady markers other white space may be written in the tags of a source, as long as what
-/// stood apart stays apart: the source that comes of it differs in that white space alone.
+/// Between steady markers other white space may be written in the tags of a source, as long as what was apart stays
+/// apart: the source that comes of it differs in that white space alone.
 pub fn widened()
     ensures { (m : Marks) → IsValid m → is_steady m ≡ true →
         (ps qs : List Piece) (one : List ℕ) → IsDivision m ps Complete one →
@@ -62,7 +61,7 @@ pub fn layout()
 {}
 
 /// A layout has as many line feeds as its source: white space with a line feed stays as it is, and other white space
-/// comes and goes without one. So the lines of the two stand side by side.
+/// comes and goes without one. So the lines of the two are side by side.
 pub fn lines_kept()
     ensures { (m : Marks) (one other : List ℕ) → IsLaidOut m one other →
         count_by (λ b. b == line_feed) one ≡ count_by (λ b. b == line_feed) other }
@@ -73,6 +72,6 @@ pub fn lines_kept()
 pub fn defaults()
     ensures { (l r : Lexeme) (more rest : List ℕ) (before : Left) →
         IsLexeme l more → IsLexeme r rest →
-        join_behind default_marks (spelled l) (behind before (token_of l)) r
-        ≡ join_inside (behind before (token_of l)) (token_of r) }
+        join_after default_marks (spelled l) (following before (token_of l)) r
+        ≡ join_inside (following before (token_of l)) (token_of r) }
 {}

@@ -1,13 +1,12 @@
-//! The layout of the sources of the template engine Tera: white space in tags as it is usually
-//! written.
+//! The layout of templates of the engine Tera: white space in tags as it is usually written.
 //!
-//! It takes a source and gives its layout (`format`; `format_between` other markers), or the fault for
-//! which the source has none. It stands on `tera_lexer`.
+//! It takes a source and returns its layout (`format`; `format_between` for other markers), or the fault because of
+//! which there is none. It depends on `tera_lexer`.
 //!
-//! In the order of reading: specs `Sides`, which tokens stand together and which apart, and `Layout`,
-//! and of `Widened` what the bytes of pieces are; `sides`, and `formatting`, which writes the layout,
-//! with the specs `WrittenLayout`; `steady`, between which markers. Then `laws`, with the specs `Respaced`,
-//! `Alike`, `Widened`, `Apart` and `Narrowed`. `Examples` in `proofs` runs the layout.
+//! In the order of reading: specs `Sides`, which tokens touch and which are apart, and `Layout`, and of `Widened` what
+//! the bytes of pieces are; `sides`, and `formatting`, which writes the layout, with the specs `WrittenLayout`;
+//! `steady`, between which markers. Then `laws`, with the specs `Respaced`, `Alike`, `Widened`, `Apart` and `Narrowed`.
+//! `Examples` in `proofs` runs the layout.
 #![tactic(auto)]
 
 mod formatting;

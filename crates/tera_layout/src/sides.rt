@@ -12,9 +12,9 @@ use tera_lexer::Token;
 pub(crate) enum Side {
     /// The start of a tag.
     Start,
-    /// What stands outside of tags, and the end of one.
+    /// What is outside of tags, and the end of one.
     Outside,
-    /// A word behind which an expression begins.
+    /// A word after which an expression begins.
     Word,
     /// Another name, or a truth.
     Name,
@@ -31,21 +31,21 @@ pub(crate) enum Side {
     Closing,
     /// `}`.
     ClosingBrace,
-    /// `,`, and the `:` behind a key or a parameter.
+    /// `,`, and the `:` after a key or a parameter.
     Comma,
     /// Another `:`.
     Colon,
     /// `.` and `?.`.
     Dot,
-    /// What stands before a name: `...`, `@`, `</`, and a `<` behind no value.
+    /// What is before a name: `...`, `@`, `</`, and a `<` after no value.
     Prefix,
     /// The `=` of an argument.
     Equals,
-    /// A `-` behind no value.
+    /// A `-` after no value.
     Minus,
     /// A `<`.
     Less,
-    /// What stands between two values, and the `=` of a name that is set.
+    /// What is between two values, and the `=` of a name that is set.
     Operator,
     Other,
 }
@@ -61,14 +61,14 @@ pub(crate) enum Owner {
     Parameter,
 }
 
-/// What stands on the left.
+/// What is on the left.
 #[derive(Clone, Copy)]
 pub(crate) struct Left {
     pub(crate) side: Side,
     pub(crate) owner: Owner,
 }
 
-/// What stands in the place of a gap that holds no line feed.
+/// What is in the place of a gap that holds no line feed.
 #[derive(Clone, Copy)]
 pub(crate) enum Join {
     /// One space.
@@ -90,20 +90,20 @@ impl Left {
         }
     }
 
-    /// Behind the token.
-    pub(crate) fn behind(self, token: &Token<'_>) -> Left
-        ensures { result ≡ sides.behind self (seen token.now) }
+    /// After the token.
+    pub(crate) fn following(self, token: &Token<'_>) -> Left
+        ensures { result ≡ sides.following self (seen token.now) }
     {
         let side = side_of(token);
         Left {
             side: self.placed(side),
-            owner: self.owner_behind(token, side),
+            owner: self.owner_after(token, side),
         }
     }
 
-    /// What stands in the place of the gap before the token. The next is what stands on the left behind the token.
+    /// What is in the place of the gap before the token. The next is what is on the left after the token.
     pub(crate) fn join(self, token: &Token<'_>, next: Left) -> Join
-        requires { next ≡ sides.behind self (seen token.now) }
+        requires { next ≡ sides.following self (seen token.now) }
         ensures { result ≡ join_of self (seen token.now) }
     {
         if matches!(self.side, Side::Start) || is_end(token) {
@@ -113,7 +113,7 @@ impl Left {
         }
     }
 
-    // What a token is to those beside it, behind what stands on the left.
+    // What a token is to those beside it, after what is on the left.
     fn placed(self, side: Side) -> Side
         ensures { result ≡ sides.placed self side }
     {
@@ -134,9 +134,9 @@ impl Left {
         matches!(self.side, Side::Quoted) || matches!(self.owner, Owner::Parameter)
     }
 
-    // Whose the next `=` is behind the token, which is so to those beside it.
-    fn owner_behind(self, token: &Token<'_>, side: Side) -> Owner
-        ensures { result ≡ sides.owner_behind self (seen token.now) side }
+    // Whose the next `=` is after the token, which is so to those beside it.
+    fn owner_after(self, token: &Token<'_>, side: Side) -> Owner
+        ensures { result ≡ sides.owner_after self (seen token.now) side }
     {
         if matches!(side, Side::Start | Side::Outside) {
             Owner::Argument
@@ -155,7 +155,7 @@ fn is_end(token: &Token<'_>) -> bool
     matches!(token, Token::VariableEnd(_) | Token::TagEnd(_))
 }
 
-// What the token is to those beside it, wherever it stands.
+// What the token is to those beside it, wherever it is.
 fn side_of(token: &Token<'_>) -> Side
     ensures { result ≡ sides.side_of (seen token.now) }
 {
@@ -205,7 +205,7 @@ fn equals_of(owner: Owner) -> Side
     }
 }
 
-// Whose the next `=` is behind the first token of a tag.
+// Whose the next `=` is after the first token of a tag.
 fn owner_named(token: &Token<'_>) -> Owner
     ensures { result ≡ sides.owner_named (seen token.now) }
 {
@@ -215,7 +215,7 @@ fn owner_named(token: &Token<'_>) -> Owner
     }
 }
 
-// Whose the next `=` is behind the first name of a tag.
+// Whose the next `=` is after the first name of a tag.
 fn owner_of(name: &str) -> Owner
     ensures { result ≡ sides.owner_of name.now }
 {
@@ -226,7 +226,7 @@ fn owner_of(name: &str) -> Owner
     }
 }
 
-// Whose the next `=` is behind a token that is no first one.
+// Whose the next `=` is after a token that is not a first one.
 fn owner_past(owner: Owner, side: Side) -> Owner
     ensures { result ≡ sides.owner_past owner side }
 {
@@ -237,22 +237,22 @@ fn owner_past(owner: Owner, side: Side) -> Owner
     }
 }
 
-// What stands between two tokens that are so to each other.
+// What is between two tokens that are so to each other.
 fn join_between(left: Side, right: Side) -> Join
     ensures { result ≡ sides.join_between left right }
 {
-    if stand_together(left, right) {
+    if are_together(left, right) {
         Join::Nothing
-    } else if stand_apart(left, right) {
+    } else if are_apart(left, right) {
         Join::Space
     } else {
         Join::Kept
     }
 }
 
-// Whether nothing stands between them.
-fn stand_together(left: Side, right: Side) -> bool
-    ensures { result ≡ sides.stand_together left right }
+// Whether nothing is between them.
+fn are_together(left: Side, right: Side) -> bool
+    ensures { result ≡ sides.are_together left right }
 {
     matches!(right, Side::Closing | Side::Comma | Side::Colon) || goes_on(left, right)
 }
@@ -278,9 +278,9 @@ fn goes_on(left: Side, right: Side) -> bool
     }
 }
 
-// Whether one space stands between them, where they do not stand together.
-fn stand_apart(left: Side, right: Side) -> bool
-    ensures { result ≡ sides.stand_apart left right }
+// Whether one space is between them, where they are not together.
+fn are_apart(left: Side, right: Side) -> bool
+    ensures { result ≡ sides.are_apart left right }
 {
     match left {
         Side::Operator | Side::Comma => true,

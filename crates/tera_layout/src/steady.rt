@@ -7,9 +7,9 @@ ghost use Rattle.tera_layout.specs.Steady as steady;
 
 use tera_lexer::Delimiters;
 
-/// Whether a source between these markers, which `Delimiters::validate` accepts, can be laid out: neither
-/// the start of statements' tags nor the end of statements' or of variables' tags begins with white
-/// space, a dash, a letter, a digit or an underscore, and no white space stands in those ends.
+/// Whether a source between these markers, which `Delimiters::validate` accepts, can be laid out: neither the start of
+/// statements' tags nor the end of statements' or of variables' tags begins with white space, a dash, a letter, a digit
+/// or an underscore, and no white space is in those ends.
 pub fn are_steady(delimiters: &Delimiters) -> bool
     ensures { result ≡ steady.is_steady (marks_of delimiters.now) }
 {
@@ -36,7 +36,7 @@ fn begins_with_sign(marker: &[u8]) -> bool
     }
 }
 
-// Whether the byte is no white space, no dash, and none of a name.
+// Whether the byte is not white space, not a dash, and not one of a name.
 fn is_sign(byte: u8) -> bool
     ensures { result ≡ steady.is_sign byte }
 {

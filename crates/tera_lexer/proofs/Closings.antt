@@ -11,7 +11,7 @@ use Rattle.std.proofs.lemmas.List.Sums.{prefix_len_is}
 use Rattle.memchr.specs.Find.{Nowhere, Passes, is_byte2}
 use Rattle.tera_lexer.specs.code.Found.{goes_on_string, IsClosing}
 use Rattle.tera_lexer.proofs.Runs.{run_grows, run_ends}
-use Rattle.tera_lexer.proofs.Strings.{IsStringAt, string_stands}
+use Rattle.tera_lexer.proofs.Strings.{IsStringAt, string_sound}
 
 -- so many bytes further
 unfoldable pub further : ℕ → Option ℕ → Option ℕ
@@ -91,7 +91,7 @@ closing_length quote (b ∷ c ∷ cs) other =
     (cases_Bool (b == 92))))
     (cases_Bool (b == quote))
 
--- the inside that was found, and what is behind it
+-- the inside that was found, and what is after it
 pub record IsInsideOf (quote n : ℕ) (bytes : List ℕ) : Type 0 where
   pub inner : List Inner
   pub rest : List ℕ
@@ -102,12 +102,12 @@ pub record IsInsideOf (quote n : ℕ) (bytes : List ℕ) : Type 0 where
 
 inside_by : (quote n : ℕ) (bytes : List ℕ) (o : Option (List Inner × List ℕ)) → string_at quote bytes ≡ o → IsStringAt quote bytes o → Some n ≡ lengths o → IsInsideOf quote n bytes
 unfolding lengths
-inside_by quote n bytes None e stands is = cc
+inside_by quote n bytes None e sound is = cc
 inside_by quote n bytes (Some p) e (splits, all) is = record { inner = p.0; rest = p.1; found = e; splits = splits; all = all; len = cc }
 
 pub inside_closes : (quote n : ℕ) (bytes : List ℕ) → quote ≢ 92 → Some n ≡ closing_at quote false bytes → IsInsideOf quote n bytes
 inside_closes quote n bytes other e =
-    inside_by quote n bytes (string_at quote bytes) refl (string_stands quote bytes) (e ∙ closing_length quote bytes other)
+    inside_by quote n bytes (string_at quote bytes) refl (string_sound quote bytes) (e ∙ closing_length quote bytes other)
 
 none_by : (o : Option (List Inner × List ℕ)) → None ≡ lengths o → o ≡ None
 unfolding lengths
@@ -117,7 +117,7 @@ none_by (Some p) e = cc
 pub nothing_closes : (quote : ℕ) (bytes : List ℕ) → quote ≢ 92 → None ≡ closing_at quote false bytes → string_at quote bytes ≡ None
 nothing_closes quote bytes other e = none_by (string_at quote bytes) (e ∙ closing_length quote bytes other)
 
--- a backslash stands in it where it has an escape
+-- a backslash is in it where it has an escape
 pub escape_written : (quote : ℕ) (is : List Inner) → AllByRecursion (IsInner quote) is → list_any (λ b. b == 92) (written is) ≡ has_escape is
 escape_written quote [] all = refl
 escape_written quote (Plain b ∷ is) all = rw (not_equal b 92 all.0.1) (escape_written quote is all.1)

@@ -10,12 +10,12 @@ use Rattle.tera_lexer.specs.code.Steps.{Stops, Steps}
 use Rattle.tera_lexer.specs.code.Seen.{seen}
 use Rattle.tera_lexer.specs.code.Cursors.{Takes, size}
 use Rattle.tera_lexer.specs.grammar.Lexed.{AreLexed}
-use Rattle.tera_lexer.specs.code.CursorView.{stopped_before, with_item, left_behind, in_sight, position_of, IsReadAhead, Follows, AreReadAhead, IsTokenAhead}
+use Rattle.tera_lexer.specs.code.CursorView.{stopped_before, with_item, left_after, in_sight, position_of, IsReadAhead, Follows, AreReadAhead, IsTokenAhead}
 use Rattle.tera_lexer.specs.declared.lexer.tokens.Token.{Token}
 use Rattle.tera_lexer.specs.declared.lexer.cursor.Cursor.TheInside.{Inside}
-use Rattle.tera_lexer.proofs.Tilings.{lexed_behind}
+use Rattle.tera_lexer.proofs.Tilings.{lexed_after}
 
--- what was left comes from the item that was read, and from what is left behind it
+-- what was left comes from the item that was read, and from what is left after it
 pub left_on : (r new : Stream) (item : Option (Result (Token × Span) Error)) → Steps r item new → r.left ≡ with_item (stopped_before new) item new.left
 left_on r new None (same, ended) = ap (λ (k : Stream). k.left) (sym same)
 left_on r new (Some (Ok p)) (left, is, at) = left
@@ -47,7 +47,7 @@ read_ahead r new (Some (Err e)) (is, stops) = subst (λ (k : Stream). IsReadAhea
 
 -- one item further
 pub record GoesFurther (r new : Stream) (second third : Option (Result (Token × Span) Error)) : Type 0 where
-  pub left : with_item (stopped_before r) second r.left ≡ left_behind new second third
+  pub left : with_item (stopped_before r) second r.left ≡ left_after new second third
   pub near : IsReadAhead new second
   pub far : IsReadAhead new third
   pub follows : Follows second third
@@ -83,31 +83,31 @@ further r new (Some (Err e)) third is steps =
 
 -- taking the item that was read first
 module _ (r new : Stream) (second third : Option (Result (Token × Span) Error)) (on : GoesFurther r new second third) where
-  abbrev behind : Items
-  behind = left_behind new second third
+  abbrev following : Items
+  following = left_after new second third
 
-  pub taken_left : (p : Token × Span) → left_behind r (Some (Ok p)) second ≡ toks.Token (seen p.0) p.1 behind
+  pub taken_left : (p : Token × Span) → left_after r (Some (Ok p)) second ≡ toks.Token (seen p.0) p.1 following
   taken_left p = ap (toks.Token (seen p.0) p.1) on.left
 
 -- what is so of the fields of a cursor that took the next token
 pub took_ahead : (old new : Inside) (p : Token × Span) (third : Option (Result (Token × Span) Error)) → AreReadAhead old → old.first ≡ Some (Ok p) → new.first ≡ old.second → new.second ≡ third → Steps old.tokens third new.tokens → new.taken ≡ old.taken + 1 → new.current_span ≡ p.1 → AreReadAhead new
 took_ahead old new p third are first near far steps taken span =
     let on = further old.tokens new.tokens old.second third are.second steps in
-    let here : left_behind old.tokens old.first old.second ≡ toks.Token (seen p.0) p.1 (left_behind new.tokens old.second third)
-    = ap (λ o. left_behind old.tokens o old.second) first ∙ taken_left old.tokens new.tokens old.second third on p in
-    let left : left_behind new.tokens old.second third ≡ left_behind new.tokens new.first new.second = λ i. left_behind new.tokens (sym near i) (sym far i) in
+    let here : left_after old.tokens old.first old.second ≡ toks.Token (seen p.0) p.1 (left_after new.tokens old.second third)
+    = ap (λ o. left_after old.tokens o old.second) first ∙ taken_left old.tokens new.tokens old.second third on p in
+    let left : left_after new.tokens old.second third ≡ left_after new.tokens new.first new.second = λ i. left_after new.tokens (sym near i) (sym far i) in
     let is_first : IsReadAhead old.tokens (Some (Ok p)) = subst (IsReadAhead old.tokens) first are.first in
     record {
       first = subst (IsReadAhead new.tokens) (sym near) on.near;
       second = subst (IsReadAhead new.tokens) (sym far) on.far;
       follows = subst (λ o. Follows o new.second) (sym near) (subst (Follows old.second) (sym far) on.follows);
-      tokens = subst AreLexed left (lexed_behind (seen p.0) p.1 (left_behind new.tokens old.second third) (subst AreLexed here are.tokens));
+      tokens = subst AreLexed left (lexed_after (seen p.0) p.1 (left_after new.tokens old.second third) (subst AreLexed here are.tokens));
       count = omega (arith, are.count, ap size here, ap size left, taken, ap length on.whole);
       fits = subst (λ (l : List ℕ). length l < 2 ^ 64) (sym on.whole) are.fits;
       span = subst (IsWithin new.tokens.source) (sym span) (subst (λ l. IsWithin l p.1) (sym on.whole) is_first);
     }
 
--- whether an item can be shown does not hang on what is behind it
+-- whether an item can be shown does not hang on what is after it
 sight_of : (item : Option (Result (Token × Span) Error)) (m n : ℕ) → 0 < in_sight item m → 0 < in_sight item n
 sight_of None m n some = absurd (omega (arith, some))
 sight_of (Some (Ok p)) m n some = omega arith
@@ -117,9 +117,9 @@ sight_of (Some (Err e)) m n some = absurd (omega (arith, some))
 pub took : (old new : Inside) (p : Token × Span) (third : Option (Result (Token × Span) Error)) → AreReadAhead old → old.first ≡ Some (Ok p) → new.first ≡ old.second → new.second ≡ third → Steps old.tokens third new.tokens → new.taken ≡ old.taken + 1 → new.current_span ≡ p.1 → Takes (position_of old) (Ok (Some p)) (position_of new)
 took old new p third are first near far steps taken span =
     let on = further old.tokens new.tokens old.second third are.second steps in
-    let here : left_behind old.tokens old.first old.second ≡ toks.Token (seen p.0) p.1 (left_behind new.tokens old.second third)
-    = ap (λ o. left_behind old.tokens o old.second) first ∙ taken_left old.tokens new.tokens old.second third on p in
-    let left : left_behind new.tokens old.second third ≡ left_behind new.tokens new.first new.second = λ i. left_behind new.tokens (sym near i) (sym far i) in
+    let here : left_after old.tokens old.first old.second ≡ toks.Token (seen p.0) p.1 (left_after new.tokens old.second third)
+    = ap (λ o. left_after old.tokens o old.second) first ∙ taken_left old.tokens new.tokens old.second third on p in
+    let left : left_after new.tokens old.second third ≡ left_after new.tokens new.first new.second = λ i. left_after new.tokens (sym near i) (sym far i) in
     let sight : in_sight old.first (in_sight old.second 0) ≡ suc (in_sight old.second 0) = ap (λ o. in_sight o (in_sight old.second 0)) first in
     let next : in_sight new.first (in_sight new.second 0) ≡ in_sight old.second (in_sight new.second 0) = ap (λ o. in_sight o (in_sight new.second 0)) near in (
       omega (arith, sight),
@@ -134,7 +134,7 @@ took old new p third are first near far steps taken span =
       ),
     )
 
-pub some_left : (r : Stream) (first second : Option (Result (Token × Span) Error)) (p : Token × Span) → first ≡ Some (Ok p) → 0 < size (left_behind r first second)
+pub some_left : (r : Stream) (first second : Option (Result (Token × Span) Error)) (p : Token × Span) → first ≡ Some (Ok p) → 0 < size (left_after r first second)
 some_left r first second p e = rw e (omega arith)
 
 -- what is shown was read ahead

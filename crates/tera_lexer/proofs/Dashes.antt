@@ -8,21 +8,21 @@ use Rattle.std.proofs.lemmas.List.{drop-drop}
 use Rattle.std.proofs.lemmas.Str.{IsCharBoundary-from_rest, IsUtf8-append, IsUtf8-drop, IsUtf8-from_ascii}
 use Rattle.std.proofs.lemmas.Str.Ascii.{IsAscii-cons}
 use Rattle.tera_lexer.specs.grammar.Marks.{begins, dash_bytes, TakesDash}
-use Rattle.tera_lexer.specs.reading.Front.{behind_dash}
+use Rattle.tera_lexer.specs.reading.Front.{after_dash}
 use Rattle.tera_lexer.specs.code.Markers.{marker_len, IsStartOf, IsEndOf}
-use Rattle.tera_lexer.proofs.Markers.{begins_splits, marker_cut, dash_stands}
-use Rattle.tera_lexer.proofs.Cuts.{cut_behind_ascii, dash_ascii}
+use Rattle.tera_lexer.proofs.Markers.{begins_splits, marker_cut, dash_sound}
+use Rattle.tera_lexer.proofs.Cuts.{cut_after_ascii, dash_ascii}
 
 -- a start marker is found with its dash
-pub start_found : (marker rest behind : List ℕ) (dash : Bool) → IsUtf8 rest → IsUtf8 marker → length marker ≡ 2 → begins marker rest ≡ true → behind ≡ drop 2 rest → dash ≡ begins (45 ∷ []) behind → IsStartOf marker rest (Some dash)
-start_found marker rest behind dash utf8 text two here behind_is dash_is =
+pub start_found : (marker rest following : List ℕ) (dash : Bool) → IsUtf8 rest → IsUtf8 marker → length marker ≡ 2 → begins marker rest ≡ true → following ≡ drop 2 rest → dash ≡ begins (45 ∷ []) following → IsStartOf marker rest (Some dash)
+start_found marker rest following dash utf8 text two here after_is dash_is =
     let cut = marker_cut rest marker utf8 text here in
-    let is : behind ≡ drop (length marker) rest = behind_is ∙ ap (λ n. drop n rest) (sym two) in
-    let utf8' : IsUtf8 behind = subst IsUtf8 (sym is) (IsUtf8-drop rest (length marker) utf8 cut) in
-    let (splits, takes) = dash_stands behind in
-    let d = begins (45 ∷ []) behind in
-    let at : drop (length (dash_bytes d)) behind ≡ drop (marker_len marker d) rest = ap (drop (length (dash_bytes d))) is ∙ drop-drop (length (dash_bytes d)) (length marker) rest in
-    let cut_on : IsCharBoundary (drop (length marker) rest) (length (dash_bytes d)) = subst (λ (l : List ℕ). IsCharBoundary l (length (dash_bytes d))) is (cut_behind_ascii behind (dash_bytes d) (behind_dash behind) utf8' splits (dash_ascii d)) in
+    let is : following ≡ drop (length marker) rest = after_is ∙ ap (λ n. drop n rest) (sym two) in
+    let utf8' : IsUtf8 following = subst IsUtf8 (sym is) (IsUtf8-drop rest (length marker) utf8 cut) in
+    let (splits, takes) = dash_sound following in
+    let d = begins (45 ∷ []) following in
+    let at : drop (length (dash_bytes d)) following ≡ drop (marker_len marker d) rest = ap (drop (length (dash_bytes d))) is ∙ drop-drop (length (dash_bytes d)) (length marker) rest in
+    let cut_on : IsCharBoundary (drop (length marker) rest) (length (dash_bytes d)) = subst (λ (l : List ℕ). IsCharBoundary l (length (dash_bytes d))) is (cut_after_ascii following (dash_bytes d) (after_dash following) utf8' splits (dash_ascii d)) in
     rw dash_is (
       (begins_splits marker rest here ∙ ap (λ l. marker ++ l) (sym is ∙ splits ∙ ap (λ l. dash_bytes d ++ l) at), subst (TakesDash d) at takes),
       IsCharBoundary-from_rest rest (length marker) (length (dash_bytes d)) cut.0 cut_on,

@@ -9,10 +9,10 @@ use Rattle.std.proofs.lemmas.Str.{IsCharBoundary-end}
 use Rattle.std.proofs.lemmas.List.{append-nil}
 use Rattle.std.proofs.lemmas.List.Folds.{length-prefix_len}
 use Rattle.tera_lexer.specs.grammar.Lexeme.{StopsAt, Inner, Plain, Escape, IsInner, written, is_known, escaped, value_of, has_unknown_escape}
-use Rattle.tera_lexer.specs.reading.Front.{run_of, behind_run, is_plain, unescaped, unknown_in}
-use Rattle.tera_lexer.proofs.Runs.{run_stands, run_splits}
+use Rattle.tera_lexer.specs.reading.Front.{run_of, after_run, is_plain, unescaped, unknown_in}
+use Rattle.tera_lexer.proofs.Runs.{run_sound, run_splits}
 use Rattle.tera_lexer.proofs.Closings.{not_equal}
-use Rattle.tera_lexer.proofs.Cuts.{cut_behind_ascii, cut_before_byte}
+use Rattle.tera_lexer.proofs.Cuts.{cut_after_ascii, cut_before_byte}
 
 -- a backslash or another byte, at the front
 unknown_backslash : (b : ℕ) (bs : List ℕ) → (b == 92) ≡ true → unknown_in false (b ∷ bs) ≡ unknown_in true bs
@@ -45,19 +45,19 @@ plain_is b h = grind (arith, nat_tests)
 backslash_is : (b : ℕ) → is_plain b ≡ false → b ≡ 92
 backslash_is b h = grind (arith, nat_tests)
 
-plain_unescaped : (run behind : List ℕ) → AllByRecursion (λ b. is_plain b ≡ true) run → unescaped (run ++ behind) ≡ run ++ unescaped behind
-plain_unescaped [] behind all = refl
-plain_unescaped (b ∷ run) behind all = unescaped_other b (run ++ behind) (plain_is b all.0) ∙ ap (λ l. b ∷ l) (plain_unescaped run behind all.1)
+plain_unescaped : (run following : List ℕ) → AllByRecursion (λ b. is_plain b ≡ true) run → unescaped (run ++ following) ≡ run ++ unescaped following
+plain_unescaped [] following all = refl
+plain_unescaped (b ∷ run) following all = unescaped_other b (run ++ following) (plain_is b all.0) ∙ ap (λ l. b ∷ l) (plain_unescaped run following all.1)
 
-plain_unknown : (run behind : List ℕ) → AllByRecursion (λ b. is_plain b ≡ true) run → unknown_in false (run ++ behind) ≡ unknown_in false behind
-plain_unknown [] behind all = refl
-plain_unknown (b ∷ run) behind all = unknown_other b (run ++ behind) (plain_is b all.0) ∙ plain_unknown run behind all.1
+plain_unknown : (run following : List ℕ) → AllByRecursion (λ b. is_plain b ≡ true) run → unknown_in false (run ++ following) ≡ unknown_in false following
+plain_unknown [] following all = refl
+plain_unknown (b ∷ run) following all = unknown_other b (run ++ following) (plain_is b all.0) ∙ plain_unknown run following all.1
 
-pub run_unescaped : (bytes : List ℕ) → unescaped bytes ≡ run_of is_plain bytes ++ unescaped (behind_run is_plain bytes)
-run_unescaped bytes = ap unescaped (run_splits is_plain bytes) ∙ plain_unescaped (run_of is_plain bytes) (behind_run is_plain bytes) (run_stands is_plain bytes).0
+pub run_unescaped : (bytes : List ℕ) → unescaped bytes ≡ run_of is_plain bytes ++ unescaped (after_run is_plain bytes)
+run_unescaped bytes = ap unescaped (run_splits is_plain bytes) ∙ plain_unescaped (run_of is_plain bytes) (after_run is_plain bytes) (run_sound is_plain bytes).0
 
-pub run_unknown : (bytes : List ℕ) → unknown_in false bytes ≡ unknown_in false (behind_run is_plain bytes)
-run_unknown bytes = ap (unknown_in false) (run_splits is_plain bytes) ∙ plain_unknown (run_of is_plain bytes) (behind_run is_plain bytes) (run_stands is_plain bytes).0
+pub run_unknown : (bytes : List ℕ) → unknown_in false bytes ≡ unknown_in false (after_run is_plain bytes)
+run_unknown bytes = ap (unknown_in false) (run_splits is_plain bytes) ∙ plain_unknown (run_of is_plain bytes) (after_run is_plain bytes) (run_sound is_plain bytes).0
 
 -- and then comes an escape, if two bytes are left
 pub record IsEscapeAt (bytes : List ℕ) : Type 0 where
@@ -87,23 +87,23 @@ stop_front : (bytes : List ℕ) → 0 < length bytes → StopsAt is_plain bytes 
 stop_front [] some stops = absurd (omega arith)
 stop_front (b ∷ bs) some stops = stops
 
-pub escape_at : (bytes : List ℕ) → 2 ≤ length (behind_run is_plain bytes) → unknown_in false bytes ≡ false → IsEscapeAt (behind_run is_plain bytes)
+pub escape_at : (bytes : List ℕ) → 2 ≤ length (after_run is_plain bytes) → unknown_in false bytes ≡ false → IsEscapeAt (after_run is_plain bytes)
 escape_at bytes two none =
-    escape_front (behind_run is_plain bytes) two (stop_front (behind_run is_plain bytes) (omega arith) (run_stands is_plain bytes).1) (sym (run_unknown bytes) ∙ none)
+    escape_front (after_run is_plain bytes) two (stop_front (after_run is_plain bytes) (omega arith) (run_sound is_plain bytes).1) (sym (run_unknown bytes) ∙ none)
 
 -- where the text may be cut
 known_ascii : (b : ℕ) → is_known b ≡ true → b < 128
 known_ascii b h = grind (arith, nat_tests)
 
 pub escape_cut : (bytes : List ℕ) → IsUtf8 bytes → IsEscapeAt bytes → IsCharBoundary bytes 2
-escape_cut bytes utf8 at = cut_behind_ascii bytes (92 ∷ get_or bytes 1 0 ∷ []) (drop 2 bytes) utf8 at.splits (omega arith, (known_ascii (get_or bytes 1 0) at.known, tt))
+escape_cut bytes utf8 at = cut_after_ascii bytes (92 ∷ get_or bytes 1 0 ∷ []) (drop 2 bytes) utf8 at.splits (omega arith, (known_ascii (get_or bytes 1 0) at.known, tt))
 
 pub backslash_cut : (bytes rest : List ℕ) → IsUtf8 bytes → bytes ≡ 92 ∷ rest → IsCharBoundary bytes 1
-backslash_cut bytes rest utf8 e = cut_behind_ascii bytes (92 ∷ []) rest utf8 e (omega arith, tt)
+backslash_cut bytes rest utf8 e = cut_after_ascii bytes (92 ∷ []) rest utf8 e (omega arith, tt)
 
 pub run_cut_plain : (bytes : List ℕ) → IsUtf8 bytes → IsCharBoundary bytes (prefix_len is_plain bytes)
-run_cut_plain bytes utf8 = subst (IsCharBoundary bytes) (length-prefix_len is_plain bytes) (by (behind_run is_plain bytes) (run_splits is_plain bytes) (run_stands is_plain bytes).1)
+run_cut_plain bytes utf8 = subst (IsCharBoundary bytes) (length-prefix_len is_plain bytes) (by (after_run is_plain bytes) (run_splits is_plain bytes) (run_sound is_plain bytes).1)
   where
-    by : (behind : List ℕ) → bytes ≡ run_of is_plain bytes ++ behind → StopsAt is_plain behind → IsCharBoundary bytes (length (run_of is_plain bytes))
+    by : (following : List ℕ) → bytes ≡ run_of is_plain bytes ++ following → StopsAt is_plain following → IsCharBoundary bytes (length (run_of is_plain bytes))
     by [] e stops = subst (λ n. IsCharBoundary bytes n) (ap length (e ∙ append-nil (run_of is_plain bytes))) (IsCharBoundary-end bytes)
     by (b ∷ bs) e stops = cut_before_byte bytes (run_of is_plain bytes) bs b e (omega (arith, backslash_is b stops))

@@ -9,27 +9,27 @@ use Rattle.tera_lexer.specs.reading.Front.{more, find_marker}
 use Rattle.tera_lexer.proofs.Texts.{nowhere_before}
 use Rattle.tera_lexer.proofs.Markers.{begins_splits, splits_begins}
 
--- what is behind a marker that stands behind so many bytes
-abbrev pub behind_at : List ℕ → ℕ → List ℕ → List ℕ
-behind_at marker n bytes = drop (length marker) (drop n bytes)
+-- what is after a marker that comes after so many bytes
+abbrev pub after_at : List ℕ → ℕ → List ℕ → List ℕ
+after_at marker n bytes = drop (length marker) (drop n bytes)
 
--- what is found stands there
+-- what is found is there
 abbrev pub IsMarkerAt : List ℕ → List ℕ → Option ℕ → Type 0
 IsMarkerAt marker bytes None = NowhereIn (begins marker) bytes []
 IsMarkerAt marker bytes (Some n) =
-    (bytes ≡ take n bytes ++ (marker ++ behind_at marker n bytes)) × NowhereIn (begins marker) (take n bytes) (marker ++ behind_at marker n bytes)
+    (bytes ≡ take n bytes ++ (marker ++ after_at marker n bytes)) × NowhereIn (begins marker) (take n bytes) (marker ++ after_at marker n bytes)
 
 marker_further : (marker : List ℕ) (b : ℕ) (bs : List ℕ) (o : Option ℕ) → begins marker (b ∷ bs) ≡ false → IsMarkerAt marker bs o → IsMarkerAt marker (b ∷ bs) (more o)
 marker_further marker b bs None here is = (subst (λ l. begins marker (b ∷ l) ≡ false) (sym (append-nil bs)) here, is)
 marker_further marker b bs (Some n) here is =
     (ap (λ l. b ∷ l) is.0, (subst (λ l. begins marker (b ∷ l) ≡ false) is.0 here, is.1))
 
-pub find_stands : (marker bytes : List ℕ) → IsMarkerAt marker bytes (find_marker marker bytes)
-find_stands marker [] = tt
-find_stands marker (b ∷ bs) =
+pub find_sound : (marker bytes : List ℕ) → IsMarkerAt marker bytes (find_marker marker bytes)
+find_sound marker [] = tt
+find_sound marker (b ∷ bs) =
     ⊎_elim
     (λ here. rw here (begins_splits marker (b ∷ bs) here, tt))
-    (λ other. rw other (marker_further marker b bs (find_marker marker bs) other (find_stands marker bs)))
+    (λ other. rw other (marker_further marker b bs (find_marker marker bs) other (find_sound marker bs)))
     (cases_Bool (begins marker (b ∷ bs)))
 
 find_begins : (marker rest bytes : List ℕ) → length marker ≡ 2 → bytes ≡ marker ++ rest → find_marker marker bytes ≡ Some 0
@@ -80,7 +80,7 @@ find_is marker bytes (Some n) two is =
     let found = find_found marker (take n bytes) rest two (subst (NowhereIn (begins marker) (take n bytes)) e none) in
     sym (sym (ap (find_marker marker) split) ∙ found ∙ ap Some (length-take-le n bytes fits))
 
--- the marker stands at no place up to this one, and is sought from here on
+-- the marker is at no place up to this one, and is looked for from here on
 module _ (marker bytes : List ℕ) (n : ℕ) (nowhere : Nowhere (OccursAt bytes marker) 0 n) where
   pub nowhere_near : begins marker (drop n bytes) ≡ false → Nowhere (OccursAt bytes marker) 0 (n + 1)
   nowhere_near none k low lt occurs =

@@ -1,4 +1,4 @@
--- What stands at the front of bytes in a tag is found, and only that.
+-- What is at the front of bytes in a tag is found, and only that.
 use Rattle.std.proofs.Common.{◌≡◌, ◌≢◌, ℕ, ◌≤◌, ◌^◌, Bool, true, false, List, [], ◌∷◌, ◌++◌, length, drop, Option, Some, None, ⊎_elim, ap, sym, ◌∙◌, refl, subst, arith, append_assoc}
 use Rattle.std.specs.Prelude.{nat_lt}
 use Rattle.std.specs.Char.{is_ascii_digit}
@@ -7,11 +7,11 @@ use Rattle.std.proofs.lemmas.Bool.Decides.{nat_tests, Decides-ltb}
 use Rattle.std.proofs.lemmas.List.{drop_at}
 use Rattle.tera_lexer.specs.grammar.Marks.{begins}
 use Rattle.tera_lexer.specs.grammar.Lexeme.{IsRun, begins_name, goes_on_name, is_quote, Inner, has_unknown_escape, written, quoted, operator_at, decimal, Lexeme, Name, Number, Quoted, Operator, spelled, AreDigits, IsQuoted, IsLexeme, Fault, Unexpected, Unclosed, UnknownEscape, TooGreat, Float, IsFault}
-use Rattle.tera_lexer.specs.reading.Front.{Front, Reads, Breaks, run_of, behind_run, string_at, string_front, number_front, operator_front, front_of}
-use Rattle.tera_lexer.proofs.Runs.{run_stands, run_splits, run_found, behind_found}
+use Rattle.tera_lexer.specs.reading.Front.{Front, Reads, Breaks, run_of, after_run, string_at, string_front, number_front, operator_front, front_of}
+use Rattle.tera_lexer.proofs.Runs.{run_sound, run_splits, run_found, after_found}
 use Rattle.tera_lexer.proofs.Markers.{begins_splits}
-use Rattle.tera_lexer.proofs.Strings.{IsStringAt, string_stands, string_found, unclosed_found}
-use Rattle.tera_lexer.proofs.Operators.{operator_stands, digit_no_operator, name_no_operator, quote_no_operator}
+use Rattle.tera_lexer.proofs.Strings.{IsStringAt, string_sound, string_found, unclosed_found}
+use Rattle.tera_lexer.proofs.Operators.{operator_sound, digit_no_operator, name_no_operator, quote_no_operator}
 
 -- no byte is at once of two of these classes
 digit_no_name : (b : ℕ) → is_ascii_digit b ≡ true → begins_name b ≡ false
@@ -29,22 +29,22 @@ quote_no_escape b h e = grind (arith, nat_tests)
 clashes : {A : Type 0} (b : Bool) → b ≡ true → b ≡ false → A
 clashes b here other = let clash : true ≡ false = sym here ∙ other in cc
 
--- what is found stands there
+-- what is found is there
 abbrev pub IsFront : List ℕ → Front → Type 0
 IsFront bytes (Reads l rest) = (bytes ≡ spelled l ++ rest) × IsLexeme l rest
 IsFront bytes (Breaks f) = IsFault f bytes
 
-point_behind : (rest : List ℕ) → begins (46 ∷ []) rest ≡ true → rest ≡ 46 ∷ drop 1 rest
-point_behind rest h = begins_splits (46 ∷ []) rest h
+point_after : (rest : List ℕ) → begins (46 ∷ []) rest ≡ true → rest ≡ 46 ∷ drop 1 rest
+point_after rest h = begins_splits (46 ∷ []) rest h
 
-number_stands : (b : ℕ) (bs rest : List ℕ) → AreDigits b bs rest → IsFront (b ∷ (bs ++ rest)) (number_front b bs rest)
-number_stands b bs rest digits =
+number_sound : (b : ℕ) (bs rest : List ℕ) → AreDigits b bs rest → IsFront (b ∷ (bs ++ rest)) (number_front b bs rest)
+number_sound b bs rest digits =
     ⊎_elim
     (λ point.
-    let behind : List ℕ = drop 1 rest in
-    let splits : b ∷ (bs ++ rest) ≡ b ∷ (bs ++ 46 ∷ (run_of is_ascii_digit behind ++ behind_run is_ascii_digit behind))
-    = ap (λ l. b ∷ (bs ++ l)) (point_behind rest point ∙ ap (λ l. 46 ∷ l) (run_splits is_ascii_digit behind)) in
-    rw point (behind_run is_ascii_digit behind, splits, digits.0, digits.1.0, run_stands is_ascii_digit behind))
+    let following : List ℕ = drop 1 rest in
+    let splits : b ∷ (bs ++ rest) ≡ b ∷ (bs ++ 46 ∷ (run_of is_ascii_digit following ++ after_run is_ascii_digit following))
+    = ap (λ l. b ∷ (bs ++ l)) (point_after rest point ∙ ap (λ l. 46 ∷ l) (run_splits is_ascii_digit following)) in
+    rw point (after_run is_ascii_digit following, splits, digits.0, digits.1.0, run_sound is_ascii_digit following))
     (λ no_point. rw no_point (⊎_elim
     (λ low. rw low (refl, (digits, no_point, (Decides-ltb (decimal (b ∷ bs)) (2 ^ 63)).0 low)))
     (λ high. rw high (rest, refl, digits, no_point, not_below (decimal (b ∷ bs)) (2 ^ 63) high))
@@ -54,40 +54,40 @@ number_stands b bs rest digits =
     not_below : (n m : ℕ) → nat_lt n m ≡ false → m ≤ n
     not_below n m h = grind (arith, nat_tests)
 
-string_front_stands : (quote : ℕ) (bytes : List ℕ) (o : Option (List Inner × List ℕ)) → is_quote quote ≡ true → IsStringAt quote bytes o → IsFront (quote ∷ bytes) (string_front quote o)
-string_front_stands quote bytes None is_quote unclosed = (bytes, refl, is_quote, unclosed)
-string_front_stands quote bytes (Some p) is_quote (e, all) =
+string_front_sound : (quote : ℕ) (bytes : List ℕ) (o : Option (List Inner × List ℕ)) → is_quote quote ≡ true → IsStringAt quote bytes o → IsFront (quote ∷ bytes) (string_front quote o)
+string_front_sound quote bytes None is_quote unclosed = (bytes, refl, is_quote, unclosed)
+string_front_sound quote bytes (Some p) is_quote (e, all) =
     let splits : quote ∷ bytes ≡ quoted quote p.0 ++ p.1 = ap (λ l. quote ∷ l) (e ∙ sym (append_assoc (written p.0) (quote ∷ []) p.1)) in
     ⊎_elim
     (λ escape. rw escape (p.1, splits, (is_quote, all), escape))
     (λ plain. rw plain (splits, ((is_quote, all), plain)))
     (cases_Bool (has_unknown_escape p.0))
 
-operator_front_stands : (b : ℕ) (bs : List ℕ) (o : Option (List ℕ)) → is_ascii_digit b ≡ false → begins_name b ≡ false → is_quote b ≡ false → operator_at (b ∷ bs) ≡ o → IsFront (b ∷ bs) (operator_front (b ∷ bs) o)
-operator_front_stands b bs None digit name quote e = (digit, name, quote, e)
-operator_front_stands b bs (Some op) digit name quote e =
-    let splits = (operator_stands b bs op e).splits in (splits, ap operator_at (sym splits) ∙ e)
+operator_front_sound : (b : ℕ) (bs : List ℕ) (o : Option (List ℕ)) → is_ascii_digit b ≡ false → begins_name b ≡ false → is_quote b ≡ false → operator_at (b ∷ bs) ≡ o → IsFront (b ∷ bs) (operator_front (b ∷ bs) o)
+operator_front_sound b bs None digit name quote e = (digit, name, quote, e)
+operator_front_sound b bs (Some op) digit name quote e =
+    let splits = (operator_sound b bs op e).splits in (splits, ap operator_at (sym splits) ∙ e)
 
-pub front_stands : (b : ℕ) (bs : List ℕ) → IsFront (b ∷ bs) (front_of (b ∷ bs))
+pub front_sound : (b : ℕ) (bs : List ℕ) → IsFront (b ∷ bs) (front_of (b ∷ bs))
 unfolding front_of
-front_stands b bs =
+front_sound b bs =
     ⊎_elim
-    (λ digit. rw digit (subst (λ l. IsFront (b ∷ l) (number_front b (run_of is_ascii_digit bs) (behind_run is_ascii_digit bs))) (sym (run_splits is_ascii_digit bs)) (number_stands b _ _ (digit, run_stands is_ascii_digit bs))))
+    (λ digit. rw digit (subst (λ l. IsFront (b ∷ l) (number_front b (run_of is_ascii_digit bs) (after_run is_ascii_digit bs))) (sym (run_splits is_ascii_digit bs)) (number_sound b _ _ (digit, run_sound is_ascii_digit bs))))
     (λ no_digit. rw no_digit (⊎_elim
-    (λ name. rw name (ap (λ l. b ∷ l) (run_splits goes_on_name bs), (name, run_stands goes_on_name bs)))
+    (λ name. rw name (ap (λ l. b ∷ l) (run_splits goes_on_name bs), (name, run_sound goes_on_name bs)))
     (λ no_name. rw no_name (⊎_elim
-    (λ quote. rw quote (string_front_stands b bs (string_at b bs) quote (string_stands b bs)))
-    (λ no_quote. rw no_quote (operator_front_stands b bs (operator_at (b ∷ bs)) no_digit no_name no_quote refl))
+    (λ quote. rw quote (string_front_sound b bs (string_at b bs) quote (string_sound b bs)))
+    (λ no_quote. rw no_quote (operator_front_sound b bs (operator_at (b ∷ bs)) no_digit no_name no_quote refl))
     (cases_Bool (is_quote b))))
     (cases_Bool (begins_name b))))
     (cases_Bool (is_ascii_digit b))
 
--- what stands there is found
-pub front_digit : (b : ℕ) (bs : List ℕ) → is_ascii_digit b ≡ true → front_of (b ∷ bs) ≡ number_front b (run_of is_ascii_digit bs) (behind_run is_ascii_digit bs)
+-- what is there is found
+pub front_digit : (b : ℕ) (bs : List ℕ) → is_ascii_digit b ≡ true → front_of (b ∷ bs) ≡ number_front b (run_of is_ascii_digit bs) (after_run is_ascii_digit bs)
 unfolding front_of
 front_digit b bs digit = rw digit refl
 
-pub front_name : (b : ℕ) (bs : List ℕ) → begins_name b ≡ true → front_of (b ∷ bs) ≡ Reads (Name b (run_of goes_on_name bs)) (behind_run goes_on_name bs)
+pub front_name : (b : ℕ) (bs : List ℕ) → begins_name b ≡ true → front_of (b ∷ bs) ≡ Reads (Name b (run_of goes_on_name bs)) (after_run goes_on_name bs)
 unfolding front_of
 front_name b bs name =
     let no_digit = false_from_ne_true (is_ascii_digit b) (λ h. clashes (begins_name b) name (digit_no_name b h)) in
@@ -95,7 +95,7 @@ front_name b bs name =
 
 digits_front : (b : ℕ) (bs rest : List ℕ) → AreDigits b bs rest → front_of (b ∷ (bs ++ rest)) ≡ number_front b bs rest
 digits_front b bs rest digits =
-    front_digit b (bs ++ rest) digits.0 ∙ (λ i. number_front b (run_found is_ascii_digit bs rest digits.1 i) (behind_found is_ascii_digit bs rest digits.1 i))
+    front_digit b (bs ++ rest) digits.0 ∙ (λ i. number_front b (run_found is_ascii_digit bs rest digits.1 i) (after_found is_ascii_digit bs rest digits.1 i))
 
 pub quote_front : (quote : ℕ) (bytes : List ℕ) → is_quote quote ≡ true → front_of (quote ∷ bytes) ≡ string_front quote (string_at quote bytes)
 unfolding front_of
@@ -127,7 +127,7 @@ operator_reads (b ∷ bs) op e =
 
 pub lexeme_found : (l : Lexeme) (rest : List ℕ) → IsLexeme l rest → front_of (spelled l ++ rest) ≡ Reads l rest
 lexeme_found (Name b bs) rest is =
-    front_name b (bs ++ rest) is.0 ∙ (λ i. Reads (Name b (run_found goes_on_name bs rest is.1 i)) (behind_found goes_on_name bs rest is.1 i))
+    front_name b (bs ++ rest) is.0 ∙ (λ i. Reads (Name b (run_found goes_on_name bs rest is.1 i)) (after_found goes_on_name bs rest is.1 i))
 lexeme_found (Number b bs) rest is =
     digits_front b bs rest is.0 ∙ rw (is.1, (Decides-ltb (decimal (b ∷ bs)) (2 ^ 63)).1 is.2) refl
 lexeme_found (Quoted quote is) rest q = quoted_front quote is rest q.0 ∙ rw q.1 refl

@@ -10,48 +10,48 @@ use Rattle.tera_lexer.specs.grammar.Raw.{WordTag, OpensRaw, IsBody, IsOpenBody}
 use Rattle.tera_lexer.specs.grammar.Division.{is_at_start, EndsText, Piece, Text, Comment, Raw, Tag, Ending, Complete, OpenTag, BadTag, OpenRaw, OpenComment, Starts, OpensTag, IsPiece, IsDivision}
 use Rattle.tera_lexer.specs.grammar.Trimming.{ends_dashed, trims_start, trims_end, trimmed}
 use Rattle.tera_lexer.specs.grammar.Tokens.{Items, Ended, Failed, Token, Content, token_of, tag_start, tag_end, failed, open_raw, open_comment, comment_bytes, raw_bytes, piece_tokens, tokens_of, AreTokensOf}
-use Rattle.tera_lexer.specs.reading.Front.{Front, Reads, Breaks, front_of, Next, Ends, Closes, Stands, next_at, inside_step, inside_by, inside_of, division_of}
+use Rattle.tera_lexer.specs.reading.Front.{Front, Reads, Breaks, front_of, Next, Ends, Closes, GoesOnWith, next_at, inside_step, inside_by, inside_of, division_of}
 use Rattle.tera_lexer.specs.reading.State.{Progress}
-use Rattle.tera_lexer.specs.reading.Left.{start_of, trims_behind, tokens_by, starts_dashed, left_outside, left_by, left_inside, left_in, ahead_of, left_of, whole_of, stream_of}
+use Rattle.tera_lexer.specs.reading.Left.{start_of, trims_after, tokens_by, starts_dashed, left_outside, left_by, left_inside, left_in, ahead_of, left_of, whole_of, stream_of}
 use Rattle.tera_lexer.specs.declared.lexer.delimiters.Kind.{Kind}
-use Rattle.tera_lexer.proofs.Insides.{spelled_some, inside_stands, inside_found, at_gap, next_stands, next_closes}
+use Rattle.tera_lexer.proofs.Insides.{spelled_some, inside_sound, inside_found, at_gap, next_sound, next_closes}
 use Rattle.tera_lexer.proofs.Pieces.{end_two}
-use Rattle.tera_lexer.proofs.Divisions.{division_stands, division_found}
-use Rattle.tera_lexer.proofs.Fronts.{IsFront, front_stands}
+use Rattle.tera_lexer.proofs.Divisions.{division_sound, division_found}
+use Rattle.tera_lexer.proofs.Fronts.{IsFront, front_sound}
 
 -- of the pieces to the left one bit is kept
-behind_is : (left : List Piece) (p : Piece) → trims_behind (trims_start left) p ≡ trims_start (p ∷ left)
-behind_is left (Text text) = refl
-behind_is left (Comment dash inside) = refl
-behind_is left (Raw dash opening body closing) = refl
-behind_is left (Tag kind dash items gap end) = refl
+after_is : (left : List Piece) (p : Piece) → trims_after (trims_start left) p ≡ trims_start (p ∷ left)
+after_is left (Text text) = refl
+after_is left (Comment dash inside) = refl
+after_is left (Raw dash opening body closing) = refl
+after_is left (Tag kind dash items gap end) = refl
 
 by_left : (m : Marks) (front : List ℕ) (left ps : List Piece) (ending : Ending) → tokens_by m front (trims_start left) ps ending ≡ tokens_of m front left ps ending
 by_left m front left [] ending = refl
 by_left m front left (p ∷ ps) ending =
-    λ i. piece_tokens m front (trims_start left) (trims_end ps ending) p (λ f. (ap (λ t. tokens_by m f t ps ending) (behind_is left p) ∙ by_left m f (p ∷ left) ps ending) i)
+    λ i. piece_tokens m front (trims_start left) (trims_end ps ending) p (λ f. (ap (λ t. tokens_by m f t ps ending) (after_is left p) ∙ by_left m f (p ∷ left) ps ending) i)
 
 -- the tokens of a source are one list, and that is left at its start
 pub tokens_found : (m : Marks) → IsValid m → (source : List ℕ) (items : Items) → AreTokensOf m source items → items ≡ left_outside m [] false source
 tokens_found m valid source items (ps, e, division, is) =
     is ∙ sym (by_left m [] [] ps e) ∙ ap (λ (d : List Piece × Ending). tokens_by m [] false d.0 d.1) (sym (division_found m valid ps e (suc (length source)) source division (omega arith)))
 
-pub tokens_stand : (m : Marks) → IsValid m → (source : List ℕ) → AreTokensOf m source (left_outside m [] false source)
-tokens_stand m valid source =
-    ((division_of m source).0, (division_of m source).1, division_stands m valid (suc (length source)) source (omega arith), by_left m [] [] (division_of m source).0 (division_of m source).1)
+pub tokens_sound : (m : Marks) → IsValid m → (source : List ℕ) → AreTokensOf m source (left_outside m [] false source)
+tokens_sound m valid source =
+    ((division_of m source).0, (division_of m source).1, division_sound m valid (suc (length source)) source (omega arith), by_left m [] [] (division_of m source).0 (division_of m source).1)
 
 module _ (m : Marks) (valid : IsValid m) (kind : Kind) where
   -- steps that are enough are enough
   inside_enough : (n : ℕ) (bytes : List ℕ) → length bytes < n → inside_by n (end_marker kind m) bytes ≡ inside_of (end_marker kind m) bytes
   inside_enough n bytes lt =
-      inside_found (end_marker kind m) (inside_of (end_marker kind m) bytes).0 (inside_of (end_marker kind m) bytes).1 n bytes (end_two m valid kind) (inside_stands (end_marker kind m) (suc (length bytes)) bytes (omega arith)) lt
+      inside_found (end_marker kind m) (inside_of (end_marker kind m) bytes).0 (inside_of (end_marker kind m) bytes).1 n bytes (end_two m valid kind) (inside_sound (end_marker kind m) (suc (length bytes)) bytes (omega arith)) lt
 
-  -- from what comes next in a tag, behind front
+  -- from what comes next in a tag, after front
   next_left : List ℕ → Next → Items
   next_left front Ends = Ended
   next_left front (Closes dash rest) = tag_end m front kind dash (λ h. left_outside m h dash rest)
-  next_left front (Stands (Reads lexeme rest)) = Token (token_of lexeme) (span_of front (spelled lexeme)) (left_inside m kind (front ++ spelled lexeme) rest)
-  next_left front (Stands (Breaks fault)) = failed front fault
+  next_left front (GoesOnWith (Reads lexeme rest)) = Token (token_of lexeme) (span_of front (spelled lexeme)) (left_inside m kind (front ++ spelled lexeme) rest)
+  next_left front (GoesOnWith (Breaks fault)) = failed front fault
 
   -- a lexeme more
   left_by_more : (front : List ℕ) (i : Item) (items : List Item) (close : Close)
@@ -64,16 +64,16 @@ module _ (m : Marks) (valid : IsValid m) (kind : Kind) where
   ShortensBy : ℕ → Next → Type 0
   ShortensBy n Ends = Unit {0}
   ShortensBy n (Closes dash rest) = Unit {0}
-  ShortensBy n (Stands (Reads lexeme rest)) = length rest < n
-  ShortensBy n (Stands (Breaks fault)) = Unit {0}
+  ShortensBy n (GoesOnWith (Reads lexeme rest)) = length rest < n
+  ShortensBy n (GoesOnWith (Breaks fault)) = Unit {0}
 
   step_left : (n : ℕ) (front gap at : List ℕ) (next : Next) → ShortensBy n next
       → left_by m kind front (inside_step (inside_by n (end_marker kind m)) gap at next).0 (inside_step (inside_by n (end_marker kind m)) gap at next).1 ≡ next_left (front ++ gap) next
   unfolding next_left ShortensBy
   step_left n front gap at Ends less = refl
   step_left n front gap at (Closes dash rest) less = refl
-  step_left n front gap at (Stands (Breaks fault)) less = refl
-  step_left n front gap at (Stands (Reads lexeme rest)) less =
+  step_left n front gap at (GoesOnWith (Breaks fault)) less = refl
+  step_left n front gap at (GoesOnWith (Reads lexeme rest)) less =
       let item : Item = record { gap = gap; lexeme = lexeme } in
       let read = inside_by n (end_marker kind m) rest in
       left_by_more front item read.0 read.1
@@ -89,10 +89,10 @@ module _ (m : Marks) (valid : IsValid m) (kind : Kind) where
   unfolding ShortensBy
   shortens_more n k Ends le less = tt
   shortens_more n k (Closes dash rest) le less = tt
-  shortens_more n k (Stands (Breaks fault)) le less = tt
-  shortens_more n k (Stands (Reads lexeme rest)) le less = omega (arith, less)
+  shortens_more n k (GoesOnWith (Breaks fault)) le less = tt
+  shortens_more n k (GoesOnWith (Reads lexeme rest)) le less = omega (arith, less)
 
-  front_shortens : (at : List ℕ) (front : Front) → IsFront at front → ShortensBy (length at) (Stands front)
+  front_shortens : (at : List ℕ) (front : Front) → IsFront at front → ShortensBy (length at) (GoesOnWith front)
   unfolding ShortensBy
   front_shortens at (Breaks fault) is = tt
   front_shortens at (Reads lexeme rest) is = omega (arith, spelled_some lexeme rest is.1, ap length is.0, length-append (spelled lexeme) rest)
@@ -103,7 +103,7 @@ module _ (m : Marks) (valid : IsValid m) (kind : Kind) where
   next_shortens (b ∷ bs) =
       ⊎_elim
       (λ dashed. rw dashed tt)
-      (λ no_dash. rw no_dash (⊎_elim (λ closes. rw closes tt) (λ goes_on. rw goes_on (front_shortens (b ∷ bs) (front_of (b ∷ bs)) (front_stands b bs))) (cases_Bool (begins (end_marker kind m) (b ∷ bs)))))
+      (λ no_dash. rw no_dash (⊎_elim (λ closes. rw closes tt) (λ goes_on. rw goes_on (front_shortens (b ∷ bs) (front_of (b ∷ bs)) (front_sound b bs))) (cases_Bool (begins (end_marker kind m) (b ∷ bs)))))
       (cases_Bool (begins (45 ∷ (end_marker kind m)) (b ∷ bs)))
 
   at_next : (front gap at bytes : List ℕ) (next : Next) → bytes ≡ gap ++ at → IsGap gap at → next_at (end_marker kind m) at ≡ next → left_inside m kind front bytes ≡ next_left (front ++ gap) next
@@ -129,11 +129,11 @@ module _ (m : Marks) (valid : IsValid m) (kind : Kind) where
     pub lexeme_left : (lexeme : Lexeme) (rest : List ℕ) → 0 < length at → is_at_end (end_marker kind m) at ≡ false → front_of at ≡ Reads lexeme rest
         → left_inside m kind front at ≡ Token (token_of lexeme) (span_of front (spelled lexeme)) (left_inside m kind (front ++ spelled lexeme) rest)
     unfolding next_left
-    lexeme_left lexeme rest some no_end is = here_left (Stands (Reads lexeme rest)) (next_stands (end_marker kind m) at some no_end ∙ ap Stands is)
+    lexeme_left lexeme rest some no_end is = here_left (GoesOnWith (Reads lexeme rest)) (next_sound (end_marker kind m) at some no_end ∙ ap GoesOnWith is)
 
     pub fault_left : (fault : Fault) → 0 < length at → is_at_end (end_marker kind m) at ≡ false → front_of at ≡ Breaks fault → left_inside m kind front at ≡ failed front fault
     unfolding next_left
-    fault_left fault some no_end is = here_left (Stands (Breaks fault)) (next_stands (end_marker kind m) at some no_end ∙ ap Stands is)
+    fault_left fault some no_end is = here_left (GoesOnWith (Breaks fault)) (next_sound (end_marker kind m) at some no_end ∙ ap GoesOnWith is)
 
   pub gap_ends : (front gap : List ℕ) → IsGap gap [] → left_inside m kind front gap ≡ Ended
   unfolding next_left
@@ -145,7 +145,7 @@ module _ (m : Marks) (valid : IsValid m) where
   division_is ps ending bytes divides = division_found m valid ps ending (suc (length bytes)) bytes divides (omega arith)
 
   rest_divides : (rest : List ℕ) → IsDivision m (division_of m rest).0 (division_of m rest).1 rest
-  rest_divides rest = division_stands m valid (suc (length rest)) rest (omega arith)
+  rest_divides rest = division_sound m valid (suc (length rest)) rest (omega arith)
 
   left_is : (front : List ℕ) (trim : Bool) (ps : List Piece) (ending : Ending) (bytes : List ℕ) → IsDivision m ps ending bytes → left_outside m front trim bytes ≡ tokens_by m front trim ps ending
   left_is front trim ps ending bytes divides = ap (λ (d : List Piece × Ending). tokens_by m front trim d.0 d.1) (division_is ps ending bytes divides)
@@ -153,7 +153,7 @@ module _ (m : Marks) (valid : IsValid m) where
   pub nothing_left : (front : List ℕ) (trim : Bool) (bytes : List ℕ) → bytes ≡ [] → left_outside m front trim bytes ≡ Ended
   nothing_left front trim bytes e = left_is front trim [] Complete bytes e
 
-  -- a piece, and what is behind it
+  -- a piece, and what is after it
   piece_left : (front : List ℕ) (trim : Bool) (bytes rest : List ℕ) (p : Piece) → IsPiece m p bytes rest → left_outside m front trim bytes ≡ tokens_by m front trim (p ∷ (division_of m rest).0) (division_of m rest).1
   piece_left front trim bytes rest p is = left_is front trim (p ∷ (division_of m rest).0) (division_of m rest).1 bytes (rest, is, rest_divides rest)
 
@@ -161,22 +161,22 @@ module _ (m : Marks) (valid : IsValid m) where
       → left_outside m front trim bytes ≡ Token (Content (trimmed trim (starts_dashed m rest) text)) (span_of front text) (left_outside m (front ++ text) false rest)
   text_left front trim text rest bytes e some none ends = piece_left front trim bytes rest (Text text) (e, some, none, ends)
 
-  pub comment_left : (front : List ℕ) (trim dash : Bool) (inside rest bytes behind : List ℕ) → Starts m.comment_start dash bytes behind → behind ≡ inside ++ (m.comment_end ++ rest) → NowhereIn (begins m.comment_end) inside (m.comment_end ++ rest)
+  pub comment_left : (front : List ℕ) (trim dash : Bool) (inside rest bytes following : List ℕ) → Starts m.comment_start dash bytes following → following ≡ inside ++ (m.comment_end ++ rest) → NowhereIn (begins m.comment_end) inside (m.comment_end ++ rest)
       → left_outside m front trim bytes ≡ Token (Content []) (span_of front (comment_bytes m dash inside)) (left_outside m (front ++ comment_bytes m dash inside) (trim || ends_dashed inside) rest)
-  comment_left front trim dash inside rest bytes behind starts e none = piece_left front trim bytes rest (Comment dash inside) (behind, starts, e, none)
+  comment_left front trim dash inside rest bytes following starts e none = piece_left front trim bytes rest (Comment dash inside) (following, starts, e, none)
 
-  pub open_comment_left : (front : List ℕ) (trim dash : Bool) (bytes behind : List ℕ) → Starts m.comment_start dash bytes behind → NowhereIn (begins m.comment_end) behind []
+  pub open_comment_left : (front : List ℕ) (trim dash : Bool) (bytes following : List ℕ) → Starts m.comment_start dash bytes following → NowhereIn (begins m.comment_end) following []
       → left_outside m front trim bytes ≡ Failed (open_comment m) (span_of front (m.comment_start ++ dash_bytes dash))
-  open_comment_left front trim dash bytes behind starts none = left_is front trim [] (OpenComment dash) bytes (behind, starts, none)
+  open_comment_left front trim dash bytes following starts none = left_is front trim [] (OpenComment dash) bytes (following, starts, none)
 
-  pub raw_left : (front : List ℕ) (trim dash : Bool) (opening : WordTag) (body : List ℕ) (closing : WordTag) (rest bytes behind inside : List ℕ) → Starts m.block_start dash bytes behind → OpensRaw m opening behind inside → IsBody m body closing inside rest
+  pub raw_left : (front : List ℕ) (trim dash : Bool) (opening : WordTag) (body : List ℕ) (closing : WordTag) (rest bytes following inside : List ℕ) → Starts m.block_start dash bytes following → OpensRaw m opening following inside → IsBody m body closing inside rest
       → left_outside m front trim bytes
       ≡ Token (Content (trimmed (opening.dash_out || trim) (closing.dash_in || starts_dashed m rest) body)) (span_of front (raw_bytes m dash opening body closing)) (left_outside m (front ++ raw_bytes m dash opening body closing) closing.dash_out rest)
-  raw_left front trim dash opening body closing rest bytes behind inside starts opens is = piece_left front trim bytes rest (Raw dash opening body closing) (behind, inside, starts, opens, is)
+  raw_left front trim dash opening body closing rest bytes following inside starts opens is = piece_left front trim bytes rest (Raw dash opening body closing) (following, inside, starts, opens, is)
 
-  pub open_raw_left : (front : List ℕ) (trim dash : Bool) (opening : WordTag) (bytes behind inside : List ℕ) → Starts m.block_start dash bytes behind → OpensRaw m opening behind inside → IsOpenBody m inside
+  pub open_raw_left : (front : List ℕ) (trim dash : Bool) (opening : WordTag) (bytes following inside : List ℕ) → Starts m.block_start dash bytes following → OpensRaw m opening following inside → IsOpenBody m inside
       → left_outside m front trim bytes ≡ Failed open_raw (span_of front (m.block_start ++ dash_bytes dash))
-  open_raw_left front trim dash opening bytes behind inside starts opens is = left_is front trim [] (OpenRaw dash) bytes (behind, inside, opening, starts, opens, is)
+  open_raw_left front trim dash opening bytes following inside starts opens is = left_is front trim [] (OpenRaw dash) bytes (following, inside, opening, starts, opens, is)
 
   tag_left : (kind : Kind) (front : List ℕ) (trim dash : Bool) (items : List Item) (close : Close) (bytes inside : List ℕ) → Starts (start_marker kind m) dash bytes inside → OpensTag m kind inside → IsInside (end_marker kind m) items close inside
       → left_outside m front trim bytes ≡ tag_start m front kind dash (λ f. left_by m kind f items close)
@@ -187,7 +187,7 @@ module _ (m : Marks) (valid : IsValid m) where
   pub start_left : (kind : Kind) (front : List ℕ) (trim dash : Bool) (bytes inside : List ℕ) → Starts (start_marker kind m) dash bytes inside → OpensTag m kind inside
       → left_outside m front trim bytes ≡ tag_start m front kind dash (λ f. left_inside m kind f inside)
   start_left kind front trim dash bytes inside starts opens =
-      tag_left kind front trim dash (inside_of (end_marker kind m) inside).0 (inside_of (end_marker kind m) inside).1 bytes inside starts opens (inside_stands (end_marker kind m) (suc (length inside)) inside (omega arith))
+      tag_left kind front trim dash (inside_of (end_marker kind m) inside).0 (inside_of (end_marker kind m) inside).1 bytes inside starts opens (inside_sound (end_marker kind m) (suc (length inside)) inside (omega arith))
 
 -- where a reading is
 pub ahead_in : (r : Progress) (tag : Option Kind) → r.tag ≡ tag → ahead_of r ≡ left_in r.marks tag r.front r.trim r.rest
@@ -213,7 +213,7 @@ start_is m source = refl
 
 -- the tokens that are left at the start are those of the source, which are one list
 pub start_tokens : (m : Marks) → IsValid m → (source : List ℕ) (r : Progress) → r ≡ start_of m source → AreTokensOf m source (left_of r)
-start_tokens m valid source r start = rw (ap left_of start ∙ start_is m source) (tokens_stand m valid source)
+start_tokens m valid source r start = rw (ap left_of start ∙ start_is m source) (tokens_sound m valid source)
 
 pub tokens_one : (m : Marks) → IsValid m → (source : List ℕ) (one other : Items) → AreTokensOf m source one → AreTokensOf m source other → one ≡ other
 tokens_one m valid source one other a b = tokens_found m valid source one a ∙ sym (tokens_found m valid source other b)

@@ -20,7 +20,7 @@ pub mod Texts
 pub mod Windows
 pub mod Lefts
 pub mod Tilings
-pub mod Standing
+pub mod TokensInLemmas
 pub mod Closed
 pub mod Places
 pub mod Slices

@@ -1,4 +1,4 @@
--- Where markers stand.
+-- Where markers are.
 use Rattle.std.proofs.Common.{◌≡◌, ℕ, ◌<◌, ◌≤◌, Bool, true, false, ◌||◌, List, [], ◌∷◌, ◌++◌, length, take, drop, get_or, add-zero, subst, ⊎_elim, inl, inr, sym, refl, ap, ◌∙◌, arith, IsUtf8}
 use Rattle.std.specs.Prelude.{◌⊎◌, ◌==◌, ◌≢◌}
 use Rattle.std.specs.Str.{IsCharBoundary}
@@ -9,17 +9,17 @@ use Rattle.std.proofs.lemmas.Str.{IsCharBoundary-from_take, IsCharBoundary-start
 use Rattle.tera_lexer.specs.grammar.Marks.{Marks, IsValid, begins, dash_bytes, TakesDash}
 use Rattle.tera_lexer.specs.grammar.Division.{is_at_start, Starts}
 use Rattle.tera_lexer.specs.code.Markers.{AreStartTexts}
-use Rattle.tera_lexer.specs.reading.Front.{at_dash, behind_dash, behind_marker}
+use Rattle.tera_lexer.specs.reading.Front.{at_dash, after_dash, after_marker}
 use Rattle.std.proofs.lemmas.Bool.{cases_Bool, eqb-true, eq-eqb, ne_eqb, false≢true}
 
--- a marker that begins the bytes stands before the rest of them, and the other way round
+-- a marker that begins the bytes is before the rest of them, and the other way round
 pub begins_splits : (marker bytes : List ℕ) → begins marker bytes ≡ true → bytes ≡ marker ++ drop (length marker) bytes
 begins_splits marker bytes h = (starts_is Decides-eqb bytes marker (begins marker bytes) refl).0 h
 
 pub splits_begins : (marker bytes rest : List ℕ) → bytes ≡ marker ++ rest → begins marker bytes ≡ true
 splits_begins marker bytes rest e = (starts_is Decides-eqb bytes marker (begins marker bytes) refl).1 rest e
 
--- a text that is a marker and more may be cut behind the marker
+-- a text that is a marker and more may be cut after the marker
 pub marker_cut : (bytes marker : List ℕ) → IsUtf8 bytes → IsUtf8 marker → begins marker bytes ≡ true → IsCharBoundary bytes (length marker)
 marker_cut bytes marker utf8 text h =
     let e = begins_splits marker bytes h in
@@ -55,23 +55,23 @@ start_cut m bytes i texts valid lt h =
     (or_true (begins m.variable_start (drop i bytes)) (begins m.block_start (drop i bytes) || begins m.comment_start (drop i bytes)) h)
 
 -- a start marker with its dash
-pub dash_stands : (behind : List ℕ) → (behind ≡ dash_bytes (at_dash behind) ++ behind_dash behind) × TakesDash (at_dash behind) (behind_dash behind)
-dash_stands behind =
+pub dash_sound : (following : List ℕ) → (following ≡ dash_bytes (at_dash following) ++ after_dash following) × TakesDash (at_dash following) (after_dash following)
+dash_sound following =
     ⊎_elim
-    (λ dashed. rw dashed (begins_splits (45 ∷ []) behind dashed, tt))
+    (λ dashed. rw dashed (begins_splits (45 ∷ []) following dashed, tt))
     (λ no_dash. rw no_dash (refl, no_dash))
-    (cases_Bool (at_dash behind))
+    (cases_Bool (at_dash following))
 
-pub marker_stands : (marker bytes : List ℕ) → begins marker bytes ≡ true → Starts marker (at_dash (behind_marker marker bytes)) bytes (behind_dash (behind_marker marker bytes))
-marker_stands marker bytes starts =
-    let dash = dash_stands (behind_marker marker bytes) in (begins_splits marker bytes starts ∙ ap (λ l. marker ++ l) dash.0, dash.1)
+pub marker_sound : (marker bytes : List ℕ) → begins marker bytes ≡ true → Starts marker (at_dash (after_marker marker bytes)) bytes (after_dash (after_marker marker bytes))
+marker_sound marker bytes starts =
+    let dash = dash_sound (after_marker marker bytes) in (begins_splits marker bytes starts ∙ ap (λ l. marker ++ l) dash.0, dash.1)
 
-pub dash_found : (dash : Bool) (inside : List ℕ) → TakesDash dash inside → (at_dash (dash_bytes dash ++ inside) ≡ dash) × (behind_dash (dash_bytes dash ++ inside) ≡ inside)
+pub dash_found : (dash : Bool) (inside : List ℕ) → TakesDash dash inside → (at_dash (dash_bytes dash ++ inside) ≡ dash) × (after_dash (dash_bytes dash ++ inside) ≡ inside)
 dash_found true inside takes = (refl, refl)
 dash_found false inside takes = (takes, rw takes refl)
 
-pub behind_is : (marker bytes rest : List ℕ) → bytes ≡ marker ++ rest → behind_marker marker bytes ≡ rest
-behind_is marker bytes rest e = ap (drop (length marker)) e ∙ drop_at marker rest (length marker) refl
+pub after_is : (marker bytes rest : List ℕ) → bytes ≡ marker ++ rest → after_marker marker bytes ≡ rest
+after_is marker bytes rest e = ap (drop (length marker)) e ∙ drop_at marker rest (length marker) refl
 
 -- a marker of two bytes begins those that are its bytes, and no others
 pub first_bytes : (marker bytes : List ℕ) → length marker ≡ 2 → begins marker bytes ≡ true → (get_or bytes 0 0 ≡ get_or marker 0 0) × (get_or bytes 1 0 ≡ get_or marker 1 0)

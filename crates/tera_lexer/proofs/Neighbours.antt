@@ -14,7 +14,7 @@ use Rattle.tera_lexer.specs.declared.lexer.markers.WordTag.{WordTag as WordTagOf
 use Rattle.tera_lexer.specs.declared.lexer.delimiters.Kind.{Kind}
 use Rattle.tera_lexer.specs.declared.lexer.delimiters.Kind.TheVariants.{Variable, Block}
 use Rattle.tera_lexer.proofs.Markers.{or_false}
-use Rattle.tera_lexer.proofs.WordTags.{IsTagAt, word_tag_stands, word_tag_splits}
+use Rattle.tera_lexer.proofs.WordTags.{IsTagAt, word_tag_sound, word_tag_splits}
 use Rattle.tera_lexer.proofs.Divisions.{at_variable, at_block, at_comment}
 
 trims : List Piece × Ending → Bool
@@ -35,35 +35,35 @@ module _ (go : List ℕ → List Piece × Ending) (dash : Bool) where
   tag_trims kind items (Open gap) = refl
   tag_trims kind items (Bad gap fault at) = refl
 
-  comment_trims : (m : Marks) (behind : List ℕ) (o : Option ℕ) → trims (comment_step go m dash behind o) ≡ (dash && is_some o)
+  comment_trims : (m : Marks) (following : List ℕ) (o : Option ℕ) → trims (comment_step go m dash following o) ≡ (dash && is_some o)
   unfolding trims
-  comment_trims m behind None = and_false dash
-  comment_trims m behind (Some n) = and_true dash
+  comment_trims m following None = and_false dash
+  comment_trims m following (Some n) = and_true dash
 
   raw_trims : (opening : WordTag) (inside : List ℕ) (o : Option RawEnd) → trims (raw_step go dash opening inside o) ≡ (dash && is_some o)
   unfolding trims
   raw_trims opening inside None = and_false dash
   raw_trims opening inside (Some e) = and_true dash
 
-  block_trims : (m : Marks) (behind : List ℕ) (o : Option (WordTag × List ℕ)) → trims (block_step go m dash behind o) ≡ (dash && closes_by m o)
-  block_trims m behind None = tag_trims Block (inside_of (end_marker Block m) behind).0 (inside_of (end_marker Block m) behind).1 ∙ and_true dash
-  block_trims m behind (Some p) = raw_trims p.0 p.1 (raw_end m.block_start m.block_end false p.1)
+  block_trims : (m : Marks) (following : List ℕ) (o : Option (WordTag × List ℕ)) → trims (block_step go m dash following o) ≡ (dash && closes_by m o)
+  block_trims m following None = tag_trims Block (inside_of (end_marker Block m) following).0 (inside_of (end_marker Block m) following).1 ∙ and_true dash
+  block_trims m following (Some p) = raw_trims p.0 p.1 (raw_end m.block_start m.block_end false p.1)
 
 module _ (m : Marks) (valid : IsValid m) (bytes : List ℕ) where
-  pub variable_dashed : (dash : Bool) (behind : List ℕ) → Starts m.variable_start dash bytes behind → starts_dashed m bytes ≡ dash
+  pub variable_dashed : (dash : Bool) (following : List ℕ) → Starts m.variable_start dash bytes following → starts_dashed m bytes ≡ dash
   unfolding trims
-  variable_dashed dash behind starts =
-      ap trims (at_variable m valid (length bytes) dash bytes behind starts) ∙ tag_trims (division_by (length bytes) m) dash Variable (inside_of (end_marker Variable m) behind).0 (inside_of (end_marker Variable m) behind).1
+  variable_dashed dash following starts =
+      ap trims (at_variable m valid (length bytes) dash bytes following starts) ∙ tag_trims (division_by (length bytes) m) dash Variable (inside_of (end_marker Variable m) following).0 (inside_of (end_marker Variable m) following).1
 
-  pub block_dashed : (dash : Bool) (behind : List ℕ) → Starts m.block_start dash bytes behind → starts_dashed m bytes ≡ (dash && is_block_piece m behind)
+  pub block_dashed : (dash : Bool) (following : List ℕ) → Starts m.block_start dash bytes following → starts_dashed m bytes ≡ (dash && is_block_piece m following)
   unfolding trims
-  block_dashed dash behind starts =
-      ap trims (at_block m valid (length bytes) dash bytes behind starts) ∙ block_trims (division_by (length bytes) m) dash m behind (word_tag_at raw_word m.block_end behind)
+  block_dashed dash following starts =
+      ap trims (at_block m valid (length bytes) dash bytes following starts) ∙ block_trims (division_by (length bytes) m) dash m following (word_tag_at raw_word m.block_end following)
 
-  pub comment_dashed : (dash : Bool) (behind : List ℕ) → Starts m.comment_start dash bytes behind → starts_dashed m bytes ≡ (dash && is_comment m behind)
+  pub comment_dashed : (dash : Bool) (following : List ℕ) → Starts m.comment_start dash bytes following → starts_dashed m bytes ≡ (dash && is_comment m following)
   unfolding trims
-  comment_dashed dash behind starts =
-      ap trims (at_comment m valid (length bytes) dash bytes behind starts) ∙ comment_trims (division_by (length bytes) m) dash m behind (find_marker m.comment_end behind)
+  comment_dashed dash following starts =
+      ap trims (at_comment m valid (length bytes) dash bytes following starts) ∙ comment_trims (division_by (length bytes) m) dash m following (find_marker m.comment_end following)
 
   -- a start without a dash, a text and the end of the source begin with none
   pub block_undashed : (dash : Bool) → dash ≡ false → IsStartOf m.block_start bytes (Some dash) → starts_dashed m bytes ≡ false
@@ -85,14 +85,14 @@ module _ (m : Marks) (valid : IsValid m) (bytes : List ℕ) where
           let (block, comment) = or_false (begins m.block_start (b ∷ bs)) (begins m.comment_start (b ∷ bs)) other in
           rw (variable, block, comment) refl
 
--- behind the tag that opens a raw piece stands its body
+-- after the tag that opens a raw piece is its body
 module _ (m : Marks) (bytes : List ℕ) (tag : WordTagOfCode) where
   tag_splits : (o : Option (WordTag × List ℕ)) → word_tag_at raw_word m.block_end bytes ≡ o → IsWordTagOf raw_word m.block_end (Some tag) o
       → (t : WordTag) × (body : List ℕ) × (o ≡ Some (t, body)) × (bytes ≡ word_tag_bytes raw_word m.block_end t ++ body) × (tag.len ≡ length (word_tag_bytes raw_word m.block_end t))
   tag_splits None e is = absurd is
   tag_splits (Some p) e is =
-      let stands : IsTagAt raw_word m.block_end bytes (Some p) = subst (IsTagAt raw_word m.block_end bytes) e (word_tag_stands raw_word m.block_end bytes) in
-      (p.0, p.1, refl, word_tag_splits raw_word m.block_end p.0 bytes p.1 stands, is.2)
+      let sound : IsTagAt raw_word m.block_end bytes (Some p) = subst (IsTagAt raw_word m.block_end bytes) e (word_tag_sound raw_word m.block_end bytes) in
+      (p.0, p.1, refl, word_tag_splits raw_word m.block_end p.0 bytes p.1 sound, is.2)
 
   pub closes_here : IsWordTagOf raw_word m.block_end (Some tag) (word_tag_at raw_word m.block_end bytes) → (o : Option (ℕ × WordTagOfCode)) → IsRawEndOf m.block_end o (raw_end m.block_start m.block_end false (drop tag.len bytes))
       → is_some o ≡ is_block_piece m bytes

@@ -82,7 +82,7 @@ short_is b op e =
     short_high : (b : ℕ) → is_short_operator b ≡ true → 32 ≤ b
     short_high b h = grind (arith, nat_tests)
 
--- an operator that is found stands there
+-- an operator that is found is there
 pub record IsOperator (op bytes : List ℕ) : Type 0 where
   pub splits : bytes ≡ op ++ drop (length op) bytes
   pub some : 0 < length op
@@ -102,9 +102,9 @@ operator_by b bs op None e f =
     let (is, plain) = short_is b op f in
     rw is (record { splits = refl; some = omega arith; printable = (plain, tt) })
 
-pub operator_stands : (b : ℕ) (bs op : List ℕ) → operator_at (b ∷ bs) ≡ Some op → IsOperator op (b ∷ bs)
-operator_stands b bs op e = operator_by b bs op (long_operator_at (b ∷ bs)) refl e
+pub operator_sound : (b : ℕ) (bs op : List ℕ) → operator_at (b ∷ bs) ≡ Some op → IsOperator op (b ∷ bs)
+operator_sound b bs op e = operator_by b bs op (long_operator_at (b ∷ bs)) refl e
 
 pub operator_printable : (bytes op : List ℕ) → operator_at bytes ≡ Some op → AllByRecursion Printable op
 operator_printable [] op e = cc
-operator_printable (b ∷ bs) op e = (operator_stands b bs op e).printable
+operator_printable (b ∷ bs) op e = (operator_sound b bs op e).printable

@@ -19,7 +19,7 @@ is_either false = inr refl
 count_push : (p : ℕ → Bool) (xs : List ℕ) (x : ℕ) → count_by p (xs ++ x ∷ []) ≡ count_by p xs + cond (p x) 1 0
 count_push p xs x = sum_by_push (λ b. cond (p b) 1 0) xs x
 
--- what stands behind the last byte that passes, with one more byte at the end
+-- what comes after the last byte that passes, with one more byte at the end
 last_push_here : (p : ℕ → Bool) (xs : List ℕ) (x : ℕ) → p x ≡ true → after_last p (xs ++ x ∷ []) ≡ []
 last_push_here p xs x here =
     let back : suffix_len (λ b. not (p b)) (xs ++ x ∷ []) ≡ 0 = rw (reverse-append xs (x ∷ []), here) refl in
@@ -57,7 +57,7 @@ step_is front b =
     let byte : length front + 1 ≡ length (front ++ b ∷ []) = sym (length-append front (b ∷ [])) in
     λ i. record { line = line i; column = column i; byte = byte i }
 
--- the program's steps over a text lead to the place behind it
+-- the program's steps over a text lead to the place after it
 pub moved_is : (front text : List ℕ) → moved (place_after front) text ≡ place_after (front ++ text)
 moved_is front [] = ap place_after (sym (append-nil front))
 moved_is front (b ∷ bs) =
@@ -78,7 +78,7 @@ moved_byte : (p : Place) (text : List ℕ) → (moved p text).byte ≡ p.byte + 
 moved_byte p [] = omega arith
 moved_byte p (b ∷ bs) = omega (arith, moved_byte (stepped p b) bs)
 
--- no line feed stands at these places of a text
+-- no line feed is at these places of a text
 abbrev pub NoLineFeed : List ℕ → ℕ → Type 0
 NoLineFeed text from = (k : ℕ) → from ≤ k → k < length text → ¬ (is_line_feed (get_or text k 0) ≡ true)
 
@@ -148,7 +148,7 @@ take_on source byte n le fits =
 pub drop_on : (source : List ℕ) (byte n : ℕ) → drop (byte + n) source ≡ drop n (drop byte source)
 drop_on source byte n = sym (drop-drop n byte source)
 
--- a place in a source, n bytes further: the counters, and what stands on either side
+-- a place in a source, n bytes further: the counters, and what is on either side
 pub record Advanced (source : List ℕ) (old new : Place) (n : ℕ) : Type 0 where
   pub cut : IsCharBoundary source new.byte
   pub place : new ≡ place_after (take new.byte source)
@@ -159,7 +159,7 @@ byte_of_place : (front : List ℕ) → (place_after front).byte ≡ length front
 unfolding place_after
 byte_of_place front = refl
 
--- the place that the counters give behind the next n bytes
+-- the place that the counters give after the next n bytes
 pub moved_ahead : (source : List ℕ) (place new : Place) (text : List ℕ) (n : ℕ) → place ≡ place_after (take place.byte source) → text ≡ take n (drop place.byte source) → new ≡ moved place text
     → new ≡ place_after (take place.byte source ++ take n (drop place.byte source))
 moved_ahead source place new text n at text_is new_is =

@@ -8,7 +8,7 @@ use Rattle.tera_lexer.specs.grammar.Lexeme.{Inner, Plain, Escape, IsInner, writt
 use Rattle.std.proofs.lemmas.List.{append-nil}
 use Rattle.tera_lexer.specs.reading.Front.{string_at, with_inner}
 
--- what is found behind a quote stands there
+-- what is found after a quote is there
 abbrev pub IsStringAt : ℕ → List ℕ → Option (List Inner × List ℕ) → Type 0
 IsStringAt quote bytes None = IsUnclosed quote bytes
 IsStringAt quote bytes (Some p) = (bytes ≡ written p.0 ++ quote ∷ p.1) × AllByRecursion (IsInner quote) p.0
@@ -23,9 +23,9 @@ with_escape quote b bytes None (is, all, ends) =
     (Escape b ∷ is, (tt, all), ⊎_elim (λ e. inl (ap (λ l. 92 ∷ b ∷ l) e)) (λ e. inr (ap (λ l. 92 ∷ b ∷ l) e)) ends)
 with_escape quote b bytes (Some p) (e, all) = (ap (λ l. 92 ∷ b ∷ l) e, (tt, all))
 
-pub string_stands : (quote : ℕ) (bytes : List ℕ) → IsStringAt quote bytes (string_at quote bytes)
-string_stands quote [] = ([], tt, inl refl)
-string_stands quote (b ∷ []) =
+pub string_sound : (quote : ℕ) (bytes : List ℕ) → IsStringAt quote bytes (string_at quote bytes)
+string_sound quote [] = ([], tt, inl refl)
+string_sound quote (b ∷ []) =
     ⊎_elim
     (λ closes. rw closes (ap (λ c. c ∷ []) (eqb-true b quote closes), tt))
     (λ other. rw other (⊎_elim
@@ -33,12 +33,12 @@ string_stands quote (b ∷ []) =
     (λ plain. (Plain b ∷ [], ((eqb-false b quote other, eqb-false b 92 plain), tt), inl refl))
     (cases_Bool (b == 92))))
     (cases_Bool (b == quote))
-string_stands quote (b ∷ c ∷ cs) =
+string_sound quote (b ∷ c ∷ cs) =
     ⊎_elim
     (λ closes. rw closes (ap (λ d. d ∷ c ∷ cs) (eqb-true b quote closes), tt))
     (λ other. rw other (⊎_elim
-    (λ escape. rw escape (subst (λ d. IsStringAt quote (d ∷ c ∷ cs) (with_inner (Escape c) (string_at quote cs))) (sym (eqb-true b 92 escape)) (with_escape quote c cs (string_at quote cs) (string_stands quote cs))))
-    (λ plain. rw plain (with_plain quote b (c ∷ cs) (string_at quote (c ∷ cs)) (eqb-false b quote other) (eqb-false b 92 plain) (string_stands quote (c ∷ cs))))
+    (λ escape. rw escape (subst (λ d. IsStringAt quote (d ∷ c ∷ cs) (with_inner (Escape c) (string_at quote cs))) (sym (eqb-true b 92 escape)) (with_escape quote c cs (string_at quote cs) (string_sound quote cs))))
+    (λ plain. rw plain (with_plain quote b (c ∷ cs) (string_at quote (c ∷ cs)) (eqb-false b quote other) (eqb-false b 92 plain) (string_sound quote (c ∷ cs))))
     (cases_Bool (b == 92))))
     (cases_Bool (b == quote))
 
@@ -60,7 +60,7 @@ at_close : (quote : ℕ) (rest : List ℕ) → string_at quote (quote ∷ rest) 
 at_close quote [] = rw (equal quote) refl
 at_close quote (c ∷ cs) = rw (equal quote) refl
 
--- a string that stands there is found
+-- a string that is there is found
 pub string_found : (quote : ℕ) (is : List Inner) (rest : List ℕ) → quote ≢ 92 → AllByRecursion (IsInner quote) is → string_at quote (written is ++ quote ∷ rest) ≡ Some (is, rest)
 string_found quote [] rest other all = at_close quote rest
 string_found quote (Plain b ∷ is) rest other all =

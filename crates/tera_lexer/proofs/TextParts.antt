@@ -13,11 +13,11 @@ part_whole text = ([], [], sym (append-nil text))
 
 -- a part of a part
 pub part_part : (text body bytes : List ℕ) → IsPart text body → IsPart body bytes → IsPart text bytes
-part_part text body bytes (before, behind, is) (front, rest, e) = (
+part_part text body bytes (before, following, is) (front, rest, e) = (
   front ++ before,
-  behind ++ rest,
-  e ∙ ap (λ l. front ++ (l ++ rest)) is ∙ ap (λ l. front ++ l) (append_assoc before (text ++ behind) rest ∙ ap (λ l. before ++ l) (append_assoc text behind rest))
-      ∙ sym (append_assoc front before (text ++ (behind ++ rest))),
+  following ++ rest,
+  e ∙ ap (λ l. front ++ (l ++ rest)) is ∙ ap (λ l. front ++ l) (append_assoc before (text ++ following) rest ∙ ap (λ l. before ++ l) (append_assoc text following rest))
+      ∙ sym (append_assoc front before (text ++ (following ++ rest))),
 )
 
 -- what trimming leaves
@@ -48,9 +48,9 @@ and_second : (a b : Bool) → (a && b) ≡ true → b ≡ true
 and_second true b h = h
 and_second false b h = cc
 
-scalars_behind : (ws cs : List ℕ) → scalars (ws ++ cs) ≡ true → scalars cs ≡ true
-scalars_behind [] cs h = h
-scalars_behind (w ∷ ws) cs h = scalars_behind ws cs (and_second (scalar w) (scalars (ws ++ cs)) h)
+scalars_after : (ws cs : List ℕ) → scalars (ws ++ cs) ≡ true → scalars cs ≡ true
+scalars_after [] cs h = h
+scalars_after (w ∷ ws) cs h = scalars_after ws cs (and_second (scalar w) (scalars (ws ++ cs)) h)
 
 -- of a text
 text_start : (text : List ℕ) → IsUtf8 text → IsPart (trim_start text) text × IsUtf8 (trim_start text)
@@ -60,7 +60,7 @@ text_start text utf8 =
     let kept : List ℕ = skip_leading_whitespace (chars text) in
     let whole : text ≡ encodes ws ++ encodes kept = sym (encodes-chars text utf8) ∙ ap encodes e ∙ encodes-append ws kept in (
       (encodes ws, [], whole ∙ ap (λ l. encodes ws ++ l) (sym (append-nil (encodes kept)))),
-      (kept, (scalars_behind ws kept (sym (ap scalars e) ∙ scalars-chars text utf8), refl)),
+      (kept, (scalars_after ws kept (sym (ap scalars e) ∙ scalars-chars text utf8), refl)),
     )
 
 text_end : (text : List ℕ) → IsUtf8 text → IsPart (trim_end text) text

@@ -43,7 +43,7 @@ pub firsts : (m : Marks) (p : Pairs) → ArePairs m p → FirstBytes m p.variabl
 firsts m p pairs = record { variable = pairs.variable.first; block = pairs.block.first; comment = pairs.comment.first }
 
 module _ (m : Marks) (valid : IsValid m) (variable block comment : ℕ) (first : FirstBytes m variable block comment) (bytes : List ℕ) where
-  -- where a start marker begins stands one of them
+  -- where a start marker begins is one of them
   passes_at_start : (k : ℕ) → is_at_start m (drop k bytes) ≡ true → Passes (is_byte3 variable block comment) bytes k
   passes_at_start k here =
       let at : get_or (drop k bytes) 0 0 ≡ get_or bytes k 0 = get_or-drop k bytes 0 0 ∙ ap (λ i. get_or bytes i 0) (add-zero k) in

@@ -7,37 +7,37 @@ use Rattle.std.proofs.lemmas.List.{length-append, drop-drop}
 use Rattle.tera_lexer.specs.grammar.Marks.{begins, dash_bytes, TakesDash}
 use Rattle.tera_lexer.specs.grammar.Lexeme.{IsGap}
 use Rattle.tera_lexer.specs.grammar.Raw.{WordTag, word_tag_bytes, IsWordTag}
-use Rattle.tera_lexer.specs.reading.Front.{run_of, behind_run, gap_len, at_dash, behind_dash, behind_marker, word_tag_at}
-use Rattle.tera_lexer.proofs.Runs.{run_grows, run_ends, run_stands, run_splits, run_found, behind_found}
+use Rattle.tera_lexer.specs.reading.Front.{run_of, after_run, gap_len, at_dash, after_dash, after_marker, word_tag_at}
+use Rattle.tera_lexer.proofs.Runs.{run_grows, run_ends, run_sound, run_splits, run_found, after_found}
 use Rattle.tera_lexer.specs.code.Markers.{IsWordTagOf}
-use Rattle.tera_lexer.proofs.Markers.{begins_splits, splits_begins, dash_stands, dash_found, behind_is}
+use Rattle.tera_lexer.proofs.Markers.{begins_splits, splits_begins, dash_sound, dash_found, after_is}
 
--- what is found stands there
+-- what is found is there
 abbrev pub IsTagAt : List ℕ → List ℕ → List ℕ → Option (WordTag × List ℕ) → Type 0
 IsTagAt word end bytes None = Unit {0}
 IsTagAt word end bytes (Some p) = IsWordTag word end p.0 bytes p.1
 
 module _ (word end bytes : List ℕ) where
   abbrev pub tag_inner : List ℕ
-  tag_inner = behind_dash bytes
+  tag_inner = after_dash bytes
 
   abbrev pub tag_at : List ℕ
-  tag_at = behind_run is_ascii_whitespace tag_inner
+  tag_at = after_run is_ascii_whitespace tag_inner
 
   abbrev pub tag_after : List ℕ
-  tag_after = behind_marker word tag_at
+  tag_after = after_marker word tag_at
 
   abbrev pub tag_last : List ℕ
-  tag_last = behind_run is_ascii_whitespace tag_after
+  tag_last = after_run is_ascii_whitespace tag_after
 
   abbrev pub tag_read : WordTag
-  tag_read = record { dash_in = at_dash bytes; before = run_of is_ascii_whitespace tag_inner; behind = run_of is_ascii_whitespace tag_after; dash_out = at_dash tag_last }
+  tag_read = record { dash_in = at_dash bytes; before = run_of is_ascii_whitespace tag_inner; following = run_of is_ascii_whitespace tag_after; dash_out = at_dash tag_last }
 
-  tag_stands : begins word tag_at ≡ true → begins end (behind_dash tag_last) ≡ true → IsWordTag word end tag_read bytes (behind_marker end (behind_dash tag_last))
-  tag_stands here ends =
-      let rest : List ℕ = behind_marker end (behind_dash tag_last) in
-      let ends_is : behind_dash tag_last ≡ end ++ rest = begins_splits end (behind_dash tag_last) ends in
-      let last_is : tag_last ≡ dash_bytes (at_dash tag_last) ++ (end ++ rest) = (dash_stands tag_last).0 ∙ ap (λ l. dash_bytes (at_dash tag_last) ++ l) ends_is in
+  tag_sound : begins word tag_at ≡ true → begins end (after_dash tag_last) ≡ true → IsWordTag word end tag_read bytes (after_marker end (after_dash tag_last))
+  tag_sound here ends =
+      let rest : List ℕ = after_marker end (after_dash tag_last) in
+      let ends_is : after_dash tag_last ≡ end ++ rest = begins_splits end (after_dash tag_last) ends in
+      let last_is : tag_last ≡ dash_bytes (at_dash tag_last) ++ (end ++ rest) = (dash_sound tag_last).0 ∙ ap (λ l. dash_bytes (at_dash tag_last) ++ l) ends_is in
       let after_is : tag_after ≡ run_of is_ascii_whitespace tag_after ++ (dash_bytes (at_dash tag_last) ++ (end ++ rest))
       = run_splits is_ascii_whitespace tag_after ∙ ap (λ l. run_of is_ascii_whitespace tag_after ++ l) last_is in
       let word_is : tag_at ≡ word ++ (run_of is_ascii_whitespace tag_after ++ (dash_bytes (at_dash tag_last) ++ (end ++ rest)))
@@ -45,41 +45,41 @@ module _ (word end bytes : List ℕ) where
       let inner_is : tag_inner ≡ run_of is_ascii_whitespace tag_inner ++ (word ++ (run_of is_ascii_whitespace tag_after ++ (dash_bytes (at_dash tag_last) ++ (end ++ rest))))
       = run_splits is_ascii_whitespace tag_inner ∙ ap (λ l. run_of is_ascii_whitespace tag_inner ++ l) word_is in
       record {
-        splits = (dash_stands bytes).0 ∙ ap (λ l. dash_bytes (at_dash bytes) ++ l) inner_is;
-        takes_in = subst (TakesDash (at_dash bytes)) inner_is (dash_stands bytes).1;
-        gap_before = subst (IsGap (run_of is_ascii_whitespace tag_inner)) word_is (run_stands is_ascii_whitespace tag_inner);
-        gap_behind = subst (IsGap (run_of is_ascii_whitespace tag_after)) last_is (run_stands is_ascii_whitespace tag_after);
-        takes_out = subst (TakesDash (at_dash tag_last)) ends_is (dash_stands tag_last).1;
+        splits = (dash_sound bytes).0 ∙ ap (λ l. dash_bytes (at_dash bytes) ++ l) inner_is;
+        takes_in = subst (TakesDash (at_dash bytes)) inner_is (dash_sound bytes).1;
+        gap_before = subst (IsGap (run_of is_ascii_whitespace tag_inner)) word_is (run_sound is_ascii_whitespace tag_inner);
+        gap_after = subst (IsGap (run_of is_ascii_whitespace tag_after)) last_is (run_sound is_ascii_whitespace tag_after);
+        takes_out = subst (TakesDash (at_dash tag_last)) ends_is (dash_sound tag_last).1;
       }
 
-  pub word_tag_stands : IsTagAt word end bytes (word_tag_at word end bytes)
-  word_tag_stands =
+  pub word_tag_sound : IsTagAt word end bytes (word_tag_at word end bytes)
+  word_tag_sound =
       ⊎_elim
-      (λ here. rw here (⊎_elim (λ ends. rw ends (tag_stands here ends)) (λ other. rw other tt) (cases_Bool (begins end (behind_dash tag_last)))))
+      (λ here. rw here (⊎_elim (λ ends. rw ends (tag_sound here ends)) (λ other. rw other tt) (cases_Bool (begins end (after_dash tag_last)))))
       (λ other. rw other tt)
       (cases_Bool (begins word tag_at))
 
--- what stands there is found
+-- what is there is found
 pub word_tag_found : (word end : List ℕ) (t : WordTag) (bytes rest : List ℕ) → IsWordTag word end t bytes rest → word_tag_at word end bytes ≡ Some (t, rest)
 word_tag_found word end t bytes rest is =
-    let tail : List ℕ = t.behind ++ (dash_bytes t.dash_out ++ (end ++ rest)) in
+    let tail : List ℕ = t.following ++ (dash_bytes t.dash_out ++ (end ++ rest)) in
     let dashed = dash_found t.dash_in (t.before ++ (word ++ tail)) is.takes_in in
     let dash : at_dash bytes ≡ t.dash_in = ap at_dash is.splits ∙ dashed.0 in
-    let inner : behind_dash bytes ≡ t.before ++ (word ++ tail) = ap behind_dash is.splits ∙ dashed.1 in
-    let before : run_of is_ascii_whitespace (behind_dash bytes) ≡ t.before = ap (run_of is_ascii_whitespace) inner ∙ run_found is_ascii_whitespace t.before (word ++ tail) is.gap_before in
-    let at : behind_run is_ascii_whitespace (behind_dash bytes) ≡ word ++ tail = ap (behind_run is_ascii_whitespace) inner ∙ behind_found is_ascii_whitespace t.before (word ++ tail) is.gap_before in
-    let here : begins word (behind_run is_ascii_whitespace (behind_dash bytes)) ≡ true = splits_begins word _ tail at in
-    let after : behind_marker word (behind_run is_ascii_whitespace (behind_dash bytes)) ≡ tail = behind_is word _ tail at in
+    let inner : after_dash bytes ≡ t.before ++ (word ++ tail) = ap after_dash is.splits ∙ dashed.1 in
+    let before : run_of is_ascii_whitespace (after_dash bytes) ≡ t.before = ap (run_of is_ascii_whitespace) inner ∙ run_found is_ascii_whitespace t.before (word ++ tail) is.gap_before in
+    let at : after_run is_ascii_whitespace (after_dash bytes) ≡ word ++ tail = ap (after_run is_ascii_whitespace) inner ∙ after_found is_ascii_whitespace t.before (word ++ tail) is.gap_before in
+    let here : begins word (after_run is_ascii_whitespace (after_dash bytes)) ≡ true = splits_begins word _ tail at in
+    let after : after_marker word (after_run is_ascii_whitespace (after_dash bytes)) ≡ tail = after_is word _ tail at in
     let closes = dash_bytes t.dash_out ++ (end ++ rest) in
-    let behind : run_of is_ascii_whitespace (behind_marker word (behind_run is_ascii_whitespace (behind_dash bytes))) ≡ t.behind = ap (run_of is_ascii_whitespace) after ∙ run_found is_ascii_whitespace t.behind closes is.gap_behind in
-    let last : behind_run is_ascii_whitespace (behind_marker word (behind_run is_ascii_whitespace (behind_dash bytes))) ≡ closes = ap (behind_run is_ascii_whitespace) after ∙ behind_found is_ascii_whitespace t.behind closes is.gap_behind in
+    let following : run_of is_ascii_whitespace (after_marker word (after_run is_ascii_whitespace (after_dash bytes))) ≡ t.following = ap (run_of is_ascii_whitespace) after ∙ run_found is_ascii_whitespace t.following closes is.gap_after in
+    let last : after_run is_ascii_whitespace (after_marker word (after_run is_ascii_whitespace (after_dash bytes))) ≡ closes = ap (after_run is_ascii_whitespace) after ∙ after_found is_ascii_whitespace t.following closes is.gap_after in
     let dashed' = dash_found t.dash_out (end ++ rest) is.takes_out in
     let out = ap at_dash last ∙ dashed'.0 in
-    let ends = ap behind_dash last ∙ dashed'.1 in
-    let end_here : begins end (behind_dash (behind_run is_ascii_whitespace (behind_marker word (behind_run is_ascii_whitespace (behind_dash bytes))))) ≡ true = splits_begins end _ rest ends in
-    rw (here, end_here) (λ i. Some (record { dash_in = dash i; before = before i; behind = behind i; dash_out = out i }, behind_is end _ rest ends i))
+    let ends = ap after_dash last ∙ dashed'.1 in
+    let end_here : begins end (after_dash (after_run is_ascii_whitespace (after_marker word (after_run is_ascii_whitespace (after_dash bytes))))) ≡ true = splits_begins end _ rest ends in
+    rw (here, end_here) (λ i. Some (record { dash_in = dash i; before = before i; following = following i; dash_out = out i }, after_is end _ rest ends i))
 
--- where none is found none stands
+-- where none is found none is
 none_some : {A : Type 0} {a : A} → None ≡ Some a → ⊥
 none_some e = cc
 
@@ -90,21 +90,21 @@ word_tag_none word end bytes none t rest is = none_some (sym none ∙ word_tag_f
 pub word_tag_splits : (word end : List ℕ) (t : WordTag) (bytes rest : List ℕ) → IsWordTag word end t bytes rest → bytes ≡ word_tag_bytes word end t ++ rest
 word_tag_splits word end t bytes rest is =
     is.splits ∙ sym (
-    append_assoc (dash_bytes t.dash_in) (t.before ++ (word ++ (t.behind ++ (dash_bytes t.dash_out ++ end)))) rest
-    ∙ ap (λ l. dash_bytes t.dash_in ++ l) (append_assoc t.before (word ++ (t.behind ++ (dash_bytes t.dash_out ++ end))) rest
-    ∙ ap (λ l. t.before ++ l) (append_assoc word (t.behind ++ (dash_bytes t.dash_out ++ end)) rest
-    ∙ ap (λ l. word ++ l) (append_assoc t.behind (dash_bytes t.dash_out ++ end) rest
-    ∙ ap (λ l. t.behind ++ l) (append_assoc (dash_bytes t.dash_out) end rest)))))
+    append_assoc (dash_bytes t.dash_in) (t.before ++ (word ++ (t.following ++ (dash_bytes t.dash_out ++ end)))) rest
+    ∙ ap (λ l. dash_bytes t.dash_in ++ l) (append_assoc t.before (word ++ (t.following ++ (dash_bytes t.dash_out ++ end))) rest
+    ∙ ap (λ l. t.before ++ l) (append_assoc word (t.following ++ (dash_bytes t.dash_out ++ end)) rest
+    ∙ ap (λ l. word ++ l) (append_assoc t.following (dash_bytes t.dash_out ++ end) rest
+    ∙ ap (λ l. t.following ++ l) (append_assoc (dash_bytes t.dash_out) end rest)))))
 
--- a tag that is read is that which stands there
+-- a tag that is read is that which is there
 module _ (word end bytes : List ℕ) where
-  pub tag_is_found : (rest : List ℕ) (dash_in dash_out : Bool) → begins word (tag_at word end bytes) ≡ true → begins end (behind_dash (tag_last word end bytes)) ≡ true → dash_in ≡ at_dash bytes → dash_out ≡ at_dash (tag_last word end bytes) → rest ≡ behind_marker end (behind_dash (tag_last word end bytes))
+  pub tag_is_found : (rest : List ℕ) (dash_in dash_out : Bool) → begins word (tag_at word end bytes) ≡ true → begins end (after_dash (tag_last word end bytes)) ≡ true → dash_in ≡ at_dash bytes → dash_out ≡ at_dash (tag_last word end bytes) → rest ≡ after_marker end (after_dash (tag_last word end bytes))
       → IsWordTagOf word end (Some (record { dash_in = dash_in; dash_out = dash_out; len = length bytes - length rest })) (word_tag_at word end bytes)
   tag_is_found rest dash_in dash_out here ends in_is out_is rest_is =
       let t : WordTag = tag_read word end bytes in
-      let after : List ℕ = behind_marker end (behind_dash (tag_last word end bytes)) in
+      let after : List ℕ = after_marker end (after_dash (tag_last word end bytes)) in
       let found : word_tag_at word end bytes ≡ Some (t, after) = rw (here, ends) refl in
-      let splits = word_tag_splits word end t bytes after (tag_stands word end bytes here ends) in
+      let splits = word_tag_splits word end t bytes after (tag_sound word end bytes here ends) in
       let len : length bytes - length rest ≡ length (word_tag_bytes word end t) = omega (arith, ap length splits, length-append (word_tag_bytes word end t) after, ap length rest_is) in
       subst (IsWordTagOf word end (Some (record { dash_in = dash_in; dash_out = dash_out; len = length bytes - length rest }))) (sym found) (in_is, out_is, len)
 
@@ -112,26 +112,26 @@ dash_short : (dash : Bool) → length (dash_bytes dash) ≤ 1
 dash_short true = omega arith
 dash_short false = omega arith
 
--- a tag that is missed behind white space is missed from each place in it
+-- a tag that is missed after white space is missed from each place in it
 module _ (word end : List ℕ) where
   gap_ends : (bytes : List ℕ) → tag_at word end bytes ≡ drop (gap_len bytes) bytes
-  gap_ends bytes = drop-drop (prefix_len is_ascii_whitespace (behind_dash bytes)) (length (dash_bytes (at_dash bytes))) bytes
+  gap_ends bytes = drop-drop (prefix_len is_ascii_whitespace (after_dash bytes)) (length (dash_bytes (at_dash bytes))) bytes
 
   none_alike : (bytes other : List ℕ) → tag_at word end bytes ≡ tag_at word end other → word_tag_at word end bytes ≡ None → word_tag_at word end other ≡ None
   none_alike bytes other same none =
       let at : List ℕ = tag_at word end other in
       let last : List ℕ = tag_last word end other in
       let word_same : begins word (tag_at word end bytes) ≡ begins word at = ap (begins word) same in
-      let end_same : begins end (behind_dash (tag_last word end bytes)) ≡ begins end (behind_dash last) = ap (λ l. begins end (behind_dash (behind_run is_ascii_whitespace (behind_marker word l)))) same in
+      let end_same : begins end (after_dash (tag_last word end bytes)) ≡ begins end (after_dash last) = ap (λ l. begins end (after_dash (after_run is_ascii_whitespace (after_marker word l)))) same in
       ⊎_elim
       (λ here. ⊎_elim
       (λ ends.
       let begins_word : begins word (tag_at word end bytes) ≡ true = word_same ∙ here in
-      let begins_end : begins end (behind_dash (tag_last word end bytes)) ≡ true = end_same ∙ ends in
-      let some : word_tag_at word end bytes ≡ Some (tag_read word end bytes, behind_marker end (behind_dash (tag_last word end bytes))) = rw (begins_word, begins_end) refl in
+      let begins_end : begins end (after_dash (tag_last word end bytes)) ≡ true = end_same ∙ ends in
+      let some : word_tag_at word end bytes ≡ Some (tag_read word end bytes, after_marker end (after_dash (tag_last word end bytes))) = rw (begins_word, begins_end) refl in
       absurd (none_some (sym none ∙ some)))
       (λ no_end. rw here (rw no_end refl))
-      (cases_Bool (begins end (behind_dash last))))
+      (cases_Bool (begins end (after_dash last))))
       (λ no_word. rw no_word refl)
       (cases_Bool (begins word at))
 
@@ -151,7 +151,7 @@ module _ (word end : List ℕ) where
       → (k : ℕ) → from < k → k ≤ to → at_dash (drop k bytes) ≡ false → word_tag_at word end (drop k bytes) ≡ None
   missed_within bytes from to none to_is k after within no_dash =
       let dash : ℕ = length (dash_bytes (at_dash (drop from bytes))) in
-      let inner : List ℕ = behind_dash (drop from bytes) in
+      let inner : List ℕ = after_dash (drop from bytes) in
       let one : dash ≤ 1 = dash_short (at_dash (drop from bytes)) in
       let q : ℕ = k - (from + dash) in
       let left = run_left is_ascii_whitespace inner q (omega arith) in

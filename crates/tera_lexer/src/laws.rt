@@ -6,7 +6,7 @@ ghost use Rattle.tera_lexer.specs.grammar.Marks.{Marks, IsValid, AreTexts};
 ghost use Rattle.tera_lexer.specs.grammar.Division.{Piece, Ending, IsDivision};
 ghost use Rattle.tera_lexer.specs.grammar.Tokens.{Items, AreTokensOf};
 ghost use Rattle.tera_lexer.specs.grammar.Tiling.{Tile};
-ghost use Rattle.tera_lexer.specs.code.Steps.{EachStandsAt};
+ghost use Rattle.tera_lexer.specs.code.Steps.{EachIsAt};
 
 /// Each source has one division into pieces and an ending.
 pub fn one_division()
@@ -32,14 +32,14 @@ pub fn one_slice()
         (span_of front text).range.start (span_of front text).range.end ≡ text }
 {}
 
-/// The tokens of a source stand in it one behind the other, each with the bytes of its span: a name and an
-/// operator are those bytes, the inside of a string without escapes stands between its quotes there, and a text
-/// is a part of them, trimmed or not. Between two tokens stands nothing but white space, and that only inside a
-/// tag. In a source that is a text, between markers that are, each token stands as `Tokens::next` says: its span
-/// lies between characters, and what is left of a text that is trimmed is itself a part of the bytes.
+/// The tokens of a source are in it one after the other, each with the bytes of its span: a name and an operator are
+/// those bytes, the inside of a string without escapes is between its quotes there, and a text is a part of them,
+/// trimmed or not. Between two tokens is nothing but white space, and that only inside a tag. In a source that is a
+/// text, between markers that are, each token is as `Tokens::next` says: its span lies between characters, and what is
+/// left of a text that is trimmed is itself a part of the bytes.
 pub fn tokens_tile()
     ensures tile { (m : Marks) → IsValid m → (source : List ℕ) (items : Items) →
         AreTokensOf m source items → Tile false [] source items }
     ensures stand { (m : Marks) → IsValid m → AreTexts m → (source : List ℕ) → IsUtf8 source →
-        (items : Items) → AreTokensOf m source items → EachStandsAt source items }
+        (items : Items) → AreTokensOf m source items → EachIsAt source items }
 {}

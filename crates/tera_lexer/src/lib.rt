@@ -1,7 +1,7 @@
 //! The lexer of the template engine Tera: from a source to its tokens.
 //!
 //! It takes a source and six markers. It gives the tokens, one at a time (`AreTokensOf`), and a cursor over them, which
-//! shows two and takes one (`Position`). It stands on `tera_base`, and on `memchr` of the kit, which searches for
+//! shows two and takes one (`Position`). It depends on `tera_base`, and on `memchr` of the kit, which searches for
 //! markers.
 //!
 //! In the order of reading, in the folder `lexer`: `tokens`, the types; `delimiters`, the markers; `stream`, the tokens

@@ -2,6 +2,6 @@ pub mod InPlace
 pub mod Chains
 pub mod Steps
 pub mod Alone
-pub mod Standing
+pub mod PlacesLemmas
 pub mod Kept
 pub mod Spans

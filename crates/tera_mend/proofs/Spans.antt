@@ -9,7 +9,7 @@ use Rattle.tera_mend.specs.Mending.{EditVal, Edits, Goes, Mends, Puts, Step}
 use Rattle.tera_mend.specs.Places.{AreInPlace}
 use Rattle.tera_mend.specs.Spans.{HasPart, IsApart, MeetsNoStep, MeetsNone}
 use Rattle.tera_mend.proofs.InPlace.{itself, joined, same_length, through}
-use Rattle.tera_mend.proofs.Standing.{place_stands}
+use Rattle.tera_mend.proofs.PlacesLemmas.{place_sound}
 
 one_more : (x y : ℕ) (c d : List ℕ) → x ≡ y → c ≡ d → y ∷ c ≡ x ∷ d
 one_more x y c d first others = cc
@@ -90,4 +90,4 @@ pub spans_kept : (l : Limits) (m : Marks) (source : List ℕ) (ss : List Step) (
     → MeetsNone (length front) (length front + length part) rest → HasPart source front part
 spans_kept l m source ss reached rest text mends edits front part after is some none last =
     let (ahead, left, was, are) = goes_apart l m ss source reached front part mends.1 some none (edits_apart rest reached text front part edits some last (front, after, is, itself front)) in
-    (ahead, left, was, same_span _ _ _ _ (place_stands ahead front are) (place_stands (ahead ++ part) (front ++ part) (joined ahead front part part are (itself part))))
+    (ahead, left, was, same_span _ _ _ _ (place_sound ahead front are) (place_sound (ahead ++ part) (front ++ part) (joined ahead front part part are (itself part))))

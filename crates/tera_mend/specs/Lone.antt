@@ -14,7 +14,7 @@ use Rattle.tera_mend.specs.Views.{place_view}
 use Rattle.tera_mend.specs.declared.lone.Lone.{Lone}
 use Rattle.tera_mend.specs.declared.moved.Place.{Place}
 
--- with something after it the tag is no template, and this is a fault of that, which begins in the tag
+-- with something after it the tag is not a template, and this is a fault of that, which begins in the tag
 pub record IsFaultOf (file tag : List ℕ) (e : Error) : Type 0 where
   pub closing : List ℕ
   pub fails : Fails usual default_marks (tag ++ closing) e

@@ -36,12 +36,12 @@ Edits (e ∷ es) old new = (next : List ℕ) × Puts e old next × Edits es next
 abbrev pub IsNoTemplate : Limits → Marks → List ℕ → Type 0
 IsNoTemplate l m text = (output : Output) → Derives l m text output → ⊥
 
--- the text is no template, and this is a fault of it, which is not that no memory was found
+-- the text is not a template, and this is a fault of it, which is not that an allocation failed
 abbrev pub Fails : Limits → Marks → List ℕ → Error → Type 0
 Fails l m text e = IsNoTemplate l m text × (IsMemory e → ⊥) × Refuses m text e
 
--- A tag after these bytes, read alone with something after it or nothing, is no template. This is a fault of that, which
--- begins in the tag; its places are those that it has after the bytes.
+-- A tag after these bytes, read alone with something after it or nothing, is not a template. This is a fault of that,
+-- which begins in the tag; its places are those that it has after the bytes.
 pub record IsFaultAlone (l : Limits) (m : Marks) (before tag : List ℕ) (e : Error) : Type 0 where
   pub closing : List ℕ
   pub alone : Error
@@ -77,7 +77,8 @@ abbrev pub Mends : Limits → Marks → List ℕ → List Step → List ℕ → 
 Mends l m source ss text = FirstIsOfAll ss × Goes l m source ss text
 
 -- What is read in the end. Where the faults are all, it is the text that was reached, to which nothing more was done.
--- Where they are cut short, what was reached is no template, and what is read is that with some more edits, or nothing.
+-- Where they are cut short, what was reached is not a template, and what is read is that with some more edits, or
+-- nothing.
 abbrev pub Ends : Limits → Marks → Bool → List EditVal → List ℕ → List ℕ → Type 0
 Ends l m false rest reached text = (rest ≡ []) × (text ≡ reached)
 Ends l m true rest reached text = IsNoTemplate l m reached × (Edits rest reached text ⊎ (text ≡ []))

@@ -45,7 +45,7 @@ pub(crate) fn is_first_of_character(byte: u8) -> bool
     byte < 0x80 || 0xC0 <= byte
 }
 
-/// The text with these edits, one after another. None where one of them is not in its place, or where the result is no
+/// The text with these edits, one after another. None where one of them is not in its place, or where the result is not
 /// text.
 pub(crate) fn edited(
     alloc: Global,
@@ -108,7 +108,7 @@ pub(crate) fn blanked(alloc: Global, text: &str) -> Result<Vec<Edit>, AllocError
     Ok(edits)
 }
 
-/// As many bytes: a blank for each, but for line feeds and bytes that are not ASCII.
+/// As many bytes: a blank for each, except line feeds and bytes that are not ASCII.
 pub(crate) fn blanks(alloc: Global, old: &[u8]) -> Result<Vec<u8>, AllocError> {
     let mut bytes = Vec::new(alloc);
     for byte in old {

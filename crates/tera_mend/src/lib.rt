@@ -1,10 +1,10 @@
 //! All faults of a template, and the tree of what is right in it.
 //!
-//! A source with a fault is mended. Some bytes of it are written over by as many others, which keep its line feeds and
-//! the beginnings of its characters, so every other byte keeps its place. The result is parsed again, until no fault is
-//! left. Each fault is the parser's: of the text as it is by then, or of one tag of it that is read alone. The tree is
-//! the parser's, of the last text. Which bytes are written over is a choice that no clause speaks of; each choice is
-//! tested when it is made.
+//! A source with a fault is mended: some of its bytes are overwritten by as many others. These keep its line feeds and
+//! the beginnings of its characters, so every other byte keeps its place. The result is parsed again, until there is no
+//! fault. Each fault is one of the parser: of the text at that time, or of one of its tags that is read alone. The tree
+//! is the parser's, of the last text. No clause is about the choice of the bytes; each choice is tested when it is
+//! made.
 //!
 //! In the order of reading: specs `Places`, `Moved` and `Mending`; `mending`, which goes from fault to fault; `lone`,
 //! the faults of tags that are read alone; `policy`, what is written for a fault; `edits`, which tests that and writes

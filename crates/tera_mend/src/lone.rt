@@ -83,8 +83,8 @@ pub(crate) fn add_lone_faults(
 fn parts<'a>(rest: &'a str, done: usize, tag: &LoneTag) -> Option<(&'a str, &'a str, &'a str)>
     ensures { IfSome result (λ p. rest.now ≡ p.0.now ++ (p.1.now ++ p.2.now)) }
 {
-    let (before, behind) = rest.split_at_checked(tag.start.checked_sub(done)?)?;
-    let (inside, after) = behind.split_at_checked(tag.end.checked_sub(tag.start)?)?;
+    let (before, following) = rest.split_at_checked(tag.start.checked_sub(done)?)?;
+    let (inside, after) = following.split_at_checked(tag.end.checked_sub(tag.start)?)?;
     Some((before, inside, after))
 }
 
@@ -151,7 +151,7 @@ fn begins_before(error: &Error, bytes: usize) -> bool
     }
 }
 
-// What is written over the tag for its fault. None where that is not in its place, changes nothing or is no text.
+// What is written over the tag for its fault. None where that is not in its place, changes nothing or is not text.
 fn written_over(
     alloc: Global,
     tag: &str,

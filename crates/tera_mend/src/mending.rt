@@ -52,7 +52,7 @@ pub struct Mended {
 pub struct Limit {
     /// How many faults are reported at the most.
     pub faults: usize,
-    /// About how many bytes are parsed at the most, but for the first parse, the last, and tags that are read alone.
+    /// About how many bytes are parsed at the most, except the first parse, the last, and tags that are read alone.
     pub bytes: usize,
 }
 
@@ -154,8 +154,8 @@ fn step(
     Ok(Ok(after))
 }
 
-// Where no more faults are sought, though the text has this one: those so far, and the tree of what is left of the text, or
-// of nothing.
+// Where no more faults are looked for, though the text has this one: those so far, and the tree of what is left of the
+// text, or of nothing.
 fn cut_short(
     alloc: Global,
     file: &str,

@@ -1,18 +1,18 @@
 //! What is written for a fault. Any answer is right: where it is not in its place, a cruder one is taken.
 //!
 //! In the order of reading: `words`, what tags are for; `tags`, those of a text; `pairs`, which ends belong to which
-//! heads; `stand_ins`, what is written in the place of a tag; `faults`, a function for each kind of fault.
+//! heads; `placeholders`, what is written in the place of a tag; `faults`, a function for each kind of fault.
 
 mod faults;
 mod pairs;
-mod stand_ins;
+mod placeholders;
 mod tags;
 mod words;
 
 use crate::edits::Edit;
 use crate::lone::LoneTag;
 use crate::policy::faults::Scene;
-use crate::policy::stand_ins::{comment, stand_in};
+use crate::policy::placeholders::{comment, placeholder};
 use crate::policy::tags::tags_of;
 use std::alloc::{AllocError, Global};
 use std::ops::Range;
@@ -75,7 +75,7 @@ pub(crate) fn lone_choice_of(
     let whole = tag.as_bytes();
     let tags = tags_of(alloc, whole, whole.len())?;
     let edit = match tags.all.as_slice().first() {
-        Some(head) if !closing.is_empty() => stand_in(alloc, head, head.role)?,
+        Some(head) if !closing.is_empty() => placeholder(alloc, head, head.role)?,
         _ => Some(comment(alloc, 0, whole)?),
     };
     let mut bytes = Vec::new(alloc);
@@ -91,8 +91,8 @@ pub(crate) fn lone_choice_of(
     Ok(bytes)
 }
 
-/// What is to be written where no more faults are sought, though the text has this one: a comment of all from its tag
-/// on, and after it the ends of what is open there.
+/// What is to be written where no more faults are looked for, though the text has this one: a comment of all from its
+/// tag on, and after it the ends of what is open there.
 pub(crate) fn rest_of(alloc: Global, text: &str, error: &Error) -> Result<Vec<Edit>, AllocError> {
     let (bytes, at) = (text.as_bytes(), report_of(error).1);
     let start = Scene::of(alloc, bytes, at.start)?.start(&at);

@@ -26,7 +26,7 @@ pub(crate) enum Reading {
     Fault(Error),
 }
 
-/// Reads the text in the file of this name. That no memory was found is the error.
+/// Reads the text in the file of this name. That an allocation failed is the error.
 pub(crate) fn read(alloc: Global, file: &str, text: &str) -> Result<Reading, AllocError>
     ensures { IfOk result (IsReadingOf file.now text.now) }
 {
@@ -41,7 +41,7 @@ pub(crate) fn read(alloc: Global, file: &str, text: &str) -> Result<Reading, All
     }
 }
 
-// Whether no memory was found.
+// Whether an allocation failed.
 fn is_memory(error: &Error) -> bool
     ensures { IsTrue result ↔ IsMemory error.now }
 {

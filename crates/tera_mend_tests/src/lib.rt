@@ -9,4 +9,4 @@ mod faults;
 #[cfg(test)]
 mod refusals;
 #[cfg(test)]
-mod told;
+mod reported;

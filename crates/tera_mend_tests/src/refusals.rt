@@ -1,6 +1,6 @@
 //! Sources that are mended where memory is refused.
 
-use crate::told::told;
+use crate::reported::reported;
 use scarce_memory::{Attempt, Seen, Verdict, refuse};
 use std::alloc::{AllocError, Global};
 use std::test::Fail;
@@ -18,22 +18,22 @@ const SOURCES: [&str; 4] = [
 #[derive(Drop)]
 struct Mending<'a> {
     source: &'a str,
-    wanted: &'a str,
+    expected: &'a str,
 }
 
 impl Attempt for Mending<'_> {
     fn attempt(&self, alloc: Global) -> Seen {
-        match told(alloc, self.source, 9) {
-            Ok(found) => Seen::answer(found.as_str() == self.wanted),
+        match reported(alloc, self.source, 9) {
+            Ok(found) => Seen::answer(found.as_str() == self.expected),
             Err(_) => Seen::Memory,
         }
     }
 }
 
 fn is_refused(alloc: Global, source: &str) -> Result<bool, AllocError> {
-    let answer = told(alloc, source, 9)?;
-    let wanted = answer.as_str();
-    let verdict = refuse(alloc, &Mending { source, wanted })?;
+    let answer = reported(alloc, source, 9)?;
+    let expected = answer.as_str();
+    let verdict = refuse(alloc, &Mending { source, expected })?;
     Ok(matches!(verdict, Verdict::Refused(n) if n > 0))
 }
 

@@ -17,14 +17,14 @@ use Rattle.tera_layout.specs.Respaced.{without_white}
 use Rattle.tera_outline.specs.declared.edits.Edit.{Edit}
 use Rattle.tera_outline.specs.declared.edits.Places.{Places}
 use Rattle.tera_outline.specs.Edits.{edited, applied, ReplacesWhite}
-use Rattle.tera_outline.specs.Runs.{is_black, AreEditsTo, AreBehindRuns}
-use Rattle.tera_outline.proofs.Sides.{others_behind, stops, BeginAlike, begin_alike, same_word, some_word}
+use Rattle.tera_outline.specs.Runs.{is_black, AreEditsTo, AreAfterRuns}
+use Rattle.tera_outline.proofs.Sides.{others_after, stops, BeginAlike, begin_alike, same_word, some_word}
 
--- so many bytes of white space stand from the byte on
+-- so many bytes of white space are from the byte on
 abbrev pub white : List ℕ → ℕ → ℕ
 white text at = prefix_len is_ascii_whitespace (drop at text)
 
--- a word goes on where no white space stands in either text, and ends where some does
+-- a word goes on where no white space is in either text, and ends where some does
 unlike : true ≡ false → ⊥
 unlike e = cc
 
@@ -76,12 +76,12 @@ edited_front e text rest order within =
     let long : length (take e.end text) ≡ e.end = length-take-le e.end text within in
     let front : take e.start (take e.end text ++ rest) ≡ take e.start text =
     take-append-le e.start (take e.end text) rest (omega arith) ∙ take-take e.start e.end text order in
-    let behind : drop e.end (take e.end text ++ rest) ≡ rest = drop_at (take e.end text) rest e.end long in
-    rw (front, behind) refl
+    let following : drop e.end (take e.end text ++ rest) ≡ rest = drop_at (take e.end text) rest e.end long in
+    rw (front, following) refl
 
--- no white space stands behind a run
-pub behind_run : (text : List ℕ) (at : ℕ) → is_ascii_whitespace (get_or text (at + white text at) 0) ≡ false
-behind_run text at =
+-- no white space comes after a run
+pub after_run : (text : List ℕ) (at : ℕ) → is_ascii_whitespace (get_or text (at + white text at) 0) ≡ false
+after_run text at =
     subst (λ b. is_ascii_whitespace b ≡ false) (get_or-drop at text (white text at) 0) (stops is_ascii_whitespace (drop at text) refl)
 
 -- the bytes that both texts have from here on are passed over
@@ -101,7 +101,7 @@ pass old new edits limit more at n m h in_old in_new least same alike = record {
   ended = All-weaker (λ (e : Edit). e.end < limit) (λ (e : Edit). e.end < more) (λ e l. omega (arith, l)) edits h.ended;
 }
 
--- other bytes stand in their place, by one edit more
+-- other bytes are in their place, by one edit more
 pub replace : (old new : List ℕ) (edits : List Edit) (at : Places) (e : Edit) (m : ℕ) → AreEditsTo old new edits at.old at
     → e.start ≡ at.old → e.text.now ≡ take m (drop at.new new) → at.new + m ≤ length new → ReplacesWhite old e
     → without_white (drop e.end old) ≡ without_white (drop m (drop at.new new))
@@ -119,7 +119,7 @@ replace old new edits at e m h starts text in_new is alike = record {
       (All-weaker (λ (a : Edit). a.end < at.old) (λ (a : Edit). a.end < e.end + 1) (λ a l. let o = is.order in omega (arith, l, o, starts)) edits h.ended) (omega arith);
 }
 
--- where no white space stands at either place, the texts go on alike
+-- where no white space is at either place, the texts go on alike
 pub go_on_alike : (old new : List ℕ) (i j : ℕ) → without_white (drop i old) ≡ without_white (drop j new)
     → is_ascii_whitespace (get_or old i 0) ≡ false → is_ascii_whitespace (get_or new j 0) ≡ false
     → BeginAlike (drop i old) (drop j new)
@@ -130,10 +130,10 @@ go_on_alike old new i j same a b =
     (subst (λ x. is_ascii_whitespace x ≡ false) (sym (first old i)) a) (subst (λ x. is_ascii_whitespace x ≡ false) (sym (first new j)) b)
 
 -- at the end of the one text all edits are made
-pub all_edited : (old new : List ℕ) (edits : List Edit) (limit : ℕ) (at : Places) → AreEditsTo old new edits limit at → AreBehindRuns old new at
+pub all_edited : (old new : List ℕ) (edits : List Edit) (limit : ℕ) (at : Places) → AreEditsTo old new edits limit at → AreAfterRuns old new at
     → length old ≤ at.old → applied edits old ≡ new
-all_edited old new edits limit at h behind end =
-    let alike = go_on_alike old new at.old at.new h.alike behind.0 behind.1 in
+all_edited old new edits limit at h following end =
+    let alike = go_on_alike old new at.old at.new h.alike following.0 following.1 in
     let none : drop at.new new ≡ [] = alike.one_ends (drop_all at.old old end) in
     let new_end : length new ≤ at.new = omega (arith, length-drop at.new new, ap length none) in
     let all = h.front [] in
@@ -141,17 +141,17 @@ all_edited old new edits limit at h behind end =
     let whole_new : take at.new new ++ [] ≡ new = append-nil (take at.new new) ∙ take_all at.new new new_end in
     ap (applied edits) (sym whole_old) ∙ (all ∙ whole_new)
 
--- no white space stands on either side behind both runs, so the texts go on alike there
+-- no white space is on either side after both runs, so the texts go on alike there
 pub runs_alike : (old new : List ℕ) (at : Places) → without_white (drop at.old old) ≡ without_white (drop at.new new)
     → (without_white (drop (white old at.old) (drop at.old old)) ≡ without_white (drop (white new at.new) (drop at.new new)))
     × BeginAlike (drop (at.old + white old at.old) old) (drop (at.new + white new at.new) new)
 runs_alike old new at same =
     let alike : without_white (drop (white old at.old) (drop at.old old)) ≡ without_white (drop (white new at.new) (drop at.new new)) =
-    others_behind is_ascii_whitespace (drop at.old old) ∙ (same ∙ sym (others_behind is_ascii_whitespace (drop at.new new))) in (
+    others_after is_ascii_whitespace (drop at.old old) ∙ (same ∙ sym (others_after is_ascii_whitespace (drop at.new new))) in (
       alike,
       go_on_alike old new (at.old + white old at.old) (at.new + white new at.new)
           (rw (sym (drop-drop (white old at.old) at.old old), sym (drop-drop (white new at.new) at.new new)) alike)
-          (behind_run old at.old) (behind_run new at.new),
+          (after_run old at.old) (after_run new at.new),
     )
 
 -- each byte of a run is white space
@@ -200,7 +200,7 @@ same_boundary old new i j alike within is = (
 alike_back : (xs ys : List ℕ) → BeginAlike xs ys → BeginAlike ys xs
 alike_back xs ys alike = record { one_ends = alike.other_ends; other_ends = alike.one_ends; first = sym alike.first }
 
--- runs that differ stand between characters
+-- runs that differ are between characters
 pub runs_between : (old new : List ℕ) (at : Places) → IsUtf8 old → IsUtf8 new → without_white (drop at.old old) ≡ without_white (drop at.new new)
     → at.old + white old at.old ≤ length old → at.new + white new at.new ≤ length new
     → take (white old at.old) (drop at.old old) ≢ take (white new at.new) (drop at.new new)
@@ -236,7 +236,7 @@ run_edit old new edits at e h utf8_old utf8_new before in_old in_new differ star
       within = omega (arith, ends);
       goes = subst (λ bytes. AllPass is_ascii_whitespace bytes) (sym gone) (run_white old at.old);
       before = subst (λ n. n ≢ 0 → is_ascii_whitespace (get_or old (n - 1) 0) ≡ false) (sym starts) before;
-      behind = subst (λ n. is_ascii_whitespace (get_or old n 0) ≡ false) (sym ends) (behind_run old at.old);
+      following = subst (λ n. is_ascii_whitespace (get_or old n 0) ≡ false) (sym ends) (after_run old at.old);
       comes = subst (λ bytes. AllPass is_ascii_whitespace bytes) (sym text) (run_white new at.new);
       differs = λ same. differ (sym gone ∙ (sym same ∙ text));
       starts = subst (λ n. IsCharBoundary old n) (sym starts) (run_begins old at.old in_old between.0);
@@ -246,31 +246,31 @@ run_edit old new edits at e h utf8_old utf8_new before in_old in_new differ star
     (replace old new edits at e (white new at.new) h starts text in_new is
     (rw ends (rw (sym (drop-drop (white old at.old) at.old old)) alike)))
 
-not_told : (b : Bool) → true ≡ not b → false ≡ b
-not_told true h = cc
-not_told false h = refl
+not_reported : (b : Bool) → true ≡ not b → false ≡ b
+not_reported true h = cc
+not_reported false h = refl
 
-told : (b : Bool) → false ≡ not b → true ≡ b
-told true h = refl
-told false h = cc
+reported : (b : Bool) → false ≡ not b → true ≡ b
+reported true h = refl
+reported false h = cc
 
 part_is : (text : List ℕ) (at n : ℕ) → take (at + n - at) (drop at text) ≡ take n (drop at text)
 part_is text at n = ap (λ k. take k (drop at text)) (omega arith)
 
--- what the comparison of both runs told
+-- what the comparison of both runs reported
 pub run_differs : (old new one other : List ℕ) (at : Places) (n m : ℕ) → one ≡ old → other ≡ new
     → true ≡ not (pointwise nat_eq (take (at.old + n - at.old) (drop at.old one)) (take (at.new + m - at.new) (drop at.new other)))
     → take n (drop at.old old) ≢ take m (drop at.new new)
-run_differs old new one other at n m is_old is_new tells same =
+run_differs old new one other at n m is_old is_new reports same =
     let here : take n (drop at.old one) ≡ take m (drop at.new other) = rw (is_old, is_new) same in
-    other_text _ _ (not_told _ tells) (part_is one at.old n ∙ (here ∙ sym (part_is other at.new m)))
+    other_text _ _ (not_reported _ reports) (part_is one at.old n ∙ (here ∙ sym (part_is other at.new m)))
 
 pub run_same : (old new one other : List ℕ) (at : Places) (n m : ℕ) → one ≡ old → other ≡ new
     → false ≡ not (pointwise nat_eq (take (at.old + n - at.old) (drop at.old one)) (take (at.new + m - at.new) (drop at.new other)))
     → take n (drop at.old old) ≡ take m (drop at.new new)
-run_same old new one other at n m is_old is_new tells =
+run_same old new one other at n m is_old is_new reports =
     let here : take n (drop at.old one) ≡ take m (drop at.new other) =
-    sym (part_is one at.old n) ∙ (same_text _ _ (told _ tells) ∙ part_is other at.new m) in
+    sym (part_is one at.old n) ∙ (same_text _ _ (reported _ reports) ∙ part_is other at.new m) in
     rw (is_old, is_new) at here
 
 -- the runs, as long as they were counted
@@ -297,8 +297,8 @@ run_passed old new edits at n m h counted same =
     pass old new edits at.old (at.old + n + 1) at n m h counted.in_old counted.in_new (omega arith) same
     (rw (counted.count_old, counted.count_new) (runs_alike old new at h.alike).0)
 
-pub run_behind : (old new : List ℕ) (at : Places) (n m : ℕ) → Counted old new at n m → AreBehindRuns old new (record { old = at.old + n; new = at.new + m })
-run_behind old new at n m counted = rw (counted.count_old, counted.count_new) (behind_run old at.old, behind_run new at.new)
+pub run_after : (old new : List ℕ) (at : Places) (n m : ℕ) → Counted old new at n m → AreAfterRuns old new (record { old = at.old + n; new = at.new + m })
+run_after old new at n m counted = rw (counted.count_old, counted.count_new) (after_run old at.old, after_run new at.new)
 
 pub counted_between : (old new : List ℕ) (at : Places) (n m : ℕ) → IsUtf8 old → IsUtf8 new → without_white (drop at.old old) ≡ without_white (drop at.new new)
     → Counted old new at n m → take n (drop at.old old) ≢ take m (drop at.new new)
@@ -317,7 +317,7 @@ word_passed old new edits at n h some in_old in_new word_old word_new =
     let same = same_word is_ascii_whitespace n (drop at.old old) (drop at.new new) h.alike word_old word_new in
     pass old new edits (at.old + 1) (at.old + n) at n n h in_old in_new (omega (arith, some)) same.0 same.1
 
--- no white space stands before its end
+-- no white space is before its end
 pub word_before : (text : List ℕ) (at n : ℕ) → 0 < n → n ≤ prefix_len is_black (drop at text) → is_ascii_whitespace (get_or text (at + n - 1) 0) ≡ false
 word_before text at n some word =
     let last : n - 1 < prefix_len is_black (drop at text) = omega (arith, some, word) in
@@ -329,16 +329,16 @@ word_before text at n some word =
     not_black true h = cc
     not_black false h = refl
 
--- where the texts go on, a word stands in both
-pub word_stands : (old new : List ℕ) (at : Places) → without_white (drop at.old old) ≡ without_white (drop at.new new) → AreBehindRuns old new at
+-- where the texts go on, a word is in both
+pub word_sound : (old new : List ℕ) (at : Places) → without_white (drop at.old old) ≡ without_white (drop at.new new) → AreAfterRuns old new at
     → at.old < length old → (0 < prefix_len is_black (drop at.old old)) × (0 < prefix_len is_black (drop at.new new))
-word_stands old new at same behind inside =
-    let alike = go_on_alike old new at.old at.new same behind.0 behind.1 in
+word_sound old new at same following inside =
+    let alike = go_on_alike old new at.old at.new same following.0 following.1 in
     let new_inside : at.new < length new = elim (cases_lt at.new (length new)) [
       | inl less ↦ less
       | inr past ↦ let none : drop at.old old ≡ [] = alike.other_ends (drop_all at.new new past) in absurd (omega (arith, length-drop at.old old, ap length none, inside))
     ] in
-    (word_at old at.old inside behind.0, word_at new at.new new_inside behind.1)
+    (word_at old at.old inside following.0, word_at new at.new new_inside following.1)
   where
     word_at : (text : List ℕ) (k : ℕ) → k < length text → is_ascii_whitespace (get_or text k 0) ≡ false → 0 < prefix_len is_black (drop k text)
     word_at text k inside black =

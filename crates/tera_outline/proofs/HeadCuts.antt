@@ -9,17 +9,17 @@ use Rattle.std.proofs.lemmas.Bool.Decides.{nat_tests}
 use Rattle.std.proofs.lemmas.Str.{IsUtf8-from_ascii}
 use Rattle.tera_lexer.specs.grammar.Marks.{AreTexts, default_marks}
 use Rattle.tera_lexer.specs.grammar.Tokens.{Items, Ended, Failed, Token}
-use Rattle.tera_lexer.specs.code.Steps.{EachStandsAt}
-use Rattle.tera_lexer.proofs.Standing.{each_stands}
+use Rattle.tera_lexer.specs.code.Steps.{EachIsAt}
+use Rattle.tera_lexer.proofs.TokensInLemmas.{each_sound}
 use Rattle.tera_layout.proofs.Defaults.{default_valid}
 use Rattle.tera_outline.specs.declared.symbols.SymbolKind.{SymbolKind}
 use Rattle.tera_outline.specs.Pieces.{Part, parts_in, ArePartsOf}
 use Rattle.tera_outline.specs.Dotted.{is_name, begins_link, links, dotted, start_of, end_of}
-use Rattle.tera_outline.specs.Symbols.{Outlined, Mark, Opens, Closes, begins_tag, ends_tag, opening, marks, is_open, behind_last, outline, outline_of}
+use Rattle.tera_outline.specs.Symbols.{Outlined, Mark, Opens, Closes, begins_tag, ends_tag, opening, marks, is_open, after_last, outline, outline_of}
 use Rattle.tera_outline.specs.Heads.{head_end}
 use Rattle.tera_outline.proofs.Nesting.{Ascend}
 use Rattle.tera_outline.proofs.Rising.{a_word, marks_ascend}
-use Rattle.tera_outline.proofs.Stopping.{parts_stand}
+use Rattle.tera_outline.proofs.Stopping.{parts_sound}
 
 -- the part between two bytes can be cut out
 pub record IsCut (text : List ℕ) (start end : ℕ) : Type 0 where
@@ -45,15 +45,15 @@ default_texts = record {
   comment_end = two_ascii 35 125 (omega arith) (omega arith);
 }
 
-items_cut : (text : List ℕ) (items : Items) → EachStandsAt text items → AreCut text (parts_in items)
+items_cut : (text : List ℕ) (items : Items) → EachIsAt text items → AreCut text (parts_in items)
 items_cut text Ended h = tt
 items_cut text (Failed t span) h = tt
-items_cut text (Token t span items) (stands, rest) =
-    (record { order = stands.0.0; begins = stands.0.1; ends = stands.0.2 }, items_cut text items rest)
+items_cut text (Token t span items) (sound, rest) =
+    (record { order = sound.0.0; begins = sound.0.1; ends = sound.0.2 }, items_cut text items rest)
 
 parts_cut : (text : List ℕ) (parts : List Part) → IsUtf8 text → ArePartsOf text parts → AreCut text parts
 parts_cut text parts utf8 (items, tokens, same) =
-    rw same (items_cut text items (each_stands default_marks default_valid default_texts text utf8 items tokens))
+    rw same (items_cut text items (each_sound default_marks default_valid default_texts text utf8 items tokens))
 
 -- ---- names
 
@@ -96,14 +96,14 @@ marks_cut : (text : List ℕ) (last : ℕ) (ps : List Part) → AreCut text ps �
 marks_cut text last [] h = tt
 marks_cut text last (p ∷ []) h = tt
 marks_cut text last (p ∷ w ∷ ps) (a, (b, rest)) =
-    let behind = marks_cut text last (w ∷ ps) (b, rest) in
+    let following = marks_cut text last (w ∷ ps) (b, rest) in
     elim (cases_Bool (begins_tag p.token)) [
       | inl tag ↦
           rw tag
-          (a_word (AreNamesCut text) last p.start w.token ps (marks last (w ∷ ps)) behind
-          (λ k. opened_cut text k p.start (dotted ps) (marks last (w ∷ ps)) (dotted_cut text ps rest) behind)
-          (λ k. behind))
-      | inr none ↦ rw none behind
+          (a_word (AreNamesCut text) last p.start w.token ps (marks last (w ∷ ps)) following
+          (λ k. opened_cut text k p.start (dotted ps) (marks last (w ∷ ps)) (dotted_cut text ps rest) following)
+          (λ k. following))
+      | inr none ↦ rw none following
     ]
 
 outline_cut : (text : List ℕ) (from last : ℕ) (around : List SymbolKind) (ms : List Mark) → Ascend from last ms → AreNamesCut text ms
@@ -112,7 +112,7 @@ outline_cut text from last around [] h cut = tt
 outline_cut text from last around (Opens k start name ∷ ms) (a, b, c, rest) (named, cut) =
     (record { order = omega arith; begins = named.begins; ends = named.ends }, outline_cut text (end_of name) last (k ∷ around) ms rest cut)
 outline_cut text from last around (Closes k start end ∷ ms) (a, b, rest) cut = elim (cases_Bool (is_open k around)) [
-  | inl is ↦ rw is (outline_cut text end last (behind_last k around) ms rest cut)
+  | inl is ↦ rw is (outline_cut text end last (after_last k around) ms rest cut)
   | inr none ↦ rw none (outline_cut text end last around ms rest cut)
 ]
 
@@ -132,12 +132,12 @@ end_of_head : (text : List ℕ) (from byte : ℕ) (ps : List Part) → IsCut tex
 end_of_head text from byte [] h all = h
 end_of_head text from byte (p ∷ ps) h (a, rest) = elim (cases_Bool (nat_lt p.start byte)) [
   | inl before ↦ rw before (end_of_head text from byte ps h rest)
-  | inr behind ↦ elim (cases_Bool (ends_tag p.token || begins_tag p.token)) [
-    | inl stops ↦ rw (behind, stops) h
+  | inr following ↦ elim (cases_Bool (ends_tag p.token || begins_tag p.token)) [
+    | inl stops ↦ rw (following, stops) h
     | inr goes_on ↦
-        rw (behind, goes_on)
+        rw (following, goes_on)
         (end_of_head text from p.end ps
-        (record { order = grind (arith, nat_tests, h.order, a.order, behind); begins = h.begins; ends = a.ends }) rest)
+        (record { order = grind (arith, nat_tests, h.order, a.order, following); begins = h.begins; ends = a.ends }) rest)
   ]
 ]
 
@@ -146,6 +146,6 @@ pub head_cut : (text : List ℕ) (parts : List Part) (test : Outlined → Bool) 
 head_cut text parts test s utf8 are found =
     let cut = parts_cut text parts utf8 are in
     let tags = marks (length text) parts in
-    let named = outline_cut text 0 (length text) [] tags (marks_ascend 0 (length text) parts (parts_stand text parts are)) (marks_cut text (length text) parts cut) in
+    let named = outline_cut text 0 (length text) [] tags (marks_ascend 0 (length text) parts (parts_sound text parts are)) (marks_cut text (length text) parts cut) in
     end_of_head text s.name_start s.name_end parts
     (find_among (λ (o : Outlined). IsCut text o.name_start o.name_end) test (outline_of (length text) parts) s named found) cut

@@ -27,9 +27,9 @@ link_taken xs n within is whole =
     let long : length (drop n xs) ≡ length xs - n = length-drop n xs in
     let front : map part_of (take (n + 2) xs) ≡ map part_of (take n xs) ++ map part_of (take 2 (drop n xs)) =
     ap (map part_of) (take-add n 2 xs) ∙ map-append part_of (take n xs) (take 2 (drop n xs)) in
-    let behind : drop 2 (drop n xs) ≡ drop (n + 2) xs = drop-drop 2 n xs in (
+    let following : drop 2 (drop n xs) ≡ drop (n + 2) xs = drop-drop 2 n xs in (
       omega (arith, some.0, long),
-      rw (front, append_assoc (map part_of (take n xs)) (map part_of (take 2 (drop n xs))) (links (map part_of (drop (n + 2) xs))), ← behind, ← some.1) whole,
+      rw (front, append_assoc (map part_of (take n xs)) (map part_of (take 2 (drop n xs))) (links (map part_of (drop (n + 2) xs))), ← following, ← some.1) whole,
     )
 
 -- none is left

@@ -1,4 +1,4 @@
--- How the symbols of an outline stand to one another, by where its tags stand.
+-- How the symbols of an outline are to one another, by where its tags are.
 use Rattle.std.proofs.Common.{◌≡◌, ◌<◌, ◌≤◌, ◌⊎◌, inl, inr, ◌++◌, ℕ, true, false, if◌then◌else◌, List, [], ◌∷◌, refl, ◌∙◌, arith}
 use Rattle.std.specs.Prelude.{All}
 use Rattle.std.proofs.lemmas.Bool.{cases_Bool}
@@ -7,10 +7,10 @@ use Rattle.std.proofs.lemmas.List.Kept.{AllPairs-cons}
 use Rattle.tera_outline.specs.declared.symbols.SymbolKind.{SymbolKind}
 use Rattle.tera_outline.specs.Pieces.{Part}
 use Rattle.tera_outline.specs.Dotted.{text_of, start_of, end_of}
-use Rattle.tera_outline.specs.Symbols.{Outlined, Mark, Opens, Closes, same_kind, is_open, behind_last, end_in, outline, AreNested, IsWithin}
+use Rattle.tera_outline.specs.Symbols.{Outlined, Mark, Opens, Closes, same_kind, is_open, after_last, end_in, outline, AreNested, IsWithin}
 use Rattle.tera_outline.proofs.Outlines.{not_here, open_through}
 
--- the tags stand between these bytes, one behind the other, and each name behind the start of its tag
+-- the tags are between these bytes, one after the other, and each name after the start of its tag
 abbrev pub Ascend : ℕ → ℕ → List Mark → Type 0
 Ascend from last [] = from ≤ last
 Ascend from last (Opens k start name ∷ ms) =
@@ -27,18 +27,18 @@ reaches from last [] h = h
 reaches from last (Opens k s n ∷ ms) (a, b, c, rest) = let r = reaches (end_of n) last ms rest in omega arith
 reaches from last (Closes k s e ∷ ms) (a, b, rest) = let r = reaches e last ms rest in omega arith
 
--- an end stands behind what is read, and within the text
-ends_behind : (from last : ℕ) (ins : List SymbolKind) (k : SymbolKind) (around : List SymbolKind) (ms : List Mark) → Ascend from last ms → from ≤ end_in last ins k around ms
-ends_behind from last ins k around [] h = h
-ends_behind from last ins k around (Opens j s n ∷ ms) (a, b, c, rest) =
-    let r = ends_behind (end_of n) last (j ∷ ins) k around ms rest in omega arith
-ends_behind from last ins k around (Closes j s e ∷ ms) (a, b, rest) = elim (cases_Bool (is_open j ins)) [
-  | inl in_ins ↦ let r = ends_behind e last (behind_last j ins) k around ms rest in rw in_ins (omega arith)
+-- an end comes after what is read, and within the text
+ends_after : (from last : ℕ) (ins : List SymbolKind) (k : SymbolKind) (around : List SymbolKind) (ms : List Mark) → Ascend from last ms → from ≤ end_in last ins k around ms
+ends_after from last ins k around [] h = h
+ends_after from last ins k around (Opens j s n ∷ ms) (a, b, c, rest) =
+    let r = ends_after (end_of n) last (j ∷ ins) k around ms rest in omega arith
+ends_after from last ins k around (Closes j s e ∷ ms) (a, b, rest) = elim (cases_Bool (is_open j ins)) [
+  | inl in_ins ↦ let r = ends_after e last (after_last j ins) k around ms rest in rw in_ins (omega arith)
   | inr not_in ↦ elim (cases_Bool (same_kind j k)) [
     | inl is_k ↦ rw (not_in, is_k) (omega arith)
     | inr not_k ↦ elim (cases_Bool (is_open j around)) [
       | inl out ↦ rw (not_in, not_k, out) a
-      | inr none ↦ let r = ends_behind e last ins k around ms rest in rw (not_in, not_k, none) (omega arith)
+      | inr none ↦ let r = ends_after e last ins k around ms rest in rw (not_in, not_k, none) (omega arith)
     ]
   ]
 ]
@@ -49,7 +49,7 @@ ends_within from last ins k around (Opens j s n ∷ ms) (a, b, c, rest) = ends_w
 ends_within from last ins k around (Closes j s e ∷ ms) (a, b, rest) =
     let r = reaches e last ms rest in
     elim (cases_Bool (is_open j ins)) [
-      | inl in_ins ↦ rw in_ins (ends_within e last (behind_last j ins) k around ms rest)
+      | inl in_ins ↦ rw in_ins (ends_within e last (after_last j ins) k around ms rest)
       | inr not_in ↦ elim (cases_Bool (same_kind j k)) [
         | inl is_k ↦ rw (not_in, is_k) r
         | inr not_k ↦ elim (cases_Bool (is_open j around)) [
@@ -59,19 +59,19 @@ ends_within from last ins k around (Closes j s e ∷ ms) (a, b, rest) =
       ]
     ]
 
-open_behind : (c j : SymbolKind) (a b : List SymbolKind) → is_open c a ≡ true
-    → (is_open c (a ++ j ∷ b) ≡ true) × (behind_last c (a ++ j ∷ b) ≡ behind_last c a ++ j ∷ b)
-open_behind c j [] b is = cc
-open_behind c j (x ∷ a) b is = elim (cases_Bool (same_kind c x)) [
+open_after : (c j : SymbolKind) (a b : List SymbolKind) → is_open c a ≡ true
+    → (is_open c (a ++ j ∷ b) ≡ true) × (after_last c (a ++ j ∷ b) ≡ after_last c a ++ j ∷ b)
+open_after c j [] b is = cc
+open_after c j (x ∷ a) b is = elim (cases_Bool (same_kind c x)) [
   | inl same ↦ (rw same refl, rw same refl)
   | inr other ↦
       let more : is_open c a ≡ true = rw other at is in
-      let r = open_behind c j a b more in
+      let r = open_after c j a b more in
       (rw other r.0, rw other r.1)
 ]
 
 not_through : (c j : SymbolKind) (a b : List SymbolKind) → is_open c a ≡ false → same_kind c j ≡ false
-    → (is_open c (a ++ j ∷ b) ≡ is_open c b) × (behind_last c (a ++ j ∷ b) ≡ behind_last c b)
+    → (is_open c (a ++ j ∷ b) ≡ is_open c b) × (after_last c (a ++ j ∷ b) ≡ after_last c b)
 not_through c j [] b none other = (rw other refl, rw other refl)
 not_through c j (x ∷ a) b none other =
     let others = not_here c x a none in
@@ -85,19 +85,19 @@ ends_sooner from last a j b k around [] h = omega arith
 ends_sooner from last a j b k around (Opens x s n ∷ ms) (p, q, r, rest) = ends_sooner (end_of n) last (x ∷ a) j b k around ms rest
 ends_sooner from last a j b k around (Closes c s e ∷ ms) (p, q, rest) = elim (cases_Bool (is_open c a)) [
   | inl in_a ↦
-      let through = open_behind c j a b in_a in
-      rw (in_a, through.0, through.1) (ends_sooner e last (behind_last c a) j b k around ms rest)
+      let through = open_after c j a b in_a in
+      rw (in_a, through.0, through.1) (ends_sooner e last (after_last c a) j b k around ms rest)
   | inr not_a ↦ elim (cases_Bool (same_kind c j)) [
     | inl is_j ↦
         let through = open_through c j a b not_a is_j in
-        rw (not_a, is_j, through.0, through.1) (ends_behind e last b k around ms rest)
+        rw (not_a, is_j, through.0, through.1) (ends_after e last b k around ms rest)
     | inr not_j ↦
         let past = not_through c j a b not_a not_j in
         elim (cases_Bool (is_open c b)) [
           | inl in_b ↦
-              let outer = (open_behind c k b around in_b).0 in
+              let outer = (open_after c k b around in_b).0 in
               let inner : is_open c (a ++ j ∷ b) ≡ true = past.0 ∙ in_b in
-              let r = ends_behind e last (behind_last c b) k around ms rest in
+              let r = ends_after e last (after_last c b) k around ms rest in
               rw (not_a, not_j, outer, inner, past.1) (omega arith)
           | inr not_b ↦
               let inner : is_open c (a ++ j ∷ b) ≡ false = past.0 ∙ not_b in
@@ -123,7 +123,7 @@ ends_sooner from last a j b k around (Closes c s e ∷ ms) (p, q, rest) = elim (
 abbrev Later : ℕ → Outlined → Type 0
 Later low s = low ≤ s.start
 
--- each stands behind this byte, or ends no later
+-- each comes after this byte, or ends no later
 abbrev Clear : ℕ → Outlined → Type 0
 Clear e s = (e ≤ s.start) ⊎ (s.end ≤ e)
 
@@ -142,7 +142,7 @@ start_later low from last os [] le h = All-nil (Later low)
 start_later low from last os (Opens k s n ∷ ms) le (a, b, c, rest) =
     All-cons (Later low) (symbol last os k s n ms) (outline last (k ∷ os) ms) (omega arith) (start_later low (end_of n) last (k ∷ os) ms (omega arith) rest)
 start_later low from last os (Closes k s e ∷ ms) le (a, b, rest) =
-    start_later low e last (if is_open k os then behind_last k os else os) ms (omega arith) rest
+    start_later low e last (if is_open k os then after_last k os else os) ms (omega arith) rest
 
 start_clear : (low from last : ℕ) (os : List SymbolKind) (ms : List Mark) → low ≤ from → Ascend from last ms → All (Clear low) (outline last os ms)
 start_clear low from last os ms le h =
@@ -158,9 +158,9 @@ stand_clear end from last ins k around (Opens j s n ∷ ms) is (a, b, c, rest) =
     (inr (omega (arith, is, sooner_end))) (stand_clear end (end_of n) last (j ∷ ins) k around ms is rest)
 stand_clear end from last ins k around (Closes c s e ∷ ms) is (a, b, rest) = elim (cases_Bool (is_open c ins)) [
   | inl in_ins ↦
-      let through = open_behind c k ins around in_ins in
-      let left : end ≡ end_in last (behind_last c ins) k around ms = rw in_ins at is in
-      rw (through.0, through.1) (stand_clear end e last (behind_last c ins) k around ms left rest)
+      let through = open_after c k ins around in_ins in
+      let left : end ≡ end_in last (after_last c ins) k around ms = rw in_ins at is in
+      rw (through.0, through.1) (stand_clear end e last (after_last c ins) k around ms left rest)
   | inr not_in ↦ elim (cases_Bool (same_kind c k)) [
     | inl is_k ↦
         let through = open_through c k ins around not_in is_k in
@@ -172,7 +172,7 @@ stand_clear end from last ins k around (Closes c s e ∷ ms) is (a, b, rest) = e
           | inl out ↦
               let here : end ≡ s = rw (not_in, not_k, out) at is in
               let open_out : is_open c (ins ++ k ∷ around) ≡ true = past.0 ∙ out in
-              rw (open_out, past.1) (start_clear end e last (behind_last c around) ms (omega arith) rest)
+              rw (open_out, past.1) (start_clear end e last (after_last c around) ms (omega arith) rest)
           | inr none ↦
               let left : end ≡ end_in last ins k around ms = rw (not_in, not_k, none) at is in
               let shut : is_open c (ins ++ k ∷ around) ≡ false = past.0 ∙ none in
@@ -193,7 +193,7 @@ are_nested from last os (Opens k s n ∷ ms) (a, b, c, rest) =
     let clear = stand_clear end (end_of n) last [] k os ms refl rest in
     AllPairs-cons Nested (symbol last os k s n ms) others (λ i d within. (let l = later i d within in omega arith, clear i d within))
     (are_nested (end_of n) last (k ∷ os) ms rest)
-are_nested from last os (Closes k s e ∷ ms) (a, b, rest) = are_nested e last (if is_open k os then behind_last k os else os) ms rest
+are_nested from last os (Closes k s e ∷ ms) (a, b, rest) = are_nested e last (if is_open k os then after_last k os else os) ms rest
 
 pub are_within : (from last : ℕ) (os : List SymbolKind) (ms : List Mark) → Ascend from last ms → All (IsWithin last) (outline last os ms)
 are_within from last os [] h = All-nil (IsWithin last)
@@ -202,7 +202,7 @@ are_within from last os (Opens k s n ∷ ms) (a, b, c, rest) =
     (record {
       begins = b;
       named = c;
-      ends = ends_behind (end_of n) last [] k os ms rest;
+      ends = ends_after (end_of n) last [] k os ms rest;
       text = ends_within (end_of n) last [] k os ms rest;
     }) (are_within (end_of n) last (k ∷ os) ms rest)
-are_within from last os (Closes k s e ∷ ms) (a, b, rest) = are_within e last (if is_open k os then behind_last k os else os) ms rest
+are_within from last os (Closes k s e ∷ ms) (a, b, rest) = are_within e last (if is_open k os then after_last k os else os) ms rest

@@ -8,7 +8,7 @@ use Rattle.tera_outline.specs.declared.symbols.SymbolKind.{SymbolKind}
 use Rattle.tera_outline.specs.declared.symbols.Open.{Open}
 use Rattle.tera_outline.specs.Pieces.{Part}
 use Rattle.tera_outline.specs.Dotted.{text_of, start_of, end_of}
-use Rattle.tera_outline.specs.Symbols.{Outlined, Mark, Opens, Closes, same_kind, is_open, behind_last, end_in, outline}
+use Rattle.tera_outline.specs.Symbols.{Outlined, Mark, Opens, Closes, same_kind, is_open, after_last, end_in, outline}
 use Rattle.tera_outline.specs.Opened.{State, kinds_of, ended, unwound_in, took, all_ended_in}
 
 -- the symbols with the ends of those that are open around these, before these tags
@@ -80,7 +80,7 @@ settled_passes last c start end ins ss (o ∷ os) ms none around =
     (no_more c o.kind ins none others.0) others.1)
 
 pub open_through : (c j : SymbolKind) (ins more : List SymbolKind) → is_open c ins ≡ false → same_kind c j ≡ true
-    → (is_open c (ins ++ j ∷ more) ≡ true) × (behind_last c (ins ++ j ∷ more) ≡ more)
+    → (is_open c (ins ++ j ∷ more) ≡ true) × (after_last c (ins ++ j ∷ more) ≡ more)
 open_through c j [] more none same = (rw same refl, rw same refl)
 open_through c j (i ∷ ins) more none same =
     let others = not_here c i ins none in
@@ -115,14 +115,14 @@ settled_closes last c start end ins ss (o ∷ os) ms none is = elim (cases_Bool 
       rw (e, other) (settled_closes last c start end (ins ++ o.kind ∷ []) (ended o.number start ss) os ms (no_more c o.kind ins none other) around)
 ]
 
-kinds_behind : (c : SymbolKind) (start end : ℕ) (ss : List Outlined) (os : List Open) → is_open c (kinds_of os) ≡ true
-    → kinds_of (unwound_in c start end ss os).opened ≡ behind_last c (kinds_of os)
-kinds_behind c start end ss [] is = cc
-kinds_behind c start end ss (o ∷ os) is = elim (cases_Bool (same_kind c o.kind)) [
+kinds_after : (c : SymbolKind) (start end : ℕ) (ss : List Outlined) (os : List Open) → is_open c (kinds_of os) ≡ true
+    → kinds_of (unwound_in c start end ss os).opened ≡ after_last c (kinds_of os)
+kinds_after c start end ss [] is = cc
+kinds_after c start end ss (o ∷ os) is = elim (cases_Bool (same_kind c o.kind)) [
   | inl same ↦ rw same refl
   | inr other ↦
       let around : is_open c (kinds_of os) ≡ true = rw other at is in
-      rw other (kinds_behind c start end (ended o.number start ss) os around)
+      rw other (kinds_after c start end (ended o.number start ss) os around)
 ]
 
 -- a tag that is taken leaves what comes of all
@@ -139,7 +139,7 @@ took_settles last (Opens k start name) s ms fits =
     ∙ (append_assoc (settled last (k ∷ []) s.symbols s.opened ms) (new_ended ∷ []) rest
     ∙ ap (λ (ss : List Outlined). ss ++ new_ended ∷ rest) (settled_opens last k start name [] s.symbols s.opened ms))
 took_settles last (Closes k start end) s ms fits = elim (cases_Bool (is_open k (kinds_of s.opened))) [
-  | inl is ↦ rw (is, settled_closes last k start end [] s.symbols s.opened ms refl is, kinds_behind k start end s.symbols s.opened is) refl
+  | inl is ↦ rw (is, settled_closes last k start end [] s.symbols s.opened ms refl is, kinds_after k start end s.symbols s.opened is) refl
   | inr none ↦ rw (none, settled_passes last k start end [] s.symbols s.opened ms refl none) refl
 ]
 

@@ -1,4 +1,4 @@
--- Two lists that are the same but for what passes a test.
+-- Two lists that are the same except what passes a test.
 use Rattle.std.proofs.Common.{◌≡◌, inl, inr, ◌+◌, ◌<◌, ◌≤◌, zero, suc, ℕ, Bool, false, not, List, [], ◌∷◌, take, drop, get_or, refl, arith}
 use Rattle.std.specs.List.{filter, prefix_len}
 use Rattle.std.proofs.lemmas.Bool.{cases_Bool}
@@ -7,14 +7,14 @@ abbrev pub others : (ℕ → Bool) → List ℕ → List ℕ
 others p xs = filter (λ x. not (p x)) xs
 
 -- the front that passes adds nothing
-pub others_behind : (p : ℕ → Bool) (xs : List ℕ) → others p (drop (prefix_len p xs) xs) ≡ others p xs
-others_behind p [] = refl
-others_behind p (x ∷ xs) = elim (cases_Bool (p x)) [
-  | inl yes_x ↦ let more : 1 + prefix_len p xs ≡ suc (prefix_len p xs) = omega arith in rw (yes_x, more) (others_behind p xs)
+pub others_after : (p : ℕ → Bool) (xs : List ℕ) → others p (drop (prefix_len p xs) xs) ≡ others p xs
+others_after p [] = refl
+others_after p (x ∷ xs) = elim (cases_Bool (p x)) [
+  | inl yes_x ↦ let more : 1 + prefix_len p xs ≡ suc (prefix_len p xs) = omega arith in rw (yes_x, more) (others_after p xs)
   | inr no_x ↦ rw (no_x, no_x) refl
 ]
 
--- behind it stands no more that passes
+-- after it is no more that passes
 pub stops : (p : ℕ → Bool) (xs : List ℕ) → p 0 ≡ false → p (get_or xs (prefix_len p xs) 0) ≡ false
 stops p [] none = none
 stops p (x ∷ xs) none = elim (cases_Bool (p x)) [
@@ -37,7 +37,7 @@ begin_alike p (x ∷ xs) (y ∷ ys) same a b =
     let head : x ≡ y = cc in
     record { one_ends = λ e. cc; other_ends = λ e. cc; first = head }
 
--- words that begin both of them are the same as far as both go, and what is left is still the same but for what passes
+-- words that begin both of them are the same as far as both go, and what is left is still the same except what passes
 pub same_word : (p : ℕ → Bool) (n : ℕ) (xs ys : List ℕ) → others p xs ≡ others p ys
     → n ≤ prefix_len (λ x. not (p x)) xs → n ≤ prefix_len (λ x. not (p x)) ys
     → (take n xs ≡ take n ys) × (others p (drop n xs) ≡ others p (drop n ys))

@@ -16,20 +16,20 @@ use Rattle.tera_outline.specs.declared.completions.Role.{Role}
 use Rattle.tera_outline.specs.declared.completions.Role.TheVariants.{Word, Equals, Opening, Closing, Ending, Outer, Value}
 use Rattle.tera_outline.specs.Pieces.{Part}
 use Rattle.tera_outline.specs.Dotted.{is_operator, dotted, end_of}
-use Rattle.tera_outline.specs.Names.{is_among, is_operand, is_string, behind_token}
+use Rattle.tera_outline.specs.Names.{is_among, is_operand, is_string, after_token}
 
 -- the start of the first of these parts, or the end of the text
 abbrev pub gap_end : ℕ → List Part → ℕ
 gap_end last [] = last
 gap_end last (p ∷ ps) = p.start
 
--- the end of a name before these parts, with the dot behind it if one stands there
+-- the end of a name before these parts, with the dot after it if one is there
 abbrev pub dot_end : ℕ → List Part → ℕ
 dot_end end [] = end
 dot_end end (p ∷ ps) = if is_operator (codes ".") p.token then p.end else end
 
--- the end of a name of these parts before others, with the dot behind it if one stands there; or that of the gap,
--- where it has none
+-- the end of a name of these parts before others, with the dot after it if one is there; or that of the gap, where it
+-- has none
 abbrev pub place_end : ℕ → List Part → List Part → ℕ
 place_end last [] ps = gap_end last ps
 place_end last name ps = dot_end (end_of name) (drop (length name) ps)
@@ -54,27 +54,27 @@ abbrev pub first_slot : Before → List ℕ → List Part → Option Slot
 first_slot Tag word ps = word_slot word ps
 first_slot before word ps = None
 
--- the place behind a token that ends at a byte: that of a statement's word behind the start of a tag; that of a
--- component's name behind a `</`, and behind a `<` where no operand may end before it; and that of a template's name
--- behind the first word of a tag
-abbrev pub slot_behind : ℕ → Before → Tok → ℕ → List Part → Option Slot
-slot_behind last before (Start Block dash) end ps = Some (name_slot Statement last end ps)
-slot_behind last before (Symbol op) end ps =
+-- the place after a token that ends at a byte: that of a statement's word after the start of a tag; that of a
+-- component's name after a `</`, and after a `<` where no operand may end before it; and that of a template's name
+-- after the first word of a tag
+abbrev pub slot_after : ℕ → Before → Tok → ℕ → List Part → Option Slot
+slot_after last before (Start Block dash) end ps = Some (name_slot Statement last end ps)
+slot_after last before (Symbol op) end ps =
     if bytes_eq op (codes "<") then (if is_operand before then None else Some (name_slot Component last end ps))
     else (if bytes_eq op (codes "</") then Some (name_slot Component last end ps) else None)
-slot_behind last before (Ident word) end ps = first_slot before word ps
-slot_behind last before t end ps = None
+slot_after last before (Ident word) end ps = first_slot before word ps
+slot_after last before t end ps = None
 
--- those of these parts, in order, behind what stands before them, in a text that ends at `last`
+-- those of these parts, in order, after what is before them, in a text that ends at `last`
 abbrev pub slots_in : ℕ → Before → List Part → List Slot
 slots_in last before [] = []
 slots_in last before (p ∷ ps) =
-    option_to_list (slot_behind last before p.token p.end ps) ++ slots_in last (behind_token before p.token) ps
+    option_to_list (slot_after last before p.token p.end ps) ++ slots_in last (after_token before p.token) ps
 
 abbrev pub slots_of : ℕ → List Part → List Slot
 slots_of last ps = slots_in last Other ps
 
--- the cursor stands there
+-- the cursor is there
 abbrev pub holds : ℕ → Slot → Bool
 holds byte s = not (nat_lt byte s.from) && not (nat_lt s.end byte)
 
@@ -96,7 +96,7 @@ role_of (Integer n) = Value
 role_of (Truth b) = Value
 role_of t = Outer
 
--- right behind the component's name, which ends with this byte
+-- right after the component's name, which ends with this byte
 abbrev pub first_inside : ℕ → Inside
 first_inside from = record { from = from; valued = false; depth = 0 }
 
@@ -115,25 +115,25 @@ abbrev pub argument_before : ℕ → Inside → Role → ℕ → ℕ → Option 
 argument_before call i role start end =
     if i.valued || not (nat_eq i.depth 0) then None else argument_to call i.from start (role_end role start end)
 
--- behind a token the call goes on, or ends
+-- after a token the call goes on, or ends
 abbrev pub goes_on : Inside → ℕ → Option Inside
 goes_on i end = Some (record { from = end; valued = false; depth = i.depth })
 
-abbrev pub inside_behind : Inside → Role → ℕ → Option Inside
-inside_behind i Outer end = None
-inside_behind i Ending end = if nat_eq i.depth 0 then None else goes_on i end
-inside_behind i Closing end =
+abbrev pub inside_after : Inside → Role → ℕ → Option Inside
+inside_after i Outer end = None
+inside_after i Ending end = if nat_eq i.depth 0 then None else goes_on i end
+inside_after i Closing end =
     if nat_eq i.depth 0 then None else Some (record { from = end; valued = false; depth = i.depth - 1 })
-inside_behind i Opening end = Some (record { from = end; valued = false; depth = i.depth + 1 })
-inside_behind i Equals end = Some (record { from = end; valued = true; depth = i.depth })
-inside_behind i role end = goes_on i end
+inside_after i Opening end = Some (record { from = end; valued = false; depth = i.depth + 1 })
+inside_after i Equals end = Some (record { from = end; valued = true; depth = i.depth })
+inside_after i role end = goes_on i end
 
 -- the places for arguments from there on
 abbrev pub inside : ℕ → ℕ → Inside → List Part → List Slot
 inside last call i [] = option_to_list (argument_before call i Outer last last)
 inside last call i (p ∷ ps) =
     option_to_list (argument_before call i (role_of p.token) p.start p.end)
-    ++ (elim (inside_behind i (role_of p.token) p.end) [ Some next ↦ inside last call next ps | None ↦ [] ])
+    ++ (elim (inside_after i (role_of p.token) p.end) [ Some next ↦ inside last call next ps | None ↦ [] ])
 
 -- those of a call whose component has a name of these parts, the first of others
 abbrev pub named : ℕ → List Part → List Part → List Slot
@@ -155,7 +155,7 @@ abbrev pub argument_in : ℕ → ℕ → Before → List Part → Option Slot
 argument_in last byte before [] = None
 argument_in last byte before (p ∷ ps) =
     either (if begins_call before p.token then find (holds byte) (called last ps) else None)
-    (argument_in last byte (behind_token before p.token) ps)
+    (argument_in last byte (after_token before p.token) ps)
 
 abbrev pub argument_of : ℕ → ℕ → List Part → Option Slot
 argument_of last byte ps = argument_in last byte Other ps
@@ -164,6 +164,6 @@ argument_of last byte ps = argument_in last byte Other ps
 abbrev pub slot_of : ℕ → ℕ → List Part → Option Slot
 slot_of last byte ps = either (find (holds byte) (slots_of last ps)) (argument_of last byte ps)
 
--- what is typed begins where the place says, or at the cursor where that stands before it
+-- what is typed begins where the place says, or at the cursor where that is before it
 abbrev pub completion_at : ℕ → Slot → Completion
 completion_at byte s = record { kind = s.kind; start = min byte s.start }

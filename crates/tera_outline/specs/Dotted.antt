@@ -37,7 +37,7 @@ meant (Str text) = text
 meant (Escaped text) = text
 meant t = []
 
--- the text of a name of these parts; the byte with which it begins; and the one behind it
+-- the text of a name of these parts; the byte with which it begins; and the one after it
 abbrev pub text_of : List Part → List ℕ
 text_of ps = flat_map (λ (p : Part). meant p.token) ps
 

@@ -1,4 +1,4 @@
--- The heads of definitions: a component's name and what its tag says behind it.
+-- The heads of definitions: a component's name and what its tag says after it.
 use Rattle.std.specs.Prelude.{ℕ, Bool, ◌&&◌, ◌||◌, if◌then◌else◌, Option, List, [], ◌∷◌, length, nat_lt, slice_range}
 use Rattle.std.specs.List.{find}
 use Rattle.std.specs.Option.{option_map}
@@ -11,7 +11,7 @@ use Rattle.tera_outline.specs.Symbols.{Outlined, begins_tag, ends_tag, same_kind
 abbrev pub defines : List ℕ → Outlined → Bool
 defines name s = same_kind s.kind kinds.Component && bytes_eq s.name name
 
--- the end of the last of these parts that stands behind the byte in the same tag; or the byte, where none does
+-- the end of the last of these parts that comes after the byte in the same tag; or the byte, where none does
 abbrev pub head_end : ℕ → List Part → ℕ
 head_end byte [] = byte
 head_end byte (p ∷ ps) =

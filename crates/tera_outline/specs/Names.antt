@@ -14,7 +14,7 @@ use Rattle.tera_outline.specs.declared.names.Found.{Found}
 use Rattle.tera_outline.specs.Pieces.{Part, part_of}
 use Rattle.tera_outline.specs.Dotted.{dotted, text_of, start_of, end_of}
 
--- a name of a component or a template, and the bytes between which it stands
+-- a name of a component or a template, and the bytes between which it is
 pub record Named : Type 0 where
   pub kind : NameKind
   pub text : List ℕ
@@ -44,32 +44,32 @@ no_operands =
     codes "and" ∷ codes "or" ∷ codes "not" ∷ codes "in" ∷ codes "is" ∷ codes "if" ∷ codes "else" ∷ codes "elif"
     ∷ codes "filter" ∷ []
 
-abbrev pub behind_word : List ℕ → Before
-behind_word word = if is_among no_operands word then Other else Operand
+abbrev pub after_word : List ℕ → Before
+after_word word = if is_among no_operands word then Other else Operand
 
--- behind a slash a `>` ends the call of a component
-abbrev pub behind_greater : Before → Before
-behind_greater Slash = Operand
-behind_greater before = Other
+-- after a slash a `>` ends the call of a component
+abbrev pub after_greater : Before → Before
+after_greater Slash = Operand
+after_greater before = Other
 
-abbrev pub behind_operator : Before → List ℕ → Before
-behind_operator before op =
+abbrev pub after_operator : Before → List ℕ → Before
+after_operator before op =
     if is_among (codes ")" ∷ codes "]" ∷ codes "}" ∷ []) op then Operand
     else (if bytes_eq op (codes "/") then Slash
-    else (if bytes_eq op (codes ">") then behind_greater before
+    else (if bytes_eq op (codes ">") then after_greater before
     else Other))
 
--- what a token is to the one behind it: the start of a statement's tag, what may be the end of an operand, a slash, or
+-- what a token is to the one after it: the start of a statement's tag, what may be the end of an operand, a slash, or
 -- something else
-abbrev pub behind_token : Before → Tok → Before
-behind_token before (Start Block dash) = Tag
-behind_token before (Ident word) = behind_word word
-behind_token before (Str text) = Operand
-behind_token before (Escaped text) = Operand
-behind_token before (Integer n) = Operand
-behind_token before (Truth b) = Operand
-behind_token before (Symbol op) = behind_operator before op
-behind_token before t = Other
+abbrev pub after_token : Before → Tok → Before
+after_token before (Start Block dash) = Tag
+after_token before (Ident word) = after_word word
+after_token before (Str text) = Operand
+after_token before (Escaped text) = Operand
+after_token before (Integer n) = Operand
+after_token before (Truth b) = Operand
+after_token before (Symbol op) = after_operator before op
+after_token before t = Other
 
 abbrev pub is_string : Tok → Bool
 is_string (Str text) = true
@@ -85,7 +85,7 @@ abbrev pub is_operand : Before → Bool
 is_operand Operand = true
 is_operand before = false
 
--- the name that the first word of a tag makes of what stands behind it
+-- the name that the first word of a tag makes of what comes after it
 abbrev pub word_name : List ℕ → List Part → Option Named
 word_name word ps =
     if is_among (codes "component" ∷ codes "endcomponent" ∷ []) word then named Defined (dotted ps)
@@ -97,23 +97,23 @@ abbrev pub first_name : Before → List ℕ → List Part → Option Named
 first_name Tag word ps = word_name word ps
 first_name before word ps = None
 
--- the name that a token makes of what stands behind it: a `<` where no operand may end before it, a `</`, and the
--- first word of a tag
-abbrev pub name_behind : Before → Tok → List Part → Option Named
-name_behind before (Symbol op) ps =
+-- the name that a token makes of what comes after it: a `<` where no operand may end before it, a `</`, and the first
+-- word of a tag
+abbrev pub name_after : Before → Tok → List Part → Option Named
+name_after before (Symbol op) ps =
     if bytes_eq op (codes "<") then (if is_operand before then None else named Called (dotted ps))
     else (if bytes_eq op (codes "</") then named Closed (dotted ps) else None)
-name_behind before (Ident word) ps = first_name before word ps
-name_behind before t ps = None
+name_after before (Ident word) ps = first_name before word ps
+name_after before t ps = None
 
--- those of these parts, in order, behind what stands before them
+-- those of these parts, in order, after what is before them
 abbrev pub names_in : Before → List Part → List Named
 names_in before [] = []
-names_in before (p ∷ ps) = option_to_list (name_behind before p.token ps) ++ names_in (behind_token before p.token) ps
+names_in before (p ∷ ps) = option_to_list (name_after before p.token ps) ++ names_in (after_token before p.token) ps
 
 abbrev pub names_of : List Part → List Named
 names_of ps = names_in Other ps
 
--- the byte stands in the name, or right behind it
+-- the byte is in the name, or right after it
 abbrev pub holds : ℕ → Named → Bool
 holds byte n = not (nat_lt byte n.start) && not (nat_lt n.end byte)

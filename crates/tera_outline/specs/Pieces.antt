@@ -5,7 +5,7 @@ use Rattle.tera_lexer.specs.grammar.Tokens.{Tok, Items, Ended, Failed, Token, Ar
 use Rattle.tera_lexer.specs.code.Seen.{seen}
 use Rattle.tera_outline.specs.declared.pieces.Piece.{Piece}
 
--- a token, and the bytes between which it stands
+-- a token, and the bytes between which it is
 pub record Part : Type 0 where
   pub token : Tok
   pub start : ℕ
@@ -24,7 +24,7 @@ parts_in (Token t span items) = record { token = t; start = span.range.start; en
 abbrev pub ArePartsOf : List ℕ → List Part → Type 0
 ArePartsOf text parts = (items : Items) × AreTokensOf default_marks text items × (parts ≡ parts_in items)
 
--- they stand between these bytes, one behind the other, and none is empty
-abbrev pub StandBetween : ℕ → ℕ → List Part → Type 0
-StandBetween from to [] = from ≤ to
-StandBetween from to (p ∷ ps) = (from ≤ p.start) × (p.start < p.end) × StandBetween p.end to ps
+-- they are between these bytes, one after the other, and none is empty
+abbrev pub AreBetween : ℕ → ℕ → List Part → Type 0
+AreBetween from to [] = from ≤ to
+AreBetween from to (p ∷ ps) = (from ≤ p.start) × (p.start < p.end) × AreBetween p.end to ps

@@ -10,7 +10,7 @@ abbrev pub is_black : ℕ → Bool
 is_black b = not (is_ascii_whitespace b)
 
 -- the edits make the front of the one text that of the other, and end before the byte `limit` of the one; what is left
--- of both is the same but for white space
+-- of both is the same except white space
 pub record AreEditsTo (old new : List ℕ) (edits : List Edit) (limit : ℕ) (at : Places) : Type 0 where
   pub fits : (at.old ≤ length old) × (at.new ≤ length new)
   pub alike : without_white (drop at.old old) ≡ without_white (drop at.new new)
@@ -19,7 +19,7 @@ pub record AreEditsTo (old new : List ℕ) (edits : List Edit) (limit : ℕ) (at
   pub replace : All (ReplacesWhite old) edits
   pub ended : All (λ (e : Edit). e.end < limit) edits
 
--- no white space stands at either place
-abbrev pub AreBehindRuns : List ℕ → List ℕ → Places → Type 0
-AreBehindRuns old new at =
+-- no white space is at either place
+abbrev pub AreAfterRuns : List ℕ → List ℕ → Places → Type 0
+AreAfterRuns old new at =
     (is_ascii_whitespace (slice_index old at.old) ≡ false) × (is_ascii_whitespace (slice_index new at.new) ≡ false)

@@ -11,7 +11,7 @@ use Rattle.tera_outline.specs.declared.semantic_tokens.SemanticKind.{SemanticKin
 use Rattle.tera_outline.specs.declared.semantic_tokens.SemanticKind.TheVariants as kinds
 use Rattle.tera_outline.specs.declared.semantic_tokens.SemanticToken.{SemanticToken}
 use Rattle.tera_outline.specs.Dotted.{is_operator}
-use Rattle.tera_outline.specs.Names.{is_among, is_operand, behind_token}
+use Rattle.tera_outline.specs.Names.{is_among, is_operand, after_token}
 use Rattle.tera_outline.specs.Pieces.{Part}
 
 -- the words of expressions
@@ -35,7 +35,7 @@ abbrev pub typed : Lead → SemanticKind
 typed Comma = kinds.Parameter
 typed lead = kinds.Variable
 
--- a function stands before a parenthesis, an argument before an equals sign, unless that is of the statement, and a
+-- a function is before a parenthesis, an argument before an equals sign, unless that is of the statement, and a
 -- parameter before a colon; any other name is a variable
 abbrev pub kind_before : Lead → Tok → SemanticKind
 kind_before lead t =
@@ -51,7 +51,7 @@ name_kind lead (p ∷ ps) = kind_before lead p.token
 abbrev pub word_or_name : Lead → List ℕ → List Part → SemanticKind
 word_or_name lead word ps = if is_keyword word then kinds.Keyword else name_kind lead ps
 
--- what a name is, by what stands before and behind it
+-- what a name is, by what is before and after it
 abbrev pub word_kind : Lead → List ℕ → List Part → SemanticKind
 word_kind Tag word ps = kinds.Keyword
 word_kind Block word ps = kinds.Namespace
@@ -62,7 +62,7 @@ word_kind Colon word ps = kinds.Type
 word_kind Is word ps = if bytes_eq word (codes "not") then kinds.Keyword else kinds.Function
 word_kind lead word ps = word_or_name lead word ps
 
--- of what stands between tags a comment is something; no text and no raw piece begins as a comment does
+-- of what is between tags a comment is something; no text and no raw piece begins as a comment does
 abbrev pub content_kind : List ℕ → Option SemanticKind
 content_kind (b ∷ c ∷ bs) = if (b == 123) && (c == 35) then Some kinds.Comment else None
 content_kind bs = None
@@ -78,7 +78,7 @@ kind_of lead (Symbol op) bytes ps = if is_coloured op then Some kinds.Operator e
 kind_of lead (Content text) bytes ps = content_kind bytes
 kind_of lead t bytes ps = None
 
--- what a name is led by behind the word of a statement; and behind another word
+-- what a name is led by after the word of a statement; and after another word
 abbrev pub statement_lead : List ℕ → Lead
 statement_lead word =
     if is_among (codes "component" ∷ codes "endcomponent" ∷ []) word then Component
@@ -116,15 +116,15 @@ operator_lead c op =
     else (if bytes_eq op (codes ":") then colon_lead c.lead
     else Other))))))
 
-abbrev pub lead_behind : Context → Tok → List Part → Lead
-lead_behind c (Start BlockTag dash) ps = Tag
-lead_behind c (Ident word) ps = word_lead c.lead word ps
-lead_behind c (Symbol op) ps = operator_lead c op
-lead_behind c t ps = Other
+abbrev pub lead_after : Context → Tok → List Part → Lead
+lead_after c (Start BlockTag dash) ps = Tag
+lead_after c (Ident word) ps = word_lead c.lead word ps
+lead_after c (Symbol op) ps = operator_lead c op
+lead_after c t ps = Other
 
--- what stands before the next token behind this one
-abbrev pub behind : Context → Tok → List Part → Context
-behind c t ps = record { before = behind_token c.before t; lead = lead_behind c t ps }
+-- what is before the next token after this one
+abbrev pub following : Context → Tok → List Part → Context
+following c t ps = record { before = after_token c.before t; lead = lead_after c t ps }
 
 -- a token between two bytes, if there is something between them
 abbrev pub token : SemanticKind → ℕ → ℕ → List SemanticToken
@@ -133,7 +133,7 @@ token kind start end = if nat_lt start end then record { kind = kind; start = st
 abbrev pub ends_line : ℕ → Bool
 ends_line b = (b == 10) || (b == 13)
 
--- a token that begins at a byte, as far as it was read, and has these bytes still: what of it stands on each line
+-- a token that begins at a byte, as far as it was read, and has these bytes still: what of it is on each line
 abbrev pub on_lines : SemanticKind → ℕ → ℕ → List ℕ → List SemanticToken
 on_lines kind start at [] = token kind start at
 on_lines kind start at (b ∷ bs) =
@@ -147,24 +147,24 @@ abbrev pub kinded : ℕ → List ℕ → Option SemanticKind → List SemanticTo
 kinded start bytes None = []
 kinded start bytes (Some kind) = on_lines kind start start bytes
 
--- those of these parts, in order, behind what stands before them
+-- those of these parts, in order, after what is before them
 abbrev pub tokens_in : Context → List ℕ → List Part → List SemanticToken
 tokens_in c text [] = []
 tokens_in c text (p ∷ ps) =
-    kinded p.start (bytes_of text p) (kind_of c.lead p.token (bytes_of text p) ps) ++ tokens_in (behind c p.token ps) text ps
+    kinded p.start (bytes_of text p) (kind_of c.lead p.token (bytes_of text p) ps) ++ tokens_in (following c p.token ps) text ps
 
 abbrev pub semantic_tokens_of : List ℕ → List Part → List SemanticToken
 semantic_tokens_of text ps = tokens_in (record { before = befores.Other; lead = Other }) text ps
 
 -- ---- what is so of them
 
--- a token is not empty, stands within the text, and goes over the end of no line
+-- a token is not empty, is within the text, and goes over the end of no line
 pub record IsOnLine (text : List ℕ) (t : SemanticToken) : Type 0 where
   pub some : t.start < t.end
   pub within : t.end ≤ length text
   pub line : (k : ℕ) → t.start ≤ k → k < t.end → ends_line (slice_index text k) ≡ false
 
--- they stand from this byte on, one behind the other
-abbrev pub StandOnLines : ℕ → List ℕ → List SemanticToken → Type 0
-StandOnLines from text [] = Unit {0}
-StandOnLines from text (t ∷ ts) = (from ≤ t.start) × IsOnLine text t × StandOnLines t.end text ts
+-- they are from this byte on, one after the other
+abbrev pub AreOnLines : ℕ → List ℕ → List SemanticToken → Type 0
+AreOnLines from text [] = Unit {0}
+AreOnLines from text (t ∷ ts) = (from ≤ t.start) × IsOnLine text t × AreOnLines t.end text ts

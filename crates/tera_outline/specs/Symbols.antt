@@ -11,7 +11,7 @@ use Rattle.tera_outline.specs.declared.symbols.Symbol.{Symbol}
 use Rattle.tera_outline.specs.Pieces.{Part}
 use Rattle.tera_outline.specs.Dotted.{dotted, text_of, start_of, end_of}
 
--- a block or the definition of a component, with the bytes between which it and its name stand
+-- a block or the definition of a component, with the bytes between which it and its name are
 pub record Outlined : Type 0 where
   pub kind : SymbolKind
   pub name : List ℕ
@@ -43,8 +43,7 @@ abbrev pub ends_tag : Tok → Bool
 ends_tag (Finish Block dash) = true
 ends_tag t = false
 
--- the end of the tag in which these parts stand: behind its end marker, or where the next tag begins, or that of the
--- text
+-- the end of the tag in which these parts are: after its end marker, or where the next tag begins, or that of the text
 abbrev pub tag_end : ℕ → List Part → ℕ
 tag_end last [] = last
 tag_end last (p ∷ ps) = if ends_tag p.token then p.end else (if begins_tag p.token then p.start else tag_end last ps)
@@ -53,7 +52,7 @@ abbrev pub opening : SymbolKind → ℕ → List Part → Option Mark
 opening kind start [] = None
 opening kind start name = Some (Opens kind start name)
 
--- what a tag is that begins at a byte with this token and these parts behind it
+-- what a tag is that begins at a byte with this token and these parts after it
 abbrev pub word_mark : ℕ → ℕ → Tok → List Part → Option Mark
 word_mark last start (Ident word) ps =
     if bytes_eq word (codes "block") then opening kinds.Block start (dotted ps)
@@ -80,10 +79,10 @@ same_kind k l = false
 abbrev pub is_open : SymbolKind → List SymbolKind → Bool
 is_open kind open_kinds = list_any (same_kind kind) open_kinds
 
--- what is open behind the closing of the innermost of a kind, with what is open in it
-abbrev pub behind_last : SymbolKind → List SymbolKind → List SymbolKind
-behind_last kind [] = []
-behind_last kind (k ∷ ks) = if same_kind kind k then ks else behind_last kind ks
+-- what is open after the closing of the innermost of a kind, with what is open in it
+abbrev pub after_last : SymbolKind → List SymbolKind → List SymbolKind
+after_last kind [] = []
+after_last kind (k ∷ ks) = if same_kind kind k then ks else after_last kind ks
 
 -- the end of what was opened with a kind, in and around which those of other kinds are open, the innermost first,
 -- before these tags. A tag closes the innermost of its kind and, at its start, what is open in that; where none is open
@@ -92,7 +91,7 @@ abbrev pub end_in : ℕ → List SymbolKind → SymbolKind → List SymbolKind �
 end_in last inside kind around [] = last
 end_in last inside kind around (Opens k start name ∷ ms) = end_in last (k ∷ inside) kind around ms
 end_in last inside kind around (Closes k start end ∷ ms) =
-    if is_open k inside then end_in last (behind_last k inside) kind around ms
+    if is_open k inside then end_in last (after_last k inside) kind around ms
     else (if same_kind k kind then end
     else (if is_open k around then start
     else end_in last inside kind around ms))
@@ -110,16 +109,16 @@ outline last around (Opens kind start name ∷ ms) =
       name_end = end_of name;
     } ∷ outline last (kind ∷ around) ms
 outline last around (Closes kind start end ∷ ms) =
-    outline last (if is_open kind around then behind_last kind around else around) ms
+    outline last (if is_open kind around then after_last kind around else around) ms
 
 abbrev pub outline_of : ℕ → List Part → List Outlined
 outline_of last parts = outline last [] (marks last parts)
 
--- of two, the later begins behind the start of the earlier, and either at or behind its end, or ends no later
+-- of two, the later begins after the start of the earlier, and either at or after its end, or ends no later
 abbrev pub AreNested : List Outlined → Type 0
 AreNested symbols = AllPairs (λ (a b : Outlined). (a.start < b.start) × ((a.end ≤ b.start) ⊎ (b.end ≤ a.end))) symbols
 
--- the name stands within the range, and the range within the text
+-- the name is within the range, and the range within the text
 pub record IsWithin (last : ℕ) (s : Outlined) : Type 0 where
   pub begins : s.start < s.name_start
   pub named : s.name_start < s.name_end

@@ -7,7 +7,7 @@ ghost use Rattle.tera_outline.specs.Pieces.{part_of};
 ghost use Rattle.tera_outline.specs.Completions as specs;
 
 use crate::dotted::{dotted, end_of, is_dot};
-use crate::names::{Before, behind_token, is_string};
+use crate::names::{Before, after_token, is_string};
 use crate::pieces::Piece;
 use tera_lexer::Token;
 
@@ -20,7 +20,7 @@ pub enum CompletionKind {
     Component,
     /// The name of a template.
     Template,
-    /// The name of an argument in the call of the component whose name begins with this byte, and is told by `under`.
+    /// The name of an argument in the call of the component whose name begins with this byte, and is given by `under`.
     Argument(usize),
 }
 
@@ -32,11 +32,11 @@ pub struct Completion {
     pub start: usize,
 }
 
-/// What may be typed at a byte of a text that stands in these pieces and ends at `last`: behind the start of a tag the
-/// word of a statement, behind a `</` and a `<` that is no comparison the name of a component, in the string behind
-/// `extends` and `include` that of a template, and behind the name of a component that is called that of an argument,
+/// What may be typed at a byte of a text that is in these pieces and ends at `last`: after the start of a tag the word
+/// of a statement, after a `</` and a `<` that is not a comparison the name of a component, in the string after
+/// `extends` and `include` that of a template, and after the name of a component that is called that of an argument,
 /// where no value is to come.
-pub fn wanted(pieces: &[Piece<'_>], last: usize, byte: usize) -> Option<Completion>
+pub fn completion_for(pieces: &[Piece<'_>], last: usize, byte: usize) -> Option<Completion>
     ensures { result ≡ option_map (specs.completion_at byte)
         (specs.slot_of last byte (map part_of pieces.now)) }
 {
@@ -57,14 +57,14 @@ fn word_at(pieces: &[Piece<'_>], last: usize, byte: usize) -> Option<Slot>
 {
     let mut before = Before::Other;
     let mut rest = pieces;
-    'pieces: while let [piece, behind @ ..] = rest {
-        if let Some(slot) = slot_behind(last, before, piece, behind) {
+    'pieces: while let [piece, following @ ..] = rest {
+        if let Some(slot) = slot_after(last, before, piece, following) {
             if slot.holds(byte) {
                 return Some(slot);
             }
         }
-        before = behind_token(before, &piece.token);
-        rest = behind;
+        before = after_token(before, &piece.token);
+        rest = following;
     }
     None
 }
@@ -75,14 +75,14 @@ fn argument_at(pieces: &[Piece<'_>], last: usize, byte: usize) -> Option<Slot>
 {
     let mut before = Before::Other;
     let mut rest = pieces;
-    'pieces: while let [piece, behind @ ..] = rest {
+    'pieces: while let [piece, following @ ..] = rest {
         if begins_call(before, &piece.token) {
-            if let Some(slot) = called_at(last, behind, byte) {
+            if let Some(slot) = called_at(last, following, byte) {
                 return Some(slot);
             }
         }
-        before = behind_token(before, &piece.token);
-        rest = behind;
+        before = after_token(before, &piece.token);
+        rest = following;
     }
     None
 }
@@ -94,18 +94,24 @@ fn begins_call(before: Before, token: &Token<'_>) -> bool
 }
 
 // The place at the byte for an argument of the call whose component's name comes first.
-fn called_at(last: usize, behind: &[Piece<'_>], byte: usize) -> Option<Slot>
-    ensures { result ≡ find (specs.holds byte) (specs.called last (map part_of behind.now)) }
+fn called_at(last: usize, following: &[Piece<'_>], byte: usize) -> Option<Slot>
+    ensures { result ≡ find (specs.holds byte) (specs.called last (map part_of following.now)) }
 {
-    let name = dotted(behind);
+    let name = dotted(following);
     match name {
         [] => None,
-        [first, ..] => inside_at(last, first.start, end_of(name), &behind[name.len()..], byte),
+        [first, ..] => inside_at(
+            last,
+            first.start,
+            end_of(name),
+            &following[name.len()..],
+            byte,
+        ),
     }
 }
 
-// Where in a call a token stands: the byte behind the one before it, whether a value is to come, and how many brackets
-// are open.
+// Where in a call a token is: the byte after the one before it, whether a value is to come, and how many brackets are
+// open.
 #[derive(Clone, Copy)]
 struct Inside {
     from: usize,
@@ -132,30 +138,30 @@ fn inside_at(
     last: usize,
     call: usize,
     from: usize,
-    behind: &[Piece<'_>],
+    following: &[Piece<'_>],
     byte: usize,
 ) -> Option<Slot>
     ensures { result ≡ find (specs.holds byte)
-        (specs.inside last call (specs.first_inside from) (map part_of behind.now)) }
+        (specs.inside last call (specs.first_inside from) (map part_of following.now)) }
 {
     let mut inside = Inside {
         from,
         valued: false,
         depth: 0,
     };
-    let mut rest = behind;
-    'pieces: while let [piece, behind @ ..] = rest {
+    let mut rest = following;
+    'pieces: while let [piece, following @ ..] = rest {
         let role = role_of(&piece.token);
         if let Some(slot) = argument_before(call, inside, role, piece.start, piece.end) {
             if slot.holds(byte) {
                 return Some(slot);
             }
         }
-        match inside_behind(inside, role, piece.end) {
+        match inside_after(inside, role, piece.end) {
             Some(next) => inside = next,
             None => return None,
         }
-        rest = behind;
+        rest = following;
     }
     match argument_before(call, inside, Role::Outer, last, last) {
         Some(slot) if slot.holds(byte) => Some(slot),
@@ -193,10 +199,10 @@ fn argument_before(
     }
 }
 
-// Where the next token stands behind one that ends with the byte; nowhere, if the call ends.
-fn inside_behind(inside: Inside, role: Role, end: usize) -> Option<Inside>
+// Where the next token comes after one that ends with the byte; nowhere, if the call ends.
+fn inside_after(inside: Inside, role: Role, end: usize) -> Option<Inside>
     requires { inside.depth < usize.MAX }
-    ensures { result ≡ specs.inside_behind inside role end }
+    ensures { result ≡ specs.inside_after inside role end }
 {
     let next = Inside {
         from: end,
@@ -238,7 +244,7 @@ fn role_of(token: &Token<'_>) -> Role
     }
 }
 
-// A place where something may be typed: the cursor stands between two bytes, and what is typed begins at one.
+// A place where something may be typed: the cursor is between two bytes, and what is typed begins at one.
 #[derive(Clone, Copy)]
 struct Slot {
     kind: CompletionKind,
@@ -248,7 +254,7 @@ struct Slot {
 }
 
 impl Slot {
-    // Whether the cursor stands there.
+    // Whether the cursor is there.
     fn holds(self, byte: usize) -> bool
         ensures { result ≡ specs.holds byte self }
     {
@@ -256,42 +262,52 @@ impl Slot {
     }
 }
 
-// What may be typed behind the piece.
-fn slot_behind(last: usize, before: Before, piece: &Piece<'_>, behind: &[Piece<'_>]) -> Option<Slot>
-    ensures { result ≡ specs.slot_behind last before (seen piece.now.token) piece.now.end
-        (map part_of behind.now) }
+// What may be typed after the piece.
+fn slot_after(
+    last: usize,
+    before: Before,
+    piece: &Piece<'_>,
+    following: &[Piece<'_>],
+) -> Option<Slot>
+    ensures { result ≡ specs.slot_after last before (seen piece.now.token) piece.now.end
+        (map part_of following.now) }
 {
     match &piece.token {
-        Token::TagStart(_) => Some(name_slot(CompletionKind::Statement, last, piece.end, behind)),
+        Token::TagStart(_) => Some(name_slot(
+            CompletionKind::Statement,
+            last,
+            piece.end,
+            following,
+        )),
         Token::LessThan if matches!(before, Before::Operand) => None,
         Token::LessThan | Token::ClosingTagStart => {
-            Some(name_slot(CompletionKind::Component, last, piece.end, behind))
+            Some(name_slot(CompletionKind::Component, last, piece.end, following))
         }
-        Token::Ident(word) if matches!(before, Before::Tag) => word_slot(word, behind),
+        Token::Ident(word) if matches!(before, Before::Tag) => word_slot(word, following),
         _ => None,
     }
 }
 
-// The place of a template's name behind the first word of a tag.
-fn word_slot(word: &str, behind: &[Piece<'_>]) -> Option<Slot>
-    ensures { result ≡ specs.word_slot word.now (map part_of behind.now) }
+// The place of a template's name after the first word of a tag.
+fn word_slot(word: &str, following: &[Piece<'_>]) -> Option<Slot>
+    ensures { result ≡ specs.word_slot word.now (map part_of following.now) }
 {
     match word {
-        "extends" | "include" => string_slot(behind),
+        "extends" | "include" => string_slot(following),
         _ => None,
     }
 }
 
-// The place of a name behind the byte, with a dot behind it or none; or the gap, where no name stands. A name begins
-// where the gap ends.
-fn name_slot(kind: CompletionKind, last: usize, from: usize, behind: &[Piece<'_>]) -> Slot
-    ensures { result ≡ specs.name_slot kind last from (map part_of behind.now) }
+// The place of a name after the byte, with a dot after it or none; or the gap, where no name is. A name begins where
+// the gap ends.
+fn name_slot(kind: CompletionKind, last: usize, from: usize, following: &[Piece<'_>]) -> Slot
+    ensures { result ≡ specs.name_slot kind last from (map part_of following.now) }
 {
-    let start = gap_end(last, behind);
-    let name = dotted(behind);
+    let start = gap_end(last, following);
+    let name = dotted(following);
     let end = match name {
         [] => start,
-        name => dot_end(end_of(name), &behind[name.len()..]),
+        name => dot_end(end_of(name), &following[name.len()..]),
     };
     Slot {
         kind,
@@ -301,30 +317,30 @@ fn name_slot(kind: CompletionKind, last: usize, from: usize, behind: &[Piece<'_>
     }
 }
 
-fn gap_end(last: usize, behind: &[Piece<'_>]) -> usize
-    ensures { result ≡ specs.gap_end last (map part_of behind.now) }
+fn gap_end(last: usize, following: &[Piece<'_>]) -> usize
+    ensures { result ≡ specs.gap_end last (map part_of following.now) }
 {
-    match behind {
+    match following {
         [next, ..] => next.start,
         [] => last,
     }
 }
 
-// The end of a name with the dot behind it, if one stands there.
-fn dot_end(end: usize, behind: &[Piece<'_>]) -> usize
-    ensures { result ≡ specs.dot_end end (map part_of behind.now) }
+// The end of a name with the dot after it, if one is there.
+fn dot_end(end: usize, following: &[Piece<'_>]) -> usize
+    ensures { result ≡ specs.dot_end end (map part_of following.now) }
 {
-    match behind {
+    match following {
         [next, ..] if is_dot(&next.token) => next.end,
         _ => end,
     }
 }
 
 // The place between the quotes of a string.
-fn string_slot(behind: &[Piece<'_>]) -> Option<Slot>
-    ensures { result ≡ specs.string_slot (map part_of behind.now) }
+fn string_slot(following: &[Piece<'_>]) -> Option<Slot>
+    ensures { result ≡ specs.string_slot (map part_of following.now) }
 {
-    match behind {
+    match following {
         [text, ..] if is_string(&text.token) && text.start < text.end => Some(Slot {
             kind: CompletionKind::Template,
             from: text.start + 1,

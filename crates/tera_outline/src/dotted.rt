@@ -10,7 +10,7 @@ use std::alloc::{AllocError, Global};
 use tera_lexer::Token;
 
 /// The dotted name with which the pieces begin, as long as it goes on; none where no name comes first. White space may
-/// stand around its dots.
+/// be around its dots.
 pub(crate) fn dotted<'p, 'a>(pieces: &'p [Piece<'a>]) -> &'p [Piece<'a>]
     ensures name { map part_of result.now ≡ specs.dotted (map part_of pieces.now) }
     ensures within { length result.now ≤ length pieces.now }
@@ -41,15 +41,15 @@ pub(crate) fn is_dot(token: &Token<'_>) -> bool
     matches!(token, Token::Dot)
 }
 
-/// The text of the name, and the bytes between which it stands.
+/// The text of the name, and the bytes between which it is.
 pub(crate) fn text_of(alloc: Global, name: &[Piece<'_>]) -> Result<String, AllocError>
     ensures { IfOk result (λ text. string_bytes text ≡ specs.text_of (map part_of name.now)) }
 {
     let mut text = String::new(alloc);
     let mut rest = name;
-    'parts: while let [part, behind @ ..] = rest {
+    'parts: while let [part, following @ ..] = rest {
         text.push_str(meant(&part.token))?;
-        rest = behind;
+        rest = following;
     }
     Ok(text)
 }

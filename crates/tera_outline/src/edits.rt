@@ -5,16 +5,16 @@ ghost use Rattle.std.specs.Char.{is_ascii_whitespace};
 ghost use Rattle.std.specs.List.{prefix_len};
 ghost use Rattle.tera_layout.specs.Respaced.{without_white};
 ghost use Rattle.tera_outline.specs.Edits.{applied, AreApart, ReplacesWhite};
-ghost use Rattle.tera_outline.specs.Runs.{is_black, AreEditsTo, AreBehindRuns};
+ghost use Rattle.tera_outline.specs.Runs.{is_black, AreEditsTo, AreAfterRuns};
 
 use std::alloc::{AllocError, Global};
 
-/// What is to stand in the place of a part of a text.
+/// What is to be in the place of a part of a text.
 #[derive(Clone, Copy, Debug, PartialEq, Eq)]
 pub struct Edit<'a> {
     /// The byte with which the part begins.
     pub start: usize,
-    /// The byte behind it.
+    /// The byte after it.
     pub end: usize,
     pub text: &'a str,
 }
@@ -32,11 +32,11 @@ pub fn edits_of<'a>(alloc: Global, old: &str, new: &'a str) -> Result<Vec<Edit<'
     let mut at = push_run(&mut edits, old, new, Places { old: 0, new: 0 })?;
     'words: while at.old < old.len() {
         let word = word_len(old, new, at);
-        let behind = Places {
+        let following = Places {
             old: at.old + word,
             new: at.new + word,
         };
-        at = push_run(&mut edits, old, new, behind)?;
+        at = push_run(&mut edits, old, new, following)?;
     }
     Ok(edits)
 }
@@ -59,24 +59,24 @@ fn push_run<'a>(
     requires before { at.old ≢ 0 → is_ascii_whitespace (slice_index old.now (at.old - 1)) ≡ false }
     ensures edits { IfOk result (λ p.
         AreEditsTo old.now new.now edits.new.items (p.old + 1) p) }
-    ensures behind { IfOk result (λ p. AreBehindRuns old.now new.now p) }
+    ensures following { IfOk result (λ p. AreAfterRuns old.now new.now p) }
     ensures onward { IfOk result (λ p. at.old ≤ p.old) }
 {
-    let behind = Places {
+    let following = Places {
         old: at.old + white_len(old, at.old),
         new: at.new + white_len(new, at.new),
     };
-    if old.as_bytes()[at.old..behind.old] != new.as_bytes()[at.new..behind.new] {
+    if old.as_bytes()[at.old..following.old] != new.as_bytes()[at.new..following.new] {
         edits.push(Edit {
             start: at.old,
-            end: behind.old,
-            text: &new[at.new..behind.new],
+            end: following.old,
+            text: &new[at.new..following.new],
         })?;
     }
-    Ok(behind)
+    Ok(following)
 }
 
-// How many bytes of white space stand from the byte on.
+// How many bytes of white space are from the byte on.
 fn white_len(text: &str, at: usize) -> usize
     requires { at ≤ length text.now }
     ensures count { result ≡ prefix_len is_ascii_whitespace (drop at text.now) }
@@ -88,7 +88,7 @@ fn white_len(text: &str, at: usize) -> usize
         .count()
 }
 
-// How many bytes stand from both places on before white space does in one of the texts.
+// How many bytes are from both places on before white space does in one of the texts.
 fn word_len(old: &str, new: &str, at: Places) -> usize
     requires old { at.old ≤ length old.now }
     requires new { at.new ≤ length new.now }

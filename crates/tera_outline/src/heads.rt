@@ -11,8 +11,8 @@ use crate::symbols::{Symbol, SymbolKind, symbols_in};
 use std::alloc::{AllocError, Global};
 use tera_lexer::Token;
 
-/// The head of the first definition of the component in the text, with a fault or without one: from its name to the
-/// end of its tag, as it stands there. The markers are the default ones.
+/// The head of the first definition of the component in the text, with a fault or without one: from its name to the end
+/// of its tag, as it is there. The markers are the default ones.
 pub fn head_of<'t>(alloc: Global, text: &'t str, name: &str) -> Result<Option<&'t str>, AllocError>
     ensures { IfOk result (λ head. (parts : List Part) × ArePartsOf text.now parts
         × (option_map (λ h. h.now) head ≡ specs.head_of text.now parts name.now)) }
@@ -51,20 +51,20 @@ fn definition_in<'s>(symbols: &'s [Symbol], name: &str) -> Option<&'s Symbol>
     None
 }
 
-// The end of the last of the pieces that stands behind the byte in the same tag; or the byte, where none does.
+// The end of the last of the pieces that comes after the byte in the same tag; or the byte, where none does.
 fn head_end(byte: usize, pieces: &[Piece<'_>]) -> usize
     ensures { result ≡ specs.head_end byte (map part_of pieces.now) }
 {
     let mut end = byte;
     let mut rest = pieces;
-    'pieces: while let [piece, behind @ ..] = rest {
+    'pieces: while let [piece, following @ ..] = rest {
         if end <= piece.start {
             if matches!(piece.token, Token::TagStart(_) | Token::TagEnd(_)) {
                 return end;
             }
             end = piece.end;
         }
-        rest = behind;
+        rest = following;
     }
     end
 }

@@ -2,32 +2,31 @@
 //! does nothing.
 
 ghost use Rattle.std.specs.Prelude.{ℕ, List, length, All};
-ghost use Rattle.tera_outline.specs.Pieces.{Part, ArePartsOf, StandBetween};
-ghost use Rattle.tera_outline.specs.SemanticTokens.{semantic_tokens_of, StandOnLines};
+ghost use Rattle.tera_outline.specs.Pieces.{Part, ArePartsOf, AreBetween};
+ghost use Rattle.tera_outline.specs.SemanticTokens.{semantic_tokens_of, AreOnLines};
 ghost use Rattle.tera_outline.specs.Symbols.{outline_of, AreNested, IsWithin};
 
-/// The pieces of a text stand in it one behind the other, and none is empty.
-pub fn pieces_stand()
+/// The pieces of a text are in it one after the other, and none is empty.
+pub fn pieces_in_order()
     ensures { (text : List ℕ) (parts : List Part) → ArePartsOf text parts →
-        StandBetween 0 (length text) parts }
+        AreBetween 0 (length text) parts }
 {}
 
-/// The tokens that are coloured stand in a text one behind the other; none is empty, and none goes over the end of a
-/// line.
-pub fn semantic_tokens_stand()
+/// The tokens that are coloured are in a text one after the other; none is empty, and none goes over the end of a line.
+pub fn semantic_tokens_in_order()
     ensures { (text : List ℕ) (parts : List Part) → ArePartsOf text parts →
-        StandOnLines 0 text (semantic_tokens_of text parts) }
+        AreOnLines 0 text (semantic_tokens_of text parts) }
 {}
 
-/// Of two symbols of a text the later begins behind the start of the earlier, and either at or behind its end, or ends
-/// no later.
+/// Of two symbols of a text the later begins after the start of the earlier, and either at or after its end, or ends no
+/// later.
 pub fn symbols_nest()
     ensures { (text : List ℕ) (parts : List Part) → ArePartsOf text parts →
         AreNested (outline_of (length text) parts) }
 {}
 
-/// The name of a symbol stands within the symbol, behind its start, and the symbol within the text.
-pub fn symbols_stand()
+/// The name of a symbol is within the symbol, after its start, and the symbol within the text.
+pub fn symbols_in_text()
     ensures { (text : List ℕ) (parts : List Part) → ArePartsOf text parts →
         All (IsWithin (length text)) (outline_of (length text) parts) }
 {}

@@ -1,15 +1,15 @@
-//! What the bytes and the tokens of a template say by themselves, for an editor: the edits of a layout, the tokens up
-//! to a fault, the outline, the names of components and templates, what may be typed at a place, and what each token is
+//! What the bytes and the tokens of a template say by themselves, for an editor: a layout as edits, the tokens up to a
+//! fault, the outline, the names of components and templates, what may be typed at a place, and the kind of each token
 //! for its colour.
 //!
-//! It takes a text, with a fault or without one, and needs no tree. It stands on `tera_lexer`, and on `tera_layout`
-//! for the layout.
+//! It takes a text, with a fault or without one, and needs no tree. It depends on `tera_lexer`, and for the layout on
+//! `tera_layout`.
 //!
-//! In the order of reading: specs `Edits`; `edits`, a layout as edits of white space; specs `Pieces`;
-//! `pieces`, the tokens with their bytes; specs `Dotted` and `Symbols`; `symbols`, the outline; specs `Names`; `names`,
-//! what is called, defined, extended and included; specs `Heads`; `heads`, what the definition of a
-//! component begins with; specs `Completions`; `completions`, what may be typed; specs `SemanticTokens`;
-//! `semantic_tokens`, what is coloured; `dotted`, which reads names with dots; `laws`.
+//! In the order of reading: specs `Edits`; `edits`, a layout as edits of white space; specs `Pieces`; `pieces`, the
+//! tokens with their bytes; specs `Dotted` and `Symbols`; `symbols`, the outline; specs `Names`; `names`, what is
+//! called, defined, extended and included; specs `Heads`; `heads`, what the definition of a component begins with;
+//! specs `Completions`; `completions`, what may be typed; specs `SemanticTokens`; `semantic_tokens`, what is coloured;
+//! `dotted`, which reads names with dots; `laws`.
 #![tactic(auto)]
 
 mod completions;
@@ -22,7 +22,7 @@ mod pieces;
 mod semantic_tokens;
 mod symbols;
 
-pub use completions::{Completion, CompletionKind, wanted};
+pub use completions::{Completion, CompletionKind, completion_for};
 pub use edits::{Edit, edits_of};
 pub use heads::head_of;
 pub use names::{Name, NameKind, names_of, under};

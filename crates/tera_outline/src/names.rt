@@ -12,7 +12,7 @@ use crate::pieces::Piece;
 use std::alloc::{AllocError, Global};
 use tera_lexer::Token;
 
-/// What stands there by its name.
+/// What is there by its name.
 #[derive(Clone, Copy, Debug, PartialEq, Eq)]
 pub enum NameKind {
     /// A component that is called.
@@ -31,17 +31,17 @@ pub enum NameKind {
 #[derive(Debug, PartialEq, Eq, Drop)]
 pub struct Name {
     pub kind: NameKind,
-    /// Of a component the name without the white space that may stand around its dots; of a template what the string
+    /// Of a component the name without the white space that may be around its dots; of a template what the string
     /// stands for, without its quotes and escapes.
     pub text: String,
     /// The byte with which it begins, of a template its quote.
     pub start: usize,
-    /// The byte behind it.
+    /// The byte after it.
     pub end: usize,
 }
 
 impl Name {
-    /// Whether the byte stands in the name, or right behind it.
+    /// Whether the byte is in the name, or right after it.
     pub fn holds(&self, byte: usize) -> bool
         ensures { result ≡ specs.holds byte (name_view self.now) }
     {
@@ -49,26 +49,26 @@ impl Name {
     }
 }
 
-/// The names of components and templates in a text that stands in these pieces, in order. A `<` behind what may be the
-/// end of an operand compares, and any other begins a call; the words `and`, `or`, `not`, `in`, `is`, `if`, `else`,
-/// `elif` and `filter` are no operands.
+/// The names of components and templates in a text that is in these pieces, in order. A `<` after what may be the end
+/// of an operand compares, and any other begins a call; the words `and`, `or`, `not`, `in`, `is`, `if`, `else`, `elif`
+/// and `filter` are not operands.
 pub fn names_of(alloc: Global, pieces: &[Piece<'_>]) -> Result<Vec<Name>, AllocError>
     ensures { IfOk result (λ names. map name_view names.items ≡ names_of (map part_of pieces.now)) }
 {
     let mut names = Vec::new(alloc);
     let mut before = Before::Other;
     let mut rest = pieces;
-    'pieces: while let [piece, behind @ ..] = rest {
-        if let Some(found) = name_behind(before, &piece.token, behind) {
+    'pieces: while let [piece, following @ ..] = rest {
+        if let Some(found) = name_after(before, &piece.token, following) {
             names.push(found.name(alloc)?)?;
         }
-        before = behind_token(before, &piece.token);
-        rest = behind;
+        before = after_token(before, &piece.token);
+        rest = following;
     }
     Ok(names)
 }
 
-/// The one of them in which the byte stands, or right behind which it does.
+/// The one of them in which the byte is, or right after which it does.
 pub fn under(alloc: Global, pieces: &[Piece<'_>], byte: usize) -> Result<Option<Name>, AllocError>
     ensures { IfOk result (λ name. option_map name_view name
         ≡ find (specs.holds byte) (names_of (map part_of pieces.now))) }
@@ -77,7 +77,7 @@ pub fn under(alloc: Global, pieces: &[Piece<'_>], byte: usize) -> Result<Option<
     Ok(names.into_iter().find(|name| name.holds(byte)))
 }
 
-// What stands before a token.
+// What is before a token.
 #[derive(Clone, Copy)]
 pub(crate) enum Before {
     // The start of a tag of a statement.
@@ -89,13 +89,13 @@ pub(crate) enum Before {
     Other,
 }
 
-// What stands before the next token behind this one.
-pub(crate) fn behind_token(before: Before, token: &Token<'_>) -> Before
-    ensures { result ≡ specs.behind_token before (seen token.now) }
+// What is before the next token after this one.
+pub(crate) fn after_token(before: Before, token: &Token<'_>) -> Before
+    ensures { result ≡ specs.after_token before (seen token.now) }
 {
     match token {
         Token::TagStart(_) => Before::Tag,
-        Token::Ident(word) => behind_word(word),
+        Token::Ident(word) => after_word(word),
         Token::String(_) | Token::Str(_) | Token::Integer(_) | Token::Bool(_) => Before::Operand,
         Token::RightParen | Token::RightBracket | Token::RightBrace => Before::Operand,
         Token::Div => Before::Slash,
@@ -104,8 +104,8 @@ pub(crate) fn behind_token(before: Before, token: &Token<'_>) -> Before
     }
 }
 
-fn behind_word(word: &str) -> Before
-    ensures { result ≡ specs.behind_word word.now }
+fn after_word(word: &str) -> Before
+    ensures { result ≡ specs.after_word word.now }
 {
     match word {
         "and" | "or" | "not" | "in" | "is" | "if" | "else" | "elif" | "filter" => Before::Other,
@@ -113,7 +113,7 @@ fn behind_word(word: &str) -> Before
     }
 }
 
-// A name, by the pieces in which it stands, of which there is one at least.
+// A name, by the pieces in which it is, of which there is one at least.
 #[derive(Clone, Copy)]
 struct Found<'p, 'a> {
     kind: NameKind,
@@ -133,32 +133,32 @@ impl Found<'_, '_> {
     }
 }
 
-// The name that the token makes of what stands behind it.
-fn name_behind<'p, 'a>(
+// The name that the token makes of what comes after it.
+fn name_after<'p, 'a>(
     before: Before,
     token: &Token<'a>,
-    behind: &'p [Piece<'a>],
+    following: &'p [Piece<'a>],
 ) -> Option<Found<'p, 'a>>
     ensures { option_map found_view result
-        ≡ specs.name_behind before (seen token.now) (map part_of behind.now) }
+        ≡ specs.name_after before (seen token.now) (map part_of following.now) }
 {
     match token {
         Token::LessThan if matches!(before, Before::Operand) => None,
-        Token::LessThan => named(NameKind::Called, dotted(behind)),
-        Token::ClosingTagStart => named(NameKind::Closed, dotted(behind)),
-        Token::Ident(word) if matches!(before, Before::Tag) => word_name(word, behind),
+        Token::LessThan => named(NameKind::Called, dotted(following)),
+        Token::ClosingTagStart => named(NameKind::Closed, dotted(following)),
+        Token::Ident(word) if matches!(before, Before::Tag) => word_name(word, following),
         _ => None,
     }
 }
 
-// The name that the first word of a tag makes of what stands behind it.
-fn word_name<'p, 'a>(word: &str, behind: &'p [Piece<'a>]) -> Option<Found<'p, 'a>>
-    ensures { option_map found_view result ≡ specs.word_name word.now (map part_of behind.now) }
+// The name that the first word of a tag makes of what comes after it.
+fn word_name<'p, 'a>(word: &str, following: &'p [Piece<'a>]) -> Option<Found<'p, 'a>>
+    ensures { option_map found_view result ≡ specs.word_name word.now (map part_of following.now) }
 {
     match word {
-        "component" | "endcomponent" => named(NameKind::Defined, dotted(behind)),
-        "extends" => named(NameKind::Extended, string(behind)),
-        "include" => named(NameKind::Included, string(behind)),
+        "component" | "endcomponent" => named(NameKind::Defined, dotted(following)),
+        "extends" => named(NameKind::Extended, string(following)),
+        "include" => named(NameKind::Included, string(following)),
         _ => None,
     }
 }

@@ -7,13 +7,13 @@ use std::alloc::{AllocError, Global};
 use tera_base::ErrorKind;
 use tera_lexer::{Delimiters, Token, Tokens, tokenize};
 
-/// A token of a text, and where it stands.
+/// A token of a text, and where it is.
 #[derive(Debug, PartialEq, Eq, Drop)]
 pub struct Piece<'a> {
     pub token: Token<'a>,
     /// The byte with which it begins.
     pub start: usize,
-    /// The byte behind it.
+    /// The byte after it.
     pub end: usize,
 }
 

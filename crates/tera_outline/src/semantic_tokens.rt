@@ -6,7 +6,7 @@ ghost use Rattle.tera_outline.specs.Pieces.{Part, part_of, ArePartsOf};
 ghost use Rattle.tera_outline.specs.SemanticTokens as specs;
 ghost use Rattle.tera_outline.specs.SemanticTokens.{semantic_tokens_of};
 
-use crate::names::{Before, behind_token};
+use crate::names::{Before, after_token};
 use crate::pieces::{Piece, pieces_of};
 use std::alloc::{AllocError, Global};
 use tera_lexer::Token;
@@ -36,19 +36,19 @@ pub enum SemanticKind {
     Variable,
 }
 
-/// A token, or what of it stands on one line.
+/// A token, or what of it is on one line.
 #[derive(Clone, Copy, Debug, PartialEq, Eq)]
 pub struct SemanticToken {
     pub kind: SemanticKind,
     /// The byte with which it begins.
     pub start: usize,
-    /// The byte behind it.
+    /// The byte after it.
     pub end: usize,
 }
 
 /// The tokens of a text, with a fault or without one, that are comments, words, names, strings, numbers or operators,
 /// in order: what they are by themselves and by the tokens beside them. One that goes over the end of a line is as many
-/// as there are lines on which some of it stands. The markers are the default ones.
+/// as there are lines on which some of it is. The markers are the default ones.
 pub fn semantic_tokens_of(alloc: Global, text: &str) -> Result<Vec<SemanticToken>, AllocError>
     ensures { IfOk result (λ tokens. (parts : List Part) × ArePartsOf text.now parts
         × (tokens.items ≡ semantic_tokens_of text.now parts)) }
@@ -71,18 +71,18 @@ fn tokens_of(
         lead: Lead::Other,
     };
     let mut rest = pieces;
-    'pieces: while let [piece, behind @ ..] = rest {
+    'pieces: while let [piece, following @ ..] = rest {
         let bytes = bytes_of(text, piece);
-        if let Some(kind) = kind_of(context.lead, &piece.token, bytes, behind) {
+        if let Some(kind) = kind_of(context.lead, &piece.token, bytes, following) {
             push_lines(&mut tokens, kind, piece.start, bytes)?;
         }
-        context = context.behind(&piece.token, behind);
-        rest = behind;
+        context = context.following(&piece.token, following);
+        rest = following;
     }
     Ok(tokens)
 }
 
-// What stands before a token.
+// What is before a token.
 #[derive(Clone, Copy)]
 struct Context {
     before: Before,
@@ -98,7 +98,7 @@ enum Lead {
     Statement,
     // The word of a block.
     Block,
-    // What the name of a component, or the next part of it, stands behind.
+    // What the name of a component, or the next part of it, comes after.
     Component,
     // A part of the name of a component.
     Part,
@@ -106,19 +106,19 @@ enum Lead {
     Bar,
     // `is`, or `is not`.
     Is,
-    // What an argument or a parameter may stand behind.
+    // What an argument or a parameter may come after.
     Comma,
     // A parameter.
     Parameter,
-    // The colon behind a parameter.
+    // The colon after a parameter.
     Colon,
     Other,
 }
 
 impl Context {
-    // What stands before the next token behind this one.
-    fn behind(self, token: &Token<'_>, rest: &[Piece<'_>]) -> Context
-        ensures { result ≡ specs.behind self (seen token.now) (map part_of rest.now) }
+    // What is before the next token after this one.
+    fn following(self, token: &Token<'_>, rest: &[Piece<'_>]) -> Context
+        ensures { result ≡ specs.following self (seen token.now) (map part_of rest.now) }
     {
         let lead = match token {
             Token::TagStart(_) => Lead::Tag,
@@ -133,7 +133,7 @@ impl Context {
             _ => Lead::Other,
         };
         Context {
-            before: behind_token(self.before, token),
+            before: after_token(self.before, token),
             lead,
         }
     }
@@ -174,7 +174,7 @@ fn kind_of(lead: Lead, token: &Token<'_>, bytes: &[u8], rest: &[Piece<'_>]) -> O
         Token::Str(_) | Token::String(_) => Some(SemanticKind::String),
         Token::Integer(_) => Some(SemanticKind::Number),
         Token::Bool(_) => Some(SemanticKind::Keyword),
-        // Of what stands between tags, a comment is something.
+        // Of what is between tags, a comment is something.
         Token::Content(_) if matches!(bytes, [b'{', b'#', ..]) => Some(SemanticKind::Comment),
         Token::Plus | Token::Minus | Token::Mul | Token::Div => Some(SemanticKind::Operator),
         Token::FloorDiv | Token::Mod | Token::Power => Some(SemanticKind::Operator),
@@ -212,7 +212,7 @@ fn is_keyword(word: &str) -> bool
     )
 }
 
-// What a name is by what stands behind it.
+// What a name is by what comes after it.
 fn name_kind(lead: Lead, rest: &[Piece<'_>]) -> SemanticKind
     ensures { result ≡ specs.name_kind lead (map part_of rest.now) }
 {
@@ -242,7 +242,7 @@ fn bytes_of<'t>(text: &'t str, piece: &Piece<'_>) -> &'t [u8]
     }
 }
 
-// Adds what of a token of these bytes, the first of which is told, stands on each line.
+// Adds what of a token of these bytes, the first of which is reported, is on each line.
 fn push_lines(
     tokens: &mut Vec<SemanticToken>,
     kind: SemanticKind,
@@ -256,13 +256,13 @@ fn push_lines(
     let mut from = start;
     let mut at = start;
     let mut rest = bytes;
-    'bytes: while let [byte, behind @ ..] = rest {
+    'bytes: while let [byte, following @ ..] = rest {
         if *byte == b'\n' || *byte == b'\r' {
             push_token(tokens, kind, from, at)?;
             from = at + 1;
         }
         at += 1;
-        rest = behind;
+        rest = following;
     }
     push_token(tokens, kind, from, at)
 }

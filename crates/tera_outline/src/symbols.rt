@@ -24,23 +24,23 @@ pub enum SymbolKind {
 #[derive(Debug, PartialEq, Eq, Drop)]
 pub struct Symbol {
     pub kind: SymbolKind,
-    /// The name, without the white space that may stand around its dots.
+    /// The name, without the white space that may be around its dots.
     pub name: String,
     /// The byte with which its first tag begins.
     pub start: usize,
-    /// The byte behind the tag that closes it; that with which the tag begins which closes one around it; or the end
-    /// of the text.
+    /// The byte after the tag that closes it; that with which the tag begins which closes one around it; or the end of
+    /// the text.
     pub end: usize,
     /// The byte with which its name begins.
     pub name_start: usize,
-    /// The byte behind its name.
+    /// The byte after its name.
     pub name_end: usize,
 }
 
 /// The blocks and the definitions of components of a text, with a fault or without one, in the order of their starts:
-/// of two, the later stands in the earlier or behind it. An end tag closes the last open one of its kind, and at its
-/// start what is open in that; an end tag that fits none is passed over, and what is never closed goes to the end of
-/// the text. The markers are the default ones.
+/// of two, the later is in the earlier or after it. An end tag closes the last open one of its kind, and at its start
+/// what is open in that; an end tag that fits none is passed over, and what is never closed goes to the end of the
+/// text. The markers are the default ones.
 pub fn symbols_of(alloc: Global, text: &str) -> Result<Vec<Symbol>, AllocError>
     ensures { IfOk result (λ symbols. (parts : List Part) × ArePartsOf text.now parts
         × (map outlined symbols.items ≡ outline_of (length text.now) parts)) }
@@ -63,18 +63,18 @@ pub(crate) fn symbols_in(
         open: Vec::new(alloc),
     };
     let mut rest = pieces;
-    'tags: while let [_, behind @ ..] = rest {
+    'tags: while let [_, following @ ..] = rest {
         if let Some(mark) = mark_of(rest, last) {
             outline.take(alloc, mark)?;
         }
-        rest = behind;
+        rest = following;
     }
     outline.end_all(last);
     Ok(outline.symbols)
 }
 
 // A tag that opens a symbol, by its kind, its first byte and its name; or one that closes one, by its kind and the
-// bytes between which it stands.
+// bytes between which it is.
 #[derive(Clone, Copy)]
 enum Mark<'p, 'a> {
     Opens(SymbolKind, usize, &'p [Piece<'a>]),
@@ -86,8 +86,8 @@ fn mark_of<'p, 'a>(pieces: &'p [Piece<'a>], last: usize) -> Option<Mark<'p, 'a>>
     ensures { option_map mark_view result ≡ specs.mark_of last (map part_of pieces.now) }
 {
     match pieces {
-        [tag, word, behind @ ..] if matches!(tag.token, Token::TagStart(_)) => {
-            word_mark(last, tag.start, &word.token, behind)
+        [tag, word, following @ ..] if matches!(tag.token, Token::TagStart(_)) => {
+            word_mark(last, tag.start, &word.token, following)
         }
         _ => None,
     }
@@ -98,19 +98,23 @@ fn word_mark<'p, 'a>(
     last: usize,
     start: usize,
     token: &Token<'a>,
-    behind: &'p [Piece<'a>],
+    following: &'p [Piece<'a>],
 ) -> Option<Mark<'p, 'a>>
     ensures { option_map mark_view result
-        ≡ specs.word_mark last start (seen token.now) (map part_of behind.now) }
+        ≡ specs.word_mark last start (seen token.now) (map part_of following.now) }
 {
     let Token::Ident(word) = token else {
         return None;
     };
     match *word {
-        "block" => opening(SymbolKind::Block, start, dotted(behind)),
-        "component" => opening(SymbolKind::Component, start, dotted(behind)),
-        "endblock" => Some(Mark::Closes(SymbolKind::Block, start, tag_end(last, behind))),
-        "endcomponent" => Some(Mark::Closes(SymbolKind::Component, start, tag_end(last, behind))),
+        "block" => opening(SymbolKind::Block, start, dotted(following)),
+        "component" => opening(SymbolKind::Component, start, dotted(following)),
+        "endblock" => Some(Mark::Closes(SymbolKind::Block, start, tag_end(last, following))),
+        "endcomponent" => Some(Mark::Closes(
+            SymbolKind::Component,
+            start,
+            tag_end(last, following),
+        )),
         _ => None,
     }
 }
@@ -124,16 +128,16 @@ fn opening<'p, 'a>(kind: SymbolKind, start: usize, name: &'p [Piece<'a>]) -> Opt
     }
 }
 
-// The end of the tag in which the pieces stand.
+// The end of the tag in which the pieces are.
 fn tag_end(last: usize, pieces: &[Piece<'_>]) -> usize
     ensures { result ≡ specs.tag_end last (map part_of pieces.now) }
 {
     let mut rest = pieces;
-    'pieces: while let [piece, behind @ ..] = rest {
+    'pieces: while let [piece, following @ ..] = rest {
         match piece.token {
             Token::TagEnd(_) => return piece.end,
             Token::TagStart(_) => return piece.start,
-            _ => rest = behind,
+            _ => rest = following,
         }
     }
     last

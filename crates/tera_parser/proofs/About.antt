@@ -2,7 +2,7 @@
 use Rattle.std.proofs.Common.{◌≡◌, ℕ, List, [], ◌∷◌, map, refl, sym, subst, inl, inr}
 use Rattle.std.specs.Prelude.{◌⊎◌}
 use Rattle.std.specs.List.{AllByRecursion}
-use Rattle.tera_base.specs.Errors.{IsMemory, IsMemoryKind, KindTells, TellsBy}
+use Rattle.tera_base.specs.Errors.{IsMemory, IsMemoryKind, KindReports, ReportsBy}
 use Rattle.tera_base.specs.ErrorView.{ErrorVal, NoMemory, Saying, Reporting, ReportOf, NoteVal, NoteOf, error_view, kind_view}
 use Rattle.tera_base.specs.declared.errors.Error.{Error}
 use Rattle.tera_base.specs.declared.errors.ErrorKind.{ErrorKind}
@@ -10,7 +10,7 @@ use Rattle.tera_base.specs.declared.errors.ErrorKind.TheVariants.{Memory, Messag
 use Rattle.tera_base.specs.declared.utils.Span.{Span}
 use Rattle.tera_parser.specs.Notes.{about, error_about, IsAbout, Names, NotesName}
 
--- no memory was found, by what an error means
+-- an allocation failed, by what an error means
 abbrev IsNothing : ErrorVal → Type 0
 IsNothing NoMemory = Unit {0}
 IsNothing _ = ⊥
@@ -35,36 +35,36 @@ memory_about file error result (inl h) m = h
 memory_about file error result (inr h) m =
     memory_means result.kind (subst IsNothing (sym h) (nothing_about file _ (means_memory error.kind m)))
 
--- what an error tells, by what it means
-abbrev Telling : (List ℕ → Span → Type 0) → ErrorVal → Type 0
-Telling P NoMemory = Unit {0}
-Telling P (Saying text) = ⊥
-Telling P (Reporting (ReportOf text span notes)) = P text span
+-- what an error says, by what it means
+abbrev ReportsAbout : (List ℕ → Span → Type 0) → ErrorVal → Type 0
+ReportsAbout P NoMemory = Unit {0}
+ReportsAbout P (Saying text) = ⊥
+ReportsAbout P (Reporting (ReportOf text span notes)) = P text span
 
-telling : (P : List ℕ → Span → Type 0) (k : ErrorKind) → KindTells P k → Telling P (kind_view k)
-telling P Memory h = tt
-telling P (Message s) h = absurd h
-telling P (SyntaxError b) h = h
+reports_if : (P : List ℕ → Span → Type 0) (k : ErrorKind) → KindReports P k → ReportsAbout P (kind_view k)
+reports_if P Memory h = tt
+reports_if P (Message s) h = absurd h
+reports_if P (SyntaxError b) h = h
 
-tells_by : (P : List ℕ → Span → Type 0) (k : ErrorKind) → Telling P (kind_view k) → KindTells P k
-tells_by P Memory h = tt
-tells_by P (Message s) h = absurd h
-tells_by P (SyntaxError b) h = h
+reports_by : (P : List ℕ → Span → Type 0) (k : ErrorKind) → ReportsAbout P (kind_view k) → KindReports P k
+reports_by P Memory h = tt
+reports_by P (Message s) h = absurd h
+reports_by P (SyntaxError b) h = h
 
-telling_about : (P : List ℕ → Span → Type 0) (file : List ℕ) (v : ErrorVal) → Telling P v → Telling P (error_about file v)
-telling_about P file NoMemory h = tt
-telling_about P file (Saying text) h = absurd h
-telling_about P file (Reporting (ReportOf text span notes)) h = h
+reporting_about : (P : List ℕ → Span → Type 0) (file : List ℕ) (v : ErrorVal) → ReportsAbout P v → ReportsAbout P (error_about file v)
+reporting_about P file NoMemory h = tt
+reporting_about P file (Saying text) h = absurd h
+reporting_about P file (Reporting (ReportOf text span notes)) h = h
 
-memory_tells : (P : List ℕ → Span → Type 0) (k : ErrorKind) → IsMemoryKind k → KindTells P k
-memory_tells P Memory h = tt
-memory_tells P (Message s) h = absurd h
-memory_tells P (SyntaxError b) h = absurd h
+memory_reports : (P : List ℕ → Span → Type 0) (k : ErrorKind) → IsMemoryKind k → KindReports P k
+memory_reports P Memory h = tt
+memory_reports P (Message s) h = absurd h
+memory_reports P (SyntaxError b) h = absurd h
 
-pub tells_about : (P : List ℕ → Span → Type 0) (file : List ℕ) (error result : Error) → IsMemory result ⊎ (error_view result ≡ error_about file (error_view error)) → TellsBy P error → TellsBy P result
-tells_about P file error result (inl h) t = memory_tells P result.kind h
-tells_about P file error result (inr h) t =
-    tells_by P result.kind (subst (Telling P) (sym h) (telling_about P file _ (telling P error.kind t)))
+pub reports_about : (P : List ℕ → Span → Type 0) (file : List ℕ) (error result : Error) → IsMemory result ⊎ (error_view result ≡ error_about file (error_view error)) → ReportsBy P error → ReportsBy P result
+reports_about P file error result (inl h) t = memory_reports P result.kind h
+reports_about P file error result (inr h) t =
+    reports_by P result.kind (subst (ReportsAbout P) (sym h) (reporting_about P file _ (reports_if P error.kind t)))
 
 each_about : (file : List ℕ) (notes : List NoteVal) → AllByRecursion (IsAbout file) (map (about file) notes)
 each_about file [] = tt

@@ -1,3 +1,6 @@
+pub mod YieldLemmas
+pub mod PromisesLemmas
+pub mod EndsLemmas
 pub mod About
 pub mod Wholes
 pub mod Meanings

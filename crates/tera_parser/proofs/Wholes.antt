@@ -5,7 +5,7 @@ use Rattle.std.specs.List.{AllByRecursion}
 use Rattle.tera_base.specs.ErrorView.{error_view}
 use Rattle.tera_base.specs.Errors.{IsMemory}
 use Rattle.tera_base.specs.declared.errors.Error.{Error}
-use Rattle.tera_base.proofs.Tellings.{tells_weaker}
+use Rattle.tera_base.proofs.Tellings.{reports_weaker}
 use Rattle.tera_lexer.specs.code.Cursors.{Position}
 use Rattle.tera_lexer.specs.grammar.Faults.{Faults}
 use Rattle.tera_lexer.specs.grammar.Place.{IsWithin}
@@ -25,7 +25,7 @@ use Rattle.tera_statements.specs.Items.{AreEmptyTexts}
 use Rattle.tera_expect.specs.Taking.{RefusesIn}
 use Rattle.tera_tree.specs.Tree.{Output}
 use Rattle.tera_parser.specs.Notes.{error_about}
-use Rattle.tera_parser.proofs.About.{tells_about}
+use Rattle.tera_parser.proofs.About.{reports_about}
 use Rattle.tera_parser.specs.Comments.{IsComment, IsCommentsAlone}
 
 module _ (m : Marks) (valid : IsValid m) (source : List ℕ) (items : Items) (are : AreTokensOf m source items) where
@@ -34,7 +34,7 @@ module _ (m : Marks) (valid : IsValid m) (source : List ℕ) (items : Items) (ar
   derives l b is output same =
       subst (λ o. DerivesNames l m source o (places b)) (sym same) (read_names l m valid source items are b (template_complete l items b is))
 
-  -- a refusal is want of memory, where there is a derivation
+  -- a refusal is an allocation failure, where there is a derivation
   pub refused : (l : Limits) (e : Error) → IsMemory e ⊎ ((b : Body) → IsTemplate l items b → ⊥) → (output : Output) → Derives l m source output → IsMemory e
   refused l e why output d =
       let (b, read, same) = derives_read l m valid source items are output d in
@@ -43,10 +43,10 @@ module _ (m : Marks) (valid : IsValid m) (source : List ℕ) (items : Items) (ar
   -- the faults of these tokens are those of the source
   pub refuses : (now : Position) → now.left ≡ items → now.source ≡ source → (e : Error) → RefusesIn now e → Refuses m source e
   unfolding RefusesIn
-  refuses now left whole e told =
-      tells_weaker (λ text span. IsWithin now.source span × Faults now.left text span)
+  refuses now left whole e reported =
+      reports_weaker (λ text span. IsWithin now.source span × Faults now.left text span)
       (λ text span. IsWithin source span × ((items : Items) × AreTokensOf m source items × Faults items text span)) e
-      (λ text span f. (subst (λ s. IsWithin s span) whole f.0, (items, are, subst (λ ts. Faults ts text span) left f.1))) told
+      (λ text span f. (subst (λ s. IsWithin s span) whole f.0, (items, are, subst (λ ts. Faults ts text span) left f.1))) reported
 
   -- the tokens of comments alone are empty texts
   pub comments_tokens : IsCommentsAlone m source → AreEmptyTexts items
@@ -63,5 +63,5 @@ module _ (m : Marks) (valid : IsValid m) (source : List ℕ) (items : Items) (ar
 -- an error whose notes were made to be about a file refuses what it refused
 pub refuses_about : (m : Marks) (source file : List ℕ) (error result : Error) → IsMemory result ⊎ (error_view result ≡ error_about file (error_view error))
     → Refuses m source error → Refuses m source result
-refuses_about m source file error result named told =
-    tells_about (λ text span. IsWithin source span × ((items : Items) × AreTokensOf m source items × Faults items text span)) file error result named told
+refuses_about m source file error result named reported =
+    reports_about (λ text span. IsWithin source span × ((items : Items) × AreTokensOf m source items × Faults items text span)) file error result named reported

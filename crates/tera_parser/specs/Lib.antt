@@ -1,3 +1,4 @@
+pub mod Promises
 pub mod Comments
 pub mod Notes
 pub mod Refusal

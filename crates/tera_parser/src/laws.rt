@@ -33,9 +33,9 @@ pub fn one_output()
         Derives l m source one → Derives l m source other → one ≡ other }
 {}
 
-/// In the tree of a source no two blocks have one name, nor two components; each `break` and `continue` stands in a
-/// loop, with no body that is taken as a value between; and where the source extends another template, texts of white
-/// space and blocks alone stand at its top level.
+/// In the tree of a source no two blocks have one name, nor two components; each `break` and `continue` is in a loop,
+/// with no body that is taken as a value between; and where the source extends another template, texts of white space
+/// and blocks alone are at its top level.
 pub fn right_trees()
     ensures { (l : Limits) (m : Marks) (source : List ℕ) (read : Output) → Derives l m source read →
         IsRight read }
@@ -66,7 +66,7 @@ pub fn printed_back()
 /// What two crates define, each in its own terms, agrees: which keys of maps are the same (`keys`), and so what a map
 /// is after a pair was put into it, in a source and by a call (`pairs`); which type a value has, and whether it is of a
 /// type, by its form and by its kind (`types`, `of_types`); the names of types, declared and shown (`names`); and the
-/// span of what stands nowhere (`nowhere`).
+/// span of what is nowhere (`nowhere`).
 pub fn one_meaning()
     ensures keys { (k l : KeyVal) → same_key k l ≡ key_eq k l }
     ensures pairs { (k : KeyVal) (v : Val) (ps : Pairs) → put_pair k v ps ≡ calls.put_pair k v ps }

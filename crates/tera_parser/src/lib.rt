@@ -1,19 +1,27 @@
 //! The parser of the template engine Tera: from the text of one template to its tree.
 //!
 //! It takes a file's name, a source, markers and limits, and gives the tree (`Derives`) or the fault (`Refuses`), whose
-//! notes name the file. It stands on `tera_statements` and `tera_expr`, and passes the public names on that a user of it
-//! needs.
+//! notes name the file. It depends on `tera_statements` and `tera_source`, and passes the public names on that a user
+//! of it needs.
+//!
+//! For one expression, or a part of a tag that is made of expressions, it takes a cursor and a `Scope`. It gives what
+//! `tera_expr_reader` gives, promised by the grammar: `TookExpression` and similar ones say what was taken, `TakesOnly`
+//! that nothing else was.
 //!
 //! In the order of reading: `parsing`, the parser; the modules below, its names; `notes`; specs `Job`, `Refusal`,
-//! `Notes` and `Comments`. Then `laws`.
+//! `Notes` and `Comments`; specs `Promises`; `whole`, an expression; `outermost`, what else tags hold; `components`,
+//! their names. Then `laws`.
 #![tactic(auto)]
 
+mod components;
 pub mod laws;
 mod notes;
+mod outermost;
 mod parsing;
+mod whole;
 
 pub use parsing::Parser;
-pub use tera_expr::Limits;
+pub use tera_expr_parts::Limits;
 pub use tera_statements::{Names, ParserOutput};
 
 /// Spans, errors and values.
@@ -50,8 +58,9 @@ pub mod lexer {
 
 /// The reading of expressions, and their source text.
 pub mod expr {
-    pub use tera_expr::{
-        Limits, Scope, attributes, component_name, expression, filter, kwargs, literal_array,
-        literal_map, source_of,
-    };
+    pub use crate::components::component_name;
+    pub use crate::outermost::{attributes, filter, kwargs, literal_array, literal_map};
+    pub use crate::whole::expression;
+    pub use tera_expr_parts::{Limits, Scope};
+    pub use tera_source::source_of;
 }

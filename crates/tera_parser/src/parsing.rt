@@ -13,7 +13,7 @@ use crate::notes::in_file;
 use std::alloc::Global;
 use std::marker::Model;
 use tera_base::Error;
-use tera_expr::Limits;
+use tera_expr_parts::Limits;
 use tera_lexer::{Cursor, Delimiters, tokenize};
 use tera_statements::{Names, ParserOutput, read_output};
 
@@ -46,8 +46,8 @@ impl<'a> Parser<'a> {
     ghost use Rattle.tera_tree.specs.Tree.{Output};
     ghost use Rattle.tera_grammar.specs.Limits.{usual};
 
-    /// A parser of the source, which stands in a file of this name, between markers that [`Delimiters::validate`]
-    /// accepts, with the default limits. The name is shown in notes alone.
+    /// A parser of the source, which is in a file of this name, between markers that [`Delimiters::validate`] accepts,
+    /// with the default limits. The name is shown in notes alone.
     pub fn new(
         alloc: Global,
         filename: &'a str,
@@ -93,8 +93,8 @@ impl<'a> Parser<'a> {
 
     /// The tree of the source, within the limits.
     ///
-    /// It is read from left to right, and the first fault that is met is told. The one other refusal is
-    /// `Memory`. The notes of a fault are about the parser's file.
+    /// It is read from left to right, and the first fault that is met is reported. The one other refusal is `Memory`.
+    /// The notes of a fault are about the parser's file.
     pub fn parse(self) -> Result<ParserOutput, Error>
         ensures sound { IfOk result (λ o.
             Derives self.entry.limits self.entry.marks self.entry.source (output_view o)) }
@@ -109,7 +109,7 @@ impl<'a> Parser<'a> {
         Ok(output)
     }
 
-    /// The tree of the source as [`Parser::parse`] gives it, and where the names stand of the blocks and of the
+    /// The tree of the source as [`Parser::parse`] gives it, and where the names are of the blocks and of the
     /// components that it defines, and those of the parameters of these.
     pub fn parse_with_names(self) -> Result<(ParserOutput, Names), Error>
         ensures sound { IfOk result (λ p. (names : Places) × DerivesNames self.entry.limits

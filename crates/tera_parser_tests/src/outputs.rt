@@ -31,8 +31,8 @@ fn an_output_equals_its_copy(rt: HostRuntime) -> Result<(), Fail> {
     Ok(())
 }
 
-// What is shown of the output, and of what is told of its components.
-fn shown(alloc: Global, output: &ParserOutput) -> Result<String, Error> {
+// What is shown of the output, and of what is reported for its components.
+fn debug_text(alloc: Global, output: &ParserOutput) -> Result<String, Error> {
     let mut all = format!(in alloc; "{output:?}")?;
     for definition in &output.component_definitions {
         let info = ComponentInfo::from_definition(alloc, definition)?;
@@ -43,7 +43,7 @@ fn shown(alloc: Global, output: &ParserOutput) -> Result<String, Error> {
 
 fn shown_of(alloc: Global, source: &str) -> Result<String, Error> {
     match Parser::new(alloc, "page.html", source, Delimiters::default()).parse() {
-        Ok(output) => shown(alloc, &output),
+        Ok(output) => debug_text(alloc, &output),
         Err(error) => Err(error),
     }
 }
@@ -53,12 +53,15 @@ const SOURCE: &str = r#"{% component c(i: integer) %}{% endcomponent %}{% <c i="
 
 #[test]
 fn each_part_is_shown(rt: HostRuntime) -> Result<(), Fail> {
-    let shown = shown_of(rt.alloc(), SOURCE)?;
+    let debug_text = shown_of(rt.alloc(), SOURCE)?;
     for part in [
         "nodes: [", "Content", "ForLoop", "Array", "Spread", "Var", "If(", "Concat", "Plus",
         "Minus", "Map", "KeyValue", "Break",
     ] {
-        assert!(rt; shown.as_str().contains(part), "{part} in {shown}");
+        assert!(rt;
+            debug_text.as_str().contains(part),
+            "{part} in {debug_text}"
+        );
     }
     for part in [
         "ComponentCall",
@@ -68,7 +71,10 @@ fn each_part_is_shown(rt: HostRuntime) -> Result<(), Fail> {
         "arg_type: Some(Integer)",
         "rest_param: None",
     ] {
-        assert!(rt; shown.as_str().contains(part), "{part} in {shown}");
+        assert!(rt;
+            debug_text.as_str().contains(part),
+            "{part} in {debug_text}"
+        );
     }
     Ok(())
 }

@@ -1,7 +1,7 @@
 -- What a template becomes.
 use Rattle.std.proofs.Common.{◌≡◌, ℕ, List, Some, true}
 use Rattle.tera_base.specs.ErrorView.{kind_view}
-use Rattle.tera_base.specs.Errors.{IsMemory, IsMemoryKind, KindTells}
+use Rattle.tera_base.specs.Errors.{IsMemory, IsMemoryKind, KindReports}
 use Rattle.tera_base.specs.declared.errors.Error.{Error}
 use Rattle.tera_base.specs.declared.errors.ErrorKind.{ErrorKind}
 use Rattle.tera_base.specs.declared.errors.ErrorKind.TheVariants.{Memory, Message, SyntaxError}
@@ -36,15 +36,15 @@ one_template m valid steady source other is (x, d) =
     let (y, e) = (derived_both usual m m source other valid valid alike).0 (x, d) in
     (x, y, d, e, derived_same usual m m source other valid valid alike x y d e)
 
-kind_tells : (P : List ℕ → Span → Type 0) (k : ErrorKind) → IsMemoryKind k → KindTells P k
-kind_tells P Memory h = tt
-kind_tells P (Message s) h = absurd h
-kind_tells P (SyntaxError b) h = absurd h
+kind_reports : (P : List ℕ → Span → Type 0) (k : ErrorKind) → IsMemoryKind k → KindReports P k
+kind_reports P Memory h = tt
+kind_reports P (Message s) h = absurd h
+kind_reports P (SyntaxError b) h = absurd h
 
--- want of memory is a refusal of any source
+-- an allocation failure is a refusal of any source
 pub memory_refuses : (m : Marks) (source : List ℕ) (e : Error) → IsMemory e → Refuses m source e
 memory_refuses m source e h =
-    kind_tells (λ text span. IsWithin source span × ((items : Items) × AreTokensOf m source items × Faults items text span)) e.kind h
+    kind_reports (λ text span. IsWithin source span × ((items : Items) × AreTokensOf m source items × Faults items text span)) e.kind h
 
 kind_names : (file : List ℕ) (k : ErrorKind) → IsMemoryKind k → Names file (kind_view k)
 kind_names file Memory h = tt

@@ -1,4 +1,4 @@
--- Messages that are written one behind another.
+-- Messages that are written one after another.
 use Rattle.std.proofs.Common.{◌≡◌, ◌∙◌, ◌≤◌, ◌+◌, ◌++◌, ◌∷◌, [], ℕ, List, length, take, drop, Option, None, Some, Result, Ok, Err, OnErr, slice_get, refl, sym, ap, subst, append_assoc}
 use Rattle.std.specs.Io.KnownBytes.{Appends}
 use Rattle.std.specs.List.{flat_map}

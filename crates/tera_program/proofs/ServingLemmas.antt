@@ -1,4 +1,4 @@
--- What a server was told, and what was written of it, one step more.
+-- What a server was reported, and what was written of it, one step more.
 use Rattle.std.proofs.Common.{◌≡◌, ◌∙◌, ◌<◌, ◌+◌, Bool, true, false, ◌++◌, ◌∷◌, [], inl, inr, ℕ, List, String, string_bytes, length, get_or, take, drop, Result, Ok, Err, IfOk, OnOk, OnErr, map, Option, None, Some, refl, sym, ap, subst, append_assoc}
 use Rattle.std.specs.Io.KnownBytes.{Appends, Consumes, IsAtEnd}
 use Rattle.std.specs.List.{flat_map, AllZip}
@@ -9,7 +9,7 @@ use Rattle.std.proofs.lemmas.List.Concat.{flat_map-append}
 use Rattle.json_rpc.specs.Outgoing.{Outgoing, nothing}
 use Rattle.message_frames.specs.Held.{Held}
 use Rattle.message_frames.specs.Shown.{Shown, Message, Wait, shown, frame_of}
-use Rattle.message_frames.specs.Standing.{Stands, IsNext}
+use Rattle.message_frames.specs.Representing.{Represents, IsNext}
 use Rattle.message_frames.specs.Stream.{Item, Begins, IsPartial}
 use Rattle.message_frames.specs.Writing.{frame}
 use Rattle.message_frames.specs.declared.framing.Frame.{Frame}
@@ -21,10 +21,10 @@ use Rattle.tera_server.specs.declared.server.Ended.{Ended}
 use Rattle.tera_server.specs.declared.server.Phase.{Phase}
 use Rattle.tera_server.specs.declared.server.Phase.TheVariants.{New, Running, ShutDown}
 use Rattle.tera_server.specs.Steps.{ended_at}
-use Rattle.tera_server.specs.States.{text_on, why_on, IsLoadedAs, IsNotLoaded, wanted_of, wanted_view, KeepsTold}
+use Rattle.tera_server.specs.States.{text_on, why_on, IsLoadedAs, IsNotLoaded, needed_of, needed_view, KeepsReported}
 use Rattle.tera_server.specs.declared.server.OnDisk.{OnDisk}
 use Rattle.tera_server.specs.declared.server.Server.{Server}
-use Rattle.tera_server.specs.declared.server.Wanted.{Wanted}
+use Rattle.tera_server.specs.declared.server.Needed.{Needed}
 use Rattle.tera_files.specs.Finding.{AreOf, AreOfAll}
 use Rattle.tera_program.specs.Serving.{Takes, SettlesSo, Settles, IsNew, IsAsked, IsLoaded, AreLoaded, LoadedNone, LoadedNext, Gives, Talks, Silent, Took, Settled, Given, Rounds, NoRound, NextRound, or_short, IsAtRest, IsOver, IsServed, IsTalking, ended_of, IsLeft, IsWaiting, Rests}
 use Rattle.tera_program.specs.declared.server.Left.{Left}
@@ -43,15 +43,15 @@ consumes_more (Some l) (Some k) None xs ys first second = absurd second
 consumes_more (Some l) (Some k) (Some j) xs ys first second = first ∙ ap (λ t. xs ++ t) second ∙ sym (append_assoc xs ys j)
 
 -- what is asked for was taken
-pub asked_for : (w : Option Wanted) (x : Wanted) (s t : Server) → w ≡ Some x → wanted_of s ≡ wanted_of t ++ option_to_list (option_map wanted_view w) → t ≡ record s { wanted = t.wanted } →
-    IsAsked (Some (wanted_view x)) s t
-asked_for w x s t is wanted same =
-    record { wanted = wanted ∙ ap (λ v. wanted_of t ++ option_to_list (option_map wanted_view v)) is; none = λ e. cc; same = same }
+pub asked_for : (w : Option Needed) (x : Needed) (s t : Server) → w ≡ Some x → needed_of s ≡ needed_of t ++ option_to_list (option_map needed_view w) → t ≡ record s { needed = t.needed } →
+    IsAsked (Some (needed_view x)) s t
+asked_for w x s t is needed same =
+    record { needed = needed ∙ ap (λ v. needed_of t ++ option_to_list (option_map needed_view v)) is; none = λ e. cc; same = same }
 
-pub asked_nothing : (w : Option Wanted) (s t : Server) → w ≡ None → wanted_of s ≡ wanted_of t ++ option_to_list (option_map wanted_view w) → (w ≡ None → wanted_of s ≡ []) →
-    t ≡ record s { wanted = t.wanted } → IsAsked None s t
-asked_nothing w s t is wanted none same =
-    record { wanted = wanted ∙ ap (λ v. wanted_of t ++ option_to_list (option_map wanted_view v)) is; none = λ e. none is; same = same }
+pub asked_nothing : (w : Option Needed) (s t : Server) → w ≡ None → needed_of s ≡ needed_of t ++ option_to_list (option_map needed_view w) → (w ≡ None → needed_of s ≡ []) →
+    t ≡ record s { needed = t.needed } → IsAsked None s t
+asked_nothing w s t is needed none same =
+    record { needed = needed ∙ ap (λ v. needed_of t ++ option_to_list (option_map needed_view v)) is; none = λ e. none is; same = same }
 
 -- the files of a folder
 pub of_folder : (extensions : List (List ℕ)) (folder : List ℕ) (files : List (List ℕ)) → AreOfAll extensions (folder ∷ []) files → AreOf extensions folder files
@@ -85,7 +85,7 @@ pub folder_unread : (extensions : List (List ℕ)) (folder : List ℕ) (s : Serv
 folder_unread extensions folder s = ([], folder ∷ [], inl refl, LoadedNone)
 
 -- a text was loaded
-pub is_loaded : {T E : Type 0} (r : Result T E) (path : List ℕ) (found : OnDisk) (s t : Server) → KeepsTold s t → t ≡ record s { workspace = t.workspace; unread = t.unread; edited = t.edited } →
+pub is_loaded : {T E : Type 0} (r : Result T E) (path : List ℕ) (found : OnDisk) (s t : Server) → KeepsReported s t → t ≡ record s { workspace = t.workspace; unread = t.unread; edited = t.edited } →
     OnOk r (IsLoadedAs path (text_on found) (why_on found) s t) → OnErr r (IsNotLoaded path s t) → IsLoaded path s t
 is_loaded (Ok v) path found s t stays same loaded unchanged = record { documents = inl (found, loaded); same = same; stays = stays }
 is_loaded (Err e) path found s t stays same loaded unchanged = record { documents = inr unchanged; same = same; stays = stays }
@@ -95,12 +95,12 @@ pub some_found : {T E : Type 0} (r : Result T E) (path : List ℕ) (found : OnDi
 some_found (Ok v) path found s t loaded = (found, loaded)
 some_found (Err e) path found s t loaded = tt
 
--- no memory was found to read a file
+-- an allocation failed to read a file
 pub unloaded : (path : List ℕ) (s : Server) → IsLoaded path s s
 unloaded path s = record {
   documents = inr (record { documents = λ n. refl; unread = λ n e. refl; edited = inl refl });
   same = refl;
-  stays = record { encoding = refl; told = λ n. refl; kept = λ k. k };
+  stays = record { encoding = refl; reported = λ n. refl; kept = λ k. k };
 }
 
 -- no whole message is left, and none ended the exchange
@@ -109,11 +109,11 @@ record Waits (limit : ℕ) (s t : Server) (bytes : List ℕ) (held : Held) (old 
   pub partial : IsPartial talking.rest
 
 -- of these bytes none is taken yet
-pub talk_begun : (limit : ℕ) (s : Server) (bytes : List ℕ) (held : Held) (old : Option (List ℕ)) → Stands held bytes → IsTalking limit None s s bytes held old old
-talk_begun limit s bytes held old stands =
-    record { items = []; rest = bytes; sent = []; begins = refl; stands = stands; talked = Silent; written = appends_none old }
+pub talk_begun : (limit : ℕ) (s : Server) (bytes : List ℕ) (held : Held) (old : Option (List ℕ)) → Represents held bytes → IsTalking limit None s s bytes held old old
+talk_begun limit s bytes held old represents =
+    record { items = []; rest = bytes; sent = []; begins = refl; represents = represents; talked = Silent; written = appends_none old }
 
--- what is sent is written behind the rest
+-- what is sent is written after the rest
 written_on : (a b c : Option (List ℕ)) (sent more : List (List ℕ)) → Appends a b (flat_map frame sent) → Appends b c (flat_map frame more) → Appends a c (flat_map frame (sent ++ more))
 written_on a b c sent more before wrote =
     appends_more a b c (flat_map frame sent) (flat_map frame more) (flat_map frame (sent ++ more)) before wrote (sym (flat_map-append frame sent more))
@@ -123,12 +123,12 @@ talk_on : (limit : ℕ) (s t u : Server) (bytes : List ℕ) (held now : Held) (o
     (k : IsTalking limit None s t bytes held old mid) → (next ≡ Wait → ⊥) → IsNext limit k.rest next now →
     Takes t next ended u out → Appends mid new (flat_map frame out.sent) → IsTalking limit ended s u bytes now old new
 talk_on limit s t u bytes held now old mid new next ended out k some (None, is, takes) does wrote = absurd (some is)
-talk_on limit s t u bytes held now old mid new next ended out k some (Some item, is, (text, rest, whole, is_text, stands)) does wrote = record {
+talk_on limit s t u bytes held now old mid new next ended out k some (Some item, is, (text, rest, whole, is_text, represents)) does wrote = record {
   items = k.items ++ item ∷ [];
   rest = rest;
   sent = k.sent ++ out.sent;
   begins = begins_on k.items (item ∷ []) bytes k.rest rest k.begins (text, rest, whole, is_text, refl);
-  stands = stands;
+  represents = represents;
   talked =
       subst (λ fs. Talks s fs (k.sent ++ out.sent) ended u) (ap (λ f. map (frame_of limit) k.items ++ f ∷ []) is ∙ sym (map_push (frame_of limit) k.items item))
       (Took (map (frame_of limit) k.items) k.sent t u next ended out k.talked does);
@@ -137,17 +137,17 @@ talk_on limit s t u bytes held now old mid new next ended out k some (Some item,
 
 -- .. for which memory was found
 pub talk_took : (limit : ℕ) (s t u : Server) (bytes : List ℕ) (held now : Held) (old mid new : Option (List ℕ)) (next : Frame) (ended : Option Ended) (out : Outgoing) →
-    IsTalking limit None s t bytes held old mid → (next ≡ frames.Wait → ⊥) → ((rest : List ℕ) → Stands held rest → IsNext limit rest (shown next) now) →
+    IsTalking limit None s t bytes held old mid → (next ≡ frames.Wait → ⊥) → ((rest : List ℕ) → Represents held rest → IsNext limit rest (shown next) now) →
     Takes t (shown next) ended u out → Appends mid new (flat_map frame out.sent) → IsTalking limit ended s u bytes now old new
 talk_took limit s t u bytes held now old mid new next ended out k some is does wrote =
-    talk_on limit s t u bytes held now old mid new (shown next) ended out k (no_wait next some) (is k.rest k.stands) does wrote
+    talk_on limit s t u bytes held now old mid new (shown next) ended out k (no_wait next some) (is k.rest k.represents) does wrote
 
 -- .. or was not: a message was passed over
 pub talk_missed : (limit : ℕ) (s t u : Server) (bytes : List ℕ) (held now : Held) (old mid new : Option (List ℕ)) (out : Outgoing) →
-    IsTalking limit None s t bytes held old mid → ((rest : List ℕ) → Stands held rest → (message : List ℕ) × IsNext limit rest (Message message) now) →
+    IsTalking limit None s t bytes held old mid → ((rest : List ℕ) → Represents held rest → (message : List ℕ) × IsNext limit rest (Message message) now) →
     ((message : List ℕ) → Takes t (Message message) None u out) → Appends mid new (flat_map frame out.sent) → IsTalking limit None s u bytes now old new
 talk_missed limit s t u bytes held now old mid new out k skipped does wrote =
-    let (message, is) = skipped k.rest k.stands in
+    let (message, is) = skipped k.rest k.represents in
     talk_on limit s t u bytes held now old mid new (Message message) None out k (λ e. cc) is (does message) wrote
 
 -- it ended the exchange
@@ -176,25 +176,25 @@ talk_given limit s t u bytes held old new k gives = record {
   rest = k.rest;
   sent = k.sent;
   begins = k.begins;
-  stands = k.stands;
+  represents = k.represents;
   talked = Given (map (frame_of limit) k.items) k.sent t u k.talked gives;
   written = k.written;
 }
 
 -- no whole message waits
 talk_settled : (limit : ℕ) (s t u : Server) (bytes : List ℕ) (held now : Held) (old mid new : Option (List ℕ)) (out : Outgoing) →
-    (k : IsTalking limit None s t bytes held old mid) → ((rest : List ℕ) → Stands held rest → IsNext limit rest Wait now) →
+    (k : IsTalking limit None s t bytes held old mid) → ((rest : List ℕ) → Represents held rest → IsNext limit rest Wait now) →
     Settles t u out → Appends mid new (flat_map frame out.sent) → Waits limit s u bytes now old new
-talk_settled limit s t u bytes held now old mid new out k is does wrote = by (is k.rest k.stands)
+talk_settled limit s t u bytes held now old mid new out k is does wrote = by (is k.rest k.represents)
   where
     by : IsNext limit k.rest Wait now → Waits limit s u bytes now old new
-    by (None, e, (partial, stands)) = record {
+    by (None, e, (partial, represents)) = record {
       talking = record {
         items = k.items;
         rest = k.rest;
         sent = k.sent ++ out.sent;
         begins = k.begins;
-        stands = stands;
+        represents = represents;
         talked = Settled (map (frame_of limit) k.items) k.sent t u out k.talked does;
         written = written_on old mid new k.sent out.sent k.written wrote;
       };
@@ -204,7 +204,7 @@ talk_settled limit s t u bytes held now old mid new out k is does wrote = by (is
 
 -- .. and the exchange comes to rest
 pub talk_rests : (limit : ℕ) (left : Left) (s t u : Server) (bytes : List ℕ) (held now : Held) (old mid new : Option (List ℕ)) →
-    IsTalking limit None s t bytes held old mid → ((rest : List ℕ) → Stands held rest → IsNext limit rest Wait now) →
+    IsTalking limit None s t bytes held old mid → ((rest : List ℕ) → Represents held rest → IsNext limit rest Wait now) →
     Rests left t u mid new → IsWaiting limit left s u bytes now old new
 talk_rests limit left s t u bytes held now old mid new k is r =
     by left r.goes_on r.done (talk_settled limit s r.mid u bytes held now old mid new r.sent (talk_given limit s t r.mid bytes held old mid k r.given) is r.settled r.written)
@@ -217,13 +217,13 @@ talk_rests limit left s t u bytes held now old mid new k is r =
 -- .. where what is sent was written
 pub waits_where_ok : {E : Type 0} (r : Result Left E) (limit : ℕ) (s t u : Server) (first held now : Held) (old mid new : Option (List ℕ)) →
     ((start : Server) (bytes : List ℕ) (began : Option (List ℕ)) → IsTalking limit None start s bytes first began old → IsTalking limit None start t bytes held began mid) →
-    ((rest : List ℕ) → Stands held rest → IsNext limit rest Wait now) → IfOk r (λ left. Rests left t u mid new) →
+    ((rest : List ℕ) → Represents held rest → IsNext limit rest Wait now) → IfOk r (λ left. Rests left t u mid new) →
     IfOk r (λ left. (start : Server) (bytes : List ℕ) (began : Option (List ℕ)) → IsTalking limit None start s bytes first began old → IsWaiting limit left start u bytes now began new)
 waits_where_ok (Ok left) limit s t u first held now old mid new before is rests =
     λ start bytes began k. talk_rests limit left start t u bytes held now began mid new (before start bytes began k) is rests
 waits_where_ok (Err e) limit s t u first held now old mid new before is rests = tt
 
--- a part found no memory
+-- a part failed to allocate
 pub rests_short : (all : Bool) (s mid t : Server) (sent : Outgoing) (old new : Option (List ℕ)) → Gives s mid → SettlesSo all mid t sent → Appends old new (flat_map frame sent.sent) →
     Rests lefts.Short s t old new
 rests_short all s mid t sent old new given settled written =
@@ -231,11 +231,11 @@ rests_short all s mid t sent old new given settled written =
 
 nothing_due : (phase : Phase) (s t : Server) (sent : Outgoing) → s.phase ≡ phase → IsSettling phase s t nothing sent → t.phase ≡ Running → due_of t ≡ []
 nothing_due New s t sent is (same, none) running = cc (sym is ∙ (sym (ap (λ (u : Server). u.phase) same) ∙ running))
-nothing_due Running s t sent is p running = rw (p.edited, p.untold) refl
+nothing_due Running s t sent is p running = rw (p.edited, p.unpublished) refl
 nothing_due ShutDown s t sent is (same, none) running = cc (sym is ∙ (sym (ap (λ (u : Server). u.phase) same) ∙ running))
 
 -- nothing did
-pub rests_all : (all : Bool) (s mid t : Server) (sent : Outgoing) (old new : Option (List ℕ)) → all ≡ true → Gives s mid → wanted_of mid ≡ [] → SettlesSo all mid t sent → t.wanted ≡ mid.wanted →
+pub rests_all : (all : Bool) (s mid t : Server) (sent : Outgoing) (old new : Option (List ℕ)) → all ≡ true → Gives s mid → needed_of mid ≡ [] → SettlesSo all mid t sent → t.needed ≡ mid.needed →
     Appends old new (flat_map frame sent.sent) → Rests lefts.AtRest s t old new
 rests_all all s mid t sent old new is given none settled same written =
     let whole : SettlesSo true mid t sent = subst (λ b. SettlesSo b mid t sent) is settled in
@@ -246,7 +246,7 @@ rests_all all s mid t sent old new is given none settled same written =
       settled = (true, whole);
       written = written;
       goes_on = refl;
-      done = record { given = ap (λ v. map wanted_view v.items) same ∙ none; published = nothing_due mid.phase mid t sent refl whole };
+      done = record { given = ap (λ v. map needed_view v.items) same ∙ none; published = nothing_due mid.phase mid t sent refl whole };
     }
 
 -- ---- piece by piece
@@ -257,13 +257,13 @@ pub record IsReading (limit : ℕ) (short : Bool) (s t : Server) (bytes : List �
   pub sent : List (List ℕ)
   pub rounds : Rounds limit s short None bytes rest sent t
   pub partial : IsPartial rest
-  pub stands : Stands held rest
+  pub represents : Represents held rest
   pub written : Appends old new (flat_map frame sent)
 
 -- nothing was read
-pub reading_begun : (limit : ℕ) (s : Server) (held : Held) (old : Option (List ℕ)) → Stands held [] → IsReading limit false s s [] held old old
-reading_begun limit s held old stands =
-    record { rest = []; sent = []; rounds = NoRound; partial = nothing_partial; stands = stands; written = appends_none old }
+pub reading_begun : (limit : ℕ) (s : Server) (held : Held) (old : Option (List ℕ)) → Represents held [] → IsReading limit false s s [] held old old
+reading_begun limit s held old represents =
+    record { rest = []; sent = []; rounds = NoRound; partial = nothing_partial; represents = represents; written = appends_none old }
 
 -- one piece more
 next_round : (limit : ℕ) (short : Bool) (left : Left) (s t u : Server) (bytes piece : List ℕ) (held now : Held) (old mid new : Option (List ℕ)) →
@@ -284,11 +284,11 @@ reading_on limit short left s t u bytes piece held now old mid new none k w = re
       subst (λ e. Rounds limit s (or_short short left) e (bytes ++ piece) w.talking.rest (k.sent ++ w.talking.sent) u) none
       (next_round limit short left s t u bytes piece held now old mid new k w);
   partial = w.partial none;
-  stands = w.talking.stands;
+  represents = w.talking.represents;
   written = written_on old mid new k.sent w.talking.sent k.written w.talking.written;
 }
 
--- one exchange behind another
+-- one exchange after another
 talks_same : (s u : Server) (fs gs : List Shown) (ms ns : List (List ℕ)) (ended : Option Ended) → fs ≡ gs → ms ≡ ns → Talks s fs ms ended u → Talks s gs ns ended u
 talks_same s u fs gs ms ns ended frames sent talked = subst (λ xs. Talks s xs ns ended u) frames (subst (λ xs. Talks s fs xs ended u) sent talked)
 

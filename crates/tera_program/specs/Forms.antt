@@ -7,7 +7,7 @@ use Rattle.tera_check.specs.Findings.{FindingVal, lines_of}
 use Rattle.tera_check.specs.Objects.{object_of}
 use Rattle.tera_report.specs.Annotations.{annotation}
 use Rattle.tera_report.specs.Logs.{log_begin, log_end, result_object}
-use Rattle.tera_report.specs.Told.{told}
+use Rattle.tera_report.specs.FullTexts.{full_text}
 use Rattle.tera_report.specs.Unread.{unread_annotation, unread_object, unread_result}
 use Rattle.terminal_text.specs.declared.style.Style.{Style}
 use Rattle.tera_program.specs.Found.{FoundVal}
@@ -15,17 +15,17 @@ use Rattle.tera_program.specs.Sources.{Known, UnreadVal}
 use Rattle.tera_program.specs.declared.job.Form.{Form}
 use Rattle.tera_program.specs.declared.job.Form.TheVariants as forms
 
--- the version that the program tells
+-- the version that the program says
 abbrev pub version : List ℕ
 version = codes "0.1.0"
 
--- what is written of the findings in a file, one behind another
+-- what is written of the findings in a file, one after another
 abbrev pub of_each : {A : Type 0} → (List ℕ → FindingVal → List A) → FoundVal → List A
 of_each of_one found = flat_map (of_one found.0) found.1
 
 -- the text of a finding in a file; a log has none of single findings
 abbrev pub finding_text : Form → Style → Known → List ℕ → FindingVal → List ℕ
-finding_text forms.Full style known file finding = told style known file finding
+finding_text forms.Full style known file finding = full_text style known file finding
 finding_text forms.Concise style known file finding = lines_of file finding
 finding_text forms.Json style known file finding = print (object_of file finding) ++ 10 ∷ []
 finding_text forms.Github style known file finding = annotation file finding

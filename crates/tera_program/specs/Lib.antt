@@ -8,7 +8,7 @@ pub mod Jobs
 pub mod Lines
 pub mod Plans
 pub mod Sources
-pub mod Told
+pub mod Report
 pub mod Reasons
 pub mod Sent
 pub mod Serving

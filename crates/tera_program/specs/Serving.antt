@@ -8,7 +8,7 @@ use Rattle.json_rpc.specs.Messages.{message_of}
 use Rattle.json_rpc.specs.Outgoing.{Outgoing, nothing}
 use Rattle.json_rpc.specs.declared.code.Code.TheVariants.{InternalError, ParseError}
 use Rattle.message_frames.specs.Held.{Held}
-use Rattle.message_frames.specs.Standing.{Stands}
+use Rattle.message_frames.specs.Representing.{Represents}
 use Rattle.message_frames.specs.Shown.{Shown, Message, TooLong, Bad, Wait, frame_of}
 use Rattle.message_frames.specs.Stream.{Item, Begins, IsPartial}
 use Rattle.message_frames.specs.Writing.{frame}
@@ -17,28 +17,28 @@ use Rattle.tera_program.specs.declared.options.TheConstants.{EXTENSIONS}
 use Rattle.tera_program.specs.declared.server.Left.{Left}
 use Rattle.tera_program.specs.declared.server.Left.TheVariants as lefts
 use Rattle.tera_server.specs.Settling.{due_of, IsSettling, ArePublishedInPart}
-use Rattle.tera_server.specs.Sending.{untold_of}
-use Rattle.tera_server.specs.States.{known_of, text_on, why_on, IsLoadedAs, IsNotLoaded, WantedVal, WantsFile, WantsFolder, wanted_of, edited_of, KeepsTold}
+use Rattle.tera_server.specs.Sending.{unpublished_of}
+use Rattle.tera_server.specs.States.{known_of, text_on, why_on, IsLoadedAs, IsNotLoaded, NeededVal, NeedsFile, NeedsFolder, needed_of, edited_of, KeepsReported}
 use Rattle.tera_server.specs.Steps.{ended_at, Step, IsRefused, IsUntaken}
 use Rattle.tera_server.specs.declared.server.Ended.{Ended}
 use Rattle.tera_server.specs.declared.server.Phase.TheVariants.{New, Running}
 use Rattle.tera_server.specs.UnreadFiles.{why_of}
 use Rattle.tera_server.specs.declared.server.OnDisk.{OnDisk}
 use Rattle.tera_server.specs.declared.server.Server.{Server}
-use Rattle.tera_workspace.specs.Workspaces.{told_of_name, IsKept}
+use Rattle.tera_workspace.specs.Workspaces.{reported_of_name, IsKept}
 use Rattle.text_edits.specs.Documents.{no_document}
 
--- nothing was sent to a server: it knows no document, tells nothing, asks for nothing, has nothing to publish, and knows of no
--- file that cannot be read
+-- nothing was sent to a server: it knows no document, says nothing, asks for nothing, has nothing to publish, and knows
+-- of no file that cannot be read
 pub record IsNew (s : Server) : Type 0 where
   pub phase : s.phase ≡ New
   pub known : (n : List ℕ) → known_of s n ≡ record { seen = None; texts = no_document }
-  pub told : (n : List ℕ) → told_of_name s.workspace n ≡ []
+  pub reported : (n : List ℕ) → reported_of_name s.workspace n ≡ []
   pub kept : IsKept s.workspace
-  pub none : (wanted_of s ≡ []) × (edited_of s ≡ []) × (untold_of s ≡ []) × ((n : List ℕ) → why_of s.unread n ≡ None)
+  pub none : (needed_of s ≡ []) × (edited_of s ≡ []) × (unpublished_of s ≡ []) × ((n : List ℕ) → why_of s.unread n ≡ None)
 
--- what a message does, and what is to be sent then; what is too long is missed, and what is no message is refused: each
--- may have been a change
+-- what a message does, and what is to be sent then; what is too long is missed, and what is not a message is refused:
+-- each may have been a change
 abbrev pub Takes : Server → Shown → Option Ended → Server → Outgoing → Type 0
 Takes s (Message message) ended t out =
     Step s (message_of message) nothing ended t out ⊎ ((ended ≡ None) × IsUntaken s (message_of message) nothing t out)
@@ -48,7 +48,7 @@ Takes s Bad ended t out =
     (ended ≡ None) × IsRefused NullId ParseError s nothing t out
 Takes s Wait ended t out = (ended ≡ None) × (t ≡ s) × (out ≡ nothing)
 
--- what is published when no message waits: all of it or, where no memory was found, a part
+-- what is published when no message waits: all of it or, if an allocation fails, a part
 abbrev pub SettlesSo : Bool → Server → Server → Outgoing → Type 0
 SettlesSo true s t out = IsSettling s.phase s t nothing out
 SettlesSo false s t out = ArePublishedInPart s t nothing out
@@ -57,17 +57,17 @@ abbrev pub Settles : Server → Server → Outgoing → Type 0
 Settles s t out = (all : Bool) × SettlesSo all s t out
 
 -- what a server asks for next is taken, or none where nothing is asked for; and nothing else changes
-pub record IsAsked (next : Option WantedVal) (s t : Server) : Type 0 where
-  pub wanted : wanted_of s ≡ wanted_of t ++ option_to_list next
-  pub none : next ≡ None → wanted_of s ≡ []
-  pub same : t ≡ record s { wanted = t.wanted }
+pub record IsAsked (next : Option NeededVal) (s t : Server) : Type 0 where
+  pub needed : needed_of s ≡ needed_of t ++ option_to_list next
+  pub none : next ≡ None → needed_of s ≡ []
+  pub same : t ≡ record s { needed = t.needed }
 
 -- a text is in the file of this path, or it cannot be read, or there is none; or an allocation failed for that, and the texts
 -- are what they were
 pub record IsLoaded (path : List ℕ) (s t : Server) : Type 0 where
   pub documents : ((found : OnDisk) × IsLoadedAs path (text_on found) (why_on found) s t) ⊎ IsNotLoaded path s t
   pub same : t ≡ record s { workspace = t.workspace; unread = t.unread; edited = t.edited }
-  pub stays : KeepsTold s t
+  pub stays : KeepsReported s t
 
 -- files of these paths were given, in order
 pub data AreLoaded (s : Server) : List (List ℕ) → Server → Type 0 where
@@ -81,27 +81,27 @@ extensions = map (λ e. e.now) EXTENSIONS
 
 -- what is asked for is given: the file of a path, or those that the path of a folder means, in order, as far as memory was
 -- found for them
-abbrev pub AreGiven : WantedVal → Server → Server → Type 0
-AreGiven (WantsFile path) s t = IsLoaded path s t
-AreGiven (WantsFolder path) s t =
+abbrev pub AreGiven : NeededVal → Server → Server → Type 0
+AreGiven (NeedsFile path) s t = IsLoaded path s t
+AreGiven (NeedsFolder path) s t =
     (files rest : List (List ℕ)) × AreOf extensions path (files ++ rest) × AreLoaded s files t
 
--- .. in part, where no memory was found; so it is asked for again, unless that finds none either
-pub record IsGivenInPart (wanted : WantedVal) (s t : Server) : Type 0 where
+-- .. in part, if an allocation fails; so it is asked for again, unless that finds none either
+pub record IsGivenInPart (needed : NeededVal) (s t : Server) : Type 0 where
   pub mid : Server
-  pub given : AreGiven wanted s mid
-  pub same : t ≡ record mid { wanted = t.wanted }
-  pub again : (wanted_of t ≡ wanted_of mid ++ wanted ∷ []) ⊎ (wanted_of t ≡ wanted_of mid)
+  pub given : AreGiven needed s mid
+  pub same : t ≡ record mid { needed = t.needed }
+  pub again : (needed_of t ≡ needed_of mid ++ needed ∷ []) ⊎ (needed_of t ≡ needed_of mid)
 
 -- what a server asks for is taken, one by one, and given to it
 pub data Gives (s : Server) : Server → Type 0 where
   GaveNone : Gives s s
-  Gave : (wanted : WantedVal) (t u v : Server) → Gives s t → IsAsked (Some wanted) t u → AreGiven wanted u v → Gives s v
-  GaveInPart : (wanted : WantedVal) (t u v : Server) →
-      Gives s t → IsAsked (Some wanted) t u → IsGivenInPart wanted u v → Gives s v
+  Gave : (needed : NeededVal) (t u v : Server) → Gives s t → IsAsked (Some needed) t u → AreGiven needed u v → Gives s v
+  GaveInPart : (needed : NeededVal) (t u v : Server) →
+      Gives s t → IsAsked (Some needed) t u → IsGivenInPart needed u v → Gives s v
   GaveAll : (t u : Server) → Gives s t → IsAsked None t u → Gives s u
 
--- from a server on: what came, what was sent, in order, how the exchange ended if it did, and the server then. Behind a
+-- from a server on: what came, what was sent, in order, how the exchange ended if it did, and the server then. After a
 -- message that ends the exchange nothing comes
 pub data Talks (s : Server) : List Shown → List (List ℕ) → Option Ended → Server → Type 0 where
   Silent : Talks s [] [] None s
@@ -116,7 +116,7 @@ pub data Talks (s : Server) : List Shown → List (List ℕ) → Option Ended �
 
 -- nothing is left to be done: what was asked for was given, and once the exchange has begun what is found is published
 pub record IsAtRest (t : Server) : Type 0 where
-  pub given : wanted_of t ≡ []
+  pub given : needed_of t ≡ []
   pub published : t.phase ≡ Running → due_of t ≡ []
 
 -- how messages left the exchange, and the server
@@ -145,9 +145,9 @@ or_short short (lefts.Ended finished) = short
 or_short short lefts.AtRest = short
 or_short short lefts.Short = true
 
--- from a server on: whether memory was refused, how the exchange ended if it did, the bytes that came, those of them that
--- are no whole message, what was sent, and the server then. Each piece is read when nothing of those before is left to be
--- done, unless memory was refused
+-- from a server on: whether memory was refused, how the exchange ended if it did, the bytes that came, those of them
+-- that are not whole message, what was sent, and the server then. Each piece is read when nothing of those before is
+-- left to be done, unless memory was refused
 pub data Rounds (limit : ℕ) (s : Server) : Bool → Option Ended → List ℕ → List ℕ → List (List ℕ) → Server → Type 0 where
   NoRound : Rounds limit s false None [] [] [] s
   NextRound : (short : Bool) (bytes rest piece now : List ℕ) (sent more : List (List ℕ)) (t u : Server) (left : Left) →
@@ -159,9 +159,10 @@ abbrev pub IsOver : Option Ended → Ended → Server → List ℕ → Option (L
 IsOver (Some ended) finished t rest unread = finished ≡ ended
 IsOver None finished t rest unread = (finished ≡ ended_at t.phase) × IsPartial rest × IsAtEnd unread
 
--- the bytes that came are messages in their order, which were told to a new server, and then the rest; what it sent, each
--- message behind its header, was written in its order; and so the exchange ended. Whenever more was read, and when nothing
--- more came, what the server asked for was given, and what was found was published, unless memory was refused
+-- the bytes that came are messages in their order, which were reported to a new server, and then the rest; what it
+-- sent, each message after its header, was written in its order; and so the exchange ended. Whenever more was read, and
+-- when nothing more came, what the server asked for was given, and what was found was published, unless memory was
+-- refused
 pub record IsServed (limit : ℕ) (finished : Ended) (short : Bool) (read unread old new : Option (List ℕ)) : Type 0 where
   pub first : Server
   pub last : Server
@@ -181,17 +182,17 @@ pub record IsServed (limit : ℕ) (finished : Ended) (short : Bool) (read unread
 
 -- ---- as far as it has come
 
--- these bytes were taken but for those that are held, and what was sent was written
+-- these bytes were taken except those that are held, and what was sent was written
 pub record IsTalking (limit : ℕ) (ended : Option Ended) (s t : Server) (bytes : List ℕ) (held : Held) (old new : Option (List ℕ)) : Type 0 where
   pub items : List Item
   pub rest : List ℕ
   pub sent : List (List ℕ)
   pub begins : Begins bytes items rest
-  pub stands : Stands held rest
+  pub represents : Represents held rest
   pub talked : Talks s (map (frame_of limit) items) sent ended t
   pub written : Appends old new (flat_map frame sent)
 
--- .. and no whole message is left, unless one ended the exchange; then nothing is left to be done, unless no memory was found
+-- .. and no whole message is left, unless one ended the exchange; then nothing is left to be done, unless an allocation failed
 -- for a part of it
 pub record IsWaiting (limit : ℕ) (left : Left) (s t : Server) (bytes : List ℕ) (held : Held) (old new : Option (List ℕ)) : Type 0 where
   pub talking : IsTalking limit (ended_of left) s t bytes held old new

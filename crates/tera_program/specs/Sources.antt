@@ -40,11 +40,11 @@ AddsKept true file text old new =
     (source : Source) × (string_bytes source.file ≡ file) × (string_bytes source.text ≡ text) × (new ≡ old ++ source ∷ [])
 AddsKept false file text old new = new ≡ old
 
--- The template of a file goes behind the others, and so does its source where it is kept.
+-- The template of a file goes after the others, and so does its source where it is kept.
 pub record AddsRead (file text : List ℕ) (faults : ℕ) (keeps : Bool) (old new : Templates) : Type 0 where
   pub template : Template
   pub read : IsReadFrom file text faults template
-  pub behind : new.templates.items ≡ old.templates.items ++ template ∷ []
+  pub following : new.templates.items ≡ old.templates.items ++ template ∷ []
   pub kept : AddsKept keeps file text old.sources.items new.sources.items
 
 -- a file that could not be read, and why

@@ -37,7 +37,7 @@ fn has_left_out(rest: &str) -> bool {
     rest.split('/').any(|name| is_name_left_out(name))
 }
 
-// Whether the folder of the file is behind a link that is below the folder that is open.
+// Whether the folder of the file is after a link that is below the folder that is open.
 fn is_linked<F: Files + AllocGlobal>(files: &F, folder: &str, path: &str, rest: &str) -> bool {
     let (Some((parent, _)), Some((below, _))) = (path.rsplit_once('/'), rest.rsplit_once('/'))
     else {

@@ -5,15 +5,15 @@ ghost use Rattle.std.specs.Fmt.{decimal};
 ghost use Rattle.std.specs.Io.KnownBytes.{Keeps};
 ghost use Rattle.tera_program.specs.Counting.{checked_line};
 ghost use Rattle.tera_program.specs.Sources.{nothing, unreadable_view, with_sources};
-ghost use Rattle.tera_program.specs.Told.{IsChecked, IsTold, counts_of, ended_of};
+ghost use Rattle.tera_program.specs.Report.{IsChecked, IsReported, counts_of, ended_of};
 
 use crate::colours::{Terminals, style};
 use crate::counting::{Checked, checked_line};
 use crate::job::{Check, Form};
-use crate::output::{put_error, tell, tell_stopped};
+use crate::output::{print_error, print_stopped, put_error};
 use crate::reading::{Templates, read_all};
+use crate::reporting::{Report, write_findings};
 use crate::status::Ended;
-use crate::telling::{Told, tell_findings};
 use std::alloc::{AllocError, Global};
 use std::io;
 use std::io::Write;
@@ -22,7 +22,7 @@ use terminal_text::Style;
 
 /// Checks the files, beside those of the library.
 ///
-/// The templates that are checked stand before those of the library, so that of two components of one name theirs counts.
+/// The templates that are checked are before those of the library, so that of two components of one name theirs counts.
 pub(crate) fn run<R: Files + Env + Input + Print + Eprint + AllocGlobal + Clone + Drop>(
     rt: &R,
     terminals: Terminals,
@@ -33,11 +33,11 @@ pub(crate) fn run<R: Files + Env + Input + Print + Eprint + AllocGlobal + Clone 
         return Ended::failed();
     };
     if has_input(job.library) {
-        tell(rt, "tera", "--library: a file or a folder is wanted");
+        print_error(rt, "tera", "--library: expected a file or a folder");
         return Ended::failed();
     }
     let Some(faults) = number_from_1(job.max_faults) else {
-        tell(rt, "tera", "--max-faults: a number from 1 on is wanted");
+        print_error(rt, "tera", "--max-faults: a number from 1 on is wanted");
         return Ended::failed();
     };
     // Excerpts alone want the sources.
@@ -49,7 +49,7 @@ pub(crate) fn run<R: Files + Env + Input + Print + Eprint + AllocGlobal + Clone 
             ended.unless_said(is_said)
         }
         Err(_) => {
-            tell(rt, "tera", "out of memory");
+            print_error(rt, "tera", "out of memory");
             Ended::failed()
         }
     }
@@ -86,31 +86,31 @@ fn run_on<R: Eprint + AllocGlobal, W: Write>(
     ensures { IsChecked job.now.form style all.now (W.contents writer.old) (W.contents writer.new)
         result.0 }
 {
-    let told = tell_all(rt.alloc(), style, job.form, all, writer);
-    let is_said = match &told {
-        Ok(told) => tell_end(rt, job, all, told),
+    let report = write_all_findings(rt.alloc(), style, job.form, all, writer);
+    let is_said = match &report {
+        Ok(report) => print_end(rt, job, all, report),
         Err(_) => {
-            tell(rt, "tera", "out of memory");
+            print_error(rt, "tera", "out of memory");
             false
         }
     };
-    (ended(&told, all.unread.len()), is_said)
+    (ended(&report, all.unread.len()), is_said)
 }
 
-fn tell_all<W: Write>(
+fn write_all_findings<W: Write>(
     alloc: Global,
     style: Style,
     form: Form,
     all: &Templates,
     writer: &mut W,
-) -> Result<Told, AllocError>
-    ensures told { IfOk result (IsTold form style (with_sources nothing all.now.sources.items)
+) -> Result<Report, AllocError>
+    ensures report { IfOk result (IsReported form style (with_sources nothing all.now.sources.items)
         (map unreadable_view all.now.unread.items) all.now.templates.items all.now.checked
         (W.contents writer.old) (W.contents writer.new)) }
     ensures memory { OnErr result (Keeps (W.contents writer.old) (W.contents writer.new)) }
 {
     let mut sources = all.texts(alloc)?;
-    tell_findings(
+    write_findings(
         alloc,
         writer,
         form,
@@ -123,31 +123,31 @@ fn tell_all<W: Write>(
 }
 
 // How the program ends where so many files could not be read.
-fn ended(told: &Result<Told, AllocError>, unread: usize) -> Ended
-    ensures { result ≡ ended_of told.now unread }
+fn ended(report: &Result<Report, AllocError>, unread: usize) -> Ended
+    ensures { result ≡ ended_of report.now unread }
 {
-    match told {
-        Ok(told) => Ended {
-            found: told.errors,
-            failed: unread > 0 || told.stopped.is_some(),
+    match report {
+        Ok(report) => Ended {
+            found: report.errors,
+            failed: unread > 0 || report.stopped.is_some(),
         },
         Err(_) => Ended::failed(),
     }
 }
 
 // Says on standard error why not all was written, or else the last line. The answer is whether that went well.
-fn tell_end<R: Eprint + AllocGlobal>(
+fn print_end<R: Eprint + AllocGlobal>(
     rt: &R,
     job: &Check<'_, '_>,
     all: &Templates,
-    told: &Told,
+    report: &Report,
 ) -> bool {
-    match told.stopped {
+    match report.stopped {
         Some(error) => {
-            tell_stopped(rt, error);
+            print_stopped(rt, error);
             false
         }
-        None if is_counted(job) => match last_line(rt.alloc(), all, told) {
+        None if is_counted(job) => match last_line(rt.alloc(), all, report) {
             Ok(line) => put_error(rt, line.as_str()),
             Err(_) => false,
         },
@@ -161,22 +161,22 @@ fn is_counted(job: &Check<'_, '_>) -> bool {
 }
 
 // The last line, which counts what was written and the files that were read.
-fn last_line(alloc: Global, all: &Templates, told: &Told) -> Result<String, AllocError>
+fn last_line(alloc: Global, all: &Templates, report: &Report) -> Result<String, AllocError>
     ensures { IfOk result (λ line. string_bytes line
-        ≡ checked_line (counts_of all.now told.now) ++ 10 ∷ []) }
+        ≡ checked_line (counts_of all.now report.now) ++ 10 ∷ []) }
 {
-    let mut line = checked_line(alloc, counts_of(all, told))?;
+    let mut line = checked_line(alloc, counts_of(all, report))?;
     line.push('\n')?;
     Ok(line)
 }
 
-fn counts_of(all: &Templates, told: &Told) -> Checked
-    ensures { result ≡ counts_of all.now told.now }
+fn counts_of(all: &Templates, report: &Report) -> Checked
+    ensures { result ≡ counts_of all.now report.now }
 {
     Checked {
         files: all.checked,
-        findings: told.findings,
-        faulty: told.faulty,
+        findings: report.findings,
+        faulty: report.faulty,
         unread: all.unread.len(),
     }
 }

@@ -3,14 +3,14 @@
 use crate::colours::{Terminals, style};
 use crate::counting::{Listed, listed_line};
 use crate::job::Components;
-use crate::output::{put, put_error, tell};
+use crate::output::{print_error, put, put_error};
 use crate::reading::{Templates, read_all};
 use crate::status::Ended;
 use std::alloc::{AllocError, Global};
 use std::rt::{Env, Files};
 use tera_catalogue::{Component, components_of, html_of, json_of};
 use tera_check::finding_of_fault;
-use tera_report::push_told;
+use tera_report::push_full;
 use terminal_text::Style;
 
 /// Lists the components of the files.
@@ -22,7 +22,7 @@ pub(crate) fn run<R: Files + Env + Input + Print + Eprint + AllocGlobal + Clone 
     match listed(rt, terminals, job) {
         Ok(ended) => ended,
         Err(_) => {
-            tell(rt, "tera", "out of memory");
+            print_error(rt, "tera", "out of memory");
             Ended::failed()
         }
     }
@@ -89,7 +89,7 @@ fn faults_of(alloc: Global, style: Style, all: &Templates) -> Result<Faults, All
         if let Err(error) = &template.parsed {
             let file = template.file.as_str();
             let finding = finding_of_fault(alloc, file, error)?;
-            push_told(alloc, &mut text, style, file, &mut sources, &finding)?;
+            push_full(alloc, &mut text, style, file, &mut sources, &finding)?;
             count = count.saturating_add(1);
         }
     }

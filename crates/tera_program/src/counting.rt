@@ -67,7 +67,7 @@ pub(crate) struct Listed {
     pub(crate) components: usize,
     /// How many files were read.
     pub(crate) files: usize,
-    /// How many of them are no templates.
+    /// How many of them are not templates.
     pub(crate) faulty: usize,
     /// How many files and folders could not be read.
     pub(crate) unread: usize,
@@ -90,7 +90,7 @@ pub(crate) fn listed_line(alloc: Global, counts: Listed) -> Result<String, Alloc
 pub(crate) struct LaidOut {
     pub(crate) changed: usize,
     pub(crate) same: usize,
-    /// How many are no templates.
+    /// How many are not templates.
     pub(crate) faulty: usize,
     pub(crate) failed: usize,
 }

@@ -7,10 +7,12 @@ ghost use Rattle.tera_lexer.specs.grammar.Marks.{marks_of, IsValid};
 use crate::colours::{Terminals, style};
 use crate::counting::{LaidOut, laid_out_line};
 use crate::job::{Format, Mode};
-use crate::markers::{markers_of, tell_unfit};
-use crate::output::{difference_for, name_line, put, put_error, tell, tell_unread, tell_unwritten};
+use crate::markers::{markers_of, print_unfit};
+use crate::output::{
+    difference_for, name_line, print_error, print_unread, print_unwritten, put, put_error,
+};
 use crate::plan::{Action, Plan, action_of, plan_of};
-use crate::reading::{found, name_of, tell_unlisted};
+use crate::reading::{found, name_of, print_unlisted};
 use crate::status::Ended;
 use crate::tree::fault_text;
 use std::alloc::AllocError;
@@ -24,24 +26,24 @@ use terminal_text::Style;
 enum Became {
     Changed,
     Same,
-    // It is no template.
+    // It is not a template.
     Faulty,
     Failed,
     // Its name, layout or difference could not be written to standard output.
-    Untold,
+    Unreported,
 }
 
 impl Became {
     // Of a template, once its answer was written, or not.
     fn of_plan(plan: &Plan, is_written: bool) -> Became {
         match plan {
-            _ if !is_written => Became::Untold,
+            _ if !is_written => Became::Unreported,
             Plan::Same => Became::Same,
             Plan::Layout(_) => Became::Changed,
         }
     }
 
-    // Of what is no template, once its fault was written, or not.
+    // Of what is not a template, once its fault was written, or not.
     fn of_fault(is_written: bool) -> Became {
         if is_written {
             Became::Faulty
@@ -76,12 +78,12 @@ pub(crate) fn run<R: Files + Env + Input + Print + Eprint + AllocGlobal + Clone 
         Ok(markers) => match lay_out_all(rt, styles, job, &markers) {
             Ok(ended) => ended,
             Err(_) => {
-                tell(rt, "tera", "out of memory");
+                print_error(rt, "tera", "out of memory");
                 Ended::failed()
             }
         },
         Err(why) => {
-            tell_unfit(rt, &why);
+            print_unfit(rt, &why);
             Ended::failed()
         }
     }
@@ -100,7 +102,7 @@ fn lay_out_all<R: Files + Input + Print + Eprint + AllocGlobal + Clone + Drop>(
         return Ok(Ended::failed());
     };
     let files = found(rt, job.common, paths)?;
-    tell_unlisted(rt, job.common, &files)?;
+    print_unlisted(rt, job.common, &files)?;
     let mut counts = LaidOut {
         changed: 0,
         same: 0,
@@ -109,7 +111,7 @@ fn lay_out_all<R: Files + Input + Print + Eprint + AllocGlobal + Clone + Drop>(
     };
     for file in &files.files {
         match lay_out(rt, styles, job, file.as_str(), markers)? {
-            Became::Untold => return Ok(Ended::failed()),
+            Became::Unreported => return Ok(Ended::failed()),
             became => counts = counted_with(counts, became),
         }
     }
@@ -137,7 +139,7 @@ fn counted_with(counts: LaidOut, became: Became) -> LaidOut {
         Became::Changed => &mut counts.changed,
         Became::Same => &mut counts.same,
         Became::Faulty => &mut counts.faulty,
-        Became::Failed | Became::Untold => &mut counts.failed,
+        Became::Failed | Became::Unreported => &mut counts.failed,
     };
     *count = count.saturating_add(1);
     counts
@@ -158,7 +160,7 @@ fn lay_out<R: Files + Input + Print + Eprint + AllocGlobal>(
     let source = match read_source(rt, file, name) {
         Ok(source) => source,
         Err(why) => {
-            tell_unread(rt, name, why);
+            print_unread(rt, name, why);
             return Ok(Became::Failed);
         }
     };
@@ -173,7 +175,7 @@ fn lay_out<R: Files + Input + Print + Eprint + AllocGlobal>(
     let is_written = match action {
         Action::Replace(layout) => {
             if let Err(why) = replace(rt, file, source.text.as_str(), layout) {
-                tell_unwritten(rt, file, why);
+                print_unwritten(rt, file, why);
                 return Ok(Became::Failed);
             }
             put_name(rt, styles, name)?

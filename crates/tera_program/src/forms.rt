@@ -19,12 +19,12 @@ use json::Writer;
 use std::alloc::{AllocError, Global};
 use tera_check::{Finding, lines_of, object_of};
 use tera_report::{
-    begin_log, end_log, push_annotation, push_told, push_unread_annotation, put_result, put_unread,
+    begin_log, end_log, push_annotation, push_full, push_unread_annotation, put_result, put_unread,
     unread_object_of,
 };
 use terminal_text::{Sources, Style};
 
-// Most findings are told in so many bytes.
+// Most findings are reported in so many bytes.
 const ROOM: usize = 1024;
 
 /// The text of files that could not be read, and of what is found in some templates.
@@ -136,7 +136,7 @@ fn push_finding(
     match form {
         Form::Full => {
             let mut text = String::with_capacity(alloc, ROOM)?;
-            push_told(alloc, &mut text, style, file, sources, finding)?;
+            push_full(alloc, &mut text, style, file, sources, finding)?;
             to.extend_from_slice(text.as_bytes())
         }
         Form::Concise => to.extend_from_slice(lines_of(alloc, file, finding)?.as_slice()),

@@ -18,8 +18,8 @@ pub(crate) struct Found<'a> {
     pub(crate) findings: Vec<Finding>,
 }
 
-/// What is found in each of the templates. Of those behind the first `checked`, which are the library, their faults alone
-/// are found.
+/// What is found in each of the templates. Of those after the first `checked`, which are the library, their faults
+/// alone are found.
 pub(crate) fn all_found<'a>(
     alloc: Global,
     templates: &'a Vec<Template>,

@@ -18,7 +18,7 @@ pub(crate) enum Job<'b, 'a> {
     Server,
 }
 
-/// What each job is told.
+/// What each job is reported.
 #[derive(Clone, Copy, Debug)]
 pub(crate) struct Common<'b, 'a> {
     /// How the names of templates end in a folder, where that is not as usual.
@@ -32,7 +32,7 @@ pub(crate) struct Common<'b, 'a> {
 #[derive(Clone, Copy, Debug)]
 pub(crate) struct Check<'b, 'a> {
     pub(crate) form: Form,
-    /// Where the components stand that may be called, beside those of the files.
+    /// Where the components are that may be called, beside those of the files.
     pub(crate) library: Option<&'b [&'a str]>,
     /// How many faults of a file are reported at the most: a word, which need be no number.
     pub(crate) max_faults: &'a str,
@@ -40,7 +40,7 @@ pub(crate) struct Check<'b, 'a> {
     pub(crate) common: Common<'b, 'a>,
 }
 
-/// How findings are told.
+/// How findings are reported.
 #[derive(Clone, Copy, Debug, PartialEq, Eq)]
 pub(crate) enum Form {
     Full,

@@ -1,13 +1,13 @@
 //! The program `tera`: its command line, and what each subcommand does.
 //!
-//! It takes a runtime and answers the status that the process ends with (`run`), so that a program is no more than
-//! that call. It stands on `clap` for the command line, on `tera_files` for files, and on `tera_report` and
-//! `terminal_text` for what is told.
+//! It takes a runtime and returns the status with which the process ends (`run`), so the program consists of this call.
+//! It depends on `clap` for the command line, on `tera_files` for files, and on `tera_report` and `terminal_text` for
+//! its output.
 //!
 //! In the order of reading: `options`, the words; `job`, what they ask; `status`, how it ends; `colours` and `output`;
-//! `reading`, the templates; `found`, `forms`, `writing` and `telling`, what is found in them as text; `counting`, the
-//! last line; `plan` and `markers`, what a file becomes; `sending`, the messages to an editor; then a module for each
-//! subcommand.
+//! `reading`, the templates; `found`, `forms`, `writing` and `reporting`, what is found in them as text; `counting`,
+//! the last line; `plan` and `markers`, what a file becomes; `sending`, the messages to an editor; then a module for
+//! each subcommand.
 #![tactic(auto)]
 
 mod aside;
@@ -24,10 +24,10 @@ mod options;
 mod output;
 mod plan;
 mod reading;
+mod reporting;
 mod sending;
 mod server;
 mod status;
-mod telling;
 mod tree;
 mod writing;
 
@@ -35,7 +35,7 @@ ghost use Rattle.std.specs.Prelude.{◌≤◌};
 
 use crate::job::Job;
 use crate::options::command;
-use crate::output::{tell, tell_stopped};
+use crate::output::{print_error, print_stopped};
 use crate::status::{Ended, status_of};
 use clap::Error;
 pub use colours::Terminals;
@@ -44,8 +44,8 @@ use std::rt::{Env, Files};
 use std::{env, io};
 
 /// Does what the arguments of the process ask, and answers the status that it ends with: 0 where nothing but warnings
-/// was found and all was done, 1 where an error was found, or under `--check` or `--diff` a file that would change, and 2
-/// where not all could be done or told.
+/// was found and all was done, 1 where an error was found, or under `--check` or `--diff` a file that would change, and
+/// 2 where not all could be done or reported.
 pub fn run<R: Files + Env + Input + Print + Eprint + AllocGlobal + Clone + Drop>(
     rt: &R,
     terminals: Terminals,
@@ -55,7 +55,7 @@ pub fn run<R: Files + Env + Input + Print + Eprint + AllocGlobal + Clone + Drop>
     match words_of(rt) {
         Ok(words) => run_words(rt, terminals, words.as_slice()),
         Err(error) => {
-            tell(rt, "tera", why(&error));
+            print_error(rt, "tera", why(&error));
             2
         }
     }
@@ -87,12 +87,12 @@ fn run_words<R: Files + Env + Input + Print + Eprint + AllocGlobal + Clone + Dro
 {
     match done(rt, terminals, words) {
         Ok(ended) => status_of(ended),
-        Err(error) => told(rt, &error),
+        Err(error) => print_answer(rt, &error),
     }
 }
 
-// Tells the error of the words, or the text that they ask for, and answers the status.
-fn told<R: Print + Eprint + AllocGlobal>(rt: &R, error: &Error) -> u8
+// Reports the error of the words, or the text that they ask for, and answers the status.
+fn print_answer<R: Print + Eprint + AllocGlobal>(rt: &R, error: &Error) -> u8
     ensures { result ≤ 2 }
 {
     let printed = error.print(rt);
@@ -102,7 +102,7 @@ fn told<R: Print + Eprint + AllocGlobal>(rt: &R, error: &Error) -> u8
     match printed {
         Ok(()) => 0,
         Err(error) => {
-            tell_stopped(rt, error);
+            print_stopped(rt, error);
             2
         }
     }
@@ -118,7 +118,7 @@ fn done<R: Files + Env + Input + Print + Eprint + AllocGlobal + Clone + Drop>(
     let ended = match Job::of(&matches) {
         Some(job) if job.names_unread_input() => {
             let why = "--stdin-filename: standard input is not read, as no file is `-`";
-            tell(rt, "tera", why);
+            print_error(rt, "tera", why);
             Ended::failed()
         }
         Some(Job::Check(job)) => check::run(rt, terminals, &job),

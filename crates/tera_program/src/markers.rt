@@ -4,7 +4,7 @@ ghost use Rattle.std.specs.Prelude.{◌≡◌, IfOk, true};
 ghost use Rattle.tera_layout.specs.Steady.{is_steady};
 ghost use Rattle.tera_lexer.specs.grammar.Marks.{marks_of, IsValid};
 
-use crate::output::tell;
+use crate::output::print_error;
 use std::alloc::Global;
 use std::borrow::CowStr;
 use std::str::SplitWhitespace;
@@ -18,7 +18,7 @@ pub(crate) enum Unfit {
     Memory,
     /// They are not six.
     Number,
-    /// They break a rule, which is told.
+    /// They break a rule, which is reported.
     Rule(Error),
     /// A layout might put or take away the end of a tag.
     Unsteady,
@@ -78,16 +78,16 @@ fn next_of(alloc: Global, parts: &mut SplitWhitespace<'_>) -> Result<CowStr<'sta
 }
 
 /// Says on standard error why nothing is laid out.
-pub(crate) fn tell_unfit<R: Eprint + AllocGlobal>(rt: &R, why: &Unfit) {
+pub(crate) fn print_unfit<R: Eprint + AllocGlobal>(rt: &R, why: &Unfit) {
     match why {
-        Unfit::Memory => tell(rt, "tera", "out of memory"),
-        Unfit::Number => tell(
+        Unfit::Memory => print_error(rt, "tera", "out of memory"),
+        Unfit::Number => print_error(
             rt,
             "tera",
-            "--markers: six markers are wanted, with white space between them",
+            "--markers: expected six markers, with white space between them",
         ),
-        Unfit::Rule(error) => tell_rule(rt, error),
-        Unfit::Unsteady => tell(
+        Unfit::Rule(error) => print_rule(rt, error),
+        Unfit::Unsteady => print_error(
             rt,
             "tera",
             "--markers: `block_start` and ends of tags may begin with no dash, letter, digit or `_`",
@@ -95,11 +95,11 @@ pub(crate) fn tell_unfit<R: Eprint + AllocGlobal>(rt: &R, why: &Unfit) {
     }
 }
 
-fn tell_rule<R: Eprint + AllocGlobal>(rt: &R, error: &Error) {
+fn print_rule<R: Eprint + AllocGlobal>(rt: &R, error: &Error) {
     if let ErrorKind::Message(rule) = &error.kind {
         if let Ok(why) = format!(in rt.alloc(); "--markers: {rule}") {
-            return tell(rt, "tera", why.as_str());
+            return print_error(rt, "tera", why.as_str());
         }
     }
-    tell(rt, "tera", "out of memory");
+    print_error(rt, "tera", "out of memory");
 }

@@ -3,7 +3,7 @@
 use clap::{Arg, ArgAction, Command};
 use std::alloc::{AllocError, Global};
 
-/// The version that `--version` tells.
+/// The version that `--version` says.
 pub(crate) const VERSION: &str = "0.1.0";
 
 /// How many syntax errors of a file are reported, where nothing else is asked for.
@@ -77,10 +77,10 @@ Examples:
 Exit status: 0 if the tree was shown, 1 if the template has a syntax error, 2 if it could not be read.";
 
 const OF_SERVER: &str = "\
-An editor starts it and ends it. It tells what is wrong while templates are edited, over all that stand below the folders
-that are open, and lays them out.
+An editor starts it and ends it. It reports what is wrong in templates while they are edited, over all files below the
+open folders, and formats them.
 
-Exit status: 0 where the editor ended it in order, 1 where it did not, 2 where standard input or output failed.";
+Exit status: 0 if the editor ended it in order, 1 if it did not, 2 if standard input or output failed.";
 
 /// The program, with its subcommands.
 pub(crate) fn command<'a>(alloc: Global) -> Result<Command<'a>, AllocError> {
@@ -192,7 +192,7 @@ fn server<'a>(alloc: Global) -> Result<Command<'a>, AllocError> {
         ))
 }
 
-// What is told of the files, by each command that reads several.
+// What is reported for the files, by each command that reads several.
 fn with_files<'a>(alloc: Global, command: Command<'a>) -> Result<Command<'a>, AllocError> {
     command
         .arg(stdin_filename(alloc))?

@@ -91,9 +91,9 @@ pub(crate) fn put_error<R: Eprint>(rt: &R, text: &str) -> bool {
     eprint!(rt; "{text}").is_ok()
 }
 
-/// Says on standard error what went wrong with the file; with none, where `tera` stands in its place. The status is 2 then,
+/// Says on standard error what went wrong with the file; with none, where `tera` is in its place. The status is 2 then,
 /// also where standard error takes nothing.
-pub(crate) fn tell<R: Eprint + AllocGlobal>(rt: &R, file: &str, why: &str) {
+pub(crate) fn print_error<R: Eprint + AllocGlobal>(rt: &R, file: &str, why: &str) {
     let _ = match error_line(rt.alloc(), file, why) {
         Ok(line) => put_error(rt, line.as_str()),
         Err(_) => put_error(rt, "tera: error: out of memory\n"),
@@ -101,10 +101,10 @@ pub(crate) fn tell<R: Eprint + AllocGlobal>(rt: &R, file: &str, why: &str) {
 }
 
 /// Says on standard error why the file was not read.
-pub(crate) fn tell_unread<R: Eprint + AllocGlobal>(rt: &R, file: &str, why: Unread) {
+pub(crate) fn print_unread<R: Eprint + AllocGlobal>(rt: &R, file: &str, why: Unread) {
     match why_unread(rt.alloc(), why) {
-        Ok(why) => tell(rt, file, why.as_str()),
-        Err(_) => tell(rt, file, "out of memory"),
+        Ok(why) => print_error(rt, file, why.as_str()),
+        Err(_) => print_error(rt, file, "out of memory"),
     }
 }
 
@@ -120,10 +120,10 @@ pub(crate) fn why_unread(alloc: Global, why: Unread) -> Result<String, AllocErro
 }
 
 /// Says on standard error why the text of the file was not replaced.
-pub(crate) fn tell_unwritten<R: Eprint + AllocGlobal>(rt: &R, file: &str, why: Unwritten) {
+pub(crate) fn print_unwritten<R: Eprint + AllocGlobal>(rt: &R, file: &str, why: Unwritten) {
     match why_unwritten(rt.alloc(), why) {
-        Ok(why) => tell(rt, file, why.as_str()),
-        Err(_) => tell(rt, file, "out of memory"),
+        Ok(why) => print_error(rt, file, why.as_str()),
+        Err(_) => print_error(rt, file, "out of memory"),
     }
 }
 
@@ -141,13 +141,13 @@ fn why_unwritten(alloc: Global, why: Unwritten) -> Result<String, AllocError> {
 }
 
 /// Says on standard error why not all was written to standard output, unless nobody reads any more.
-pub(crate) fn tell_stopped<R: Eprint + AllocGlobal>(rt: &R, error: io::Error) {
+pub(crate) fn print_stopped<R: Eprint + AllocGlobal>(rt: &R, error: io::Error) {
     if error.kind() == io::ErrorKind::BrokenPipe {
         return;
     }
     match format!(in rt.alloc(); "standard output: {error}") {
-        Ok(why) => tell(rt, "tera", why.as_str()),
-        Err(_) => tell(rt, "tera", "out of memory"),
+        Ok(why) => print_error(rt, "tera", why.as_str()),
+        Err(_) => print_error(rt, "tera", "out of memory"),
     }
 }
 
@@ -156,7 +156,7 @@ pub(crate) fn put<R: Print + Eprint + AllocGlobal>(rt: &R, text: &[u8]) -> bool 
     match io::writer(rt).write_all(text) {
         Ok(()) => true,
         Err(error) => {
-            tell_stopped(rt, error);
+            print_stopped(rt, error);
             false
         }
     }

@@ -29,7 +29,7 @@ pub enum Plan {
     Layout(String),
 }
 
-/// What is to be done with the file of this name and source, a template between the markers. What is no template is
+/// What is to be done with the file of this name and source, a template between the markers. What is not a template is
 /// refused, as [`Parser::parse`] does it, and stays as it is.
 pub fn plan_of(alloc: Global, file: &str, source: &str, markers: &Delimiters) -> Result<Plan, Error>
     requires valid { IsValid (marks_of markers.now) }

@@ -6,12 +6,12 @@ ghost use Rattle.tera_program.specs.Sources.{AddsRead, AddsUnread, nothing, with
 
 use crate::job::Common;
 use crate::options::EXTENSIONS;
-use crate::output::{tell, why_unread};
+use crate::output::{print_error, why_unread};
 use std::alloc::{AllocError, Global};
 use std::mem;
 use std::rt::Files;
 use tera_check::{Template, read_template};
-use tera_files::{Found, Sought, Source, Unlisted, Unread, files_of, read_source};
+use tera_files::{Found, Selection, Source, Unlisted, Unread, files_of, read_source};
 use terminal_text::Sources;
 
 /// Templates, beside the sources that they were read from.
@@ -20,7 +20,7 @@ pub(crate) struct Templates {
     pub(crate) templates: Vec<Template>,
     /// These are empty where they are not wanted.
     pub(crate) sources: Vec<Source>,
-    /// How many of the templates are those that were asked for; behind these stand those of the library.
+    /// How many of the templates are those that were asked for; after these are those of the library.
     pub(crate) checked: usize,
     /// What could not be read.
     pub(crate) unread: Vec<Unreadable>,
@@ -80,7 +80,7 @@ pub(crate) fn text_of(alloc: Global, source: &Source) -> Result<Sources<'_>, All
     Ok(texts)
 }
 
-/// The name by which a file is told.
+/// The name by which a file is reported.
 pub(crate) fn name_of<'a>(file: &'a str, stdin: &'a str) -> &'a str {
     if file == "-" { stdin } else { file }
 }
@@ -92,11 +92,11 @@ pub(crate) fn found<R: Files + AllocGlobal + Clone + Drop>(
     paths: &[&str],
 ) -> Result<Found, AllocError> {
     let extensions = extensions_of(rt.alloc(), common)?;
-    let sought = Sought {
+    let selection = Selection {
         extensions: extensions.as_slice(),
         stdin: common.stdin,
     };
-    files_of(rt, sought, paths)
+    files_of(rt, selection, paths)
 }
 
 // How the names of templates end, without the point.
@@ -119,14 +119,14 @@ fn without_point(extension: &str) -> &str {
 }
 
 /// Says on standard error which folders cannot be listed, or hold no template.
-pub(crate) fn tell_unlisted<R: Eprint + AllocGlobal>(
+pub(crate) fn print_unlisted<R: Eprint + AllocGlobal>(
     rt: &R,
     common: Common<'_, '_>,
     found: &Found,
 ) -> Result<(), AllocError> {
     for one in &found.unlisted {
         let why = why_unlisted(rt.alloc(), common, one)?;
-        tell(rt, one.folder.as_str(), why.as_str());
+        print_error(rt, one.folder.as_str(), why.as_str());
     }
     Ok(())
 }
@@ -152,9 +152,9 @@ fn without_templates(alloc: Global, common: Common<'_, '_>) -> Result<String, Al
     Ok(why)
 }
 
-/// Reads the templates that the paths mean, and behind them those of the library that are not among these. Standard error
-/// says which cannot be read. Their sources are kept where `keeps_sources` says so. Of each at most so many faults are
-/// sought.
+/// Reads the templates that the paths mean, and after them those of the library that are not among these. Standard
+/// error says which cannot be read. Their sources are kept where `keeps_sources` says so. Of each at most so many
+/// faults are looked for.
 pub(crate) fn read_all<R: Files + Input + Eprint + AllocGlobal + Clone + Drop>(
     rt: &R,
     common: Common<'_, '_>,
@@ -164,7 +164,7 @@ pub(crate) fn read_all<R: Files + Input + Eprint + AllocGlobal + Clone + Drop>(
     faults: usize,
 ) -> Result<Templates, AllocError> {
     let (found, asked) = found_with(rt, common, paths, library)?;
-    tell_unlisted(rt, common, &found)?;
+    print_unlisted(rt, common, &found)?;
     let mut all = Templates::none(rt.alloc());
     add_unlisted(rt.alloc(), common, &found, &mut all)?;
     for (number, file) in found.files.iter().enumerate() {
@@ -209,7 +209,7 @@ fn refuse<R: Eprint + AllocGlobal>(
         Ok(why) => why,
         Err(_) => String::from_str(alloc, "out of memory")?,
     };
-    tell(rt, name, why.as_str());
+    print_error(rt, name, why.as_str());
     let why = cannot_be_read(alloc, why.as_str())?;
     all.add_unread(String::from_str(alloc, name)?, why)
 }
@@ -222,7 +222,7 @@ fn cannot_be_read(alloc: Global, why: &str) -> Result<String, AllocError>
     Ok(text)
 }
 
-// The files of the paths, and behind them those of the library; and how many the former are. A file of both is met first
+// The files of the paths, and after them those of the library; and how many the former are. A file of both is met first
 // among the former.
 fn found_with<R: Files + AllocGlobal + Clone + Drop>(
     rt: &R,
@@ -241,7 +241,7 @@ fn found_with<R: Files + AllocGlobal + Clone + Drop>(
     Ok((found(rt, common, both.as_slice())?, count))
 }
 
-// Reads the template of a file, and puts it behind the others.
+// Reads the template of a file, and puts it after the others.
 fn add<R: Files + Input + AllocGlobal>(
     rt: &R,
     file: &str,
@@ -257,7 +257,7 @@ fn add<R: Files + Input + AllocGlobal>(
     Ok(add_source(rt.alloc(), source, keeps_source, faults, all)?)
 }
 
-// Reads the template of a source, and puts it behind the others; the source too, where it is kept.
+// Reads the template of a source, and puts it after the others; the source too, where it is kept.
 fn add_source(
     alloc: Global,
     source: Source,

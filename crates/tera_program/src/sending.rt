@@ -14,7 +14,7 @@ use std::alloc::Global;
 use std::io;
 use std::io::Write;
 
-/// Writes the messages that are to be sent, each behind its header, in their order; then nothing is to be sent.
+/// Writes the messages that are to be sent, each after its header, in their order; then nothing is to be sent.
 pub(crate) fn send<W: Write>(alloc: Global, writer: &mut W, out: &mut Outbox) -> io::Result<()>
     ensures written { OnOk result (Appends (W.contents writer.old) (W.contents writer.new) (flat_map frame out.old.sent)) }
     ensures sent { OnOk result (out.new ≡ nothing) }

@@ -5,18 +5,18 @@ ghost use Rattle.std.specs.Io.KnownBytes.{Appends, Consumes, IsAtEnd};
 ghost use Rattle.std.specs.List.{flat_map};
 ghost use Rattle.json_rpc.specs.Outgoing.{Outgoing, nothing};
 ghost use Rattle.message_frames.specs.Shown.{Message, shown};
-ghost use Rattle.message_frames.specs.Standing.{Stands};
+ghost use Rattle.message_frames.specs.Representing.{Represents};
 ghost use Rattle.message_frames.specs.Writing.{frame as frame_text};
 ghost use Rattle.tera_files.specs.declared.reading.Unread.TheVariants.{NotUtf8};
 ghost use Rattle.tera_program.specs.Reasons.{not_utf8, IsUnread};
 ghost use Rattle.tera_program.specs.Serving.{Takes, SettlesSo, Rests, IsLoaded, AreGiven, IsGivenInPart, Gives, IsTalking, IsWaiting, IsServed};
-ghost use Rattle.tera_server.specs.States.{WantsFolder, wanted_view, wanted_of, text_on, why_on, IsLoadedAs};
+ghost use Rattle.tera_server.specs.States.{NeedsFolder, needed_view, needed_of, text_on, why_on, IsLoadedAs};
 ghost use Rattle.tera_server.specs.declared.server.OnDisk.{OnDisk};
 ghost use Rattle.tera_server.specs.declared.server.Server.{Server};
 
 use crate::aside::is_left_out;
 use crate::options::EXTENSIONS;
-use crate::output::{tell, why_unread};
+use crate::output::{print_error, why_unread};
 use crate::sending::send;
 use crate::status::Ended;
 use json_rpc::Outbox;
@@ -25,8 +25,8 @@ use std::alloc::{AllocError, Global};
 use std::io::{Read, Write};
 use std::rt::Files;
 use std::{fs, io};
-use tera_files::{Sought, Unread, files_of, read_source};
-use tera_server::{Ended as Finished, OnDisk, Server, Wanted};
+use tera_files::{Selection, Unread, files_of, read_source};
+use tera_server::{Ended as Finished, Needed, OnDisk, Server};
 
 // How the messages that came left the exchange.
 #[derive(Clone, Copy)]
@@ -35,7 +35,7 @@ pub(crate) enum Left {
     Ended(Finished),
     /// No whole message is left. What was asked for was given, and what is found is published.
     AtRest,
-    /// No whole message is left, and a part of that found no memory: it is done the next time.
+    /// No whole message is left, and a part of that failed to allocate: it is done the next time.
     Short,
 }
 
@@ -43,7 +43,7 @@ pub(crate) enum Left {
 #[derive(Clone, Copy)]
 struct Served {
     finished: Finished,
-    // Whether a part of what was to be given or published found no memory, and had to wait.
+    // Whether a part of what was to be given or published failed to allocate, and had to wait.
     short: bool,
 }
 
@@ -62,7 +62,7 @@ pub(crate) fn run<R: Files + Input + Print + Eprint + AllocGlobal + Clone + Drop
         Ok(served) => {
             if served.short {
                 let why = "out of memory: findings were published late, or not at all";
-                tell(rt, "tera", why);
+                print_error(rt, "tera", why);
             }
             Ended {
                 found: served.finished == Finished::Early,
@@ -70,7 +70,7 @@ pub(crate) fn run<R: Files + Input + Print + Eprint + AllocGlobal + Clone + Drop
             }
         }
         Err(error) => {
-            tell(rt, "tera", why(&error));
+            print_error(rt, "tera", why(&error));
             Ended::failed()
         }
     }
@@ -119,7 +119,7 @@ fn take_piece<R: Read>(reader: &mut R, piece: &mut Vec<u8>, frames: &mut Frames)
     ensures limit { frames.new.limit ≡ frames.old.limit }
     ensures room { length piece.new.items ≡ length piece.old.items }
     ensures came { IfOk result (λ more. (bytes : List ℕ) × Consumes (R.remaining reader.old) (R.remaining reader.new) bytes
-        × ((pending : List ℕ) → Stands frames.old pending → Stands frames.new (pending ++ bytes))
+        × ((pending : List ℕ) → Represents frames.old pending → Represents frames.new (pending ++ bytes))
         × (more ≡ false → (bytes ≡ []) × IsAtEnd (R.remaining reader.new))) }
 {
     let count = reader.read(piece.as_mut_slice())?;
@@ -159,7 +159,7 @@ fn answer_all<F: Files + Input + AllocGlobal + Clone + Drop, W: Write>(
                 miss(alloc, server, writer, out)?;
             }
         }
-        // What finds no memory is asked for again, and ends nothing.
+        // What fails to allocate is asked for again, and ends nothing.
         let _given = give(files, server);
     }
     Err(io::ErrorKind::Other.into())
@@ -218,7 +218,7 @@ fn take(alloc: Global, server: &mut Server, next: Frame, out: &mut Outbox) -> Op
     }
 }
 
-// What finds no memory ends nothing.
+// What fails to allocate ends nothing.
 fn handle(
     alloc: Global,
     server: &mut Server,
@@ -234,7 +234,7 @@ fn handle(
     }
 }
 
-// Gives what is asked for still, and publishes what is found. What finds no memory is done the next time.
+// Gives what is asked for still, and publishes what is found. What fails to allocate is done the next time.
 fn come_to_rest<F: Files + Input + AllocGlobal + Clone + Drop, W: Write>(
     files: &F,
     server: &mut Server,
@@ -268,7 +268,7 @@ fn settle<W: Write>(
     ensures settles { IfOk result (λ all. (sent : Outgoing) × SettlesSo all server.old server.new sent
         × Appends (W.contents writer.old) (W.contents writer.new) (flat_map frame_text sent.sent)) }
     ensures sent { OnOk result (out.new ≡ nothing) }
-    ensures wanted { server.new.wanted ≡ server.old.wanted }
+    ensures needed { server.new.needed ≡ server.old.needed }
 {
     let all = publish(alloc, server, out);
     send(alloc, writer, out)?;
@@ -278,7 +278,7 @@ fn settle<W: Write>(
 fn publish(alloc: Global, server: &mut Server, out: &mut Outbox) -> bool
     requires { out.old ≡ nothing }
     ensures settles { SettlesSo result server.old server.new out.new }
-    ensures wanted { server.new.wanted ≡ server.old.wanted }
+    ensures needed { server.new.needed ≡ server.old.needed }
 {
     match server.settle(alloc, out) {
         Ok(()) => true,
@@ -292,45 +292,45 @@ fn give<F: Files + Input + AllocGlobal + Clone + Drop>(
     server: &mut Server,
 ) -> Result<(), AllocError>
     ensures given { Gives server.old server.new }
-    ensures all { OnOk result (wanted_of server.new ≡ []) }
+    ensures all { OnOk result (needed_of server.new ≡ []) }
 {
-    'wanted: for _ in 0..u64::MAX {
-        match server.take_wanted() {
-            Some(wanted) => give_or_ask_again(files, server, wanted)?,
+    'needed: for _ in 0..u64::MAX {
+        match server.take_needed() {
+            Some(needed) => give_or_ask_again(files, server, needed)?,
             None => return Ok(()),
         }
     }
     Err(AllocError)
 }
 
-// What finds no memory is asked for again.
+// What fails to allocate is asked for again.
 fn give_or_ask_again<F: Files + Input + AllocGlobal + Clone + Drop>(
     files: &F,
     server: &mut Server,
-    wanted: Wanted,
+    needed: Needed,
 ) -> Result<(), AllocError>
-    ensures given { OnOk result (AreGiven (wanted_view wanted) server.old server.new) }
-    ensures in_part { OnErr result (IsGivenInPart (wanted_view wanted) server.old server.new) }
+    ensures given { OnOk result (AreGiven (needed_view needed) server.old server.new) }
+    ensures in_part { OnErr result (IsGivenInPart (needed_view needed) server.old server.new) }
 {
-    match give_wanted(files, server, &wanted) {
+    match give_needed(files, server, &needed) {
         Ok(()) => Ok(()),
         Err(AllocError) => {
-            server.ask_again(wanted)?;
+            server.ask_again(needed)?;
             Err(AllocError)
         }
     }
 }
 
-fn give_wanted<F: Files + Input + AllocGlobal + Clone + Drop>(
+fn give_needed<F: Files + Input + AllocGlobal + Clone + Drop>(
     files: &F,
     server: &mut Server,
-    wanted: &Wanted,
+    needed: &Needed,
 ) -> Result<(), AllocError>
-    ensures { AreGiven (wanted_view wanted.now) server.old server.new }
+    ensures { AreGiven (needed_view needed.now) server.old server.new }
 {
-    match wanted {
-        Wanted::Folder(path) => give_folder(files, server, path.as_str()),
-        Wanted::File(path) => give_single(files, server, path.as_str()),
+    match needed {
+        Needed::Folder(path) => give_folder(files, server, path.as_str()),
+        Needed::File(path) => give_single(files, server, path.as_str()),
     }
 }
 
@@ -353,13 +353,13 @@ fn give_folder<F: Files + Input + AllocGlobal + Clone + Drop>(
     server: &mut Server,
     folder: &str,
 ) -> Result<(), AllocError>
-    ensures { AreGiven (WantsFolder folder.now) server.old server.new }
+    ensures { AreGiven (NeedsFolder folder.now) server.old server.new }
 {
-    let sought = Sought {
+    let selection = Selection {
         extensions: EXTENSIONS.as_slice(),
         stdin: "-",
     };
-    let found = files_of(files, sought, &[folder])?;
+    let found = files_of(files, selection, &[folder])?;
     for file in &found.files {
         give_file(files, server, file.as_str())?;
     }

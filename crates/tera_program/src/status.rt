@@ -8,9 +8,9 @@ use tera_check::status;
 /// What was met while the job was done.
 #[derive(Clone, Copy, Debug, PartialEq, Eq)]
 pub(crate) struct Ended {
-    /// Whether something was found that is no warning.
+    /// Whether something was found that is not a warning.
     pub(crate) found: bool,
-    /// Whether not all could be done or told.
+    /// Whether not all could be done or reported.
     pub(crate) failed: bool,
 }
 
@@ -36,8 +36,8 @@ impl Ended {
     }
 }
 
-/// The status of the program: 2 where not all could be done or told, or else 1 where something was found that is
-/// no warning.
+/// The status of the program: 2 where not all could be done or reported, or else 1 where something was found that is
+/// not a warning.
 pub(crate) fn status_of(ended: Ended) -> u8
     ensures { result ≡ status_at ended }
 {

@@ -2,7 +2,7 @@
 
 use crate::colours::{Terminals, style};
 use crate::job::Tree;
-use crate::output::{lines_for, put, put_error, tell, tell_unread};
+use crate::output::{lines_for, print_error, print_unread, put, put_error};
 use crate::reading::{name_of, text_of};
 use crate::status::Ended;
 use std::alloc::{AllocError, Global};
@@ -12,7 +12,7 @@ use tera_files::{Source, read_source};
 use tera_parser::lexer::Delimiters;
 use tera_parser::value::Error;
 use tera_parser::{Parser, ParserOutput};
-use tera_report::push_told;
+use tera_report::push_full;
 use tera_show::tree_text;
 use tera_tree_json::tree_json;
 use terminal_text::Style;
@@ -27,7 +27,7 @@ pub(crate) fn run<R: Files + Env + Input + Print + Eprint + AllocGlobal>(
     let source = match read_source(rt, job.file, name) {
         Ok(source) => source,
         Err(why) => {
-            tell_unread(rt, name, why);
+            print_unread(rt, name, why);
             return Ended::failed();
         }
     };
@@ -36,10 +36,10 @@ pub(crate) fn run<R: Files + Env + Input + Print + Eprint + AllocGlobal>(
         json: job.json,
         is_terminal: terminals.out,
     };
-    match shown(rt, style, shape, &source) {
+    match print_tree(rt, style, shape, &source) {
         Ok(ended) => ended,
         Err(_) => {
-            tell(rt, name, "out of memory");
+            print_error(rt, name, "out of memory");
             Ended::failed()
         }
     }
@@ -52,7 +52,7 @@ struct Shape {
     is_terminal: bool,
 }
 
-fn shown<R: Print + Eprint + AllocGlobal>(
+fn print_tree<R: Print + Eprint + AllocGlobal>(
     rt: &R,
     style: Style,
     shape: Shape,
@@ -99,6 +99,6 @@ pub(crate) fn fault_text(
     let finding = finding_of_fault(alloc, file, error)?;
     let mut sources = text_of(alloc, source)?;
     let mut text = String::new(alloc);
-    push_told(alloc, &mut text, style, file, &mut sources, &finding)?;
+    push_full(alloc, &mut text, style, file, &mut sources, &finding)?;
     Ok(text)
 }

@@ -4,7 +4,7 @@ use Rattle.std.specs.List.{flat_map}
 use Rattle.line_text.specs.Line.{on_one_line}
 use Rattle.tera_base.specs.declared.utils.Span.{Span}
 use Rattle.tera_check.specs.Findings.{NoteVal, NoteOf, FindingVal, FindingOf, place_of, line_of, note_line, lines_of, severity_of}
-use Rattle.tera_report.specs.Told.{word_of, message, message_line, note_told, told}
+use Rattle.tera_report.specs.FullTexts.{word_of, message, message_line, note_text, full_text}
 use Rattle.tera_report.specs.declared.role.Role.{Role}
 use Rattle.tera_report.specs.declared.role.Role.TheVariants.{Finding, Note}
 use Rattle.terminal_text.specs.declared.style.Style.TheVariants.{Plain}
@@ -20,11 +20,11 @@ plain_message role file span text =
     append-nil (message_line Plain role file span text)
     ∙ regroup (on_one_line file) (decimal (place_of span).line) (decimal (place_of span).column) (word_of role) (on_one_line text)
 
-plain_notes : (notes : List NoteVal) → flat_map (note_told Plain (λ _. None)) notes ≡ flat_map note_line notes
+plain_notes : (notes : List NoteVal) → flat_map (note_text Plain (λ _. None)) notes ≡ flat_map note_line notes
 plain_notes [] = refl
 plain_notes (NoteOf file span text ∷ notes) = λ i. plain_message Note file span text i ++ plain_notes notes i
 
-pub plain_is : (file : List ℕ) (finding : FindingVal) → told Plain (λ _. None) file finding ≡ lines_of file finding
-unfolding told
+pub plain_is : (file : List ℕ) (finding : FindingVal) → full_text Plain (λ _. None) file finding ≡ lines_of file finding
+unfolding full_text
 plain_is file (FindingOf kind span text notes) =
     λ i. plain_message (Finding (severity_of kind)) file span text i ++ plain_notes notes i

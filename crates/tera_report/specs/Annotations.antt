@@ -31,7 +31,7 @@ property text = flat_map property_character (chars text)
 abbrev pub column_of : ℕ → ℕ
 column_of col = min (col + 1) (2 ^ 64 - 1)
 
--- where a span begins and ends: its end is the column behind it
+-- where a span begins and ends: its end is the column after it
 abbrev pub span_text : Span → List ℕ
 span_text s =
     codes ",line=" ++ (decimal s.start_line

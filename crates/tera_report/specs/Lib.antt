@@ -1,4 +1,4 @@
 pub mod Annotations
 pub mod Logs
-pub mod Told
+pub mod FullTexts
 pub mod Unread

@@ -30,7 +30,7 @@ object members = (begin_object ∷ []) ++ (members ++ (end_object ∷ []))
 abbrev pub corner : List ℕ → ℕ → List ℕ → ℕ → List Token
 corner line_name line column_name col = number_member line_name line ++ number_member column_name (column_of col)
 
--- where a span begins and ends, the end by the column behind it
+-- where a span begins and ends, the end by the column after it
 abbrev pub region : Span → List Token
 region s =
     object_begin (codes "region")
@@ -117,6 +117,6 @@ run_begin version =
 unfoldable pub log_begin : List ℕ → List Token
 log_begin version = (begin_object ∷ []) ++ (form ++ (array_begin (codes "runs") ++ run_begin version))
 
--- .. behind them
+-- .. after them
 unfoldable pub log_end : List Token
 log_end = (end_array ∷ []) ++ ((end_object ∷ []) ++ ((end_array ∷ []) ++ (end_object ∷ [])))

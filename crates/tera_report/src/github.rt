@@ -12,7 +12,7 @@ use tera_check::{Finding, Severity};
 
 /// Adds the line `::error file=..,line=..,col=..,endLine=..,endColumn=..,title=..::MESSAGE`, or `::warning ..`, whose
 /// title is the name of the kind. Lines and columns count from 1, columns in characters, and `endColumn` is the one
-/// behind the last. The message is on one line, as `push_on_one_line` has it; the file is named as it is. Notes are left
+/// after the last. The message is on one line, as `push_on_one_line` has it; the file is named as it is. Notes are left
 /// out: a command has one place.
 pub fn push_annotation(
     alloc: Global,

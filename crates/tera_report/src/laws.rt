@@ -5,13 +5,13 @@ ghost use Rattle.tera_base.specs.declared.utils.Span.{Span};
 ghost use Rattle.tera_check.specs.Findings.{FindingVal, NoteVal, FindingOf, lines_of};
 ghost use Rattle.tera_check.specs.declared.finding.Kind.{Kind};
 ghost use Rattle.tera_report.specs.Annotations.{annotation as annotation_text, IsOneLine};
-ghost use Rattle.tera_report.specs.Told.{told};
+ghost use Rattle.tera_report.specs.FullTexts.{full_text};
 ghost use Rattle.terminal_text.specs.declared.style.Style.TheVariants.{Plain};
 
 /// Without colours and without sources a finding is printed as its lines, `lines_of` of `tera_check`.
 pub fn plain()
     ensures { (file : List ℕ) (finding : FindingVal) →
-        told Plain (λ _. None) file finding ≡ lines_of file finding }
+        full_text Plain (λ _. None) file finding ≡ lines_of file finding }
 {}
 
 /// Whatever the name of the file and the message are, an annotation is one line.

@@ -1,7 +1,7 @@
 //! What a message is.
 
 ghost use Rattle.std.specs.Prelude.{◌≡◌};
-ghost use Rattle.tera_report.specs.Told.{word_of, part_of};
+ghost use Rattle.tera_report.specs.FullTexts.{word_of, part_of};
 
 use tera_check::Severity;
 use terminal_text::Part;

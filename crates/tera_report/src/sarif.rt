@@ -38,8 +38,8 @@ pub fn end_log(out: &mut Writer) -> Result<(), AllocError>
     Ok(())
 }
 
-/// Adds the result of a finding in the file. Its rule is the name of the kind; lines and columns count from 1, columns in
-/// characters, and the end column is the one behind the last.
+/// Adds the result of a finding in the file. Its rule is the name of the kind; lines and columns count from 1, columns
+/// in characters, and the end column is the one after the last.
 #[tactic(auto, unfolding(crate::specs::Logs::result_object))]
 pub fn put_result(
     alloc: Global,

@@ -1,4 +1,5 @@
--- What is so of what is answered: of what is offered, of the head that is told, and of the places that refer to a name.
+-- What is so of what is answered: of what is offered, of the head that is reported, and of the places that refer to a
+-- name.
 use Rattle.std.proofs.Common.{◌≡◌, ◌∙◌, ◌⊎◌, ◌++◌, ◌&&◌, ◌||◌, ℕ, List, [], ◌∷◌, map, filter, not, if◌then◌else◌, Bool, true, false, true≢false, Option, None, Some, inl, inr, refl, sym, ap, subst}
 use Rattle.std.specs.List.{Contains, find}
 use Rattle.std.specs.Option.{option_map_or, option_map}
@@ -17,11 +18,11 @@ use Rattle.tera_workspace.specs.Kept.{sources_of, templates_of}
 use Rattle.tera_workspace.specs.Sources.{Source}
 use Rattle.tera_workspace.specs.declared.workspace.Workspace.{Workspace}
 use Rattle.tera_workspace.proofs.ContainLemmas.{first_in, later_in, none_in, in_turn, map_in, in_map, in_filter_map, in_filter, filter_in}
-use Rattle.tera_workspace.proofs.DefinedLemmas.{told_of_defined, parameter_there}
+use Rattle.tera_workspace.proofs.DefinedLemmas.{reported_of_defined, parameter_there}
 use Rattle.tera_server.specs.Completions.{offered, defined_names}
 use Rattle.tera_server.specs.Definitions.{first_of, is_component, template_place, place_of}
 use Rattle.tera_server.specs.Hovers.{component_in, text_at, IsHeadIn, IsHeadBy, IsHead, IsOfDefinition}
-use Rattle.tera_server.specs.References.{Sought, refers, is_definition, reference_json, AreReferences, AreReferencesIn, IsSought, IsReferenceIn, AreAllOf}
+use Rattle.tera_server.specs.References.{LookedFor, refers, is_definition, reference_json, AreReferences, AreReferencesIn, IsLookedFor, IsReferenceIn, AreAllOf}
 use Rattle.tera_server.specs.Templates.{template_name, template_in}
 use Rattle.tera_server.proofs.NearestLemmas.{has_its_name, leads}
 
@@ -30,7 +31,7 @@ use Rattle.tera_server.proofs.NearestLemmas.{has_its_name, leads}
 module _ (w : Workspace) (folders : List (List ℕ)) (named : List Named) (n : List ℕ) where
   pub offered_component : Contains (offered w folders named Component) n → ((d : DefinitionVal) × (definition_of_name w n ≡ Some d)) ⊎ Contains (defined_names named) n
   offered_component c = elim (Contains-append_cases (components_of w) (defined_names named) n c) [
-    | inl c ↦ inl (told_of_defined w.encoding (sources_of w.judged.items) (templates_of w.judged.items) n c)
+    | inl c ↦ inl (reported_of_defined w.encoding (sources_of w.judged.items) (templates_of w.judged.items) n c)
     | inr c ↦ inr c
   ]
 
@@ -47,10 +48,10 @@ module _ (w : Workspace) (folders : List (List ℕ)) (named : List Named) (n : L
       by None c = absurd (none_in n c)
       by (Some m) c = (m, refl, parameter_there w.encoding (sources_of w.judged.items) (templates_of w.judged.items) m.text n c)
 
--- ---- the head that is told
+-- ---- the head that is reported
 
-module _ (w : Workspace) (folders : List (List ℕ)) (told : List ℕ) where
-  head_of_component : (n : Named) (o : Option DefinitionVal) → is_component n.kind ≡ true → definition_of_name w n.text ≡ o → IsHeadIn (text_at w o) n.text (Some told) → IsOfDefinition w folders (Some n) told
+module _ (w : Workspace) (folders : List (List ℕ)) (reported : List ℕ) where
+  head_of_component : (n : Named) (o : Option DefinitionVal) → is_component n.kind ≡ true → definition_of_name w n.text ≡ o → IsHeadIn (text_at w o) n.text (Some reported) → IsOfDefinition w folders (Some n) reported
   head_of_component n None is found h = absurd (cc)
   head_of_component n (Some d) is found h = record {
     name = n.text;
@@ -60,11 +61,11 @@ module _ (w : Workspace) (folders : List (List ℕ)) (told : List ℕ) where
     head = h;
   }
 
-  pub of_definition : (named : Option Named) → IsHead w named (Some told) → IsOfDefinition w folders named told
+  pub of_definition : (named : Option Named) → IsHead w named (Some reported) → IsOfDefinition w folders named reported
   of_definition None h = absurd (cc)
   of_definition (Some n) h = by (is_component n.kind) refl h
     where
-      by : (b : Bool) → is_component n.kind ≡ b → IsHeadBy w (if b then Some n.text else None) (Some told) → IsOfDefinition w folders (Some n) told
+      by : (b : Bool) → is_component n.kind ≡ b → IsHeadBy w (if b then Some n.text else None) (Some reported) → IsOfDefinition w folders (Some n) reported
       by true is h = head_of_component n (definition_of_name w n.text) is refl h
       by false is h = absurd (cc)
 
@@ -88,22 +89,22 @@ if_so true b c false e alike same counts = rw (alike, same, counts refl) refl
 if_so false b c true e alike same counts = rw (alike, same) refl
 if_so false b c false e alike same counts = rw (alike, same, counts refl) refl
 
-module _ (k : Sought) where
-  is_sought : (n : Named) → refers k n ≡ true → IsSought k n
-  is_sought n h =
+module _ (k : LookedFor) where
+  is_looked_for : (n : Named) → refers k n ≡ true → IsLookedFor k n
+  is_looked_for n h =
       let (alike, same, counts) = so (is_component k.named.kind) (is_component n.kind) (bytes_eq n.text k.named.text) k.declared (is_definition n.kind) h in
       record { text = (bytes_eq-Decides n.text k.named.text).0 same; alike = alike; counts = counts }
 
-  it_refers : (n : Named) → IsSought k n → refers k n ≡ true
+  it_refers : (n : Named) → IsLookedFor k n → refers k n ≡ true
   it_refers n h =
       if_so (is_component k.named.kind) (is_component n.kind) (bytes_eq n.text k.named.text) k.declared (is_definition n.kind)
       h.alike ((bytes_eq-Decides n.text k.named.text).1 h.text) h.counts
 
   reference_in : (s : Source) (js : List Json) → AreReferencesIn k s js → (j : Json) → Contains js j → IsReferenceIn k s j
   reference_in s js (parts, are, is) j c =
-      let (n, there, told) = in_map (reference_json k s) (filter (refers k) (names_of parts)) j (subst (λ xs. Contains xs j) is c) in
-      let (among, sought) = in_filter (refers k) (names_of parts) n there in
-      record { parts = parts; are = are; named = n; there = among; sought = is_sought n sought; location = sym told }
+      let (n, there, reported) = in_map (reference_json k s) (filter (refers k) (names_of parts)) j (subst (λ xs. Contains xs j) is c) in
+      let (among, looked_for) = in_filter (refers k) (names_of parts) n there in
+      record { parts = parts; are = are; named = n; there = among; looked_for = is_looked_for n looked_for; location = sym reported }
 
   pub each_refers : (ss : List Source) (js : List Json) → AreReferences k ss js → (j : Json) → Contains js j → (s : Source) × Contains ss s × IsReferenceIn k s j
   each_refers [] js is j c = absurd (none_in j (subst (λ xs. Contains xs j) is c))
@@ -121,7 +122,7 @@ module _ (k : Sought) where
   }
 
   among : (s : Source) (js all : List Json) → ((j : Json) → Contains js j → Contains all j) → AreAllOf k s js → AreAllOf k s all
-  among s js all more h = record { parts = h.parts; are = h.are; each = λ n there sought. more (reference_json k s n) (h.each n there sought) }
+  among s js all more h = record { parts = h.parts; are = h.are; each = λ n there looked_for. more (reference_json k s n) (h.each n there looked_for) }
 
   pub all_refer : (ss : List Source) (js : List Json) → AreReferences k ss js → (s : Source) → Contains ss s → AreAllOf k s js
   all_refer [] js is s c = absurd (none_in s c)

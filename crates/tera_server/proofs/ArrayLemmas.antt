@@ -13,7 +13,7 @@ array_written [] = refl
 array_written (j ∷ js) =
     ap (λ ts. json_tokens j ++ ts) (array_written js) ∙ sym (append_assoc (json_tokens j) (flat_map json_tokens js) (end_array ∷ []))
 
--- .. behind what was written before
+-- .. after what was written before
 pub array_closed : (js : List Json) (start opened filled closed : List Token) → opened ≡ start ++ begin_array ∷ [] → filled ≡ opened ++ flat_map json_tokens js → closed ≡ filled ++ end_array ∷ []
     → closed ≡ start ++ json_tokens (array (items_of js))
 array_closed js start opened filled closed o f c = rw (c, f, o, array_written js) (simp append_assoc refl)

@@ -8,10 +8,10 @@ use Rattle.tera_workspace.specs.declared.workspace.Workspace.{Workspace}
 use Rattle.text_edits.specs.declared.positions.Encoding.{Encoding}
 use Rattle.tera_server.specs.Completions.{completion_json, completion_of}
 
-pub told : (e : Encoding) (w : Workspace) (folders : List (List ℕ)) (text : List ℕ) (parts : List Part) (byte at last : ℕ) (given : Option Completion)
+pub reported : (e : Encoding) (w : Workspace) (folders : List (List ℕ)) (text : List ℕ) (parts : List Part) (byte at last : ℕ) (given : Option Completion)
     → given ≡ option_map (completion_at byte) (slot_of last byte parts) → last ≡ length text → byte ≡ at
     → completion_json e w folders text (names_of parts) byte given ≡ completion_of e w folders text parts at
-told e w folders text parts byte at last given is long same =
+reported e w folders text parts byte at last given is long same =
     ap (λ g. completion_json e w folders text (names_of parts) byte g) is
     ∙ ap (λ n. completion_json e w folders text (names_of parts) byte (option_map (completion_at byte) (slot_of n byte parts))) long
     ∙ ap (λ b. completion_of e w folders text parts b) same

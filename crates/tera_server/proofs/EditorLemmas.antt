@@ -1,4 +1,4 @@
--- What an editor told of documents, after a change under one name.
+-- What an editor reported about documents, after a change under one name.
 use Rattle.std.proofs.Common.{◌≡◌, ◌∙◌, ℕ, List, Bool, true, false, cond, Option, None, Some, String, string_bytes, map, refl, sym, ap, subst}
 use Rattle.std.specs.BTreeMap as tree
 use Rattle.std.specs.BTreeMap.{BTreeMap, get_by_text, is_at}
@@ -39,7 +39,7 @@ at_equal A name q f g y e = by (bytes_eq name q) (bytes_eq-Decides name q).0
     by true h = subst (λ n. f n ≡ g n) (h refl) e
     by false h = refl
 
--- where what was told of the name became another by a function
+-- where what was reported for the name became another by a function
 pub seen_changed : (name : List ℕ) (m n : SeenBy) (f : SeenVal → SeenVal) (v w : Seen) → Updates name m n (Some w) → get_by_text m name ≡ Some v → seen_view w ≡ f (seen_view v) →
     (q : List ℕ) → seen_at n q ≡ cond (bytes_eq name q) (option_map f (seen_at m q)) (seen_at m q)
 seen_changed name m n f v w h had e q =

@@ -16,7 +16,7 @@ pub version_written : (v : Option ℕ) (ms : Members) → members_tokens (with_v
 version_written None ms = refl
 version_written (Some n) ms = refl
 
-pub related_written : (e : Editor) (told : Bool) (rs : List RelatedVal) → members_tokens (related_members e told rs) ≡ related_tokens e told rs ++ end_object ∷ []
+pub related_written : (e : Editor) (reported : Bool) (rs : List RelatedVal) → members_tokens (related_members e reported rs) ≡ related_tokens e reported rs ++ end_object ∷ []
 related_written e true rs = refl
 related_written e false rs = refl
 
@@ -27,21 +27,21 @@ unread_written (Some text) js = refl
 
 -- what is published of a document, as it is written
 abbrev pub found_tokens : Editor → Bool → List ℕ → Option (List ℕ) → List DiagnosticVal → List Token
-found_tokens e told name why ds =
+found_tokens e reported name why ds =
     begin_object ∷ (key (codes "uri") ∷ (string (uri_in name (seen_of e name)) ∷ (version_tokens (version_in (seen_of e name))
-    ++ (key (codes "diagnostics") ∷ (begin_array ∷ (unread_tokens why ++ (flat_map (one_found e told) ds ++ (end_array ∷ (end_object ∷ [])))))))))
+    ++ (key (codes "diagnostics") ∷ (begin_array ∷ (unread_tokens why ++ (flat_map (one_found e reported) ds ++ (end_array ∷ (end_object ∷ [])))))))))
 
-diagnostics_written : (e : Editor) (told : Bool) (why : Option (List ℕ)) (ds : List DiagnosticVal) →
-    items_tokens (items_of (diagnostics_json e told why ds)) ++ end_object ∷ [] ≡ unread_tokens why ++ (flat_map (one_found e told) ds ++ (end_array ∷ (end_object ∷ [])))
+diagnostics_written : (e : Editor) (reported : Bool) (why : Option (List ℕ)) (ds : List DiagnosticVal) →
+    items_tokens (items_of (diagnostics_json e reported why ds)) ++ end_object ∷ [] ≡ unread_tokens why ++ (flat_map (one_found e reported) ds ++ (end_array ∷ (end_object ∷ [])))
 unfolding one_found
-diagnostics_written e told why ds =
-    let found = flat_map (λ d. json_tokens (diagnostic_json e told d)) ds in
-    ap (λ ts. ts ++ end_object ∷ []) (unread_written why (map (diagnostic_json e told) ds) ∙ ap (λ ts. unread_tokens why ++ ts) (items_written (diagnostic_json e told) ds))
+diagnostics_written e reported why ds =
+    let found = flat_map (λ d. json_tokens (diagnostic_json e reported d)) ds in
+    ap (λ ts. ts ++ end_object ∷ []) (unread_written why (map (diagnostic_json e reported) ds) ∙ ap (λ ts. unread_tokens why ++ ts) (items_written (diagnostic_json e reported) ds))
     ∙ (append_assoc (unread_tokens why) (found ++ end_array ∷ []) (end_object ∷ [])
     ∙ ap (λ ts. unread_tokens why ++ ts) (append_assoc found (end_array ∷ []) (end_object ∷ [])))
 
-pub found_written : (e : Editor) (told : Bool) (name : List ℕ) (why : Option (List ℕ)) (ds : List DiagnosticVal) → json_tokens (found_json e told name why ds) ≡ found_tokens e told name why ds
-found_written e told name why ds =
+pub found_written : (e : Editor) (reported : Bool) (name : List ℕ) (why : Option (List ℕ)) (ds : List DiagnosticVal) → json_tokens (found_json e reported name why ds) ≡ found_tokens e reported name why ds
+found_written e reported name why ds =
     let version = version_in (seen_of e name) in
     ap (λ ts. begin_object ∷ (key (codes "uri") ∷ (string (uri_in name (seen_of e name)) ∷ ts)))
-    (version_written version _ ∙ ap (λ ts. version_tokens version ++ (key (codes "diagnostics") ∷ (begin_array ∷ ts))) (diagnostics_written e told why ds))
+    (version_written version _ ∙ ap (λ ts. version_tokens version ++ (key (codes "diagnostics") ∷ (begin_array ∷ ts))) (diagnostics_written e reported why ds))

@@ -21,7 +21,7 @@ same_texts texts now s same f = record { in_step = λ n is. f.in_step n is ∙ s
 pub passed_follows : (id : IdVal) (s t : Server) (texts now : Texts) → IsPassedOver id s t → EditsPassedOver id texts now → Follows texts s → Follows now t
 passed_follows NullId s t texts now h edits f = record {
   in_step = missed_step s t now h;
-  unopened = λ begun n stands. absurd (missed_unopened s t h n stands);
+  unopened = λ begun n sound. absurd (missed_unopened s t h n sound);
 }
 passed_follows (NumberId number) s t texts now h same f = same_texts texts now t same (subst (λ u. Follows texts u) (sym h) f)
 passed_follows (TextId text) s t texts now h same f = same_texts texts now t same (subst (λ u. Follows texts u) (sym h) f)

@@ -1,4 +1,4 @@
--- What is told of a document of a name is told of that of its URI.
+-- What is reported for a document of a name is reported for that of its URI.
 use Rattle.std.proofs.Common.{◌≡◌, ℕ, List, Option, Some, Result, Ok, Err, OnOk, OnErr, sym, subst}
 use Rattle.std.specs.declared.alloc.AllocError.{AllocError}
 use Rattle.file_uris.specs.Names.{IsNameOf}
@@ -15,7 +15,7 @@ noted_of (Ok x) note kind u uri name shown params s t noted is of same h =
     subst (λ n. IsNotedOf n u s params t) (sym noted) (subst (λ v. IsNotedOf kind v s params t) is (shown, subst (λ m. IsNameOf uri m) (sym same) of, h))
 noted_of (Err x) note kind u uri name shown params s t noted is of same h = h
 
--- no memory was found
+-- an allocation failed
 aside_but : (uri name : List ℕ) (s t : Server) → IsNameOf uri name → IsHeldAside name s t → IsHeldBut (Some uri) s t
 aside_but uri name s t of h = λ other is. subst (λ m. IsHeldAside m s t) (name_once uri name other of is) h
 

@@ -7,7 +7,7 @@ use Rattle.tera_layout.proofs.Defaults.{default_valid}
 use Rattle.tera_layout.proofs.Layouts.{laid_respaced, laid_out_is}
 use Rattle.tera_layout.proofs.Solids.{respaced_same}
 
--- a text and its layout are the same but for white space
+-- a text and its layout are the same except white space
 pub same_without_white : (one other : List ℕ) → laid_out default_marks one ≡ Some other → without_white one ≡ without_white other
 same_without_white one other e =
     respaced_same default_marks one other

@@ -1,4 +1,4 @@
--- Names that are added one behind another.
+-- Names that are added one after another.
 use Rattle.std.proofs.Common.{◌≡◌, ◌∙◌, ◌<◌, ◌+◌, ◌++◌, ◌∷◌, [], ℕ, List, length, drop, get_or, drop-cons, add-one, Option, None, Some, refl, sym, ap, subst, append_assoc}
 use Rattle.std.proofs.lemmas.List.{append-nil}
 use Rattle.tera_server.specs.Notes.{AreNames, AddsName}

@@ -1,4 +1,4 @@
--- Symbols that are written one behind the other, with those that stand in them.
+-- Symbols that are written one after the other, with those that are in them.
 use Rattle.std.proofs.Common.{◌≡◌, ◌∙◌, ◌<◌, ◌+◌, ◌++◌, ◌∷◌, [], ℕ, suc, List, length, map, drop, get_or, Bool, true, false, nat_lt, refl, sym, ap, append_assoc, add-one, drop-cons}
 use Rattle.json.specs.Json.{Items}
 use Rattle.json.specs.Token.{Token, end_array, end_object}
@@ -20,13 +20,13 @@ module _ (e : Encoding) (text : List ℕ) where
   left (end ∷ ends) f = items_tokens (symbol_items e text (before end f)) ++ end_object ∷ left ends (from end f)
 
   -- those are ended that end before the next begins
-  pub left_ended : (ends : List ℕ) (s : Outlined) (inner behind : Forest) →
-      left ends (symbol s inner behind) ≡ end_tokens s.start ends ++ left (open_at s.start ends) (symbol s inner behind)
-  left_ended [] s inner behind = refl
-  left_ended (end ∷ ends) s inner behind = by (nat_lt s.start end) refl (left_ended ends s inner behind)
+  pub left_ended : (ends : List ℕ) (s : Outlined) (inner following : Forest) →
+      left ends (symbol s inner following) ≡ end_tokens s.start ends ++ left (open_at s.start ends) (symbol s inner following)
+  left_ended [] s inner following = refl
+  left_ended (end ∷ ends) s inner following = by (nat_lt s.start end) refl (left_ended ends s inner following)
     where
-      by : (b : Bool) → nat_lt s.start end ≡ b → left ends (symbol s inner behind) ≡ end_tokens s.start ends ++ left (open_at s.start ends) (symbol s inner behind) →
-          left (end ∷ ends) (symbol s inner behind) ≡ end_tokens s.start (end ∷ ends) ++ left (open_at s.start (end ∷ ends)) (symbol s inner behind)
+      by : (b : Bool) → nat_lt s.start end ≡ b → left ends (symbol s inner following) ≡ end_tokens s.start ends ++ left (open_at s.start ends) (symbol s inner following) →
+          left (end ∷ ends) (symbol s inner following) ≡ end_tokens s.start (end ∷ ends) ++ left (open_at s.start (end ∷ ends)) (symbol s inner following)
       by true t h = rw t (rw t refl)
       by false t h = rw t (ap (λ ts. end_array ∷ end_object ∷ ts) h)
 

@@ -1,4 +1,4 @@
--- Messages that are sent of documents, one behind another.
+-- Messages that are sent of documents, one after another.
 use Rattle.std.proofs.Common.{◌≡◌, Vec, Result, Ok, Err, OnErr, ◌∙◌, ◌<◌, ◌≤◌, ◌+◌, ◌++◌, ◌∷◌, [], ◌⊎◌, inl, inr, ◌||◌, ℕ, List, String, string_bytes, length, get_or, take, drop, map, Bool, true, false, if◌then◌else◌, cond, not, refl, sym, ap, subst, append_assoc}
 use Rattle.std.specs.List.{list_any}
 use Rattle.std.specs.Str.{bytes_eq}
@@ -9,14 +9,14 @@ use Rattle.std.proofs.lemmas.List.Elements.{filter-append}
 use Rattle.std.proofs.lemmas.Slice.Eq.{bytes_eq-Decides}
 use Rattle.json_rpc.specs.Outgoing.{Outgoing, more}
 use Rattle.tera_workspace.specs.Names.{is_among}
-use Rattle.tera_workspace.specs.Workspaces.{told_of_name, IsKept, IsSettled, AreOthers}
+use Rattle.tera_workspace.specs.Workspaces.{reported_of_name, IsKept, IsSettled, AreOthers}
 use Rattle.tera_workspace.specs.declared.workspace.Workspace.{Workspace}
-use Rattle.tera_server.specs.Editors.{stand_of}
+use Rattle.tera_server.specs.Editors.{state_of}
 use Rattle.tera_server.specs.Sending.{with_all, found_message, unless_lost, messages_in, SendsFirst, names_beside}
 use Rattle.tera_server.specs.Settling.{due_of, ArePublished, ArePublishedInPart}
 use Rattle.tera_server.specs.declared.editor.Editor.{Editor}
-use Rattle.tera_server.specs.declared.editor.Stand.{Stand}
-use Rattle.tera_server.specs.declared.editor.Stand.TheVariants.{Open, Lost, Closed}
+use Rattle.tera_server.specs.declared.editor.DocumentState.{DocumentState}
+use Rattle.tera_server.specs.declared.editor.DocumentState.TheVariants.{Open, Lost, Closed}
 use Rattle.tera_server.specs.declared.server.Server.{Server}
 use Rattle.tera_server.specs.declared.unread.UnreadFiles.{UnreadFiles}
 
@@ -38,7 +38,7 @@ abbrev pub Joins : (List (List ℕ) → List (List ℕ)) → Type 0
 Joins messages = (xs ys : List (List ℕ)) → messages (xs ++ ys) ≡ messages xs ++ messages ys
 
 pub messages_join : (e : Editor) (u : UnreadFiles) (related : Bool) (w : Workspace) → Joins (messages_in e u related w)
-messages_join e u related w xs ys = flat_map-append (λ n. unless_lost (stand_of e n) (found_message e u related w n)) xs ys
+messages_join e u related w xs ys = flat_map-append (λ n. unless_lost (state_of e n) (found_message e u related w n)) xs ys
 
 pub beside_join : (e : Editor) (u : UnreadFiles) (related : Bool) (w : Workspace) (others : List (List ℕ)) → Joins (λ ns. messages_in e u related w (names_beside others ns))
 beside_join e u related w others xs ys =
@@ -46,11 +46,11 @@ beside_join e u related w others xs ys =
     ∙ messages_join e u related w (names_beside others xs) (names_beside others ys)
 
 -- the message of one document, unless it is open with a text that is not known
-pub one_sent : (e : Editor) (u : UnreadFiles) (related : Bool) (w : Workspace) (n m : List ℕ) (o : Outgoing) → (stand_of e n ≡ Open) ⊎ (stand_of e n ≡ Closed) → m ≡ found_message e u related w n
+pub one_sent : (e : Editor) (u : UnreadFiles) (related : Bool) (w : Workspace) (n m : List ℕ) (o : Outgoing) → (state_of e n ≡ Open) ⊎ (state_of e n ≡ Closed) → m ≡ found_message e u related w n
     → more o m ≡ with_all o (messages_in e u related w (n ∷ []))
-one_sent e u related w n m o stands is = by (stand_of e n) stands
+one_sent e u related w n m o sound is = by (state_of e n) sound
   where
-    by : (s : Stand) → (s ≡ Open) ⊎ (s ≡ Closed) → more o m ≡ with_all o (unless_lost s (found_message e u related w n) ++ [])
+    by : (s : DocumentState) → (s ≡ Open) ⊎ (s ≡ Closed) → more o m ≡ with_all o (unless_lost s (found_message e u related w n) ++ [])
     by Open h = ap (more o) is
     by Lost h = absurd (elim h [ inl e ↦ cc | inr e ↦ cc ])
     by Closed h = ap (more o) is
@@ -174,7 +174,7 @@ pub first_beside_nothing : (e : Editor) (u : UnreadFiles) (related : Bool) (w : 
 first_beside_nothing e u related w ns old now (first, rest, whole, sent) =
     (first, rest, whole, sent ∙ ap (λ xs. with_all old (messages_in e u related w xs)) (beside_nothing first))
 
--- where the list that is told is another, a name is among those of which it is
+-- where the list that is reported is another, a name is among those of which it is
 pub is_other : {A : Type 0} (before now : List ℕ → List A) (names : List (List ℕ)) (n : List ℕ) → (is_among n names ≡ false → now n ≡ before n) → (now n ≡ before n → ⊥) → is_among n names ≡ true
 is_other before now names n same differs = by (is_among n names) same
   where
@@ -190,30 +190,30 @@ Names = Vec (String Global) Global
 abbrev pub names_of : Names → List (List ℕ)
 names_of v = map string_bytes v.items
 
--- the server behind that, when w was found: what is to be published is something else
+-- the server after that, when w was found: what is to be published is something else
 abbrev pub with_found : Server → Workspace → Names → Names → Server
-with_found s w untold edited = record s { workspace = w; untold = untold; edited = edited }
+with_found s w unpublished edited = record s { workspace = w; unpublished = unpublished; edited = edited }
 
--- none of those that were due were published, and nothing else is told than before
-pub part_none : (s : Server) (w : Workspace) (untold due : Names) (old : Outgoing) → names_of due ≡ due_of s → ((n : List ℕ) → told_of_name w n ≡ told_of_name s.workspace n) →
-    ArePublishedInPart s (with_found s w untold due) old old
-part_none s w untold due old is same = record {
+-- none of those that were due were published, and nothing else is reported than before
+pub part_none : (s : Server) (w : Workspace) (unpublished due : Names) (old : Outgoing) → names_of due ≡ due_of s → ((n : List ℕ) → reported_of_name w n ≡ reported_of_name s.workspace n) →
+    ArePublishedInPart s (with_found s w unpublished due) old old
+part_none s w unpublished due old is same = record {
   names = [];
   sent = sym (with_none old);
   others = λ kept n differs. absurd (differs (same n));
-  due = λ n h. inr (among_left n (names_of due) (names_of untold) (subst (λ ns. is_among n ns ≡ true) (sym is) h));
+  due = λ n h. inr (among_left n (names_of due) (names_of unpublished) (subst (λ ns. is_among n ns ≡ true) (sym is) h));
   only = λ n h. absurd (cc);
 }
 
 -- some of those that were due were published
 pub part_due : (s : Server) (w : Workspace) (others due : Names) (old now : Outgoing) → names_of due ≡ due_of s →
-    (IsKept s.workspace → AreOthers (names_of others) (told_of_name s.workspace) (told_of_name w)) →
+    (IsKept s.workspace → AreOthers (names_of others) (reported_of_name s.workspace) (reported_of_name w)) →
     SendsFirst (λ ns. messages_in s.editor s.unread s.client.related w (names_beside (names_of others) ns)) (names_of due) old now →
     ArePublishedInPart s (with_found s w others due) old now
 part_due s w others due old now is are (first, rest, whole, sent) = record {
   names = names_beside (names_of others) first;
   sent = sent;
-  others = λ kept n differs. is_other (told_of_name s.workspace) (told_of_name w) (names_of others) n ((are kept).same n) differs;
+  others = λ kept n differs. is_other (reported_of_name s.workspace) (reported_of_name w) (names_of others) n ((are kept).same n) differs;
   due = λ n h. inr (among_left n (names_of due) (names_of others) (subst (λ ns. is_among n ns ≡ true) (sym is) h));
   only = λ n h. inl (subst (λ ns. is_among n ns ≡ true) (sym whole ∙ is) (among_left n first rest (among_beside n (names_of others) first h)));
 }
@@ -229,9 +229,9 @@ joined s w old next now beside others more sent =
     ∙ with_twice old (messages beside) (messages others)
     ∙ ap (with_all old) (sym (messages_join s.editor s.unread s.client.related w beside others))
 
--- .. all of them, and some of those of which something else is told
+-- .. all of them, and some of those of which something else is reported
 pub part_others : (s : Server) (w : Workspace) (others edited : Names) (old next now : Outgoing) →
-    (IsKept s.workspace → AreOthers (names_of others) (told_of_name s.workspace) (told_of_name w)) →
+    (IsKept s.workspace → AreOthers (names_of others) (reported_of_name s.workspace) (reported_of_name w)) →
     next ≡ with_all old (messages_in s.editor s.unread s.client.related w (names_beside (names_of others) (due_of s))) →
     SendsFirst (messages_in s.editor s.unread s.client.related w) (names_of others) next now →
     ArePublishedInPart s (with_found s w others edited) old now
@@ -240,7 +240,7 @@ part_others s w others edited old next now are more (first, rest, whole, sent) =
     record {
       names = beside ++ first;
       sent = joined s w old next now beside first more sent;
-      others = λ kept n differs. is_other (told_of_name s.workspace) (told_of_name w) (names_of others) n ((are kept).same n) differs;
+      others = λ kept n differs. is_other (reported_of_name s.workspace) (reported_of_name w) (names_of others) n ((are kept).same n) differs;
       due = λ n h. elim (beside_or_among n (names_of others) (due_of s) h) [
         | inl e ↦ inl (among_left n beside first e)
         | inr e ↦ inr (among_right n (names_of edited) (names_of others) e)
@@ -252,17 +252,17 @@ part_others s w others edited old next now are more (first, rest, whole, sent) =
     }
 
 -- all
-pub published_whole : (s : Server) (w : Workspace) (others untold edited : Names) (old next now : Outgoing) →
-    (IsKept s.workspace → IsSettled w) → (IsKept s.workspace → AreOthers (names_of others) (told_of_name s.workspace) (told_of_name w)) →
+pub published_whole : (s : Server) (w : Workspace) (others unpublished edited : Names) (old next now : Outgoing) →
+    (IsKept s.workspace → IsSettled w) → (IsKept s.workspace → AreOthers (names_of others) (reported_of_name s.workspace) (reported_of_name w)) →
     next ≡ with_all old (messages_in s.editor s.unread s.client.related w (names_beside (names_of others) (due_of s))) →
-    now ≡ with_all next (messages_in s.editor s.unread s.client.related w (names_of others)) → names_of untold ≡ [] → names_of edited ≡ [] →
-    ArePublished s (with_found s w untold edited) old now
-published_whole s w others untold edited old next now settled are more sent no_untold no_edited = record {
+    now ≡ with_all next (messages_in s.editor s.unread s.client.related w (names_of others)) → names_of unpublished ≡ [] → names_of edited ≡ [] →
+    ArePublished s (with_found s w unpublished edited) old now
+published_whole s w others unpublished edited old next now settled are more sent no_unreported no_edited = record {
   settled = settled;
   others = names_of others;
   are = are;
   sent = joined s w old next now (names_beside (names_of others) (due_of s)) (names_of others) more sent;
-  untold = no_untold;
+  unpublished = no_unreported;
   edited = no_edited;
 }
 

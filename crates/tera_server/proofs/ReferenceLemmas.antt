@@ -1,4 +1,4 @@
--- Places that are listed, one file behind another.
+-- Places that are listed, one file after another.
 use Rattle.std.proofs.Common.{◌≡◌, ◌∙◌, ◌++◌, ◌∷◌, [], List, map, inl, inr, refl, sym, ap, subst, append_assoc}
 use Rattle.std.specs.List.{filter, flat_map}
 use Rattle.std.proofs.lemmas.Bool.{cases_Bool}
@@ -9,10 +9,10 @@ use Rattle.json.specs.Token.{Token}
 use Rattle.json.specs.Tree.{json_tokens}
 use Rattle.tera_outline.specs.Names.{Named}
 use Rattle.tera_workspace.specs.Sources.{Source}
-use Rattle.tera_server.specs.References.{Sought, refers, reference_json, AreReferencesIn, AreReferences, reference_tokens}
+use Rattle.tera_server.specs.References.{LookedFor, refers, reference_json, AreReferencesIn, AreReferences, reference_tokens}
 
 -- the places in a file, as they are written
-pub references_written : (k : Sought) (s : Source) (ns : List Named) → flat_map (reference_tokens k s) ns ≡ flat_map json_tokens (map (reference_json k s) (filter (refers k) ns))
+pub references_written : (k : LookedFor) (s : Source) (ns : List Named) → flat_map (reference_tokens k s) ns ≡ flat_map json_tokens (map (reference_json k s) (filter (refers k) ns))
 unfolding reference_tokens
 references_written k s [] = refl
 references_written k s (n ∷ ns) = elim (cases_Bool (refers k n)) [
@@ -21,12 +21,12 @@ references_written k s (n ∷ ns) = elim (cases_Bool (refers k n)) [
 ]
 
 -- the places in the first of all files are listed, and those in these files follow
-pub record AreListed (k : Sought) (all left : List Source) (old now : List Token) : Type 0 where
+pub record AreListed (k : LookedFor) (all left : List Source) (old now : List Token) : Type 0 where
   pub first : List Json
   pub follow : (rest : List Json) → AreReferences k left rest → AreReferences k all (first ++ rest)
   pub written : now ≡ old ++ flat_map json_tokens first
 
-pub one_listed : (k : Sought) (all left : List Source) (s : Source) (old then now : List Token) (js : List Json) → AreListed k all (s ∷ left) old then
+pub one_listed : (k : LookedFor) (all left : List Source) (s : Source) (old then now : List Token) (js : List Json) → AreListed k all (s ∷ left) old then
     → AreReferencesIn k s js → now ≡ then ++ flat_map json_tokens js → AreListed k all left old now
 one_listed k all left s old then now js h here is = record {
   first = h.first ++ js;
@@ -37,6 +37,6 @@ one_listed k all left s old then now js h here is = record {
       ∙ (append_assoc old (flat_map json_tokens h.first) (flat_map json_tokens js) ∙ ap (λ ts. old ++ ts) (sym (flat_map-append json_tokens h.first js))));
 }
 
-pub all_listed : (k : Sought) (all : List Source) (old now : List Token) → AreListed k all [] old now
+pub all_listed : (k : LookedFor) (all : List Source) (old now : List Token) → AreListed k all [] old now
     → (js : List Json) × AreReferences k all js × (now ≡ old ++ flat_map json_tokens js)
 all_listed k all old now h = (h.first, subst (λ xs. AreReferences k all xs) (append-nil h.first) (h.follow [] refl), h.written)

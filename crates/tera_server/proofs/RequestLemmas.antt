@@ -13,11 +13,11 @@ use Rattle.tera_server.specs.Clients.{client_in}
 use Rattle.tera_workspace.specs.Workspaces.{IsKept}
 use Rattle.json_rpc.specs.declared.code.Code.{Code}
 use Rattle.json_rpc.specs.declared.code.Code.TheVariants.{InternalError}
-use Rattle.tera_server.specs.Editors.{stand_of}
+use Rattle.tera_server.specs.Editors.{state_of}
 use Rattle.tera_server.specs.Notes.{Texts}
 use Rattle.tera_server.specs.Requests.{IsBegun, HasRead, Gives, Remains, IsAnsweredBy}
 use Rattle.tera_server.specs.Steps.{answer_by, Answers, Follows}
-use Rattle.tera_server.specs.declared.editor.Stand.TheVariants.{Open}
+use Rattle.tera_server.specs.declared.editor.DocumentState.TheVariants.{Open}
 use Rattle.tera_server.specs.declared.requests.Asked.{Asked}
 use Rattle.tera_server.specs.declared.requests.Asked.TheVariants.{Initialize, Shutdown, OfText, AtPlace, Other}
 use Rattle.tera_server.specs.declared.server.Phase.{Phase}
@@ -73,8 +73,8 @@ read_keeps : (s t : Server) → HasRead s t → Keeps s t
 read_keeps s t h = (
   h.kept,
   λ texts f. record {
-    in_step = λ n stands. ap (λ d. d.opened) (h.documents n) ∙ f.in_step n (subst (λ (u : Server). stand_of u.editor n ≡ Open) h.rest stands);
-    unopened = λ begun n stands. f.unopened (subst (λ (u : Server). u.phase ≡ New) h.rest begun) n (subst (λ (u : Server). stand_of u.editor n ≡ Open) h.rest stands);
+    in_step = λ n sound. ap (λ d. d.opened) (h.documents n) ∙ f.in_step n (subst (λ (u : Server). state_of u.editor n ≡ Open) h.rest sound);
+    unopened = λ begun n sound. f.unopened (subst (λ (u : Server). u.phase ≡ New) h.rest begun) n (subst (λ (u : Server). state_of u.editor n ≡ Open) h.rest sound);
   },
 )
 
@@ -82,8 +82,8 @@ begun_keeps : (params : Option Json) (s t : Server) → s.phase ≡ New → IsBe
 begun_keeps params s t new h = (
   λ kept. h.kept,
   λ texts f. record {
-    in_step = λ n stands. absurd (f.unopened new n (subst (λ (u : Server). stand_of u.editor n ≡ Open) h.same stands));
-    unopened = λ begun n stands. f.unopened new n (subst (λ (u : Server). stand_of u.editor n ≡ Open) h.same stands);
+    in_step = λ n sound. absurd (f.unopened new n (subst (λ (u : Server). state_of u.editor n ≡ Open) h.same sound));
+    unopened = λ begun n sound. f.unopened new n (subst (λ (u : Server). state_of u.editor n ≡ Open) h.same sound);
   },
 )
 

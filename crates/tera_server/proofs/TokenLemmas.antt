@@ -1,4 +1,4 @@
--- The positions of tokens that stand on one line.
+-- The positions of tokens that are on one line.
 use Rattle.std.proofs.Common.{◌≡◌, ◌+◌, ◌-◌, ◌<◌, ◌≤◌, ◌==◌, ℕ, zero, suc, true, false, List, [], ◌∷◌, ◌++◌, length, map, get_or, drop, append_assoc, inl, inr, refl, sym, ap, subst, ◌∙◌, arith}
 use Rattle.std.specs.Prelude.{IsUtf8, max}
 use Rattle.std.proofs.lemmas.Bool.{cases_Bool}
@@ -10,18 +10,18 @@ use Rattle.std.proofs.lemmas.Str.{IsCharBoundary-after_ascii}
 use Rattle.json.specs.Token.{Token}
 use Rattle.tera_outline.specs.declared.semantic_tokens.SemanticKind.TheVariants.{Comment}
 use Rattle.tera_outline.specs.declared.semantic_tokens.SemanticToken.{SemanticToken}
-use Rattle.tera_outline.specs.SemanticTokens.{ends_line, IsOnLine, StandOnLines}
+use Rattle.tera_outline.specs.SemanticTokens.{ends_line, IsOnLine, AreOnLines}
 use Rattle.text_edits.specs.Laws.{IsUpTo}
 use Rattle.text_edits.specs.Lines.{lines_of}
 use Rattle.text_edits.specs.Positions.{position_of, boundary_to}
-use Rattle.text_edits.specs.Walks.{position_behind, IsReached}
+use Rattle.text_edits.specs.Walks.{position_after, IsReached}
 use Rattle.text_edits.specs.declared.positions.Encoding.{Encoding}
 use Rattle.text_edits.specs.declared.positions.Position.{Position}
 use Rattle.text_edits.specs.declared.walk.Walk.{Walk}
 use Rattle.text_edits.proofs.Boundaries.{last_within, last_nearest}
 use Rattle.text_edits.proofs.Steps.{one_more, starts_at}
 use Rattle.tera_server.specs.Positions.{position_at}
-use Rattle.tera_server.specs.SemanticTokens.{first, placed, distance, numbers, data_from, number_tokens, told, moved, read_from, end_of, AreApart}
+use Rattle.tera_server.specs.SemanticTokens.{first, placed, distance, numbers, data_from, number_tokens, sent_token, moved, read_from, end_of, AreApart}
 use Rattle.tera_server.proofs.SelectionLemmas.{boundaries_order, positions_up}
 
 pub up_to_up : (p q r : Position) → IsUpTo p q → IsUpTo q r → IsUpTo p r
@@ -38,8 +38,8 @@ character_up : (p q : Position) → IsUpTo p q → q.line ≡ p.line → p.chara
 character_up p q (inl less) same = absurd (omega (arith, same, less))
 character_up p q (inr up) same = up.1
 
--- behind a byte that ends no line
-line_goes_on : (e : Encoding) (bytes : List ℕ) (p : Position) → ends_line (get_or bytes 0 0) ≡ false → (position_behind e bytes p).line ≡ p.line
+-- after a byte that ends no line
+line_goes_on : (e : Encoding) (bytes : List ℕ) (p : Position) → ends_line (get_or bytes 0 0) ≡ false → (position_after e bytes p).line ≡ p.line
 line_goes_on e bytes p plain = elim (cases_Bool (get_or bytes 0 0 == 10)) [
   | inl feed ↦ let no : true ≡ false = rw feed at plain in cc
   | inr other ↦ elim (cases_Bool (get_or bytes 0 0 == 13)) [
@@ -108,21 +108,21 @@ on_one_line e text t utf8 is =
     ∙ line_stays e text start (end - start) (omega (arith, order, within, is.within)) (λ k low high. plain_before text t utf8 is k low (omega (arith, high, order, within))) in
     (same, character_up _ _ (positions_up e text t.start t.end (omega (arith, is.some))) same)
 
--- tokens that are to be told behind a place; the one told before begins no later than that
+-- tokens that are to be reported after a place; the one reported before begins no later than that
 pub record AreReady (e : Encoding) (text : List ℕ) (last : Position) (w : Walk) (tokens : List SemanticToken) : Type 0 where
   pub from : ℕ
   pub byte : w.byte ≡ boundary_to text from
-  pub stand : StandOnLines from text tokens
+  pub state : AreOnLines from text tokens
   pub reached : IsReached e text w
   pub order : IsUpTo last w.position
 
-pub ready_first : (e : Encoding) (text : List ℕ) (w : Walk) (tokens : List SemanticToken) → IsReached e [] w → IsReached e text w → StandOnLines 0 text tokens → AreReady e text w.position w tokens
-ready_first e text w tokens none reached stand = record { from = 0; byte = omega (arith, none.0); stand = stand; reached = reached; order = inr (refl, omega arith) }
+pub ready_first : (e : Encoding) (text : List ℕ) (w : Walk) (tokens : List SemanticToken) → IsReached e [] w → IsReached e text w → AreOnLines 0 text tokens → AreReady e text w.position w tokens
+ready_first e text w tokens none reached state = record { from = 0; byte = omega (arith, none.0); state = state; reached = reached; order = inr (refl, omega arith) }
 
 pub first_at : (e : Encoding) (w : Walk) → IsReached e [] w → w.position ≡ first
 first_at e w none = none.1 ∙ ap (position_of e (lines_of [])) (omega (arith, none.0)) ∙ starts_at e []
 
--- what is read behind the end of a list
+-- what is read after the end of a list
 abbrev pub no_token : SemanticToken
 no_token = record { kind = Comment; start = 0; end = 0 }
 
@@ -131,23 +131,23 @@ pub ready_at : (e : Encoding) (text : List ℕ) (last : Position) (w : Walk) (to
 ready_at e text last w tokens i within ready = subst (λ ts. AreReady e text last w ts) (drop_more tokens i no_token within) ready
 
 pub ready_order : (e : Encoding) (text : List ℕ) (last : Position) (w : Walk) (t : SemanticToken) (ts : List SemanticToken) → AreReady e text last w (t ∷ ts) → w.byte ≤ boundary_to text t.start
-ready_order e text last w t ts ready = rw ready.byte (boundaries_order text ready.from t.start ready.stand.0)
+ready_order e text last w t ts ready = rw ready.byte (boundaries_order text ready.from t.start ready.state.0)
 
 pub ready_up : (e : Encoding) (text : List ℕ) (last : Position) (w : Walk) (t : SemanticToken) (ts : List SemanticToken) → AreReady e text last w (t ∷ ts) → IsUpTo last (position_at e text t.start)
 ready_up e text last w t ts ready =
     let at : w.position ≡ position_at e text ready.from = ready.reached.1 ∙ ap (position_of e (lines_of text)) ready.byte in
-    up_to_up last w.position (position_at e text t.start) ready.order (rw at (positions_up e text ready.from t.start ready.stand.0))
+    up_to_up last w.position (position_at e text t.start) ready.order (rw at (positions_up e text ready.from t.start ready.state.0))
 
 pub ready_next : (e : Encoding) (text : List ℕ) (last : Position) (w next : Walk) (t : SemanticToken) (ts : List SemanticToken) → AreReady e text last w (t ∷ ts) → next.byte ≡ boundary_to text t.end
     → IsReached e text next → AreReady e text (position_at e text t.start) next ts
 ready_next e text last w next t ts ready byte reached =
-    let is = ready.stand.1 in
+    let is = ready.state.1 in
     let at : next.position ≡ position_at e text t.end = reached.1 ∙ ap (position_of e (lines_of text)) byte in
-    record { from = t.end; byte = byte; stand = ready.stand.2; reached = reached; order = rw at (positions_up e text t.start t.end (omega (arith, is.some))) }
+    record { from = t.end; byte = byte; state = ready.state.2; reached = reached; order = rw at (positions_up e text t.start t.end (omega (arith, is.some))) }
 
-pub next_told : (e : Encoding) (text : List ℕ) (last : Position) (t : SemanticToken) (ts : List SemanticToken) (all old now : List Token) → all ≡ old ++ flat_map number_tokens (data_from last (map (placed e text) (t ∷ ts)))
+pub next_reported : (e : Encoding) (text : List ℕ) (last : Position) (t : SemanticToken) (ts : List SemanticToken) (all old now : List Token) → all ≡ old ++ flat_map number_tokens (data_from last (map (placed e text) (t ∷ ts)))
     → now ≡ old ++ flat_map number_tokens (numbers last (placed e text t)) → all ≡ now ++ flat_map number_tokens (data_from (position_at e text t.start) (map (placed e text) ts))
-next_told e text last t ts all old now before more =
+next_reported e text last t ts all old now before more =
     before ∙ ap (λ xs. old ++ xs) (flat_map-append number_tokens (numbers last (placed e text t)) (data_from (position_at e text t.start) (map (placed e text) ts)))
     ∙ sym (append_assoc old (flat_map number_tokens (numbers last (placed e text t))) (flat_map number_tokens (data_from (position_at e text t.start) (map (placed e text) ts))))
     ∙ ap (λ xs. xs ++ flat_map number_tokens (data_from (position_at e text t.start) (map (placed e text) ts))) (sym more)
@@ -167,15 +167,15 @@ moved_back p q up = elim (eqb_tells q.line p.line) [
     both : (line character : ℕ) (q : Position) → line ≡ q.line → character ≡ q.character → record { line = line; character = character } ≡ q
     both line character q one other = rw (one, other) refl
 
--- what is told behind a token that ended at or before a byte is read back
-pub read_back : (e : Encoding) (text : List ℕ) (from : ℕ) (last : Position) (ts : List SemanticToken) → IsUpTo last (position_at e text from) → StandOnLines from text ts
-    → read_from last (data_from last (map (placed e text) ts)) ≡ map told (map (placed e text) ts)
-read_back e text from last [] up stand = refl
-read_back e text from last (t ∷ ts) up stand =
+-- what is reported after a token that ended at or before a byte is read back
+pub read_back : (e : Encoding) (text : List ℕ) (from : ℕ) (last : Position) (ts : List SemanticToken) → IsUpTo last (position_at e text from) → AreOnLines from text ts
+    → read_from last (data_from last (map (placed e text) ts)) ≡ map sent_token (map (placed e text) ts)
+read_back e text from last [] up state = refl
+read_back e text from last (t ∷ ts) up state =
     let start = position_at e text t.start in
-    let is = stand.1 in
-    let further = up_to_up last (position_at e text from) start up (positions_up e text from t.start stand.0) in
-    rw (moved_back last start further) (ap (λ us. told (placed e text t) ∷ us) (read_back e text t.end start ts (positions_up e text t.start t.end (omega (arith, is.some))) stand.2))
+    let is = state.1 in
+    let further = up_to_up last (position_at e text from) start up (positions_up e text from t.start state.0) in
+    rw (moved_back last start further) (ap (λ us. sent_token (placed e text t) ∷ us) (read_back e text t.end start ts (positions_up e text t.start t.end (omega (arith, is.some))) state.2))
 
 -- a token ends on its line
 pub ends_on_line : (e : Encoding) (text : List ℕ) (t : SemanticToken) → IsUtf8 text → IsOnLine text t → position_at e text t.end ≡ end_of (placed e text t)
@@ -184,16 +184,16 @@ ends_on_line e text t utf8 is = same _ _ (on_one_line e text t utf8 is)
     same : (p q : Position) → (q.line ≡ p.line) × (p.character ≤ q.character) → q ≡ record { line = p.line; character = p.character + (q.character - p.character) }
     same p q h = rw (← h.0) (ap (λ k. record { line = q.line; character = k }) (omega (arith, h.1)))
 
-pub all_end : (e : Encoding) (text : List ℕ) (from : ℕ) (ts : List SemanticToken) → IsUtf8 text → StandOnLines from text ts → (k : ℕ) (d : SemanticToken) → k < length ts
+pub all_end : (e : Encoding) (text : List ℕ) (from : ℕ) (ts : List SemanticToken) → IsUtf8 text → AreOnLines from text ts → (k : ℕ) (d : SemanticToken) → k < length ts
     → position_at e text (get_or ts k d).end ≡ end_of (placed e text (get_or ts k d))
-all_end e text from [] utf8 stand k d within = absurd (omega (arith, within))
-all_end e text from (t ∷ ts) utf8 stand zero d within = ends_on_line e text t utf8 stand.1
-all_end e text from (t ∷ ts) utf8 stand (suc k) d within = all_end e text t.end ts utf8 stand.2 k d (omega (arith, within))
+all_end e text from [] utf8 state k d within = absurd (omega (arith, within))
+all_end e text from (t ∷ ts) utf8 state zero d within = ends_on_line e text t utf8 state.1
+all_end e text from (t ∷ ts) utf8 state (suc k) d within = all_end e text t.end ts utf8 state.2 k d (omega (arith, within))
 
 pub begins_first : (e : Encoding) (text : List ℕ) → first ≡ position_at e text 0
 begins_first e text = sym (starts_at e text)
 
-pub all_apart : (e : Encoding) (text : List ℕ) (from : ℕ) (p : Position) (ts : List SemanticToken) → IsUtf8 text → p ≡ position_at e text from → StandOnLines from text ts → AreApart p (map (placed e text) ts)
-all_apart e text from p [] utf8 at stand = tt
-all_apart e text from p (t ∷ ts) utf8 at stand =
-    (rw at (positions_up e text from t.start stand.0), all_apart e text t.end (end_of (placed e text t)) ts utf8 (sym (ends_on_line e text t utf8 stand.1)) stand.2)
+pub all_apart : (e : Encoding) (text : List ℕ) (from : ℕ) (p : Position) (ts : List SemanticToken) → IsUtf8 text → p ≡ position_at e text from → AreOnLines from text ts → AreApart p (map (placed e text) ts)
+all_apart e text from p [] utf8 at state = tt
+all_apart e text from p (t ∷ ts) utf8 at state =
+    (rw at (positions_up e text from t.start state.0), all_apart e text t.end (end_of (placed e text t)) ts utf8 (sym (ends_on_line e text t utf8 state.1)) state.2)

@@ -5,11 +5,11 @@ use Rattle.text_edits.specs.declared.positions.Encoding.{Encoding}
 use Rattle.protocol_values.specs.Writing.{number_json, encoding_name}
 use Rattle.tera_server.specs.SemanticTokens.{legend_json}
 
--- texts are told when they are opened and closed, and their changes by parts
+-- texts are reported when they are opened and closed, and their changes by parts
 abbrev pub sync_json : Json
 sync_json = object (member (codes "openClose") (boolean true) (member (codes "change") (number_json 2) no_members))
 
--- the characters behind which an editor asks by itself what may be typed
+-- the characters after which an editor asks by itself what may be typed
 abbrev pub triggers : Items
 triggers =
     item (string (codes "<")) (item (string (codes "/")) (item (string (codes "."))
@@ -18,7 +18,7 @@ triggers =
 abbrev pub completion_json : Json
 completion_json = object (member (codes "triggerCharacters") (array triggers) no_members)
 
--- tokens are told for a whole text
+-- tokens are reported for a whole text
 abbrev pub semantic_json : Json
 semantic_json = object (member (codes "legend") legend_json (member (codes "full") (boolean true) no_members))
 

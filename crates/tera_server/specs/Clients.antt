@@ -1,11 +1,11 @@
--- What a client tells of itself.
+-- What a client reports itself.
 use Rattle.std.specs.Prelude.{codes, Option}
 use Rattle.json.specs.Json.{Json}
 use Rattle.protocol_values.specs.Members.{member_of, is_set}
 use Rattle.protocol_values.specs.Reading.{encoding_in}
 use Rattle.tera_server.specs.declared.client.Client.{Client}
 
--- where its capabilities tell which encodings it knows, whether it shows what explains a finding, and whether it can be
+-- where its capabilities say which encodings it knows, whether it shows what explains a finding, and whether it can be
 -- asked to watch files
 abbrev pub offered_in : Option Json → Option Json
 offered_in j = member_of (codes "positionEncodings") (member_of (codes "general") j)

@@ -41,7 +41,7 @@ is_defined kind = false
 abbrev pub defined_names : List Named → List (List ℕ)
 defined_names named = map (λ n. n.text) (filter (λ n. is_defined n.kind) named)
 
--- what may be typed of a kind, beside these names that stand in the text
+-- what may be typed of a kind, beside these names that are in the text
 abbrev pub offered : Workspace → List (List ℕ) → List Named → CompletionKind → List (List ℕ)
 offered w folders named Statement = statements
 offered w folders named Component = components_of w ++ defined_names named
@@ -55,7 +55,7 @@ kind_number Component = 7
 kind_number Template = 17
 kind_number (Argument call) = 5
 
--- what a name that may be typed is told as: it goes between two positions
+-- what a name that may be typed is reported as: it goes between two positions
 abbrev pub item_json : Position → Position → ℕ → List ℕ → Json
 item_json start end kind name =
     object (member (codes "label") (string name)

@@ -19,7 +19,7 @@ use Rattle.tera_server.specs.Editors.{seen_of, uri_in}
 use Rattle.tera_server.specs.Templates.{template_in}
 use Rattle.tera_server.specs.declared.editor.Editor.{Editor}
 
--- the name at a position of a text, if one stands there
+-- the name at a position of a text, if one is there
 abbrev pub IsNamedAt : Encoding → List ℕ → Position → Option Named → Type 0
 IsNamedAt e text p named =
     (parts : List Part) × ArePartsOf text parts × (named ≡ find (holds (byte_of e (lines_of text) p)) (names_of parts))

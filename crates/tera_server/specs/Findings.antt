@@ -26,12 +26,12 @@ unfoldable pub one_related : Editor → RelatedVal → List Token
 one_related e r = json_tokens (related_json e r)
 
 abbrev pub related_members : Editor → Bool → List RelatedVal → Members
-related_members e told rs =
-    if told then member (codes "relatedInformation") (array (items_of (map (related_json e) rs))) no_members else no_members
+related_members e reported rs =
+    if reported then member (codes "relatedInformation") (array (items_of (map (related_json e) rs))) no_members else no_members
 
 -- that, as it is written
 abbrev pub related_tokens : Editor → Bool → List RelatedVal → List Token
-related_tokens e told rs = if told then member_tokens (codes "relatedInformation") (array (items_of (map (related_json e) rs))) else []
+related_tokens e reported rs = if reported then member_tokens (codes "relatedInformation") (array (items_of (map (related_json e) rs))) else []
 
 -- how grave a finding is, as the protocol has it
 abbrev pub severity_number : Severity → ℕ
@@ -40,15 +40,15 @@ severity_number Warning = 2
 
 -- a finding
 abbrev pub diagnostic_json : Editor → Bool → DiagnosticVal → Json
-diagnostic_json e told d =
+diagnostic_json e reported d =
     object (member (codes "range") (range_json d.start d.end)
     (member (codes "severity") (number_json (severity_number (severity_of d.kind)))
     (member (codes "code") (string (kind_name d.kind))
     (member (codes "source") (string (codes "tera"))
-    (member (codes "message") (string d.message) (related_members e told d.related))))))
+    (member (codes "message") (string d.message) (related_members e reported d.related))))))
 
 unfoldable pub one_found : Editor → Bool → DiagnosticVal → List Token
-one_found e told d = json_tokens (diagnostic_json e told d)
+one_found e reported d = json_tokens (diagnostic_json e reported d)
 
 -- the version where it is known, before other members
 abbrev pub with_version : Option ℕ → Members → Members
@@ -79,14 +79,14 @@ unread_tokens (Some why) = json_tokens (unread_json why)
 
 -- all that is published of a file: first why it cannot be read, if it cannot
 abbrev pub diagnostics_json : Editor → Bool → Option (List ℕ) → List DiagnosticVal → List Json
-diagnostics_json e told why ds = option_to_list (option_map unread_json why) ++ map (diagnostic_json e told) ds
+diagnostics_json e reported why ds = option_to_list (option_map unread_json why) ++ map (diagnostic_json e reported) ds
 
 abbrev pub found_json : Editor → Bool → List ℕ → Option (List ℕ) → List DiagnosticVal → Json
-found_json e told name why ds =
+found_json e reported name why ds =
     object (member (codes "uri") (string (uri_in name (seen_of e name)))
     (with_version (version_in (seen_of e name))
-    (member (codes "diagnostics") (array (items_of (diagnostics_json e told why ds))) no_members)))
+    (member (codes "diagnostics") (array (items_of (diagnostics_json e reported why ds))) no_members)))
 
 -- the message that publishes what is found in the document of a name
 abbrev pub published : Editor → Bool → List ℕ → Option (List ℕ) → List DiagnosticVal → Json
-published e told name why ds = notification (codes "textDocument/publishDiagnostics") (found_json e told name why ds)
+published e reported name why ds = notification (codes "textDocument/publishDiagnostics") (found_json e reported name why ds)

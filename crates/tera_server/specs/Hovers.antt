@@ -1,4 +1,4 @@
--- What is told of a component that is named in a text.
+-- What is reported for a component that is named in a text.
 use Rattle.std.specs.Prelude.{◌≡◌, if◌then◌else◌, ℕ, List, codes, Option, None, Some}
 use Rattle.json.specs.Json.{Json, null, string, object, no_members, member}
 use Rattle.tera_outline.specs.Heads.{head_of}
@@ -20,7 +20,7 @@ abbrev pub text_at : Workspace → Option DefinitionVal → Option (List ℕ)
 text_at w None = None
 text_at w (Some d) = text_of (document_of w.documents d.file)
 
--- this is the head of the first definition of a component in a text, if one stands there
+-- this is the head of the first definition of a component in a text, if one is there
 abbrev pub IsHeadIn : Option (List ℕ) → List ℕ → Option (List ℕ) → Type 0
 IsHeadIn None name head = head ≡ None
 IsHeadIn (Some text) name head = (parts : List Part) × ArePartsOf text parts × (head ≡ head_of text parts name)
@@ -44,9 +44,9 @@ hover_json (Some head) =
 -- ---- what is so of it
 
 -- this is the head of a definition in the text of the file to which the name leads, of the component that the name stands for
-pub record IsOfDefinition (w : Workspace) (folders : List (List ℕ)) (named : Option Named) (told : List ℕ) : Type 0 where
+pub record IsOfDefinition (w : Workspace) (folders : List (List ℕ)) (named : Option Named) (reported : List ℕ) : Type 0 where
   pub name : List ℕ
   pub component : component_in named ≡ Some name
   pub place : DefinitionVal
   pub leads : place_of w folders named ≡ Some place
-  pub head : IsHeadIn (text_of (document_of w.documents place.file)) name (Some told)
+  pub head : IsHeadIn (text_of (document_of w.documents place.file)) name (Some reported)

@@ -12,21 +12,21 @@ use Rattle.text_edits.specs.Edits.{ChangeView, edited}
 use Rattle.text_edits.specs.Stored.{document_of}
 use Rattle.text_edits.specs.declared.positions.Encoding.{Encoding}
 use Rattle.tera_server.specs.Abilities.{registrations_json}
-use Rattle.tera_server.specs.Editors.{stand_of}
-use Rattle.tera_server.specs.States.{Known, IsKnownAt, IsMissed, opened_as, takes, with_lost, changed_as, closed_as, known_of, WantedVal, wanted_of, wants, edited_of, with_name, StaysBut}
+use Rattle.tera_server.specs.Editors.{state_of}
+use Rattle.tera_server.specs.States.{Known, IsKnownAt, IsMissed, opened_as, takes, with_lost, changed_as, closed_as, known_of, NeededVal, needed_of, needs, edited_of, with_name, StaysBut}
 use Rattle.tera_server.specs.declared.client.Client.{Client}
-use Rattle.tera_server.specs.declared.editor.Stand.{Stand}
-use Rattle.tera_server.specs.declared.editor.Stand.TheVariants.{Open}
+use Rattle.tera_server.specs.declared.editor.DocumentState.{DocumentState}
+use Rattle.tera_server.specs.declared.editor.DocumentState.TheVariants.{Open}
 use Rattle.tera_server.specs.declared.notes.DocumentNote.{DocumentNote}
 use Rattle.tera_server.specs.declared.notes.DocumentNote.TheVariants as of_document
 use Rattle.tera_server.specs.declared.notes.Noted.{Noted}
 use Rattle.tera_server.specs.declared.notes.Noted.TheVariants as notes
-use Rattle.tera_server.specs.declared.notes.WantedKind.TheVariants.{Folder, File}
+use Rattle.tera_server.specs.declared.notes.NeededKind.TheVariants.{Folder, File}
 use Rattle.tera_server.specs.declared.server.Phase.{Phase}
 use Rattle.tera_server.specs.declared.server.Phase.TheVariants.{Running}
 use Rattle.tera_server.specs.declared.server.Server.{Server}
 
--- what a method tells
+-- what a method says
 abbrev pub noted_of : List ℕ → Noted
 noted_of m =
     if bytes_eq m (codes "initialized") then notes.Initialized
@@ -40,8 +40,8 @@ noted_of m =
 abbrev pub document_in : Option Json → Option Json
 document_in params = member_of (codes "textDocument") params
 
-abbrev pub uri_told : Option Json → Option (List ℕ)
-uri_told document = text_in (member_of (codes "uri") document)
+abbrev pub uri_given : Option Json → Option (List ℕ)
+uri_given document = text_in (member_of (codes "uri") document)
 
 abbrev pub version_of : Option Json → Option ℕ
 version_of document = number_in (member_of (codes "version") document)
@@ -51,30 +51,31 @@ pub record IsNotedAt (name : List ℕ) (change : Known → Known) (s t : Server)
   pub stays : StaysBut s t
   pub at : IsKnownAt name change s t
 
--- a document is opened; where no text is told, the one that is known of it is not that of the editor
+-- a document is opened; where no text is reported, the one that is known of it is not that of the editor
 abbrev pub IsOpened : List ℕ → List ℕ → Option (List ℕ) → Option ℕ → Server → Server → Type 0
-IsOpened name uri None version s t = IsNotedAt name with_lost s t × (wanted_of t ≡ wanted_of s) × (edited_of t ≡ edited_of s)
+IsOpened name uri None version s t = IsNotedAt name with_lost s t × (needed_of t ≡ needed_of s) × (edited_of t ≡ edited_of s)
 IsOpened name uri (Some text) version s t =
-    IsNotedAt name (opened_as uri version text) s t × (wanted_of t ≡ wanted_of s) × (edited_of t ≡ with_name name (edited_of s))
+    IsNotedAt name (opened_as uri version text) s t × (needed_of t ≡ needed_of s) × (edited_of t ≡ with_name name (edited_of s))
 
 -- whether changes are taken: they are well formed, and lead to a text that is known
-abbrev pub are_taken : Stand → Option (List ChangeView) → Bool
-are_taken stand None = false
-are_taken stand (Some changes) = takes stand changes
+abbrev pub are_taken : DocumentState → Option (List ChangeView) → Bool
+are_taken state None = false
+are_taken state (Some changes) = takes state changes
 
--- the names of those that are published for a new version, behind changes: where they are taken, the document is among them
-abbrev pub edited_behind : Bool → List ℕ → List (List ℕ) → List (List ℕ)
-edited_behind taken name names = if taken then with_name name names else names
+-- the names of those that are published for a new version, after changes: where they are taken, the document is among
+-- them
+abbrev pub edited_after : Bool → List ℕ → List (List ℕ) → List (List ℕ)
+edited_after taken name names = if taken then with_name name names else names
 
 -- .. changed
 abbrev pub IsChanged : List ℕ → Option ℕ → Option (List ChangeView) → Server → Server → Type 0
 IsChanged name version changes s t =
-    IsNotedAt name (changed_as s.workspace.encoding version changes) s t × (wanted_of t ≡ wanted_of s)
-    × (edited_of t ≡ edited_behind (are_taken (stand_of s.editor name) changes) name (edited_of s))
+    IsNotedAt name (changed_as s.workspace.encoding version changes) s t × (needed_of t ≡ needed_of s)
+    × (edited_of t ≡ edited_after (are_taken (state_of s.editor name) changes) name (edited_of s))
 
 -- .. closed: its file is asked for, and what is found in it is to be published
 abbrev pub IsClosed : List ℕ → Server → Server → Type 0
-IsClosed name s t = IsNotedAt name closed_as s t × (wanted_of t ≡ wanted_of s ++ wants File name) × (edited_of t ≡ with_name name (edited_of s))
+IsClosed name s t = IsNotedAt name closed_as s t × (needed_of t ≡ needed_of s ++ needs File name) × (edited_of t ≡ with_name name (edited_of s))
 
 -- what a note does to the document of this name and this URI
 abbrev pub IsNotedAs : DocumentNote → List ℕ → List ℕ → Server → Option Json → Server → Type 0
@@ -85,12 +86,12 @@ IsNotedAs of_document.Changed name uri s params t =
     IsChanged name (version_of (document_in params)) (changes_in (member_of (codes "contentChanges") params)) s t
 IsNotedAs of_document.Closed name uri s params t = IsClosed name s t
 
--- .. to that of a URI; where none is told, it may be about whatever document
+-- .. to that of a URI; where none is reported, it may be about whatever document
 abbrev pub IsNotedOf : DocumentNote → Option (List ℕ) → Server → Option Json → Server → Type 0
 IsNotedOf note None s params t = IsMissed s t
 IsNotedOf note (Some uri) s params t = (name : List ℕ) × IsNameOf uri name × IsNotedAs note name uri s params t
 
--- the names of these URIs, but for what has none
+-- the names of these URIs, except what has none
 abbrev pub AreNames : List (Option (List ℕ)) → List (List ℕ) → Type 0
 AreNames [] names = names ≡ []
 AreNames (None ∷ uris) names = AreNames uris names
@@ -103,24 +104,24 @@ AddsName (Some uri) old now = (name : List ℕ) × IsNameOf uri name × (now ≡
 
 -- the URI of a folder, or of a file that changed
 abbrev pub item_uri : Json → Option (List ℕ)
-item_uri j = uri_told (Some j)
+item_uri j = uri_given (Some j)
 
 -- only files are asked for
-pub record IsAsked (wanted : List WantedVal) (s t : Server) : Type 0 where
-  pub same : t ≡ record s { wanted = t.wanted }
-  pub asked : wanted_of t ≡ wanted_of s ++ wanted
+pub record IsAsked (needed : List NeededVal) (s t : Server) : Type 0 where
+  pub same : t ≡ record s { needed = t.needed }
+  pub asked : needed_of t ≡ needed_of s ++ needed
 
 -- what a notification does, once the exchange has begun
 abbrev pub IsNotedBy : Noted → Server → Option Json → Server → Type 0
-IsNotedBy notes.Initialized s params t = IsAsked (flat_map (wants Folder) (map string_bytes s.folders.items)) s t
-IsNotedBy (notes.OfDocument note) s params t = IsNotedOf note (uri_told (document_in params)) s params t
+IsNotedBy notes.Initialized s params t = IsAsked (flat_map (needs Folder) (map string_bytes s.folders.items)) s t
+IsNotedBy (notes.OfDocument note) s params t = IsNotedOf note (uri_given (document_in params)) s params t
 IsNotedBy notes.FilesChanged s params t =
     (names : List (List ℕ)) × AreNames (map item_uri (items_in (member_of (codes "changes") params))) names
-    × IsAsked (flat_map (wants File) names) s t
+    × IsAsked (flat_map (needs File) names) s t
 IsNotedBy notes.Exit s params t = t ≡ s
 IsNotedBy notes.Other s params t = t ≡ s
 
--- .. and before and behind
+-- .. and before and after
 abbrev pub IsNotedIn : Phase → Noted → Server → Option Json → Server → Type 0
 IsNotedIn Running noted s params t = IsNotedBy noted s params t
 IsNotedIn _ noted s params t = t ≡ s
@@ -145,9 +146,9 @@ sent_by noted s = sent_in s.phase noted s
 
 -- ---- parts of that
 
--- where no memory was found, the texts that are known to be open are those that were, but for the document of this name
+-- if an allocation fails, the texts that are known to be open are those that were, except the document of this name
 abbrev pub IsHeldAside : List ℕ → Server → Server → Type 0
-IsHeldAside name s t = (n : List ℕ) → stand_of t.editor n ≡ Open → (bytes_eq name n ≡ false) × (known_of t n ≡ known_of s n)
+IsHeldAside name s t = (n : List ℕ) → state_of t.editor n ≡ Open → (bytes_eq name n ≡ false) × (known_of t n ≡ known_of s n)
 
 -- .. of this URI
 abbrev pub IsHeldBut : Option (List ℕ) → Server → Server → Type 0
@@ -164,7 +165,7 @@ Texts = List ℕ → Option (List ℕ)
 abbrev pub IsTextAt : List ℕ → Option (List ℕ) → Texts → Texts → Type 0
 IsTextAt name text old now = (n : List ℕ) → now n ≡ cond (bytes_eq name n) text (old n)
 
--- it is opened with the text that is told; where none is, with whatever text
+-- it is opened with the text that is reported; where none is, with whatever text
 abbrev pub EditOpened : Option (List ℕ) → Option (List ℕ) → Type 0
 EditOpened None now = ⊤
 EditOpened (Some text) now = now ≡ Some text
@@ -180,16 +181,16 @@ Edit e of_document.Opened params old now = EditOpened (text_in (member_of (codes
 Edit e of_document.Changed params old now = EditChanged e (changes_in (member_of (codes "contentChanges") params)) old now
 Edit e of_document.Closed params old now = now ≡ None
 
--- .. of all: of that of a URI; where none is told, it may be of whatever document
+-- .. of all: of that of a URI; where none is reported, it may be of whatever document
 abbrev pub EditsOf : Encoding → DocumentNote → Option (List ℕ) → Option Json → Texts → Texts → Type 0
 EditsOf e note None params old now = ⊤
 EditsOf e note (Some uri) params old now =
     (name : List ℕ) × (text : Option (List ℕ)) × IsNameOf uri name × Edit e note params (old name) text × IsTextAt name text old now
 
 abbrev pub Edits : Encoding → Noted → Option Json → Texts → Texts → Type 0
-Edits e (notes.OfDocument note) params old now = EditsOf e note (uri_told (document_in params)) params old now
+Edits e (notes.OfDocument note) params old now = EditsOf e note (uri_given (document_in params)) params old now
 Edits e _ params old now = (n : List ℕ) → now n ≡ old n
 
 -- each text that is known to be open is that of the editor
 abbrev pub IsInStep : Texts → Server → Type 0
-IsInStep texts s = (n : List ℕ) → stand_of s.editor n ≡ Open → (document_of s.workspace.documents n).opened ≡ texts n
+IsInStep texts s = (n : List ℕ) → state_of s.editor n ≡ Open → (document_of s.workspace.documents n).opened ≡ texts n

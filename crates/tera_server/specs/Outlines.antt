@@ -1,4 +1,4 @@
--- The outline of a text, as JSON: its blocks and the definitions of its components, each with those that stand in it.
+-- The outline of a text, as JSON: its blocks and the definitions of its components, each with those that are in it.
 use Rattle.std.specs.Prelude.{◌≡◌, ◌<◌, ◌≤◌, ◌++◌, ℕ, nat_lt, if◌then◌else◌, List, [], ◌∷◌, codes, length}
 use Rattle.std.specs.List.{AllByRecursion}
 use Rattle.json.specs.Json.{Json, string, array, object, Items, no_items, item, no_members, member}
@@ -12,21 +12,21 @@ use Rattle.text_edits.specs.declared.positions.Encoding.{Encoding}
 use Rattle.protocol_values.specs.Writing.{member_tokens, number_json, range_json}
 use Rattle.tera_server.specs.Positions.{position_at}
 
--- a symbol, those that stand in it, and those behind it
+-- a symbol, those that are in it, and those after it
 pub data Forest : Type 0 where
   nothing : Forest
   symbol : Outlined → Forest → Forest → Forest
 
--- the first ones up to one that begins at or behind a byte, and those from that on
+-- the first ones up to one that begins at or after a byte, and those from that on
 abbrev pub before : ℕ → Forest → Forest
 before byte nothing = nothing
-before byte (symbol s inner behind) = if nat_lt s.start byte then symbol s inner (before byte behind) else nothing
+before byte (symbol s inner following) = if nat_lt s.start byte then symbol s inner (before byte following) else nothing
 
 abbrev pub from : ℕ → Forest → Forest
 from byte nothing = nothing
-from byte (symbol s inner behind) = if nat_lt s.start byte then from byte behind else symbol s inner behind
+from byte (symbol s inner following) = if nat_lt s.start byte then from byte following else symbol s inner following
 
--- symbols in the order of their starts: in each stand those behind it that begin before its end
+-- symbols in the order of their starts: in each are those after it that begin before its end
 abbrev pub nested : List Outlined → Forest
 nested [] = nothing
 nested (s ∷ ss) = symbol s (before s.end (nested ss)) (from s.end (nested ss))
@@ -52,7 +52,7 @@ symbol_json e text s children =
 
 abbrev pub symbol_items : Encoding → List ℕ → Forest → Items
 symbol_items e text nothing = no_items
-symbol_items e text (symbol s inner behind) = item (symbol_json e text s (symbol_items e text inner)) (symbol_items e text behind)
+symbol_items e text (symbol s inner following) = item (symbol_json e text s (symbol_items e text inner)) (symbol_items e text following)
 
 abbrev pub outline_json : Encoding → List ℕ → List Outlined → Json
 outline_json e text symbols = array (symbol_items e text (nested symbols))
@@ -63,20 +63,20 @@ IsOutline e text j = (parts : List Part) × ArePartsOf text parts × (j ≡ outl
 
 -- ---- what is so of it
 
--- all symbols, each before those in it and behind it
+-- all symbols, each before those in it and after it
 abbrev pub in_order : Forest → List Outlined
 in_order nothing = []
-in_order (symbol s inner behind) = s ∷ (in_order inner ++ in_order behind)
+in_order (symbol s inner following) = s ∷ (in_order inner ++ in_order following)
 
--- what stands in a symbol begins behind its start and ends no later than it, and what stands behind it begins no earlier
--- than it ends
+-- what is in a symbol begins after its start and ends no later than it, and what comes after it begins no earlier than
+-- it ends
 abbrev pub AreWithin : Forest → Type 0
 AreWithin nothing = Unit {0}
-AreWithin (symbol s inner behind) =
+AreWithin (symbol s inner following) =
     AllByRecursion (λ (i : Outlined). (s.start < i.start) × (i.end ≤ s.end)) (in_order inner)
-    × AllByRecursion (λ (b : Outlined). s.end ≤ b.start) (in_order behind) × AreWithin inner × AreWithin behind
+    × AllByRecursion (λ (b : Outlined). s.end ≤ b.start) (in_order following) × AreWithin inner × AreWithin following
 
--- the positions of a name stand within those of its symbol
+-- the positions of a name are within those of its symbol
 pub record IsSelectable (e : Encoding) (text : List ℕ) (s : Outlined) : Type 0 where
   pub begins : IsUpTo (position_at e text s.start) (position_at e text s.name_start)
   pub named : IsUpTo (position_at e text s.name_start) (position_at e text s.name_end)

@@ -24,15 +24,15 @@ use Rattle.tera_server.specs.declared.references.Search.{Search}
 abbrev pub declares : Option Json → Bool
 declares params = is_set (member_of (codes "includeDeclaration") (member_of (codes "context") params))
 
--- what is looked for, whether its definitions count, and how places are told
-pub record Sought : Type 0 where
+-- what is looked for, whether its definitions count, and how places are reported
+pub record LookedFor : Type 0 where
   pub named : Named
   pub declared : Bool
   pub editor : Editor
   pub encoding : Encoding
 
-abbrev pub sought_by : Search → Sought
-sought_by s = record { named = name_view s.name.now; declared = s.declared; editor = s.editor.now; encoding = s.encoding }
+abbrev pub looked_for_by : Search → LookedFor
+looked_for_by s = record { named = name_view s.name.now; declared = s.declared; editor = s.editor.now; encoding = s.encoding }
 
 abbrev pub is_definition : NameKind → Bool
 is_definition Called = false
@@ -46,54 +46,54 @@ abbrev pub are_alike : NameKind → NameKind → Bool
 are_alike k l = if is_component k then is_component l else not (is_component l)
 
 -- a name stands for what is looked for, and counts
-abbrev pub refers : Sought → Named → Bool
+abbrev pub refers : LookedFor → Named → Bool
 refers k n = are_alike k.named.kind n.kind && (bytes_eq n.text k.named.text && (k.declared || not (is_definition n.kind)))
 
 -- a name in a file, as a location
-abbrev pub reference_json : Sought → Source → Named → Json
+abbrev pub reference_json : LookedFor → Source → Named → Json
 reference_json k s n =
     location_json (uri_in s.name (seen_of k.editor s.name)) (position_at k.encoding s.text n.start) (position_at k.encoding s.text n.end)
 
 -- those in a file that refer to it, in the order of its text
-abbrev pub AreReferencesIn : Sought → Source → List Json → Type 0
+abbrev pub AreReferencesIn : LookedFor → Source → List Json → Type 0
 AreReferencesIn k s js =
     (parts : List Part) × ArePartsOf s.text parts × (js ≡ map (reference_json k s) (filter (refers k) (names_of parts)))
 
 -- .. and in files, in their order
-abbrev pub AreReferences : Sought → List Source → List Json → Type 0
+abbrev pub AreReferences : LookedFor → List Source → List Json → Type 0
 AreReferences k [] js = js ≡ []
 AreReferences k (s ∷ ss) js =
     (first : List Json) × (rest : List Json) × AreReferencesIn k s first × AreReferences k ss rest × (js ≡ first ++ rest)
 
 -- the array of all
-abbrev pub IsList : Sought → List Source → Json → Type 0
+abbrev pub IsList : LookedFor → List Source → Json → Type 0
 IsList k sources j = (js : List Json) × AreReferences k sources js × (j ≡ array (items_of js))
 
 -- ---- what is so of them
 
--- a name is that of what is looked for, both stand for a component or both for a template, and it is no definition where these
--- do not count
-pub record IsSought (k : Sought) (n : Named) : Type 0 where
+-- a name is that of what is looked for, both stand for a component or both for a template, and it is not a definition
+-- where these do not count
+pub record IsLookedFor (k : LookedFor) (n : Named) : Type 0 where
   pub text : n.text ≡ k.named.text
   pub alike : is_component n.kind ≡ is_component k.named.kind
   pub counts : k.declared ≡ false → is_definition n.kind ≡ false
 
 -- the location of such a name in a text
-pub record IsReferenceIn (k : Sought) (s : Source) (told : Json) : Type 0 where
+pub record IsReferenceIn (k : LookedFor) (s : Source) (reported : Json) : Type 0 where
   pub parts : List Part
   pub are : ArePartsOf s.text parts
   pub named : Named
   pub there : Contains (names_of parts) named
-  pub sought : IsSought k named
-  pub location : told ≡ reference_json k s named
+  pub looked_for : IsLookedFor k named
+  pub location : reported ≡ reference_json k s named
 
 -- the locations of all such names in a text are among these
-pub record AreAllOf (k : Sought) (s : Source) (told : List Json) : Type 0 where
+pub record AreAllOf (k : LookedFor) (s : Source) (reported : List Json) : Type 0 where
   pub parts : List Part
   pub are : ArePartsOf s.text parts
-  pub each : (n : Named) → Contains (names_of parts) n → IsSought k n → Contains told (reference_json k s n)
+  pub each : (n : Named) → Contains (names_of parts) n → IsLookedFor k n → Contains reported (reference_json k s n)
 
 -- ---- as it is written
 
-unfoldable pub reference_tokens : Sought → Source → Named → List Token
+unfoldable pub reference_tokens : LookedFor → Source → Named → List Token
 reference_tokens k s n = if refers k n then json_tokens (reference_json k s n) else []

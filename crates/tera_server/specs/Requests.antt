@@ -14,7 +14,7 @@ use Rattle.protocol_values.specs.Members.{items_in, member_of, text_in}
 use Rattle.protocol_values.specs.Reading.{position_in}
 use Rattle.tera_outline.specs.Names.{Named}
 use Rattle.tera_workspace.specs.Definitions.{texts_read, AreRead}
-use Rattle.tera_workspace.specs.Workspaces.{told_of_name, IsKept}
+use Rattle.tera_workspace.specs.Workspaces.{reported_of_name, IsKept}
 use Rattle.text_edits.specs.Documents.{no_document, text_of}
 use Rattle.text_edits.specs.Stored.{document_of, AreSame}
 use Rattle.text_edits.specs.declared.positions.Encoding.{Encoding}
@@ -23,15 +23,15 @@ use Rattle.tera_server.specs.Abilities.{abilities_json}
 use Rattle.tera_server.specs.Clients.{client_in}
 use Rattle.tera_server.specs.Completions.{IsCompletion}
 use Rattle.tera_server.specs.Definitions.{IsNamedAt, place_of, place_json}
-use Rattle.tera_server.specs.Editors.{stand_of}
+use Rattle.tera_server.specs.Editors.{state_of}
 use Rattle.tera_server.specs.Hovers.{IsHead, hover_json}
 use Rattle.tera_server.specs.Layouts.{IsLayout}
-use Rattle.tera_server.specs.Notes.{document_in, uri_told, item_uri, AreNames}
+use Rattle.tera_server.specs.Notes.{document_in, uri_given, item_uri, AreNames}
 use Rattle.tera_server.specs.Outlines.{IsOutline}
 use Rattle.tera_server.specs.References.{declares, IsList}
 use Rattle.tera_server.specs.SemanticTokens.{AreTokens}
-use Rattle.tera_server.specs.declared.editor.Stand.{Stand}
-use Rattle.tera_server.specs.declared.editor.Stand.TheVariants.{Open, Lost, Closed}
+use Rattle.tera_server.specs.declared.editor.DocumentState.{DocumentState}
+use Rattle.tera_server.specs.declared.editor.DocumentState.TheVariants.{Open, Lost, Closed}
 use Rattle.tera_server.specs.declared.requests.Asked.{Asked}
 use Rattle.tera_server.specs.declared.requests.Asked.TheVariants as asks
 use Rattle.tera_server.specs.declared.requests.NameRequest.{NameRequest}
@@ -61,12 +61,12 @@ abbrev pub folders_by : Option Json → List Json → List (Option (List ℕ))
 folders_by params [] = text_in (member_of (codes "rootUri") params) ∷ []
 folders_by params (j ∷ js) = map item_uri (j ∷ js)
 
--- the URIs of the folders that are open: those of the workspace, or its root where it tells none
+-- the URIs of the folders that are open: those of the workspace, or its root where it says none
 abbrev pub folders_in : Option Json → List (Option (List ℕ))
 folders_in params = folders_by params (items_in (member_of (codes "workspaceFolders") params))
 
--- the exchange has begun: the client is known, and no document is; what the editor told, and what is asked for and is to be
--- published, is what it was
+-- the exchange has begun: the client is known, and no document is; what the editor reported, and what is asked for and
+-- is to be published, is what it was
 pub record IsBegun (params : Option Json) (s t : Server) : Type 0 where
   pub same : t ≡ record s { phase = t.phase; client = t.client; folders = t.folders; workspace = t.workspace }
   pub phase : t.phase ≡ Running
@@ -74,16 +74,16 @@ pub record IsBegun (params : Option Json) (s t : Server) : Type 0 where
   pub encoding : t.workspace.encoding ≡ t.client.encoding
   pub folders : AreNames (folders_in params) (map string_bytes t.folders.items)
   pub documents : (n : List ℕ) → document_of t.workspace.documents n ≡ no_document
-  pub told : (n : List ℕ) → told_of_name t.workspace n ≡ []
+  pub reported : (n : List ℕ) → reported_of_name t.workspace n ≡ []
   pub kept : IsKept t.workspace
 
 -- this is the text of the document, which the editor has open
 abbrev pub IsMeant : Option (List ℕ) → Server → List ℕ → Type 0
 IsMeant None s text = ⊥
 IsMeant (Some uri) s text =
-    (name : List ℕ) × IsNameOf uri name × (stand_of s.editor name ≡ Open) × (text_of (document_of s.workspace.documents name) ≡ Some text)
+    (name : List ℕ) × IsNameOf uri name × (state_of s.editor name ≡ Open) × (text_of (document_of s.workspace.documents name) ≡ Some text)
 
--- the position that parameters tell
+-- the position that parameters say
 abbrev pub place_in : Option Json → Option Position
 place_in params = position_in (member_of (codes "position") params)
 
@@ -98,13 +98,13 @@ pub record HasRead (s t : Server) : Type 0 where
   pub rest : t ≡ record s { workspace = t.workspace }
   pub encoding : t.workspace.encoding ≡ s.workspace.encoding
   pub documents : AreSame s.workspace.documents t.workspace.documents
-  pub told : (n : List ℕ) → told_of_name t.workspace n ≡ told_of_name s.workspace n
+  pub reported : (n : List ℕ) → reported_of_name t.workspace n ≡ reported_of_name s.workspace n
   pub kept : IsKept s.workspace → IsKept t.workspace
 
--- the documents are read as they are, and this is told by them
-pub record IsTold (Holds : Server → Json → Type 0) (s : Server) (j : Json) (t : Server) : Type 0 where
+-- the documents are read as they are, and this is given by them
+pub record IsOfCurrentTexts (Holds : Server → Json → Type 0) (s : Server) (j : Json) (t : Server) : Type 0 where
   pub read : IsKept s.workspace → AreRead t.workspace
-  pub told : Holds t j
+  pub reported : Holds t j
   pub stays : HasRead s t
 
 -- the places that refer to what a name stands for
@@ -135,30 +135,30 @@ IsOffered (Some position) uri s j =
 -- the result of a request of a position: of what is named there, or what may be typed there
 abbrev pub IsResultAt : PlaceRequest → Option Json → Server → Json → Type 0
 IsResultAt (at_place.OfName request) params t j =
-    (named : Option Named) × IsNamed (place_in params) (uri_told (document_in params)) t named × IsResultOfName request params named t j
-IsResultAt at_place.Completion params t j = IsOffered (place_in params) (uri_told (document_in params)) t j
+    (named : Option Named) × IsNamed (place_in params) (uri_given (document_in params)) t named × IsResultOfName request params named t j
+IsResultAt at_place.Completion params t j = IsOffered (place_in params) (uri_given (document_in params)) t j
 
 -- the result of a request
 abbrev pub Gives : Phase → Asked → Server → Option Json → Json → Server → Type 0
 Gives New asks.Initialize s params j t = (j ≡ abilities_json (client_in params).encoding) × IsBegun params s t
 Gives Running asks.Shutdown s params j t = (j ≡ null) × (t ≡ record s { phase = ShutDown })
 Gives Running (asks.OfText request) s params j t =
-    (text : List ℕ) × IsMeant (uri_told (document_in params)) s text × IsResultOfText request s.client.encoding text j × (t ≡ s)
-Gives Running (asks.AtPlace request) s params j t = IsTold (IsResultAt request params) s j t
+    (text : List ℕ) × IsMeant (uri_given (document_in params)) s text × IsResultOfText request s.client.encoding text j × (t ≡ s)
+Gives Running (asks.AtPlace request) s params j t = IsOfCurrentTexts (IsResultAt request params) s j t
 Gives _ _ s params j t = ⊥
 
 -- why a document is refused: the editor has it not open, or with a text that is not known
-abbrev pub RefusesStand : Stand → Option (List ℕ) → Code → Type 0
-RefusesStand Open text code = (text ≡ None) × (code ≡ codes_of.InvalidParams)
-RefusesStand Lost text code = code ≡ codes_of.RequestFailed
-RefusesStand Closed text code = code ≡ codes_of.InvalidParams
+abbrev pub RefusesState : DocumentState → Option (List ℕ) → Code → Type 0
+RefusesState Open text code = (text ≡ None) × (code ≡ codes_of.InvalidParams)
+RefusesState Lost text code = code ≡ codes_of.RequestFailed
+RefusesState Closed text code = code ≡ codes_of.InvalidParams
 
 abbrev pub RefusesDocument : Option (List ℕ) → Server → Code → Type 0
 RefusesDocument None s code = code ≡ codes_of.InvalidParams
 RefusesDocument (Some uri) s code =
-    (name : List ℕ) × IsNameOf uri name × RefusesStand (stand_of s.editor name) (text_of (document_of s.workspace.documents name)) code
+    (name : List ℕ) × IsNameOf uri name × RefusesState (state_of s.editor name) (text_of (document_of s.workspace.documents name)) code
 
--- .. or no position is told
+-- .. or no position is reported
 abbrev pub RefusesPlace : Option Position → Option (List ℕ) → Server → Code → Type 0
 RefusesPlace None uri s code = code ≡ codes_of.InvalidParams
 RefusesPlace (Some position) uri s code = RefusesDocument uri s code
@@ -169,13 +169,13 @@ IsDue New asks.Initialize s params code = ⊥
 IsDue New _ s params code = code ≡ codes_of.ServerNotInitialized
 IsDue Running asks.Initialize s params code = code ≡ codes_of.InvalidRequest
 IsDue Running asks.Shutdown s params code = ⊥
-IsDue Running (asks.OfText request) s params code = RefusesDocument (uri_told (document_in params)) s code
-IsDue Running (asks.AtPlace request) s params code = RefusesPlace (place_in params) (uri_told (document_in params)) s code
+IsDue Running (asks.OfText request) s params code = RefusesDocument (uri_given (document_in params)) s code
+IsDue Running (asks.AtPlace request) s params code = RefusesPlace (place_in params) (uri_given (document_in params)) s code
 IsDue Running asks.Other s params code = code ≡ codes_of.MethodNotFound
 IsDue ShutDown _ s params code = code ≡ codes_of.InvalidRequest
 
--- what one that has no result leaves as it is: everything; but where it asks what stands at a place documents may
--- have been read
+-- what one that has no result leaves as it is: everything; but where it asks what is at a place documents may have been
+-- read
 abbrev pub Remains : Phase → Asked → Server → Server → Type 0
 Remains Running (asks.AtPlace request) s t = HasRead s t
 Remains _ _ s t = t ≡ s
@@ -185,13 +185,13 @@ abbrev pub IsResultWithin : Asked → Server → Option Json → Json → Server
 IsResultWithin asks.Shutdown s params j t = (j ≡ null) × (t ≡ s)
 IsResultWithin asked s params j t = Gives Running asked s params j t
 
--- the result is written, or it is told why there is none
+-- the result is written, or it is reported why there is none
 abbrev pub IsPut : Asked → Server → Option Json → List Token → Result (Unit {0}) Code → Server → List Token → Type 0
 IsPut asked s params old r t now =
     MatchResult r (λ _. (j : Json) × IsResultWithin asked s params j t × (now ≡ old ++ json_tokens j))
     (λ code. Remains Running asked s t × ((code ≡ codes_of.InternalError) ⊎ IsDue Running asked s params code))
 
--- it is answered by its result; or it is refused, and nothing changes: for a reason, or for want of memory
+-- it is answered by its result; or it is refused, and nothing changes: for a reason, or because an allocation failed
 abbrev pub IsAnsweredBy : Server → IdVal → Asked → Option Json → Result (Vec ℕ Global) Code → Server → Type 0
 IsAnsweredBy s id asked params r t =
     MatchResult r (λ v. (j : Json) × Gives s.phase asked s params j t × (v.items ≡ body (answer id j)))

@@ -67,11 +67,11 @@ placed e text t = record {
   kind = t.kind;
 }
 
--- how many units stand before a position on its line, behind another if that is on the line
+-- how many units are before a position on its line, after another if that is on the line
 abbrev pub distance : Position → Position → ℕ
 distance last p = if p.line == last.line then p.character - last.character else p.character
 
--- a token behind one that begins at a position
+-- a token after one that begins at a position
 abbrev pub numbers : Position → Placed → List ℕ
 numbers last t = (t.start.line - last.line) ∷ distance last t.start ∷ t.length ∷ kind_number t.kind ∷ 0 ∷ []
 
@@ -95,31 +95,31 @@ AreTokens e text j = (parts : List Part) × ArePartsOf text parts × (j ≡ toke
 -- ---- what is so of it
 
 -- a token as a client reads it: where it begins, how long it is, and the number of its kind
-pub record Told : Type 0 where
+pub record SentToken : Type 0 where
   pub start : Position
   pub length : ℕ
   pub kind : ℕ
 
-abbrev pub told : Placed → Told
-told t = record { start = t.start; length = t.length; kind = kind_number t.kind }
+abbrev pub sent_token : Placed → SentToken
+sent_token t = record { start = t.start; length = t.length; kind = kind_number t.kind }
 
--- the position so many lines and characters behind another
+-- the position so many lines and characters after another
 abbrev pub moved : Position → ℕ → ℕ → Position
 moved p line character =
     if line == 0 then record { line = p.line; character = p.character + character }
     else record { line = p.line + line; character = character }
 
--- what numbers say behind a position
-abbrev pub read_from : Position → List ℕ → List Told
+-- what numbers say after a position
+abbrev pub read_from : Position → List ℕ → List SentToken
 read_from p (line ∷ character ∷ length ∷ kind ∷ modifiers ∷ ns) =
     record { start = moved p line character; length = length; kind = kind } ∷ read_from (moved p line character) ns
 read_from p ns = []
 
--- the position behind a token on its line
+-- the position after a token on its line
 abbrev pub end_of : Placed → Position
 end_of t = record { line = t.start.line; character = t.start.character + t.length }
 
--- each begins at or behind the end of the one before, the first at or behind a position
+-- each begins at or after the end of the one before, the first at or after a position
 abbrev pub AreApart : Position → List Placed → Type 0
 AreApart p [] = Unit {0}
 AreApart p (t ∷ ts) = IsUpTo p t.start × AreApart (end_of t) ts

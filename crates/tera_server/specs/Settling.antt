@@ -2,46 +2,46 @@
 use Rattle.std.specs.Prelude.{◌≡◌, ◌≢◌, ◌⊎◌, ◌++◌, ℕ, List, [], true}
 use Rattle.json_rpc.specs.Outgoing.{Outgoing}
 use Rattle.tera_workspace.specs.Names.{is_among}
-use Rattle.tera_workspace.specs.Workspaces.{told_of_name, IsKept, IsSettled, AreOthers}
+use Rattle.tera_workspace.specs.Workspaces.{reported_of_name, IsKept, IsSettled, AreOthers}
 use Rattle.text_edits.specs.Stored.{AreSame}
-use Rattle.tera_server.specs.Sending.{with_all, messages_of, untold_of, names_beside}
+use Rattle.tera_server.specs.Sending.{with_all, messages_of, unpublished_of, names_beside}
 use Rattle.tera_server.specs.States.{edited_of}
 use Rattle.tera_server.specs.declared.server.Phase.{Phase}
 use Rattle.tera_server.specs.declared.server.Phase.TheVariants.{New, Running, ShutDown}
 use Rattle.tera_server.specs.declared.server.Server.{Server}
 
--- the documents of which something is to be published: those that the editor opened, changed or closed, and those of which it
--- was told and not published yet
+-- the documents of which something is to be published: those that the editor opened, changed or closed, and those of
+-- which it was reported and not published yet
 abbrev pub due_of : Server → List (List ℕ)
-due_of s = edited_of s ++ untold_of s
+due_of s = edited_of s ++ unpublished_of s
 
--- what is told now is published: of the documents of which something was to be, and of those of which something else is told
--- than before
+-- what is reported now is published: of the documents of which something was to be, and of those of which something
+-- else is reported than before
 pub record ArePublished (s t : Server) (old now : Outgoing) : Type 0 where
   pub settled : IsKept s.workspace → IsSettled t.workspace
   pub others : List (List ℕ)
-  pub are : IsKept s.workspace → AreOthers others (told_of_name s.workspace) (told_of_name t.workspace)
+  pub are : IsKept s.workspace → AreOthers others (reported_of_name s.workspace) (reported_of_name t.workspace)
   pub sent : now ≡ with_all old (messages_of t (names_beside others (due_of s) ++ others))
-  pub untold : untold_of t ≡ []
+  pub unpublished : unpublished_of t ≡ []
   pub edited : edited_of t ≡ []
 
--- once the exchange has begun; before and behind it nothing is
+-- once the exchange has begun; before and after it nothing is
 abbrev pub IsSettling : Phase → Server → Server → Outgoing → Outgoing → Type 0
 IsSettling New s t old now = (t ≡ s) × (now ≡ old)
 IsSettling Running s t old now = ArePublished s t old now
 IsSettling ShutDown s t old now = (t ≡ s) × (now ≡ old)
 
--- where no memory was found: a part of that, and the rest is to be published still
+-- if an allocation fails: a part of that, and the rest is to be published still
 pub record ArePublishedInPart (s t : Server) (old now : Outgoing) : Type 0 where
   pub names : List (List ℕ)
   pub sent : now ≡ with_all old (messages_of t names)
-  pub others : IsKept s.workspace → (n : List ℕ) → told_of_name t.workspace n ≢ told_of_name s.workspace n → is_among n (untold_of t) ≡ true
+  pub others : IsKept s.workspace → (n : List ℕ) → reported_of_name t.workspace n ≢ reported_of_name s.workspace n → is_among n (unpublished_of t) ≡ true
   pub due : (n : List ℕ) → is_among n (due_of s) ≡ true → (is_among n names ≡ true) ⊎ (is_among n (due_of t) ≡ true)
-  pub only : (n : List ℕ) → is_among n names ≡ true → (is_among n (due_of s) ≡ true) ⊎ (is_among n (untold_of t) ≡ true)
+  pub only : (n : List ℕ) → is_among n names ≡ true → (is_among n (due_of s) ≡ true) ⊎ (is_among n (unpublished_of t) ≡ true)
 
--- nothing changes but what is told, and what is to be published
-pub record OnlyTells (s t : Server) : Type 0 where
-  pub same : t ≡ record s { workspace = t.workspace; untold = t.untold; edited = t.edited }
+-- nothing changes but what is reported, and what is to be published
+pub record OnlyReports (s t : Server) : Type 0 where
+  pub same : t ≡ record s { workspace = t.workspace; unpublished = t.unpublished; edited = t.edited }
   pub documents : AreSame s.workspace.documents t.workspace.documents
   pub encoding : t.workspace.encoding ≡ s.workspace.encoding
   pub kept : IsKept s.workspace → IsKept t.workspace

@@ -4,24 +4,24 @@ use Rattle.std.specs.List.{list_any}
 use Rattle.std.specs.Option.{option_eq, option_map, is_some}
 use Rattle.std.specs.Str.{bytes_eq}
 use Rattle.file_uris.specs.Names.{is_rooted}
-use Rattle.tera_workspace.specs.Workspaces.{told_of_name, IsKept}
+use Rattle.tera_workspace.specs.Workspaces.{reported_of_name, IsKept}
 use Rattle.text_edits.specs.Documents.{DocumentVal, opened, changed, closed, written, removed}
 use Rattle.text_edits.specs.Edits.{ChangeView, NewText, NewPart}
 use Rattle.text_edits.specs.Stored.{document_of, IsChangedAt, AreSame}
 use Rattle.text_edits.specs.declared.positions.Encoding.{Encoding}
-use Rattle.tera_server.specs.Editors.{SeenVal, seen_of, stand_in, standing, lost}
-use Rattle.tera_server.specs.declared.editor.Stand.{Stand}
-use Rattle.tera_server.specs.declared.editor.Stand.TheVariants.{Open, Lost, Closed}
-use Rattle.tera_server.specs.declared.notes.WantedKind.{WantedKind}
-use Rattle.tera_server.specs.declared.notes.WantedKind.TheVariants as kinds
+use Rattle.tera_server.specs.Editors.{SeenVal, seen_of, state_in, with_state, lost}
+use Rattle.tera_server.specs.declared.editor.DocumentState.{DocumentState}
+use Rattle.tera_server.specs.declared.editor.DocumentState.TheVariants.{Open, Lost, Closed}
+use Rattle.tera_server.specs.declared.notes.NeededKind.{NeededKind}
+use Rattle.tera_server.specs.declared.notes.NeededKind.TheVariants as kinds
 use Rattle.tera_server.specs.UnreadFiles.{why_of, IsWhyAt}
 use Rattle.tera_server.specs.declared.server.OnDisk.{OnDisk}
 use Rattle.tera_server.specs.declared.server.OnDisk.TheVariants as on_disk
 use Rattle.tera_server.specs.declared.server.Server.{Server}
-use Rattle.tera_server.specs.declared.server.Wanted.{Wanted}
-use Rattle.tera_server.specs.declared.server.Wanted.TheVariants.{Folder, File}
+use Rattle.tera_server.specs.declared.server.Needed.{Needed}
+use Rattle.tera_server.specs.declared.server.Needed.TheVariants.{Folder, File}
 
--- a document: what the editor told of it, and its texts
+-- a document: what the editor reported about it, and its texts
 pub record Known : Type 0 where
   pub seen : Option SeenVal
   pub texts : DocumentVal
@@ -36,17 +36,17 @@ IsKnownAt name change s t = (n : List ℕ) → known_of t n ≡ cond (bytes_eq n
 -- opened under a URI and in a version, with a text
 abbrev pub opened_as : List ℕ → Option ℕ → List ℕ → Known → Known
 opened_as uri version text k = record {
-  seen = Some (record { uri = uri; version = version; stand = Open });
+  seen = Some (record { uri = uri; version = version; state = Open });
   texts = opened text k.texts;
 }
 
--- whether a change tells the whole text
+-- whether a change says the whole text
 abbrev pub is_whole : ChangeView → Bool
 is_whole (NewText text) = true
 is_whole (NewPart start end text) = false
 
--- whether changes are made: of a text that is known, or where one of them tells the whole text
-abbrev pub takes : Stand → List ChangeView → Bool
+-- whether changes are made: of a text that is known, or where one of them says the whole text
+abbrev pub takes : DocumentState → List ChangeView → Bool
 takes Open changes = true
 takes Lost changes = list_any is_whole changes
 takes Closed changes = false
@@ -58,12 +58,12 @@ with_lost k = record { seen = option_map lost k.seen; texts = k.texts }
 abbrev pub changed_as : Encoding → Option ℕ → Option (List ChangeView) → Known → Known
 changed_as e version None k = with_lost k
 changed_as e version (Some changes) k =
-    if takes (stand_in k.seen) changes && is_some k.texts.opened
-    then record { seen = option_map (standing version Open) k.seen; texts = changed e changes k.texts }
+    if takes (state_in k.seen) changes && is_some k.texts.opened
+    then record { seen = option_map (with_state version Open) k.seen; texts = changed e changes k.texts }
     else with_lost k
 
 abbrev pub closed_as : Known → Known
-closed_as k = record { seen = option_map (standing None Closed) k.seen; texts = closed k.texts }
+closed_as k = record { seen = option_map (with_state None Closed) k.seen; texts = closed k.texts }
 
 -- the text on disk, or none
 abbrev pub loaded_as : Option (List ℕ) → DocumentVal → DocumentVal
@@ -72,24 +72,24 @@ loaded_as None d = removed d
 
 -- ---- what is asked for
 
-pub data WantedVal : Type 0 where
-  WantsFolder : List ℕ → WantedVal
-  WantsFile : List ℕ → WantedVal
+pub data NeededVal : Type 0 where
+  NeedsFolder : List ℕ → NeededVal
+  NeedsFile : List ℕ → NeededVal
 
-abbrev pub wanted_view : Wanted → WantedVal
-wanted_view (Folder path) = WantsFolder (string_bytes path)
-wanted_view (File path) = WantsFile (string_bytes path)
+abbrev pub needed_view : Needed → NeededVal
+needed_view (Folder path) = NeedsFolder (string_bytes path)
+needed_view (File path) = NeedsFile (string_bytes path)
 
-abbrev pub wanted_of : Server → List WantedVal
-wanted_of s = map wanted_view s.wanted.items
+abbrev pub needed_of : Server → List NeededVal
+needed_of s = map needed_view s.needed.items
 
--- what is asked for by a name: of what is no path nothing
-abbrev pub wants_path : WantedKind → List ℕ → WantedVal
-wants_path kinds.Folder path = WantsFolder path
-wants_path kinds.File path = WantsFile path
+-- what is asked for by a name: of what is not a path nothing
+abbrev pub needs_path : NeededKind → List ℕ → NeededVal
+needs_path kinds.Folder path = NeedsFolder path
+needs_path kinds.File path = NeedsFile path
 
-abbrev pub wants : WantedKind → List ℕ → List WantedVal
-wants kind name = if is_rooted name then wants_path kind name ∷ [] else []
+abbrev pub needs : NeededKind → List ℕ → List NeededVal
+needs kind name = if is_rooted name then needs_path kind name ∷ [] else []
 
 -- ---- what is to be published for a new version
 
@@ -138,10 +138,10 @@ pub record IsMissed (s t : Server) : Type 0 where
 
 -- ---- what files do not change
 
--- what was told of documents, and how positions are counted
-pub record KeepsTold (s t : Server) : Type 0 where
+-- what was reported for documents, and how positions are counted
+pub record KeepsReported (s t : Server) : Type 0 where
   pub encoding : t.workspace.encoding ≡ s.workspace.encoding
-  pub told : (n : List ℕ) → told_of_name t.workspace n ≡ told_of_name s.workspace n
+  pub reported : (n : List ℕ) → reported_of_name t.workspace n ≡ reported_of_name s.workspace n
   pub kept : IsKept s.workspace → IsKept t.workspace
 
 -- ---- what no notification changes
@@ -152,6 +152,6 @@ pub record StaysBut (s t : Server) : Type 0 where
   pub folders : t.folders ≡ s.folders
   pub unread : t.unread ≡ s.unread
   pub encoding : t.workspace.encoding ≡ s.workspace.encoding
-  pub untold : t.untold ≡ s.untold
-  pub told : (n : List ℕ) → told_of_name t.workspace n ≡ told_of_name s.workspace n
+  pub unpublished : t.unpublished ≡ s.unpublished
+  pub reported : (n : List ℕ) → reported_of_name t.workspace n ≡ reported_of_name s.workspace n
   pub kept : IsKept s.workspace → IsKept t.workspace

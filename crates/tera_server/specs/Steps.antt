@@ -9,12 +9,12 @@ use Rattle.json_rpc.specs.Outline.{answered_id}
 use Rattle.json_rpc.specs.Writing.{body, refusal}
 use Rattle.json_rpc.specs.declared.code.Code.{Code}
 use Rattle.json_rpc.specs.declared.code.Code.TheVariants as codes_of
-use Rattle.tera_server.specs.Editors.{stand_of}
+use Rattle.tera_server.specs.Editors.{state_of}
 use Rattle.tera_server.specs.Notes.{noted_of, IsNoted, sent_by, Texts, Edits, IsInStep}
 use Rattle.tera_server.specs.Requests.{asked_of, IsAnsweredBy}
 use Rattle.tera_server.specs.Sending.{with_all}
 use Rattle.tera_server.specs.States.{IsMissed, StaysBut}
-use Rattle.tera_server.specs.declared.editor.Stand.TheVariants.{Open}
+use Rattle.tera_server.specs.declared.editor.DocumentState.TheVariants.{Open}
 use Rattle.tera_server.specs.declared.notes.Noted.{Noted}
 use Rattle.tera_server.specs.declared.notes.Noted.TheVariants as notes
 use Rattle.tera_server.specs.declared.requests.Asked.{Asked}
@@ -24,7 +24,7 @@ use Rattle.tera_server.specs.declared.server.Phase.{Phase}
 use Rattle.tera_server.specs.declared.server.Phase.TheVariants.{New, Running, ShutDown}
 use Rattle.tera_server.specs.declared.server.Server.{Server}
 
--- how an exchange ends: in order behind `shutdown`
+-- how an exchange ends: in order after `shutdown`
 abbrev pub ended_at : Phase → Ended
 ended_at New = Early
 ended_at Running = Early
@@ -35,7 +35,7 @@ abbrev pub ended_by : Noted → Phase → Option Ended
 ended_by notes.Exit phase = Some (ended_at phase)
 ended_by _ phase = None
 
--- what is not taken: with an id it is no notification, and nothing changes; without one it may have been a change of
+-- what is not taken: with an id it is not a notification, and nothing changes; without one it may have been a change of
 -- whatever document
 abbrev pub IsPassedOver : IdVal → Server → Server → Type 0
 IsPassedOver NullId s t = IsMissed s t
@@ -69,9 +69,9 @@ Step s Response old ended t now = (ended ≡ None) × (t ≡ s) × (now ≡ old)
 Step s (Invalid id) old ended t now = (ended ≡ None) × IsRefused id codes_of.InvalidRequest s old t now
 Step s NotJson old ended t now = (ended ≡ None) × IsRefused NullId codes_of.ParseError s old t now
 
--- ---- what finds no memory
+-- ---- what fails to allocate
 
--- a message finds no memory: what is to be answered is refused; of a notification nothing is sent
+-- a message fails to allocate: what is to be answered is refused; of a notification nothing is sent
 abbrev pub IsUntakenBy : Option IdVal → Server → Outgoing → Server → Outgoing → Type 0
 IsUntakenBy None s old t now = StaysBut s t × (now ≡ old)
 IsUntakenBy (Some id) s old t now = IsRefused id codes_of.InternalError s old t now
@@ -106,8 +106,8 @@ EditsBy s NotJson old now = EditsPassedOver NullId old now
 -- each text that is known to be open is that of the editor; and before the exchange none is
 pub record Follows (texts : Texts) (s : Server) : Type 0 where
   pub in_step : IsInStep texts s
-  pub unopened : s.phase ≡ New → (n : List ℕ) → stand_of s.editor n ≡ Open → ⊥
+  pub unopened : s.phase ≡ New → (n : List ℕ) → state_of s.editor n ≡ Open → ⊥
 
--- a message that is taken, or finds no memory, leaves the server in step
+-- a message that is taken, or fails to allocate, leaves the server in step
 abbrev pub KeepsUp : MessageVal → Server → Server → Type 0
 KeepsUp message s t = (texts now : Texts) → EditsBy s message texts now → Follows texts s → Follows now t

@@ -4,24 +4,24 @@ use Rattle.std.specs.List.{All, Contains, ends_with}
 use Rattle.std.specs.Option.{option_and_then, option_map_or, option_or}
 use Rattle.std.specs.Str.{bytes_eq}
 
--- what stands behind the front of a text
-abbrev pub behind : List ℕ → List ℕ → Option (List ℕ)
-behind [] text = Some text
-behind (f ∷ fs) [] = None
-behind (f ∷ fs) (b ∷ bs) = if nat_eq f b then behind fs bs else None
+-- what comes after the front of a text
+abbrev pub following : List ℕ → List ℕ → Option (List ℕ)
+following [] text = Some text
+following (f ∷ fs) [] = None
+following (f ∷ fs) (b ∷ bs) = if nat_eq f b then following fs bs else None
 
--- what stands behind a part where it stands first in a text
-abbrev pub behind_first : List ℕ → List ℕ → Option (List ℕ)
-behind_first part [] = behind part []
-behind_first part (b ∷ bs) = option_or (behind part (b ∷ bs)) (behind_first part bs)
+-- what comes after a part where it is first in a text
+abbrev pub after_first : List ℕ → List ℕ → Option (List ℕ)
+after_first part [] = following part []
+after_first part (b ∷ bs) = option_or (following part (b ∷ bs)) (after_first part bs)
 
--- the name of a template, by the path of its file behind a folder, with the slash between: what stands there behind the
--- first folder `templates`, or else the path
+-- the name of a template, by the path of its file after a folder, with the slash between: what is there after the first
+-- folder `templates`, or else the path
 abbrev pub name_in : List ℕ → Option (List ℕ)
-name_in path = option_map (unwrap_or (behind_first (codes "/templates/") path)) (behind (codes "/") path)
+name_in path = option_map (unwrap_or (after_first (codes "/templates/") path)) (following (codes "/") path)
 
 abbrev pub name_below : List ℕ → List ℕ → Option (List ℕ)
-name_below folder file = option_and_then name_in (behind folder file)
+name_below folder file = option_and_then name_in (following folder file)
 
 -- by the first of the folders in which its file is
 abbrev pub template_name : List (List ℕ) → List ℕ → Option (List ℕ)

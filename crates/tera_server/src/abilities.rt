@@ -1,4 +1,4 @@
-//! What the server can do, as it tells a client.
+//! What the server can do, as it reports to a client.
 
 ghost use Rattle.std.specs.Prelude.{◌≡◌, ◌++◌, OnOk};
 ghost use Rattle.json.specs.Tree.{json_tokens};
@@ -14,7 +14,7 @@ pub(crate) fn put_abilities(out: &mut Writer, encoding: Encoding) -> Result<(), 
     ensures tokens { OnOk result (out.new.tokens ≡ out.old.tokens ++ json_tokens (abilities_json encoding)) }
     ensures before { out.new.before ≡ out.old.before }
 {
-    // Texts are told when they are opened and closed, and their changes by parts.
+    // Texts are reported when they are opened and closed, and their changes by parts.
     put_tokens(
         out,
         &[
@@ -45,7 +45,7 @@ const BEHIND_THE_CHANGES: [Token<'static>; 56] = [
     Token::Bool(true),
     Token::Key("referencesProvider"),
     Token::Bool(true),
-    // An editor asks by itself behind these characters, beside those of words.
+    // An editor asks by itself after these characters, beside those of words.
     Token::Key("completionProvider"),
     Token::BeginObject,
     Token::Key("triggerCharacters"),
@@ -58,7 +58,7 @@ const BEHIND_THE_CHANGES: [Token<'static>; 56] = [
     Token::String("'"),
     Token::EndArray,
     Token::EndObject,
-    // What the numbers of kinds mean; tokens are told for a whole text.
+    // What the numbers of kinds mean; tokens are reported for a whole text.
     Token::Key("semanticTokensProvider"),
     Token::BeginObject,
     Token::Key("legend"),

@@ -1,4 +1,4 @@
-//! What a client tells of itself.
+//! What a client reports itself.
 
 ghost use Rattle.std.specs.Prelude.{◌≡◌};
 ghost use Rattle.protocol_values.specs.Members.{seen};
@@ -27,7 +27,7 @@ impl Client {
         watches: false,
     };
 
-    /// What the parameters of `initialize` tell.
+    /// What the parameters of `initialize` say.
     pub(crate) fn of(params: Option<&Value<'_>>) -> Client
         ensures { result ≡ client_in (seen params.entry) }
     {

@@ -18,7 +18,7 @@ use json::{Token, Writer};
 use protocol_values::{put_edit, put_number, put_tokens};
 use std::alloc::{AllocError, Global};
 use std::collections::BTreeSet;
-use tera_outline::{CompletionKind, Name, NameKind, Piece, names_of, pieces_of, wanted};
+use tera_outline::{CompletionKind, Name, NameKind, Piece, completion_for, names_of, pieces_of};
 use tera_workspace::Workspace;
 use text_edits::{Encoding, Lines, Position, byte_at, position_at};
 
@@ -78,7 +78,7 @@ pub(crate) fn put_completion(
     let pieces = pieces_of(alloc, text)?;
     let lines = Lines::of(alloc, text)?;
     let byte = byte_at(text, &lines, encoding, position);
-    match wanted(pieces.as_slice(), text.len(), byte) {
+    match completion_for(pieces.as_slice(), text.len(), byte) {
         Some(completion) => {
             let place = Place {
                 start: position_at(text, &lines, encoding, completion.start),
@@ -109,7 +109,7 @@ fn put_offered(
     put_items(out, place, &sorted)
 }
 
-// What may be typed of this kind, beside these names that stand in the text.
+// What may be typed of this kind, beside these names that are in the text.
 fn offered<'w>(
     alloc: Global,
     offering: Offering<'w>,
@@ -130,7 +130,7 @@ fn offered<'w>(
     }
 }
 
-// The components that documents define, and those that stand in the text where one is defined.
+// The components that documents define, and those that are in the text where one is defined.
 fn components<'w>(
     alloc: Global,
     workspace: &'w Workspace,
@@ -148,7 +148,7 @@ fn components<'w>(
     Ok(names)
 }
 
-// The parameters of the component whose name stands at the byte.
+// The parameters of the component whose name is at the byte.
 fn arguments<'w>(
     alloc: Global,
     workspace: &'w Workspace,

@@ -18,7 +18,7 @@ use tera_outline::{Name, NameKind, pieces_of, under};
 use tera_workspace::Definition;
 use text_edits::{Encoding, Lines, Position, byte_at};
 
-/// The name of a component or a template that stands at the position, if one does.
+/// The name of a component or a template that is at the position, if one does.
 pub(crate) fn name_at(
     alloc: Global,
     encoding: Encoding,

@@ -1,28 +1,28 @@
 //! The documents that an editor has open, or had.
 
 ghost use Rattle.std.specs.Prelude.{◌≡◌, ℕ, List, Some, None, OnOk, OnErr, option_map};
-ghost use Rattle.tera_server.specs.Editors.{seen_view, seen_of, stand_of, standing, lost, seen_lost, IsSeenAt, AreSeenAlike};
-ghost use Rattle.tera_server.specs.declared.editor.Stand.TheVariants.{Lost};
+ghost use Rattle.tera_server.specs.Editors.{seen_view, seen_of, state_of, with_state, lost, seen_lost, IsSeenAt, AreSeenAlike};
+ghost use Rattle.tera_server.specs.declared.editor.DocumentState.TheVariants.{Lost};
 
 use std::alloc::{AllocError, Global};
 use std::collections::BTreeMap;
 
 /// Whether an editor has a document open.
 #[derive(Clone, Copy)]
-pub(crate) enum Stand {
+pub(crate) enum DocumentState {
     Open,
-    /// It has it open with another text than is known, since a change found no memory or was malformed.
+    /// It has it open with another text than is known, since a change failed to allocate or was malformed.
     Lost,
     Closed,
 }
 
-/// A document as an editor told of it.
+/// A document as an editor reported about it.
 #[derive(Drop)]
 pub(crate) struct Seen {
     /// Its URI as the editor writes it.
     pub(crate) uri: String,
     pub(crate) version: Option<u64>,
-    pub(crate) stand: Stand,
+    pub(crate) state: DocumentState,
 }
 
 /// The documents that an editor has or had open, by their names.
@@ -40,7 +40,7 @@ impl Editor {
         }
     }
 
-    /// What the editor told of the document of this name.
+    /// What the editor reported about the document of this name.
     pub(crate) fn of(&self, name: &str) -> Option<&Seen>
         ensures { option_map (λ s. seen_view s.now) result ≡ seen_of self.now name.now }
     {
@@ -48,37 +48,37 @@ impl Editor {
     }
 
     /// Whether the editor has it open, and with which text.
-    pub(crate) fn stand(&self, name: &str) -> Stand
-        ensures { result ≡ stand_of self.now name.now }
+    pub(crate) fn state(&self, name: &str) -> DocumentState
+        ensures { result ≡ state_of self.now name.now }
     {
         match self.seen.get(name) {
-            Some(seen) => seen.stand,
-            None => Stand::Closed,
+            Some(seen) => seen.state,
+            None => DocumentState::Closed,
         }
     }
 
-    /// The editor has it open from now on, with a text that is not known. On want of memory nothing changes.
+    /// The editor has it open from now on, with a text that is not known. After an allocation failure nothing changes.
     pub(crate) fn open(&mut self, alloc: Global, name: &str, uri: &str) -> Result<(), AllocError>
         ensures opened { OnOk result (IsSeenAt name.now
-            (λ _. Some (record { uri = uri.now; version = None; stand = Lost })) self.old self.new) }
+            (λ _. Some (record { uri = uri.now; version = None; state = Lost })) self.old self.new) }
         ensures err { OnErr result (AreSeenAlike self.old self.new) }
     {
         let seen = Seen {
             uri: String::from_str(alloc, uri)?,
             version: None,
-            stand: Stand::Lost,
+            state: DocumentState::Lost,
         };
         self.seen.insert(String::from_str(alloc, name)?, seen)?;
         Ok(())
     }
 
-    /// It has this version and stands so from now on, where it is known.
-    pub(crate) fn update(&mut self, name: &str, version: Option<u64>, stand: Stand)
-        ensures { IsSeenAt name.now (option_map (standing version stand)) self.old self.new }
+    /// It has this version and is so from now on, where it is known.
+    pub(crate) fn update(&mut self, name: &str, version: Option<u64>, state: DocumentState)
+        ensures { IsSeenAt name.now (option_map (with_state version state)) self.old self.new }
     {
         if let Some(seen) = self.seen.get_mut(name) {
             seen.version = version;
-            seen.stand = stand;
+            seen.state = state;
         }
     }
 
@@ -106,9 +106,9 @@ impl Seen {
     fn lose(&mut self)
         ensures { self.new ≡ seen_lost self.old }
     {
-        self.stand = match self.stand {
-            Stand::Open | Stand::Lost => Stand::Lost,
-            Stand::Closed => Stand::Closed,
+        self.state = match self.state {
+            DocumentState::Open | DocumentState::Lost => DocumentState::Lost,
+            DocumentState::Closed => DocumentState::Closed,
         };
     }
 }

@@ -9,7 +9,7 @@ ghost use Rattle.tera_server.specs.Findings.{one_related, related_tokens, severi
 ghost use Rattle.tera_server.specs.Sending.{with_all, messages_in, SendsFirst, names_beside};
 ghost use Rattle.tera_server.specs.UnreadFiles.{why_of};
 
-use crate::editor::{Editor, Stand};
+use crate::editor::{DocumentState, Editor};
 use crate::notes::has_name;
 use crate::unread::UnreadFiles;
 use file_uris::uri_of;
@@ -21,13 +21,13 @@ use tera_check::Severity;
 use tera_workspace::{Diagnostic, Related, Workspace};
 use text_edits::Position;
 
-/// How findings are told.
+/// How findings are reported.
 #[derive(Clone, Copy)]
-pub(crate) struct Telling<'e> {
+pub(crate) struct Publishing<'e> {
     pub(crate) editor: &'e Editor,
-    /// What is told of a file that cannot be read, before what is found in it.
+    /// What is reported for a file that cannot be read, before what is found in it.
     pub(crate) unread: &'e UnreadFiles,
-    /// Whether what explains a finding is told beside it.
+    /// Whether what explains a finding is reported beside it.
     pub(crate) related: bool,
 }
 
@@ -36,26 +36,26 @@ const BEGINNING: Position = Position {
     character: 0,
 };
 
-/// Publishes what was told last of the documents of these names, but not of the others among them. Where the editor has one
-/// open with a text that is not known, nothing is published of it.
+/// Publishes what was reported last of the documents of these names, but not of the others among them. Where the editor
+/// has one open with a text that is not known, nothing is published of it.
 pub(crate) fn publish_each(
     alloc: Global,
-    telling: Telling<'_>,
+    publishing: Publishing<'_>,
     workspace: &Workspace,
     names: &[String],
     others: &[String],
     out: &mut Outbox,
 ) -> Result<(), AllocError>
-    ensures published { OnOk result (out.new ≡ with_all out.old (messages_in telling.entry.editor.now
-        telling.entry.unread.now telling.entry.related workspace.now
+    ensures published { OnOk result (out.new ≡ with_all out.old (messages_in publishing.entry.editor.now
+        publishing.entry.unread.now publishing.entry.related workspace.now
         (names_beside (map string_bytes others.now) (map string_bytes names.now)))) }
-    ensures in_part { OnErr result (SendsFirst (λ ns. messages_in telling.entry.editor.now
-        telling.entry.unread.now telling.entry.related workspace.now
+    ensures in_part { OnErr result (SendsFirst (λ ns. messages_in publishing.entry.editor.now
+        publishing.entry.unread.now publishing.entry.related workspace.now
         (names_beside (map string_bytes others.now) ns)) (map string_bytes names.now) out.old out.new) }
 {
     for name in names {
         if !has_name(others, name.as_str()) {
-            publish(alloc, telling, workspace, name.as_str(), out)?;
+            publish(alloc, publishing, workspace, name.as_str(), out)?;
         }
     }
     Ok(())
@@ -63,39 +63,45 @@ pub(crate) fn publish_each(
 
 fn publish(
     alloc: Global,
-    telling: Telling<'_>,
+    publishing: Publishing<'_>,
     workspace: &Workspace,
     name: &str,
     out: &mut Outbox,
 ) -> Result<(), AllocError>
     ensures published { OnOk result (out.new ≡ with_all out.old
-        (messages_in telling.entry.editor.now telling.entry.unread.now telling.entry.related workspace.now
+        (messages_in publishing.entry.editor.now publishing.entry.unread.now publishing.entry.related workspace.now
         (name.now ∷ []))) }
     ensures err { OnErr result (out.new ≡ out.old) }
 {
-    match telling.editor.stand(name) {
-        Stand::Open | Stand::Closed => {
+    match publishing.editor.state(name) {
+        DocumentState::Open | DocumentState::Closed => {
             let mut message = begin_notification(alloc, "textDocument/publishDiagnostics")?;
-            put_published(alloc, &mut message, telling, name, workspace.told(name))?;
+            put_published(
+                alloc,
+                &mut message,
+                publishing,
+                name,
+                workspace.reported(name),
+            )?;
             out.push(end_message(message)?)
         }
-        Stand::Lost => Ok(()),
+        DocumentState::Lost => Ok(()),
     }
 }
 
 fn put_published(
     alloc: Global,
     out: &mut Writer,
-    telling: Telling<'_>,
+    publishing: Publishing<'_>,
     name: &str,
     found: &[Diagnostic],
 ) -> Result<(), AllocError>
     ensures tokens { OnOk result (out.new.tokens ≡ out.old.tokens
-        ++ json_tokens (found_json telling.entry.editor.now telling.entry.related name.now
-        (why_of telling.entry.unread.now name.now) (map diagnostic_view found.now))) }
+        ++ json_tokens (found_json publishing.entry.editor.now publishing.entry.related name.now
+        (why_of publishing.entry.unread.now name.now) (map diagnostic_view found.now))) }
     ensures before { out.new.before ≡ out.old.before }
 {
-    let uri = uri_by(alloc, telling.editor, name)?;
+    let uri = uri_by(alloc, publishing.editor, name)?;
     put_tokens(
         out,
         &[
@@ -104,16 +110,16 @@ fn put_published(
             Token::String(uri.as_str()),
         ],
     )?;
-    put_version(out, telling.editor, name)?;
+    put_version(out, publishing.editor, name)?;
     put_tokens(out, &[Token::Key("diagnostics"), Token::BeginArray])?;
-    put_unread(out, telling.unread.of(name))?;
+    put_unread(out, publishing.unread.of(name))?;
     for diagnostic in found {
-        put_diagnostic(alloc, out, telling, diagnostic)?;
+        put_diagnostic(alloc, out, publishing, diagnostic)?;
     }
     put_tokens(out, &[Token::EndArray, Token::EndObject])
 }
 
-/// The URI of the document of this name: as the editor writes it, where it told of it.
+/// The URI of the document of this name: as the editor writes it, where it reported about it.
 pub(crate) fn uri_by(alloc: Global, editor: &Editor, name: &str) -> Result<String, AllocError>
     ensures { IfOk result (λ uri. string_bytes uri ≡ uri_in name.now (seen_of editor.now name.now)) }
 {
@@ -166,11 +172,11 @@ fn put_unread(out: &mut Writer, why: Option<&str>) -> Result<(), AllocError>
 fn put_diagnostic(
     alloc: Global,
     out: &mut Writer,
-    telling: Telling<'_>,
+    publishing: Publishing<'_>,
     diagnostic: &Diagnostic,
 ) -> Result<(), AllocError>
     ensures tokens { OnOk result (out.new.tokens ≡ out.old.tokens
-        ++ one_found telling.entry.editor.now telling.entry.related (diagnostic_view diagnostic.now)) }
+        ++ one_found publishing.entry.editor.now publishing.entry.related (diagnostic_view diagnostic.now)) }
     ensures before { out.new.before ≡ out.old.before }
 {
     out.begin_object()?;
@@ -187,7 +193,7 @@ fn put_diagnostic(
             Token::String(diagnostic.message.as_str()),
         ],
     )?;
-    put_related(alloc, out, telling, diagnostic.related.as_slice())?;
+    put_related(alloc, out, publishing, diagnostic.related.as_slice())?;
     out.end_object()
 }
 
@@ -201,23 +207,23 @@ fn severity_number(severity: Severity) -> usize
     }
 }
 
-// What explains a finding, if that is told.
+// What explains a finding, if that is reported.
 fn put_related(
     alloc: Global,
     out: &mut Writer,
-    telling: Telling<'_>,
+    publishing: Publishing<'_>,
     related: &[Related],
 ) -> Result<(), AllocError>
     ensures tokens { OnOk result (out.new.tokens ≡ out.old.tokens
-        ++ related_tokens telling.entry.editor.now telling.entry.related (map related_view related.now)) }
+        ++ related_tokens publishing.entry.editor.now publishing.entry.related (map related_view related.now)) }
     ensures before { out.new.before ≡ out.old.before }
 {
-    if !telling.related {
+    if !publishing.related {
         return Ok(());
     }
     put_tokens(out, &[Token::Key("relatedInformation"), Token::BeginArray])?;
     for one in related {
-        put_one(alloc, out, telling.editor, one)?;
+        put_one(alloc, out, publishing.editor, one)?;
     }
     out.end_array()
 }

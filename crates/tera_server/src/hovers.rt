@@ -1,4 +1,4 @@
-//! What is told of a component that is named in a text.
+//! What is reported for a component that is named in a text.
 
 ghost use Rattle.std.specs.Prelude.{◌≡◌, ◌++◌, ℕ, List, Option, Some, IfOk, OnOk};
 ghost use Rattle.std.specs.Option.{option_map};

@@ -1,5 +1,5 @@
-//! What the outline and the coloured tokens of a text are, as they are told, what names lead to, what is offered and
-//! what refers to a name: each function has the law as its promise, and nothing but what it cites in its body.
+//! What the outline and the coloured tokens of a text are, as they are reported, what names lead to, what is offered
+//! and what refers to a name: each function has the law as its promise, and nothing but what it cites in its body.
 
 ghost use Rattle.std.specs.Prelude.{◌≡◌, ◌⊎◌, ℕ, List, [], length, map, slice_index_or, All, IsUtf8, Option, Some};
 ghost use Rattle.std.specs.List.{Contains, find};
@@ -22,19 +22,19 @@ ghost use Rattle.tera_server.specs.Definitions.{first_of, template_place};
 ghost use Rattle.tera_server.specs.Hovers.{IsHead, IsOfDefinition};
 ghost use Rattle.tera_server.specs.Outlines.{nested, in_order, AreWithin, IsSelectable};
 ghost use Rattle.tera_server.specs.Positions.{position_at};
-ghost use Rattle.tera_server.specs.References.{Sought, AreReferences, IsReferenceIn, AreAllOf};
-ghost use Rattle.tera_server.specs.SemanticTokens.{all_kinds, kind_name, kind_number, placed, data_of, first, told, read_from, end_of, AreApart};
+ghost use Rattle.tera_server.specs.References.{LookedFor, AreReferences, IsReferenceIn, AreAllOf};
+ghost use Rattle.tera_server.specs.SemanticTokens.{all_kinds, kind_name, kind_number, placed, data_of, first, sent_token, read_from, end_of, AreApart};
 ghost use Rattle.tera_server.specs.Templates.{template_in, template_name, IsTemplateOf};
 
-use tera_outline::laws::{symbols_nest, symbols_stand};
+use tera_outline::laws::{symbols_in_text, symbols_nest};
 
-/// Each symbol is told once, before those in it and behind it.
+/// Each symbol is reported once, before those in it and after it.
 pub fn all_symbols()
     ensures { (symbols : List Outlined) → in_order (nested symbols) ≡ symbols }
 {}
 
-/// What is told in a symbol begins behind its start and ends no later than it, and what is told behind it begins no earlier
-/// than its end.
+/// What is reported in a symbol begins after its start and ends no later than it, and what is reported after it begins
+/// no earlier than its end.
 pub fn symbols_within()
     ensures { (text : List ℕ) (parts : List Part) → ArePartsOf text parts →
         AreWithin (nested (outline_of (length text) parts)) }
@@ -42,13 +42,13 @@ pub fn symbols_within()
     symbols_nest();
 }
 
-/// The range of a name stands within that of its symbol, in whatever encoding: a client refuses all of an outline in
-/// which one does not.
+/// The range of a name is within that of its symbol, in whatever encoding: a client refuses all of an outline in which
+/// one does not.
 pub fn names_within()
     ensures { (e : Encoding) (text : List ℕ) (parts : List Part) → ArePartsOf text parts →
         All (IsSelectable e text) (outline_of (length text) parts) }
 {
-    symbols_stand();
+    symbols_in_text();
 }
 
 /// At the number of a kind the legend has its name.
@@ -57,12 +57,12 @@ pub fn kinds_have_names()
         slice_index_or (map kind_name all_kinds) (kind_number kind) [] ≡ kind_name kind }
 {}
 
-/// The numbers of the tokens are read back as their positions, in whatever encoding. They stand one behind the other,
-/// and each ends where it does in the text, on the line on which it begins: a client may refuse one that does not.
+/// The numbers of the tokens are read back as their positions, in whatever encoding. They are one after the other, and
+/// each ends where it does in the text, on the line on which it begins: a client may refuse one that does not.
 pub fn semantic_tokens_read_back()
     ensures read { (e : Encoding) (text : List ℕ) (parts : List Part) → ArePartsOf text parts →
         read_from first (data_of e text (semantic_tokens_of text parts))
-        ≡ map told (map (placed e text) (semantic_tokens_of text parts)) }
+        ≡ map sent_token (map (placed e text) (semantic_tokens_of text parts)) }
     ensures apart { (e : Encoding) (text : List ℕ) (parts : List Part) → IsUtf8 text →
         ArePartsOf text parts → AreApart first (map (placed e text) (semantic_tokens_of text parts)) }
     ensures line { (e : Encoding) (text : List ℕ) (parts : List Part) → IsUtf8 text →
@@ -107,7 +107,7 @@ pub fn offered_parameters_are_defined()
         × (find (holds call) named ≡ Some m) × IsParameterIn (templates_of w.judged.items) m.text n }
 {}
 
-/// The head that is told of a name is that of a definition in the text of the file to which the name leads.
+/// The head that is reported for a name is that of a definition in the text of the file to which the name leads.
 pub fn heads_are_of_definitions()
     ensures { (w : Workspace) (folders : List (List ℕ)) (named : Option Named) (head : List ℕ) →
         IsHead w named (Some head) → IsOfDefinition w folders named head }
@@ -115,8 +115,8 @@ pub fn heads_are_of_definitions()
 
 /// Each place that is listed is one of a name that is looked for, and each such name in a text is listed.
 pub fn references_refer()
-    ensures each { (k : Sought) (sources : List Source) (told : List Json) → AreReferences k sources told →
-        (j : Json) → Contains told j → (s : Source) × Contains sources s × IsReferenceIn k s j }
-    ensures all { (k : Sought) (sources : List Source) (told : List Json) → AreReferences k sources told →
-        (s : Source) → Contains sources s → AreAllOf k s told }
+    ensures each { (k : LookedFor) (sources : List Source) (reported : List Json) → AreReferences k sources reported →
+        (j : Json) → Contains reported j → (s : Source) × Contains sources s × IsReferenceIn k s j }
+    ensures all { (k : LookedFor) (sources : List Source) (reported : List Json) → AreReferences k sources reported →
+        (s : Source) → Contains sources s → AreAllOf k s reported }
 {}

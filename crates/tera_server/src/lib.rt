@@ -1,14 +1,14 @@
-//! A language server for templates: from messages of the Language Server Protocol to messages.
+//! A language server for templates: it takes messages of the Language Server Protocol, and returns messages.
 //!
 //! It takes the bytes of messages as they come (`Server::handle`), and the texts of files that it asks for
-//! (`Server::load`); when no message waits it tells what is found in the texts as they are (`Server::settle`). It does
-//! no input or output. It stands on `json_rpc` for messages, on `tera_workspace` for documents and what is found in
+//! (`Server::load`). When no message waits, it reports what is found in the current texts (`Server::settle`). It does
+//! no input or output. It depends on `json_rpc` for messages, on `tera_workspace` for documents and what is found in
 //! them, on `tera_layout`, and on `tera_outline` for outlines, names, coloured tokens and what may be typed.
 //!
-//! In the order of reading: specs `States`, `Requests`, `Notes`, `Steps`, `Settling`; `server`, and `requests` and `notes`,
-//! which a message may be; `client` and `editor`, what is known of them; `unread`, files that cannot be read; `templates`,
-//! which files have which names; `abilities`, `layouts`, `symbols`, `definitions`, `hovers`, `references`, `completions` and
-//! `semantic_tokens`, which write results; `findings`, which publishes what is found; `laws`.
+//! In the order of reading: specs `States`, `Requests`, `Notes`, `Steps`, `Settling`; `server`, and `requests` and
+//! `notes`, which a message may be; `client` and `editor`, what is known of them; `unread`, files that cannot be read;
+//! `templates`, which files have which names; `abilities`, `layouts`, `symbols`, `definitions`, `hovers`, `references`,
+//! `completions` and `semantic_tokens`, which write results; `findings`, which publishes what is found; `laws`.
 #![tactic(auto)]
 
 mod abilities;
@@ -29,4 +29,4 @@ mod symbols;
 mod templates;
 mod unread;
 
-pub use server::{Ended, OnDisk, Server, Wanted};
+pub use server::{Ended, Needed, OnDisk, Server};

@@ -12,17 +12,17 @@ ghost use Rattle.text_edits.specs.Edits.{change_view};
 ghost use Rattle.protocol_values.specs.Members.{seen, member_of, text_in, items_in};
 ghost use Rattle.protocol_values.specs.Reading.{changes_in};
 ghost use Rattle.tera_server.specs.Abilities.{registrations_json};
-ghost use Rattle.tera_server.specs.Notes.{noted_of, document_in, uri_told, item_uri, version_of, AreNames, AddsName, IsOpened, IsChanged, IsClosed, IsNotedBy, IsNoted, IsHeldAside, IsHeldBut, watch_requests, sent_by, Texts};
+ghost use Rattle.tera_server.specs.Notes.{noted_of, document_in, uri_given, item_uri, version_of, AreNames, AddsName, IsOpened, IsChanged, IsClosed, IsNotedBy, IsNoted, IsHeldAside, IsHeldBut, watch_requests, sent_by, Texts};
 ghost use Rattle.tera_server.specs.Sending.{with_all};
-ghost use Rattle.tera_server.specs.States.{takes, is_whole, wanted_view, wants, with_name, StaysBut};
+ghost use Rattle.tera_server.specs.States.{takes, is_whole, needed_view, needs, with_name, StaysBut};
 ghost use Rattle.tera_server.specs.Steps.{EditsIn, Follows};
 ghost use Rattle.tera_server.specs.declared.notes.Noted.TheVariants.{OfDocument};
-ghost use Rattle.tera_server.specs.declared.notes.WantedKind.TheVariants.{Folder, File};
+ghost use Rattle.tera_server.specs.declared.notes.NeededKind.TheVariants.{Folder, File};
 
 use crate::abilities::put_registrations;
 use crate::client::Client;
-use crate::editor::Stand;
-use crate::server::{Phase, Server, Wanted};
+use crate::editor::DocumentState;
+use crate::server::{Needed, Phase, Server};
 use file_uris::name_of;
 use json::Value;
 use json_rpc::{Id, Outbox, begin_request, end_message};
@@ -30,7 +30,7 @@ use protocol_values::{changes_of, items_of, member, number_of, text_of};
 use std::alloc::{AllocError, Global};
 use text_edits::Change;
 
-/// What a notification tells.
+/// What a notification says.
 #[derive(Clone, Copy)]
 pub(crate) enum Noted {
     Initialized,
@@ -40,7 +40,7 @@ pub(crate) enum Noted {
     Other,
 }
 
-/// What a notification tells of a document.
+/// What a notification reports a document.
 #[derive(Clone, Copy)]
 pub(crate) enum DocumentNote {
     Opened,
@@ -50,13 +50,13 @@ pub(crate) enum DocumentNote {
 
 /// What is asked of the files on disk: the texts below a folder, or that of a file.
 #[derive(Clone, Copy)]
-pub(crate) enum WantedKind {
+pub(crate) enum NeededKind {
     Folder,
     File,
 }
 
 impl Noted {
-    /// What the notification of this method tells.
+    /// What the notification of this method says.
     pub(crate) fn of(method: &str) -> Noted
         ensures { result ≡ noted_of method.now }
     {
@@ -73,7 +73,7 @@ impl Noted {
 }
 
 impl Server {
-    /// Takes what a notification tells, once the exchange has begun.
+    /// Takes what a notification says, once the exchange has begun.
     pub(crate) fn note(
         &mut self,
         alloc: Global,
@@ -96,17 +96,17 @@ impl Server {
                 alloc,
                 self.client,
                 self.folders.as_slice(),
-                &mut self.wanted,
+                &mut self.needed,
                 out,
             ),
             Noted::OfDocument(note) => self.note_document(alloc, note, params),
-            Noted::FilesChanged => files_changed(alloc, params, &mut self.wanted),
+            Noted::FilesChanged => files_changed(alloc, params, &mut self.needed),
             Noted::Exit | Noted::Other => Ok(()),
         }
     }
 
-    // Takes what a notification tells of a document. Where it has no name, or not even that finds memory, the text of whatever
-    // document may be another.
+    // Takes what a notification reports a document. Where it has no name, or not even that finds memory, the text of
+    // whatever document may be another.
     fn note_document(
         &mut self,
         alloc: Global,
@@ -115,7 +115,7 @@ impl Server {
     ) -> Result<(), AllocError>
         ensures stays { StaysBut self.old self.new }
         ensures noted { OnOk result (IsNotedBy (OfDocument note) self.old (seen params.entry) self.new) }
-        ensures err { OnErr result (IsHeldBut (uri_told (document_in (seen params.entry))) self.old self.new) }
+        ensures err { OnErr result (IsHeldBut (uri_given (document_in (seen params.entry))) self.old self.new) }
     {
         let document = member(params, "textDocument");
         let Some(uri) = text_of(member(document, "uri")) else {
@@ -136,7 +136,7 @@ impl Server {
         }
     }
 
-    // The text of the document is lost until all is done: on want of memory it stays so.
+    // The text of the document is lost until all is done: after an allocation failure it stays so.
     fn open(
         &mut self,
         alloc: Global,
@@ -157,7 +157,7 @@ impl Server {
         self.editor.open(alloc, name, uri)?;
         add_name(alloc, name, &mut self.edited)?;
         self.workspace.open(alloc, name, text)?;
-        self.editor.update(name, version, Stand::Open);
+        self.editor.update(name, version, DocumentState::Open);
         Ok(())
     }
 
@@ -174,20 +174,23 @@ impl Server {
             self.old self.new) }
         ensures err { OnErr result (IsHeldAside name.now self.old self.new) }
     {
-        let stand = self.editor.stand(name);
+        let state = self.editor.state(name);
         self.editor.lose(name);
         let Some(changes) = changes_of(alloc, changes)? else {
             return Ok(());
         };
-        if !takes(stand, changes.as_slice()) {
+        if !takes(state, changes.as_slice()) {
             return Ok(());
         }
         add_name(alloc, name, &mut self.edited)?;
         if !self.workspace.change(alloc, name, changes.as_slice())? {
             return Ok(());
         }
-        self.editor
-            .update(name, number_of(member(document, "version")), Stand::Open);
+        self.editor.update(
+            name,
+            number_of(member(document, "version")),
+            DocumentState::Open,
+        );
         Ok(())
     }
 
@@ -199,26 +202,26 @@ impl Server {
         ensures err { OnErr result (IsHeldAside name.now self.old self.new) }
     {
         self.editor.lose(name);
-        want(alloc, WantedKind::File, name, &mut self.wanted)?;
+        need(alloc, NeededKind::File, name, &mut self.needed)?;
         add_name(alloc, name, &mut self.edited)?;
         self.workspace.close(alloc, name)?;
-        self.editor.update(name, None, Stand::Closed);
+        self.editor.update(name, None, DocumentState::Closed);
         Ok(())
     }
 }
 
-// Whether the text of a document is that of the editor behind these changes.
-fn takes(stand: Stand, changes: &[Change<'_>]) -> bool
-    ensures { result ≡ takes stand (map change_view changes.now) }
+// Whether the text of a document is that of the editor after these changes.
+fn takes(state: DocumentState, changes: &[Change<'_>]) -> bool
+    ensures { result ≡ takes state (map change_view changes.now) }
 {
-    match stand {
-        Stand::Open => true,
-        Stand::Lost => is_any_whole(changes),
-        Stand::Closed => false,
+    match state {
+        DocumentState::Open => true,
+        DocumentState::Lost => is_any_whole(changes),
+        DocumentState::Closed => false,
     }
 }
 
-// Whether one of the changes tells the whole text.
+// Whether one of the changes says the whole text.
 fn is_any_whole(changes: &[Change<'_>]) -> bool
     ensures { result ≡ list_any is_whole (map change_view changes.now) }
 {
@@ -255,15 +258,15 @@ fn begin(
     alloc: Global,
     client: Client,
     folders: &[String],
-    wanted: &mut Vec<Wanted>,
+    needed: &mut Vec<Needed>,
     out: &mut Outbox,
 ) -> Result<(), AllocError>
-    ensures wanted { OnOk result (map wanted_view wanted.new.items ≡ map wanted_view wanted.old.items
-        ++ flat_map (wants Folder) (map string_bytes folders.now)) }
+    ensures needed { OnOk result (map needed_view needed.new.items ≡ map needed_view needed.old.items
+        ++ flat_map (needs Folder) (map string_bytes folders.now)) }
     ensures sent { OnOk result (out.new ≡ with_all out.old (watch_requests client)) }
     ensures unsent { OnErr result (out.new ≡ out.old) }
 {
-    want_all(alloc, WantedKind::Folder, folders, wanted)?;
+    need_all(alloc, NeededKind::Folder, folders, needed)?;
     if client.watches {
         ask_to_watch(alloc, out)
     } else {
@@ -275,17 +278,17 @@ fn begin(
 fn files_changed(
     alloc: Global,
     params: Option<&Value<'_>>,
-    wanted: &mut Vec<Wanted>,
+    needed: &mut Vec<Needed>,
 ) -> Result<(), AllocError>
     ensures { OnOk result ((names : List (List ℕ))
         × AreNames (map item_uri (items_in (member_of (codes "changes") (seen params.entry)))) names
-        × (map wanted_view wanted.new.items ≡ map wanted_view wanted.old.items ++ flat_map (wants File) names)) }
+        × (map needed_view needed.new.items ≡ map needed_view needed.old.items ++ flat_map (needs File) names)) }
 {
     let Some(changes) = items_of(member(params, "changes")) else {
         return Ok(());
     };
     let names = names_in(alloc, changes)?;
-    want_all(alloc, WantedKind::File, names.as_slice(), wanted)
+    need_all(alloc, NeededKind::File, names.as_slice(), needed)
 }
 
 /// The names of the items that have a URI, in order.
@@ -315,37 +318,37 @@ pub(crate) fn push_name(
 }
 
 // Asks for what has these names.
-fn want_all(
+fn need_all(
     alloc: Global,
-    kind: WantedKind,
+    kind: NeededKind,
     names: &[String],
-    wanted: &mut Vec<Wanted>,
+    needed: &mut Vec<Needed>,
 ) -> Result<(), AllocError>
-    ensures { OnOk result (map wanted_view wanted.new.items ≡ map wanted_view wanted.old.items
-        ++ flat_map (wants kind) (map string_bytes names.now)) }
+    ensures { OnOk result (map needed_view needed.new.items ≡ map needed_view needed.old.items
+        ++ flat_map (needs kind) (map string_bytes names.now)) }
 {
     for name in names {
-        want(alloc, kind, name.as_str(), wanted)?;
+        need(alloc, kind, name.as_str(), needed)?;
     }
     Ok(())
 }
 
 // Asks for what has this name, where that is a path: the name of what has another scheme is none.
-fn want(
+fn need(
     alloc: Global,
-    kind: WantedKind,
+    kind: NeededKind,
     name: &str,
-    wanted: &mut Vec<Wanted>,
+    needed: &mut Vec<Needed>,
 ) -> Result<(), AllocError>
-    ensures { OnOk result (map wanted_view wanted.new.items ≡ map wanted_view wanted.old.items ++ wants kind name.now) }
+    ensures { OnOk result (map needed_view needed.new.items ≡ map needed_view needed.old.items ++ needs kind name.now) }
 {
     if !name.starts_with('/') {
         return Ok(());
     }
     let path = String::from_str(alloc, name)?;
     match kind {
-        WantedKind::Folder => Ok(wanted.push(Wanted::Folder(path))?),
-        WantedKind::File => Ok(wanted.push(Wanted::File(path))?),
+        NeededKind::Folder => Ok(needed.push(Needed::Folder(path))?),
+        NeededKind::File => Ok(needed.push(Needed::File(path))?),
     }
 }
 

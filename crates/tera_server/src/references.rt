@@ -8,7 +8,7 @@ ghost use Rattle.tera_outline.specs.Names.{name_view};
 ghost use Rattle.tera_workspace.specs.Definitions.{text_view};
 ghost use Rattle.text_edits.specs.Places.{AreLinesOf};
 ghost use Rattle.tera_server.specs.Editors.{seen_of, uri_in};
-ghost use Rattle.tera_server.specs.References.{sought_by, refers, AreReferencesIn, IsList, reference_tokens};
+ghost use Rattle.tera_server.specs.References.{looked_for_by, refers, AreReferencesIn, IsList, reference_tokens};
 
 use crate::definitions::is_component;
 use crate::editor::Editor;
@@ -20,7 +20,7 @@ use tera_outline::{Name, NameKind, names_of, pieces_of};
 use tera_workspace::FileText;
 use text_edits::{Encoding, Lines, position_at};
 
-/// What is looked for, and how its places are told.
+/// What is looked for, and how its places are reported.
 #[derive(Clone, Copy)]
 pub(crate) struct Search<'s> {
     pub(crate) name: &'s Name,
@@ -37,7 +37,7 @@ pub(crate) fn put_references(
     search: Search<'_>,
     texts: &[FileText<'_>],
 ) -> Result<(), AllocError>
-    ensures tokens { OnOk result ((j : Json) × IsList (sought_by search.entry) (map text_view texts.now) j
+    ensures tokens { OnOk result ((j : Json) × IsList (looked_for_by search.entry) (map text_view texts.now) j
         × (out.new.tokens ≡ out.old.tokens ++ json_tokens j)) }
     ensures before { out.new.before ≡ out.old.before }
 {
@@ -54,7 +54,7 @@ fn put_in(
     search: Search<'_>,
     text: &FileText<'_>,
 ) -> Result<(), AllocError>
-    ensures tokens { OnOk result ((js : List Json) × AreReferencesIn (sought_by search.entry) (text_view text.now) js
+    ensures tokens { OnOk result ((js : List Json) × AreReferencesIn (looked_for_by search.entry) (text_view text.now) js
         × (out.new.tokens ≡ out.old.tokens ++ flat_map json_tokens js)) }
     ensures before { out.new.before ≡ out.old.before }
 {
@@ -78,7 +78,7 @@ fn put_names(
     requires lines { AreLinesOf text.text.now lines.now }
     requires uri { uri.now ≡ uri_in text.file.now (seen_of search.editor.now text.file.now) }
     ensures tokens { OnOk result (out.new.tokens ≡ out.old.tokens
-        ++ flat_map (reference_tokens (sought_by search.entry) (text_view text.entry)) (map name_view names.now)) }
+        ++ flat_map (reference_tokens (looked_for_by search.entry) (text_view text.entry)) (map name_view names.now)) }
     ensures before { out.new.before ≡ out.old.before }
 {
     for name in names {
@@ -93,7 +93,7 @@ fn put_names(
 
 // Whether the name stands for what is looked for, and counts.
 fn refers(search: Search<'_>, name: &Name) -> bool
-    ensures { result ≡ refers (sought_by search.entry) (name_view name.now) }
+    ensures { result ≡ refers (looked_for_by search.entry) (name_view name.now) }
 {
     is_component(search.name.kind) == is_component(name.kind)
         && name.text.as_str() == search.name.text.as_str()

@@ -9,7 +9,7 @@ ghost use Rattle.protocol_values.specs.Members.{seen, member_of, text_in};
 ghost use Rattle.tera_server.specs.Abilities.{abilities_json};
 ghost use Rattle.tera_outline.specs.Names.{name_view};
 ghost use Rattle.tera_server.specs.Clients.{client_in};
-ghost use Rattle.tera_server.specs.Notes.{document_in, uri_told, AreNames};
+ghost use Rattle.tera_server.specs.Notes.{document_in, uri_given, AreNames};
 ghost use Rattle.tera_server.specs.Requests.{asked_of, folders_in, IsBegun, RefusesDocument, RefusesPlace, IsMeant, IsResultOfText, IsResultOfName, IsResultAt, place_in, IsPut, IsAnsweredBy};
 ghost use Rattle.tera_server.specs.declared.server.Phase.TheVariants.{Running};
 
@@ -17,7 +17,7 @@ use crate::abilities::put_abilities;
 use crate::client::Client;
 use crate::completions::{Offering, put_completion};
 use crate::definitions::{name_at, put_definition};
-use crate::editor::Stand;
+use crate::editor::DocumentState;
 use crate::hovers::put_hover;
 use crate::layouts::put_layout;
 use crate::notes::{names_in, push_name};
@@ -112,7 +112,7 @@ impl Server {
         }
     }
 
-    // Begins the exchange. On want of memory it has not begun.
+    // Begins the exchange. After an allocation failure it has not begun.
     fn initialize(
         &mut self,
         alloc: Global,
@@ -155,8 +155,8 @@ impl Server {
         Ok(answer)
     }
 
-    // Writes the result of a request, or tells why there is none. Where it tells so, part of a result may be written, and is to
-    // be dropped.
+    // Writes the result of a request, or says why there is none. Where it says so, part of a result may be written, and
+    // is to be dropped.
     fn put_result(
         &mut self,
         alloc: Global,
@@ -175,7 +175,7 @@ impl Server {
                 Ok(put_result_of_text(alloc, out, request, self.client.encoding, text)?)
             }
             Asked::AtPlace(request) => {
-                // What is told is told by the texts as they are.
+                // What is reported is given by the texts as they are.
                 self.workspace.read(alloc)?;
                 self.put_result_at(alloc, out, request, params)
             }
@@ -183,7 +183,7 @@ impl Server {
         }
     }
 
-    // Writes what is asked of the position that the parameters tell, by the documents as they were read.
+    // Writes what is asked of the position that the parameters say, by the documents as they were read.
     fn put_result_at(
         &self,
         alloc: Global,
@@ -194,7 +194,7 @@ impl Server {
         ensures result { MatchResult result
             (λ _. (j : Json) × IsResultAt request (seen params.entry) self.now j × (out.new.tokens ≡ out.old.tokens ++ json_tokens j))
             (λ code. (code ≡ InternalError)
-            ⊎ RefusesPlace (place_in (seen params.entry)) (uri_told (document_in (seen params.entry))) self.now code) }
+            ⊎ RefusesPlace (place_in (seen params.entry)) (uri_given (document_in (seen params.entry))) self.now code) }
         ensures before { out.new.before ≡ out.old.before }
     {
         let Some(position) = position_of(member(params, "position")) else {
@@ -258,17 +258,17 @@ impl Server {
 
     // The text of the document that the parameters name, which the editor has open.
     fn text_meant(&self, alloc: Global, params: Option<&Value<'_>>) -> Result<&str, Code>
-        ensures { MatchResult result (λ text. IsMeant (uri_told (document_in (seen params.entry))) self.now text.now)
-            (λ code. (code ≡ InternalError) ⊎ RefusesDocument (uri_told (document_in (seen params.entry))) self.now code) }
+        ensures { MatchResult result (λ text. IsMeant (uri_given (document_in (seen params.entry))) self.now text.now)
+            (λ code. (code ≡ InternalError) ⊎ RefusesDocument (uri_given (document_in (seen params.entry))) self.now code) }
     {
         let Some(uri) = text_of(member(member(params, "textDocument"), "uri")) else {
             return Err(Code::InvalidParams);
         };
         let name = name_of(alloc, uri)?;
-        match self.editor.stand(name.as_str()) {
-            Stand::Closed => Err(Code::InvalidParams),
-            Stand::Lost => Err(Code::RequestFailed),
-            Stand::Open => match self.workspace.text(name.as_str()) {
+        match self.editor.state(name.as_str()) {
+            DocumentState::Closed => Err(Code::InvalidParams),
+            DocumentState::Lost => Err(Code::RequestFailed),
+            DocumentState::Open => match self.workspace.text(name.as_str()) {
                 Some(text) => Ok(text),
                 None => Err(Code::InvalidParams),
             },

@@ -4,7 +4,7 @@ ghost use Rattle.std.specs.Prelude.{◌≡◌, ◌≤◌, ◌++◌, OnOk};
 ghost use Rattle.std.specs.List.{flat_map};
 ghost use Rattle.json.specs.Json.{Json};
 ghost use Rattle.json.specs.Tree.{json_tokens};
-ghost use Rattle.tera_outline.specs.SemanticTokens.{IsOnLine, StandOnLines};
+ghost use Rattle.tera_outline.specs.SemanticTokens.{IsOnLine, AreOnLines};
 ghost use Rattle.text_edits.specs.Laws.{IsUpTo};
 ghost use Rattle.text_edits.specs.Positions.{boundary_to};
 ghost use Rattle.text_edits.specs.Walks.{IsReached};
@@ -43,7 +43,7 @@ fn put_data(
     text: &str,
     tokens: &[SemanticToken],
 ) -> Result<(), AllocError>
-    requires { StandOnLines 0 text.now tokens.now }
+    requires { AreOnLines 0 text.now tokens.now }
     ensures tokens { OnOk result (out.new.tokens
         ≡ out.old.tokens ++ flat_map number_tokens (data_of encoding text.now tokens.now)) }
     ensures before { out.new.before ≡ out.old.before }
@@ -51,10 +51,10 @@ fn put_data(
     let mut walk = Walk::first();
     let mut last = walk.position;
     for token in tokens {
-        let (placed, behind) = place(encoding, text, walk, *token);
+        let (placed, following) = place(encoding, text, walk, *token);
         put_placed(out, last, placed)?;
         last = placed.start;
-        walk = behind;
+        walk = following;
     }
     Ok(())
 }
@@ -67,7 +67,7 @@ struct Placed {
     kind: SemanticKind,
 }
 
-// The position of a token behind a place, and the place behind it.
+// The position of a token after a place, and the place after it.
 fn place(encoding: Encoding, text: &str, walk: Walk, token: SemanticToken) -> (Placed, Walk)
     requires reached { IsReached encoding text.now walk }
     requires order { walk.byte ≤ boundary_to text.now token.start }
@@ -86,7 +86,7 @@ fn place(encoding: Encoding, text: &str, walk: Walk, token: SemanticToken) -> (P
     (placed, end)
 }
 
-// Writes the five numbers of a token behind one that begins at the position.
+// Writes the five numbers of a token after one that begins at the position.
 fn put_placed(out: &mut Writer, last: Position, placed: Placed) -> Result<(), AllocError>
     requires { IsUpTo last placed.start }
     ensures tokens { OnOk result (out.new.tokens
@@ -105,7 +105,7 @@ fn put_placed(out: &mut Writer, last: Position, placed: Placed) -> Result<(), Al
     )
 }
 
-// How many units stand before the position on its line, behind the other if that is on the line.
+// How many units are before the position on its line, after the other if that is on the line.
 fn distance(last: Position, position: Position) -> usize
     requires { IsUpTo last position }
     ensures { result ≡ specs.distance last position }
@@ -128,7 +128,7 @@ fn put_numbers(out: &mut Writer, numbers: &[usize]) -> Result<(), AllocError>
     Ok(())
 }
 
-// Its place in the legend, which stands among the tokens of `abilities`.
+// Its place in the legend, which is among the tokens of `abilities`.
 fn kind_number(kind: SemanticKind) -> usize
     ensures { result ≡ specs.kind_number kind }
 {

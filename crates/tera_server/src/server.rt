@@ -9,18 +9,18 @@ ghost use Rattle.json_rpc.specs.Outline.{answered_id};
 ghost use Rattle.json_rpc.specs.Shown.{message_view};
 ghost use Rattle.json_rpc.specs.Writing.{body, refusal};
 ghost use Rattle.json_rpc.specs.declared.code.Code.TheVariants.{InternalError, ParseError};
-ghost use Rattle.tera_workspace.specs.Workspaces.{told_of_name, IsKept};
+ghost use Rattle.tera_workspace.specs.Workspaces.{reported_of_name, IsKept};
 ghost use Rattle.text_edits.specs.Documents.{no_document};
-ghost use Rattle.tera_server.specs.Sending.{untold_of};
-ghost use Rattle.tera_server.specs.Settling.{IsSettling, ArePublishedInPart, OnlyTells};
-ghost use Rattle.tera_server.specs.States.{IsMissed, IsLoadedAs, IsNotLoaded, known_of, text_on, why_on, wanted_of, wanted_view, edited_of, edited_by, with_name, KeepsTold, StaysBut};
+ghost use Rattle.tera_server.specs.Sending.{unpublished_of};
+ghost use Rattle.tera_server.specs.Settling.{IsSettling, ArePublishedInPart, OnlyReports};
+ghost use Rattle.tera_server.specs.States.{IsMissed, IsLoadedAs, IsNotLoaded, known_of, text_on, why_on, needed_of, needed_view, edited_of, edited_by, with_name, KeepsReported, StaysBut};
 ghost use Rattle.tera_server.specs.Steps.{ended_at, Step, IsRefused, IsUntaken, IsUntakenBy, KeepsUp};
 ghost use Rattle.tera_server.specs.UnreadFiles.{why_of, IsWhyAt};
 ghost use Rattle.tera_server.specs.declared.server.Phase.TheVariants.{New};
 
 use crate::client::Client;
 use crate::editor::Editor;
-use crate::findings::{Telling, publish_each};
+use crate::findings::{Publishing, publish_each};
 use crate::notes::{Noted, add_name};
 use crate::requests::Asked;
 use crate::unread::UnreadFiles;
@@ -40,7 +40,7 @@ pub(crate) enum Phase {
 /// How the exchange ended.
 #[derive(Clone, Copy, Debug, PartialEq, Eq)]
 pub enum Ended {
-    /// Behind a `shutdown`.
+    /// After a `shutdown`.
     Orderly,
     /// Without one.
     Early,
@@ -48,7 +48,7 @@ pub enum Ended {
 
 /// What the server asks of the files on disk. [`Server::load`] takes the texts.
 #[derive(Debug, Drop, PartialEq, Eq)]
-pub enum Wanted {
+pub enum Needed {
     /// The texts of the templates below this folder.
     Folder(String),
     /// The text of this file, if there is one.
@@ -76,12 +76,12 @@ pub struct Server {
     pub(crate) folders: Vec<String>,
     // Of the files that were asked for.
     unread: UnreadFiles,
-    pub(crate) wanted: Vec<Wanted>,
+    pub(crate) needed: Vec<Needed>,
     // The names of the documents whose findings are to be published, whatever they are: the editor opened, changed or closed
     // them, their files cannot be read or can again, or they were not published in time.
     pub(crate) edited: Vec<String>,
     // The names of those whose findings are others than were published.
-    untold: Vec<String>,
+    unpublished: Vec<String>,
 }
 
 impl Server {
@@ -89,9 +89,9 @@ impl Server {
     pub fn new(alloc: Global) -> Server
         ensures phase { result.phase ≡ New }
         ensures known { (n : List ℕ) → known_of result n ≡ record { seen = None; texts = no_document } }
-        ensures told { (n : List ℕ) → told_of_name result.workspace n ≡ [] }
+        ensures reported { (n : List ℕ) → reported_of_name result.workspace n ≡ [] }
         ensures kept { IsKept result.workspace }
-        ensures none { (wanted_of result ≡ []) × (edited_of result ≡ []) × (untold_of result ≡ [])
+        ensures none { (needed_of result ≡ []) × (edited_of result ≡ []) × (unpublished_of result ≡ [])
             × ((n : List ℕ) → why_of result.unread n ≡ None) }
     {
         Server {
@@ -101,15 +101,15 @@ impl Server {
             editor: Editor::new(alloc),
             folders: Vec::new(alloc),
             unread: UnreadFiles::new(alloc),
-            wanted: Vec::new(alloc),
+            needed: Vec::new(alloc),
             edited: Vec::new(alloc),
-            untold: Vec::new(alloc),
+            unpublished: Vec::new(alloc),
         }
     }
 
-    /// Takes a message and adds what is sent at once. The answer is how the exchange ends, if it does by this message. The
-    /// error says that no memory was found for it: a request has its answer all the same, and what a notification tells of
-    /// a document is lost.
+    /// Takes a message and adds what is sent at once. The answer is how the exchange ends, if it does by this message.
+    /// The error says that an allocation failed for it: a request has its answer all the same, and what a notification
+    /// reports a document is lost.
     pub fn handle(
         &mut self,
         alloc: Global,
@@ -154,8 +154,8 @@ impl Server {
         }
     }
 
-    /// A message could not be read: it was too long, or no memory was found for its bytes. It may have been a change of
-    /// whatever document, or a request, whose id is not known.
+    /// A message could not be read: it was too long, or an allocation failed for its bytes. It may have been a change
+    /// of whatever document, or a request, whose id is not known.
     pub fn miss(&mut self, alloc: Global, out: &mut Outbox)
         requires { IsTrue out.old.reserved }
         ensures missed { IsMissed self.old self.new }
@@ -164,7 +164,7 @@ impl Server {
         self.refuse_under(alloc, &Id::null(), Code::InternalError, out);
     }
 
-    /// What came is no message: its header cannot be read. It may have been a change of whatever document.
+    /// What came is not a message: its header cannot be read. It may have been a change of whatever document.
     pub fn refuse(&mut self, alloc: Global, out: &mut Outbox)
         requires { IsTrue out.old.reserved }
         ensures { IsRefused NullId ParseError self.old out.old self.new out.new }
@@ -172,7 +172,8 @@ impl Server {
         self.refuse_under(alloc, &Id::null(), Code::ParseError, out);
     }
 
-    // Refuses what is not taken. What has an id is no notification; what has none may have been a change of whatever document.
+    // Refuses what is not taken. What has an id is not a notification; what has none may have been a change of whatever
+    // document.
     fn refuse_under(&mut self, alloc: Global, id: &Id<'_>, code: Code, out: &mut Outbox)
         requires { IsTrue out.old.reserved }
         ensures { IsRefused id.now code self.old out.old self.new out.new }
@@ -240,28 +241,28 @@ impl Server {
     }
 
     /// What is asked of the files on disk next.
-    pub fn take_wanted(&mut self) -> Option<Wanted>
-        ensures wanted { wanted_of self.old ≡ wanted_of self.new ++ option_to_list (option_map wanted_view result) }
-        ensures none { result ≡ None → wanted_of self.old ≡ [] }
+    pub fn take_needed(&mut self) -> Option<Needed>
+        ensures needed { needed_of self.old ≡ needed_of self.new ++ option_to_list (option_map needed_view result) }
+        ensures none { result ≡ None → needed_of self.old ≡ [] }
         ensures stays { StaysBut self.old self.new }
-        ensures same { self.new ≡ record self.old { wanted = self.new.wanted } }
+        ensures same { self.new ≡ record self.old { needed = self.new.needed } }
     {
-        self.wanted.pop()
+        self.needed.pop()
     }
 
-    /// What was taken is asked for again, as no memory was found for it.
-    pub fn ask_again(&mut self, wanted: Wanted) -> Result<(), AllocError>
-        ensures wanted { OnOk result (wanted_of self.new ≡ wanted_of self.old ++ wanted_view wanted ∷ []) }
-        ensures err { OnErr result (wanted_of self.new ≡ wanted_of self.old) }
-        ensures same { self.new ≡ record self.old { wanted = self.new.wanted } }
+    /// What was taken is asked for again, as an allocation failed for it.
+    pub fn ask_again(&mut self, needed: Needed) -> Result<(), AllocError>
+        ensures needed { OnOk result (needed_of self.new ≡ needed_of self.old ++ needed_view needed ∷ []) }
+        ensures err { OnErr result (needed_of self.new ≡ needed_of self.old) }
+        ensures same { self.new ≡ record self.old { needed = self.new.needed } }
     {
-        self.wanted.push(wanted)?;
+        self.needed.push(needed)?;
         Ok(())
     }
 
     /// This is on disk under the path now. After an allocation failure the texts are what they were.
     pub fn load(&mut self, alloc: Global, path: &str, found: OnDisk) -> Result<(), AllocError>
-        ensures stays { KeepsTold self.old self.new }
+        ensures stays { KeepsReported self.old self.new }
         ensures same { self.new ≡ record self.old
             { workspace = self.new.workspace; unread = self.new.unread; edited = self.new.edited } }
         ensures loaded { OnOk result (IsLoadedAs path.now (text_on found) (why_on found) self.old self.new) }
@@ -279,7 +280,7 @@ impl Server {
 
     // No text is on disk, where this is why the file cannot be read, or nothing is.
     fn unload(&mut self, alloc: Global, path: &str, why: Option<String>) -> Result<(), AllocError>
-        ensures stays { KeepsTold self.old self.new }
+        ensures stays { KeepsReported self.old self.new }
         ensures same { self.new ≡ record self.old
             { workspace = self.new.workspace; unread = self.new.unread; edited = self.new.edited } }
         ensures loaded { OnOk result (IsLoadedAs path.now None (option_map string_bytes why) self.old self.new) }
@@ -306,37 +307,37 @@ impl Server {
         self.unread.set(alloc, path, why)
     }
 
-    /// Publishes what is found in the texts as they are, where it is something else than was published, or the version is.
-    /// On want of memory the rest is published the next time.
+    /// Publishes what is found in the texts as they are, where it is something else than was published, or the version
+    /// is. After an allocation failure the rest is published the next time.
     pub fn settle(&mut self, alloc: Global, out: &mut Outbox) -> Result<(), AllocError>
         ensures settled { OnOk result (IsSettling self.old.phase self.old self.new out.old out.new) }
         ensures unsettled { OnErr result (ArePublishedInPart self.old self.new out.old out.new) }
-        ensures stays { OnlyTells self.old self.new }
+        ensures stays { OnlyReports self.old self.new }
     {
         if self.phase != Phase::Running {
             return Ok(());
         }
-        // What is not published yet is published by what is told now.
-        self.edited.append(&mut self.untold)?;
-        self.untold = self.workspace.settle(alloc)?;
-        let telling = Telling {
+        // What is not published yet is published by what is reported now.
+        self.edited.append(&mut self.unpublished)?;
+        self.unpublished = self.workspace.settle(alloc)?;
+        let publishing = Publishing {
             editor: &self.editor,
             unread: &self.unread,
             related: self.client.related,
         };
-        // Of those that are untold it is published behind.
-        let untold = self.untold.as_slice();
+        // Of those that are not published yet it is published after.
+        let unpublished = self.unpublished.as_slice();
         publish_each(
             alloc,
-            telling,
+            publishing,
             &self.workspace,
             self.edited.as_slice(),
-            untold,
+            unpublished,
             out,
         )?;
         self.edited.clear();
-        publish_each(alloc, telling, &self.workspace, untold, &[], out)?;
-        self.untold.clear();
+        publish_each(alloc, publishing, &self.workspace, unpublished, &[], out)?;
+        self.unpublished.clear();
         Ok(())
     }
 }

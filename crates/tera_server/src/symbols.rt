@@ -16,7 +16,7 @@ use std::alloc::{AllocError, Global};
 use tera_outline::{Symbol, SymbolKind, symbols_of};
 use text_edits::{Encoding, Lines, position_at};
 
-/// Writes the symbols of the text, with a fault or without one, each with those that stand in it.
+/// Writes the symbols of the text, with a fault or without one, each with those that are in it.
 pub(crate) fn put_outline(
     alloc: Global,
     out: &mut Writer,
@@ -33,7 +33,7 @@ pub(crate) fn put_outline(
     put_nested(alloc, out, encoding, text, &lines, symbols.as_slice())
 }
 
-// Writes them and ends the array in which they stand.
+// Writes them and ends the array in which they are.
 fn put_nested(
     alloc: Global,
     out: &mut Writer,
@@ -58,7 +58,7 @@ fn put_nested(
     out.end_array()
 }
 
-// The end of a symbol, behind those that stand in it.
+// The end of a symbol, after those that are in it.
 const SYMBOL_END: [Token<'static>; 2] = [Token::EndArray, Token::EndObject];
 
 // Ends those that end at or before the byte.

@@ -20,7 +20,7 @@ pub(crate) fn template_name<'f>(folders: &[String], file: &'f str) -> Option<&'f
     None
 }
 
-// By the folder, if its file is there: what stands behind the first folder `templates` below it, or else behind it.
+// By the folder, if its file is there: what comes after the first folder `templates` below it, or else after it.
 fn name_below<'f>(folder: &str, file: &'f str) -> Option<&'f str>
     ensures { option_map (λ n. n.now) result ≡ specs.name_below folder.now file.now }
 {

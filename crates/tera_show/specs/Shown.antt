@@ -22,8 +22,8 @@ abbrev pub fault_line : List ℕ → Span → List ℕ
 fault_line message span =
     codes "syntax error at " ++ (decimal span.start_line ++ (codes ":" ++ (decimal span.start_col ++ (codes " (" ++ (decimal span.range.start ++ (codes ".." ++ (decimal span.range.end ++ (codes "): " ++ (on_one_line message ++ 10 ∷ [])))))))))
 
--- the answer to an input: the text of the output of its derivation within the limits; the line of a syntax error
--- of it, where it has no derivation; or that it is no text
+-- the answer to an input: the text of the output of its derivation within the limits; the line of a syntax error of it,
+-- where it has no derivation; or that it is not text
 abbrev pub IsAnswer : Limits → List ℕ → Outcome → List ℕ → Type 0
 IsAnswer l input Tree text = IsUtf8 input × ((output : Output) × Derives l default_marks input output × (text ≡ text_of output))
 IsAnswer l input Syntax text =

@@ -23,14 +23,14 @@ pub enum Outcome {
     Tree,
     /// The line of the template's syntax error.
     Syntax,
-    /// The line that says that the input is no text.
+    /// The line that says that the input is not text.
     NotUtf8,
 }
 
 /// Why nothing, or not all, was shown.
 #[derive(Clone, Copy, Debug, PartialEq, Eq)]
 pub enum ShowFault {
-    /// No memory was found. Nothing was written.
+    /// An allocation failed. Nothing was written.
     Memory,
     /// Reading failed, or did not end. Nothing was written.
     Read,
@@ -83,8 +83,8 @@ pub fn show_with<R: Read, W: Write>(
     Ok(outcome)
 }
 
-/// The status with which the program ends: 0 for a tree, 1 for a syntax error, 2 for an input that is no
-/// text, 3 for want of memory, 4 for a failed read or write.
+/// The status with which the program ends: 0 for a tree, 1 for a syntax error, 2 for an input that is not text, 3 for
+/// an allocation failure, 4 for a failed read or write.
 pub fn status(shown: &Result<Outcome, ShowFault>) -> u8
     ensures { result ≡ status_of shown.now }
 {

@@ -26,7 +26,7 @@ fn fault_of(error: &io::Error) -> ShowFault {
 }
 
 // Says on standard error why nothing, or not all, was shown.
-fn tell(rt: &HostRuntime, answer: &Result<Outcome, ShowFault>) {
+fn print_error(rt: &HostRuntime, answer: &Result<Outcome, ShowFault>) {
     let _ = match answer {
         Ok(_) => Ok(()),
         Err(ShowFault::Memory) => eprintln!(rt; "out of memory"),
@@ -46,10 +46,10 @@ fn run(rt: &HostRuntime) -> u8 {
             let _ = words.next();
             answer_of(rt, words.next())
         }
-        // An argument that is no text names no file that could be opened.
+        // An argument that is not text names no file that could be opened.
         Err(error) => Err(fault_of(&error)),
     };
-    tell(rt, &answer);
+    print_error(rt, &answer);
     status(&answer)
 }
 

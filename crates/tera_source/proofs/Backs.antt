@@ -1,4 +1,4 @@
--- What is written for an output is read as that output, but for where it stands.
+-- What is written for an output is read as that output, except where it is.
 use Rattle.std.proofs.Common.{◌≡◌, ℕ, Bool, true, false, cond, nat_eq, List, [], ◌∷◌, Option, Some, None, bytes_eq, Less, Greater, refl, sym, ap, ap₂, subst, ◌∙◌}
 use Rattle.std.specs.Prelude.{ℤ, pos, negsuc, neg_ℤ}
 use Rattle.std.specs.List.{list_any}
@@ -18,7 +18,7 @@ use Rattle.tera_grammar.specs.expressions.Spans.{spanning, sign_span, first, las
 use Rattle.tera_grammar.specs.expressions.Conditions.{IsExpression, IsAtom, AreLinks, IsSub, IsPart, IsExtra, IsRow, IsElement, AreAttributes, AreArgs}
 use Rattle.tera_grammar.specs.expressions.Output.{quote_text, literal_value, same_key, put_pair, put_arg, constant_entries, array_of, map_made, map_of, field_output, key_of, prefixed, is_optional_bracket, of_loop, component_text, key_variable, value_variable, is_optional_joint, output, links_output, sub_output, part_output, extra_output, arguments_output, argument_output, items_output, item_output, entries_output, entry_output, attributes_output, args_output}
 use Rattle.tera_spelling.specs.Spelling.{is_special}
-use Rattle.tera_source.specs.Source.{longer, path_from, first_variable, second_variable, word, quote, key_literal, number_tree, in_front, value_tree, pairs_row, behind, joint_for, bracket_for, with_field, with_sub, negation_of, tree_of, part_of, extra_of, arguments_row, args_of, items_row, entries_row, attributes_of, source_tree}
+use Rattle.tera_source.specs.Source.{longer, path_from, first_variable, second_variable, word, quote, key_literal, number_tree, in_front, value_tree, pairs_row, following, joint_for, bracket_for, with_field, with_sub, negation_of, tree_of, part_of, extra_of, arguments_row, args_of, items_row, entries_row, attributes_of, source_tree}
 use Rattle.std.proofs.lemmas.Slice.Eq.{bytes_eq-Decides}
 use Rattle.std.proofs.lemmas.Bool.{eqb-true}
 use Rattle.std.proofs.lemmas.Cmp.{nat_list_cmp_total}
@@ -72,28 +72,28 @@ abbrev followed : tree.Args → tree.Args → tree.Args
 followed tree.NoArgs g = g
 followed (tree.Arg n e more) g = tree.Arg n e (followed more g)
 
--- the name stands behind all of these, and all names of the second behind all of the first
-abbrev Behind : List ℕ → tree.Args → Type 0
-Behind n tree.NoArgs = Unit {0}
-Behind n (tree.Arg m e g) = (slice_cmp nat_cmp n m ≡ Greater) × Behind n g
+-- the name comes after all of these, and all names of the second after all of the first
+abbrev After : List ℕ → tree.Args → Type 0
+After n tree.NoArgs = Unit {0}
+After n (tree.Arg m e g) = (slice_cmp nat_cmp n m ≡ Greater) × After n g
 
-abbrev AllBehind : tree.Args → tree.Args → Type 0
-AllBehind tree.NoArgs done = Unit {0}
-AllBehind (tree.Arg n e g) done = Behind n done × AllBehind g done
+abbrev AllAfter : tree.Args → tree.Args → Type 0
+AllAfter tree.NoArgs done = Unit {0}
+AllAfter (tree.Arg n e g) done = After n done × AllAfter g done
 
-put_last : (n : List ℕ) (e : Expr) (done : tree.Args) → Behind n done → put_arg n e done ≡ followed done (tree.Arg n e tree.NoArgs)
+put_last : (n : List ℕ) (e : Expr) (done : tree.Args) → After n done → put_arg n e done ≡ followed done (tree.Arg n e tree.NoArgs)
 put_last n e tree.NoArgs h = refl
 put_last n e (tree.Arg m f done) h =
     ap (λ o. match_ordering o (tree.Arg n e (tree.Arg m f done)) (tree.Arg m e done) (tree.Arg m f (put_arg n e done))) h.0
     ∙ ap (tree.Arg m f) (put_last n e done h.1)
 
-behind_more : (k n : List ℕ) (e : Expr) (done : tree.Args) → slice_cmp nat_cmp n k ≡ Less → Behind k done → Behind k (followed done (tree.Arg n e tree.NoArgs))
-behind_more k n e tree.NoArgs less h = (nat_list_cmp_total.antisymm k n ∙ ap ordering_reverse less, tt)
-behind_more k n e (tree.Arg m f done) less h = (h.0, behind_more k n e done less h.1)
+after_more : (k n : List ℕ) (e : Expr) (done : tree.Args) → slice_cmp nat_cmp n k ≡ Less → After k done → After k (followed done (tree.Arg n e tree.NoArgs))
+after_more k n e tree.NoArgs less h = (nat_list_cmp_total.antisymm k n ∙ ap ordering_reverse less, tt)
+after_more k n e (tree.Arg m f done) less h = (h.0, after_more k n e done less h.1)
 
-all_behind_more : (g : tree.Args) (n : List ℕ) (e : Expr) (done : tree.Args) → Below n g → AllBehind g done → AllBehind g (followed done (tree.Arg n e tree.NoArgs))
-all_behind_more tree.NoArgs n e done b h = tt
-all_behind_more (tree.Arg k f g) n e done b h = (behind_more k n e done b.0 h.0, all_behind_more g n e done b.1 h.1)
+all_after_more : (g : tree.Args) (n : List ℕ) (e : Expr) (done : tree.Args) → Below n g → AllAfter g done → AllAfter g (followed done (tree.Arg n e tree.NoArgs))
+all_after_more tree.NoArgs n e done b h = tt
+all_after_more (tree.Arg k f g) n e done b h = (after_more k n e done b.0 h.0, all_after_more g n e done b.1 h.1)
 
 followed_twice : (x y z : tree.Args) → followed (followed x y) z ≡ followed x (followed y z)
 followed_twice tree.NoArgs y z = refl
@@ -108,20 +108,20 @@ in_front_arguments x (ended s) g = refl
 in_front_arguments x (only y s) g = refl
 in_front_arguments x (then y s ys) g = refl
 
--- sorted arguments, put behind others, come back in their order
-arguments_behind : (g done : tree.Args) → Sorted g → BackArgs g → (front : tree.Args) → placeless_args done ≡ front → AllBehind g front →
+-- sorted arguments, put after others, come back in their order
+arguments_after : (g done : tree.Args) → Sorted g → BackArgs g → (front : tree.Args) → placeless_args done ≡ front → AllAfter g front →
     placeless_args (arguments_output false (arguments_row g) done) ≡ followed front (placeless_args g)
-arguments_behind tree.NoArgs done s b front same h = same ∙ sym (followed_none front)
-arguments_behind (tree.Arg n e g) done s b front same h =
+arguments_after tree.NoArgs done s b front same h = same ∙ sym (followed_none front)
+arguments_after (tree.Arg n e g) done s b front same h =
     ap placeless_args (in_front_arguments (argument (word n) nowhere (tree_of e)) (arguments_row g) done)
-    ∙ arguments_behind g (put_arg n (output false (tree_of e)) done) s.1 b.1 (followed front (tree.Arg n (placeless e) tree.NoArgs))
+    ∙ arguments_after g (put_arg n (output false (tree_of e)) done) s.1 b.1 (followed front (tree.Arg n (placeless e) tree.NoArgs))
     (put_placeless n (output false (tree_of e)) done ∙ ap₂ (put_arg n) b.0 same ∙ put_last n (placeless e) front h.0)
-    (all_behind_more g n (placeless e) front s.0 h.1)
+    (all_after_more g n (placeless e) front s.0 h.1)
     ∙ followed_twice front (tree.Arg n (placeless e) tree.NoArgs) (placeless_args g)
 
-none_behind : (g : tree.Args) → AllBehind g tree.NoArgs
-none_behind tree.NoArgs = tt
-none_behind (tree.Arg n e g) = (tt, none_behind g)
+none_after : (g : tree.Args) → AllAfter g tree.NoArgs
+none_after tree.NoArgs = tt
+none_after (tree.Arg n e g) = (tt, none_after g)
 
 record Ordered (g : tree.Args) : Type 0 where
   sorted : Sorted g
@@ -131,7 +131,7 @@ none_ordered : Ordered tree.NoArgs
 none_ordered = record { sorted = tt; back = tt }
 
 arguments_back : (g : tree.Args) → Ordered g → placeless_args (arguments_output false (arguments_row g) tree.NoArgs) ≡ placeless_args g
-arguments_back g o = arguments_behind g tree.NoArgs o.sorted o.back tree.NoArgs refl (none_behind g)
+arguments_back g o = arguments_after g tree.NoArgs o.sorted o.back tree.NoArgs refl (none_after g)
 
 args_back : (g : tree.Args) → Ordered g → placeless_args (args_output false (args_of g)) ≡ placeless_args g
 args_back tree.NoArgs o = refl
@@ -160,10 +160,10 @@ array_back is span h =
 
 -- Links and subscripts
 
-behind_output : (e : Expr) (ls more : Links) → links_output false false e (behind ls more) ≡ links_output false false (links_output false false e ls) more
-behind_output e no_links more = refl
-behind_output e (field d n ls) more = behind_output (field_output false e d n) ls more
-behind_output e (item b s ls) more = behind_output (sub_output false (is_optional_bracket b) e s) ls more
+after_output : (e : Expr) (ls more : Links) → links_output false false e (following ls more) ≡ links_output false false (links_output false false e ls) more
+after_output e no_links more = refl
+after_output e (field d n ls) more = after_output (field_output false e d n) ls more
+after_output e (item b s ls) more = after_output (sub_output false (is_optional_bracket b) e s) ls more
 
 joint_back : (o : Bool) → is_optional_joint (joint_for o) ≡ o
 joint_back true = refl
@@ -179,16 +179,16 @@ field_back false e d n chain h =
     let o = is_optional_joint d in
     let last = field (joint_for o) (word n.text) no_links in
     ap (λ t. placeless (output false (with_field t o n.text))) chain.is
-    ∙ ap placeless (behind_output (tree.Var chain.name.text chain.name.span) chain.links last)
+    ∙ ap placeless (after_output (tree.Var chain.name.text chain.name.span) chain.links last)
     ∙ ap₂ (λ x b. tree.GetAttr x n.text b nowhere) (sym (ap (λ t. placeless (output false t)) chain.is) ∙ h) (joint_back o)
 
--- the subscript stands on the expression, by a chain or not
+-- the subscript is on the expression, by a chain or not
 abbrev SubOutput : Tree → Bool → Sub → Type 0
 SubOutput t o s = placeless (output false (with_sub t o s)) ≡ placeless (sub_output false o (output false t) s)
 
 chain_sub_output : (n : Name) (ls : Links) (o : Bool) (s : Sub) → SubOutput (Atomic (Chain n ls)) o s
 chain_sub_output n ls o s =
-    ap placeless (behind_output (tree.Var n.text n.span) ls (item (bracket_for o) s no_links))
+    ap placeless (after_output (tree.Var n.text n.span) ls (item (bracket_for o) s no_links))
     ∙ ap (λ b. placeless (sub_output false b (links_output false false (tree.Var n.text n.span) ls) s)) (bracket_back o)
 
 plain_sub_output : (t : Tree) (s : Sub) → SubOutput t false s
@@ -376,7 +376,7 @@ map_back es span (Some ps) same h k =
     map_placeless (entries_output false (pairs_row ps)) _ ∙ ap (λ fs. map_of fs nowhere) (pairs_back ps k.back)
     ∙ ap (map_made (as_entries ps) nowhere) (constants_joined ps values.NoPairs k.distinct (none_apart ps))
 
--- what stands between the brackets, as it is written
+-- what is between the brackets, as it is written
 abbrev written_sub : Bool → Sub → Sub
 written_sub l (index i c) = index (tree_of (output l i)) nowhere
 written_sub l (slice a s b x c) = slice (part_of (part_output l a)) nowhere (part_of (part_output l b)) (extra_of (extra_output l x)) nowhere
@@ -495,6 +495,6 @@ mutual
       attribute_back n.text (output l e) (attributes_output l ats) (written_back l e h.0) (attributes_go l ats h.1)
   attributes_go l (spreading b s e c ats) h = ap₂ tree.SpreadEntry (written_back l e h.0) (attributes_go l ats h.1)
 
--- what is written for an output is read as that output, but for where it stands
+-- what is written for an output is read as that output, except where it is
 pub source_output : (l : Bool) (t : Tree) → IsExpression l t → placeless (output false (source_tree (output l t))) ≡ placeless (output l t)
 source_output l t h = paren_output false 0 0 false (tree_of (output l t)) ∙ written_back l t h

@@ -1,4 +1,4 @@
--- An expression stands in parentheses exactly where its tree does.
+-- An expression is in parentheses exactly where its tree is.
 use Rattle.std.proofs.Common.{◌≡◌, ℕ, Bool, false, List, refl, ap}
 use Rattle.std.specs.Prelude.{pos, negsuc}
 use Rattle.tera_base.specs.Values as values

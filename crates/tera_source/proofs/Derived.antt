@@ -27,29 +27,29 @@ use Rattle.tera_spelling.proofs.Tags.{tag_read, default_valid}
 use Rattle.tera_grammar.proofs.expressions.Bodiless.{has_body, output_bodiless}
 use Rattle.tera_source.specs.Source.{source_of, tree_of, source_tree, source_text}
 use Rattle.tera_source.specs.Placeless.{placeless}
-use Rattle.tera_source.specs.Standing.{StandsIn}
+use Rattle.tera_source.specs.InSources.{IsInSource}
 use Rattle.tera_source.specs.Printing.{shown_alone, Shows, PrintsBack}
 use Rattle.tera_source.specs.Outermost.{EachOfBody}
 use Rattle.tera_source.specs.Nodes.{EachOfOutput}
 use Rattle.tera_source.specs.Subexpressions.{EachPart}
 use Rattle.tera_source.proofs.Subexpressions.{each_part}
-use Rattle.tera_source.proofs.Outermost.{StandsAmong, template_stands}
+use Rattle.tera_source.proofs.Outermost.{StandsAmong, template_sound}
 use Rattle.tera_source.proofs.Shown.{of_whole, output_holds}
 use Rattle.tera_source.proofs.Writables.{output_writable}
 use Rattle.tera_source.proofs.WrittenOutputs.{source_bound}
 use Rattle.tera_source.proofs.Backs.{source_output}
-use Rattle.tera_source.proofs.Standing.{stands_given}
+use Rattle.tera_source.proofs.InSources.{stands_given}
 use Rattle.tera_source.proofs.Spelled.{paren_spelled}
 use Rattle.tera_source.proofs.SpelledTree.{written_spelled}
 use Rattle.tera_source.proofs.ReadBack.{moved, stands_within}
 
 -- no expression is read as a component with a body
-text_told : (e : Expr) → has_body e ≡ false → source_of e ≡ Some (source_text e)
-text_told (tree.ComponentCall name es body false s) h = cc
-text_told _ h = refl
+text_reported : (e : Expr) → has_body e ≡ false → source_of e ≡ Some (source_text e)
+text_reported (tree.ComponentCall name es body false s) h = cc
+text_reported _ h = refl
 
 output_text : (l : Bool) (t : Tree) → source_of (output l t) ≡ Some (source_text (output l t))
-output_text l t = text_told (output l t) (output_bodiless l t)
+output_text l t = text_reported (output l t) (output_bodiless l t)
 
 -- one expression in a variable tag
 abbrev alone : Span → Tree → Span → Body
@@ -78,9 +78,9 @@ alone_template limits start end t some is small = record {
   low = some;
 }
 
-module _ (m : Marks) (source : List ℕ) (limits : Limits) (l : Bool) (e : Tree) (stands : StandsIn m source e) where
+module _ (m : Marks) (source : List ℕ) (limits : Limits) (l : Bool) (e : Tree) (sound : IsInSource m source e) where
   source_spelled : AreSpelled (concrete.yield (source_tree (output l e)) Ended)
-  source_spelled = paren_spelled 0 0 false (tree_of (output l e)) Ended (written_spelled l e (stands_given m source e stands)) tt
+  source_spelled = paren_spelled 0 0 false (tree_of (output l e)) Ended (written_spelled l e (stands_given m source e sound)) tt
 
   module _ (is : conditions.IsExpression l e) (small : Within limits e) (some : 1 ≤ limits.bodies) where
     -- the derivation of tokens that are these in a tag
@@ -88,7 +88,7 @@ module _ (m : Marks) (source : List ℕ) (limits : Limits) (l : Bool) (e : Tree)
         (x : Expr) × Derives limits default_marks text (shown_alone x) × (placeless x ≡ placeless (output l e))
     tag_derives text read are (start, end, inside, begins, tokens) =
         let t = moved limits (source_tree (output l e)) inside (Token (Finish Variable false) end Ended)
-        (source_bound l e is) (stands_within m source limits l e stands is small) tokens in
+        (source_bound l e is) (stands_within m source limits l e sound is small) tokens in
         let body = alone start t.tree end in
         let same : read ≡ yield body Ended = begins ∙ ap (Token (Start Variable false) start) t.tokens ∙ sym (alone_yield start end t.tree) in
         let fits = subst (λ ts. IsTemplate limits ts body) (sym same) (alone_template limits start end t.tree some t.bound t.within) in
@@ -125,13 +125,13 @@ module _ (m : Marks) (source : List ℕ) (limits : Limits) where
   each_printed : (items : Items) → AreTokensOf m source items → 1 ≤ limits.bodies → (in_loop : Bool) (e : Tree) → StandsAmong limits items in_loop e → Printed in_loop e
   each_printed items are some in_loop e among =
       prints_back m source limits in_loop e
-      (record { before = among.before; behind = among.behind; tokens = subst (AreTokensOf m source) among.is are }) among.bound among.within some
+      (record { before = among.before; following = among.following; tokens = subst (AreTokensOf m source) among.is are }) among.bound among.within some
 
   pub each_prints_back : (read : Output) (d : Derives limits m source read) → EachOfBody (λ in_loop e. EachPart (Printed in_loop) e) false d.2.0
   each_prints_back read (pieces, division, (b, is, same)) =
       let items = tokens_of m [] [] pieces Complete in
       let printed = each_printed items (pieces, Complete, division, refl) (omega (arith, is.low)) in
-      template_stands limits items (λ in_loop e. EachPart (Printed in_loop) e)
+      template_sound limits items (λ in_loop e. EachPart (Printed in_loop) e)
       (λ in_loop e among. each_part limits items in_loop (Printed in_loop) (printed in_loop) e among) b is.tokens is.fits
 
   -- and so is each in the nodes of its output

@@ -17,7 +17,7 @@ use Rattle.tera_grammar.specs.expressions.Measures.{links, atom_links, links_lin
 use Rattle.tera_grammar.specs.Limits.{Limits}
 use Rattle.tera_grammar.specs.expressions.Conditions.{IsExpression}
 use Rattle.tera_grammar.specs.expressions.Output.{literal_value, same_key, put_pair, put_arg, constant_entries, map_made, prefixed, is_optional_joint, is_optional_bracket, of_loop, field_output, output, links_output, sub_output, part_output, extra_output, arguments_output, argument_output, items_output, item_output, entries_output, entry_output, attributes_output, args_output}
-use Rattle.tera_source.specs.Source.{word, key_literal, number_tree, in_front, value_tree, pairs_row, behind, joint_for, bracket_for, with_field, with_sub, negation_of, attribute, tree_of, part_of, extra_of, arguments_row, args_of, items_row, entries_row, attributes_of, source_tree, asked, kept_out, paren, paren_atom, paren_links, paren_sub, paren_part, paren_extra, paren_row, paren_element, paren_attributes, paren_suffix, paren_args, paren_operator}
+use Rattle.tera_source.specs.Source.{word, key_literal, number_tree, in_front, value_tree, pairs_row, following, joint_for, bracket_for, with_field, with_sub, negation_of, attribute, tree_of, part_of, extra_of, arguments_row, args_of, items_row, entries_row, attributes_of, source_tree, asked, kept_out, paren, paren_atom, paren_links, paren_sub, paren_part, paren_extra, paren_row, paren_element, paren_attributes, paren_suffix, paren_args, paren_operator}
 use Rattle.tera_source.proofs.Signs.{array_tree}
 use Rattle.tera_spelling.specs.Given.{IsGiven}
 use Rattle.tera_source.proofs.Holds.{Holds}
@@ -186,17 +186,17 @@ map_few k es span (Some ps) h p = let low = pairs_row_few ps in omega arith
 
 -- Links, subscripts, negations and attributes
 
-behind_few : (ls more : Links) → links_links (behind ls more) ≡ links_links ls + links_links more
-behind_few no_links more = omega arith
-behind_few (field d n ls) more = let low = behind_few ls more in omega arith
-behind_few (item b s ls) more = let low = behind_few ls more in omega arith
+after_few : (ls more : Links) → links_links (following ls more) ≡ links_links ls + links_links more
+after_few no_links more = omega arith
+after_few (field d n ls) more = let low = after_few ls more in omega arith
+after_few (item b s ls) more = let low = after_few ls more in omega arith
 
 with_field_few : (t : Tree) (o : Bool) (n : List ℕ) → links (with_field t o n) ≤ suc (links t)
-with_field_few (Atomic (Chain v ls)) o n = let one = behind_few ls (field (joint_for o) (word n) no_links) in omega arith
+with_field_few (Atomic (Chain v ls)) o n = let one = after_few ls (field (joint_for o) (word n) no_links) in omega arith
 with_field_few _ o n = omega arith
 
 with_sub_few : (t : Tree) (o : Bool) (s : Sub) → links (with_sub t o s) ≤ links t + suc (sub_links s)
-with_sub_few (Atomic (Chain v ls)) o s = let low = behind_few ls (item (bracket_for o) s no_links) in omega arith
+with_sub_few (Atomic (Chain v ls)) o s = let low = after_few ls (item (bracket_for o) s no_links) in omega arith
 with_sub_few _ o s = omega arith
 
 field_few : (c : Bool) (e : Expr) (d : Joint) (n : Name) → links (tree_of (field_output c e d n)) ≤ suc (links (tree_of e))

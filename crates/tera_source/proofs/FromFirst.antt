@@ -19,7 +19,7 @@ pub one_pair : (all p : List ℕ) (later : Bool) (ks ms : List Key) (vs us : Lis
     → all ≡ ((p ++ comma_text later) ++ (key_source (key_view k) ++ (codes " : " ++ constant_text (value_view v)))) ++ pairs_text true (pairs_view (zip ms us))
 one_pair all p later ks ms vs us k v start a b = start ∙ rw (a, b) (simp append_assoc)
 
--- a value of a map is no deeper than the map's values, nor are those behind it
+-- a value of a map is at most as deep as the map's values, nor are those after it
 pub value_below : (ks ms : List Key) (vs us : List Value) (k : Key) (v : Value) (n : ℕ) → most size-Value (values_of (zip ks vs)) ≤ n → ks ≡ k ∷ ms → vs ≡ v ∷ us
     → (size-Value v ≤ n) × (most size-Value (values_of (zip ms us)) ≤ n)
 value_below ks ms vs us k v n h a b =

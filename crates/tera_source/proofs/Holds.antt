@@ -85,25 +85,25 @@ module _ (P : Tok → Type 0) where
 
   -- Where it holds of each token
 
-  behind_sign : (s : Sign) (r : Items) → EachToken P (sign_yield s r) → EachToken P r
-  behind_sign (Negative s) r h = h.1
-  behind_sign (Negates s) r h = h.1
+  after_sign : (s : Sign) (r : Items) → EachToken P (sign_yield s r) → EachToken P r
+  after_sign (Negative s) r h = h.1
+  after_sign (Negates s) r h = h.1
 
-  behind_joint : (d : Joint) (r : Items) → EachToken P (joint_yield d r) → EachToken P r
-  behind_joint (plain_dot s) r h = h.1
-  behind_joint (optional_dot s) r h = h.1
+  after_joint : (d : Joint) (r : Items) → EachToken P (joint_yield d r) → EachToken P r
+  after_joint (plain_dot s) r h = h.1
+  after_joint (optional_dot s) r h = h.1
 
-  behind_bracket : (b : Bracket) (r : Items) → EachToken P (bracket_yield b r) → EachToken P r
-  behind_bracket (plain_bracket s) r h = h.1
-  behind_bracket (optional_bracket s) r h = h.1
+  after_bracket : (b : Bracket) (r : Items) → EachToken P (bracket_yield b r) → EachToken P r
+  after_bracket (plain_bracket s) r h = h.1
+  after_bracket (optional_bracket s) r h = h.1
 
-  behind_negation : (n : Negation) (r : Items) → EachToken P (negation_yield n r) → EachToken P r
-  behind_negation plainly r h = h
-  behind_negation (negated s) r h = h.1
+  after_negation : (n : Negation) (r : Items) → EachToken P (negation_yield n r) → EachToken P r
+  after_negation plainly r h = h
+  after_negation (negated s) r h = h.1
 
-  behind_op : (o : Op) (r : Items) → EachToken P (op_yield o r) → EachToken P r
-  behind_op (Single o s) r h = h.1
-  behind_op (NotIn s t) r h = h.1.1
+  after_op : (o : Op) (r : Items) → EachToken P (op_yield o r) → EachToken P r
+  after_op (Single o s) r h = h.1
+  after_op (NotIn s t) r h = h.1.1
 
   second_holds : (m : Second) (r : Items) → EachToken P (second_yield m r) → HoldsSecond m × EachToken P r
   second_holds no_second r h = (tt, h)
@@ -116,7 +116,7 @@ module _ (P : Tok → Type 0) where
   mutual
     pub holds : (t : Tree) (r : Items) → EachToken P (yield t r) → Holds t × EachToken P r
     holds (Atomic a) r h = atom_holds a r h
-    holds (Prefix s e) r h = holds e r (behind_sign s (yield e r) h)
+    holds (Prefix s e) r h = holds e r (after_sign s (yield e r) h)
     holds (Suffixed a s) r h =
         let one = holds a (suffix_yield s r) h in let two = suffix_holds s r one.1 in ((one.0, two.0), two.1)
     holds (Infix a o b) r h =
@@ -145,10 +145,10 @@ module _ (P : Tok → Type 0) where
     links_hold : (ls : Links) (r : Items) → EachToken P (links_yield ls r) → HoldsLinks ls × EachToken P r
     links_hold no_links r h = (tt, h)
     links_hold (field d n ls) r h =
-        let one = behind_joint d (name_yield n (links_yield ls r)) h in
+        let one = after_joint d (name_yield n (links_yield ls r)) h in
         let more = links_hold ls r one.1 in ((one.0, more.0), more.1)
     links_hold (item b s ls) r h =
-        let one = sub_holds s (links_yield ls r) (behind_bracket b (sub_yield s (links_yield ls r)) h) in
+        let one = sub_holds s (links_yield ls r) (after_bracket b (sub_yield s (links_yield ls r)) h) in
         let two = links_hold ls r one.1 in ((one.0, two.0), two.1)
 
     sub_holds : (s : Sub) (r : Items) → EachToken P (sub_yield s r) → HoldsSub s × EachToken P r
@@ -193,7 +193,7 @@ module _ (P : Tok → Type 0) where
 
     suffix_holds : (s : Suffix) (r : Items) → EachToken P (suffix_yield s r) → HoldsSuffix s × EachToken P r
     suffix_holds (Test s n w g) r h =
-        let one = behind_negation n (name_yield w (args_yield g r)) h.1 in
+        let one = after_negation n (name_yield w (args_yield g r)) h.1 in
         let more = args_hold g r one.1 in ((one.0, more.0), more.1)
     suffix_holds (Filter s w g) r h = let more = args_hold g r h.1.1 in ((h.1.0, more.0), more.1)
     suffix_holds (Subscript s b) r h = sub_holds b r h.1
@@ -203,5 +203,5 @@ module _ (P : Tok → Type 0) where
     args_hold (args s row) r h = row_holds of_arguments row r h.1
 
     operator_holds : (o : Operator) (r : Items) → EachToken P (operator_yield o r) → HoldsOperator o × EachToken P r
-    operator_holds (Binary o) r h = (tt, behind_op o r h)
+    operator_holds (Binary o) r h = (tt, after_op o r h)
     operator_holds (Condition s c t) r h = let one = holds c (mark Else t r) h.1 in (one.0, one.1.1)

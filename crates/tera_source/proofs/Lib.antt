@@ -11,7 +11,7 @@ pub mod Spelled
 pub mod SpelledTree
 pub mod Again
 pub mod Writables
-pub mod Standing
+pub mod InSources
 pub mod Outermost
 pub mod Subexpressions
 pub mod Backs

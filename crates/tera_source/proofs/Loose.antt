@@ -10,7 +10,7 @@ use Rattle.tera_grammar.specs.expressions.Conditions.{IsFirst, NamesTest, AreVar
 use Rattle.tera_source.specs.Source.{asked, kept_out, paren, paren_atom, paren_links, paren_sub, paren_part, paren_extra, paren_row, paren_element, paren_attributes, paren_suffix, paren_args, paren_operator}
 use Rattle.tera_source.proofs.Signs.{kind_of, refuses, refused_in}
 
--- a subscript stands behind no chain
+-- a subscript comes after no chain
 abbrev pub KeepsChain : Tree → Suffix → Type 0
 KeepsChain a (Subscript s b) = NoChain a
 KeepsChain a _ = Unit {0}
@@ -144,7 +144,7 @@ closed_at (Infix a (Binary (Single o s)) b) h = let k = right_small o in absurd 
 closed_at (Infix a (Binary (NotIn s t)) b) h = absurd (omega arith)
 closed_at (Infix a (Condition s c t) b) h = absurd (omega arith)
 
--- what is no chain becomes none
+-- what is not a chain becomes none
 unchained_cond : (c : Bool) (x y : Tree) → NoChain x → NoChain y → NoChain (cond c x y)
 unchained_cond true x y one two = one
 unchained_cond false x y one two = two

@@ -16,7 +16,7 @@ use Rattle.tera_grammar.specs.expressions.Powers.{sign_power, left_power, right_
 use Rattle.tera_grammar.specs.expressions.Measures.{Weight, deep, atom_deep, links_deep, sub_deep, part_deep, extra_deep, row_deep, element_deep, attributes_deep, args_deep}
 use Rattle.tera_grammar.specs.expressions.Conditions.{IsExpression, IsAtom, AreLinks, IsSub, IsPart, IsExtra, IsRow, IsElement, AreAttributes, AreArgs}
 use Rattle.tera_grammar.specs.expressions.Output.{literal_value, same_key, put_pair, put_arg, constant_entries, map_made, is_optional_joint, is_optional_bracket, of_loop, field_output, output, links_output, sub_output, part_output, extra_output, arguments_output, argument_output, items_output, item_output, entries_output, entry_output, attributes_output, args_output}
-use Rattle.tera_source.specs.Source.{word, key_literal, in_front, value_tree, pairs_row, behind, joint_for, bracket_for, with_field, with_sub, attribute, tree_of, part_of, extra_of, arguments_row, args_of, items_row, entries_row, attributes_of, source_tree, paren, paren_links, paren_sub, paren_part, paren_extra, paren_row, paren_element, paren_attributes, paren_args}
+use Rattle.tera_source.specs.Source.{word, key_literal, in_front, value_tree, pairs_row, following, joint_for, bracket_for, with_field, with_sub, attribute, tree_of, part_of, extra_of, arguments_row, args_of, items_row, entries_row, attributes_of, source_tree, paren, paren_links, paren_sub, paren_part, paren_extra, paren_row, paren_element, paren_attributes, paren_args}
 use Rattle.std.proofs.lemmas.Slice.Eq.{bytes_eq-Decides}
 use Rattle.tera_source.proofs.Signs.{array_tree, infix_tree}
 use Rattle.tera_spelling.specs.Given.{IsGiven}
@@ -115,19 +115,19 @@ map_low w k es span (Some ps) h p m q b = let low = pairs_row_low w ps in omega 
 
 -- Links and subscripts
 
-behind_low : (w : Weight) (ls more : Links) → links_deep w (paren_links (behind ls more)) ≤ max (links_deep w (paren_links ls)) (links_deep w (paren_links more))
-behind_low w no_links more = omega arith
-behind_low w (field d n ls) more = behind_low w ls more
-behind_low w (item b s ls) more = let low = behind_low w ls more in omega arith
+after_low : (w : Weight) (ls more : Links) → links_deep w (paren_links (following ls more)) ≤ max (links_deep w (paren_links ls)) (links_deep w (paren_links more))
+after_low w no_links more = omega arith
+after_low w (field d n ls) more = after_low w ls more
+after_low w (item b s ls) more = let low = after_low w ls more in omega arith
 
 with_field_low : (w : Weight) (t : Tree) (o : Bool) (n : List ℕ) (k : ℕ) → LowIn w t k → LowIn w (with_field t o n) k
 with_field_low w (Atomic (Chain v ls)) o n k h m q p =
-    let one = behind_low w ls (field (joint_for o) (word n) no_links) in let two = h m q p in omega arith
+    let one = after_low w ls (field (joint_for o) (word n) no_links) in let two = h m q p in omega arith
 with_field_low w _ o n k h m q p = h m q p
 
 with_sub_low : (w : Weight) (t : Tree) (o : Bool) (s : Sub) (h k m q : ℕ) (p : Bool) → deep w (paren m 21 p t) ≤ h → sub_deep w (paren_sub s) ≤ k →
     deep w (paren m q p (with_sub t o s)) ≤ max h (k + w.subscript)
-with_sub_low w (Atomic (Chain v ls)) o s h k m q p one two = let low = behind_low w ls (item (bracket_for o) s no_links) in omega arith
+with_sub_low w (Atomic (Chain v ls)) o s h k m q p one two = let low = after_low w ls (item (bracket_for o) s no_links) in omega arith
 with_sub_low w _ o s h k m q p one two = omega arith
 
 field_low : (w : Weight) (c : Bool) (e : Expr) (d : Joint) (n : Name) (k : ℕ) → LowIn w (tree_of e) k → LowIn w (tree_of (field_output c e d n)) k

@@ -9,7 +9,7 @@ use Rattle.tera_grammar.specs.expressions.Operators.{Div, GreaterThan, In}
 use Rattle.tera_grammar.specs.expressions.Marks.{Mark, mark, LeftParen, RightParen, RightBracket, LeftBrace, RightBrace, Comma, Colon, Spread, Assign, If, Else, For, Operation}
 use Rattle.tera_grammar.specs.expressions.Concrete.{Name, Sign, Negative, Negates, Joint, plain_dot, optional_dot, Bracket, plain_bracket, optional_bracket, Negation, plainly, negated, Second, no_second, second, Dotted, no_dots, dots, Op, Single, NotIn, Kind, of_arguments, of_items, of_entries, closing, Tree, Atomic, Prefix, Suffixed, Infix, Atom, Literal, Null, Chain, Call, Paren, Array, Comprehension, Map, Component, Links, no_links, field, item, Sub, index, slice, Part, absent, present, Extra, no_extra, extra, Row, ended, only, then, Element, plain, spread, pair, argument, Attributes, no_attributes, bare, quoted, valued, spreading, Suffix, Test, Filter, Subscript, Args, no_args, args, Operator, Binary, Condition, quote_token, name_yield, sign_yield, joint_yield, bracket_yield, negation_yield, second_yield, dotted_yield, op_yield, yield, atom_yield, links_yield, sub_yield, part_yield, extra_yield, row_yield, element_yield, attributes_yield, suffix_yield, args_yield, operator_yield}
 
--- a token stands where the tokens behind it say
+-- a token is where the tokens after it say
 module _ (at : Items → Span) where
   abbrev pub name_at : Name → Items → Name
   name_at n r = record { text = n.text; span = at r }
@@ -148,7 +148,7 @@ module _ (at : Items → Span) where
     operator_at (Binary o) r = Binary (op_at o r)
     operator_at (Condition s c t) r = let end = mark Else t r in Condition (at (yield c end)) (tree_at c end) (at r)
 
--- its tokens are those at these places, before what stands at the end
+-- its tokens are those at these places, before what is at the end
 module _ (at : Items → Span) (end : Items) where
   abbrev pub tokens_at : Items → Items
   tokens_at Ended = end
@@ -284,8 +284,8 @@ cond_other a b x y less = ap (λ c. cond c x y) (false_from_ne_true (nat_eq a b)
 pub placed : (items end read : Items) → AreReadAs items end read → Placed items end read
 placed Ended end read h = record { at = λ r. nowhere; is = h }
 placed (Failed text span) end read h = absurd h
-placed (Token t span items) end read (here, behind, first, h) =
-    let more = placed items end behind h in
+placed (Token t span items) end read (here, following, first, h) =
+    let more = placed items end following h in
     let at : Items → Span = λ r. cond (nat_eq (size r) (size items)) here (more.at r) in
     record {
       at = at;

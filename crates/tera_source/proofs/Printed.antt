@@ -17,7 +17,7 @@ use Rattle.tera_ast.specs.declared.ast.UnaryOperator.TheVariants as unary
 use Rattle.tera_grammar.specs.expressions.Marks.{mark, RightParen, RightBracket, RightBrace, Colon, If}
 use Rattle.tera_grammar.specs.expressions.Concrete.{Simple, Escaped, Single, of_arguments, of_items, of_entries, Tree, Atomic, Chain, Links, no_links, field, item, Sub, index, slice, plain, spread, pair, argument, Attributes, bare, valued, literal_token, quote_token, yield, name_yield, joint_yield, bracket_yield, op_yield, links_yield, sub_yield, part_yield, extra_yield, attributes_yield, args_yield}
 use Rattle.tera_source.specs.declared.context.Context.{Context}
-use Rattle.tera_source.specs.Contexts.{free, above, before, behind, behind_prefix, left_of, right_of, takes_negation}
+use Rattle.tera_source.specs.Contexts.{free, above, before, following, after_prefix, left_of, right_of, takes_negation}
 use Rattle.tera_source.specs.Source as source
 use Rattle.tera_source.specs.Source.{word, quote, key_literal, value_tree, values_row, pairs_row, operator_for, joint_for, bracket_for, with_field, with_sub, negation_of, attribute, tree_of, part_of, extra_of, arguments_row, args_of, items_row, entries_row, attributes_of, paren, paren_links, paren_sub, paren_part, paren_extra, paren_attributes, paren_args, source_tree, source_text}
 use Rattle.tera_source.specs.Writable.{IsOperator, MayLink, IsConstant, AreConstants, AreConstantPairs, IsWritable, MaybeWritable, AreWritableArgs, AreWritableItems, AreWritableEntries, AreWritableAttributes}
@@ -85,20 +85,20 @@ mutual
       (pairs_written ps h.1 true r)
 
 -- fields and subscripts, of a chain and of another operand
-links_behind : (ls last : Links) (r : Items)
-    → links_yield (paren_links (source.behind ls last)) r ≡ links_yield (paren_links ls) (links_yield (paren_links last) r)
-links_behind no_links last r = refl
-links_behind (field d n ls) last r = ap (λ x. joint_yield d (name_yield n x)) (links_behind ls last r)
-links_behind (item b s ls) last r = ap (λ x. bracket_yield b (sub_yield (paren_sub s) x)) (links_behind ls last r)
+links_after : (ls last : Links) (r : Items)
+    → links_yield (paren_links (source.following ls last)) r ≡ links_yield (paren_links ls) (links_yield (paren_links last) r)
+links_after no_links last r = refl
+links_after (field d n ls) last r = ap (λ x. joint_yield d (name_yield n x)) (links_after ls last r)
+links_after (item b s ls) last r = ap (λ x. bracket_yield b (sub_yield (paren_sub s) x)) (links_after ls last r)
 
 field_yield : (c : Context) (t : Tree) (o : Bool) (name : List ℕ) (r : Items) → IsChainTree t
     → yield (opened c (with_field t o name)) r ≡ yield (at (before 21 c) t) (joint_yield (joint_for o) (name_yield (word name) r))
-field_yield c (Atomic (Chain n ls)) o name r h = ap (name_yield n) (links_behind ls (field (joint_for o) (word name) no_links) r)
+field_yield c (Atomic (Chain n ls)) o name r h = ap (name_yield n) (links_after ls (field (joint_for o) (word name) no_links) r)
 field_yield c t o name r h = absurd h
 
 sub_of : (c : Context) (t : Tree) (o : Bool) (s : Sub) (r : Items) → (o ≡ true → IsChainTree t)
     → yield (opened c (with_sub t o s)) r ≡ yield (at (before 21 c) t) (bracket_yield (bracket_for o) (sub_yield (paren_sub s) r))
-sub_of c (Atomic (Chain n ls)) o s r h = ap (name_yield n) (links_behind ls (item (bracket_for o) s no_links) r)
+sub_of c (Atomic (Chain n ls)) o s r h = ap (name_yield n) (links_after ls (item (bracket_for o) s no_links) r)
 sub_of c t false s r h = refl
 sub_of c t true s r h = absurd (h refl)
 
@@ -148,7 +148,7 @@ text_glue n w a z = simp append_assoc
 spread_glue : (w a z : List ℕ) → w ++ (codes " }" ++ (a ++ z)) ≡ ((w ++ codes " }") ++ a) ++ z
 spread_glue w a z = simp append_assoc
 
--- an expression where it stands
+-- an expression where it is
 abbrev Opens : Expr → Type 0
 Opens e = (c : Context) (r : Items) → spaced (yield (opened c (tree_of e)) r) ≡ 32 ∷ (text false e c ++ spaced r)
 
@@ -161,10 +161,10 @@ closes e h each c r =
 
 -- a `not` that is a prefix
 prefix_opened : (e : Expr) → IsWritable e → takes_negation e ≡ false → Opens e → (c : Context) (r : Items)
-    → spaced (yield (opened c (negation_of (tree_of e))) r) ≡ 32 ∷ ((codes "not " ++ written e (behind_prefix 5 c)) ++ spaced r)
+    → spaced (yield (opened c (negation_of (tree_of e))) r) ≡ 32 ∷ ((codes "not " ++ written e (after_prefix 5 c)) ++ spaced r)
 prefix_opened e h is each c r =
     ap (λ t. spaced (yield (opened c t) r)) (plain_negation e h is)
-    ∙ ap (λ l. 32 ∷ 110 ∷ 111 ∷ 116 ∷ l) (closes e h each (behind_prefix 5 c) r)
+    ∙ ap (λ l. 32 ∷ 110 ∷ 111 ∷ 116 ∷ l) (closes e h each (after_prefix 5 c) r)
 
 -- an attribute in front of others
 attribute_valued : (n : List ℕ) (e : Expr) (ats : Attributes) (more : List ℕ) (r : Items)
@@ -229,10 +229,10 @@ mutual
       (ap (λ l. codes " is " ++ l) (after name (optional_args g (args_text false g)) (spaced r) (args_written g h.1 r))))
   opens (tree.Ternary e a b s) h c r =
       closes a h.1 (opens a h.1) (before 1 c) _
-      ∙ ap (λ l. 32 ∷ l) (after (written a (before 1 c)) (codes " if " ++ (written e free ++ (codes " else " ++ written b (behind 0 c)))) (spaced r)
+      ∙ ap (λ l. 32 ∷ l) (after (written a (before 1 c)) (codes " if " ++ (written e free ++ (codes " else " ++ written b (following 0 c)))) (spaced r)
       (ap (λ l. 32 ∷ 105 ∷ 102 ∷ l) (closes e h.0 (opens e h.0) free _
-      ∙ ap (λ l. 32 ∷ (written e free ++ (32 ∷ 101 ∷ 108 ∷ 115 ∷ 101 ∷ l))) (closes b h.2 (opens b h.2) (behind 0 c) r))
-      ∙ choice_glue (written e free) (written b (behind 0 c)) (spaced r)))
+      ∙ ap (λ l. 32 ∷ (written e free ++ (32 ∷ 101 ∷ 108 ∷ 115 ∷ 101 ∷ l))) (closes b h.2 (opens b h.2) (following 0 c) r))
+      ∙ choice_glue (written e free) (written b (following 0 c)) (spaced r)))
   opens (tree.ListComprehension e k v t x s) h c r =
       ap (λ l. 32 ∷ 91 ∷ l) (closes e h.0 (opens e h.0) free _
       ∙ ap (λ l. 32 ∷ (written e free ++ (32 ∷ 102 ∷ 111 ∷ 114 ∷ l))) (names_written k v _
@@ -250,22 +250,22 @@ mutual
       ap (λ l. 32 ∷ 91 ∷ l) (items_written es h false r ∙ sym (append_assoc (items_text false es) (codes " ]") (spaced r)))
   opens (tree.Map es s) h c r =
       ap (λ l. 32 ∷ 123 ∷ l) (entries_written es h false r ∙ sym (append_assoc (entries_text false es) (codes " }") (spaced r)))
-  opens (tree.UnaryOperation unary.Minus e s) h c r = ap (λ l. 32 ∷ 45 ∷ l) (closes e h (opens e h) (behind_prefix 20 c) r)
+  opens (tree.UnaryOperation unary.Minus e s) h c r = ap (λ l. 32 ∷ 45 ∷ l) (closes e h (opens e h) (after_prefix 20 c) r)
   opens (tree.UnaryOperation unary.Not (tree.Test e name g s) t) h c r =
       closes e h.0 (opens e h.0) (before 6 c) _
       ∙ ap (λ l. 32 ∷ l) (after (written e (before 6 c)) (codes " is not " ++ (name ++ optional_args g (args_text false g))) (spaced r)
       (ap (λ l. codes " is not " ++ l) (after name (optional_args g (args_text false g)) (spaced r) (args_written g h.1 r))))
   opens (tree.UnaryOperation unary.Not (tree.BinaryOperation binary.In a b s) t) h c r =
       closes a h.0 (opens a h.0) (before 6 c) _
-      ∙ ap (λ l. 32 ∷ l) (after (written a (before 6 c)) (codes " not in " ++ written b (behind 6 c)) (spaced r)
-      (ap (λ l. 32 ∷ 110 ∷ 111 ∷ 116 ∷ 32 ∷ 105 ∷ 110 ∷ l) (closes b h.1 (opens b h.1) (behind 6 c) r)))
+      ∙ ap (λ l. 32 ∷ l) (after (written a (before 6 c)) (codes " not in " ++ written b (following 6 c)) (spaced r)
+      (ap (λ l. 32 ∷ 110 ∷ 111 ∷ 116 ∷ 32 ∷ 105 ∷ 110 ∷ l) (closes b h.1 (opens b h.1) (following 6 c) r)))
   opens (tree.UnaryOperation unary.Not e t) h c r = prefix_opened e h refl (opens e h) c r
   opens (tree.BinaryOperation o a b s) h c r =
       closes a h.0 (opens a h.0) (before (suc (left_of o)) c) _
-      ∙ ap (λ l. 32 ∷ l) (after (written a (before (suc (left_of o)) c)) (operator_text false o ++ written b (behind (right_of o) c)) (spaced r)
+      ∙ ap (λ l. 32 ∷ l) (after (written a (before (suc (left_of o)) c)) (operator_text false o ++ written b (following (right_of o) c)) (spaced r)
       (operator_written o _ h.2
-      ∙ ap (λ l. 32 ∷ (binary_text o ++ l)) (closes b h.1 (opens b h.1) (behind (right_of o) c) r)
-      ∙ operator_glue (binary_text o) (written b (behind (right_of o) c)) (spaced r)))
+      ∙ ap (λ l. 32 ∷ (binary_text o ++ l)) (closes b h.1 (opens b h.1) (following (right_of o) c) r)
+      ∙ operator_glue (binary_text o) (written b (following (right_of o) c)) (spaced r)))
 
   part_written : (x : tree.MaybeExpr) → MaybeWritable x → (r : Items)
       → spaced (part_yield (paren_part (part_of x)) r) ≡ maybe_text (codes " ") 0 x ++ spaced r

@@ -15,11 +15,11 @@ use Rattle.tera_grammar.proofs.expressions.Wholes.{expression_read}
 use Rattle.tera_source.specs.Source.{source_tree}
 use Rattle.tera_source.specs.Placeless.{placeless}
 use Rattle.tera_spelling.specs.Sources.{AreReadAs}
-use Rattle.tera_source.specs.Standing.{StandsIn}
+use Rattle.tera_source.specs.InSources.{IsInSource}
 use Rattle.tera_source.proofs.WrittenOutputs.{source_bound}
 use Rattle.tera_source.proofs.Fewer.{source_within}
 use Rattle.tera_source.proofs.Backs.{source_output}
-use Rattle.tera_source.proofs.Standing.{stands_given}
+use Rattle.tera_source.proofs.InSources.{stands_given}
 use Rattle.tera_source.proofs.Places.{tree_at, tree_tokens, placed}
 use Rattle.tera_source.proofs.SameMeasures.{within_same}
 use Rattle.tera_source.proofs.SameOutput.{output_same}
@@ -44,9 +44,9 @@ moved limits e read rest is within h =
       same = output_same p.at false e Ended;
     }
 
-module _ (m : Marks) (source : List ℕ) (limits : Limits) (l : Bool) (e : Tree) (stands : StandsIn m source e) (is : IsExpression l e) (small : Within limits e) where
+module _ (m : Marks) (source : List ℕ) (limits : Limits) (l : Bool) (e : Tree) (sound : IsInSource m source e) (is : IsExpression l e) (small : Within limits e) where
   pub stands_within : Within limits (source_tree (output l e))
-  stands_within = source_within limits l e (stands_given m source e stands) is small
+  stands_within = source_within limits l e (stands_given m source e sound) is small
 
   -- it is read from them, and is the same
   pub reads_back : (read rest : Items) → AreReadAs (yield (source_tree (output l e)) Ended) rest read → IsStop rest →

@@ -158,7 +158,7 @@ mutual
   paren_atom_kind (Map s row) = refl
   paren_atom_kind (Component s n ds ats t u) = refl
 
--- the operator refuses what stands in parentheses as it does without
+-- the operator refuses what is in parentheses as it does without
 pub refused_in : (m q : ℕ) (p : Bool) (o : Operator) (b : Tree) → refuses o (kind_of b) ≡ false → is_refused false (paren_operator o) (paren m q p b) ≡ false
 refused_in m q p (Binary o) b h = refused_kind false (Binary o) (paren m q p b) ∙ ap (refuses (Binary o)) (paren_kind m q p b) ∙ h
 refused_in m q p (Condition s c t) b h = refl

@@ -10,7 +10,7 @@ use Rattle.tera_ast.specs.Tree.{Expr, Args, NoArgs, Arg}
 use Rattle.tera_grammar.specs.Words.{AreDistinct}
 use Rattle.tera_grammar.specs.expressions.Output.{put_arg}
 
--- the name stands before all of these
+-- the name is before all of these
 abbrev pub Below : List ℕ → Args → Type 0
 Below n NoArgs = Unit {0}
 Below n (Arg m e g) = (slice_cmp nat_cmp n m ≡ Less) × Below n g

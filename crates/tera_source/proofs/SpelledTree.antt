@@ -24,7 +24,7 @@ use Rattle.tera_grammar.specs.expressions.Output.{quote_text, literal_value, key
 use Rattle.tera_spelling.specs.Spelling.{IsName, IsSpelled}
 use Rattle.tera_spelling.specs.Given.{IsGiven}
 use Rattle.tera_spelling.specs.Spelling.{is_special}
-use Rattle.tera_source.specs.Source.{word, quote, key_literal, number_tree, in_front, value_tree, pairs_row, behind, joint_for, bracket_for, with_field, with_sub, negation_of, first_variable, second_variable, longer, path_from, attribute, tree_of, part_of, extra_of, arguments_row, args_of, items_row, entries_row, attributes_of}
+use Rattle.tera_source.specs.Source.{word, quote, key_literal, number_tree, in_front, value_tree, pairs_row, following, joint_for, bracket_for, with_field, with_sub, negation_of, first_variable, second_variable, longer, path_from, attribute, tree_of, part_of, extra_of, arguments_row, args_of, items_row, entries_row, attributes_of}
 use Rattle.tera_source.proofs.Signs.{array_tree}
 use Rattle.tera_source.proofs.Sorted.{by_ordering}
 use Rattle.tera_source.proofs.Holds.{HoldsName, HoldsSecond, HoldsDotted, Holds, HoldsAtom, HoldsLinks, HoldsSub, HoldsPart, HoldsExtra, HoldsRow, HoldsElement, HoldsAttributes, HoldsSuffix, HoldsArgs}
@@ -144,17 +144,17 @@ prefix_spelled (Negative s) (tree.Const (values.I64 n) t) span h = number_negate
 prefix_spelled (Negative s) _ span h = h
 prefix_spelled (Negates s) e span h = negation_spelled (tree_of e) h
 
-behind_spelled : (ls last : Links) → HoldsLinks IsSpelled ls → HoldsLinks IsSpelled last → HoldsLinks IsSpelled (behind ls last)
-behind_spelled no_links last h g = g
-behind_spelled (field d n ls) last h g = (h.0, behind_spelled ls last h.1 g)
-behind_spelled (item b s ls) last h g = (h.0, behind_spelled ls last h.1 g)
+after_spelled : (ls last : Links) → HoldsLinks IsSpelled ls → HoldsLinks IsSpelled last → HoldsLinks IsSpelled (following ls last)
+after_spelled no_links last h g = g
+after_spelled (field d n ls) last h g = (h.0, after_spelled ls last h.1 g)
+after_spelled (item b s ls) last h g = (h.0, after_spelled ls last h.1 g)
 
 with_field_spelled : (t : Tree) (o : Bool) (n : List ℕ) → IsSpelledName n → Holds IsSpelled t → Holds IsSpelled (with_field t o n)
-with_field_spelled (Atomic (Chain m ls)) o n is h = (h.0, behind_spelled ls (field (joint_for o) (word n) no_links) h.1 (is, tt))
+with_field_spelled (Atomic (Chain m ls)) o n is h = (h.0, after_spelled ls (field (joint_for o) (word n) no_links) h.1 (is, tt))
 with_field_spelled _ o n is h = h
 
 with_sub_spelled : (t : Tree) (o : Bool) (s : Sub) → Holds IsSpelled t → HoldsSub IsSpelled s → Holds IsSpelled (with_sub t o s)
-with_sub_spelled (Atomic (Chain m ls)) o s h g = (h.0, behind_spelled ls (item (bracket_for o) s no_links) h.1 (g, tt))
+with_sub_spelled (Atomic (Chain m ls)) o s h g = (h.0, after_spelled ls (item (bracket_for o) s no_links) h.1 (g, tt))
 with_sub_spelled _ o s h g = (h, g)
 
 -- the variable of a loop's field
@@ -201,7 +201,7 @@ names_from (b ∷ bs) more h =
 abbrev SpelledPath : Path → Type 0
 SpelledPath p = HoldsName IsSpelled p.name × HoldsDotted IsSpelled p.further
 
--- the names behind a name
+-- the names after a name
 abbrev SpelledFurther : Dotted → Type 0
 SpelledFurther ds = ((path_from (dotted_text ds)).name.text ≡ []) × HoldsDotted IsSpelled (path_from (dotted_text ds)).further
 

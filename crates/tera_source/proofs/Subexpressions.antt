@@ -1,4 +1,4 @@
--- Each expression in an expression meets the conditions within its limits, and stands where it stands.
+-- Each expression in an expression meets the conditions within its limits, and is where it is.
 use Rattle.std.proofs.Common.{ℕ, suc, ◌≤◌, Bool, arith}
 use Rattle.tera_base.specs.declared.utils.Span.{Span}
 use Rattle.tera_lexer.specs.grammar.Tokens.{Tok, Items, Token}
@@ -43,43 +43,43 @@ module _ (l : Limits) where
     pass : (t : Tok) (s : Span) (r : Items) → Left whole (Token t s r) → Left whole r
     pass t s r h = skip whole t s r h
 
-    behind_sign : (s : Sign) (r : Items) → Left whole (sign_yield s r) → Left whole r
-    behind_sign (Negative s) r h = pass _ s r h
-    behind_sign (Negates s) r h = pass _ s r h
+    after_sign : (s : Sign) (r : Items) → Left whole (sign_yield s r) → Left whole r
+    after_sign (Negative s) r h = pass _ s r h
+    after_sign (Negates s) r h = pass _ s r h
 
-    behind_joint : (d : Joint) (r : Items) → Left whole (joint_yield d r) → Left whole r
-    behind_joint (plain_dot s) r h = pass _ s r h
-    behind_joint (optional_dot s) r h = pass _ s r h
+    after_joint : (d : Joint) (r : Items) → Left whole (joint_yield d r) → Left whole r
+    after_joint (plain_dot s) r h = pass _ s r h
+    after_joint (optional_dot s) r h = pass _ s r h
 
-    behind_bracket : (b : Bracket) (r : Items) → Left whole (bracket_yield b r) → Left whole r
-    behind_bracket (plain_bracket s) r h = pass _ s r h
-    behind_bracket (optional_bracket s) r h = pass _ s r h
+    after_bracket : (b : Bracket) (r : Items) → Left whole (bracket_yield b r) → Left whole r
+    after_bracket (plain_bracket s) r h = pass _ s r h
+    after_bracket (optional_bracket s) r h = pass _ s r h
 
-    behind_negation : (n : Negation) (r : Items) → Left whole (negation_yield n r) → Left whole r
-    behind_negation plainly r h = h
-    behind_negation (negated s) r h = pass _ s r h
+    after_negation : (n : Negation) (r : Items) → Left whole (negation_yield n r) → Left whole r
+    after_negation plainly r h = h
+    after_negation (negated s) r h = pass _ s r h
 
-    behind_op : (o : Op) (r : Items) → Left whole (op_yield o r) → Left whole r
-    behind_op (Single o s) r h = pass _ s r h
-    behind_op (NotIn s t) r h = pass _ t r (pass _ s _ h)
+    after_op : (o : Op) (r : Items) → Left whole (op_yield o r) → Left whole r
+    after_op (Single o s) r h = pass _ s r h
+    after_op (NotIn s t) r h = pass _ t r (pass _ s _ h)
 
-    behind_second : (m : Second) (r : Items) → Left whole (second_yield m r) → Left whole r
-    behind_second no_second r h = h
-    behind_second (second s n) r h = pass _ n.span r (pass _ s _ h)
+    after_second : (m : Second) (r : Items) → Left whole (second_yield m r) → Left whole r
+    after_second no_second r h = h
+    after_second (second s n) r h = pass _ n.span r (pass _ s _ h)
 
-    behind_dotted : (ds : Dotted) (r : Items) → Left whole (dotted_yield ds r) → Left whole r
-    behind_dotted no_dots r h = h
-    behind_dotted (dots s n ds) r h = behind_dotted ds r (pass _ n.span _ (pass _ s _ h))
+    after_dotted : (ds : Dotted) (r : Items) → Left whole (dotted_yield ds r) → Left whole r
+    after_dotted no_dots r h = h
+    after_dotted (dots s n ds) r h = after_dotted ds r (pass _ n.span _ (pass _ s _ h))
 
     here : (t : Tree) (r : Items) → Left whole (yield t r) → IsExpression f t → Small t → P t
-    here t r h is small = from t (record { bound = is; within = small_within t small; before = h.before; behind = r; is = h.is })
+    here t r h is small = from t (record { bound = is; within = small_within t small; before = h.before; following = r; is = h.is })
 
     mutual
       parts : (t : Tree) (r : Items) → Left whole (yield t r) → IsExpression f t → Small t → EachPart P t × Left whole r
       parts (Atomic a) r h is small =
           let one = atom_parts a r h is small in ((here (Atomic a) r h is small, one.0), one.1)
       parts (Prefix s e) r h is small =
-          let one = parts e r (behind_sign s _ h) is.2 (less _ _ _ _ small (λ w. omega arith) (omega arith)) in
+          let one = parts e r (after_sign s _ h) is.2 (less _ _ _ _ small (λ w. omega arith) (omega arith)) in
           ((here (Prefix s e) r h is small, one.0), one.1)
       parts (Suffixed a s) r h is small =
           let one = parts a _ h is.1 (less _ _ _ _ small (λ w. omega arith) (omega arith)) in
@@ -101,22 +101,22 @@ module _ (l : Limits) where
       atom_parts (Array s row) r h is small = row_parts of_items row r (pass _ s _ h) is (less _ _ _ _ small (λ w. omega arith) (omega arith))
       atom_parts (Comprehension s e i n m j t g c) r h is small =
           let one = parts e _ (pass _ s _ h) is.2 (less _ _ _ _ small (λ w. omega arith) (omega arith)) in
-          let inside = pass _ j _ (behind_second m _ (pass _ n.span _ (pass _ i _ one.1))) in
+          let inside = pass _ j _ (after_second m _ (pass _ n.span _ (pass _ i _ one.1))) in
           let two = parts t _ inside is.3 (less _ _ _ _ small (λ w. omega arith) (omega arith)) in
           let three = extra_parts If 1 g _ two.1 is.4 (less _ _ _ _ small (λ w. omega arith) (omega arith)) in
           ((one.0, two.0, three.0), pass _ c r three.1)
       atom_parts (Map s row) r h is small = row_parts of_entries row r (pass _ s _ h) is small
       atom_parts (Component s n ds ats t u) r h is small =
-          let one = attributes_parts ats _ (behind_dotted ds _ (pass _ n.span _ (pass _ s _ h))) is small in
+          let one = attributes_parts ats _ (after_dotted ds _ (pass _ n.span _ (pass _ s _ h))) is small in
           (one.0, pass _ u r (pass _ t _ one.1))
 
       links_parts : (c : Bool) (ls : Links) (r : Items) → Left whole (links_yield ls r) → AreLinks f c ls → Room l (λ w. links_deep w ls) (links_links ls) →
           EachOfLinks P ls × Left whole r
       links_parts c no_links r h is small = (tt, h)
       links_parts c (field d n ls) r h is small =
-          links_parts c ls r (pass _ n.span _ (behind_joint d _ h)) is.1 (less _ _ _ _ small (λ w. omega arith) (omega arith))
+          links_parts c ls r (pass _ n.span _ (after_joint d _ h)) is.1 (less _ _ _ _ small (λ w. omega arith) (omega arith))
       links_parts c (item b s ls) r h is small =
-          let one = sub_parts s _ (behind_bracket b _ h) is.0 (less _ _ _ _ small (λ w. omega arith) (omega arith)) in
+          let one = sub_parts s _ (after_bracket b _ h) is.0 (less _ _ _ _ small (λ w. omega arith) (omega arith)) in
           let two = links_parts c ls r one.1 is.1 (less _ _ _ _ small (λ w. omega arith) (omega arith)) in ((one.0, two.0), two.1)
 
       sub_parts : (s : Sub) (r : Items) → Left whole (sub_yield s r) → IsSub f s → Room l (λ w. sub_deep w s) (sub_links s) → EachOfSub P s × Left whole r
@@ -166,7 +166,7 @@ module _ (l : Limits) where
 
       suffix_parts : (s : Suffix) (r : Items) → Left whole (suffix_yield s r) → IsSuffix f s → Room l (λ w. suffix_deep w s) (suffix_links s) → EachOfSuffix P s × Left whole r
       suffix_parts (Test s n w g) r h is small =
-          args_parts g r (pass _ w.span _ (behind_negation n _ (pass _ s _ h))) is.1 (less _ _ _ _ small (λ w. omega arith) (omega arith))
+          args_parts g r (pass _ w.span _ (after_negation n _ (pass _ s _ h))) is.1 (less _ _ _ _ small (λ w. omega arith) (omega arith))
       suffix_parts (Filter s w g) r h is small =
           args_parts g r (pass _ w.span _ (pass _ s _ h)) is (less _ _ _ _ small (λ w. omega arith) (omega arith))
       suffix_parts (Subscript s b) r h is small = sub_parts b r (pass _ s _ h) is (less _ _ _ _ small (λ w. omega arith) (omega arith))
@@ -177,10 +177,10 @@ module _ (l : Limits) where
 
       operator_parts : (o : Operator) (r : Items) → Left whole (operator_yield o r) → IsOperator f o → Room l (λ w. operator_deep w o) (operator_links o) →
           EachOfOperator P o × Left whole r
-      operator_parts (Binary o) r h is small = (tt, behind_op o r h)
+      operator_parts (Binary o) r h is small = (tt, after_op o r h)
       operator_parts (Condition s c t) r h is small =
           let one = parts c _ (pass _ s _ h) is (less _ _ _ _ small (λ w. omega arith) (omega arith)) in (one.0, pass _ t r one.1)
 
-    -- of an expression that stands among the tokens
+    -- of an expression that is among the tokens
     pub each_part : (e : Tree) → StandsAmong l whole f e → EachPart P e
-    each_part e s = (parts e s.behind (record { before = s.before; is = s.is }) s.bound (within_small e s.within)).0
+    each_part e s = (parts e s.following (record { before = s.before; is = s.is }) s.bound (within_small e s.within)).0

@@ -1,4 +1,4 @@
--- The text of tokens, each behind a space, and the parentheses that a tree gets where it stands.
+-- The text of tokens, each after a space, and the parentheses that a tree gets where it is.
 use Rattle.std.proofs.Common.{◌≡◌, ℕ, suc, Bool, true, false, ◌||◌, cond, ltb, nat_eq, List, [], ◌∷◌, ◌++◌, Option, None, Some, codes, refl, sym, ap, ◌∙◌, append_assoc}
 use Rattle.tera_spelling.specs.Spelling.{spaced, tokens_text}
 use Rattle.tera_lexer.specs.grammar.Tokens.{Items, Ended, Failed, Token}
@@ -12,20 +12,20 @@ use Rattle.tera_source.specs.Contexts.{free}
 use Rattle.tera_source.specs.Source.{in_front, first_variable, second_variable, word, longer, path_from, asked, kept_out, in_parens, paren, paren_atom, paren_row, paren_element, paren_suffix, paren_operator}
 use Rattle.tera_source.specs.Writing.{comma_text, names_text, dotted}
 
-abbrev pub behind_first : List ℕ → List ℕ
-behind_first [] = []
-behind_first (x ∷ xs) = xs
+abbrev pub after_first : List ℕ → List ℕ
+after_first [] = []
+after_first (x ∷ xs) = xs
 
 pub from_spaced : (items : Items) (text : List ℕ) → spaced items ≡ 32 ∷ text → tokens_text items ≡ text
 from_spaced Ended text h = cc
 from_spaced (Failed fault span) text h = cc
-from_spaced (Token t span items) text h = ap behind_first h
+from_spaced (Token t span items) text h = ap after_first h
 
 -- one more piece in front
 pub after : (x y z : List ℕ) {t : List ℕ} → t ≡ y ++ z → x ++ t ≡ (x ++ y) ++ z
 after x y z h = ap (λ l. x ++ l) h ∙ sym (append_assoc x y z)
 
--- a tree where it stands, and without parentheses around it
+-- a tree where it is, and without parentheses around it
 abbrev pub at : Context → Tree → Tree
 at c t = paren c.left c.right c.plain t
 
@@ -55,7 +55,7 @@ pub by_bar : (t : Tree) (b : Bool) (c : Context) (r : Items) (inner outer : List
 by_bar t true c r inner outer h k = ap (λ l. 32 ∷ 40 ∷ l) (h ∙ ap (λ l. 32 ∷ l) (sym (append_assoc inner (codes " )") (spaced r))))
 by_bar t false c r inner outer h k = k
 
--- what is left of a row, behind an element or from its opening mark
+-- what is left of a row, after an element or from its opening mark
 abbrev pub begun : Bool → Kind → Row → Items → Items
 begun true k (ended s) r = mark (closing k) s r
 begun true k row r = mark Comma nowhere (row_yield k (paren_row row) r)
@@ -66,10 +66,10 @@ front_is k x (ended s) r = refl
 front_is k x (only y s) r = refl
 front_is k x (then y s ys) r = refl
 
-behind_is : (k : Kind) (x : Element) (row : Row) (r : Items) → begun true k (in_front x row) r ≡ mark Comma nowhere (row_yield k (paren_row (in_front x row)) r)
-behind_is k x (ended s) r = refl
-behind_is k x (only y s) r = refl
-behind_is k x (then y s ys) r = refl
+after_is : (k : Kind) (x : Element) (row : Row) (r : Items) → begun true k (in_front x row) r ≡ mark Comma nowhere (row_yield k (paren_row (in_front x row)) r)
+after_is k x (ended s) r = refl
+after_is k x (only y s) r = refl
+after_is k x (then y s ys) r = refl
 
 front_text : (k : Kind) (x : Element) (row : Row) (r : Items) (first rest last : List ℕ)
     → spaced (element_yield (paren_element x) (begun true k row r)) ≡ 32 ∷ (first ++ spaced (begun true k row r))
@@ -85,7 +85,7 @@ pub row_more : (later : Bool) (k : Kind) (x : Element) (row : Row) (r : Items) (
     → spaced (begun later k (in_front x row) r) ≡ (comma_text later ++ (first ++ rest)) ++ last
 row_more false k x row r first rest last h more = front_text k x row r first rest last h more
 row_more true k x row r first rest last h more =
-    ap spaced (behind_is k x row r) ∙ ap (λ l. 32 ∷ 44 ∷ l) (front_text k x row r first rest last h more)
+    ap spaced (after_is k x row r) ∙ ap (λ l. 32 ∷ 44 ∷ l) (front_text k x row r first rest last h more)
 
 -- the variables of a comprehension
 pub names_written : (key : Option (List ℕ)) (value : List ℕ) (r : Items)
@@ -100,7 +100,7 @@ cut t b x = cond t (record { name = word []; further = dots nowhere x.name x.fur
 path_more : (t : Bool) (b : ℕ) (x : Path) (text : List ℕ) (r : Items) → spaced (name_yield x.name (dotted_yield x.further r)) ≡ 32 ∷ (text ++ spaced r)
     → spaced (name_yield (cut t b x).name (dotted_yield (cut t b x).further r)) ≡ 32 ∷ (cond t (codes " . " ++ text) (b ∷ text) ++ spaced r)
 path_more true b x text r h = ap (λ l. 32 ∷ 32 ∷ 46 ∷ l) h
-path_more false b x text r h = ap (λ l. 32 ∷ b ∷ l) (ap behind_first h)
+path_more false b x text r h = ap (λ l. 32 ∷ b ∷ l) (ap after_first h)
 
 pub path_written : (name : List ℕ) (r : Items)
     → spaced (name_yield (path_from name).name (dotted_yield (path_from name).further r)) ≡ 32 ∷ (dotted name ++ spaced r)

@@ -1,4 +1,4 @@
--- Parentheses change no output but for where it stands.
+-- Parentheses change no output except where it is.
 use Rattle.std.proofs.Common.{◌≡◌, ℕ, suc, Bool, true, false, cond, ◌||◌, List, Option, Some, None, Ordering, Less, Equal, Greater, refl, sym, ap, ap₂, ◌∙◌}
 use Rattle.std.specs.Prelude.{ltb}
 use Rattle.std.specs.Ordering.{nat_cmp, match_ordering}
@@ -77,7 +77,7 @@ prefix_same l s x y h =
     ∙ sym (prefixed_placeless s (output l y) (spanning (sign_span s) (last y)))
 
 mutual
-  -- parentheses change no output but for its places
+  -- parentheses change no output except its places
   pub paren_output : (l : Bool) (m q : ℕ) (p : Bool) (t : Tree) → placeless (output l (paren m q p t)) ≡ placeless (output l t)
   paren_output l m q p (Atomic a) = atom_same l a
   paren_output l m q p (Prefix s e) =

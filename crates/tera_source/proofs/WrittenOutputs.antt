@@ -16,7 +16,7 @@ use Rattle.tera_grammar.specs.Words.{is_none, AreDistinct}
 use Rattle.tera_grammar.specs.expressions.Spans.{spanning, sign_span, first, last, row_end}
 use Rattle.tera_grammar.specs.expressions.Conditions.{AreVariables, is_element_of, argument_names, is_refused, IsExpression, IsAtom, AreLinks, IsSub, IsPart, IsExtra, IsRow, IsElement, AreAttributes, IsSuffix, AreArgs}
 use Rattle.tera_grammar.specs.expressions.Output.{literal_value, same_key, put_pair, put_arg, constant_entries, map_made, prefixed, is_optional_joint, is_optional_bracket, of_loop, field_output, key_variable, value_variable, output, links_output, sub_output, part_output, extra_output, arguments_output, argument_output, items_output, item_output, entries_output, entry_output, attributes_output, suffix_output, args_output}
-use Rattle.tera_source.specs.Source.{word, key_literal, number_tree, in_front, value_tree, pairs_row, behind, joint_for, bracket_for, with_field, with_sub, negation_of, first_variable, second_variable, attribute, tree_of, part_of, extra_of, arguments_row, args_of, items_row, entries_row, attributes_of, source_tree}
+use Rattle.tera_source.specs.Source.{word, key_literal, number_tree, in_front, value_tree, pairs_row, following, joint_for, bracket_for, with_field, with_sub, negation_of, first_variable, second_variable, attribute, tree_of, part_of, extra_of, arguments_row, args_of, items_row, entries_row, attributes_of, source_tree}
 use Rattle.tera_source.proofs.Signs.{kind_of, refuses, refused_kind, written_kind, array_tree, infix_tree}
 use Rattle.tera_source.proofs.Loose.{IsLoose, AreLooseLinks, IsLooseSub, IsLoosePart, IsLooseExtra, IsLooseRow, IsLooseElement, AreLooseAttributes, AreLooseArgs, paren_fits}
 use Rattle.tera_source.proofs.Sorted.{Sorted, arg_names, by_ordering, sorted_put, sorted_distinct}
@@ -145,17 +145,17 @@ prefix_loose (Negates s) e span h = negation_loose (tree_of e) h
 
 -- Links and subscripts
 
-behind_loose : (ls last : Links) → AreLooseLinks ls → AreLooseLinks last → AreLooseLinks (behind ls last)
-behind_loose no_links last h g = g
-behind_loose (field d n ls) last h g = behind_loose ls last h g
-behind_loose (item b s ls) last h g = (h.0, behind_loose ls last h.1 g)
+after_loose : (ls last : Links) → AreLooseLinks ls → AreLooseLinks last → AreLooseLinks (following ls last)
+after_loose no_links last h g = g
+after_loose (field d n ls) last h g = after_loose ls last h g
+after_loose (item b s ls) last h g = (h.0, after_loose ls last h.1 g)
 
 with_field_loose : (t : Tree) (o : Bool) (n : List ℕ) → IsLoose t → IsLoose (with_field t o n)
-with_field_loose (Atomic (Chain m ls)) o n h = (h.0, behind_loose ls (field (joint_for o) (word n) no_links) h.1 tt)
+with_field_loose (Atomic (Chain m ls)) o n h = (h.0, after_loose ls (field (joint_for o) (word n) no_links) h.1 tt)
 with_field_loose _ o n h = h
 
 with_sub_loose : (t : Tree) (o : Bool) (s : Sub) → IsLoose t → IsLooseSub s → IsLoose (with_sub t o s)
-with_sub_loose (Atomic (Chain m ls)) o s h g = (h.0, behind_loose ls (item (bracket_for o) s no_links) h.1 (g, tt))
+with_sub_loose (Atomic (Chain m ls)) o s h g = (h.0, after_loose ls (item (bracket_for o) s no_links) h.1 (g, tt))
 with_sub_loose _ o s h g = (tt, h, g)
 
 -- the variable of a loop's field

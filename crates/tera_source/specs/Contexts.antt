@@ -1,4 +1,4 @@
--- Where an expression stands, and whether it has to stand in parentheses there.
+-- Where an expression is, and whether it needs parentheses there.
 use Rattle.std.specs.Prelude.{ℕ, negsuc, Bool, true, false, ◌&&◌, ◌||◌, ltb}
 use Rattle.tera_base.specs.Values as values
 use Rattle.tera_base.specs.Values.{Val}
@@ -19,16 +19,16 @@ above left = record { left = left; right = 0; plain = false }
 abbrev pub free : Context
 free = above 0
 
--- of what stands before something
+-- of what is before something
 abbrev pub before : ℕ → Context → Context
 before right c = record { left = c.left; right = right; plain = c.plain }
 
--- of what stands behind an operator, and behind a prefix
-abbrev pub behind : ℕ → Context → Context
-behind left c = record { left = left; right = c.right; plain = false }
+-- of what comes after an operator, and after a prefix
+abbrev pub following : ℕ → Context → Context
+following left c = record { left = left; right = c.right; plain = false }
 
-abbrev pub behind_prefix : ℕ → Context → Context
-behind_prefix left c = record { left = left; right = c.right; plain = true }
+abbrev pub after_prefix : ℕ → Context → Context
+after_prefix left c = record { left = left; right = c.right; plain = true }
 
 abbrev pub left_of : BinaryOperator → ℕ
 left_of o = powers.left_of (operator_for o)

@@ -1,6 +1,6 @@
 pub mod Source
 pub mod Placeless
-pub mod Standing
+pub mod InSources
 pub mod Printing
 pub mod Outermost
 pub mod Subexpressions

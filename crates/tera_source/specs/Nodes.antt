@@ -11,7 +11,7 @@ module _ (P : Expr → Type 0) where
     EachOfNodes NoNodes = Unit {0}
     EachOfNodes (OneNode s ss) = EachOfNode s × EachOfNodes ss
 
-    -- a call of a component with a body is no expression of a source
+    -- a call of a component with a body is not an expression of a source
     pub EachOfNode : Stmt → Type 0
     EachOfNode (Shown (ComponentCall name es body false span)) = EachOfNodes body
     EachOfNode (Shown e) = P e

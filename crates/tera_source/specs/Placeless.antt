@@ -1,4 +1,4 @@
--- An expression apart from where it and its parts stand.
+-- An expression apart from where it and its parts are.
 use Rattle.tera_lexer.specs.code.Cursors.{nowhere}
 use Rattle.tera_ast.specs.Tree as tree
 use Rattle.tera_ast.specs.Tree.{Expr}

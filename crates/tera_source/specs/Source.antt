@@ -18,7 +18,7 @@ use Rattle.tera_grammar.specs.expressions.Powers.{test_power, filter_power, sign
 use Rattle.tera_grammar.specs.expressions.Companions.{Path}
 use Rattle.tera_spelling.specs.Spelling.{is_special, tokens_text}
 
--- what is written stands in no source, and each of its tokens nowhere
+-- what is written is in no source, and each of its tokens nowhere
 abbrev pub word : List ℕ → Name
 word text = record { text = text; span = nowhere }
 
@@ -42,12 +42,12 @@ abbrev pub number_tree : ℤ → Tree
 number_tree (pos n) = literal (Number (pos n))
 number_tree (negsuc n) = Prefix (Negative nowhere) (literal (Number (pos (suc n))))
 
--- one more element in front; no comma stands before the closing mark
+-- one more element in front; no comma is before the closing mark
 abbrev pub in_front : Element → Row → Row
 in_front x (ended s) = only x s
 in_front x xs = then x nowhere xs
 
--- a constant; a value of another kind stands in no expression of a template
+-- a constant; a value of another kind is in no expression of a template
 abbrev mutual
   pub value_tree : Val → Tree
   value_tree (values.Truth b) = literal (Truth b)
@@ -65,7 +65,7 @@ abbrev mutual
   pairs_row values.NoPairs = ended nowhere
   pairs_row (values.OnePair k v ps) = in_front (pair (key_literal k) nowhere nowhere (value_tree v)) (pairs_row ps)
 
--- the operator that is written for one of the tree; the last two stand in no expression of a template
+-- the operator that is written for one of the tree; the last two are in no expression of a template
 abbrev pub operator_for : declared.BinaryOperator → BinaryOperator
 operator_for binary.Mul = Mul
 operator_for binary.Div = Div
@@ -88,10 +88,10 @@ operator_for binary.Is = In
 operator_for binary.Pipe = In
 
 -- the last link of a chain
-abbrev pub behind : Links → Links → Links
-behind no_links last = last
-behind (field d n ls) last = field d n (behind ls last)
-behind (item b s ls) last = item b s (behind ls last)
+abbrev pub following : Links → Links → Links
+following no_links last = last
+following (field d n ls) last = field d n (following ls last)
+following (item b s ls) last = item b s (following ls last)
 
 abbrev pub joint_for : Bool → Joint
 joint_for optional = cond optional (optional_dot nowhere) (plain_dot nowhere)
@@ -101,11 +101,11 @@ bracket_for optional = cond optional (optional_bracket nowhere) (plain_bracket n
 
 -- a variable takes all its links into its chain; nothing else has fields
 abbrev pub with_field : Tree → Bool → List ℕ → Tree
-with_field (Atomic (Chain n ls)) optional name = Atomic (Chain n (behind ls (field (joint_for optional) (word name) no_links)))
+with_field (Atomic (Chain n ls)) optional name = Atomic (Chain n (following ls (field (joint_for optional) (word name) no_links)))
 with_field t optional name = t
 
 abbrev pub with_sub : Tree → Bool → Sub → Tree
-with_sub (Atomic (Chain n ls)) optional s = Atomic (Chain n (behind ls (item (bracket_for optional) s no_links)))
+with_sub (Atomic (Chain n ls)) optional s = Atomic (Chain n (following ls (item (bracket_for optional) s no_links)))
 with_sub t optional s = Suffixed t (Subscript nowhere s)
 
 -- a test and `in` take the negation into themselves
@@ -212,9 +212,9 @@ kept_out m (Subscript s b) = false
 abbrev pub in_parens : Tree → Tree
 in_parens t = Atomic (Paren nowhere t nowhere)
 
--- The nodes above a tree, with no parentheses between, ask for a least left power m on its left spine, for a
--- least right power q on its right spine, and maybe that it begin with no prefix. A node that breaks this stands
--- in parentheses, behind which nothing is asked.
+-- The nodes above a tree, with no parentheses between, ask for a least left power m on its left spine, for a least
+-- right power q on its right spine, and maybe that it begin with no prefix. A node that breaks this is in parentheses,
+-- after which nothing is asked.
 abbrev mutual
   pub paren : ℕ → ℕ → Bool → Tree → Tree
   paren m q p (Atomic a) = Atomic (paren_atom a)
@@ -295,7 +295,7 @@ source_tree e = paren 0 0 false (tree_of e)
 abbrev pub source_text : Expr → List ℕ
 source_text e = tokens_text (yield (source_tree e) Ended)
 
--- a component with a body is no expression of a template
+-- a component with a body is not an expression of a template
 abbrev pub source_of : Expr → Option (List ℕ)
 source_of (tree.ComponentCall name es body false s) = None
 source_of e = Some (source_text e)

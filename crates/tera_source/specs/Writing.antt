@@ -18,14 +18,14 @@ use Rattle.tera_ast.specs.Text.{binary_text}
 use Rattle.tera_ast.specs.Tree.{Expr, Const, Array, Map, Var, GetAttr, GetItem, Slice, Filter, Test, Ternary, ListComprehension, ComponentCall, FunctionCall, UnaryOperation, BinaryOperation, MaybeExpr, NoExpr, OneExpr, Args, NoArgs, Arg, Items, NoItems, Item, SpreadItem, Entries, NoEntries, Entry, SpreadEntry}
 use Rattle.tera_base.specs.ValueView.{key_view}
 use Rattle.tera_source.specs.declared.context.Context.{Context}
-use Rattle.tera_source.specs.Contexts.{free, above, before, behind, behind_prefix, left_of, right_of, takes_negation, breaks}
+use Rattle.tera_source.specs.Contexts.{free, above, before, following, after_prefix, left_of, right_of, takes_negation, breaks}
 
--- a space stands around each dot in the name of a component
+-- a space is around each dot in the name of a component
 abbrev pub dotted : List ℕ → List ℕ
 dotted [] = []
 dotted (b ∷ bs) = cond (nat_eq b dot) (codes " . " ++ dotted bs) (b ∷ dotted bs)
 
--- what stands before one of several
+-- what is before one of several
 abbrev pub comma_text : Bool → List ℕ
 comma_text later = if later then codes " , " else codes " "
 
@@ -35,7 +35,7 @@ key_source (TextKey text) = in_quotes text
 key_source (I64Key n) = signed_decimal n
 key_source (TruthKey b) = truth_text b
 
--- a number, with a space behind its minus
+-- a number, with a space after its minus
 abbrev pub number_text : ℤ → List ℕ
 number_text (pos n) = decimal n
 number_text (negsuc n) = codes "- " ++ decimal (suc n)
@@ -84,7 +84,7 @@ abbrev pub has_args : Args → Bool
 has_args NoArgs = false
 has_args (Arg name e more) = true
 
--- the arguments of a test or a filter stand in parentheses, if there are any
+-- the arguments of a test or a filter are in parentheses, if there are any
 abbrev pub optional_args : Args → List ℕ → List ℕ
 optional_args args text = if has_args args then codes " (" ++ (text ++ codes " )") else []
 
@@ -93,7 +93,7 @@ abbrev pub is_bare : KeyVal → Expr → Bool
 is_bare (TextKey name) (Var variable span) = bytes_eq name variable
 is_bare _ _ = false
 
--- what stands behind the `=` of an attribute, whose value is written so
+-- what comes after the `=` of an attribute, whose value is written so
 abbrev pub attribute_value : Expr → List ℕ → List ℕ
 attribute_value (Const (values.Text text) span) written = in_quotes text
 attribute_value e written = codes "{ " ++ (written ++ codes " }")
@@ -101,14 +101,14 @@ attribute_value e written = codes "{ " ++ (written ++ codes " }")
 abbrev pub attribute_text : KeyVal → Expr → List ℕ → List ℕ
 attribute_text k e written = if is_bare k e then key_text k else key_text k ++ (codes " = " ++ attribute_value e written)
 
--- an expression where it stands, in parentheses if it breaks what is asked there
+-- an expression where it is, in parentheses if it breaks what is asked there
 abbrev pub put : Expr → (Context → List ℕ) → Context → List ℕ
 put e text c = if breaks e c then codes "( " ++ (text free ++ codes " )") else text c
 
 -- a prefix and its operand, whose text is this; a test and `in` take a `not` into themselves
 abbrev pub prefixed : UnaryOperator → Expr → (Bool → Context → List ℕ) → Context → List ℕ
-prefixed unary.Minus e text c = codes "- " ++ put e (text false) (behind_prefix 20 c)
-prefixed unary.Not e text c = if takes_negation e then text true c else codes "not " ++ put e (text false) (behind_prefix 5 c)
+prefixed unary.Minus e text c = codes "- " ++ put e (text false) (after_prefix 20 c)
+prefixed unary.Not e text c = if takes_negation e then text true c else codes "not " ++ put e (text false) (after_prefix 5 c)
 
 -- an expression without parentheses around it; a test and `in` may be negated
 abbrev mutual
@@ -129,7 +129,7 @@ abbrev mutual
       put e (text false e) (before 6 c) ++ (test_text negated ++ (name ++ optional_args args (args_text false args)))
   text negated (Ternary e given other span) c =
       put given (text false given) (before 1 c)
-      ++ (codes " if " ++ (put e (text false e) free ++ (codes " else " ++ put other (text false other) (behind 0 c))))
+      ++ (codes " if " ++ (put e (text false e) free ++ (codes " else " ++ put other (text false other) (following 0 c))))
   text negated (ListComprehension e key value target condition span) c =
       codes "[ " ++ (put e (text false e) free
       ++ (codes " for " ++ (names_text key value ++ (codes " in " ++ (put target (text false target) (above 1) ++ (maybe_text (codes " if ") 1 condition ++ codes " ]"))))))
@@ -137,9 +137,9 @@ abbrev mutual
   text negated (FunctionCall name args span) c = name ++ (codes " (" ++ (args_text false args ++ codes " )"))
   text negated (UnaryOperation o e span) c = prefixed o e (λ n. text n e) c
   text negated (BinaryOperation o l r span) c =
-      put l (text false l) (before (suc (left_of o)) c) ++ (operator_text negated o ++ put r (text false r) (behind (right_of o) c))
+      put l (text false l) (before (suc (left_of o)) c) ++ (operator_text negated o ++ put r (text false r) (following (right_of o) c))
 
-  -- an expression that may be there, behind what stands before it, with this least left power
+  -- an expression that may be there, after what is before it, with this least left power
   pub maybe_text : List ℕ → ℕ → MaybeExpr → List ℕ
   maybe_text before power NoExpr = []
   maybe_text before power (OneExpr e) = before ++ put e (text false e) (above power)

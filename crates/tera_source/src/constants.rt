@@ -115,7 +115,7 @@ fn push_pair(out: &mut String, key: &Key, value: &Value) -> Result<(), AllocErro
     push_constant(out, value)
 }
 
-/// What stands before one of several.
+/// What is before one of several.
 pub(crate) fn push_comma(out: &mut String, later: bool) -> Result<(), AllocError>
     ensures { OnOk result (string_bytes out.new ≡ string_bytes out.old ++ comma_text later) }
 {

@@ -1,4 +1,4 @@
-//! Where an expression stands, and whether it has to stand in parentheses there.
+//! Where an expression is, and whether it needs parentheses there.
 
 ghost use Rattle.std.specs.Prelude.{◌≡◌, suc};
 ghost use Rattle.tera_base.specs.ValueView.{value_view};
@@ -48,13 +48,13 @@ impl Context {
     }
 
     /// Of the right operand of a binary operator.
-    pub(crate) fn behind_operator(self, op: BinaryOperator) -> Context
-        ensures { result ≡ at.behind (right_of op) self }
+    pub(crate) fn after_operator(self, op: BinaryOperator) -> Context
+        ensures { result ≡ at.following (right_of op) self }
     {
-        self.behind(right_power(op))
+        self.following(right_power(op))
     }
 
-    /// Of what stands before something: a least right power.
+    /// Of what is before something: a least right power.
     pub(crate) fn before(self, right: u8) -> Context
         ensures { result ≡ at.before right self }
     {
@@ -65,9 +65,9 @@ impl Context {
         }
     }
 
-    /// Of what stands behind an operator: its right power is the least left power.
-    pub(crate) fn behind(self, left: u8) -> Context
-        ensures { result ≡ at.behind left self }
+    /// Of what comes after an operator: its right power is the least left power.
+    pub(crate) fn following(self, left: u8) -> Context
+        ensures { result ≡ at.following left self }
     {
         Context {
             left,
@@ -76,9 +76,9 @@ impl Context {
         }
     }
 
-    /// Of what stands behind a prefix with this power.
-    pub(crate) fn behind_prefix(self, left: u8) -> Context
-        ensures { result ≡ at.behind_prefix left self }
+    /// Of what comes after a prefix with this power.
+    pub(crate) fn after_prefix(self, left: u8) -> Context
+        ensures { result ≡ at.after_prefix left self }
     {
         Context {
             left,

@@ -20,41 +20,41 @@ ghost use Rattle.tera_source.specs.Nodes.{EachOfOutput};
 ghost use Rattle.tera_source.specs.Subexpressions.{EachPart};
 ghost use Rattle.tera_source.specs.Printing.{PrintsBack};
 ghost use Rattle.tera_source.specs.Source.{source_tree, source_text};
-ghost use Rattle.tera_source.specs.Standing.{StandsIn};
+ghost use Rattle.tera_source.specs.InSources.{IsInSource};
 ghost use Rattle.tera_source.specs.Bodies.{has_body};
 ghost use Rattle.tera_source.specs.Contexts.{free};
 ghost use Rattle.tera_source.specs.Writable.{IsWritable};
 ghost use Rattle.tera_source.specs.Writing.{written};
 
-/// What is written for the output of an expression is an expression outside of loops, and is read as that output,
-/// apart from places. Where the expression stands in a source, it is within the limits of the expression.
+/// What is written for the output of an expression is an expression outside of loops, and is read as that output, apart
+/// from places. Where the expression is in a source, it is within the limits of the expression.
 pub fn sources()
     ensures bound { (in_loop : Bool) (e : Tree) → IsExpression in_loop e →
         IsExpression false (source_tree (output in_loop e)) }
     ensures within { (m : Marks) (source : List ℕ) (limits : Limits) (in_loop : Bool) (e : Tree) →
-        StandsIn m source e →
+        IsInSource m source e →
         IsExpression in_loop e → Within limits e → Within limits (source_tree (output in_loop e)) }
     ensures same { (in_loop : Bool) (e : Tree) → IsExpression in_loop e →
         placeless (output false (source_tree (output in_loop e))) ≡ placeless (output in_loop e) }
 {}
 
-/// Where an expression stands in a source, the tokens that are written for its output, each at any place, before one
-/// that ends expressions, are read as an expression outside of loops, within the limits of the first, and with its
-/// output, apart from places.
+/// Where an expression is in a source, the tokens that are written for its output, each at any place, before one that
+/// ends expressions, are read as an expression outside of loops, within the limits of the first, and with its output,
+/// apart from places.
 pub fn read_back()
     ensures { (m : Marks) (source : List ℕ) (limits : Limits) (in_loop : Bool) (e : Tree) →
-        StandsIn m source e → IsExpression in_loop e → Within limits e → (read rest : Items) →
+        IsInSource m source e → IsExpression in_loop e → Within limits e → (read rest : Items) →
         AreReadAs (yield (source_tree (output in_loop e)) Ended) rest read → IsStop rest →
         (t : Tree) × (expression_of limits false read ≡ Some (t, rest)) × Within limits t
         × (placeless (output false t) ≡ placeless (output in_loop e)) }
 {}
 
-/// Each expression that stands in a source is printed back within the limits of the expression (`each`). So it is for
-/// each expression in a derivation of a source, at any depth, between whatever markers (`of_sources`), and for each
-/// that a node of its tree shows, sets, goes over or asks (`of_trees`).
+/// Each expression that is in a source is printed back within the limits of the expression (`each`). So it is for each
+/// expression in a derivation of a source, at any depth, between whatever markers (`of_sources`), and for each that a
+/// node of its tree shows, sets, goes over or asks (`of_trees`).
 pub fn printed_back()
     ensures each { (m : Marks) (source : List ℕ) (limits : Limits) (in_loop : Bool) (e : Tree) →
-        StandsIn m source e → IsExpression in_loop e → Within limits e → 1 ≤ limits.bodies →
+        IsInSource m source e → IsExpression in_loop e → Within limits e → 1 ≤ limits.bodies →
         PrintsBack limits (output in_loop e) }
     ensures of_sources { (m : Marks) (source : List ℕ) (limits : Limits) (read : Output)
         (d : Derives limits m source read) → EachOfBody

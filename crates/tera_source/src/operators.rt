@@ -6,13 +6,13 @@ ghost use Rattle.tera_source.specs.Writing.{operator_text};
 
 use tera_tree::BinaryOperator;
 
-/// How tightly a test holds what stands before it.
+/// How tightly a test holds what is before it.
 pub(crate) const TEST_POWER: u8 = 5;
 
-/// How tightly a filter holds what stands before it.
+/// How tightly a filter holds what is before it.
 pub(crate) const FILTER_POWER: u8 = 17;
 
-/// How tightly a `not` holds what stands behind it.
+/// How tightly a `not` holds what comes after it.
 pub(crate) const NEGATION_POWER: u8 = 5;
 
 /// How tightly a minus before an operand holds it.
@@ -21,10 +21,10 @@ pub(crate) const MINUS_POWER: u8 = 20;
 /// How tightly the parts of a ternary are held.
 pub(crate) const TERNARY_POWER: u8 = 0;
 
-/// Above every power: what stands before a link or a subscript is closed on its right.
+/// Above every power: what is before a link or a subscript is closed on its right.
 pub(crate) const CLOSED: u8 = 21;
 
-/// How strongly it holds what stands before it.
+/// How strongly it holds what is before it.
 pub(crate) fn left_power(op: BinaryOperator) -> u8
     ensures power { result ≡ left_of op }
     ensures bound { result ≤ 16 }
@@ -49,7 +49,7 @@ pub(crate) fn left_power(op: BinaryOperator) -> u8
     }
 }
 
-/// How strongly it holds what stands behind it.
+/// How strongly it holds what comes after it.
 pub(crate) fn right_power(op: BinaryOperator) -> u8
     ensures { result ≡ right_of op }
 {

@@ -6,7 +6,7 @@ ghost use Rattle.tera_ast.specs.View.{expression_view, name_view, maybe_view, ar
 ghost use Rattle.tera_ast.specs.declared.ast.ComponentCall.{out-ComponentCall};
 ghost use Rattle.tera_source.specs.Bodies.{has_body, maybe_has_body, args_have_body, item_has_body, items_have_body, entry_has_body, entries_have_body};
 ghost use Rattle.tera_source.specs.Contexts as at;
-ghost use Rattle.tera_source.specs.Contexts.{before, behind, behind_prefix, above, left_of, right_of};
+ghost use Rattle.tera_source.specs.Contexts.{before, following, after_prefix, above, left_of, right_of};
 ghost use Rattle.tera_source.specs.Unwritten.{Finds};
 ghost use Rattle.tera_source.specs.Writing.{comma_text, dotted, dot_text, bracket_text, names_text, test_text, operator_text, has_args, optional_args, is_bare, attribute_value, attribute_text, text, unary_text, written, maybe_text, args_text, item_text, items_text, key_source, entry_text, entries_text, one_attribute, attributes_text};
 
@@ -26,7 +26,7 @@ use tera_tree::{
     GetItem, ListComprehension, Map, MapEntry, Slice, Ternary, Test, UnaryOperation, UnaryOperator,
 };
 
-/// An expression where it stands, in parentheses if it breaks what is asked there.
+/// An expression where it is, in parentheses if it breaks what is asked there.
 #[cycle(writing)]
 pub(crate) fn push_expression(
     out: &mut String,
@@ -190,7 +190,7 @@ fn push_ternary(out: &mut String, choice: &Ternary, context: Context) -> Result<
     ensures text { OnOk result (string_bytes out.new
         ≡ string_bytes out.old ++ (written (expression_view choice.now.true_expr) (before 1 context)
         ++ (codes " if " ++ (written (expression_view choice.now.expr) at.free ++ (codes " else "
-        ++ written (expression_view choice.now.false_expr) (behind 0 context)))))) }
+        ++ written (expression_view choice.now.false_expr) (following 0 context)))))) }
     ensures body { Finds result (has_body (expression_view choice.now.expr)
         || (has_body (expression_view choice.now.true_expr)
         || has_body (expression_view choice.now.false_expr))) }
@@ -199,7 +199,7 @@ fn push_ternary(out: &mut String, choice: &Ternary, context: Context) -> Result<
     out.push_str(" if ")?;
     push_expression(out, &choice.expr, Context::free())?;
     out.push_str(" else ")?;
-    push_expression(out, &choice.false_expr, context.behind(TERNARY_POWER))
+    push_expression(out, &choice.false_expr, context.following(TERNARY_POWER))
 }
 
 #[cycle(writing)]
@@ -289,7 +289,7 @@ fn push_unary(out: &mut String, operation: &UnaryOperation, context: Context) ->
     match operation.op {
         UnaryOperator::Minus => {
             out.push_str("- ")?;
-            push_expression(out, &operation.expr, context.behind_prefix(MINUS_POWER))
+            push_expression(out, &operation.expr, context.after_prefix(MINUS_POWER))
         }
         UnaryOperator::Not => push_negation(out, &operation.expr, context),
     }
@@ -305,7 +305,7 @@ fn push_negation(out: &mut String, e: &Expression, context: Context) -> Result<(
         return push_bare(out, e, true, context);
     }
     out.push_str("not ")?;
-    push_expression(out, e, context.behind_prefix(NEGATION_POWER))
+    push_expression(out, e, context.after_prefix(NEGATION_POWER))
 }
 
 #[cycle(writing)]
@@ -319,17 +319,17 @@ fn push_binary(
         ≡ string_bytes out.old ++ (written (expression_view operation.now.left)
         (before (suc (left_of operation.now.op)) context) ++ (operator_text negated operation.now.op
         ++ written (expression_view operation.now.right)
-        (behind (right_of operation.now.op) context)))) }
+        (following (right_of operation.now.op) context)))) }
     ensures body { Finds result (has_body (expression_view operation.now.left)
         || has_body (expression_view operation.now.right)) }
 {
     let op = operation.op;
     push_expression(out, &operation.left, context.before_operator(op))?;
     out.push_str(operator_text(op, negated))?;
-    push_expression(out, &operation.right, context.behind_operator(op))
+    push_expression(out, &operation.right, context.after_operator(op))
 }
 
-// An expression that may be there, behind what stands before it.
+// An expression that may be there, after what is before it.
 #[cycle(writing)]
 fn push_maybe(
     out: &mut String,
@@ -342,13 +342,13 @@ fn push_maybe(
     ensures body { Finds result (maybe_has_body (maybe_view e.now)) }
 {
     match e {
-        Some(e) => push_behind(out, before, e, context),
+        Some(e) => push_after(out, before, e, context),
         None => Ok(()),
     }
 }
 
 #[cycle(writing)]
-fn push_behind(
+fn push_after(
     out: &mut String,
     before: &str,
     e: &Expression,
@@ -408,7 +408,7 @@ fn push_arg(out: &mut String, later: bool, name: &str, e: &Expression) -> Result
 {
     push_comma(out, later)?;
     out.push_str(name)?;
-    push_behind(out, " = ", e, Context::free())
+    push_after(out, " = ", e, Context::free())
 }
 
 #[cycle(writing)]
@@ -435,7 +435,7 @@ fn push_item(out: &mut String, later: bool, item: &ArrayEntry) -> Result<(), Ref
     push_comma(out, later)?;
     match item {
         ArrayEntry::Item(e) => push_expression(out, e, Context::free()),
-        ArrayEntry::Spread(e) => push_behind(out, "... ", e, Context::free()),
+        ArrayEntry::Spread(e) => push_after(out, "... ", e, Context::free()),
     }
 }
 
@@ -463,7 +463,7 @@ fn push_entry(out: &mut String, later: bool, entry: &MapEntry) -> Result<(), Ref
     push_comma(out, later)?;
     match entry {
         MapEntry::KeyValue { key, value } => push_pair(out, key, value),
-        MapEntry::Spread(e) => push_behind(out, "... ", e, Context::free()),
+        MapEntry::Spread(e) => push_after(out, "... ", e, Context::free()),
     }
 }
 
@@ -475,7 +475,7 @@ fn push_pair(out: &mut String, key: &Key, value: &Expression) -> Result<(), Refu
     ensures body { Finds result (has_body (expression_view value.now)) }
 {
     push_key(out, key)?;
-    push_behind(out, " : ", value, Context::free())
+    push_after(out, " : ", value, Context::free())
 }
 
 #[cycle(writing)]
@@ -552,6 +552,6 @@ fn push_braced(out: &mut String, brace: &str, e: &Expression) -> Result<(), Refu
         ++ (written (expression_view e.now) at.free ++ codes " }"))) }
     ensures body { Finds result (has_body (expression_view e.now)) }
 {
-    push_behind(out, brace, e, Context::free())?;
+    push_after(out, brace, e, Context::free())?;
     Ok(out.push_str(" }")?)
 }

@@ -7,7 +7,7 @@ use Rattle.tera_lexer.specs.grammar.Tokens.{Ident, Str, Escaped, Integer, Truth,
 use Rattle.tera_spelling.specs.Spelling.{IsSpelled, AreSpelled, tokens_text}
 use Rattle.tera_spelling.specs.Sources.{in_tag}
 
--- a token before others; where it stands does not matter
+-- a token before others; where it is does not matter
 abbrev name : List ℕ → Items → Items
 name text r = Token (Ident text) nowhere r
 
@@ -109,8 +109,8 @@ words = search rules
 strings : AreSpelled (string (codes "it's") (escaped (codes "it\"s") (string [] (string (10 ∷ 125 ∷ 125 ∷ []) Ended))))
 strings = search rules
 
--- and these cannot: a word for a truth as a name, a name of two, a name that begins with a digit, a string of the
--- wrong kind, a number below 0, and what is no operator or is two
+-- and these cannot: a word for a truth as a name, a name of two, a name that begins with a digit, a string of the wrong
+-- kind, a number below 0, and what is not an operator or is two
 truth_word : IsSpelled (Ident (codes "True")) → ⊥
 truth_word is = let clash = is.1 in cc
 

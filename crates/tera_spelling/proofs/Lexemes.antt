@@ -19,7 +19,7 @@ pub record HasLexeme (t : Tok) : Type 0 where
   pub lexeme : Lexeme
   pub bytes : spelled lexeme ≡ spelling t
   pub token : token_of lexeme ≡ t
-  pub stands : (rest : List ℕ) → IsLexeme lexeme (32 ∷ rest)
+  pub sound : (rest : List ℕ) → IsLexeme lexeme (32 ∷ rest)
   pub no_gap : (rest : List ℕ) → StopsAt is_ascii_whitespace (spelled lexeme ++ 32 ∷ rest)
   pub no_end : (rest : List ℕ) → is_at_end (codes "}}") (spelled lexeme ++ 32 ∷ rest) ≡ false
 
@@ -43,7 +43,7 @@ name_has (b ∷ bs) t is token bytes = record {
   lexeme = Name b bs;
   bytes = sym bytes;
   token = token;
-  stands = λ rest. (is.0, (is.1, refl));
+  sound = λ rest. (is.0, (is.1, refl));
   no_gap = λ rest. name_no_gap b is.0;
   no_end = λ rest. first_no_end b (bs ++ 32 ∷ rest) (other_than begins_name 45 b refl is.0) (other_than begins_name 125 b refl is.0);
 }
@@ -54,7 +54,7 @@ number_has n (b ∷ bs) written digits some value fits = record {
   lexeme = Number b bs;
   bytes = sym written;
   token = ap (λ k. Integer (pos k)) value;
-  stands = λ rest. ((digits.0, (digits.1, refl)), refl, subst (λ k. k < 2 ^ 63) (sym value) fits);
+  sound = λ rest. ((digits.0, (digits.1, refl)), refl, subst (λ k. k < 2 ^ 63) (sym value) fits);
   no_gap = λ rest. digit_no_gap b digits.0;
   no_end = λ rest. first_no_end b (bs ++ 32 ∷ rest) (other_than is_ascii_digit 45 b refl digits.0) (other_than is_ascii_digit 125 b refl digits.0);
 }
@@ -67,7 +67,7 @@ string_has t text bytes token = record {
   lexeme = Quoted 34 (inside_of text);
   bytes = ap (λ l. 34 ∷ (l ++ 34 ∷ [])) (written_is text) ∙ sym bytes;
   token = token;
-  stands = λ rest. ((refl, inside_fits text), inside_known text);
+  sound = λ rest. ((refl, inside_fits text), inside_known text);
   no_gap = λ rest. refl;
   no_end = λ rest. refl;
 }
@@ -88,7 +88,7 @@ has_lexeme (Symbol op) is = record {
   lexeme = Operator op;
   bytes = refl;
   token = refl;
-  stands = λ rest. operator_before op rest is;
+  sound = λ rest. operator_before op rest is;
   no_gap = λ rest. operator_no_gap op (32 ∷ rest) is;
   no_end = λ rest. operator_no_end op rest is;
 }

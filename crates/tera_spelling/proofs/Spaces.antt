@@ -1,4 +1,4 @@
--- Operators before a space, and no end of a tag where they stand.
+-- Operators before a space, and no end of a tag where they are.
 use Rattle.std.proofs.Common.{rules, ◌≡◌, ◌≢◌, ℕ, Bool, true, false, not, ◌&&◌, ◌||◌, List, [], ◌∷◌, ◌++◌, Option, Some, None, ⊎_elim, ap, ◌∙◌, refl, subst, arith}
 use Rattle.std.specs.Prelude.{find, nat_eq, codes}
 use Rattle.std.specs.List.{AllByRecursion}
@@ -12,7 +12,7 @@ use Rattle.tera_lexer.specs.grammar.Lexeme.{StopsAt, is_short_operator, short_op
 abbrev pub HasNoSpace : List ℕ → Type 0
 HasNoSpace marker = AllByRecursion (λ b. b ≢ 32) marker
 
--- such a marker begins what stands before a space where it begins that alone
+-- such a marker begins what is before a space where it begins that alone
 pub begins_before : (marker bytes rest : List ℕ) → HasNoSpace marker → begins marker (bytes ++ 32 ∷ rest) ≡ begins marker bytes
 begins_before [] bytes rest none = refl
 begins_before (m ∷ ms) [] rest none = rw (ne_eqb m 32 none.0) refl
@@ -29,7 +29,7 @@ all_before bytes rest (x ∷ xs) none = (begins_before x bytes rest none.0, all_
 long_operators_solid : AllByRecursion HasNoSpace long_operators
 long_operators_solid = search rules
 
--- a space behind an operator makes no other of it
+-- a space after an operator makes no other of it
 pub operator_before : (op rest : List ℕ) → operator_at op ≡ Some op → operator_at (op ++ 32 ∷ rest) ≡ Some op
 operator_before [] rest is = cc
 operator_before (b ∷ bs) rest is =

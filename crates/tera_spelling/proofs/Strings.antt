@@ -63,7 +63,7 @@ escapes_are (b ∷ bs) =
     (λ plain. rw plain (escapes_are bs))
     (cases_Bool (is_special b))
 
--- a text with nothing special is written as it stands
+-- a text with nothing special is written as it is
 pub plain_stays : (text : List ℕ) → list_any is_special text ≡ false → with_escapes text ≡ text
 plain_stays [] none = refl
 plain_stays (b ∷ bs) none =

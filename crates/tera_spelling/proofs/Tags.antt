@@ -13,54 +13,54 @@ use Rattle.tera_spelling.specs.Sources.{in_tag, AreReadAs, IsTagOf}
 use Rattle.tera_spelling.proofs.Lexemes.{HasLexeme, has_lexeme}
 
 -- what follows a token of the text: a space, before the next token or the end of the tag
-abbrev behind : Items → List ℕ
-behind items = spaced items ++ codes " }}"
+abbrev following : Items → List ℕ
+following items = spaced items ++ codes " }}"
 
-begins_space : (items : Items) → AreSpelled items → (rest : List ℕ) × (behind items ≡ 32 ∷ rest)
+begins_space : (items : Items) → AreSpelled items → (rest : List ℕ) × (following items ≡ 32 ∷ rest)
 begins_space Ended are = (_, refl)
 begins_space (Failed text span) are = absurd are
 begins_space (Token t span items) are = (_, refl)
 
--- items that stand inside the tag, and have these tokens
+-- items that are inside the tag, and have these tokens
 pub record Stands (items : Items) : Type 0 where
   pub list : List Item
-  pub inside : IsInside (codes "}}") list (End (32 ∷ []) false []) (behind items)
+  pub inside : IsInside (codes "}}") list (End (32 ∷ []) false []) (following items)
   pub tokens : (front : List ℕ) (follows : List ℕ → Items) → (last : List ℕ) × AreReadAs items (follows last) (lexemes front list follows)
 
-one_more : (t : Tok) (span : Span) (items : Items) → HasLexeme t → (rest : List ℕ) → behind items ≡ 32 ∷ rest → Stands items → Stands (Token t span items)
-one_more t span items has rest e stands = record {
-  list = item ∷ stands.list;
+one_more : (t : Tok) (span : Span) (items : Items) → HasLexeme t → (rest : List ℕ) → following items ≡ 32 ∷ rest → Stands items → Stands (Token t span items)
+one_more t span items has rest e sound = record {
+  list = item ∷ sound.list;
   inside = (
-    behind items,
+    following items,
     splits,
     back (IsGap (32 ∷ [])) ((refl, tt), has.no_gap rest),
     back (λ l. is_at_end (codes "}}") l ≡ false) (has.no_end rest),
-    subst (IsLexeme has.lexeme) (sym e) (has.stands rest),
-    stands.inside,
+    subst (IsLexeme has.lexeme) (sym e) (has.sound rest),
+    sound.inside,
   );
   tokens = λ front follows.
-      let (last, are) = stands.tokens ((front ++ 32 ∷ []) ++ spelled has.lexeme) follows in
-      (last, (_, _, ap (λ u. Token u (span_of (front ++ 32 ∷ []) (spelled has.lexeme)) (lexemes ((front ++ 32 ∷ []) ++ spelled has.lexeme) stands.list follows)) has.token, are));
+      let (last, are) = sound.tokens ((front ++ 32 ∷ []) ++ spelled has.lexeme) follows in
+      (last, (_, _, ap (λ u. Token u (span_of (front ++ 32 ∷ []) (spelled has.lexeme)) (lexemes ((front ++ 32 ∷ []) ++ spelled has.lexeme) sound.list follows)) has.token, are));
 }
   where
     item : Item
     item = record { gap = 32 ∷ []; lexeme = has.lexeme }
 
-    splits : behind (Token t span items) ≡ 32 ∷ (spelled has.lexeme ++ behind items)
-    splits = ap (λ l. 32 ∷ l) (append_assoc (spelling t) (spaced items) (codes " }}") ∙ ap (λ l. l ++ behind items) (sym has.bytes))
+    splits : following (Token t span items) ≡ 32 ∷ (spelled has.lexeme ++ following items)
+    splits = ap (λ l. 32 ∷ l) (append_assoc (spelling t) (spaced items) (codes " }}") ∙ ap (λ l. l ++ following items) (sym has.bytes))
 
-    back : (P : List ℕ → Type 0) → P (spelled has.lexeme ++ 32 ∷ rest) → P (spelled has.lexeme ++ behind items)
+    back : (P : List ℕ → Type 0) → P (spelled has.lexeme ++ 32 ∷ rest) → P (spelled has.lexeme ++ following items)
     back P h = subst (λ l. P (spelled has.lexeme ++ l)) (sym e) h
 
-pub all_stand : (items : Items) → AreSpelled items → Stands items
-all_stand Ended are = record {
+pub all_sound : (items : Items) → AreSpelled items → Stands items
+all_sound Ended are = record {
   list = [];
   inside = (codes "}}", refl, ((refl, tt), refl), (refl, refl));
   tokens = λ front follows. (front, refl);
 }
-all_stand (Failed text span) are = absurd are
-all_stand (Token t span items) are =
-    let (rest, e) = begins_space items are.1 in one_more t span items (has_lexeme t are.0) rest e (all_stand items are.1)
+all_sound (Failed text span) are = absurd are
+all_sound (Token t span items) are =
+    let (rest, e) = begins_space items are.1 in one_more t span items (has_lexeme t are.0) rest e (all_sound items are.1)
 
 -- the source is one variable tag
 pub record OneTag (items : Items) : Type 0 where
@@ -78,12 +78,12 @@ one_tag Ended are = record {
 }
 one_tag (Failed text span) are = absurd are
 one_tag (Token t span items) are =
-    let stands = all_stand (Token t span items) are in
+    let sound = all_sound (Token t span items) are in
     record {
-      list = stands.list;
+      list = sound.list;
       gap = 32 ∷ [];
-      divides = ([], (behind (Token t span items), (refl, refl), tt, stands.inside), refl);
-      tokens = stands.tokens;
+      divides = ([], (following (Token t span items), (refl, refl), tt, sound.inside), refl);
+      tokens = sound.tokens;
     }
 
 pub tag_read : (items : Items) → AreSpelled items → (read : Items) × AreTokensOf default_marks (in_tag (tokens_text items)) read × IsTagOf items read

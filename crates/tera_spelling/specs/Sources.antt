@@ -12,7 +12,7 @@ in_tag text = codes "{{ " ++ (text ++ codes " }}")
 abbrev pub AreReadAs : Items → Items → Items → Type 0
 AreReadAs Ended rest read = read ≡ rest
 AreReadAs (Failed text span) rest read = ⊥
-AreReadAs (Token t span items) rest read = (here : Span) × (behind : Items) × (read ≡ Token t here behind) × AreReadAs items rest behind
+AreReadAs (Token t span items) rest read = (here : Span) × (following : Items) × (read ≡ Token t here following) × AreReadAs items rest following
 
 -- what is read are the start of a variable tag, the tokens, and the end of the tag, each at some place
 abbrev pub IsTagOf : Items → Items → Type 0

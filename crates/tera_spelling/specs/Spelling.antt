@@ -12,12 +12,12 @@ abbrev pub IsName : List ℕ → Type 0
 IsName [] = ⊥
 IsName (b ∷ bs) = (begins_name b ≡ true) × AllByRecursion (λ c. goes_on_name c ≡ true) bs
 
--- a double quote and a backslash stand behind a backslash
+-- a double quote and a backslash come after a backslash
 abbrev pub is_special : ℕ → Bool
 is_special b = b == double_quote || b == backslash
 
--- a name that is no word for a truth; a string, which has escapes where its text has something special; a number
--- of 0 .. 9223372036854775807; a truth; an operator
+-- a name that is not a word for a truth; a string, which has escapes where its text has something special; a number of
+-- 0 .. 9223372036854775807; a truth; an operator
 abbrev pub IsSpelled : Tok → Type 0
 IsSpelled (Ident name) = IsName name × (name_token name ≡ Ident name)
 IsSpelled (Str text) = list_any is_special text ≡ false
@@ -50,7 +50,7 @@ spelling (Truth false) = codes "false"
 spelling (Symbol op) = op
 spelling _ = []
 
--- the tokens, each behind a space
+-- the tokens, each after a space
 abbrev pub spaced : Items → List ℕ
 spaced Ended = []
 spaced (Failed text span) = []

@@ -8,7 +8,7 @@ ghost use Rattle.tera_spelling.specs.Sources.{in_tag, IsTagOf};
 ghost use Rattle.tera_spelling.specs.Given.{EachToken, IsGiven};
 
 /// The text of tokens that can be spelled, in a variable tag between the default markers, has tokens, and they are the
-/// start of the tag, these tokens, and the end of the tag, apart from where each stands.
+/// start of the tag, these tokens, and the end of the tag, apart from where each is.
 pub fn read_back()
     ensures exists { (items : Items) → AreSpelled items → (read : Items) ×
         AreTokensOf default_marks (in_tag (tokens_text items)) read × IsTagOf items read }

@@ -23,8 +23,8 @@ pub block_kept : (seen : Seen) (more : Located) (n : Name) → more ≡ locate n
 block_kept seen more n h = λ i. record { blocks = h i; components = seen.components; parameters = seen.parameters }
 
 module _ (self : Reader) (path : Path) (start : Edge) (first : Span) (seen : Seen) (ts : Items) where
-  abbrev behind_name : Name × Items → Reads Item
-  behind_name n =
+  abbrev after_name : Name × Items → Reads Item
+  after_name n =
       finish_of n.1 >>= λ f. self (InBlock ∷ path) (at (seen having block_placed n.0) f.1) >>= λ b. block_end n.0 b.1.tokens >>= λ e.
       Some (Block (tag start first f.0) n.0 b.0 e.0.0 e.0.1, at b.1.seen e.1)
 
@@ -32,17 +32,17 @@ module _ (self : Reader) (path : Path) (start : Edge) (first : Span) (seen : See
   unfolding block_of
   barred h = rw h refl
 
-  block_is : may_block path ≡ true → block_of self path start first seen ts ≡ (new_block_of (met seen.blocks) ts >>= behind_name)
+  block_is : may_block path ≡ true → block_of self path start first seen ts ≡ (new_block_of (met seen.blocks) ts >>= after_name)
   unfolding block_of
-  block_is h = rw h (kept_by (taken_name ts) (λ n. not (met seen.blocks n.0.text)) behind_name)
+  block_is h = rw h (kept_by (taken_name ts) (λ n. not (met seen.blocks n.0.text)) after_name)
 
   module _ (may : may_block path ≡ true) where
     pub block_unnamed : new_block_of (met seen.blocks) ts ≡ None → block_of self path start first seen ts ≡ None
-    block_unnamed h = block_is may ∙ ap (λ o. o >>= behind_name) h
+    block_unnamed h = block_is may ∙ ap (λ o. o >>= after_name) h
 
     module _ (n : Name) (us : Items) (named : new_block_of (met seen.blocks) ts ≡ Some (n, us)) where
-      block_named_so : block_of self path start first seen ts ≡ behind_name (n, us)
-      block_named_so = block_is may ∙ ap (λ o. o >>= behind_name) named
+      block_named_so : block_of self path start first seen ts ≡ after_name (n, us)
+      block_named_so = block_is may ∙ ap (λ o. o >>= after_name) named
 
       pub block_unfinished : finish_of us ≡ None → block_of self path start first seen ts ≡ None
       block_unfinished h = block_named_so ∙ rw h refl

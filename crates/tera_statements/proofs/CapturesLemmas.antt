@@ -13,36 +13,36 @@ use Rattle.tera_grammar.specs.statements.Grammar.{Body, Item, Single, Set, Captu
 use Rattle.tera_grammar.specs.statements.Heads.{Filters, NoFilters, SetBody, Section, CallBody}
 use Rattle.tera_grammar.specs.statements.Reading.Meeting.{Seen}
 use Rattle.tera_grammar.specs.statements.TagParts.{AtEndCall, AtEndFilter, AtEndSet, Edge, Name, Tag}
-use Rattle.tera_grammar.specs.statements.Reading.{Place, Reader, Reads, at, call_end, call_of, section_of, set_behind, set_of}
+use Rattle.tera_grammar.specs.statements.Reading.{Place, Reader, Reads, at, call_end, call_of, section_of, set_after, set_of}
 use Rattle.tera_grammar.specs.statements.Reading.Heads.{filters_in, filters_of, free_name}
 use Rattle.tera_grammar.specs.statements.Reading.TagParts.{closed, closed_tag, finish_of, tag}
 use Rattle.tera_grammar.specs.statements.Reading.Components.{is_name}
-use Rattle.tera_grammar.proofs.statements.Expressions.{component_begins, component_stands}
+use Rattle.tera_grammar.proofs.statements.Expressions.{component_begins, component_sound}
 use Rattle.tera_grammar.proofs.statements.Heads.{filters_steps}
 use Rattle.tera_statements.specs.Captures.{IsNone}
 use Rattle.tera_statements.specs.Heads.{attributes_to_end, expression_to_end, filters_to_end, section_to_end}
 use Rattle.tera_statements.proofs.HeadsLemmas.{filters_unended, one_to_end, two_to_end}
 
 module _ (l : Limits) (self : Reader) (path : Path) (global : Bool) (start : Edge) (first : Span) (seen : Seen) where
-  -- behind the name comes a value, or not
+  -- after the name comes a value, or not
   pub set_unnamed : (ts : Items) → free_name ts ≡ None → set_of l self path global start first seen ts ≡ None
   unfolding set_of
   set_unnamed ts h = rw h refl
 
   pub set_named : (ts us : Items) (n : Name) (o : Option (Span × Items)) → free_name ts ≡ Some (n, us) → takes Assign us ≡ o
-      → set_of l self path global start first seen ts ≡ set_behind l self path global start first seen n us o
+      → set_of l self path global start first seen ts ≡ set_after l self path global start first seen n us o
   unfolding set_of
   set_named ts us n o named is = rw (named, is) refl
 
   module _ (n : Name) (items : Items) (sign : Span) (us : Items) where
     abbrev with_value : Reads Item
-    with_value = set_behind l self path global start first seen n items (Some (sign, us))
+    with_value = set_after l self path global start first seen n items (Some (sign, us))
 
     abbrev value_set : (Expression × Edge) × Items → Reads Item
     value_set x = Some (Single (Set global (tag start first x.0.1) n sign x.0.0), at seen x.1)
 
     value_is : with_value ≡ (expression_to_end l (in_loop path) us >>= value_set)
-    unfolding set_behind expression_to_end
+    unfolding set_after expression_to_end
     value_is = sym (one_to_end (expression_of l (in_loop path) us) value_set)
 
     pub no_value : expression_to_end l (in_loop path) us ≡ None → with_value ≡ None
@@ -54,7 +54,7 @@ module _ (l : Limits) (self : Reader) (path : Path) (global : Bool) (start : Edg
 
   module _ (n : Name) (ts : Items) where
     abbrev with_body : Reads Item
-    with_body = set_behind l self path global start first seen n ts None
+    with_body = set_after l self path global start first seen n ts None
 
     abbrev set_inside : (Filters × Edge) × Items → Reads Item
     set_inside x =
@@ -62,7 +62,7 @@ module _ (l : Limits) (self : Reader) (path : Path) (global : Bool) (start : Edg
         Some (Capturing (SetBody global (tag start first x.0.1) n x.0.0 e.0) b.0, at b.1.seen e.1)
 
     set_is : with_body ≡ (filters_to_end l (in_loop path) ts >>= set_inside)
-    unfolding set_behind filters_to_end
+    unfolding set_after filters_to_end
     set_is = sym (one_to_end (filters_of l (in_loop path) ts) set_inside)
 
     pub set_unended : filters_to_end l (in_loop path) ts ≡ None → with_body ≡ None
@@ -193,7 +193,7 @@ no_name_by : (ts : Items) (o : Option (ComponentName × Items)) → component_of
 no_name_by ts None read h = read
 no_name_by ts (Some x) read h =
     let (text, span, items, begins) = component_begins x.0 x.1 in
-    let named : is_name ts ≡ true = ap is_name (component_stands ts x read ∙ begins) in
+    let named : is_name ts ≡ true = ap is_name (component_sound ts x read ∙ begins) in
     absurd (true_false (sym named ∙ h))
   where
     true_false : true ≡ false → ⊥

@@ -27,43 +27,43 @@ use Rattle.tera_grammar.specs.statements.Types.{Sorted}
 use Rattle.tera_statements.specs.Components.{agreeing_name, new_component_of}
 use Rattle.tera_expect.specs.Taking.{Took}
 use Rattle.tera_expect.proofs.Steps.{kept_by}
-use Rattle.tera_grammar.proofs.statements.Expressions.{component_stands}
+use Rattle.tera_grammar.proofs.statements.Expressions.{component_sound}
 
 module _ (l : Limits) (seen : Met) (ts : Items) where
-  abbrev behind_name : ComponentName × Items → Takes Opened
-  behind_name n =
+  abbrev after_name : ComponentName × Items → Takes Opened
+  after_name n =
       takes LeftParen n.1 >>= λ paren. parameters_of l nothing_met paren.1 >>= λ ps. metadata_in l ps.1 (begins LeftBrace ps.1) >>= λ m. finish_of m.1 >>= λ f.
       Some (record { name = n.0; paren = paren.0; parameters = ps.0; metadata = m.0; finish = f.0 }, f.1)
 
-  opened_is : opened_of l seen ts ≡ (new_component_of seen ts >>= behind_name)
+  opened_is : opened_of l seen ts ≡ (new_component_of seen ts >>= after_name)
   unfolding opened_of
-  opened_is = kept_by (component_of ts) (λ n. not (seen (component_text n.0))) behind_name
+  opened_is = kept_by (component_of ts) (λ n. not (seen (component_text n.0))) after_name
 
   pub no_new_name : new_component_of seen ts ≡ None → opened_of l seen ts ≡ None
-  no_new_name h = opened_is ∙ ap (λ o. o >>= behind_name) h
+  no_new_name h = opened_is ∙ ap (λ o. o >>= after_name) h
 
   module _ (n : ComponentName) (us : Items) (named : new_component_of seen ts ≡ Some (n, us)) where
-    opened_behind : opened_of l seen ts ≡ behind_name (n, us)
-    opened_behind = opened_is ∙ ap (λ o. o >>= behind_name) named
+    opened_after : opened_of l seen ts ≡ after_name (n, us)
+    opened_after = opened_is ∙ ap (λ o. o >>= after_name) named
 
     pub no_paren : takes LeftParen us ≡ None → opened_of l seen ts ≡ None
-    no_paren h = opened_behind ∙ rw h refl
+    no_paren h = opened_after ∙ rw h refl
 
     module _ (paren : Span) (vs : Items) (there : takes LeftParen us ≡ Some (paren, vs)) where
       pub no_parameters : parameters_of l nothing_met vs ≡ None → opened_of l seen ts ≡ None
-      no_parameters h = opened_behind ∙ rw (there, h) refl
+      no_parameters h = opened_after ∙ rw (there, h) refl
 
       module _ (ps : Parameters) (ws : Items) (listed : parameters_of l nothing_met vs ≡ Some (ps, ws)) where
         pub no_metadata : metadata_in l ws (begins LeftBrace ws) ≡ None → opened_of l seen ts ≡ None
-        no_metadata h = opened_behind ∙ rw (there, listed, h) refl
+        no_metadata h = opened_after ∙ rw (there, listed, h) refl
 
         module _ (m : Option LiteralMap) (xs : Items) (given : metadata_in l ws (begins LeftBrace ws) ≡ Some (m, xs)) where
           pub head_unfinished : finish_of xs ≡ None → opened_of l seen ts ≡ None
-          head_unfinished h = opened_behind ∙ rw (there, listed, given, h) refl
+          head_unfinished h = opened_after ∙ rw (there, listed, given, h) refl
 
           pub opened_given : (f : Edge) (ys : Items) → finish_of xs ≡ Some (f, ys)
               → opened_of l seen ts ≡ Some (record { name = n; paren = paren; parameters = ps; metadata = m; finish = f }, ys)
-          opened_given f ys h = opened_behind ∙ rw (there, listed, given, h) refl
+          opened_given f ys h = opened_after ∙ rw (there, listed, given, h) refl
 
 -- the names with those of one component more
 pub component_kept : (b c more : Located) (g grown : Grouped) (n : ComponentName) (ps : Parameters) → more ≡ locate (placed_name n) c
@@ -78,19 +78,19 @@ module _ (start : Edge) (first : Span) (o : Opened) (ts : Items) where
   no_ending h = rw h refl
 
   module _ (x : Edge × Span) (us : Items) (there : closed AtEndComponent ts ≡ Some (x, us)) where
-    abbrev behind_end : Option ComponentName × Items → Takes Head
-    behind_end n = finish_of n.1 >>= λ f. Some (head start first o x.0 x.1 n.0 f.0, f.1)
+    abbrev after_end : Option ComponentName × Items → Takes Head
+    after_end n = finish_of n.1 >>= λ f. Some (head start first o x.0 x.1 n.0 f.0, f.1)
 
-    ending_is : ending_of start first o ts ≡ (agreeing_name (component_text o.name) us >>= behind_end)
+    ending_is : ending_of start first o ts ≡ (agreeing_name (component_text o.name) us >>= after_end)
     unfolding ending_of
-    ending_is = rw there (kept_by (end_name_in us (is_name us)) (λ n. agrees (component_text o.name) (component_texts n.0)) behind_end)
+    ending_is = rw there (kept_by (end_name_in us (is_name us)) (λ n. agrees (component_text o.name) (component_texts n.0)) after_end)
 
     pub other_name : agreeing_name (component_text o.name) us ≡ None → ending_of start first o ts ≡ None
-    other_name h = ending_is ∙ ap (λ r. r >>= behind_end) h
+    other_name h = ending_is ∙ ap (λ r. r >>= after_end) h
 
     pub ending_named : (n : Option ComponentName) (vs : Items) → agreeing_name (component_text o.name) us ≡ Some (n, vs)
         → ending_of start first o ts ≡ (finish_of vs >>= λ f. Some (head start first o x.0 x.1 n f.0, f.1))
-    ending_named n vs h = ending_is ∙ ap (λ r. r >>= behind_end) h
+    ending_named n vs h = ending_is ∙ ap (λ r. r >>= after_end) h
 
 -- what is defined is what the opening tag says, and the body
 abbrev pub opened_definition : Opened → List Stmt → Definition
@@ -116,7 +116,7 @@ pub same_definition : (o : Opened) (name : List ℕ) (arguments : Sorted Argumen
     → record { name = name; arguments = arguments; rest = rest; metadata = metadata; body = nodes } ≡ opened_definition o body
 same_definition o name arguments rest metadata nodes body n a r m b = λ i. record { name = n i; arguments = a i; rest = r i; metadata = m i; body = b i }
 
--- the name at the end, where one stands there
+-- the name at the end, where one is there
 module _ (name : List ℕ) (ts us : Items) (m : ComponentName) (there : is_name ts ≡ true) (read : component_of ts ≡ Some (m, us)) where
   pub end_agrees : bytes_eq (component_text m) name ≡ true → agreeing_name name ts ≡ Some (Some m, us)
   unfolding end_name_in
@@ -126,7 +126,7 @@ module _ (name : List ℕ) (ts us : Items) (m : ComponentName) (there : is_name 
   unfolding end_name_in
   end_differs h = rw (there, read, h) refl
 
--- metadata, where a map stands there
+-- metadata, where a map is there
 pub metadata_given : (l : Limits) (ts us : Items) (m : LiteralMap) → begins LeftBrace ts ≡ true → map_of l ts ≡ Some (m, us) → metadata_in l ts (begins LeftBrace ts) ≡ Some (Some m, us)
 unfolding metadata_in
 metadata_given l ts us m there read = ap (metadata_in l ts) there ∙ ap (λ o. o >>= λ n. Some (Some n.0, n.1)) read
@@ -163,9 +163,9 @@ unfolding component_span component_yield
 name_ends zero n last r here p = absurd (omega (arith, ap size p.0, dotted_size n.further r))
 name_ends (suc k) n last r here p = dotted_ends k n.further n.name.span r here p
 
--- behind the name of a component the token taken last is its last part
+-- after the name of a component the token taken last is its last part
 pub component_ends : (old new : Position) (n : ComponentName) → component_of old.left ≡ Some (n, new.left) → Took old new → new.span ≡ component_span n
 unfolding Took
 component_ends old new n read took =
     name_ends took.0.count n old.span new.left new.span
-    (subst (λ ts. Passes took.0.count ts old.span new.left new.span) (component_stands old.left (n, new.left) read) took.0.passes)
+    (subst (λ ts. Passes took.0.count ts old.span new.left new.span) (component_sound old.left (n, new.left) read) took.0.passes)

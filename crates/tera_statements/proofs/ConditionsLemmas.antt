@@ -24,7 +24,7 @@ use Rattle.tera_statements.specs.Conditions.{Conditional, conditional_of}
 use Rattle.tera_statements.specs.Heads.{expression_to_end, loop_to_end}
 use Rattle.tera_statements.proofs.HeadsLemmas.{one_to_end}
 use Rattle.tera_grammar.proofs.statements.Loops.{is_elif}
-use Rattle.tera_grammar.proofs.statements.TagParts.{closed_stands}
+use Rattle.tera_grammar.proofs.statements.TagParts.{closed_sound}
 use Rattle.tera_statements.specs.Kinds.{closes}
 use Rattle.tera_expect.specs.Taking.{GivesBy}
 use Rattle.tera_statements.specs.declared.fronts.Closer.TheVariants as closers
@@ -76,12 +76,12 @@ module _ (self : Reader) (path : Path) (seen : Seen) (ts : Items) where
   pub without_else : closed AtElse ts ≡ None → else_of self path (at seen ts) ≡ Some (NoElse, at seen ts)
   without_else h = else_absent (front ts) h
 
-  abbrev Behind : Edge × Span → Items → Reads Else
-  Behind x us = finish_of us >>= λ f. self path (at seen f.1) >>= λ b. Some (Otherwise (tag x.0 x.1 f.0) b.0, b.1)
+  abbrev After : Edge × Span → Items → Reads Else
+  After x us = finish_of us >>= λ f. self path (at seen f.1) >>= λ b. Some (Otherwise (tag x.0 x.1 f.0) b.0, b.1)
 
-  else_present : (fr : Front) (x : Edge × Span) (us : Items) → closed_at AtElse fr ≡ Some (x, us) → else_in self path seen ts fr ≡ Behind x us
+  else_present : (fr : Front) (x : Edge × Span) (us : Items) → closed_at AtElse fr ≡ Some (x, us) → else_in self path seen ts fr ≡ After x us
   unfolding else_in
-  else_present (Closes AtElse start first vs) x us h = ap (λ (y : (Edge × Span) × Items). Behind y.0 y.1) (some_same h)
+  else_present (Closes AtElse start first vs) x us h = ap (λ (y : (Edge × Span) × Items). After y.0 y.1) (some_same h)
     where
       some_same : {a b : (Edge × Span) × Items} → Some a ≡ Some b → a ≡ b
       some_same e = cc
@@ -167,7 +167,7 @@ module _ (l : Limits) (depth : ℕ) (path : Path) (start : Edge) (first : Span) 
           → if_of l (body depth l) path start first seen ts ≡ Some (If (tag start first x.1) x.0 x.2 bs e, at q.seen ws)
       if_given e ws h = if_first ∙ rw (more, h) refl
 
--- the branches behind the first one
+-- the branches after the first one
 abbrev elif_with : Edge × Span → Conditional → Branches × Place → Reads Branches
 elif_with x c bs = Some (Elif (tag x.0 x.1 c.1) c.0 c.2 bs.0, bs.1)
 
@@ -179,7 +179,7 @@ module _ (l : Limits) (depth : ℕ) (path : Path) (seen : Seen) (ts us : Items) 
   Next c = All c.1 >>= elif_with x c.0
 
   front_elif : front ts ≡ Closes AtElif x.0 x.1 us
-  front_elif = ap front (closed_stands AtElif ts (x, us) there)
+  front_elif = ap front (closed_sound AtElif ts (x, us) there)
 
   branch_is : branch_in l (body depth l) path All seen ts (front ts) ≡ (conditional_of l depth path (at seen us) >>= Next)
   unfolding branch_in expression_to_end

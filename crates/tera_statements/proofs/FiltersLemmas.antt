@@ -30,7 +30,7 @@ module _ (l : Limits) (in_loop : Bool) where
   pipes_start start before = ([], piping_starts l in_loop start start [] refl refl, sym (append-nil _))
 
   module _ (start here : Items) (before filters : List Expression) where
-    -- a bar behind what was read
+    -- a bar after what was read
     pub pipes_fail : (span : Span) (us : Items) (e : Error) → Pipes start here before filters → takes Bar here ≡ Some (span, us)
         → Fails (filter_of l in_loop us) e → Fails (filters_of l in_loop start) e
     pipes_fail span us e (es, piping, shows) bar h =
@@ -46,7 +46,7 @@ module _ (l : Limits) (in_loop : Bool) where
           pushed ∙ ap (λ v. v ++ expression_view x ∷ []) shows ∙ append_assoc _ es _,
         )
 
-    -- no bar behind it
+    -- no bar after it
     pub pipes_end : Pipes start here before filters → takes Bar here ≡ None → (fs : Filters) × (filters_of l in_loop start ≡ Some (fs, here)) × AreFilters in_loop before filters fs
     pipes_end (es, piping, shows) bar =
         let (fs, read, whole) = piping_ends l in_loop start here es piping bar in

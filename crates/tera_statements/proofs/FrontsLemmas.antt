@@ -14,7 +14,7 @@ kind_by (Closing c) start span items = refl
 kind_by Neither start span items = refl
 
 pub tag_front : (left : Items) (t : Tok) (dash : Bool) → FirstIs left (Start kind.Block dash) → SecondIs left t → role_kind (role t) ≡ kind_of (front left)
-tag_front left t dash (span, rest, one) (first, here, there, behind, two) =
+tag_front left t dash (span, rest, one) (first, here, there, following, two) =
     let same : first ≡ Start kind.Block dash = cc in
-    kind_by (role t) (record { dash = dash; span = here }) there behind
-    ∙ ap (λ v. kind_of (front (Token v here (Token t there behind)))) (sym same) ∙ ap (λ v. kind_of (front v)) (sym two)
+    kind_by (role t) (record { dash = dash; span = here }) there following
+    ∙ ap (λ v. kind_of (front (Token v here (Token t there following)))) (sym same) ∙ ap (λ v. kind_of (front v)) (sym two)

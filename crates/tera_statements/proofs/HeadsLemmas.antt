@@ -35,15 +35,15 @@ ended_two : {A B C : Type 0} (x : A) (y : B) (f : Takes Edge) (k : (A × B × Ed
 ended_two x y None k = refl
 ended_two x y (Some f) k = refl
 
-behind_first : {A B C : Type 0} (x : A) (o : Takes B) (k : (A × B × Edge) × Items → Option C)
+after_first : {A B C : Type 0} (x : A) (o : Takes B) (k : (A × B × Edge) × Items → Option C)
     → ((o >>= λ y. finish_of y.1 >>= λ f. Some ((x, y.0, f.0), f.1)) >>= k) ≡ (o >>= λ y. finish_of y.1 >>= λ f. k ((x, y.0, f.0), f.1))
-behind_first x None k = refl
-behind_first x (Some y) k = ended_two x y.0 (finish_of y.1) k
+after_first x None k = refl
+after_first x (Some y) k = ended_two x y.0 (finish_of y.1) k
 
 pub two_to_end : {A B C : Type 0} (o : Takes A) (next : Items → Takes B) (k : (A × B × Edge) × Items → Option C)
     → ((o >>= λ x. next x.1 >>= λ y. finish_of y.1 >>= λ f. Some ((x.0, y.0, f.0), f.1)) >>= k) ≡ (o >>= λ x. next x.1 >>= λ y. finish_of y.1 >>= λ f. k ((x.0, y.0, f.0), f.1))
 two_to_end None next k = refl
-two_to_end (Some x) next k = behind_first x.0 (next x.1) k
+two_to_end (Some x) next k = after_first x.0 (next x.1) k
 
 module _ (l : Limits) (in_loop : Bool) (ts : Items) where
   -- an expression
@@ -80,23 +80,23 @@ module _ (l : Limits) (in_loop : Bool) (ts : Items) where
   no_filter h = rw h refl
 
   module _ (g : Filtering) (us : Items) (read : filter_of l in_loop ts ≡ Some (g, us)) where
-    abbrev behind : (Filters × Edge) × Items → Takes (Filtering × Filters × Edge)
-    behind x = Some ((g, x.0.0, x.0.1), x.1)
+    abbrev following : (Filters × Edge) × Items → Takes (Filtering × Filters × Edge)
+    following x = Some ((g, x.0.0, x.0.1), x.1)
 
-    others_are : section_to_end l in_loop ts ≡ (filters_to_end l in_loop us >>= behind)
+    others_are : section_to_end l in_loop ts ≡ (filters_to_end l in_loop us >>= following)
     unfolding section_to_end filters_to_end
-    others_are = rw read (sym (one_to_end (filters_of l in_loop us) behind))
+    others_are = rw read (sym (one_to_end (filters_of l in_loop us) following))
 
     no_others : filters_to_end l in_loop us ≡ None → section_to_end l in_loop ts ≡ None
-    no_others h = others_are ∙ ap (λ o. o >>= behind) h
+    no_others h = others_are ∙ ap (λ o. o >>= following) h
 
-    -- the first one stands before the others
+    -- the first one is before the others
     pub with_others : (span : Span) (one : code.Expression) (before : List code.Expression) → IsFilter in_loop span one g → before ≡ one ∷ []
         → (r : Result (Vec code.Expression Global) Error) (rest : Items) → GivesBy (λ es x. AreFilters in_loop before es.items x.0) r rest (filters_to_end l in_loop us)
         → GivesBy (λ es x. AreAllFilters in_loop span es.items x.0 x.1) r rest (section_to_end l in_loop ts)
     with_others span one before is alone (Ok es) rest (x, others, are) =
         let all = are ∙ ap (λ (v : List code.Expression). map expression_view v ++ filters_output in_loop x.0) alone ∙ ap (λ e. e ∷ filters_output in_loop x.0) is in
-        ((g, x.0, x.1), others_are ∙ ap (λ o. o >>= behind) others, all)
+        ((g, x.0, x.1), others_are ∙ ap (λ o. o >>= following) others, all)
     with_others span one before is alone (Err e) rest h = failed_as (filters_to_end l in_loop us) (section_to_end l in_loop ts) e no_others h
 
   -- attributes

@@ -24,12 +24,12 @@ use Rattle.tera_statements.specs.declared.fronts.Closer.{Closer}
 pub record HoldsText (ts : Items) : Type 0 where
   pub text : List ℕ
   pub span : Span
-  pub behind : Items
-  pub tokens : ts ≡ Token (toks.Content text) span behind
-  pub is : front ts ≡ reading.Holds text span behind
+  pub following : Items
+  pub tokens : ts ≡ Token (toks.Content text) span following
+  pub is : front ts ≡ reading.Holds text span following
 
 holds_by : (ts : Items) (fr : reading.Front) → front ts ≡ fr → FrontOf ts fr → fronts.Holds ≡ kind_of fr → HoldsText ts
-holds_by ts (reading.Holds text span us) is tokens h = record { text = text; span = span; behind = us; tokens = tokens; is = is }
+holds_by ts (reading.Holds text span us) is tokens h = record { text = text; span = span; following = us; tokens = tokens; is = is }
 holds_by ts reading.Ends is tokens h = cc
 holds_by ts (reading.Closes c start first us) is tokens h = cc
 holds_by ts (reading.Shows start us) is tokens h = cc
@@ -59,12 +59,12 @@ text_taken ts us t s there took =
 -- a variable tag comes next
 pub record ShowsTag (ts : Items) : Type 0 where
   pub start : Edge
-  pub behind : Items
-  pub tokens : ts ≡ Token (toks.Start kind.Variable start.dash) start.span behind
-  pub is : front ts ≡ reading.Shows start behind
+  pub following : Items
+  pub tokens : ts ≡ Token (toks.Start kind.Variable start.dash) start.span following
+  pub is : front ts ≡ reading.Shows start following
 
 shows_by : (ts : Items) (fr : reading.Front) → front ts ≡ fr → FrontOf ts fr → fronts.Shows ≡ kind_of fr → ShowsTag ts
-shows_by ts (reading.Shows start us) is tokens h = record { start = start; behind = us; tokens = tokens; is = is }
+shows_by ts (reading.Shows start us) is tokens h = record { start = start; following = us; tokens = tokens; is = is }
 shows_by ts reading.Ends is tokens h = cc
 shows_by ts (reading.Closes c start first us) is tokens h = cc
 shows_by ts (reading.Holds text span us) is tokens h = cc
@@ -91,16 +91,16 @@ opener_back parts.OpensCall = refl
 pub record OpensTag (o : parts.Opener) (ts : Items) : Type 0 where
   pub start : Edge
   pub first : Span
-  pub behind : Items
-  pub tokens : ts ≡ start_yield start (Token (opener_token o) first behind)
-  pub is : front ts ≡ reading.Opens o start first behind
+  pub following : Items
+  pub tokens : ts ≡ start_yield start (Token (opener_token o) first following)
+  pub is : front ts ≡ reading.Opens o start first following
 
 same_opener : (o : Opener) (p : parts.Opener) → fronts.Opens o ≡ fronts.Opens (opener_kind p) → p ≡ opener_of o
 same_opener o p h = let same : o ≡ opener_kind p = cc in sym (opener_back p) ∙ ap opener_of (sym same)
 
 opens_by : (o : Opener) (ts : Items) (fr : reading.Front) → front ts ≡ fr → FrontOf ts fr → fronts.Opens o ≡ kind_of fr → OpensTag (opener_of o) ts
 opens_by o ts (reading.Opens p start first us) is tokens h =
-    subst (λ q. OpensTag q ts) (same_opener o p h) (record { start = start; first = first; behind = us; tokens = tokens; is = is })
+    subst (λ q. OpensTag q ts) (same_opener o p h) (record { start = start; first = first; following = us; tokens = tokens; is = is })
 opens_by o ts reading.Ends is tokens h = cc
 opens_by o ts (reading.Closes c start first us) is tokens h = cc
 opens_by o ts (reading.Holds text span us) is tokens h = cc
@@ -114,12 +114,12 @@ opens_tag o ts h = opens_by o ts (front ts) refl (front_is ts) h
 pub entered : (o : parts.Opener) (ts us vs : Items) (t u : Tok) (s r : Span) → OpensTag o ts → ts ≡ Token t s us → us ≡ Token u r vs
     → (start : Edge) × (front ts ≡ reading.Opens o start r vs)
 entered o ts us vs t u s r there one two =
-    let behind : us ≡ Token (opener_token o) there.first there.behind = behind_first _ _ _ _ _ _ (sym one ∙ there.tokens) in
-    let ends = sym two ∙ behind in
-    (there.start, there.is ∙ (λ i. reading.Opens o there.start (span_first _ _ _ _ _ _ (sym ends) i) (behind_first _ _ _ _ _ _ (sym ends) i)))
+    let following : us ≡ Token (opener_token o) there.first there.following = after_first _ _ _ _ _ _ (sym one ∙ there.tokens) in
+    let ends = sym two ∙ following in
+    (there.start, there.is ∙ (λ i. reading.Opens o there.start (span_first _ _ _ _ _ _ (sym ends) i) (after_first _ _ _ _ _ _ (sym ends) i)))
   where
-    behind_first : (t u : Tok) (s r : Span) (us vs : Items) → Token t s us ≡ Token u r vs → us ≡ vs
-    behind_first t u s r us vs h = cc
+    after_first : (t u : Tok) (s r : Span) (us vs : Items) → Token t s us ≡ Token u r vs → us ≡ vs
+    after_first t u s r us vs h = cc
 
     span_first : (t u : Tok) (s r : Span) (us vs : Items) → Token t s us ≡ Token u r vs → s ≡ r
     span_first t u s r us vs h = cc
@@ -198,7 +198,7 @@ module _ (l : Limits) (self : Reader) (path : Path) (seen : Seen) where
 
 -- the start of a variable tag was taken
 pub shown_taken : (ts us : Items) (t : Tok) (s : Span) → ShowsTag ts → ts ≡ Token t s us → (start : Edge) × (front ts ≡ reading.Shows start us)
-shown_taken ts us t s there took = (there.start, there.is ∙ ap (reading.Shows there.start) (same_behind _ _ _ _ _ _ (sym there.tokens ∙ took)))
+shown_taken ts us t s there took = (there.start, there.is ∙ ap (reading.Shows there.start) (same_after _ _ _ _ _ _ (sym there.tokens ∙ took)))
   where
-    same_behind : (t u : Tok) (s r : Span) (us vs : Items) → Token t s us ≡ Token u r vs → us ≡ vs
-    same_behind t u s r us vs h = cc
+    same_after : (t u : Tok) (s r : Span) (us vs : Items) → Token t s us ≡ Token u r vs → us ≡ vs
+    same_after t u s r us vs h = cc

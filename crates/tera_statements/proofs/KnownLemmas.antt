@@ -30,19 +30,19 @@ known_as names name r h = some_copied r ∙ ap is_some h
 pub none_located : (names : BTreeMap (String Global) Span) → names.entries ≡ [] → located_of names ≡ nothing_located
 none_located names h = λ i name. lookup (λ k. is_eq (slice_cmp nat_cmp name (string_bytes k))) (h i)
 
--- a name that is kept is met where it stands
+-- a name that is kept is met where it is
 pub kept_at : (old new : BTreeMap (String Global) Span) (key : String Global) (span : Span) → Updates string_cmp old new key (Some span)
     → located_of new ≡ locate (name_in (string_bytes key) span) (located_of old)
 kept_at old new key span h = λ i name. btree_map_updates_text (string_bytes key) old new (Some span) h name i
 
 pub same_place : (located : Located) {text other : List ℕ} {span there : Span} → text ≡ other → span ≡ there → locate (name_in text span) located ≡ locate (name_in other there) located
-same_place located same stands = λ i. locate (name_in (same i) (stands i)) located
+same_place located same represents = λ i. locate (name_in (same i) (represents i)) located
 
--- the test by which a name is sought
-abbrev sought : List ℕ → String Global → Bool
-sought name = λ k. is_eq (slice_cmp nat_cmp name (string_bytes k))
+-- the test by which a name is looked for
+abbrev looked_for : List ℕ → String Global → Bool
+looked_for name = λ k. is_eq (slice_cmp nat_cmp name (string_bytes k))
 
-same_test : (name : List ℕ) (k : String Global) → bytes_eq (string_bytes k) name ≡ sought name k
+same_test : (name : List ℕ) (k : String Global) → bytes_eq (string_bytes k) name ≡ looked_for name k
 same_test name k = nat_list_eq_equiv.symm (string_bytes k) name ∙ sym (is_eq-slice_cmp name (string_bytes k))
 
 -- What is kept under names, each as it is viewed.
@@ -66,27 +66,27 @@ module _ {V A : Type 0} (view : V → A) where
       ap (option_map view) (btree_map_updates_text (string_bytes key) old new (Some v) h name) ∙ one_viewed (bytes_eq (string_bytes key) name) v (get_by_text old name) in
       λ i name. is name i
 
-  -- keys ascend, so behind one that is found none is
-  none_behind : (name : List ℕ) (k : String Global) (es : List (String Global × V)) → sought name k ≡ true → AllByRecursion (λ j. string_cmp k j ≡ Less) (keys_of es)
-      → lookup (sought name) es ≡ None
-  none_behind name k [] found above = refl
-  none_behind name k (e ∷ es) found above =
+  -- keys ascend, so after one that is found none is
+  none_after : (name : List ℕ) (k : String Global) (es : List (String Global × V)) → looked_for name k ≡ true → AllByRecursion (λ j. string_cmp k j ≡ Less) (keys_of es)
+      → lookup (looked_for name) es ≡ None
+  none_after name k [] found above = refl
+  none_after name k (e ∷ es) found above =
       let same : name ≡ string_bytes k = (bytes_eq-Decides name (string_bytes k)).0 (sym (is_eq-slice_cmp name (string_bytes k)) ∙ found) in
-      let apart : sought name e.0 ≡ false = ap (λ t. is_eq (slice_cmp nat_cmp t (string_bytes e.0))) same ∙ ap is_eq above.0 in
-      rw apart (none_behind name k es found above.1)
+      let apart : looked_for name e.0 ≡ false = ap (λ t. is_eq (slice_cmp nat_cmp t (string_bytes e.0))) same ∙ ap is_eq above.0 in
+      rw apart (none_after name k es found above.1)
 
   -- so it is the same to keep the entries one after another
   entries_put : (name : List ℕ) (es : List (String Global × V)) (f : List ℕ → Option A) → IsStrictlySortedBy string_cmp (keys_of es)
-      → put_all es f name ≡ option_or (option_map view (lookup (sought name) es)) (f name)
+      → put_all es f name ≡ option_or (option_map view (lookup (looked_for name) es)) (f name)
   unfolding IsStrictlySortedBy
   entries_put name [] f sorted = refl
   entries_put name (e ∷ es) f sorted =
-      entries_put name es (λ other. cond (bytes_eq (string_bytes e.0) other) (Some (view e.1)) (f other)) sorted.1 ∙ by (sought name e.0) refl
+      entries_put name es (λ other. cond (bytes_eq (string_bytes e.0) other) (Some (view e.1)) (f other)) sorted.1 ∙ by (looked_for name e.0) refl
     where
-      by : (b : Bool) → sought name e.0 ≡ b
-          → option_or (option_map view (lookup (sought name) es)) (cond (bytes_eq (string_bytes e.0) name) (Some (view e.1)) (f name))
-          ≡ option_or (option_map view (cond (sought name e.0) (Some e.1) (lookup (sought name) es))) (f name)
-      by true h = rw (same_test name e.0, h, none_behind name e.0 es h sorted.0) refl
+      by : (b : Bool) → looked_for name e.0 ≡ b
+          → option_or (option_map view (lookup (looked_for name) es)) (cond (bytes_eq (string_bytes e.0) name) (Some (view e.1)) (f name))
+          ≡ option_or (option_map view (cond (looked_for name e.0) (Some e.1) (lookup (looked_for name) es))) (f name)
+      by true h = rw (same_test name e.0, h, none_after name e.0 es h sorted.0) refl
       by false h = rw (same_test name e.0, h) refl
 
   or_nothing : (o : Option A) → option_or o None ≡ o
@@ -96,7 +96,7 @@ module _ {V A : Type 0} (view : V → A) where
   pub all_put : (names : BTreeMap (String Global) V) → IsStrictlySortedBy string_cmp (keys_of names.entries) → put_all names.entries (λ name. None) ≡ viewed names
   all_put names sorted =
       let is : (name : List ℕ) → put_all names.entries (λ other. None) name ≡ viewed names name = λ name.
-      entries_put name names.entries (λ other. None) sorted ∙ or_nothing (option_map view (lookup (sought name) names.entries)) in
+      entries_put name names.entries (λ other. None) sorted ∙ or_nothing (option_map view (lookup (looked_for name) names.entries)) in
       λ i name. is name i
 
 -- a place is viewed as itself

@@ -33,7 +33,7 @@ use Rattle.tera_grammar.specs.statements.Expressions.{Limits}
 use Rattle.tera_grammar.specs.statements.Reading.Expressions.{array_of, map_of}
 use Rattle.tera_grammar.specs.statements.TagParts.{Name}
 use Rattle.tera_grammar.specs.statements.Reading.Meeting.{Located, Met, locate, meet, met}
-use Rattle.tera_grammar.specs.statements.Reading.Components.{annotation_in, assigned_in, at_in, default_at, default_by, default_of, fresh_name, minus_of, parameter, parameter_behind, parameter_of, parameters_at, parameters_behind, parameters_in, parameters_of}
+use Rattle.tera_grammar.specs.statements.Reading.Components.{annotation_in, assigned_in, at_in, default_at, default_by, default_of, fresh_name, minus_of, parameter, parameter_after, parameter_of, parameters_at, parameters_after, parameters_in, parameters_of}
 use Rattle.tera_grammar.specs.statements.Reading.Loops.{Listing}
 use Rattle.tera_grammar.specs.statements.Types.{Sorted, put_name, type_named}
 use Rattle.tera_grammar.proofs.statements.Loops.{listing_on}
@@ -54,7 +54,7 @@ untaken read old new e ended failed (inr h) = stopped old.left h.1
     stopped (Failed text span) s = inr (failed text span)
     stopped (Token t span items) s = inl s.1
 
--- a token that was taken where it stood, or was not
+-- a token that was taken where it was, or was not
 pub eaten_goes : (b : Bool) (old new : Position) (read : Option (Span × Items)) → Eats b old new read → GoesOn old new
 eaten_goes true old new read h = took_goes old new h.1
 eaten_goes false old new read h = subst (λ p. GoesOn old p) (sym h.1) (stays old)
@@ -68,8 +68,8 @@ abbrev pub none_word : Tok → Bool
 none_word (toks.Ident text) = is_none text
 none_word t = false
 
-pub at_behind : (l : Limits) (seen : Met) (ts us : Items) (at : Option Span) → at_in ts (takes At ts) ≡ (at, us) → parameter_of l seen ts ≡ parameter_behind l seen at us
-at_behind l seen ts us at h = ap (λ (y : Option Span × Items). parameter_behind l seen y.0 y.1) h
+pub at_after : (l : Limits) (seen : Met) (ts us : Items) (at : Option Span) → at_in ts (takes At ts) ≡ (at, us) → parameter_of l seen ts ≡ parameter_after l seen at us
+at_after l seen ts us at h = ap (λ (y : Option Span × Items). parameter_after l seen y.0 y.1) h
 
 -- defaults that are one token, or begin with a minus
 module _ (l : Limits) (ts us : Items) (s : Span) where
@@ -193,7 +193,7 @@ no_name_taken ts us s t is other = ap taken_name is ∙ by t other
     by (toks.Ident text) h = cc
     by _ h = refl
 
--- a default, where a sign stands before it
+-- a default, where a sign is before it
 module _ (l : Limits) (ts us : Items) (sign : Span) where
   pub no_default : default_of l us ≡ None → assigned_in l ts (Some (sign, us)) ≡ None
   unfolding assigned_in
@@ -215,27 +215,27 @@ typed_is (Some a) v t h k = ap (λ u. typed u v) h ∙ known_typed (type_named a
 
 -- the parts of a parameter
 module _ (l : Limits) (seen : Met) (at : Option Span) (ts : Items) where
-  pub no_fresh_name : fresh_name seen ts ≡ None → parameter_behind l seen at ts ≡ None
-  unfolding parameter_behind
+  pub no_fresh_name : fresh_name seen ts ≡ None → parameter_after l seen at ts ≡ None
+  unfolding parameter_after
   no_fresh_name h = rw h refl
 
   module _ (n : Name) (us : Items) (named : fresh_name seen ts ≡ Some (n, us)) where
-    pub no_annotation : annotation_in us (takes Colon us) ≡ None → parameter_behind l seen at ts ≡ None
-    unfolding parameter_behind
+    pub no_annotation : annotation_in us (takes Colon us) ≡ None → parameter_after l seen at ts ≡ None
+    unfolding parameter_after
     no_annotation h = rw (named, h) refl
 
     module _ (t : Option Annotation) (vs : Items) (annotated : annotation_in us (takes Colon us) ≡ Some (t, vs)) where
-      pub no_assigned : assigned_in l vs (takes Assign vs) ≡ None → parameter_behind l seen at ts ≡ None
-      unfolding parameter_behind
+      pub no_assigned : assigned_in l vs (takes Assign vs) ≡ None → parameter_after l seen at ts ≡ None
+      unfolding parameter_after
       no_assigned h = rw (named, annotated, h) refl
 
       module _ (d : Option Assigned) (ws : Items) (assigned : assigned_in l vs (takes Assign vs) ≡ Some (d, ws)) where
-        pub mistyped : has_default (argument_of (parameter at n t d)) ≡ false → parameter_behind l seen at ts ≡ None
-        unfolding parameter_behind
+        pub mistyped : has_default (argument_of (parameter at n t d)) ≡ false → parameter_after l seen at ts ≡ None
+        unfolding parameter_after
         mistyped h = rw (named, annotated, assigned, h) refl
 
-        pub parameter_given : has_default (argument_of (parameter at n t d)) ≡ true → parameter_behind l seen at ts ≡ Some (parameter at n t d, ws)
-        unfolding parameter_behind
+        pub parameter_given : has_default (argument_of (parameter at n t d)) ≡ true → parameter_after l seen at ts ≡ Some (parameter at n t d, ws)
+        unfolding parameter_after
         parameter_given h = rw (named, annotated, assigned, h) refl
 
 pub annotation_known : (ts : Items) (o : Option (Span × Items)) (x : Option Annotation × Items) → annotation_in ts o ≡ Some x → components.is_known x.0 ≡ true
@@ -266,17 +266,17 @@ end_of_rest n end = Some (n, end.1)
 abbrev end_of_all : Span → Name → Span × Items → Takes Parameters
 end_of_all dots n end = Some (Rest dots n end.0, end.1)
 
-abbrev behind_rest : Name × Items → Takes Name
-behind_rest n = takes RightParen n.1 >>= end_of_rest n.0
+abbrev after_rest : Name × Items → Takes Name
+after_rest n = takes RightParen n.1 >>= end_of_rest n.0
 
-abbrev behind_all : Span → Name × Items → Takes Parameters
-behind_all dots n = takes RightParen n.1 >>= end_of_all dots n.0
+abbrev after_all : Span → Name × Items → Takes Parameters
+after_all dots n = takes RightParen n.1 >>= end_of_all dots n.0
 
 no_end_by : (e : Option (Span × Items)) (dots : Span) (n : Name) → (e >>= end_of_rest n) ≡ None → (e >>= end_of_all dots n) ≡ None
 no_end_by None dots n h = refl
 no_end_by (Some end) dots n h = cc
 
-no_rest_by : (o : Option (Name × Items)) (dots : Span) → (o >>= behind_rest) ≡ None → (o >>= behind_all dots) ≡ None
+no_rest_by : (o : Option (Name × Items)) (dots : Span) → (o >>= after_rest) ≡ None → (o >>= after_all dots) ≡ None
 no_rest_by None dots h = refl
 no_rest_by (Some n) dots h = no_end_by (takes RightParen n.1) dots n.0 h
 
@@ -284,7 +284,7 @@ end_by : (e : Option (Span × Items)) (dots : Span) (m n : Name) (us : Items) �
 end_by None dots m n us h = cc
 end_by (Some end) dots m n us h = (end.0, ap (λ (x : Name × Items). Some (Rest dots x.0 end.0, x.1)) (same_Some (m, end.1) (n, us) h))
 
-rest_by : (o : Option (Name × Items)) (dots : Span) (n : Name) (us : Items) → (o >>= behind_rest) ≡ Some (n, us) → (end : Span) × ((o >>= behind_all dots) ≡ Some (Rest dots n end, us))
+rest_by : (o : Option (Name × Items)) (dots : Span) (n : Name) (us : Items) → (o >>= after_rest) ≡ Some (n, us) → (end : Span) × ((o >>= after_all dots) ≡ Some (Rest dots n end, us))
 rest_by None dots n us h = cc
 rest_by (Some m) dots n us h = end_by (takes RightParen m.1) dots m.0 n us h
 
@@ -295,7 +295,7 @@ module _ (l : Limits) (seen : Met) (ts : Items) where
 
   module _ (no_end : takes RightParen ts ≡ None) where
     module _ (dots : Span) (us : Items) (there : takes Spread ts ≡ Some (dots, us)) where
-      rest_is : next_parameters l seen ts ≡ (fresh_name seen us >>= behind_all dots)
+      rest_is : next_parameters l seen ts ≡ (fresh_name seen us >>= after_all dots)
       unfolding parameters_in parameters_at
       rest_is = ap (parameters_in (parameters_of l) l seen ts) no_end ∙ ap (parameters_at (parameters_of l) l seen ts) there
 
@@ -306,34 +306,34 @@ module _ (l : Limits) (seen : Met) (ts : Items) where
       rest_given n vs h = let (end, read) = rest_by (fresh_name seen us) dots n vs h in (end, rest_is ∙ read)
 
     module _ (no_dots : takes Spread ts ≡ None) where
-      another : next_parameters l seen ts ≡ (parameter_of l seen ts >>= λ p. parameters_behind (parameters_of l) seen p.0 p.1 (takes RightParen p.1))
+      another : next_parameters l seen ts ≡ (parameter_of l seen ts >>= λ p. parameters_after (parameters_of l) seen p.0 p.1 (takes RightParen p.1))
       unfolding parameters_in parameters_at
       another = ap (parameters_in (parameters_of l) l seen ts) no_end ∙ ap (parameters_at (parameters_of l) l seen ts) no_dots
 
       pub no_parameter : parameter_of l seen ts ≡ None → next_parameters l seen ts ≡ None
-      no_parameter h = another ∙ ap (λ o. o >>= λ p. parameters_behind (parameters_of l) seen p.0 p.1 (takes RightParen p.1)) h
+      no_parameter h = another ∙ ap (λ o. o >>= λ p. parameters_after (parameters_of l) seen p.0 p.1 (takes RightParen p.1)) h
 
       module _ (p : Parameter) (us : Items) (read : parameter_of l seen ts ≡ Some (p, us)) where
-        behind_it : next_parameters l seen ts ≡ parameters_behind (parameters_of l) seen p us (takes RightParen us)
-        behind_it = another ∙ ap (λ o. o >>= λ q. parameters_behind (parameters_of l) seen q.0 q.1 (takes RightParen q.1)) read
+        after_it : next_parameters l seen ts ≡ parameters_after (parameters_of l) seen p us (takes RightParen us)
+        after_it = another ∙ ap (λ o. o >>= λ q. parameters_after (parameters_of l) seen q.0 q.1 (takes RightParen q.1)) read
 
         pub last_given : (end : Span) (vs : Items) → takes RightParen us ≡ Some (end, vs) → next_parameters l seen ts ≡ Some (Final p end, vs)
-        unfolding parameters_behind
-        last_given end vs h = behind_it ∙ ap (parameters_behind (parameters_of l) seen p us) h
+        unfolding parameters_after
+        last_given end vs h = after_it ∙ ap (parameters_after (parameters_of l) seen p us) h
 
         pub no_comma : takes RightParen us ≡ None → takes Comma us ≡ None → next_parameters l seen ts ≡ None
-        unfolding parameters_behind
-        no_comma none h = behind_it ∙ ap (parameters_behind (parameters_of l) seen p us) none ∙ ap (λ o. o >>= λ c. parameters_of l (meet p.name.text seen) c.1 >>= λ ps. Some (components.More p c.0 ps.0, ps.1)) h
+        unfolding parameters_after
+        no_comma none h = after_it ∙ ap (parameters_after (parameters_of l) seen p us) none ∙ ap (λ o. o >>= λ c. parameters_of l (meet p.name.text seen) c.1 >>= λ ps. Some (components.More p c.0 ps.0, ps.1)) h
 
 -- one parameter more
 pub listing_more : (l : Limits) (start here : Items) (seen more : Located) (gathered grown : Sorted Argument) → Listing l start here seen gathered
     → takes RightParen here ≡ None → takes Spread here ≡ None → (p : Parameter) (us : Items) → parameter_of l (met seen) here ≡ Some (p, us)
     → takes RightParen us ≡ None → (comma : Span) (vs : Items) → takes Comma us ≡ Some (comma, vs)
     → more ≡ locate p.name seen → grown ≡ put_name p.name.text (argument_of p) gathered → Listing l start vs more grown
-listing_more l start here seen more gathered grown g no_end no_dots p us read no_last comma vs stands named put =
+listing_more l start here seen more gathered grown g no_end no_dots p us read no_last comma vs represents named put =
     subst (λ s. Listing l start vs s grown) (sym named) (subst (λ a. Listing l start vs (locate p.name seen) a) (sym put)
-    (listing_on l start here seen gathered g no_end no_dots (p, us) read no_last (comma, vs) stands))
+    (listing_on l start here seen gathered g no_end no_dots (p, us) read no_last (comma, vs) represents))
 
--- where a token was not taken, the same stands there
+-- where a token was not taken, the same is there
 pub same_place : {A : Type 0} (read : Items → Option A) (old new : Position) (r : Option A) → new ≡ old → read new.left ≡ r → read old.left ≡ r
 same_place read old new r same h = ap (λ (p : Position). read p.left) (sym same) ∙ h

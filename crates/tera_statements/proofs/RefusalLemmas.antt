@@ -1,6 +1,6 @@
 -- Refusals in the tokens that are left, and tokens of which none is refused: empty texts.
 use Rattle.std.proofs.Common.{◌≡◌, ℕ, zero, suc, ◌+◌, Bool, true, false, List, [], Some, None, Err, inl, inr, ⊎_elim, refl, sym, ap, subst, ◌∙◌, arith}
-use Rattle.tera_base.proofs.Tellings.{tells_weaker, tells_memory}
+use Rattle.tera_base.proofs.Tellings.{reports_weaker, reports_memory}
 use Rattle.tera_base.specs.Errors.{IsMemory}
 use Rattle.tera_base.specs.declared.errors.Error.{Error}
 use Rattle.tera_base.specs.declared.utils.Span.{Span}
@@ -30,46 +30,46 @@ use Rattle.tera_expect.proofs.TakingLemmas.{refused_further}
 -- what is refused in the tokens is refused
 pub inside_refused : (old : Position) (e : Error) → RefusesIn old e → Refuses old e
 unfolding RefusesIn Refuses
-inside_refused old e told =
-    tells_weaker (λ text span. IsWithin old.source span × Faults old.left text span) (λ text span. IsWithin old.source span × FaultsFrom old.span old.left text span) e
-    (λ text span f. (f.0, inr (inr f.1))) told
+inside_refused old e reported =
+    reports_weaker (λ text span. IsWithin old.source span × Faults old.left text span) (λ text span. IsWithin old.source span × FaultsFrom old.span old.left text span) e
+    (λ text span f. (f.0, inr (inr f.1))) reported
 
 pub memory_inside : (old : Position) (e : Error) → IsMemory e → RefusesIn old e
 unfolding RefusesIn
-memory_inside old e memory = tells_memory (λ text span. IsWithin old.source span × Faults old.left text span) e memory
+memory_inside old e memory = reports_memory (λ text span. IsWithin old.source span × Faults old.left text span) e memory
 
 pub inside_further : (old mid : Position) (e : Error) → GoesOn old mid → RefusesIn mid e → Refuses old e
-inside_further old mid e goes told = refused_further old mid e goes (inside_refused mid e told)
+inside_further old mid e goes reported = refused_further old mid e goes (inside_refused mid e reported)
 
--- what is refused at tokens that were taken, or behind them
+-- what is refused at tokens that were taken, or after them
 pub took_inside : (old mid : Position) (e : Error) → Took old mid → Refuses mid e → RefusesIn old e
 unfolding Took Refuses RefusesIn
-took_inside old mid e took told = by took.0.count old.left refl took.0.taken took.0.passes
+took_inside old mid e took reported = by took.0.count old.left refl took.0.taken took.0.passes
   where
     by : (n : ℕ) (items : Items) → old.left ≡ items → mid.taken ≡ old.taken + n → Passes n items old.span mid.left mid.span → RefusesIn old e
     by zero items is taken (left_is, span_is) = let same : size mid.left ≡ size old.left = ap size (left_is ∙ sym is) in absurd (omega (arith, same, took.1))
     by (suc n) Ended is taken passes = absurd passes
     by (suc n) (Failed text at) is taken passes = absurd passes
     by (suc n) (Token t here items) is taken passes =
-        let behind : Position = record { source = old.source; left = items; sight = 0; taken = old.taken + 1; span = here } in
-        let later : IsLater behind mid = record { count = n; source = took.0.source; taken = omega (arith, taken); passes = passes } in
-        tells_weaker (λ text span. IsWithin old.source span × FaultsFrom here items text span) (λ text span. IsWithin old.source span × Faults old.left text span) e
-        (λ text span f. (f.0, subst (λ ts. Faults ts text span) (sym is) (lift_faults t here items text span f.1))) (refusals.refuses_later behind mid e later told)
+        let following : Position = record { source = old.source; left = items; sight = 0; taken = old.taken + 1; span = here } in
+        let later : IsLater following mid = record { count = n; source = took.0.source; taken = omega (arith, taken); passes = passes } in
+        reports_weaker (λ text span. IsWithin old.source span × FaultsFrom here items text span) (λ text span. IsWithin old.source span × Faults old.left text span) e
+        (λ text span f. (f.0, subst (λ ts. Faults ts text span) (sym is) (lift_faults t here items text span f.1))) (refusals.refuses_later following mid e later reported)
 
 passed_faults : (n : ℕ) (items : Items) (last : Span) (left : Items) (here : Span) → Passes n items last left here → (text : List ℕ) (span : Span) → Faults left text span → Faults items text span
 passed_faults zero items last left here (left_is, span_is) text span f = subst (λ ts. Faults ts text span) left_is f
 passed_faults (suc n) Ended last left here passes text span f = absurd passes
-passed_faults (suc n) (Failed told at) last left here passes text span f = absurd passes
+passed_faults (suc n) (Failed reported at) last left here passes text span f = absurd passes
 passed_faults (suc n) (Token t at items) last left here passes text span f = later_faults t at items text span (passed_faults n items at left here passes text span f)
 
 pub goes_inside : (old mid : Position) (e : Error) → GoesOn old mid → RefusesIn mid e → RefusesIn old e
 unfolding GoesOn RefusesIn
-goes_inside old mid e goes told =
-    tells_weaker (λ text span. IsWithin mid.source span × Faults mid.left text span) (λ text span. IsWithin old.source span × Faults old.left text span) e
+goes_inside old mid e goes reported =
+    reports_weaker (λ text span. IsWithin mid.source span × Faults mid.left text span) (λ text span. IsWithin old.source span × Faults old.left text span) e
     (λ text span f. (
       subst (λ s. IsWithin s span) goes.0.source f.0,
       passed_faults goes.0.count old.left old.span mid.left mid.span goes.0.passes text span f.1,
-    )) told
+    )) reported
 
 pub not_both : true ≡ false → ⊥
 not_both h = cc
@@ -77,13 +77,13 @@ not_both h = cc
 -- a token is not taken, where the tokens have not ended
 pub untaken_inside : (old new : Position) (e : Error) → is_end old.left ≡ false → TakesOne old (Err e) new → RefusesIn old e
 unfolding RefusesIn
-untaken_inside old new e some told = ⊎_elim (λ end. absurd (not_both (ap is_end (sym end.0) ∙ some))) (λ stops. by old.left refl stops.1) told
+untaken_inside old new e some reported = ⊎_elim (λ end. absurd (not_both (ap is_end (sym end.0) ∙ some))) (λ stops. by old.left refl stops.1) reported
   where
     by : (items : Items) → old.left ≡ items → Stops old.source items e → RefusesIn old e
     by Ended is stops = absurd stops
-    by (Failed told here) is (within, tells) =
-        tells_weaker (λ text span. (text ≡ told) × (span ≡ here)) (λ text span. IsWithin old.source span × Faults old.left text span) e
-        (λ text span at. rw at.1 (within, rw is (inl (at.0, refl)))) tells
+    by (Failed reported here) is (within, reports) =
+        reports_weaker (λ text span. (text ≡ reported) × (span ≡ here)) (λ text span. IsWithin old.source span × Faults old.left text span) e
+        (λ text span at. rw at.1 (within, rw is (inl (at.0, refl)))) reports
     by (Token t here items) is (takes, memory) = memory_inside old e memory
 
 -- the tokens have not ended where something wrong comes next
@@ -106,7 +106,7 @@ quiet k (Token t span items) h empty = subst IsQuiet (sym (h ∙ ap (λ u. kind_
 passed_empty : (n : ℕ) (items : Items) (last : Span) (left : Items) (here : Span) → Passes n items last left here → AreEmptyTexts items → AreEmptyTexts left
 passed_empty zero items last left here (left_is, span_is) empty = subst AreEmptyTexts (sym left_is) empty
 passed_empty (suc n) Ended last left here passes empty = absurd passes
-passed_empty (suc n) (Failed told at) last left here passes empty = absurd passes
+passed_empty (suc n) (Failed reported at) last left here passes empty = absurd passes
 passed_empty (suc n) (Token t at items) last left here passes empty = passed_empty n items at left here passes empty.1
 
 pub goes_empty : (old new : Position) → GoesOn old new → AreEmptyTexts old.left → AreEmptyTexts new.left
@@ -139,8 +139,8 @@ module _ (l : Limits) (self : Reader) (path : Path) (seen : Seen) where
   empty_adds in_loop (Token t span items) i p empty h =
       holds_item in_loop [] span items i p refl (subst (λ u. step l self path seen (front_at u span items) ≡ Some (Some (i, p))) empty.0 h)
 
--- what is silent may stand in each phase
+-- what is silent may be in each phase
 pub silent_turns : (phase : reading.Phase) → turn phase Silent ≡ None → ⊥
 silent_turns reading.Starting h = cc
-silent_turns reading.Standing h = cc
+silent_turns reading.Standalone h = cc
 silent_turns reading.Extending h = cc

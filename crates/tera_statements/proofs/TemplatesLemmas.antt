@@ -2,8 +2,8 @@
 use Rattle.std.proofs.Common.{◌≡◌, ◌⊎◌, ℕ, zero, suc, ◌+◌, ◌<◌, ◌≤◌, Bool, true, false, List, [], ◌∷◌, ◌++◌, append-nil, length, ◌==◌, Option, Some, None, Result, Ok, Err, IfErr, inl, inr, ⊎_elim, refl, sym, ap, subst, ◌∙◌, arith, is_some}
 use Rattle.std.proofs.Math.Dec.{eqb-suc-zero}
 use Rattle.std.specs.Str.{chars, trim_start}
-use Rattle.tera_base.proofs.Tellings.{tells_weaker}
-use Rattle.tera_base.specs.Errors.{IsMemory, Tells}
+use Rattle.tera_base.proofs.Tellings.{reports_weaker}
+use Rattle.tera_base.specs.Errors.{IsMemory, Reports}
 use Rattle.tera_base.specs.declared.errors.Error.{Error}
 use Rattle.tera_base.specs.declared.utils.Span.{Span}
 use Rattle.tera_lexer.specs.code.Cursors.{Passes, Position, size}
@@ -28,7 +28,7 @@ use Rattle.tera_statements.specs.Items.{AreEmptyTexts, GoesByItem}
 use Rattle.tera_statements.specs.Kinds.{kind_of}
 use Rattle.tera_expr_parts.specs.Rooms.{AreValid}
 use Rattle.tera_expect.specs.Taking.{Fails, RefusesIn, Took}
-use Rattle.tera_statements.specs.Templates.{Excludes, GivesPhase, GivesTemplate, GivesTextPhase, ReadsTemplate, StandsNext, TopOf, top_depth, phase_if_any, phase_of}
+use Rattle.tera_statements.specs.Templates.{Excludes, GivesPhase, GivesTemplate, GivesTextPhase, ReadsTemplate, ComesNext, TopOf, top_depth, phase_if_any, phase_of}
 use Rattle.tera_statements.specs.declared.fronts.Front.TheVariants as fronts
 use Rattle.tera_statements.specs.declared.fronts.Opener.TheVariants as openers
 use Rattle.tera_statements.specs.declared.templates.Phase.{Phase}
@@ -45,7 +45,7 @@ module _ (l : Limits) (valid : AreValid l) (here : Place) (ph : reading.Phase) w
   pub late_excluded : turn ph loops.Parent ≡ None → fronts.Opens openers.Extends ≡ kind_of (front here.tokens) → Excludes l here ph
   late_excluded none next = λ ts out g.
       let there = opens_tag openers.Extends here.tokens next in
-      topping_extends l (top_depth l) (opens l valid) ts here out ph g none there.start there.first there.behind there.is
+      topping_extends l (top_depth l) (opens l valid) ts here out ph g none there.start there.first there.following there.is
 
   pub step_excluded : step l (body (top_depth l) l) [] here.seen (front here.tokens) ≡ None → Excludes l here ph
   step_excluded h = λ ts out g. topping_refused l (top_depth l) (opens l valid) ts here out ph g h
@@ -53,7 +53,7 @@ module _ (l : Limits) (valid : AreValid l) (here : Place) (ph : reading.Phase) w
   pub turn_excluded : (i : Item) (new : Place) → step l (body (top_depth l) l) [] here.seen (front here.tokens) ≡ Some (Some (i, new)) → turn ph (weight (added_by false i)) ≡ None → Excludes l here ph
   turn_excluded i new read none = λ ts out g. topping_stops l (top_depth l) (opens l valid) ts here out ph i new (with_added out (added_by false i)) g read refl none
 
--- no phase is behind
+-- no phase is after
 pub no_phase : (p : Option Phase) (q : Option reading.Phase) → phase_if_any p ≡ q → is_some p ≡ false → q ≡ None
 no_phase None q is h = sym is
 no_phase (Some p) q is h = cc
@@ -84,16 +84,16 @@ some_passed zero t first items last left here (left_is, span_is) fewer span ends
 some_passed (suc n) t first items last left here passes fewer span ends = passed n items first left here passes span ends
 
 -- a fault from the next token on
-pub covered : (old new : Position) (first span : Span) (text : List ℕ) (e : Error) → Took old new → StandsNext (Some first) old
-    → (IsWithin new.source first → IsWithin new.source span) → BeginsWith first span → EndsWith first span ⊎ EndsWith new.span span → Tells text span e → RefusesIn old e
+pub covered : (old new : Position) (first span : Span) (text : List ℕ) (e : Error) → Took old new → ComesNext (Some first) old
+    → (IsWithin new.source first → IsWithin new.source span) → BeginsWith first span → EndsWith first span ⊎ EndsWith new.span span → Reports text span e → RefusesIn old e
 unfolding Took RefusesIn
-covered old new first span text e took ((t, behind, is), there) within starts ends told =
+covered old new first span text e took ((t, following, is), there) within starts ends reported =
     let inside : IsWithin old.source span = subst (λ source. IsWithin source span) took.0.source (within (subst (λ source. IsWithin source first) (sym took.0.source) there)) in
     let passes = subst (λ ts. Passes took.0.count ts old.span new.left new.span) is took.0.passes in
     let fewer = subst (λ ts. size new.left < size ts) is took.1 in
-    let covers : Covers (Token t first behind) span = inl (starts, ⊎_elim (λ here. inl here) (λ there. some_passed took.0.count t first behind old.span new.left new.span passes fewer span there) ends) in
-    tells_weaker (λ words s. (words ≡ text) × (s ≡ span)) (λ words s. IsWithin old.source s × Faults old.left words s) e
-    (λ words s same. subst (λ v. IsWithin old.source v × Faults old.left words v) (sym same.1) (inside, inr (inr (subst (λ ts. Covers ts span) (sym is) covers)))) told
+    let covers : Covers (Token t first following) span = inl (starts, ⊎_elim (λ here. inl here) (λ there. some_passed took.0.count t first following old.span new.left new.span passes fewer span there) ends) in
+    reports_weaker (λ words s. (words ≡ text) × (s ≡ span)) (λ words s. IsWithin old.source s × Faults old.left words s) e
+    (λ words s same. subst (λ v. IsWithin old.source v × Faults old.left words v) (sym same.1) (inside, inr (inr (subst (λ ts. Covers ts span) (sym is) covers)))) reported
 
 -- what is refused of a template of which so much has been read
 pub excluded_fails : (l : Limits) (ts : Items) (here : Place) (out : Output) (ph : reading.Phase) (e : Error) → TopOf l ts here out ph → IsMemory e ⊎ Excludes l here ph → Fails (template l ts) e
@@ -118,14 +118,14 @@ pub weight_text : (text : List ℕ) → weight (text_adds text) ≡ text_weight 
 weight_text [] = refl
 weight_text (b ∷ bs) = refl
 
-standing_by : (blank : Bool) → turn reading.Standing (text_weight blank) ≡ Some reading.Standing
-standing_by true = refl
-standing_by false = refl
+standalone_by : (blank : Bool) → turn reading.Standalone (text_weight blank) ≡ Some reading.Standalone
+standalone_by true = refl
+standalone_by false = refl
 
-pub standing_text : (text : List ℕ) → turn reading.Standing (weight (text_adds text)) ≡ Some reading.Standing
-standing_text text = ap (turn reading.Standing) (weight_text text) ∙ standing_by (is_blank text)
+pub standalone_text : (text : List ℕ) → turn reading.Standalone (weight (text_adds text)) ≡ Some reading.Standalone
+standalone_text text = ap (turn reading.Standalone) (weight_text text) ∙ standalone_by (is_blank text)
 
--- a text is put behind the nodes
+-- a text is put after the nodes
 pub with_text : (out : Output) (text : List ℕ) (nodes : List Stmt) → nodes ≡ out.nodes ++ added_nodes (text_adds text) → (record out { nodes = nodes }) ≡ with_added out (text_adds text)
 with_text out [] nodes h = λ i. record { parent = out.parent; nodes = h i; definitions = sym (append-nil out.definitions) i }
 with_text out (b ∷ bs) nodes h = λ i. record { parent = out.parent; nodes = h i; definitions = sym (append-nil out.definitions) i }
@@ -147,7 +147,7 @@ text_goes ph (Err e) out before text old new gives took = tt
 
 held_empty : (ts us : Items) (text : List ℕ) (span : Span) → front ts ≡ Holds text span us → AreEmptyTexts ts → text ≡ []
 held_empty Ended us text span is empty = cc
-held_empty (Failed told here) us text span is empty = absurd empty
+held_empty (Failed reported here) us text span is empty = absurd empty
 held_empty (Token t here items) us text span is empty = same (sym (ap (λ u. front_at u here items) empty.0) ∙ is)
   where
     same : Holds [] here items ≡ Holds text span us → text ≡ []

@@ -10,7 +10,7 @@ use Rattle.tera_grammar.specs.statements.Output.{Adds, AddsNothing, AddsNode, Ad
 use Rattle.tera_grammar.specs.statements.TagParts.{Edge}
 use Rattle.tera_grammar.specs.statements.Reading.{Place, at, Reads}
 use Rattle.tera_grammar.specs.statements.Reading.Meeting.{Seen}
-use Rattle.tera_statements.specs.Around.{Stands}
+use Rattle.tera_statements.specs.Around.{Represents}
 pub use Rattle.tera_statements.specs.Known.{seen_of}
 use Rattle.tera_expect.specs.Taking.{Fails, GivesBy}
 use Rattle.tera_statements.specs.declared.added.Added.{Added}
@@ -37,17 +37,17 @@ AreBranches in_loop ns bs = map node_view ns ≡ branch_output in_loop bs
 abbrev pub IsElse : Bool → List Node → Else → Type 0
 IsElse in_loop ns o = map node_view ns ≡ else_output in_loop o
 
--- the names so far, and the place where a reading stands
+-- the names so far, and the place where a reading is
 abbrev pub here : Names → Position → Place
 here n p = at (seen_of n) p.left
 
--- an item is read by a reading that knows what stands around and where its tag starts
+-- an item is read by a reading that knows what is around and where its tag starts
 abbrev pub AddsBy : Around → Result Added Error → Place → (Path → Edge → Reads Item) → Type 0
-AddsBy around r q read = (path : Path) → Stands path around → (start : Edge) → GivesBy (IsAdded (in_loop path)) r q (read path start)
+AddsBy around r q read = (path : Path) → Represents path around → (start : Edge) → GivesBy (IsAdded (in_loop path)) r q (read path start)
 
 -- likewise one that reads tokens alone
 abbrev pub AddsAlone : Around → Result Added Error → Position → (Path → Edge → Seen → Reads Item) → Type 0
-AddsAlone around r new read = (path : Path) → Stands path around → (start : Edge) (seen : Seen) → GivesBy (IsAdded (in_loop path)) r (at seen new.left) (read path start seen)
+AddsAlone around r new read = (path : Path) → Represents path around → (start : Edge) (seen : Seen) → GivesBy (IsAdded (in_loop path)) r (at seen new.left) (read path start seen)
 
 -- the item that comes next in a body
 abbrev pub GivesItem : Bool → Result Added Error → Place → Option (Option (Item × Place)) → Type 0

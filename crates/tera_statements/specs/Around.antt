@@ -1,4 +1,4 @@
--- What stands around a statement.
+-- What is around a statement.
 use Rattle.std.specs.Prelude.{◌≡◌, Bool, true, false, is_none}
 use Rattle.tera_grammar.specs.statements.Grammar as grammar
 use Rattle.tera_grammar.specs.statements.Grammar.{Path, may_block, may_break, in_loop, is_outermost}
@@ -22,14 +22,14 @@ abbrev pub is_loop : Context → Bool
 is_loop Loop = true
 is_loop c = false
 
--- whether `break` and `continue` may stand there
+-- whether `break` and `continue` may be there
 abbrev pub holds_breaks : Breaks → Bool
 holds_breaks breaks.Nothing = false
 holds_breaks breaks.Loop = true
 holds_breaks (breaks.Capture opening) = false
 
--- these contexts stand around, the innermost first
-pub record Stands (path : Path) (a : Around) : Type 0 where
+-- these contexts are around, the innermost first
+pub record Represents (path : Path) (a : Around) : Type 0 where
   pub outermost : is_none a.innermost ≡ is_outermost path
   pub block : is_none a.barrier ≡ may_block path
   pub breaks : holds_breaks a.breaks ≡ may_break path

@@ -11,26 +11,26 @@ use Rattle.tera_grammar.specs.statements.Grammar as grammar
 use Rattle.tera_grammar.specs.statements.Grammar.{Path, in_loop}
 use Rattle.tera_grammar.specs.statements.Reading.Meeting.{Seen}
 use Rattle.tera_grammar.specs.statements.TagParts.{Edge, Name, Tag}
-use Rattle.tera_grammar.specs.statements.Reading.{Place, Reader, at, body, set_behind}
+use Rattle.tera_grammar.specs.statements.Reading.{Place, Reader, at, body, set_after}
 use Rattle.tera_grammar.specs.statements.Reading.TagParts.{finish_of}
 use Rattle.tera_statements.specs.Adding.{IsAdded}
-use Rattle.tera_statements.specs.Around.{Stands, context_of}
+use Rattle.tera_statements.specs.Around.{Represents, context_of}
 use Rattle.tera_expect.specs.Taking.{GivesBy}
 use Rattle.tera_statements.specs.declared.added.Added.{Added}
 use Rattle.tera_statements.specs.declared.around.Around.{Around}
 use Rattle.tera_statements.specs.declared.around.Context.{Context}
 
--- a variable of this name takes a value, behind the equals sign at the span of the old place
+-- a variable of this name takes a value, after the equals sign at the span of the old place
 abbrev pub GivesSetValue : Limits → Around → List ℕ → Bool → Result Added Error → Position → Position → Type 0
 GivesSetValue l around name global r new old =
-    (path : Path) → Stands path around → (self : Reader) (start : Edge) (first : Span) (seen : Seen) (n : Name) (items : Items) → n.text ≡ name
-    → GivesBy (IsAdded (in_loop path)) r (at seen new.left) (set_behind l self path global start first seen n items (Some (old.span, old.left)))
+    (path : Path) → Represents path around → (self : Reader) (start : Edge) (first : Span) (seen : Seen) (n : Name) (items : Items) → n.text ≡ name
+    → GivesBy (IsAdded (in_loop path)) r (at seen new.left) (set_after l self path global start first seen n items (Some (old.span, old.left)))
 
 -- likewise filters and a body, in a context that is a capture
 abbrev pub GivesSetBody : Limits → ℕ → Around → Context → List ℕ → Bool → Result Added Error → Place → Place → Type 0
 GivesSetBody l depth around context name global r new old =
-    (path : Path) → Stands path around → context_of context ≡ grammar.InCapture → (start : Edge) (first : Span) (n : Name) → n.text ≡ name
-    → GivesBy (IsAdded (in_loop path)) r new (set_behind l (body depth l) path global start first old.seen n old.tokens None)
+    (path : Path) → Represents path around → context_of context ≡ grammar.InCapture → (start : Edge) (first : Span) (n : Name) → n.text ≡ name
+    → GivesBy (IsAdded (in_loop path)) r new (set_after l (body depth l) path global start first old.seen n old.tokens None)
 
 -- neither filters nor the end of a tag begin there
 pub record IsNone (items : Items) : Type 0 where

@@ -23,11 +23,11 @@ use Rattle.tera_statements.specs.declared.heads.LoopHead.{LoopHead}
 abbrev pub IsLoop : LoopHead → Loop → Type 0
 IsLoop h lp = AreVariables (h.key, h.value) (lp.first, lp.second) × IsExpression true h.target lp.target
 
--- filters behind those that were there before
+-- filters after those that were there before
 abbrev pub AreFilters : Bool → List Expression → List Expression → Filters → Type 0
 AreFilters in_loop before es fs = map expression_view es ≡ map expression_view before ++ filters_output in_loop fs
 
--- a filter, whose input stands at the span, and others
+-- a filter, whose input is at the span, and others
 abbrev pub AreAllFilters : Bool → Span → List Expression → Filtering → Filters → Type 0
 AreAllFilters in_loop span es f fs = map expression_view es ≡ filter_output in_loop span f ∷ filters_output in_loop fs
 
@@ -45,7 +45,7 @@ unfoldable pub section_to_end : Limits → Bool → Items → Takes (Filtering �
 section_to_end l in_loop items =
     filter_of l in_loop items >>= λ g. filters_of l in_loop g.1 >>= λ fs. finish_of fs.1 >>= λ f. Some ((g.0, fs.0, f.0), f.1)
 
--- attributes, the `>` behind them, and the end of the tag
+-- attributes, the `>` after them, and the end of the tag
 unfoldable pub attributes_to_end : Limits → Bool → Items → Takes (Attributes × Span × Edge)
 attributes_to_end l in_loop items =
     attributes_of l in_loop items >>= λ a. takes (Operation GreaterThan) a.1 >>= λ last. finish_of last.1 >>= λ f.

@@ -13,7 +13,7 @@ use Rattle.tera_grammar.specs.statements.TagParts.{Edge, Opener}
 use Rattle.tera_grammar.specs.statements.Reading.{Place, Reader, at, body, step}
 use Rattle.tera_grammar.specs.statements.Reading.TagParts.{Front, Holds, Opens, front}
 use Rattle.tera_statements.specs.Adding.{GivesItem}
-use Rattle.tera_statements.specs.Around.{Stands}
+use Rattle.tera_statements.specs.Around.{Represents}
 use Rattle.tera_expect.specs.Taking.{Fails, Took}
 use Rattle.tera_statements.specs.declared.added.Added.{Added}
 use Rattle.tera_statements.specs.declared.around.Around.{Around}
@@ -25,9 +25,9 @@ GivesStep path (Ok (Some a)) new old read = GivesItem (in_loop path) (Ok a) new 
 GivesStep path (Err e) new old read = Fails read e
 
 abbrev pub GivesNext : Limits → ℕ → Around → Result (Option Added) Error → Place → Place → Type 0
-GivesNext l depth around r new old = (path : Path) → Stands path around → GivesStep path r new old (step l (body depth l) path old.seen (front old.tokens))
+GivesNext l depth around r new old = (path : Path) → Represents path around → GivesStep path r new old (step l (body depth l) path old.seen (front old.tokens))
 
--- likewise, where what the item adds was put behind other nodes
+-- likewise, where what the item adds was put after other nodes
 abbrev pub GivesNode : {A : Type 0} → Limits → ℕ → Path → Result (Option A) Error → List Stmt → List Stmt → Place → Place → Type 0
 GivesNode l depth path (Ok None) nodes before new old = (step l (body depth l) path old.seen (front old.tokens) ≡ Some None) × (new ≡ old) × (nodes ≡ before)
 GivesNode l depth path (Ok (Some a)) nodes before new old =
@@ -50,7 +50,7 @@ abbrev pub GivesText : Result Added Error → Items → Front → Type 0
 GivesText r new fr = (l : Limits) (self : Reader) (path : Path) (seen : Seen) → GivesItem (in_loop path) r (at seen new) (step l self path seen fr)
 
 abbrev pub GivesShown : Limits → Around → Result Added Error → Items → Front → Type 0
-GivesShown l around r new fr = (self : Reader) (path : Path) → Stands path around → (seen : Seen) → GivesItem (in_loop path) r (at seen new) (step l self path seen fr)
+GivesShown l around r new fr = (self : Reader) (path : Path) → Represents path around → (seen : Seen) → GivesItem (in_loop path) r (at seen new) (step l self path seen fr)
 
 -- empty texts alone, as comments are
 abbrev pub AreEmptyTexts : Items → Type 0

@@ -62,8 +62,8 @@ closer_of closers.EndCall = parts.AtEndCall
 
 -- whether a tag with this closing token comes next
 abbrev pub closes : Closer → reading.Front → Bool
-closes wanted (reading.Closes c start first items) = same_token (closer_token c) (closer_token (closer_of wanted))
-closes wanted front = false
+closes expected (reading.Closes c start first items) = same_token (closer_token c) (closer_token (closer_of expected))
+closes expected front = false
 
 -- what the first token of its kind opens
 abbrev pub opener_of : Opener → parts.Opener

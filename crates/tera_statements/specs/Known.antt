@@ -1,4 +1,4 @@
--- Names that were met, each with where it stands.
+-- Names that were met, each with where it is.
 use Rattle.std.specs.Prelude.{◌≡◌}
 use Rattle.std.specs.Option.{option_map}
 use Rattle.std.specs.BTreeMap.{BTreeMap, get_by_text}
@@ -10,7 +10,7 @@ use Rattle.tera_grammar.specs.statements.Places.{Places}
 use Rattle.tera_grammar.specs.statements.Reading.Meeting.{Grouped, Located, Met, Seen, locate, met, nothing_seen, ◌having◌}
 use Rattle.tera_statements.specs.declared.names.Names.{Names}
 
--- where a name that is kept stands, if it is one of these
+-- where a name that is kept is, if it is one of these
 abbrev pub located_of : BTreeMap (String Global) Span → Located
 located_of names = λ name. get_by_text names name
 
@@ -18,11 +18,11 @@ located_of names = λ name. get_by_text names name
 abbrev pub met_of : BTreeMap (String Global) Span → Met
 met_of names = met (located_of names)
 
--- a name is kept, where it stands
+-- a name is kept, where it is
 abbrev pub Keeps : BTreeMap (String Global) Span → BTreeMap (String Global) Span → Name → Type 0
 Keeps old new n = located_of new ≡ locate n (located_of old)
 
--- of a component that is kept, where the names of its parameters stand
+-- of a component that is kept, where the names of its parameters are
 abbrev pub grouped_of : BTreeMap (String Global) (BTreeMap (String Global) Span) → Grouped
 grouped_of groups = λ name. option_map located_of (get_by_text groups name)
 
@@ -30,6 +30,6 @@ grouped_of groups = λ name. option_map located_of (get_by_text groups name)
 abbrev pub seen_of : Names → Seen
 seen_of n = record { blocks = located_of n.blocks; components = located_of n.components; parameters = grouped_of n.parameters }
 
--- these names stand at these places, and there are no others
+-- these names are at these places, and there are no others
 abbrev pub AreNames : Names → Places → Type 0
 AreNames n places = seen_of n ≡ nothing_seen having places

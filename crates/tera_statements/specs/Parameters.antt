@@ -52,7 +52,7 @@ arguments_view es = map named_argument es
 abbrev pub AreParameters : Parameters → components.Parameters → Type 0
 AreParameters p ps = (arguments_view p.arguments.entries ≡ put_arguments ps []) × (name_view p.rest ≡ rest_of ps)
 
--- with where the names of all of them stand
+-- with where the names of all of them are
 abbrev pub ArePlaced : Parameters × BTreeMap (String Global) Span → components.Parameters → Type 0
 ArePlaced p ps = AreParameters p.0 ps × (located_of p.1 ≡ locate_all (parameters_placed ps) nothing_located)
 

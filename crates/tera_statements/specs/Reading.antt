@@ -25,21 +25,21 @@ abbrev pub EatsEnd : Bool → Position → Position → Option (Edge × Items) �
 EatsEnd true old new read = (dash : Bool) × (read ≡ Some (record { dash = dash; span = new.span }, new.left)) × Took old new
 EatsEnd false old new read = (read ≡ None) × (new ≡ old)
 
--- the next token was taken, or it was told that there is none, or that reading stopped
+-- the next token was taken, or it was reported that there is none, or that reading stopped
 abbrev pub PassesOne : Position → Result (Unit {0}) Error → Position → Type 0
 PassesOne old (Ok u) new = (p : Token × Span) × Takes old (Ok (Some p)) new
 PassesOne old (Err e) new = TakesOne old (Err e) new
 
 -- the second of the tokens ends a tag
-abbrev pub EndsBehind : Items → Type 0
-EndsBehind items = (kind : Kind) × (dash : Bool) × SecondIs items (Finish kind dash)
+abbrev pub EndsAfter : Items → Type 0
+EndsAfter items = (kind : Kind) × (dash : Bool) × SecondIs items (Finish kind dash)
 
 -- a word that is neither one for no value nor the negation
 abbrev pub NamesVariable : List ℕ → Type 0
 NamesVariable word = (is_none word ≡ false) × (is_not word ≡ false)
 
--- the name of a variable was taken, behind which a tag ends, or nothing
+-- the name of a variable was taken, after which a tag ends, or nothing
 abbrev pub EatsAlone : Option (Bor (List ℕ)) → Position → Position → Type 0
 EatsAlone (Some name) old new =
-    (old.left ≡ toks.Token (Ident name.now) new.span new.left) × NamesVariable name.now × EndsBehind old.left × Took old new
+    (old.left ≡ toks.Token (Ident name.now) new.span new.left) × NamesVariable name.now × EndsAfter old.left × Took old new
 EatsAlone None old new = new ≡ old

@@ -3,7 +3,7 @@ use Rattle.std.specs.Prelude.{◌≡◌, ◌⊎◌, ◌-◌, ℕ, List, [], fals
 use Rattle.tera_base.specs.Errors.{IsMemory}
 use Rattle.tera_base.specs.declared.errors.Error.{Error}
 use Rattle.tera_base.specs.declared.utils.Span.{Span}
-use Rattle.tera_lexer.specs.code.Cursors.{FirstStandsAt, Position}
+use Rattle.tera_lexer.specs.code.Cursors.{FirstIsAt, Position}
 use Rattle.tera_lexer.specs.grammar.Place.{IsWithin}
 use Rattle.tera_lexer.specs.grammar.Tokens.{Items}
 use Rattle.tera_tree.specs.Tree.{Output}
@@ -26,13 +26,13 @@ use Rattle.tera_statements.specs.declared.names.Names.{Names}
 use Rattle.tera_tree.specs.Outputs.{output_view}
 use Rattle.tera_tree.specs.declared.outputs.ParserOutput.{ParserOutput}
 use Rattle.tera_statements.specs.declared.templates.Phase.{Phase}
-use Rattle.tera_statements.specs.declared.templates.Phase.TheVariants.{Starting, Standing, Extending}
+use Rattle.tera_statements.specs.declared.templates.Phase.TheVariants.{Starting, Standalone, Extending}
 use Rattle.tera_statements.specs.declared.templates.Weight.{Weight}
 use Rattle.tera_statements.specs.declared.templates.Weight.TheVariants.{Silent, Kept, Parent, Other}
 
 abbrev pub phase_of : Phase → reading.Phase
 phase_of Starting = reading.Starting
-phase_of Standing = reading.Standing
+phase_of Standalone = reading.Standalone
 phase_of Extending = reading.Extending
 
 abbrev pub weight_of : Weight → loops.Weight
@@ -41,7 +41,7 @@ weight_of Kept = loops.Kept
 weight_of Parent = loops.Parent
 weight_of Other = loops.Other
 
--- the phase behind, where there is one
+-- the phase after, where there is one
 abbrev pub phase_if_any : Option Phase → Option reading.Phase
 phase_if_any None = None
 phase_if_any (Some p) = Some (phase_of p)
@@ -58,7 +58,7 @@ TopOf l ts here out ph = Topping l (top_depth l) (at nothing_seen ts) here out p
 abbrev pub Excludes : Limits → Place → reading.Phase → Type 0
 Excludes l here ph = (ts : Items) (out : Output) → TopOf l ts here out ph → template l ts ≡ None
 
--- the next item of the top level, and the phase behind it; or none is left
+-- the next item of the top level, and the phase after it; or none is left
 abbrev pub GivesTop : Limits → Phase → Result (Option (Added × Phase)) Error → Place → Place → Type 0
 GivesTop l ph (Ok None) new old = (step l (body (top_depth l) l) [] old.seen (front old.tokens) ≡ Some None) × (new ≡ old)
 GivesTop l ph (Ok (Some a)) new old =
@@ -74,7 +74,7 @@ GivesPhase l ph (Ok (Some q)) out before new old =
     × (turn (phase_of ph) (weight (added_by false i)) ≡ Some (phase_of q))
 GivesPhase l ph (Err e) out before new old = IsMemory e ⊎ Excludes l old (phase_of ph)
 
--- likewise of a text, which may not stand where there is no phase behind it
+-- likewise of a text, which may not be where there is no phase after it
 abbrev pub GivesTextPhase : List ℕ → Phase → Result (Option Phase) Error → Output → Output → Type 0
 GivesTextPhase text ph (Ok None) out before = ⊥
 GivesTextPhase text ph (Ok (Some q)) out before =
@@ -86,12 +86,12 @@ abbrev pub ReadsTemplate : Limits → Result (ParserOutput × Names) Error → I
 ReadsTemplate l (Ok t) items = (b : Body) × (template l items ≡ Some b) × (output_view t.0 ≡ output_of b) × AreNames t.1 (places b)
 ReadsTemplate l (Err e) items = Fails (template l items) e
 
--- the template that the tokens are, within the limits, with its names; or no memory was found, or they are none
+-- the template that the tokens are, within the limits, with its names; or an allocation failed, or they are none
 abbrev pub GivesTemplate : Limits → Result (ParserOutput × Names) Error → Items → Type 0
 GivesTemplate l (Ok t) items = (b : Body) × IsTemplate l items b × (output_view t.0 ≡ output_of b) × AreNames t.1 (places b)
 GivesTemplate l (Err e) items = IsMemory e ⊎ ((b : Body) → IsTemplate l items b → ⊥)
 
--- where the next token stands, if it is shown
-abbrev pub StandsNext : Option Span → Position → Type 0
-StandsNext None p = Unit {0}
-StandsNext (Some s) p = FirstStandsAt p.left s × IsWithin p.source s
+-- where the next token is, if it is shown
+abbrev pub ComesNext : Option Span → Position → Type 0
+ComesNext None p = Unit {0}
+ComesNext (Some s) p = FirstIsAt p.left s × IsWithin p.source s

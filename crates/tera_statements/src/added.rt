@@ -38,7 +38,7 @@ pub(crate) fn is_blank(text: &str) -> bool
     text.trim_start().is_empty()
 }
 
-/// Puts a text behind the others, unless it is empty.
+/// Puts a text after the others, unless it is empty.
 pub(crate) fn push_text(nodes: &mut Vec<Node>, alloc: Global, text: &str) -> Result<(), Error>
     ensures pushed { OnOk result (map node_view nodes.new.items ≡
         map node_view nodes.old.items ++ added_nodes (text_adds text.now)) }
@@ -53,7 +53,7 @@ pub(crate) fn push_text(nodes: &mut Vec<Node>, alloc: Global, text: &str) -> Res
     Ok(())
 }
 
-/// Puts what is a node behind the others. What adds a parent or a definition is refused in a body, so none comes here.
+/// Puts what is a node after the others. What adds a parent or a definition is refused in a body, so none comes here.
 pub(crate) fn push_node(nodes: &mut Vec<Node>, added: Added) -> Result<(), Error>
     ensures pushed { OnOk result (map node_view nodes.new.items
         ≡ map node_view nodes.old.items ++ added_nodes (added_view added)) }
@@ -68,7 +68,7 @@ pub(crate) fn push_node(nodes: &mut Vec<Node>, added: Added) -> Result<(), Error
     }
 }
 
-// Puts a node behind the others.
+// Puts a node after the others.
 #[inline(always)]
 fn push(nodes: &mut Vec<Node>, node: Node) -> Result<(), Error>
     ensures pushed { OnOk result (map node_view nodes.new.items ≡

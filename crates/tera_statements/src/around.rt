@@ -1,14 +1,14 @@
-//! What stands around a statement, and what may stand there for that.
+//! What is around a statement, and what may be there for that.
 
 ghost use Rattle.std.specs.Prelude.{◌≡◌, ◌∷◌, ◌&&◌, [], false, is_none};
 ghost use Rattle.tera_grammar.specs.statements.Grammar as grammar;
 ghost use Rattle.tera_grammar.specs.statements.Grammar.{Path, may_break};
-ghost use Rattle.tera_statements.specs.Around.{Stands, context_of, holds_breaks, is_loop};
+ghost use Rattle.tera_statements.specs.Around.{Represents, context_of, holds_breaks, is_loop};
 
 use tera_base::Span;
 
-/// What a statement can stand in: the body of a loop, or its `else`; a block; a branch of an `if`; the definition
-/// of a component; and what takes its body as a value: a `set`, a `filter`, a call of a component.
+/// What a statement can be in: the body of a loop, or its `else`; a block; a branch of an `if`; the definition of a
+/// component; and what takes its body as a value: a `set`, a `filter`, a call of a component.
 #[derive(Clone, Copy)]
 pub(crate) enum Context {
     Loop,
@@ -35,7 +35,7 @@ impl Context {
         }
     }
 
-    // Whether blocks may stand inside.
+    // Whether blocks may be inside.
     fn holds_blocks(self) -> bool
         ensures { result ≡ grammar.holds_blocks (context_of self) }
     {
@@ -50,7 +50,7 @@ impl Context {
     }
 }
 
-/// Something that stands around, and where the token stands that opened it.
+/// Something that is around, and where the token is that opened it.
 #[derive(Drop)]
 pub(crate) struct Opening {
     pub context: Context,
@@ -102,7 +102,7 @@ impl Breaks {
     }
 }
 
-/// All that stands around a statement, as far as it tells what may stand there.
+/// All that is around a statement, as far as it determines what may be there.
 #[derive(Drop)]
 pub(crate) struct Around {
     /// The innermost.
@@ -116,9 +116,9 @@ pub(crate) struct Around {
 }
 
 impl Around {
-    /// What stands around a whole template.
+    /// What is around a whole template.
     pub fn nothing() -> Around
-        ensures { Stands [] result }
+        ensures { Represents [] result }
     {
         Around {
             innermost: None,
@@ -128,10 +128,10 @@ impl Around {
         }
     }
 
-    /// What stands around inside of another context.
+    /// What is around inside of another context.
     pub fn inside(&self, opening: &Opening) -> Around
-        ensures stands { (path : Path) → Stands path self.now →
-            Stands (context_of opening.now.context ∷ path) result }
+        ensures represents { (path : Path) → Represents path self.now →
+            Represents (context_of opening.now.context ∷ path) result }
         ensures inner { is_none result.innermost ≡ false }
     {
         Around {

@@ -58,8 +58,8 @@ pub(crate) fn block(
     Ok(Added::Node(build::block(name, inside)))
 }
 
-// The name of a block that the template does not have yet, and where it stands. It is kept.
-#[tactic(auto, using(tera_expect::proofs::TakingLemmas::behind_tokens))]
+// The name of a block that the template does not have yet, and where it is. It is kept.
+#[tactic(auto, using(tera_expect::proofs::TakingLemmas::after_tokens))]
 fn new_block<'a>(cursor: &mut Cursor<'a>, blocks: &mut Known) -> Result<(&'a str, Span), Error>
     ensures gives { GivesBy IsName result cursor.new.left
         (new_block_of (met_of blocks.old) cursor.old.left) }
@@ -142,7 +142,7 @@ pub(crate) fn definition(
 
 // Refuses the definition of a component, whose word was taken last, in another tag.
 fn check_definition(cursor: &Cursor<'_>, around: &Around) -> Result<(), Error>
-    ensures stands { IfOk result (λ _. is_none around.now.innermost ≡ true) }
+    ensures represents { IfOk result (λ _. is_none around.now.innermost ≡ true) }
     ensures fails { IfErr result (λ e. IsMemory e ⊎ (is_none around.now.innermost ≡ false)) }
     ensures refusal { IfErr result (Refuses cursor.now) }
 {

@@ -4,7 +4,7 @@ ghost use Rattle.std.specs.Prelude.{◌≡◌, ◌∷◌, IfErr, IfOk, false, is
 ghost use Rattle.tera_grammar.specs.statements.Grammar.{Path, in_loop};
 ghost use Rattle.tera_statements.specs.Adding.{IsBody, here};
 ghost use Rattle.tera_statements.specs.Items.{GivesNode, GoesByItem};
-ghost use Rattle.tera_statements.specs.Around.{Stands, context_of};
+ghost use Rattle.tera_statements.specs.Around.{Represents, context_of};
 ghost use Rattle.tera_statements.specs.Settings.{bodies_under, limits_under};
 ghost use Rattle.tera_expect.specs.Taking.{GivesBy, GoesOn, Refuses, RefusesIn};
 ghost use Rattle.tera_ast.specs.View.{node_view};
@@ -31,7 +31,7 @@ pub(crate) fn body(
     opening: &Opening,
     depth: usize,
 ) -> Result<Vec<Node>, Error>
-    ensures gives { (path : Path) → Stands path around.now →
+    ensures gives { (path : Path) → Represents path around.now →
         GivesBy (λ ns b. IsBody (in_loop (context_of opening.now.context ∷ path)) ns.items b) result
         (here names.new cursor.new)
         (bodies_under setting.now depth (context_of opening.now.context ∷ path)
@@ -44,7 +44,7 @@ pub(crate) fn body(
     }
     let inside = around.inside(opening);
     let mut nodes = Vec::new(cursor.alloc());
-    let mut extension = Extension::behind(setting.parent);
+    let mut extension = Extension::following(setting.parent);
     'items: while let Some(later) = next_node(
         setting,
         cursor,
@@ -59,8 +59,7 @@ pub(crate) fn body(
     Ok(nodes)
 }
 
-// Takes the next item of a body, where one stands there, and tells what keeps a template from extending another
-// behind it.
+// Takes the next item of a body, where one is there, and returns what keeps a template from extending another after it.
 #[cycle(bodies)]
 #[tactic(auto, using(crate::proofs::RefusalLemmas::memory_inside))]
 fn next_node<'p>(
@@ -73,7 +72,7 @@ fn next_node<'p>(
     depth: usize,
 ) -> Result<Option<Extension<'p>>, Error>
     requires { is_none around.now.innermost ≡ false }
-    ensures gives { (path : Path) → Stands path around.now →
+    ensures gives { (path : Path) → Represents path around.now →
         GivesNode (limits_under setting.now) depth path result (map node_view nodes.new.items)
         (map node_view nodes.old.items) (here names.new cursor.new) (here names.old cursor.old) }
     ensures refusal { IfErr result (RefusesIn cursor.old) }
@@ -88,7 +87,7 @@ fn next_node<'p>(
     }
 }
 
-// Takes what the next item of a body adds, where one stands there, and tells the same.
+// Takes what the next item of a body adds, where one is there, and returns the same.
 #[cycle(bodies)]
 #[tactic(auto, using(crate::proofs::RefusalLemmas::memory_inside))]
 fn item_node<'p>(
@@ -101,7 +100,7 @@ fn item_node<'p>(
     depth: usize,
 ) -> Result<Option<Extension<'p>>, Error>
     requires { is_none around.now.innermost ≡ false }
-    ensures gives { (path : Path) → Stands path around.now →
+    ensures gives { (path : Path) → Represents path around.now →
         GivesNode (limits_under setting.now) depth path result (map node_view nodes.new.items)
         (map node_view nodes.old.items) (here names.new cursor.new) (here names.old cursor.old) }
     ensures refusal { IfErr result (RefusesIn cursor.old) }

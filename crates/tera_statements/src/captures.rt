@@ -39,7 +39,7 @@ pub(crate) struct Variable<'a> {
 
 /// Reads the rest of a `set` or a `set_global`, whose word was taken last.
 #[cycle(bodies)]
-#[tactic(auto, using(tera_expect::proofs::TakingLemmas::behind_tokens))]
+#[tactic(auto, using(tera_expect::proofs::TakingLemmas::after_tokens))]
 pub(crate) fn set(
     setting: &Setting<'_>,
     cursor: &mut Cursor<'_>,
@@ -66,8 +66,8 @@ pub(crate) fn set(
     set_body(setting, cursor, names, around, &opening, variable, depth)
 }
 
-// The value of a variable, behind the equals sign, which was taken last.
-#[tactic(auto, using(tera_expect::proofs::TakingLemmas::behind_tokens))]
+// The value of a variable, after the equals sign, which was taken last.
+#[tactic(auto, using(tera_expect::proofs::TakingLemmas::after_tokens))]
 fn set_value(
     setting: &Setting<'_>,
     cursor: &mut Cursor<'_>,
@@ -84,7 +84,7 @@ fn set_value(
     Ok(Added::Node(build::set(name, value, variable.global)))
 }
 
-// The filters and the body that a variable takes, behind its name.
+// The filters and the body that a variable takes, after its name.
 #[cycle(bodies)]
 #[tactic(auto, using(crate::proofs::OnTheWay::through_tags))]
 fn set_body(
@@ -184,7 +184,7 @@ pub(crate) fn shown_node(expr: Expression) -> Node
     Node::Expression(expr)
 }
 
-// The name of a component behind the `<` of a tag, which was taken last.
+// The name of a component after the `<` of a tag, which was taken last.
 fn called_name(cursor: &mut Cursor<'_>) -> Result<String, Error>
     ensures gives { GivesBy IsComponent result cursor.new.left (component_of cursor.old.left) }
     ensures refusal { IfErr result (Refuses cursor.old) }
@@ -196,8 +196,8 @@ fn called_name(cursor: &mut Cursor<'_>) -> Result<String, Error>
     component_name(cursor)
 }
 
-// The closing tag of a call of the component with this name, and where its `>` stands.
-#[tactic(auto, using(tera_expect::proofs::TakingLemmas::behind_tokens))]
+// The closing tag of a call of the component with this name, and where its `>` is.
+#[tactic(auto, using(tera_expect::proofs::TakingLemmas::after_tokens))]
 fn call_end(cursor: &mut Cursor<'_>, name: &str) -> Result<Span, Error>
     ensures gives { (n : ComponentName) → component_text n ≡ name.now →
         GivesBy IsCallEnd result cursor.new.left (call_end n cursor.old.left) }

@@ -41,7 +41,7 @@ pub(crate) struct Opened {
     pub metadata: BTreeMap<String, Value>,
 }
 
-/// Reads the opening tag of a component's definition, behind its first word. The component is kept.
+/// Reads the opening tag of a component's definition, after its first word. The component is kept.
 #[tactic(auto, using(crate::proofs::OnTheWay::through_tags))]
 pub(crate) fn opening_tag(
     setting: &Setting<'_>,
@@ -69,7 +69,7 @@ pub(crate) fn opening_tag(
 }
 
 // The name of a component that the template did not define before. It is kept.
-#[tactic(auto, using(tera_expect::proofs::TakingLemmas::behind_tokens))]
+#[tactic(auto, using(tera_expect::proofs::TakingLemmas::after_tokens))]
 fn new_component(cursor: &mut Cursor<'_>, seen: &mut Known) -> Result<String, Error>
     ensures gives { GivesBy (λ s n. IsComponent s n × Keeps seen.old seen.new (placed_name n))
         result cursor.new.left (new_component_of (met_of seen.old) cursor.old.left) }
@@ -84,7 +84,7 @@ fn new_component(cursor: &mut Cursor<'_>, seen: &mut Known) -> Result<String, Er
     Ok(name)
 }
 
-// The metadata of a component, where a map stands there.
+// The metadata of a component, where a map is there.
 #[tactic(auto, using(tera_expect::proofs::TakingLemmas::on_the_way))]
 fn metadata(
     setting: &Setting<'_>,
@@ -146,7 +146,7 @@ pub(crate) fn closing_tag(cursor: &mut Cursor<'_>, name: &str) -> Result<(), Err
     finish(cursor)
 }
 
-// The name at the end of a definition, where one stands there; it has to be that of the component.
+// The name at the end of a definition, where one is there; it has to be that of the component.
 #[tactic(auto, using(tera_expect::proofs::TakingLemmas::on_the_way))]
 fn end_name(cursor: &mut Cursor<'_>, name: &str) -> Result<(), Error>
     ensures gives { Passes result cursor.new.left (agreeing_name name.now cursor.old.left) }

@@ -6,7 +6,7 @@ ghost use Rattle.tera_grammar.specs.statements.Grammar.{InIf, Path, in_loop};
 ghost use Rattle.tera_grammar.specs.statements.Reading.{branches, if_of};
 ghost use Rattle.tera_grammar.specs.statements.Reading.Loops.{nest};
 ghost use Rattle.tera_statements.specs.Adding.{AddsBy, AreBranches, here, seen_of};
-ghost use Rattle.tera_statements.specs.Around.{Stands};
+ghost use Rattle.tera_statements.specs.Around.{Represents};
 ghost use Rattle.tera_statements.specs.Conditions.{GivesBranch, branch_view};
 ghost use Rattle.tera_statements.specs.Settings.{bodies_under, limits_under};
 ghost use Rattle.tera_expect.specs.Taking.{GivesBy, GoesOn, Refuses, Took};
@@ -56,7 +56,7 @@ pub(crate) fn condition(
     Ok(Added::Node(build::when(first.condition, first.body, others)))
 }
 
-// A condition, the end of its tag, and the body under it; the word before it stands at the span.
+// A condition, the end of its tag, and the body under it; the word before it is at the span.
 #[cycle(bodies)]
 #[tactic(auto, using(crate::proofs::OnTheWay::through_tags))]
 fn read_branch(
@@ -67,7 +67,7 @@ fn read_branch(
     word: &Span,
     depth: usize,
 ) -> Result<Branch, Error>
-    ensures gives { (path : Path) → Stands path around.now →
+    ensures gives { (path : Path) → Represents path around.now →
         GivesBranch (limits_under setting.now) depth (InIf ∷ path) result
         (here names.new cursor.new) (here names.old cursor.old) }
     ensures refusal { IfErr result (Refuses cursor.old) }
@@ -82,7 +82,7 @@ fn read_branch(
     Ok(Branch { condition, body })
 }
 
-// The branches behind the first one, whose word stands at the span: any number of `elif`, and an `else` or none.
+// The branches after the first one, whose word is at the span: any number of `elif`, and an `else` or none.
 #[cycle(bodies)]
 #[tactic(auto, using(tera_expect::proofs::TakingLemmas::on_the_way))]
 fn other_branches(
@@ -93,7 +93,7 @@ fn other_branches(
     word: Span,
     depth: usize,
 ) -> Result<Vec<Node>, Error>
-    ensures gives { (path : Path) → Stands path around.now →
+    ensures gives { (path : Path) → Represents path around.now →
         GivesBy (λ ns bs. AreBranches (in_loop path) ns.items bs) result (here names.new cursor.new)
         (branches (limits_under setting.now) (bodies_under setting.now depth)
         (InIf ∷ path) (here names.old cursor.old)) }
@@ -117,7 +117,7 @@ fn other_branches(
     nested(alloc, branches, otherwise)
 }
 
-// The branches, each with those behind it as what is under no condition.
+// The branches, each with those after it as what is under no condition.
 fn nested(alloc: Global, branches: Vec<Branch>, otherwise: Vec<Node>) -> Result<Vec<Node>, Error>
     ensures nested { IfOk result (λ ns. map node_view ns.items
         ≡ nest (map branch_view branches.items) (map node_view otherwise.items)) }

@@ -1,8 +1,8 @@
 //! The faults of statements, in the order in which the language's document lists them.
 
 ghost use Rattle.tera_lexer.specs.code.Cursors.{Position};
-ghost use Rattle.tera_statements.specs.Templates.{StandsNext};
-ghost use Rattle.tera_expect.specs.Taking.{Refuses, RefusesIn, TellsAs, Took};
+ghost use Rattle.tera_statements.specs.Templates.{ComesNext};
+ghost use Rattle.tera_expect.specs.Taking.{Refuses, RefusesIn, ReportsAs, Took};
 
 use crate::around::Opening;
 use tera_base::{Error, ErrorKind, Span, Value};
@@ -11,7 +11,7 @@ use tera_expr_parts::up_to_last;
 use tera_lexer::{Cursor, Token};
 use tera_tree::ArgType;
 
-/// That no name stands behind the `<` of a tag, which was taken last.
+/// That no name comes after the `<` of a tag, which was taken last.
 pub(crate) fn no_called_name(cursor: &Cursor<'_>) -> Error
     ensures { Refuses cursor.now result }
 {
@@ -49,7 +49,7 @@ pub(crate) fn renamed(cursor: &Cursor<'_>, kind: &str, name: &str, end: &str) ->
     reported(cursor, message)
 }
 
-/// That neither a value nor a body stands behind the name that is set, which was taken last.
+/// That neither a value nor a body comes after the name that is set, which was taken last.
 pub(crate) fn nothing_to_set(cursor: &Cursor<'_>) -> Error
     ensures { Refuses cursor.now result }
 {
@@ -81,7 +81,7 @@ pub(crate) fn again_extended(cursor: &Cursor<'_>, parent: &str) -> Error
     reported(cursor, message)
 }
 
-/// That a template extends another, at the string taken last, behind something else.
+/// That a template extends another, at the string taken last, after something else.
 pub(crate) fn late_extended(cursor: &Cursor<'_>) -> Error
     ensures { Refuses cursor.now result }
 {
@@ -102,7 +102,7 @@ pub(crate) fn nested_extends(cursor: &Cursor<'_>, opening: &Opening) -> Error
 /// That an item is of no use in a template that extends another: from its first token, whose place is known if it was
 /// shown, to the one taken last.
 pub(crate) fn ignored(cursor: &Cursor<'_>, first: Option<Span>) -> Error
-    ensures { (old : Position) → Took old cursor.now → StandsNext first old → RefusesIn old result }
+    ensures { (old : Position) → Took old cursor.now → ComesNext first old → RefusesIn old result }
 {
     let text =
         "This content would be ignored: only `extends`, `block` and `component` are allowed at the top level of a child template.";
@@ -112,7 +112,7 @@ pub(crate) fn ignored(cursor: &Cursor<'_>, first: Option<Span>) -> Error
     }
 }
 
-/// That a block, whose word was taken last, stands where none may.
+/// That a block, whose word was taken last, is where none may.
 pub(crate) fn barred_block(cursor: &Cursor<'_>, opening: &Opening) -> Error
     ensures { Refuses cursor.now result }
 {
@@ -130,7 +130,7 @@ pub(crate) fn repeated_block(cursor: &Cursor<'_>, name: &str) -> Error
     reported(cursor, message)
 }
 
-/// That this word, which was taken last, stands in a body that is taken as a value.
+/// That this word, which was taken last, is in a body that is taken as a value.
 pub(crate) fn captured_jump(cursor: &Cursor<'_>, word: &str, opening: &Opening) -> Error
     ensures { Refuses cursor.now result }
 {
@@ -140,7 +140,7 @@ pub(crate) fn captured_jump(cursor: &Cursor<'_>, word: &str, opening: &Opening) 
     inside_of(cursor, error, opening)
 }
 
-/// That this word, which was taken last, stands in no loop.
+/// That this word, which was taken last, is in no loop.
 pub(crate) fn jump_in_no_loop(cursor: &Cursor<'_>, word: &str) -> Error
     ensures { Refuses cursor.now result }
 {
@@ -148,7 +148,7 @@ pub(crate) fn jump_in_no_loop(cursor: &Cursor<'_>, word: &str) -> Error
     reported(cursor, message)
 }
 
-/// That the definition of a component, whose word was taken last, stands in another tag.
+/// That the definition of a component, whose word was taken last, is in another tag.
 pub(crate) fn nested_definition(cursor: &Cursor<'_>, opening: &Opening) -> Error
     ensures { Refuses cursor.now result }
 {
@@ -180,7 +180,7 @@ pub(crate) fn parameter_named_body(cursor: &Cursor<'_>) -> Error
     )
 }
 
-/// That the name, which was taken last, is that of the parameter whose name stands at the span.
+/// That the name, which was taken last, is that of the parameter whose name is at the span.
 pub(crate) fn repeated_parameter(cursor: &Cursor<'_>, name: &str, first: &Span) -> Error
     ensures { Refuses cursor.now result }
 {
@@ -224,7 +224,7 @@ pub(crate) fn no_named_type(cursor: &Cursor<'_>, error: Error) -> Error
     }
 }
 
-/// That a token, which was taken last, is no type.
+/// That a token, which was taken last, is not a type.
 pub(crate) fn no_type(cursor: &Cursor<'_>, token: &Token<'_>) -> Error
     ensures { Refuses cursor.now result }
 {
@@ -234,7 +234,7 @@ pub(crate) fn no_type(cursor: &Cursor<'_>, token: &Token<'_>) -> Error
     reported(cursor, message)
 }
 
-/// That a token, which was taken last, is no number behind a minus.
+/// That a token, which was taken last, is not a number after a minus.
 pub(crate) fn no_number(cursor: &Cursor<'_>, token: &Token<'_>) -> Error
     ensures { Refuses cursor.now result }
 {
@@ -244,7 +244,7 @@ pub(crate) fn no_number(cursor: &Cursor<'_>, token: &Token<'_>) -> Error
     reported(cursor, message)
 }
 
-/// That a token, which was taken last, is no default.
+/// That a token, which was taken last, is not a default.
 pub(crate) fn no_default(cursor: &Cursor<'_>, token: &Token<'_>) -> Error
     ensures { Refuses cursor.now result }
 {
@@ -258,22 +258,22 @@ pub(crate) fn no_default(cursor: &Cursor<'_>, token: &Token<'_>) -> Error
 pub(crate) fn mistyped(cursor: &Cursor<'_>, name: &str, typ: &ArgType, value: &Value) -> Error
     ensures { Refuses cursor.now result }
 {
-    let wanted = typ.as_str();
+    let expected = typ.as_str();
     let found = match ArgType::from_value(value) {
         Some(found) => found.as_str(),
         None => value.name(),
     };
     let message = format!(in cursor.alloc();
-        "Default value for `{name}` has type `{found}` but the argument has type `{wanted}`"
+        "Default value for `{name}` has type `{found}` but the argument has type `{expected}`"
     );
     reported(cursor, message)
 }
 
-// The error with a note on where what stands around begins.
+// The error with a note on where what is around begins.
 #[tactic(auto, using(tera_expect::proofs::TakingLemmas::memory_refused))]
 fn inside_of(cursor: &Cursor<'_>, error: Error, opening: &Opening) -> Error
     requires { Refuses cursor.now error }
-    ensures tells { TellsAs error result }
+    ensures reports { ReportsAs error result }
     ensures refusal { Refuses cursor.now result }
 {
     let name = opening.context.name();
@@ -286,7 +286,7 @@ fn inside_of(cursor: &Cursor<'_>, error: Error, opening: &Opening) -> Error
 // The error with a note on where the first of two of a name is defined.
 fn first_defined(cursor: &Cursor<'_>, error: Error, first: &Span) -> Error
     requires { Refuses cursor.now error }
-    ensures tells { TellsAs error result }
+    ensures reports { ReportsAs error result }
     ensures refusal { Refuses cursor.now result }
 {
     noted(error, "first defined here", first)

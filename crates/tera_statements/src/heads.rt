@@ -1,4 +1,4 @@
-//! What stands in opening tags, up to their end.
+//! What is in opening tags, up to their end.
 
 ghost use Rattle.std.specs.Prelude.{IfErr, IfOk};
 ghost use Rattle.tera_grammar.specs.statements.Reading.Heads.{filters_of};
@@ -17,7 +17,7 @@ use tera_lexer::Cursor;
 use tera_tree::{Expression, MapEntry};
 
 /// Reads an expression, and the end of its tag.
-#[tactic(auto, using(tera_expect::proofs::TakingLemmas::behind_tokens))]
+#[tactic(auto, using(tera_expect::proofs::TakingLemmas::after_tokens))]
 pub(crate) fn expression_to_end(
     setting: &Setting<'_>,
     cursor: &mut Cursor<'_>,
@@ -42,7 +42,7 @@ pub(crate) struct LoopHead {
 }
 
 /// Reads the head of a loop, and the end of its tag.
-#[tactic(auto, using(tera_expect::proofs::TakingLemmas::behind_tokens))]
+#[tactic(auto, using(tera_expect::proofs::TakingLemmas::after_tokens))]
 pub(crate) fn loop_to_end(setting: &Setting<'_>, cursor: &mut Cursor<'_>) -> Result<LoopHead, Error>
     ensures gives { GivesBy (λ h x. IsLoop h x.0) result cursor.new.left
         (loop_to_end (limits_under setting.now) cursor.old.left) }
@@ -55,7 +55,7 @@ pub(crate) fn loop_to_end(setting: &Setting<'_>, cursor: &mut Cursor<'_>) -> Res
     Ok(LoopHead { key, value, target })
 }
 
-// Filters, each behind its bar, which are put behind those that are given.
+// Filters, each after its bar, which are put after those that are given.
 #[tactic(auto, using(tera_expect::proofs::TakingLemmas::on_the_way))]
 fn more_filters(
     setting: &Setting<'_>,
@@ -76,7 +76,7 @@ fn more_filters(
     Ok(filters)
 }
 
-/// Reads filters, each behind its bar, and the end of their tag, and puts them behind those that are given.
+/// Reads filters, each after its bar, and the end of their tag, and puts them after those that are given.
 #[tactic(auto, using(crate::proofs::OnTheWay::through_tags))]
 pub(crate) fn filters_to_end(
     setting: &Setting<'_>,
@@ -94,8 +94,8 @@ pub(crate) fn filters_to_end(
     Ok(filters)
 }
 
-/// Reads a filter and others, each of those behind its bar, and the end of their tag.
-#[tactic(auto, using(tera_expect::proofs::TakingLemmas::behind_tokens))]
+/// Reads a filter and others, each of those after its bar, and the end of their tag.
+#[tactic(auto, using(tera_expect::proofs::TakingLemmas::after_tokens))]
 pub(crate) fn section_to_end(
     setting: &Setting<'_>,
     cursor: &mut Cursor<'_>,
@@ -112,7 +112,7 @@ pub(crate) fn section_to_end(
     filters_to_end(setting, cursor, in_loop, first)
 }
 
-/// Reads the attributes of a call of a component, the `>` behind them, and the end of their tag.
+/// Reads the attributes of a call of a component, the `>` after them, and the end of their tag.
 #[tactic(auto, using(crate::proofs::OnTheWay::through_tags))]
 pub(crate) fn attributes_to_end(
     setting: &Setting<'_>,

@@ -31,7 +31,7 @@ use tera_expect::take;
 use tera_lexer::{Cursor, Token};
 use tera_tree::Node;
 
-/// Reads the next item of a body, where one stands there.
+/// Reads the next item of a body, where one is there.
 #[cycle(bodies)]
 #[tactic(auto, using(tera_expect::proofs::TakingLemmas::took_all, crate::proofs::RefusalLemmas::took_inside, crate::proofs::RefusalLemmas::memory_inside))]
 pub(crate) fn item(
@@ -53,7 +53,7 @@ pub(crate) fn item(
         Front::Ends => Ok(None),
         Front::Closes(_) => Ok(None),
         Front::Holds => Ok(Some(text(cursor)?)),
-        Front::Shows => Ok(Some(shown(setting, cursor, around)?)),
+        Front::Shows => Ok(Some(variable_tag(setting, cursor, around)?)),
         Front::Opens(opener) => {
             enter(cursor, opener)?;
             let added = tag(setting, cursor, names, around, extension, opener, depth)?;
@@ -112,7 +112,7 @@ fn content(alloc: Global, text: &str) -> Result<Added, AllocError>
 
 /// A variable tag, which comes next.
 #[tactic(auto, using(tera_expect::proofs::TakingLemmas::took_all, crate::proofs::RefusalLemmas::took_inside, crate::proofs::RefusalLemmas::memory_inside))]
-pub(crate) fn shown(
+pub(crate) fn variable_tag(
     setting: &Setting<'_>,
     cursor: &mut Cursor<'_>,
     around: &Around,
@@ -130,7 +130,7 @@ pub(crate) fn shown(
 }
 
 /// Takes the start of a tag and its first token, which come next.
-#[tactic(auto, using(tera_expect::proofs::TakingLemmas::behind_tokens))]
+#[tactic(auto, using(tera_expect::proofs::TakingLemmas::after_tokens))]
 pub(crate) fn enter(cursor: &mut Cursor<'_>, opener: Opener) -> Result<(), Error>
     requires { fronts.Opens opener ≡ kind_of (front cursor.old.left) }
     ensures enters { IfOk result (λ _. Enters (opener_of opener) cursor.old.left cursor.new) }
@@ -143,7 +143,7 @@ pub(crate) fn enter(cursor: &mut Cursor<'_>, opener: Opener) -> Result<(), Error
     Ok(())
 }
 
-// Reads the rest of a tag that opens a statement, behind its first token.
+// Reads the rest of a tag that opens a statement, after its first token.
 #[cycle(bodies)]
 fn tag(
     setting: &Setting<'_>,

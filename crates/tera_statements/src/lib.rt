@@ -1,12 +1,12 @@
 //! The statements of the template engine Tera, and whole templates.
 //!
-//! It takes a cursor and limits, and gives a `ParserOutput` with its `Names` (`seen_of`), as `template` of
-//! `tera_grammar` reads it. It stands on `tera_expr_reader`. Items and bodies hold one another: their functions are
-//! proved together, as the cycle `bodies`, and the answers to their goals stand in `proofs/+bodies`.
+//! It takes a cursor and limits, and returns a `ParserOutput` with its `Names` (`seen_of`), as `template` of
+//! `tera_grammar` reads it. It depends on `tera_expr_reader`. Items hold bodies and bodies hold items, so their
+//! functions are proved together, as the cycle `bodies`; the answers to their goals are in `proofs/+bodies`.
 //!
-//! In the order of reading: `templates`, the top level; `bodies`; `items`, which `fronts` tells apart; the tags:
+//! In the order of reading: `templates`, the top level; `bodies`; `items`, which `fronts` distinguishes; the tags:
 //! `simple`, `blocks`, `loops`, `conditions`, `captures`, and `components` with `parameters`; `heads` and `tag_parts`,
-//! what stands in tags; `settings`, `around`, `names` and `added`, what these hand on; `faults`.
+//! what is in tags; `settings`, `around`, `names` and `added`, what these hand on; `faults`.
 #![tactic(auto)]
 
 mod added;

@@ -4,7 +4,7 @@ ghost use Rattle.std.specs.Prelude.{IfErr, IfOk, ◌∷◌};
 ghost use Rattle.tera_grammar.specs.statements.Grammar.{Path, in_loop};
 ghost use Rattle.tera_grammar.specs.statements.Reading.{else_of, for_of};
 ghost use Rattle.tera_statements.specs.Adding.{AddsBy, IsElse, here, seen_of};
-ghost use Rattle.tera_statements.specs.Around.{Stands, context_of};
+ghost use Rattle.tera_statements.specs.Around.{Represents, context_of};
 ghost use Rattle.tera_statements.specs.Settings.{bodies_under, limits_under};
 ghost use Rattle.tera_expect.specs.Taking.{GivesBy, GoesOn, Refuses, Took};
 
@@ -51,7 +51,7 @@ pub(crate) fn for_loop(
     Ok(Added::Node(build::for_loop(head.key, head.value, head.target, inside, otherwise)))
 }
 
-/// Reads an `else` with its body, where one stands there.
+/// Reads an `else` with its body, where one is there.
 #[cycle(bodies)]
 #[tactic(auto, using(tera_expect::proofs::TakingLemmas::on_the_way))]
 pub(crate) fn else_body(
@@ -62,7 +62,7 @@ pub(crate) fn else_body(
     opening: &Opening,
     depth: usize,
 ) -> Result<Vec<Node>, Error>
-    ensures gives { (path : Path) → Stands path around.now →
+    ensures gives { (path : Path) → Represents path around.now →
         GivesBy (λ ns o. IsElse (in_loop (context_of opening.now.context ∷ path)) ns.items o) result
         (here names.new cursor.new) (else_of (bodies_under setting.now depth)
         (context_of opening.now.context ∷ path) (here names.old cursor.old)) }

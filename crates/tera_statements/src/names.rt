@@ -1,4 +1,4 @@
-//! Names that were met, each with where it stands.
+//! Names that were met, each with where it is.
 
 ghost use Rattle.std.specs.Prelude.{◌≡◌, IfErr, IfOk, OnOk};
 ghost use Rattle.std.specs.Option.{option_copied};
@@ -12,20 +12,20 @@ use std::collections::BTreeMap;
 use std::default::Emptied;
 use tera_base::{Error, Span};
 
-/// Names that were met, each with where it stands.
+/// Names that were met, each with where it is.
 pub(crate) type Known = BTreeMap<String, Span>;
 
 /// Names of parameters, under those of their components.
 pub(crate) type Groups = BTreeMap<String, Known>;
 
-/// Where the name stands, if it was met.
+/// Where the name is, if it was met.
 pub(crate) fn place_of<'b>(names: &'b Known, name: &str) -> Option<&'b Span>
     ensures { option_copied result ≡ located_of names.now name.now }
 {
     names.get(name)
 }
 
-/// Keeps a name, with where it stands.
+/// Keeps a name, with where it is.
 pub(crate) fn keep_name(
     alloc: Global,
     names: &mut Known,
@@ -57,7 +57,7 @@ pub(crate) fn keep_parameters(
     Ok(())
 }
 
-/// The names that a template defines, each with where it stands in the tag that opens its block or its definition.
+/// The names that a template defines, each with where it is in the tag that opens its block or its definition.
 #[derive(Debug, PartialEq, Eq, Drop)]
 pub struct Names {
     /// Of each block its name.

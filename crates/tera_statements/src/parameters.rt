@@ -38,7 +38,7 @@ pub(crate) struct Parameters {
     pub rest: Option<String>,
 }
 
-/// Reads the parameters of a component, behind their opening parenthesis, with where the names of all of them stand.
+/// Reads the parameters of a component, after their opening parenthesis, with where the names of all of them are.
 #[tactic(auto, using(tera_expect::proofs::TakingLemmas::on_the_way))]
 pub(crate) fn read_parameters(
     setting: &Setting<'_>,
@@ -72,7 +72,7 @@ pub(crate) fn read_parameters(
 }
 
 // A default: a literal, a negative number, a word for no value, a constant array or a constant map.
-#[tactic(auto, using(tera_expect::proofs::TakingLemmas::behind_tokens))]
+#[tactic(auto, using(tera_expect::proofs::TakingLemmas::after_tokens))]
 fn default_value(setting: &Setting<'_>, cursor: &mut Cursor<'_>) -> Result<Value, Error>
     ensures gives { GivesBy IsDefault result cursor.new.left
         (default_of (limits_under setting.now) cursor.old.left) }
@@ -97,8 +97,8 @@ fn default_value(setting: &Setting<'_>, cursor: &mut Cursor<'_>) -> Result<Value
     }
 }
 
-// The number behind a minus, which was taken last.
-#[tactic(auto, using(tera_expect::proofs::TakingLemmas::behind_tokens))]
+// The number after a minus, which was taken last.
+#[tactic(auto, using(tera_expect::proofs::TakingLemmas::after_tokens))]
 fn negative(cursor: &mut Cursor<'_>) -> Result<Value, Error>
     ensures gives { GivesBy IsDefault result cursor.new.left
         (minus_of cursor.old.span cursor.old.left) }
@@ -125,7 +125,7 @@ fn no_value(cursor: &Cursor<'_>, name: &str) -> Result<Value, Error>
     }
 }
 
-// The type behind a colon, where one stands.
+// The type after a colon, where one is.
 #[tactic(auto, using(tera_expect::proofs::TakingLemmas::on_the_way))]
 fn argument_type(cursor: &mut Cursor<'_>) -> Result<Option<ArgType>, Error>
     ensures gives { GivesBy IsType result cursor.new.left
@@ -155,7 +155,7 @@ fn named_type(cursor: &Cursor<'_>, name: &str) -> Result<ArgType, Error>
     }
 }
 
-// The default behind an equals sign, where one stands.
+// The default after an equals sign, where one is.
 #[tactic(auto, using(tera_expect::proofs::TakingLemmas::on_the_way))]
 fn assigned(setting: &Setting<'_>, cursor: &mut Cursor<'_>) -> Result<Option<Value>, Error>
     ensures gives { GivesBy IsAssigned result cursor.new.left
@@ -170,7 +170,7 @@ fn assigned(setting: &Setting<'_>, cursor: &mut Cursor<'_>) -> Result<Option<Val
 }
 
 // A name that is neither `body` nor that of an earlier parameter.
-#[tactic(auto, using(tera_expect::proofs::TakingLemmas::refused_behind))]
+#[tactic(auto, using(tera_expect::proofs::TakingLemmas::refused_after))]
 fn fresh_name<'a>(cursor: &mut Cursor<'a>, seen: &Known, rest: bool) -> Result<&'a str, Error>
     ensures gives { GivesAs (name_at cursor.new.span) result cursor.new.left
         (fresh_name (met_of seen.now) cursor.old.left) }
@@ -187,7 +187,7 @@ fn fresh_name<'a>(cursor: &mut Cursor<'a>, seen: &Known, rest: bool) -> Result<&
     }
 }
 
-// That the name, which was taken last, is that of the parameter whose name stands at the span.
+// That the name, which was taken last, is that of the parameter whose name is at the span.
 fn repeated(cursor: &Cursor<'_>, name: &str, first: &Span, rest: bool) -> Error
     ensures { Refuses cursor.now result }
 {
@@ -198,8 +198,8 @@ fn repeated(cursor: &Cursor<'_>, name: &str, first: &Span, rest: bool) -> Error
     }
 }
 
-// The name of the rest parameter, behind its dots, and the closing parenthesis. The name is kept.
-#[tactic(auto, using(tera_expect::proofs::TakingLemmas::behind_tokens))]
+// The name of the rest parameter, after its dots, and the closing parenthesis. The name is kept.
+#[tactic(auto, using(tera_expect::proofs::TakingLemmas::after_tokens))]
 fn rest_parameter(cursor: &mut Cursor<'_>, seen: &mut Known) -> Result<String, Error>
     ensures gives { GivesBy (λ s n. (string_bytes s ≡ n.text) × Keeps seen.old seen.new n)
         result cursor.new.left (taken_rest (met_of seen.old) cursor.old.left) }
@@ -267,7 +267,7 @@ fn check_default(cursor: &Cursor<'_>, name: &str, argument: &ComponentArgument) 
     }
 }
 
-// Whether a value is of the type, or is no value.
+// Whether a value is of the type, or is not a value.
 fn fits(typ: &ArgType, value: &Value) -> bool
     ensures { result
         ≡ (is_nothing (value_view value.now) || has_type typ.now (value_view value.now)) }

@@ -17,7 +17,7 @@ pub(crate) struct Setting<'a> {
 impl Setting<'_> {
     ghost use Rattle.std.specs.Prelude.{◌≡◌};
 
-    /// Where an expression stands, in a loop or not.
+    /// Where an expression is, in a loop or not.
     pub(crate) fn scope(&self, in_loop: bool) -> Scope
         ensures in_loop { result.in_loop ≡ in_loop }
         ensures limits { result.limits ≡ self.now.limits }

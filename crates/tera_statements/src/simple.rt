@@ -20,7 +20,7 @@ use tera_lexer::Cursor;
 use tera_tree::{Node, build};
 
 /// Reads the rest of an `include`.
-#[tactic(auto, using(tera_expect::proofs::TakingLemmas::behind_tokens))]
+#[tactic(auto, using(tera_expect::proofs::TakingLemmas::after_tokens))]
 pub(crate) fn include(cursor: &mut Cursor<'_>, around: &Around) -> Result<Added, Error>
     ensures gives { AddsAlone around.now result cursor.new (λ path start seen.
         include_of start cursor.old.span seen cursor.old.left) }
@@ -61,7 +61,7 @@ impl Jump {
 }
 
 /// Reads the rest of a `break` or a `continue`.
-#[tactic(auto, using(tera_expect::proofs::TakingLemmas::behind_tokens))]
+#[tactic(auto, using(tera_expect::proofs::TakingLemmas::after_tokens))]
 pub(crate) fn read_jump(
     cursor: &mut Cursor<'_>,
     around: &Around,
@@ -77,9 +77,9 @@ pub(crate) fn read_jump(
     Ok(Added::Node(jump.node()))
 }
 
-// Refuses a `break` or a `continue`, whose word was taken last, where neither may stand.
+// Refuses a `break` or a `continue`, whose word was taken last, where neither may be.
 fn check_jump(cursor: &Cursor<'_>, around: &Around, jump: Jump) -> Result<(), Error>
-    ensures stands { IfOk result (λ _. holds_breaks around.now.breaks ≡ true) }
+    ensures represents { IfOk result (λ _. holds_breaks around.now.breaks ≡ true) }
     ensures fails { IfErr result (λ e. IsMemory e ⊎ (holds_breaks around.now.breaks ≡ false)) }
     ensures refusal { IfErr result (Refuses cursor.now) }
 {
@@ -94,7 +94,7 @@ fn check_jump(cursor: &Cursor<'_>, around: &Around, jump: Jump) -> Result<(), Er
 /// What keeps a template from extending another at a place, if anything does.
 #[derive(Clone, Copy)]
 pub(crate) enum Extension<'p> {
-    /// Nothing but what stands around.
+    /// Nothing but what is around.
     Free,
     /// Something that comes before.
     Late,
@@ -104,14 +104,14 @@ pub(crate) enum Extension<'p> {
 
 impl<'p> Extension<'p> {
     /// What keeps it at the start of a body, in a template that extends this one, as far as it is known.
-    pub fn behind(parent: Option<&'p str>) -> Extension<'p> {
+    pub fn following(parent: Option<&'p str>) -> Extension<'p> {
         match parent {
             Some(parent) => Extension::Again(parent),
             None => Extension::Free,
         }
     }
 
-    /// What keeps it behind what an item of the body adds.
+    /// What keeps it after what an item of the body adds.
     pub fn later(self, added: &Added) -> Extension<'p> {
         match self {
             Extension::Free if !added.is_blank() => Extension::Late,
@@ -119,7 +119,7 @@ impl<'p> Extension<'p> {
         }
     }
 
-    /// What keeps it behind a text of the body.
+    /// What keeps it after a text of the body.
     pub fn later_text(self, text: &str) -> Extension<'p> {
         match self {
             Extension::Free if !is_blank(text) => Extension::Late,
@@ -129,7 +129,7 @@ impl<'p> Extension<'p> {
 }
 
 /// Reads the rest of an `extends`.
-#[tactic(auto, using(tera_expect::proofs::TakingLemmas::behind_tokens))]
+#[tactic(auto, using(tera_expect::proofs::TakingLemmas::after_tokens))]
 pub(crate) fn extends(
     cursor: &mut Cursor<'_>,
     around: &Around,
@@ -154,7 +154,7 @@ fn check_extension(
     extension: Extension<'_>,
 ) -> Result<(), Error>
     requires { is_none around.now.innermost ≡ true → is_free extension ≡ true }
-    ensures stands { IfOk result (λ _. is_none around.now.innermost ≡ true) }
+    ensures represents { IfOk result (λ _. is_none around.now.innermost ≡ true) }
     ensures fails { IfErr result (λ e. IsMemory e ⊎ (is_none around.now.innermost ≡ false)) }
     ensures refusal { IfErr result (Refuses cursor.now) }
 {
@@ -168,9 +168,9 @@ fn check_extension(
     }
 }
 
-/// Refuses a block, whose word was taken last, where none may stand.
+/// Refuses a block, whose word was taken last, where none may be.
 pub(crate) fn check_block(cursor: &Cursor<'_>, around: &Around) -> Result<(), Error>
-    ensures stands { IfOk result (λ _. is_none around.now.barrier ≡ true) }
+    ensures represents { IfOk result (λ _. is_none around.now.barrier ≡ true) }
     ensures fails { IfErr result (λ e. IsMemory e ⊎ (is_none around.now.barrier ≡ false)) }
     ensures refusal { IfErr result (Refuses cursor.now) }
 {

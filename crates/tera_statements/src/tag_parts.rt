@@ -7,7 +7,7 @@ ghost use Rattle.tera_grammar.specs.expressions.Reading.Front.{taken_quote};
 ghost use Rattle.tera_grammar.specs.statements.Reading.Expressions.{expression_of};
 ghost use Rattle.tera_grammar.specs.statements.Reading.TagParts.{closed, closed_tag, finish_of, front, variable_end_of};
 ghost use Rattle.tera_statements.specs.Kinds.{closer_of, closes};
-ghost use Rattle.tera_statements.specs.Reading.{EatsAlone, EatsEnd, EndsBehind, IsExpression, IsQuote, NamesVariable, PassesOne};
+ghost use Rattle.tera_statements.specs.Reading.{EatsAlone, EatsEnd, EndsAfter, IsExpression, IsQuote, NamesVariable, PassesOne};
 ghost use Rattle.tera_statements.specs.Settings.{limits_under};
 ghost use Rattle.tera_expect.specs.Taking.{GivesBy, Passes, Refuses, RefusesIn, Took};
 
@@ -106,12 +106,12 @@ pub(crate) fn tag_expression(
     }
 }
 
-// Takes the name of a variable, if it comes next and the tag ends behind it.
+// Takes the name of a variable, if it comes next and the tag ends after it.
 #[tactic(auto, unfolding(tera_expect::specs::Taking::Took))]
 fn eat_alone<'a>(cursor: &mut Cursor<'a>) -> Option<&'a str>
     ensures { EatsAlone result cursor.old cursor.new }
 {
-    if !ends_behind(cursor) {
+    if !ends_after(cursor) {
         return None;
     }
     let Some(Token::Ident(name)) = cursor.first() else {
@@ -124,9 +124,9 @@ fn eat_alone<'a>(cursor: &mut Cursor<'a>) -> Option<&'a str>
     if cursor.skip() { Some(name) } else { None }
 }
 
-// Whether the tag ends behind the next token.
-fn ends_behind(cursor: &Cursor<'_>) -> bool
-    ensures { OnTrue result (EndsBehind cursor.now.left) }
+// Whether the tag ends after the next token.
+fn ends_after(cursor: &Cursor<'_>) -> bool
+    ensures { OnTrue result (EndsAfter cursor.now.left) }
 {
     match cursor.second() {
         Some(Token::VariableEnd(_)) => true,
@@ -145,7 +145,7 @@ fn is_variable(word: &str) -> bool
     !is_not(word)
 }
 
-/// A string, and where it stands.
+/// A string, and where it is.
 #[tactic(auto, unfolding(tera_expect::specs::Taking::Took, tera_expect::specs::Taking::Refuses), using(tera_expect::proofs::TakingLemmas::memory_refused))]
 pub(crate) fn quote(cursor: &mut Cursor<'_>) -> Result<(String, Span), Error>
     ensures gives { GivesBy IsQuote result cursor.new.left (taken_quote cursor.old.left) }
@@ -161,9 +161,9 @@ pub(crate) fn quote(cursor: &mut Cursor<'_>) -> Result<(String, Span), Error>
     }
 }
 
-/// Why nothing that is known stands here: the lexical fault, the end of the input, or an unknown tag, which is told
-/// at its first token. What is there is taken.
-#[tactic(auto, using(tera_expect::proofs::TakingLemmas::refused_behind, crate::proofs::RefusalLemmas::took_inside))]
+/// Why nothing that is known is here: the lexical fault, the end of the input, or an unknown tag, which is reported at
+/// its first token. What is there is taken.
+#[tactic(auto, using(tera_expect::proofs::TakingLemmas::refused_after, crate::proofs::RefusalLemmas::took_inside))]
 pub(crate) fn unknown_tag(cursor: &mut Cursor<'_>) -> Error
     ensures refusal { Refuses cursor.old result }
     ensures inside { is_end cursor.old.left ≡ false → RefusesIn cursor.old result }
@@ -175,7 +175,7 @@ pub(crate) fn unknown_tag(cursor: &mut Cursor<'_>) -> Error
 }
 
 // Takes the start of a tag and its first token, or a token that starts no tag.
-#[tactic(auto, using(tera_expect::proofs::TakingLemmas::behind_tokens, crate::proofs::RefusalLemmas::took_inside, crate::proofs::RefusalLemmas::untaken_inside))]
+#[tactic(auto, using(tera_expect::proofs::TakingLemmas::after_tokens, crate::proofs::RefusalLemmas::took_inside, crate::proofs::RefusalLemmas::untaken_inside))]
 fn begin_tag(cursor: &mut Cursor<'_>) -> Result<(), Error>
     ensures refusal { IfErr result (Refuses cursor.old) }
     ensures inside { IfErr result (λ e. is_end cursor.old.left ≡ false → RefusesIn cursor.old e) }
@@ -199,7 +199,7 @@ pub(crate) fn closes(cursor: &Cursor<'_>, closer: Closer) -> bool
 }
 
 /// The start of a tag, with this closing token.
-#[tactic(auto, using(tera_expect::proofs::TakingLemmas::behind_tokens))]
+#[tactic(auto, using(tera_expect::proofs::TakingLemmas::after_tokens))]
 pub(crate) fn closed(cursor: &mut Cursor<'_>, closer: Closer) -> Result<(), Error>
     ensures gives { Passes result cursor.new.left (closed (closer_of closer) cursor.old.left) }
     ensures refusal { IfErr result (Refuses cursor.old) }
@@ -212,7 +212,7 @@ pub(crate) fn closed(cursor: &mut Cursor<'_>, closer: Closer) -> Result<(), Erro
 }
 
 /// Takes the start of a tag and this closing token, which come next.
-#[tactic(auto, using(tera_expect::proofs::TakingLemmas::behind_tokens))]
+#[tactic(auto, using(tera_expect::proofs::TakingLemmas::after_tokens))]
 pub(crate) fn take_closer(cursor: &mut Cursor<'_>, closer: Closer) -> Result<(), Error>
     requires { closes closer (front cursor.old.left) ≡ true }
     ensures gives { Passes result cursor.new.left (closed (closer_of closer) cursor.old.left) }
@@ -225,7 +225,7 @@ pub(crate) fn take_closer(cursor: &mut Cursor<'_>, closer: Closer) -> Result<(),
 }
 
 /// A tag that holds this closing token alone.
-#[tactic(auto, using(tera_expect::proofs::TakingLemmas::behind_tokens))]
+#[tactic(auto, using(tera_expect::proofs::TakingLemmas::after_tokens))]
 pub(crate) fn closed_tag(cursor: &mut Cursor<'_>, closer: Closer) -> Result<(), Error>
     ensures gives { Passes result cursor.new.left (closed_tag (closer_of closer) cursor.old.left) }
     ensures refusal { IfErr result (Refuses cursor.old) }

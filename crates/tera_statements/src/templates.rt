@@ -15,7 +15,7 @@ ghost use Rattle.tera_statements.specs.Kinds.{kind_of};
 ghost use Rattle.tera_expr_parts.specs.Rooms.{AreValid, limits_of};
 ghost use Rattle.tera_expect.specs.Taking.{RefusesIn, Took};
 ghost use Rattle.tera_statements.specs.Settings.{bodies_under, limits_under};
-ghost use Rattle.tera_statements.specs.Templates.{Excludes, GivesPhase, GivesTemplate, GivesTextPhase, GivesTop, ReadsTemplate, StandsNext, top_depth, phase_if_any, phase_of, weight_of};
+ghost use Rattle.tera_statements.specs.Templates.{Excludes, GivesPhase, GivesTemplate, GivesTextPhase, GivesTop, ReadsTemplate, ComesNext, top_depth, phase_if_any, phase_of, weight_of};
 ghost use Rattle.tera_statements.specs.declared.fronts.Front.TheVariants as fronts;
 ghost use Rattle.tera_statements.specs.declared.fronts.Opener.TheVariants as openers;
 ghost use Rattle.tera_ast.specs.View.{node_view};
@@ -83,7 +83,7 @@ fn add(output: &mut ParserOutput, added: Added) -> Result<(), Error>
 #[derive(Clone, Copy)]
 enum Phase {
     Starting,
-    Standing,
+    Standalone,
     Extending,
 }
 
@@ -97,29 +97,29 @@ enum Weight {
 }
 
 impl Phase {
-    // The phase behind an item, where such an item may stand.
-    fn behind(self, weight: Weight) -> Option<Phase>
+    // The phase after an item, where such an item may be.
+    fn following(self, weight: Weight) -> Option<Phase>
         ensures { phase_if_any result ≡ turn (phase_of self) (weight_of weight) }
     {
         match (self, weight) {
             (Phase::Starting, Weight::Silent) => Some(Phase::Starting),
             (Phase::Starting, Weight::Parent) => Some(Phase::Extending),
-            (Phase::Starting, Weight::Kept | Weight::Other) => Some(Phase::Standing),
-            (Phase::Standing, Weight::Parent) => None,
-            (Phase::Standing, _) => Some(Phase::Standing),
+            (Phase::Starting, Weight::Kept | Weight::Other) => Some(Phase::Standalone),
+            (Phase::Standalone, Weight::Parent) => None,
+            (Phase::Standalone, _) => Some(Phase::Standalone),
             (Phase::Extending, Weight::Silent | Weight::Kept) => Some(Phase::Extending),
             (Phase::Extending, Weight::Parent | Weight::Other) => None,
         }
     }
 
-    // The phase behind a text, where such a text may stand. In most templates each may, behind the start.
-    #[tactic(auto, using(crate::proofs::TemplatesLemmas::standing_text))]
-    fn behind_text(self, text: &str) -> Option<Phase>
+    // The phase after a text, where such a text may be. In most templates each may, after the start.
+    #[tactic(auto, using(crate::proofs::TemplatesLemmas::standalone_text))]
+    fn after_text(self, text: &str) -> Option<Phase>
         ensures { phase_if_any result ≡ turn (phase_of self) (weight (text_adds text.now)) }
     {
         match self {
-            Phase::Standing => Some(Phase::Standing),
-            _ => self.behind(text_weight(text)),
+            Phase::Standalone => Some(Phase::Standalone),
+            _ => self.following(text_weight(text)),
         }
     }
 }
@@ -199,7 +199,7 @@ fn whole(setting: &Setting<'_>, cursor: &mut Cursor<'_>) -> Result<(ParserOutput
     Ok((output, names))
 }
 
-// Takes the next item of the top level, where one stands there, and tells the phase behind it.
+// Takes the next item of the top level, where one is there, and returns the phase after it.
 fn next_phase(
     setting: &Setting<'_>,
     cursor: &mut Cursor<'_>,
@@ -219,7 +219,7 @@ fn next_phase(
     }
 }
 
-// Takes what a text adds, which was taken last, and tells the phase behind it.
+// Takes what a text adds, which was taken last, and returns the phase after it.
 #[tactic(auto, using(crate::proofs::RefusalLemmas::memory_inside))]
 fn text_phase(
     cursor: &Cursor<'_>,
@@ -232,14 +232,14 @@ fn text_phase(
     ensures refusal { (old : Position) → Took old cursor.now → IfErr result (RefusesIn old) }
     ensures empty { IfErr result (λ _. text.now ≡ [] → ⊥) }
 {
-    let Some(next) = phase.behind_text(text) else {
+    let Some(next) = phase.after_text(text) else {
         return Err(ignored(cursor, None));
     };
     add_text(output, cursor.alloc(), text)?;
     Ok(Some(next))
 }
 
-// Takes what the next item adds, where one stands there, and tells the phase behind it.
+// Takes what the next item adds, where one is there, and returns the phase after it.
 #[tactic(auto, using(crate::proofs::RefusalLemmas::memory_inside))]
 fn item_phase(
     setting: &Setting<'_>,
@@ -261,7 +261,7 @@ fn item_phase(
     Ok(Some(next))
 }
 
-// Reads the next item of the top level, where one stands there, and tells the phase behind it.
+// Reads the next item of the top level, where one is there, and returns the phase after it.
 #[tactic(auto, using(crate::proofs::RefusalLemmas::memory_inside))]
 fn next_item(
     setting: &Setting<'_>,
@@ -281,13 +281,13 @@ fn next_item(
     let Some(added) = top_item(setting, cursor, names, parent)? else {
         return Ok(None);
     };
-    let Some(next) = phase.behind(weigh(&added)) else {
+    let Some(next) = phase.following(weigh(&added)) else {
         return Err(ignored(cursor, first));
     };
     Ok(Some((added, next)))
 }
 
-// Refuses an `extends` that comes next, where none may stand.
+// Refuses an `extends` that comes next, where none may be.
 fn refuse_extends(
     setting: &Setting<'_>,
     cursor: &mut Cursor<'_>,
@@ -300,7 +300,7 @@ fn refuse_extends(
     ensures refusal { IfErr result (RefusesIn cursor.old) }
     ensures empty { IfErr result (λ _. AreEmptyTexts cursor.old.left → ⊥) }
 {
-    if phase.behind(Weight::Parent).is_some() {
+    if phase.following(Weight::Parent).is_some() {
         return Ok(());
     }
     match Front::at(cursor) {
@@ -309,7 +309,7 @@ fn refuse_extends(
     }
 }
 
-// That an `extends`, which comes next, stands where none may. It is taken up to its string, at which that is told.
+// That an `extends`, which comes next, is where none may. It is taken up to its string, at which that is reported.
 #[tactic(auto, using(crate::proofs::RefusalLemmas::took_inside))]
 fn late_extends(cursor: &mut Cursor<'_>, parent: Option<&str>) -> Error
     requires { fronts.Opens openers.Extends ≡ kind_of (front cursor.old.left) }
@@ -336,9 +336,9 @@ fn take_extends(cursor: &mut Cursor<'_>) -> Result<(), Error>
     Ok(())
 }
 
-// Where the next token stands, if it is shown.
+// Where the next token is, if it is shown.
 fn next_place(cursor: &Cursor<'_>) -> Option<Span>
-    ensures { StandsNext result cursor.now }
+    ensures { ComesNext result cursor.now }
 {
     match cursor.first_span() {
         Some(span) => Some(span.copied()),
@@ -346,8 +346,7 @@ fn next_place(cursor: &Cursor<'_>) -> Option<Span>
     }
 }
 
-// Reads the next item of the top level, where one stands there; the template extends this parent, as far as it is
-// known.
+// Reads the next item of the top level, where one is there; the template extends this parent, as far as it is known.
 fn top_item(
     setting: &Setting<'_>,
     cursor: &mut Cursor<'_>,

@@ -188,7 +188,7 @@ possible_some ns e = let s = some_names ns e in rw s.2 refl
 
 pub ruleset possible_texts = (possible_none, possible_some, append-nil)
 
--- where a name stands among names
+-- where a name is among names
 pub among_middle : (before after : List (List ℕ)) (n : List ℕ) → IsAmong (before ++ (n ∷ after)) n
 among_middle [] after n = inl refl
 among_middle (m ∷ before) after n = inr (among_middle before after n)

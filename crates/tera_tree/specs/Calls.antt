@@ -38,7 +38,7 @@ texts names = map (λ n. n.now) names
 abbrev pub is_argument : List (List ℕ × Argument) → List ℕ → Bool
 is_argument arguments n = list_any (λ a. bytes_eq n a.0) arguments
 
--- the names, of those provided, that are no arguments
+-- the names, of those provided, that are not arguments
 abbrev pub unknown : List (List ℕ × Argument) → List (List ℕ) → List (List ℕ)
 unknown arguments names = filter (λ n. not (is_argument arguments n)) names
 
@@ -54,7 +54,7 @@ argument_names arguments = map (λ a. a.0) arguments
 abbrev pub IsAsked : List (List ℕ × Argument) → (List (Bor (List ℕ)) → Type 0) → List ℕ → Type 0
 IsAsked arguments Provided n = IsAmong (argument_names arguments) n ⊎ ((names : List (Bor (List ℕ))) × Provided names × IsAmong (texts names) n)
 
--- a name put at its place among names in byte order, where it does not stand there already
+-- a name put at its place among names in byte order, where it is not there already
 abbrev pub place_name : List ℕ → List (List ℕ) → List (List ℕ)
 place_name n [] = n ∷ []
 place_name n (m ∷ ms) = match_ordering (slice_cmp nat_cmp n m) (n ∷ m ∷ ms) (m ∷ ms) (m ∷ place_name n ms)
@@ -126,7 +126,7 @@ abbrev pub found_outcome : List ℕ → Argument → Result Value Error → Outc
 found_outcome n a (Ok v) = found_value n a (value_view v)
 found_outcome n a (Err e) = Passes e
 
--- a name that is no argument has to have a value
+-- a name that is not an argument has to have a value
 abbrev pub rest_outcome : List ℕ → Result (Option Value) Error → Outcome Pair
 rest_outcome n (Ok (Some v)) = Gives (n, value_view v)
 rest_outcome n (Ok None) = Refuses (no_value_text n)
@@ -153,7 +153,7 @@ abbrev pub body_pairs : Option Value → List Pair
 body_pairs None = []
 body_pairs (Some v) = (codes "body", value_view v) ∷ []
 
--- ---- the names that are no arguments, by what `get_value` may answer at a name
+-- ---- the names that are not arguments, by what `get_value` may answer at a name
 
 module _ (Value_at : List ℕ → Result (Option Value) Error → Type 0) where
   -- with a rest parameter each has to have a value

@@ -1,4 +1,4 @@
--- What a catalogue of components is told of one.
+-- What a catalogue of components has of one.
 use Rattle.std.specs.Prelude.{ℕ, List, Bool, ◌&&◌, not, map, Option, codes, string_bytes}
 use Rattle.std.specs.Option.{option_map, is_some}
 use Rattle.tera_base.specs.Values.{Val}
@@ -46,7 +46,7 @@ shown_type_name shown.Array = codes "array"
 shown_type_name shown.Map = codes "map"
 shown_type_name shown.Bytes = codes "bytes"
 
--- what is told of an argument with its name, and of a definition
+-- what is reported for an argument with its name, and of a definition
 abbrev pub argument_info : List ℕ × Argument → ArgumentInfo
 argument_info a = record { name = a.0; default = a.1.default; typ = option_map shown_type a.1.typ; implicit = a.1.implicit }
 

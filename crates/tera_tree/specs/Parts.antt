@@ -1,5 +1,5 @@
--- The parts of a tree, and what stands in each, one level down: from left to right, and of arguments by name in the
--- order of the names.
+-- The parts of a tree, and what is in each, one level down: from left to right, and of arguments by name in the order
+-- of the names.
 use Rattle.std.specs.Prelude.{List, [], ◌∷◌, ◌++◌, map}
 use Rattle.std.specs.List.{flat_map}
 use Rattle.tera_ast.specs.View.{nodes_of, node_view, expression_view}
@@ -60,7 +60,7 @@ abbrev pub in_entry : MapEntryOf Expr → Expr
 in_entry (entries.KeyValue k e) = e
 in_entry (entries.Spread e) = e
 
--- what stands in an expression, in a node, and in a part
+-- what is in an expression, in a node, and in a part
 abbrev pub parts_in_expression : Expr → List PartVal
 parts_in_expression (Const v span) = []
 parts_in_expression (Array es span) = parts_of_items es

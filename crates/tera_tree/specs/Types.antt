@@ -40,6 +40,6 @@ is_of_type types.Map kinds.Map = true
 is_of_type types.Bytes kinds.Bytes = true
 is_of_type _ _ = false
 
--- the refusal of a name that is no type's
+-- the refusal of a name that is not a type's
 abbrev pub no_type_text : List ℕ → List ℕ
 no_type_text name = codes "Found " ++ (name ++ codes " but the only types allowed are: string, bool, integer, number, array, map and bytes")

@@ -1,4 +1,4 @@
-//! What a catalogue of components is told of an argument.
+//! What a catalogue of components has of an argument.
 
 ghost use Rattle.std.specs.Prelude.{◌≡◌, Some, IfOk};
 ghost use Rattle.std.specs.Option.{option_map};
@@ -76,14 +76,14 @@ impl From<ArgType> for ComponentArgType {
 }
 
 impl ComponentArg {
-    /// What is told of the argument of this name.
-    pub(crate) fn told(
+    /// What is reported for the argument of this name.
+    pub(crate) fn described(
         alloc: Global,
         name: &str,
         argument: &ComponentArgument,
     ) -> Result<ComponentArg, AllocError>
-        ensures { IfOk result (λ told.
-            arg_view told ≡ argument_info (name.now, argument_view argument.now)) }
+        ensures { IfOk result (λ described.
+            arg_view described ≡ argument_info (name.now, argument_view argument.now)) }
     {
         Ok(ComponentArg {
             name: String::from_str(alloc, name)?,

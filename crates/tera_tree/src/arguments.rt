@@ -34,7 +34,7 @@ impl ComponentArgument {
                     Ok(value)
                 } else {
                     let message = wrong_type(alloc, name, &value, *typ);
-                    Err(told(message))
+                    Err(message_error(message))
                 }
             }
             None => Ok(value),
@@ -50,14 +50,14 @@ impl ComponentArgument {
             Some(value) => Ok(value.clone()?),
             None => {
                 let message = missing_argument(alloc, name, self.typ, self.implicit);
-                Err(told(message))
+                Err(message_error(message))
             }
         }
     }
 }
 
 // An error with no place whose text was made, or `Memory` where it was not.
-pub(crate) fn told(message: Result<String, AllocError>) -> Error
+pub(crate) fn message_error(message: Result<String, AllocError>) -> Error
     ensures { (text : List ℕ) → IfOk message (λ m. string_bytes m ≡ text) → Says text result }
 {
     match message {

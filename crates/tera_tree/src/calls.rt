@@ -17,7 +17,7 @@ ghost use Rattle.tera_ast.specs.View.{name_view};
 ghost use Rattle.tera_tree.specs.View.{argument_view, definition_view};
 ghost use Rattle.tera_tree.specs.Calls.{arguments_view, texts, unknown, found_outcome, RestNameComesTo, RestMapComesTo, RestComesTo, ArgumentComesTo, ArgumentsComeTo, BuildsContext, passed_pairs, body_pairs, IsAmong, IsAsked, argument_names};
 
-use crate::arguments::told;
+use crate::arguments::message_error;
 use crate::ast::{ComponentArgument, ComponentDefinition};
 use crate::refusals::{no_value, unknown_arguments};
 use std::alloc::{AllocError, Global};
@@ -77,7 +77,7 @@ impl ComponentArgument {
     }
 }
 
-// What is passed under a name that is no argument.
+// What is passed under a name that is not an argument.
 fn rest_value<G>(alloc: Global, name: &str, get_value: &G) -> Result<Value, Error>
 where
     G: Fn(&str) -> Result<Option<Value>, Error>,
@@ -87,11 +87,11 @@ where
 {
     match get_value(name)? {
         Some(value) => Ok(value),
-        None => Err(told(no_value(alloc, name))),
+        None => Err(message_error(no_value(alloc, name))),
     }
 }
 
-// What is passed under the names that are no arguments, each name in the place where it came first.
+// What is passed under the names that are not arguments, each name in the place where it came first.
 fn rest_map<G>(alloc: Global, names: &[&str], get_value: &G) -> Result<Map, Error>
 where
     G: Fn(&str) -> Result<Option<Value>, Error>,
@@ -109,7 +109,7 @@ where
 }
 
 impl ComponentDefinition {
-    // The names that are no arguments.
+    // The names that are not arguments.
     fn unknown_names<'a, I>(&self, alloc: Global, provided_keys: I) -> Result<Vec<&'a str>, Error>
     where
         I: Iterator<Item = &'a str> + Drop,
@@ -158,7 +158,7 @@ impl ComponentDefinition {
         Ok(context)
     }
 
-    // What the rest parameter takes; without one, names that are no arguments are refused.
+    // What the rest parameter takes; without one, names that are not arguments are refused.
     fn rest_value<'s, G>(
         &'s self,
         alloc: Global,
@@ -182,7 +182,7 @@ impl ComponentDefinition {
                     Ok(None)
                 } else {
                     let message = unknown_arguments(alloc, unknown, self);
-                    Err(told(message))
+                    Err(message_error(message))
                 }
             }
         }

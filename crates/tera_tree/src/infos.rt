@@ -1,4 +1,4 @@
-//! What a catalogue of components is told of one.
+//! What a catalogue of components has of one.
 
 ghost use Rattle.std.specs.Prelude.{◌≡◌, IfOk, IfErr, map};
 ghost use Rattle.std.specs.Cmp.Lexicographic.{slice_cmp};
@@ -28,7 +28,7 @@ pub struct ComponentInfo {
 }
 
 impl ComponentInfo {
-    /// What is told of the definition. The only refusal is `Memory`.
+    /// What is reported for the definition. The only refusal is `Memory`.
     pub fn from_definition(
         alloc: Global,
         definition: &ComponentDefinition,
@@ -40,7 +40,7 @@ impl ComponentInfo {
     {
         Ok(ComponentInfo {
             name: definition.name.clone()?,
-            args: told_arguments(alloc, &definition.kwargs)?,
+            args: argument_infos_of(alloc, &definition.kwargs)?,
             rest_param: definition.rest_param_name.clone()?,
             metadata: copy_metadata(&definition.metadata)?,
         })
@@ -60,7 +60,7 @@ impl ComponentInfo {
         self.args.as_slice()
     }
 
-    /// The parameter that takes what is no argument.
+    /// The parameter that takes what is not an argument.
     pub fn rest_param(&self) -> Option<&str>
         ensures { option_map (λ n. n.now) result ≡ (info_view self.now).rest }
     {
@@ -84,32 +84,32 @@ impl Clone for ComponentInfo {
     fn clone(&self) -> Result<ComponentInfo, AllocError> {
         Ok(ComponentInfo {
             name: self.name.clone()?,
-            args: copy_told(&self.args)?,
+            args: copy_infos(&self.args)?,
             rest_param: self.rest_param.clone()?,
             metadata: copy_metadata(&self.metadata)?,
         })
     }
 }
 
-fn told_arguments(
+fn argument_infos_of(
     alloc: Global,
     arguments: &BTreeMap<String, ComponentArgument>,
 ) -> Result<Vec<ComponentArg>, AllocError>
-    ensures told { IfOk result (λ told.
-        map arg_view told.items ≡ map argument_info (arguments_view arguments.now.entries)) }
-    ensures ordered { IfOk result (λ told.
-        IsStrictlySortedBy (slice_cmp nat_cmp) (map (λ a. a.name) (map arg_view told.items))) }
+    ensures described { IfOk result (λ described.
+        map arg_view described.items ≡ map argument_info (arguments_view arguments.now.entries)) }
+    ensures ordered { IfOk result (λ described.
+        IsStrictlySortedBy (slice_cmp nat_cmp) (map (λ a. a.name) (map arg_view described.items))) }
 {
-    let mut told = Vec::new(alloc);
+    let mut described = Vec::new(alloc);
     for (name, argument) in arguments {
-        told.push(ComponentArg::told(alloc, name.as_str(), argument)?)?;
+        described.push(ComponentArg::described(alloc, name.as_str(), argument)?)?;
     }
-    Ok(told)
+    Ok(described)
 }
 
-fn copy_told(told: &Vec<ComponentArg>) -> Result<Vec<ComponentArg>, AllocError>
-    ensures { IfOk result (λ c. map arg_view c.items ≡ map arg_view told.now.items) }
+fn copy_infos(described: &Vec<ComponentArg>) -> Result<Vec<ComponentArg>, AllocError>
+    ensures { IfOk result (λ c. map arg_view c.items ≡ map arg_view described.now.items) }
 {
-    let copies = told.clone()?;
+    let copies = described.clone()?;
     Ok(copies)
 }

@@ -1,9 +1,9 @@
 //! The tree of a template of the engine Tera: a `ParserOutput` of definitions of components, with the expressions and
 //! nodes of `tera_ast`.
 //!
-//! It takes the arguments of a call and names, and gives definitions of components, the context of a call or why there
-//! is none (`BuildsContext`), what a catalogue of components is told, what a template is read as (`output_view`), and the
-//! parts of a tree (`children`). It stands on `tera_ast`, and passes its public names on.
+//! It has definitions of components, and the context of a call or the reason why there is none (`BuildsContext`). It
+//! also has what a catalogue shows of components, what a template is read as (`output_view`), and the parts of a tree
+//! (`children`). It depends on `tera_ast`, and re-exports its public names.
 //!
 //! In the order of reading: `ast` and `types`; `arguments`, what one takes; `refusals`, texts; `calls`, the contexts;
 //! `infos` and `argument_infos`, for a catalogue; `parts`, for a walk over a tree; `definitions`, copies and equality;

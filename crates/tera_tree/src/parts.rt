@@ -1,6 +1,6 @@
-//! The parts of a tree: its nodes and expressions, and what stands in each, one level down.
+//! The parts of a tree: its nodes and expressions, and what is in each, one level down.
 //!
-//! A walk takes a part from a stack and puts what stands in it there: so it goes along a chain of `elif`s, however long.
+//! A walk takes a part from a stack and puts what is in it there: so it goes along a chain of `elif`s, however long.
 
 ghost use Rattle.std.specs.Prelude.{◌≡◌, [], ◌∷◌, ◌++◌, map, IfOk, OnOk};
 ghost use Rattle.std.specs.List.{flat_map};
@@ -47,7 +47,7 @@ pub fn top_parts<'a>(
 }
 
 impl<'a> Part<'a> {
-    /// Puts what stands in the part, one level down, behind the parts that are there.
+    /// Puts what is in the part, one level down, after the parts that are there.
     pub fn push_inside(self, parts: &mut Parts<'a>) -> Result<(), AllocError>
         ensures { OnOk result (parts_view parts.new.items
             ≡ parts_view parts.old.items ++ children (part_view self.entry)) }
@@ -73,7 +73,7 @@ fn push_definitions<'a>(
     Ok(())
 }
 
-/// Puts the nodes behind the parts that are there.
+/// Puts the nodes after the parts that are there.
 pub fn push_nodes<'a>(parts: &mut Parts<'a>, nodes: &'a Vec<Node>) -> Result<(), AllocError>
     ensures { OnOk result (parts_view parts.new.items ≡ parts_view parts.old.items
         ++ parts_of_nodes (nodes_view nodes.now.items)) }
@@ -271,7 +271,7 @@ fn push_both<'a>(
     push(parts, second)
 }
 
-// An expression, and behind it arguments by their names.
+// An expression, and after it arguments by their names.
 fn push_with<'a>(
     parts: &mut Parts<'a>,
     expression: &'a Expression,

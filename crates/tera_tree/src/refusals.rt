@@ -52,9 +52,9 @@ pub fn wrong_type(
         string_bytes m ≡ wrong_type_text name.now (value_view value.now) typ) }
 {
     let kind = value.name();
-    let wanted = typ.as_str();
+    let expected = typ.as_str();
     format!(in alloc;
-        "Component argument `{name}` (type: `{kind}`) does not match expected type: `{wanted}`"
+        "Component argument `{name}` (type: `{kind}`) does not match expected type: `{expected}`"
     )
 }
 

@@ -108,7 +108,7 @@ fn named(name: &str) -> Option<ArgType>
     }
 }
 
-// The refusal of a name that is no type's.
+// The refusal of a name that is not a type's.
 fn no_type(alloc: Global, name: &str) -> Error
     ensures { Says (no_type_text name.now) result }
 {

@@ -21,10 +21,10 @@ not_lone (x ∷ y ∷ xs) h = refl
 pub one : (xs : List Node) (x : Node) → xs ≡ x ∷ [] → elifs (nodes_view xs) ≡ elifs_at (node_view x)
 one xs x e = rw e
 
-abbrev pub elifs_behind : If → ℕ
-elifs_behind p = elifs (nodes_view (out-If p).false_body.items)
+abbrev pub elifs_after : If → ℕ
+elifs_after p = elifs (nodes_view (out-If p).false_body.items)
 
-pub one_more : (p next : If) → (out-If p).false_body.items ≡ nodes.If next ∷ [] → elifs_behind p ≡ suc (elifs_behind next)
+pub one_more : (p next : If) → (out-If p).false_body.items ≡ nodes.If next ∷ [] → elifs_after p ≡ suc (elifs_after next)
 one_more p next is = rw (is, view_if next, if_out next) refl
 
 -- an `If` up to the body that is for where it is false, and that body
@@ -48,7 +48,7 @@ whole p = simp append_assoc
 pub record IsOpen (start : List Token) (first : If) (now : List Token) (last : If) : Type 0 where
   pub count : ℕ
   pub written : start ++ (rest_of first ++ end_object ∷ []) ≡ now ++ (rest_of last ++ end_object ∷ ends count)
-  pub left : count + elifs_behind last ≡ elifs_behind first
+  pub left : count + elifs_after last ≡ elifs_after first
 
 pub opened : (start : List Token) (first : If) → IsOpen start first start first
 opened start first = record { count = 0; written = refl; left = omega arith }
@@ -56,22 +56,22 @@ opened start first = record { count = 0; written = refl; left = omega arith }
 pub opened_more : (start now : List Token) (first last next : If) → (out-If last).false_body.items ≡ nodes.If next ∷ []
     → IsOpen start first now last → IsOpen start first ((now ++ begin_array ∷ []) ++ branch_of next) next
 opened_more start now first last next is held =
-    let more : elifs_behind last ≡ suc (elifs_behind next) = one_more last next is in
+    let more : elifs_after last ≡ suc (elifs_after next) = one_more last next is in
     let rest : rest_of last ≡ begin_array ∷ (branch_of next ++ (rest_of next ++ end_object ∷ end_array ∷ [])) = rest_more last next is in record {
       count = suc held.count;
       written = held.written ∙ ap (λ ts. now ++ (ts ++ end_object ∷ ends held.count)) rest ∙ simp append_assoc;
       left = omega (arith, more, held.left);
     }
 
-pub closed : (start now : List Token) (first last : If) → elifs_behind last ≡ 0 → IsOpen start first now last
-    → start ++ (rest_of first ++ end_object ∷ []) ≡ now ++ (rest_of last ++ end_object ∷ ends (elifs_behind first))
+pub closed : (start now : List Token) (first last : If) → elifs_after last ≡ 0 → IsOpen start first now last
+    → start ++ (rest_of first ++ end_object ∷ []) ≡ now ++ (rest_of last ++ end_object ∷ ends (elifs_after first))
 closed start now first last none held =
-    let all : held.count ≡ elifs_behind first = omega (arith, none, held.left) in held.written ∙ ap (λ n. now ++ (rest_of last ++ end_object ∷ ends n)) all
+    let all : held.count ≡ elifs_after first = omega (arith, none, held.left) in held.written ∙ ap (λ n. now ++ (rest_of last ++ end_object ∷ ends n)) all
 
 -- the ends of one `If` more
-pub ends_more : (all now : List Token) (p next : If) → (out-If p).false_body.items ≡ nodes.If next ∷ [] → all ≡ now ++ ends (elifs_behind p)
-    → all ≡ ((now ++ end_array ∷ []) ++ end_object ∷ []) ++ ends (elifs_behind next)
+pub ends_more : (all now : List Token) (p next : If) → (out-If p).false_body.items ≡ nodes.If next ∷ [] → all ≡ now ++ ends (elifs_after p)
+    → all ≡ ((now ++ end_array ∷ []) ++ end_object ∷ []) ++ ends (elifs_after next)
 ends_more all now p next is start = start ∙ ap (λ n. now ++ ends n) (one_more p next is) ∙ simp append_assoc
 
-pub ends_none : (all now : List Token) (p : If) → elifs_behind p ≡ 0 → all ≡ now ++ ends (elifs_behind p) → now ≡ all
+pub ends_none : (all now : List Token) (p : If) → elifs_after p ≡ 0 → all ≡ now ++ ends (elifs_after p) → now ≡ all
 ends_none all now p none start = sym (start ∙ ap (λ n. now ++ ends n) none ∙ append-nil now)

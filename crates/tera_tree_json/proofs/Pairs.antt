@@ -11,7 +11,7 @@ use Rattle.tera_base.specs.declared.values.Key.{Key}
 use Rattle.tera_base.specs.declared.values.Value.{Value, size-Value}
 use Rattle.tera_tree_json.specs.Constants.{key_json, value_json, pairs_json}
 
--- a value of a map is no deeper than the map's values, nor are those behind it
+-- a value of a map is at most as deep as the map's values, nor are those after it
 pub value_below : (ks ms : List Key) (vs us : List Value) (k : Key) (v : Value) (n : ℕ) → most size-Value (values_of (zip ks vs)) ≤ n → ks ≡ k ∷ ms → vs ≡ v ∷ us
     → (size-Value v ≤ n) × (most size-Value (values_of (zip ms us)) ≤ n)
 value_below ks ms vs us k v n h a b =

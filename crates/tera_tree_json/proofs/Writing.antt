@@ -1,4 +1,4 @@
--- Tokens that are written one behind another.
+-- Tokens that are written one after another.
 use Rattle.std.proofs.Common.{◌≡◌, List, ◌∷◌, [], ◌++◌, Result, Ok, Err, ◌∙◌, append_assoc, ap, sym, subst}
 use Rattle.json.specs.Token.{Token}
 use Rattle.json.specs.Written.{Written, Writes}
@@ -15,14 +15,14 @@ pub token : {E : Type 0} (r : Result (Unit {0}) E) {a b : Written} {t : Token} �
 token (Ok u) one = record { ok = one.ok; before = one.room.0 }
 token (Err e) one = record { ok = tt; before = one.room.0 }
 
--- a token, and what is written behind it
+-- a token, and what is written after it
 pub then_token : {E F : Type 0} (r : Result (Unit {0}) E) {u : Unit {0}} {a b c : Written} {t : Token} {ts : List Token}
     → Writes {E = F} (Ok u) a b t → Puts r b c ts → Puts r a c (t ∷ ts)
 then_token (Ok v) {a = a} {t = t} {ts = ts} one more =
     record { ok = more.ok ∙ ap (λ z. z ++ ts) one.ok ∙ append_assoc a.tokens (t ∷ []) ts; before = more.before ∙ one.room.0 }
 then_token (Err e) one more = record { ok = tt; before = more.before ∙ one.room.0 }
 
--- tokens, and what is written behind them
+-- tokens, and what is written after them
 pub then_all : {E F : Type 0} (r : Result (Unit {0}) E) {u : Unit {0}} {a b c : Written} {ts us : List Token}
     → Puts {E = F} (Ok u) a b ts → Puts r b c us → Puts r a c (ts ++ us)
 then_all (Ok v) {a = a} {ts = ts} {us = us} one more =

@@ -1,4 +1,4 @@
--- How deep the JSON of an `if` nests: an `elif` is an `If` that stands alone in the body of the one before.
+-- How deep the JSON of an `if` nests: an `elif` is an `If` that is alone in the body of the one before.
 use Rattle.std.specs.Prelude.{ℕ, zero, suc, List, [], ◌∷◌}
 use Rattle.json.specs.Token.{Token}
 use Rattle.tera_ast.specs.Tree.{Stmt, Content, Shown, Set, BlockSet, Include, Block, ForLoop, Break, Continue, If, FilterSection, Nodes, NoNodes, OneNode}
@@ -10,7 +10,7 @@ abbrev mutual
   elifs (OneNode n NoNodes) = elifs_at n
   elifs (OneNode _ (OneNode _ _)) = 0
 
-  -- in a node that stands alone
+  -- in a node that is alone
   pub elifs_at : Stmt → ℕ
   elifs_at (Content _) = 0
   elifs_at (Shown _) = 0

@@ -5,7 +5,7 @@ use Rattle.json.specs.Token.{Token}
 use Rattle.json.specs.Tree.{json_tokens}
 use Rattle.json.specs.Written.{Written}
 
--- a call that succeeds has written these tokens behind those that were there; what stood before them all stays
+-- a call that succeeds has written these tokens after those that were there; what was before them all stays
 pub record Puts {E : Type 0} (r : Result (Unit {0}) E) (old new : Written) (ts : List Token) : Type 0 where
   pub ok : OnOk r (new.tokens ≡ old.tokens ++ ts)
   pub before : new.before ≡ old.before

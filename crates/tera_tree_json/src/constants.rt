@@ -55,7 +55,7 @@ fn put_undefined(out: &mut Writer) -> Result<(), AllocError>
     out.end_object()
 }
 
-// A whole number that is told by its digits.
+// A whole number that is given by its digits.
 fn put_digits(out: &mut Writer, digits: &str) -> Result<(), AllocError>
     ensures { PutsJson result out.old out.new (other_json (codes "integer") (string digits.now)) }
 {

@@ -23,7 +23,7 @@ pub(crate) fn begin(out: &mut Writer, kind: &str) -> Result<(), AllocError>
     out.string(kind)
 }
 
-/// The beginning of an object of this kind that stands at this place.
+/// The beginning of an object of this kind that is at this place.
 pub(crate) fn begin_at(out: &mut Writer, kind: &str, span: &Span) -> Result<(), AllocError>
     ensures { Puts result out.old out.new (begin_object ∷ key (codes "kind") ∷ string kind.now
         ∷ key (codes "span") ∷ json_tokens (span_json span.now)) }

@@ -1,6 +1,6 @@
 //! The JSON of a tree, with the places of its expressions.
 //!
-//! It takes a `ParserOutput`, and gives its JSON (`json_text`), an object for each node. It stands on `tera_tree` and
+//! It takes a `ParserOutput`, and gives its JSON (`json_text`), an object for each node. It depends on `tera_tree` and
 //! on `json` of the kit, and needs no parser.
 //!
 //! In the order of reading: specs `TreeJson`, what is written, `Forms`, of each form of node, and `Constants`; `tree`;

@@ -140,7 +140,7 @@ fn put_for(out: &mut Writer, parts: &ForLoop) -> Result<(), AllocError>
     out.end_object()
 }
 
-// An `If`, and the `elif`s behind it: each stands alone in the body of the one before.
+// An `If`, and the `elif`s after it: each is alone in the body of the one before.
 #[cycle(tree)]
 fn put_if(out: &mut Writer, parts: &If) -> Result<(), AllocError>
     ensures { let p = out-If parts.now in
@@ -174,7 +174,7 @@ fn put_branch(out: &mut Writer, parts: &If) -> Result<(), AllocError>
     out.key("false_body")
 }
 
-// The ends of the `If`s of which the `elif`s behind this one are parts.
+// The ends of the `If`s of which the `elif`s after this one are parts.
 fn put_ends(out: &mut Writer, parts: &If) -> Result<(), AllocError>
     ensures { Puts result out.old out.new
         (ends (elifs (nodes_view (out-If parts.now).false_body.items))) }
@@ -188,7 +188,7 @@ fn put_ends(out: &mut Writer, parts: &If) -> Result<(), AllocError>
     Ok(())
 }
 
-// The `If` that stands alone in a body.
+// The `If` that is alone in a body.
 #[tactic(auto, using(crate::proofs::Elifs::not_lone, crate::proofs::Elifs::one))]
 fn elif_of(nodes: &Vec<Node>) -> Option<&If>
     ensures some { IfSome result (λ next. nodes.now.items ≡ Node.If next.now ∷ []) }

@@ -6,10 +6,10 @@ use std::test::Fail;
 use tera_base::Span;
 use tera_tree::{If, Node, build};
 
-// A choice with this behind it.
-fn choice(alloc: Global, behind: Made<Vec<Node>>) -> Made<Node> {
-    let (condition, behind) = both(variable(alloc, "a", Span::default()), behind)?;
-    Ok(build::when(condition, Vec::new(alloc), behind))
+// A choice with this after it.
+fn choice(alloc: Global, following: Made<Vec<Node>>) -> Made<Node> {
+    let (condition, following) = both(variable(alloc, "a", Span::default()), following)?;
+    Ok(build::when(condition, Vec::new(alloc), following))
 }
 
 // A chain with so many conditions.
@@ -21,7 +21,7 @@ fn chain(alloc: Global, conditions: u32) -> Made<Vec<Node>> {
     nodes
 }
 
-// How many choices stand in the chain, each alone behind the one before. Each is taken out of the one that holds it.
+// How many choices are in the chain, each alone after the one before. Each is taken out of the one that holds it.
 fn taken_apart(mut nodes: Vec<Node>) -> usize {
     for count in 0..20000 {
         let Some(node) = nodes.pop() else {
@@ -30,8 +30,8 @@ fn taken_apart(mut nodes: Vec<Node>) -> usize {
         let Ok(choice) = node.into_if() else {
             return count;
         };
-        let (_condition, _body, behind) = choice.into_parts();
-        nodes = behind;
+        let (_condition, _body, following) = choice.into_parts();
+        nodes = following;
     }
     20000
 }
@@ -45,8 +45,8 @@ fn a_long_chain_is_taken_apart(rt: HostRuntime) -> Result<(), Fail> {
 
 // Whether the parts are a variable, one node and none.
 fn has_three_parts(choice: If) -> bool {
-    let (condition, body, behind) = choice.into_parts();
-    !condition.is_literal() && body.len() == 1 && behind.is_empty()
+    let (condition, body, following) = choice.into_parts();
+    !condition.is_literal() && body.len() == 1 && following.is_empty()
 }
 
 #[test]

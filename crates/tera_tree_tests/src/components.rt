@@ -29,7 +29,7 @@ fn found(alloc: Global, answer: Answer) -> Result<Value, Error> {
 
 // The value of `user` in the context of the component, or the text of the error: with these names, what is answered at
 // names, and what at implicit arguments.
-fn shown(
+fn context_text(
     alloc: Global,
     definition: &ComponentDefinition,
     names: &[&str],
@@ -67,8 +67,8 @@ const USERS: [(Answer, Answer, &str); 5] = [
 
 fn shows_users(alloc: Global, definition: &ComponentDefinition) -> Result<bool, AllocError> {
     for (given, implicit, text) in &USERS {
-        let told = shown(alloc, definition, &[], *given, *implicit)?;
-        if told.as_str() != *text {
+        let reported = context_text(alloc, definition, &[], *given, *implicit)?;
+        if reported.as_str() != *text {
             return Ok(false);
         }
     }
@@ -77,14 +77,14 @@ fn shows_users(alloc: Global, definition: &ComponentDefinition) -> Result<bool, 
 
 // Whether an error that stops at what is left of the names is shown.
 fn stops_at_the_rest(alloc: Global, definition: &ComponentDefinition) -> Result<bool, AllocError> {
-    let told = shown(
+    let reported = context_text(
         alloc,
         definition,
         &["z", "a"],
         Answer::Stop,
         Answer::Nothing,
     )?;
-    Ok(told.as_str() == "stop")
+    Ok(reported.as_str() == "stop")
 }
 
 #[test]

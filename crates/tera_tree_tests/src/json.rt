@@ -12,13 +12,13 @@ const DEFINITION: &str =
 
 const SPAN: &str = r#"{"start_line":0,"start_col":0,"end_line":0,"end_col":0,"start":0,"end":0}"#;
 
-fn shown(expression: Made<Expression>) -> Made<Node> {
+fn expression_node(expression: Made<Expression>) -> Made<Node> {
     Ok(Node::Expression(expression?))
 }
 
 // The JSON of this constant alone, with a definition.
 fn written(alloc: Global, value: Value) -> Result<String, AllocError> {
-    let nodes = one(alloc, shown(constant(alloc, value)));
+    let nodes = one(alloc, expression_node(constant(alloc, value)));
     let definitions = one(alloc, Ok(ComponentDefinition::empty(alloc)));
     let (nodes, component_definitions) = both(nodes, definitions)?;
     let output = ParserOutput {
@@ -32,7 +32,7 @@ fn written(alloc: Global, value: Value) -> Result<String, AllocError> {
 }
 
 // What has to be written where the constant has this JSON.
-fn wanted(alloc: Global, json: &str) -> Result<String, AllocError> {
+fn expected(alloc: Global, json: &str) -> Result<String, AllocError> {
     let head = r#"{"parent":null,"component_definitions":["#;
     let nodes = r#"],"nodes":[{"kind":"Expression","expr":{"kind":"Const","span":"#;
     format!(in alloc; "{head}{DEFINITION}{nodes}{SPAN},\"value\":{json}}}}}]}}")
@@ -59,8 +59,8 @@ fn constants(alloc: Global) -> Result<[(Value, &'static str); 11], AllocError> {
 }
 
 fn is_written(alloc: Global, value: &Value, json: &str) -> Result<bool, AllocError> {
-    let (written, wanted) = (written(alloc, value.clone()?)?, wanted(alloc, json)?);
-    Ok(written == wanted)
+    let (written, expected) = (written(alloc, value.clone()?)?, expected(alloc, json)?);
+    Ok(written == expected)
 }
 
 #[test]

@@ -1,4 +1,4 @@
-//! Trees for tests, made from parts, each of which may have found no memory.
+//! Trees for tests, made from parts, each of which may have failed to allocate.
 //!
 //! A function of any type of part joins parts, so that a function of the tree's types holds no tree where
 //! it may stop.

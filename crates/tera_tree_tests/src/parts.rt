@@ -1,4 +1,4 @@
-//! The parts at the top of a tree, and those that stand in a part.
+//! The parts at the top of a tree, and those that are in a part.
 
 use crate::making::{Made, both, one, variable};
 use std::alloc::{AllocError, Global};

@@ -21,7 +21,7 @@ pub not_none : (xs : List Node) → (length xs ≡ 0 → ⊥) → not (has_nodes
 not_none [] h = absurd (h refl)
 not_none (x ∷ xs) h = refl
 
--- an `If` with an `elif` behind it
+-- an `If` with an `elif` after it
 pub elif_text : (word indent : List ℕ) (p next : If) → (out-If p).false_body.items ≡ nodes.If next ∷ []
     → node_text word indent (if_view p)
     ≡ line indent (word ++ text (expression_view (out-If p).expr))
@@ -37,8 +37,8 @@ pub last_text : (word indent : List ℕ) (p : If) → is_lone_if (nodes_view (ou
 last_text word indent p alone = rw (if_out p, alone) refl
 
 -- one `If` more of a chain
-pub chain_more : (all before behind_line behind_body first body rest whole : List ℕ) → all ≡ before ++ whole → whole ≡ first ++ (body ++ rest)
-    → behind_line ≡ before ++ first → behind_body ≡ behind_line ++ body → all ≡ behind_body ++ rest
-chain_more all before behind_line behind_body first body rest whole start is one two =
+pub chain_more : (all before after_line after_body first body rest whole : List ℕ) → all ≡ before ++ whole → whole ≡ first ++ (body ++ rest)
+    → after_line ≡ before ++ first → after_body ≡ after_line ++ body → all ≡ after_body ++ rest
+chain_more all before after_line after_body first body rest whole start is one two =
     start ∙ ap (λ t. before ++ t) is
     ∙ sym (ap (λ t. t ++ rest) (two ∙ ap (λ t. t ++ body) one) ∙ append_assoc (before ++ first) body rest ∙ append_assoc before first (body ++ rest))

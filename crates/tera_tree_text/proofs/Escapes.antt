@@ -77,12 +77,12 @@ run_escaped (b ∷ bs) =
 pub stop_ascii : (b : ℕ) → is_plain b ≡ false → b < 128
 stop_ascii b stops = grind (arith, nat_tests)
 
--- the text may be cut behind it
+-- the text may be cut after it
 pub run_cut : (bytes : List ℕ) → IsCharBoundary bytes (prefix_len is_plain bytes)
 run_cut bytes =
     (prefix_len-le-length is_plain bytes, λ below high. absurd (omega (arith, high, stop_ascii (get_or bytes (prefix_len is_plain bytes) 0) (prefix_len_stops is_plain bytes 0 below))))
 
--- and what is behind it begins with a byte that is escaped
+-- and what is after it begins with a byte that is escaped
 pub run_stops : (bytes : List ℕ) → 0 < length (drop (prefix_len is_plain bytes) bytes) → is_plain (get_or (drop (prefix_len is_plain bytes) bytes) 0 0) ≡ false
 run_stops [] some = absurd (omega arith)
 run_stops (b ∷ bs) some =

@@ -1,4 +1,4 @@
--- A text between quotes, byte by byte: as all that is escaped is ASCII, no character has to be told.
+-- A text between quotes, byte by byte: as all that is escaped is ASCII, no character has to be reported.
 use Rattle.std.specs.Prelude.{ℕ, ◌==◌, ◌||◌, if◌then◌else◌, Bool, not, List, ◌∷◌, [], codes}
 
 -- the byte is written as it is

@@ -24,7 +24,7 @@ abbrev pub filter_text : Expr → List ℕ
 filter_text (Filter e name args span) = call_text name (args_text false args)
 filter_text e = text e
 
--- filters with bars between them, and one before the first if something stands before it
+-- filters with bars between them, and one before the first if something is before it
 abbrev pub filters_text : Bool → Filters → List ℕ
 filters_text later NoFilters = []
 filters_text later (OneFilter e es) = (if later then codes " | " else []) ++ (filter_text e ++ filters_text true es)
@@ -45,12 +45,12 @@ abbrev pub has_nodes : Nodes → Bool
 has_nodes NoNodes = false
 has_nodes (OneNode n ns) = true
 
--- what stands behind the body of an `If`: the lines of an `elif`, which is an `If` alone, or `else` with its
--- body, or nothing
+-- what comes after the body of an `If`: the lines of an `elif`, which is an `If` alone, or `else` with its body, or
+-- nothing
 abbrev pub false_text : Nodes → List ℕ → List ℕ → List ℕ → List ℕ
 false_text other indent alone below = if is_lone_if other then alone else (if has_nodes other then line indent (codes "else") ++ below else [])
 
--- what stands behind the body of a loop
+-- what comes after the body of a loop
 abbrev pub else_text : Nodes → List ℕ → List ℕ → List ℕ
 else_text other indent below = if has_nodes other then line indent (codes "else") ++ below else []
 

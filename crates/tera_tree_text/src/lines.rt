@@ -149,12 +149,16 @@ fn push_attributes(out: &mut String, name: &str, kwargs: &Vec<MapEntry>) -> Resu
     Ok(())
 }
 
-// Filters with bars between them, and one before the first if something stands before it.
-fn push_filters(out: &mut String, behind: bool, filters: &Vec<Expression>) -> Result<(), AllocError>
+// Filters with bars between them, and one before the first if something is before it.
+fn push_filters(
+    out: &mut String,
+    following: bool,
+    filters: &Vec<Expression>,
+) -> Result<(), AllocError>
     ensures { OnOk result (string_bytes out.new
-        ≡ string_bytes out.old ++ filters_text behind (filters_view filters.now.items)) }
+        ≡ string_bytes out.old ++ filters_text following (filters_view filters.now.items)) }
 {
-    let mut later = behind;
+    let mut later = following;
     for filter in filters {
         push_later(out, later, filter)?;
         later = true;
@@ -363,7 +367,7 @@ fn push_for(out: &mut String, indent: &str, parts: &ForLoop) -> Result<(), Alloc
     push_else(out, indent, &parts.else_body)
 }
 
-// What stands behind the body of a loop, or of the last `If` of a chain.
+// What comes after the body of a loop, or of the last `If` of a chain.
 #[cycle(lines)]
 fn push_else(out: &mut String, indent: &str, nodes: &Vec<Node>) -> Result<(), AllocError>
     ensures { let ns = nodes_view nodes.now.items in
@@ -377,7 +381,7 @@ fn push_else(out: &mut String, indent: &str, nodes: &Vec<Node>) -> Result<(), Al
     push_body(out, indent, nodes)
 }
 
-// An `If`, and the `elif`s behind it.
+// An `If`, and the `elif`s after it.
 #[cycle(lines)]
 #[tactic(auto, using(crate::proofs::Elifs::elif_text, crate::proofs::Elifs::last_text))]
 fn push_if(out: &mut String, word: &str, indent: &str, parts: &If) -> Result<(), AllocError>
@@ -399,7 +403,7 @@ fn push_if(out: &mut String, word: &str, indent: &str, parts: &If) -> Result<(),
     }
 }
 
-// The `If` that stands alone in a body.
+// The `If` that is alone in a body.
 #[tactic(auto, using(crate::proofs::Elifs::not_lone, crate::proofs::Elifs::one))]
 fn elif_of(nodes: &Vec<Node>) -> Option<&If>
     ensures some { IfSome result (λ next. nodes.now.items ≡ Node.If next.now ∷ []) }

@@ -19,21 +19,21 @@ pub fn push_quoted(text: &mut String, content: &str) -> Result<(), AllocError>
     text.push('"')
 }
 
-// The text with its escapes, at the end. What stands between two escapes goes over as one piece.
+// The text with its escapes, at the end. What is between two escapes goes over as one piece.
 fn push_escaped(text: &mut String, content: &str) -> Result<(), AllocError>
     ensures { OnOk result (string_bytes text.new
         ≡ string_bytes text.old ++ flat_map escaped (chars content.now)) }
 {
     let mut rest = content;
     loop {
-        let (plain, behind) = rest.split_at(plain_len(rest.as_bytes()));
+        let (plain, following) = rest.split_at(plain_len(rest.as_bytes()));
         push_run(text, plain)?;
-        if behind.is_empty() {
+        if following.is_empty() {
             return Ok(());
         }
-        push_escape(text, behind.as_bytes()[0])?;
-        let (_, behind) = behind.split_at(1);
-        rest = behind;
+        push_escape(text, following.as_bytes()[0])?;
+        let (_, following) = following.split_at(1);
+        rest = following;
     }
 }
 
@@ -49,7 +49,7 @@ fn push_run(text: &mut String, run: &str) -> Result<(), AllocError>
     }
 }
 
-// How many bytes are told at a time.
+// How many bytes are examined at a time.
 const LANES: usize = 16;
 
 // How many bytes at the front are written as they are.
@@ -82,7 +82,7 @@ fn begins_escaped(bytes: &[u8]) -> bool
     }
 }
 
-// The same, told one byte after another.
+// The same, one byte after another.
 fn plain_bytes(bytes: &[u8]) -> usize
     ensures run { result ≡ prefix_len is_plain bytes.now }
     ensures within { result ≤ length bytes.now }
@@ -122,7 +122,7 @@ fn push_escape(text: &mut String, byte: u8) -> Result<(), AllocError>
     text.push(letter(byte))
 }
 
-// What stands behind the backslash of an escape.
+// What comes after the backslash of an escape.
 fn letter(byte: u8) -> char
     requires { is_plain byte ≡ false }
     ensures { escaped_byte byte ≡ 92 ∷ encode_utf8 result }

@@ -1,4 +1,4 @@
-//! Expressions, as they stand in tags.
+//! Expressions, as they are in tags.
 
 use crate::pen::Pen;
 use std::alloc::AllocError;

@@ -212,12 +212,12 @@ fn checked(
     for (at, template) in templates.iter().enumerate() {
         let findings = findings_of(alloc, &catalogue, false, at, template)?;
         for finding in &findings {
-            let told = if number % 3 == 2 {
+            let reported = if number % 3 == 2 {
                 object_of(alloc, template.file.as_str(), finding)?
             } else {
                 lines_of(alloc, template.file.as_str(), finding)?
             };
-            digest.put_bytes(told.as_slice());
+            digest.put_bytes(reported.as_slice());
         }
     }
     Ok(())

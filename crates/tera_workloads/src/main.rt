@@ -54,7 +54,7 @@ fn asked_of(rt: &HostRuntime) -> Option<Asked> {
     })
 }
 
-// The status: 2 where nothing that is known is asked, 1 where no memory is found or nothing can be written.
+// The status: 2 where nothing that is known is asked, 1 if an allocation fails or nothing can be written.
 fn run(rt: &HostRuntime) -> u8 {
     let Some(Asked { job, count, seed }) = asked_of(rt) else {
         let _ = eprintln!(rt;

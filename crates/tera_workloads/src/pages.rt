@@ -100,7 +100,7 @@ static MIDDLE: [&str; 6] = [
     "\n<!-- the end of the list -->\n",
 ];
 
-// What stands between two tags: most often a few bytes.
+// What is between two tags: most often a few bytes.
 fn put_text(pen: &mut Pen, kind: Kind) -> Result<(), AllocError> {
     if kind == Kind::Configuration {
         return put_line(pen);
@@ -187,7 +187,7 @@ fn put_comment(pen: &mut Pen) -> Result<(), AllocError> {
     pen.put(" #}")
 }
 
-// Whether a block may stand there: no loop is open.
+// Whether a block may be there: no loop is open.
 fn may_open_block(pen: &Pen) -> bool {
     for open in &pen.open {
         if let Open::For = open {

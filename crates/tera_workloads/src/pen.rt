@@ -4,7 +4,7 @@ use crate::draws::Draws;
 use itoa::Buffer;
 use std::alloc::{AllocError, Global};
 
-/// What is open where the pen stands.
+/// What is open where the pen is.
 #[derive(Clone, Copy)]
 pub(crate) enum Open {
     If,

@@ -1,4 +1,4 @@
--- Diagnostics are equal by their test where they are told alike.
+-- Diagnostics are equal by their test where they are reported alike.
 use Rattle.std.proofs.Common.{◌≡◌, Bool, true, false, true≢false, ◌&&◌, List, map, string_bytes, refl, sym, ap, rules}
 use Rattle.std.proofs.lemmas.Slice.Eq.{bytes_eq-Decides}
 use Rattle.std.specs.Bool.{Decides}

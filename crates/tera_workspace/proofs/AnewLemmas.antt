@@ -15,7 +15,7 @@ use Rattle.tera_check.specs.Mended.{IsMended, text_of}
 use Rattle.tera_check.specs.Named.{tree_of}
 use Rattle.tera_check.specs.declared.templates.Template.{Template}
 use Rattle.tera_workspace.specs.Fresh.{IsRead, most_faults}
-use Rattle.tera_workspace.specs.Kept.{told_of, HasNames, IsAnew}
+use Rattle.tera_workspace.specs.Kept.{reported_of, HasNames, IsAnew}
 use Rattle.tera_workspace.specs.Sources.{Source}
 use Rattle.tera_workspace.specs.declared.judged.Judged.{Judged}
 
@@ -34,8 +34,8 @@ is_read name text t file sound complete fault refusal notes unmended mended plac
     record { file = file; sound = sound; complete = complete; fault = fault; refusal = refusal; notes = notes; unmended = unmended; mended = mended; places = places }
 
 pub is_anew : (name text : List ℕ) (j : Judged) → j.text ≡ text → IsRead (record { name = name; text = text }) j.template
-    → HasNames j.names.items j.template → j.stale ≡ true → told_of j ≡ [] → IsAnew name text j
-is_anew name text j same read names stale untold =
+    → HasNames j.names.items j.template → j.stale ≡ true → reported_of j ≡ [] → IsAnew name text j
+is_anew name text j same read names stale unreported =
     record {
       named = read.file;
       texted = same;
@@ -47,5 +47,5 @@ is_anew name text j same read names stale untold =
             names = names;
           };
       stale = stale;
-      untold = untold;
+      unreported = unreported;
     }

@@ -1,4 +1,4 @@
--- What is found by components that are alike but for their spans in one file: the same, but for notes about that file.
+-- What is found by components that are alike except their spans in one file: the same, except notes about that file.
 use Rattle.std.proofs.Common.{◌≡◌, ◌∙◌, ℕ, suc, List, [], ◌∷◌, ◌++◌, Bool, true, false, cond, Option, None, Some, map, string_bytes, refl, sym, ap, subst, inl, inr, nat_eq}
 use Rattle.std.proofs.Common.{if◌then◌else◌}
 use Rattle.std.specs.Prelude.{◌&&◌, not}
@@ -13,7 +13,7 @@ use Rattle.tera_check.specs.Alike.{name_called, names_in}
 use Rattle.tera_check.specs.Calls.{calls_in_definition, calls_in_nodes, calls_of}
 use Rattle.tera_check.specs.Due.{is_due, is_due_in, is_undefined_kind}
 use Rattle.tera_check.specs.Findings.{NoteVal, FindingVal, FindingOf}
-use Rattle.tera_check.specs.Judged.{KnownVal, RemarkVal, taken_by, about, told, refused_for, unless_rest, unknown, refusal, counted, refused, refused_one, is_again, refused_findings, missed, missing_findings, missing_in, repeated_findings, judged, call_findings, again, defined_again, again_findings}
+use Rattle.tera_check.specs.Judged.{KnownVal, RemarkVal, taken_by, about, remarked, refused_for, unless_rest, unknown, refusal, counted, refused, refused_one, is_again, refused_findings, missed, missing_findings, missing_in, repeated_findings, judged, call_findings, again, defined_again, again_findings}
 use Rattle.tera_check.specs.Named.{span_at, taken_in, tree_findings}
 use Rattle.tera_check.specs.Parameters.{parameter_at, unused_in}
 use Rattle.tera_check.specs.Passed.{NamedVal, PassedVal, OneNamed, Whatever, has_whatever, is_passed, passed_by}
@@ -99,9 +99,9 @@ module _ (file : List ℕ) (number : ℕ) (k j : KnownVal) (h : AreAlikeBut file
     ];
   }
 
-  told_but : (span : Span) (r : Option RemarkVal) → AreEachSameBut file (told k span r) (told j span r)
-  told_but span None = tt
-  told_but span (Some r) = (about_but span r, tt)
+  reported_but : (span : Span) (r : Option RemarkVal) → AreEachSameBut file (remarked k span r) (remarked j span r)
+  reported_but span None = tt
+  reported_but span (Some r) = (about_but span r, tt)
 
   refused_for_but : (a : Option Argument) (n : List ℕ) (v : Option Val) → refused_for a k.definition n v ≡ refused_for a j.definition n v
   refused_for_but (Some a) n v = refl
@@ -112,8 +112,8 @@ module _ (file : List ℕ) (number : ℕ) (k j : KnownVal) (h : AreAlikeBut file
 
   refused_but : (more : Bool) (p : NamedVal) → AreEachSameBut file (refused k more p) (refused j more p)
   refused_but more p =
-      subst (λ r. AreEachSameBut file (refused k more p) (told j p.span r)) (refusal_but p.name (counted more p.constant))
-      (told_but p.span (refusal k.definition p.name (counted more p.constant)))
+      subst (λ r. AreEachSameBut file (refused k more p) (remarked j p.span r)) (refusal_but p.name (counted more p.constant))
+      (reported_but p.span (refusal k.definition p.name (counted more p.constant)))
 
   one_but : (later more : Bool) (p : PassedVal) → AreEachSameBut file (refused_one k later more p) (refused_one j later more p)
   one_but true more (OneNamed p) = tt
@@ -127,15 +127,15 @@ module _ (file : List ℕ) (number : ℕ) (k j : KnownVal) (h : AreAlikeBut file
       (all_refused_but ps) (one_but (is_again p ps) (has_whatever ps) p)
 
   each_missing : (passed : List ℕ → Bool) (span : Span) (as_given : List (List ℕ × Argument))
-      → AreEachSameBut file (flat_map (λ a. told k span (missed passed a)) as_given) (flat_map (λ a. told j span (missed passed a)) as_given)
+      → AreEachSameBut file (flat_map (λ a. remarked k span (missed passed a)) as_given) (flat_map (λ a. remarked j span (missed passed a)) as_given)
   each_missing passed span [] = tt
   each_missing passed span (a ∷ more) =
-      each_append file (told k span (missed passed a)) (told j span (missed passed a)) (flat_map (λ a. told k span (missed passed a)) more) (flat_map (λ a. told j span (missed passed a)) more)
-      (told_but span (missed passed a)) (each_missing passed span more)
+      each_append file (remarked k span (missed passed a)) (remarked j span (missed passed a)) (flat_map (λ a. remarked k span (missed passed a)) more) (flat_map (λ a. remarked j span (missed passed a)) more)
+      (reported_but span (missed passed a)) (each_missing passed span more)
 
   missing_but : (passed : List ℕ → Bool) (span : Span) → AreEachSameBut file (missing_findings k passed span) (missing_findings j passed span)
   missing_but passed span =
-      subst (λ as_given. AreEachSameBut file (missing_findings k passed span) (flat_map (λ a. told j span (missed passed a)) as_given)) h.arguments (each_missing passed span k.definition.arguments)
+      subst (λ as_given. AreEachSameBut file (missing_findings k passed span) (flat_map (λ a. remarked j span (missed passed a)) as_given)) h.arguments (each_missing passed span k.definition.arguments)
 
   missing_if : (any : Bool) (passed : List ℕ → Bool) (span : Span)
       → AreEachSameBut file (if any then [] else missing_findings k passed span) (if any then [] else missing_findings j passed span)
@@ -237,7 +237,7 @@ module _ (file : List ℕ) (number : ℕ) (known others : List ℕ → Option Kn
   takes_but : (name : List ℕ) → AreAlikeButIfAny file number (known name) (others name) → (hidden : Bool) (n : List ℕ) → taken_in known name hidden n ≡ taken_in others name hidden n
   takes_but name h = taken_any file number (known name) (others name) h
 
-  -- what is found in a tree is the same by what is known alike but for places in the file, but for notes about it
+  -- what is found in a tree is the same by what is known alike except places in the file, except notes about it
   tree_each : (t : Template) (o : Output) → AgreeBut (names_in o) file number known others → AreEachSameBut file (tree_findings known number t o) (tree_findings others number t o)
   tree_each t o h =
       let (defined, called) = all_append (λ n. AreAlikeButIfAny file number (known n) (others n)) (map (λ d. d.name) o.definitions) (flat_map name_called (calls_of o)) h in
@@ -252,7 +252,8 @@ module _ (file : List ℕ) (number : ℕ) (known others : List ℕ → Option Kn
       (each_equal file unused unused_now (unused_alike known others (λ n. AreAlikeButIfAny file number (known n) (others n)) takes_but (parameter_at t) o.definitions bodies))
       (calls_but (string_bytes t.file) (calls_of o) called))
 
-  -- so where nothing that is found tells a place in the file, it is the same; and where nothing that is due does, that is
+  -- so where nothing that is found says a place in the file, it is the same; and where nothing that is due does, that
+  -- is
   pub tree_but : (t : Template) (o : Output) → AgreeBut (names_in o) file number known others → AllByRecursion (IsBeside file) (tree_findings known number t o)
       → tree_findings known number t o ≡ tree_findings others number t o
   tree_but t o h b = each_same file (tree_findings known number t o) (tree_findings others number t o) (tree_each t o h) b

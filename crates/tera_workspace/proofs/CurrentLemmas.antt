@@ -1,5 +1,5 @@
--- What was told stays as it would be found, where another text of one file is read and those are marked that name what it
--- changes, or were told a place in it.
+-- What was reported stays as it would be found, where another text of one file is read and those are marked that name
+-- what it changes, or have a finding with a place in it.
 use Rattle.std.proofs.Common.{◌≡◌, ◌∙◌, ◌<◌, ℕ, zero, suc, List, [], ◌∷◌, ◌++◌, ◌||◌, length, get_or, set, map, Bool, true, false, Option, None, Some, MatchOption, string_bytes, refl, sym, ap, subst, inl, inr, arith}
 use Rattle.std.proofs.lemmas.Bool.{cases_eq}
 use Rattle.std.proofs.Common.{if◌then◌else◌}
@@ -18,9 +18,9 @@ use Rattle.tera_check.specs.declared.templates.Template.{Template}
 use Rattle.tera_check.proofs.TakenLemmas.{all_append}
 use Rattle.text_edits.specs.declared.positions.Encoding.{Encoding}
 use Rattle.tera_workspace.specs.Beside.{AreAlikeButIfAny, AgreeBut, IsBeside}
-use Rattle.tera_workspace.specs.Fresh.{IsFound, IsTold}
+use Rattle.tera_workspace.specs.Fresh.{IsFound, IsReported}
 use Rattle.tera_workspace.specs.Heads.{definition_named, HaveOneHeadIfAny}
-use Rattle.tera_workspace.specs.Kept.{name_of, source_of, sources_of, templates_of, told_of, HasNames, IsWhole, IsCurrent, AreCurrent, is_told_in, marked}
+use Rattle.tera_workspace.specs.Kept.{name_of, source_of, sources_of, templates_of, reported_of, HasNames, IsWhole, IsCurrent, AreCurrent, is_reported_in, marked}
 use Rattle.tera_workspace.specs.Names.{is_among}
 use Rattle.tera_workspace.specs.Sources.{Source, text_named}
 use Rattle.tera_workspace.specs.declared.judged.Judged.{Judged}
@@ -28,7 +28,7 @@ use Rattle.tera_workspace.proofs.BesideLemmas.{due_but}
 use Rattle.tera_workspace.proofs.FoundLemmas.{due_in, found_if}
 use Rattle.tera_workspace.proofs.KnownLemmas.{template_alike, all_alike}
 use Rattle.tera_workspace.proofs.NameSets.{all_among}
-use Rattle.tera_workspace.proofs.PlaceLemmas.{first_false, second_false, differ, other_text, findings_same, tells, all_beside, none_told}
+use Rattle.tera_workspace.proofs.PlaceLemmas.{first_false, second_false, differ, other_text, findings_same, reports, all_beside, none_reported}
 
 -- ---- a document that was not marked
 
@@ -65,26 +65,26 @@ module _ (file : List ℕ) (k : ℕ) (ts us : List Template) where
   due_same open_text t None agree beside = refl
   due_same open_text t (Some o) agree beside = due_but file k before now open_text t (output_view o) agree beside
 
-  found_by : (t : Template) (fs : List Finding) → list_any (tells file) (map finding_view fs) ≡ false → are_open ts ≡ are_open us
+  found_by : (t : Template) (fs : List Finding) → list_any (reports file) (map finding_view fs) ≡ false → are_open ts ≡ are_open us
       → MatchOption (tree_of t) (Unit {0}) (λ o. AgreeBut (names_in (output_view o)) file k before now)
       → IsFound ts k t fs → IsFound us k t fs
   found_by t fs none opened agree found =
       let due = due_findings before (are_open ts) k t in
-      let beside = all_beside file (found.faults ++ due) (list_any-IsPermutation (tells file) (found.faults ++ due) (map finding_view fs) found.found ∙ none) in
+      let beside = all_beside file (found.faults ++ due) (list_any-IsPermutation (reports file) (found.faults ++ due) (map finding_view fs) found.found ∙ none) in
       let (_, due_beside) = all_append (IsBeside file) found.faults due beside in
       found_if ts us k k t fs found (due_same (are_open ts) t (tree_of t) agree due_beside ∙ ap (λ b. due_findings now b k t) opened)
 
-  pub still_told : (e : Encoding) (ss rs : List Source) (j : Judged) (touched : List (List ℕ))
-      → HasNames j.names.items j.template → list_any (λ n. is_among n (map string_bytes j.names.items)) touched ≡ false → is_told_in file j ≡ false
+  pub still_reported : (e : Encoding) (ss rs : List Source) (j : Judged) (touched : List (List ℕ))
+      → HasNames j.names.items j.template → list_any (λ n. is_among n (map string_bytes j.names.items)) touched ≡ false → is_reported_in file j ≡ false
       → are_open ts ≡ are_open us
       → ((n : List ℕ) → is_among n touched ≡ false → AreAlikeButIfAny file k (before n) (now n))
       → ((name : List ℕ) → (name ≡ file → ⊥) → text_named name rs ≡ text_named name ss)
-      → IsTold e ss ts k j.text j.template (told_of j) → IsTold e rs us k j.text j.template (told_of j)
-  still_told e ss rs j touched has none untold opened alike same (fs, found, told) =
-      let quiet = none_told e file ss j.text j.told.items (map finding_view fs) told untold in (
+      → IsReported e ss ts k j.text j.template (reported_of j) → IsReported e rs us k j.text j.template (reported_of j)
+  still_reported e ss rs j touched has none unreported opened alike same (fs, found, reported) =
+      let quiet = none_reported e file ss j.text j.reported.items (map finding_view fs) reported unreported in (
         fs,
         found_by j.template fs quiet opened (agree_by (map string_bytes j.names.items) touched none alike (tree_of j.template) has) found,
-        told ∙ sym (findings_same e file ss rs same j.text (map finding_view fs) (all_beside file (map finding_view fs) quiet)),
+        reported ∙ sym (findings_same e file ss rs same j.text (map finding_view fs) (all_beside file (map finding_view fs) quiet)),
       )
 
 -- ---- lists of documents
@@ -182,12 +182,12 @@ module _ (e : Encoding) (touched : List (List ℕ)) (js : List Judged) (i : ℕ)
       → IsWhole (get_or js k x) → IsCurrent e after k (marked touched (name_of j) (get_or js k x))
   others_current k x opened in_it current is_whole fresh =
       let one = get_or js k x in
-      let (none, untold, was) = unmarked (list_any (λ n. is_among n (map string_bytes one.names.items)) touched) (is_told_in (name_of j) one) one.stale fresh in
-      let told : IsTold e (set (sources_of js) i (source_of j)) (set (templates_of js) i j.template) k one.text one.template (told_of one) =
-      still_told (name_of j) k (templates_of js) (set (templates_of js) i j.template) e (sources_of js) (set (sources_of js) i (source_of j)) one touched
-      is_whole.names none untold (opened ∙ ap are_open templates_after) (alike k) same (current was) in
-      subst (λ ss. IsTold e ss (templates_of after) k one.text one.template (told_of one)) (sym sources_after)
-      (subst (λ ts. IsTold e (set (sources_of js) i (source_of j)) ts k one.text one.template (told_of one)) (sym templates_after) told)
+      let (none, unreported, was) = unmarked (list_any (λ n. is_among n (map string_bytes one.names.items)) touched) (is_reported_in (name_of j) one) one.stale fresh in
+      let reported : IsReported e (set (sources_of js) i (source_of j)) (set (templates_of js) i j.template) k one.text one.template (reported_of one) =
+      still_reported (name_of j) k (templates_of js) (set (templates_of js) i j.template) e (sources_of js) (set (sources_of js) i (source_of j)) one touched
+      is_whole.names none unreported (opened ∙ ap are_open templates_after) (alike k) same (current was) in
+      subst (λ ss. IsReported e ss (templates_of after) k one.text one.template (reported_of one)) (sym sources_after)
+      (subst (λ ts. IsReported e (set (sources_of js) i (source_of j)) ts k one.text one.template (reported_of one)) (sym templates_after) reported)
 
   pub replaced_current : are_open (templates_of js) ≡ are_open (templates_of after) → AreCurrent e js → AreCurrent e after
   replaced_current opened current k x in_it =

@@ -104,7 +104,7 @@ found_in number (t ∷ ts) n k e = elim (of_two n (defined_in number t) (defined
       record { template = h.template; among = later_in t ts h.template h.among; at = h.at; here = h.here; named = h.named; file = h.file; span = h.span }
 ]
 
--- ---- what is told of one
+-- ---- what is reported for one
 
 get_name : (ds : List Definition) (i : ℕ) (d : Definition) → slice_get ds i ≡ Some d → slice_get (map (λ (e : Definition). e.name) ds) i ≡ Some d.name
 get_name [] i d e = absurd (cc)
@@ -125,8 +125,8 @@ module _ (e : Encoding) (sources : List Source) (ts : List Template) (n : List �
     },
   )
 
-  pub told_there : (d : DefinitionVal) → option_map (definition_at e sources) (first_named n (defined_by 0 ts)) ≡ Some d → (t : Template) × Contains ts t × IsDefinedIn e sources t n d
-  told_there d is = by (first_named n (defined_by 0 ts)) refl is
+  pub reported_there : (d : DefinitionVal) → option_map (definition_at e sources) (first_named n (defined_by 0 ts)) ≡ Some d → (t : Template) × Contains ts t × IsDefinedIn e sources t n d
+  reported_there d is = by (first_named n (defined_by 0 ts)) refl is
     where
       by : (o : Option KnownVal) → first_named n (defined_by 0 ts) ≡ o → option_map (definition_at e sources) o ≡ Some d → (t : Template) × Contains ts t × IsDefinedIn e sources t n d
       by None found is = absurd (cc)
@@ -134,8 +134,8 @@ module _ (e : Encoding) (sources : List Source) (ts : List Template) (n : List �
           let same : definition_at e sources k ≡ d = cc in
           subst (λ (p : DefinitionVal). (t : Template) × Contains ts t × IsDefinedIn e sources t n p) same (place_of k (found_in 0 ts n k found))
 
-  pub told_of_defined : Contains (components_by ts) n → (d : DefinitionVal) × (option_map (definition_at e sources) (first_named n (defined_by 0 ts)) ≡ Some d)
-  told_of_defined c = let (k, is) = is_defined ts n c in (definition_at e sources k, ap (option_map (definition_at e sources)) is)
+  pub reported_of_defined : Contains (components_by ts) n → (d : DefinitionVal) × (option_map (definition_at e sources) (first_named n (defined_by 0 ts)) ≡ Some d)
+  reported_of_defined c = let (k, is) = is_defined ts n c in (definition_at e sources k, ap (option_map (definition_at e sources)) is)
 
   pub parameter_there : (p : List ℕ) → Contains (option_map_or parameters_of (first_named n (defined_by 0 ts)) []) p → IsParameterIn ts n p
   parameter_there p c = by (first_named n (defined_by 0 ts)) refl c

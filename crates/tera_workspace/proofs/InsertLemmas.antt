@@ -1,5 +1,5 @@
--- What was told stays as it would be found, where a document is put among others and those are marked that name what it
--- defines.
+-- What was reported stays as it would be found, where a document is put among others and those are marked that name
+-- what it defines.
 use Rattle.std.proofs.Common.{◌≡◌, ◌∙◌, ◌+◌, ◌<◌, ◌≤◌, ◌==◌, ℕ, zero, suc, List, [], ◌∷◌, ◌++◌, length, get_or, map, Bool, true, false, cond, Option, None, Some, MatchOption, string_bytes, refl, sym, ap, subst, inl, inr, arith, nat_eq, add-one}
 use Rattle.std.specs.List.{insert}
 use Rattle.std.specs.List.{AllByRecursion, list_any}
@@ -18,9 +18,9 @@ use Rattle.tera_check.specs.Lost.{are_open}
 use Rattle.tera_check.specs.Named.{known_at, first_named, defined_from, defined_in, defined_by, definitions_of, or_else, tree_of}
 use Rattle.tera_check.specs.declared.templates.Template.{Template}
 use Rattle.text_edits.specs.declared.positions.Encoding.{Encoding}
-use Rattle.tera_workspace.specs.Fresh.{IsTold}
+use Rattle.tera_workspace.specs.Fresh.{IsReported}
 use Rattle.tera_workspace.specs.Heads.{definition_named, HaveOneHeadIfAny}
-use Rattle.tera_workspace.specs.Kept.{source_of, sources_of, templates_of, told_of, HasNames, IsWhole, IsCurrent, AreCurrent, is_told_in, marked}
+use Rattle.tera_workspace.specs.Kept.{source_of, sources_of, templates_of, reported_of, HasNames, IsWhole, IsCurrent, AreCurrent, is_reported_in, marked}
 use Rattle.tera_workspace.specs.Names.{is_among}
 use Rattle.tera_workspace.specs.Sources.{Source, text_named}
 use Rattle.tera_workspace.specs.declared.judged.Judged.{Judged}
@@ -28,7 +28,7 @@ use Rattle.tera_workspace.proofs.CurrentLemmas.{not_among, marked_sources, marke
 use Rattle.tera_workspace.proofs.FoundLemmas.{due_alike, found_if}
 use Rattle.tera_workspace.proofs.KnownLemmas.{IsFirst, first_is, named_append}
 use Rattle.tera_workspace.proofs.NameSets.{all_among}
-use Rattle.tera_workspace.proofs.PlaceLemmas.{findings_same, all_beside, none_told}
+use Rattle.tera_workspace.proofs.PlaceLemmas.{findings_same, all_beside, none_reported}
 
 -- two pairs of numbers of which both are equal, or neither is
 eq_same : (a b c d : ℕ) → (a ≡ b → c ≡ d) → (c ≡ d → a ≡ b) → nat_eq a b ≡ nat_eq c d
@@ -80,15 +80,15 @@ module _ (number other : ℕ) where
   insert_alike : (n : List ℕ) (u : Template) (from : ℕ) (ts : List Template) (i : ℕ) → i ≤ length ts → HaveOneHeadIfAny None (definition_named n (definitions_of u))
       → ((m : ℕ) → m < from + i → nat_eq m number ≡ nat_eq m other) → ((m : ℕ) → from + i ≤ m → nat_eq m number ≡ nat_eq (suc m) other)
       → AreAlikeIfAny number other (first_named n (defined_by from ts)) (first_named n (defined_by from (insert ts i u)))
-  insert_alike n u from ts zero within none before behind =
+  insert_alike n u from ts zero within none before following =
       append_alike n [] (defined_in from u) (defined_by from ts) (defined_by (suc from) ts)
       (none_first from u (definition_named n (definitions_of u)) (first_named n (defined_in from u)) (first_is from u n 0 (definitions_of u)) none)
-      (later_alike n from ts (λ m h. behind m (omega arith)))
-  insert_alike n u from [] (suc i) within none before behind = absurd (omega arith)
-  insert_alike n u from (t ∷ ts) (suc i) within none before behind =
+      (later_alike n from ts (λ m h. following m (omega arith)))
+  insert_alike n u from [] (suc i) within none before following = absurd (omega arith)
+  insert_alike n u from (t ∷ ts) (suc i) within none before following =
       append_alike n (defined_in from t) (defined_in from t) (defined_by (suc from) ts) (defined_by (suc from) (insert ts i u))
       (numbered_alike from from t n 0 (definitions_of t) (before from (omega arith)))
-      (insert_alike n u (suc from) ts i (omega arith) none (λ m h. before m (omega arith)) (λ m h. behind m (omega arith)))
+      (insert_alike n u (suc from) ts i (omega arith) none (λ m h. before m (omega arith)) (λ m h. following m (omega arith)))
 
 -- ---- a document that was not marked, and has another number then
 
@@ -108,19 +108,19 @@ module _ (number other : ℕ) (ts us : List Template) where
       all_among (λ n. AreAlikeIfAny number other (before n) (now n)) (names_in (output_view o))
       (λ n among. alike n (not_among names n (ap (is_among n) has ∙ among) touched none))
 
-  moved_told : (e : Encoding) (file : List ℕ) (ss rs : List Source) (j : Judged) (touched : List (List ℕ))
-      → HasNames j.names.items j.template → list_any (λ n. is_among n (map string_bytes j.names.items)) touched ≡ false → is_told_in file j ≡ false
+  moved_reported : (e : Encoding) (file : List ℕ) (ss rs : List Source) (j : Judged) (touched : List (List ℕ))
+      → HasNames j.names.items j.template → list_any (λ n. is_among n (map string_bytes j.names.items)) touched ≡ false → is_reported_in file j ≡ false
       → are_open ts ≡ are_open us
       → ((n : List ℕ) → is_among n touched ≡ false → AreAlikeIfAny number other (before n) (now n))
       → ((name : List ℕ) → (name ≡ file → ⊥) → text_named name rs ≡ text_named name ss)
-      → IsTold e ss ts number j.text j.template (told_of j) → IsTold e rs us other j.text j.template (told_of j)
-  moved_told e file ss rs j touched has none untold opened alike same (fs, found, told) =
-      let quiet = none_told e file ss j.text j.told.items (map finding_view fs) told untold in
+      → IsReported e ss ts number j.text j.template (reported_of j) → IsReported e rs us other j.text j.template (reported_of j)
+  moved_reported e file ss rs j touched has none unreported opened alike same (fs, found, reported) =
+      let quiet = none_reported e file ss j.text j.reported.items (map finding_view fs) reported unreported in
       let agree = agree_by (map string_bytes j.names.items) touched none alike (tree_of j.template) has in (
         fs,
         found_if ts us number other j.template fs found
             (due_alike number other before now (are_open ts) j.template (tree_of j.template) agree ∙ ap (λ b. due_findings now b other j.template) opened),
-        told ∙ sym (findings_same e file ss rs same j.text (map finding_view fs) (all_beside file (map finding_view fs) quiet)),
+        reported ∙ sym (findings_same e file ss rs same j.text (map finding_view fs) (all_beside file (map finding_view fs) quiet)),
       )
 
 -- ---- one document more, and marks
@@ -145,25 +145,25 @@ module _ (e : Encoding) (name : List ℕ) (touched : List (List ℕ)) (js : List
   other_current : (k l : ℕ) (x : Judged) → are_open (templates_of js) ≡ are_open (templates_of after) → k < length js → IsCurrent e js k (get_or js k x) → IsWhole (get_or js k x)
       → ((m : ℕ) → m < i → nat_eq m k ≡ nat_eq m l) → ((m : ℕ) → i ≤ m → nat_eq m k ≡ nat_eq (suc m) l)
       → IsCurrent e after l (marked touched name (get_or js k x))
-  other_current k l x opened in_it current is_whole before behind fresh =
+  other_current k l x opened in_it current is_whole before following fresh =
       let one = get_or js k x in
-      let (none, untold, was) = unmarked (list_any (λ n. is_among n (map string_bytes one.names.items)) touched) (is_told_in name one) one.stale fresh in
+      let (none, unreported, was) = unmarked (list_any (λ n. is_among n (map string_bytes one.names.items)) touched) (is_reported_in name one) one.stale fresh in
       let alike : (n : List ℕ) → is_among n touched ≡ false → AreAlikeIfAny k l (first_named n (defined_by 0 (templates_of js))) (first_named n (defined_by 0 (templates_of (insert js i j)))) =
       λ n free. subst (λ ts. AreAlikeIfAny k l (first_named n (defined_by 0 (templates_of js))) (first_named n (defined_by 0 ts))) (sym (map_insert (λ (y : Judged). y.template) js i j))
-      (insert_alike k l n j.template 0 (templates_of js) i (omega (arith, within, map_length (λ (y : Judged). y.template) js)) (heads n free) (λ m h. before m (omega (arith, h))) (λ m h. behind m (omega (arith, h)))) in
-      let told : IsTold e (sources_of (insert js i j)) (templates_of (insert js i j)) l one.text one.template (told_of one) =
-      moved_told k l (templates_of js) (templates_of (insert js i j)) e name (sources_of js) (sources_of (insert js i j)) one touched is_whole.names none untold
+      (insert_alike k l n j.template 0 (templates_of js) i (omega (arith, within, map_length (λ (y : Judged). y.template) js)) (heads n free) (λ m h. before m (omega (arith, h))) (λ m h. following m (omega (arith, h)))) in
+      let reported : IsReported e (sources_of (insert js i j)) (templates_of (insert js i j)) l one.text one.template (reported_of one) =
+      moved_reported k l (templates_of js) (templates_of (insert js i j)) e name (sources_of js) (sources_of (insert js i j)) one touched is_whole.names none unreported
       (opened ∙ ap are_open (marked_templates touched name (insert js i j))) alike same (current was) in
-      subst (λ ss. IsTold e ss (templates_of after) l one.text one.template (told_of one)) (sym (marked_sources touched name (insert js i j)))
-      (subst (λ ts. IsTold e (sources_of (insert js i j)) ts l one.text one.template (told_of one)) (sym (marked_templates touched name (insert js i j))) told)
+      subst (λ ss. IsReported e ss (templates_of after) l one.text one.template (reported_of one)) (sym (marked_sources touched name (insert js i j)))
+      (subst (λ ts. IsReported e (sources_of (insert js i j)) ts l one.text one.template (reported_of one)) (sym (marked_templates touched name (insert js i j))) reported)
 
   fresh_not : IsCurrent e after i (marked touched name j)
   fresh_not fresh =
-      let (_, _, was) = unmarked (list_any (λ n. is_among n (map string_bytes j.names.items)) touched) (is_told_in name j) j.stale fresh in absurd (false_true (sym was ∙ stale))
+      let (_, _, was) = unmarked (list_any (λ n. is_among n (map string_bytes j.names.items)) touched) (is_reported_in name j) j.stale fresh in absurd (false_true (sym was ∙ stale))
 
-  behind_it : (k : ℕ) (x : Judged) → are_open (templates_of js) ≡ are_open (templates_of after) → k < length (insert js i j) → AreCurrent e js → i < k → IsCurrent e after k (marked touched name (get_or (insert js i j) k x))
-  behind_it zero x opened in_it current above = absurd (omega arith)
-  behind_it (suc k) x opened in_it current above =
+  after_it : (k : ℕ) (x : Judged) → are_open (templates_of js) ≡ are_open (templates_of after) → k < length (insert js i j) → AreCurrent e js → i < k → IsCurrent e after k (marked touched name (get_or (insert js i j) k x))
+  after_it zero x opened in_it current above = absurd (omega arith)
+  after_it (suc k) x opened in_it current above =
       let before : k < length js = omega (arith, in_it, insert_length js i j within) in
       subst (λ y. IsCurrent e after (suc k) (marked touched name y)) (sym (ap (λ m. get_or (insert js i j) m x) (sym (add-one k)) ∙ get_or-insert_above js i j x k (omega (arith, above)) within))
       (other_current k (suc k) x opened before (current k x before) (all_at IsWhole js k x whole before)
@@ -181,7 +181,7 @@ module _ (e : Encoding) (name : List ℕ) (touched : List (List ℕ)) (js : List
       | inl is ↦
           subst (λ y. IsCurrent e after k (marked touched name y)) (sym (ap (λ m. get_or (insert js i j) m x) is ∙ get_or-insert_at js i j x within))
           (subst (λ m. IsCurrent e after m (marked touched name j)) (sym is) fresh_not)
-      | inr not ↦ behind_it k x opened in_it current (omega (arith, above.1, not))
+      | inr not ↦ after_it k x opened in_it current (omega (arith, above.1, not))
     ]
   ]
 

@@ -1,4 +1,4 @@
--- Of a loop that puts what it finds behind what it has: that and what is left are all, an element on and at the end.
+-- Of a loop that puts what it finds after what it has: that and what is left are all, an element on and at the end.
 use Rattle.std.proofs.Common.{◌≡◌, ◌∙◌, ◌+◌, ◌<◌, ◌≤◌, ◌∷◌, ◌++◌, ℕ, List, [], length, get_or, drop, sym, ap, append_assoc}
 use Rattle.std.proofs.lemmas.List.{at_drop_more, at_drop_all, append-nil}
 

@@ -20,6 +20,6 @@ pub mod ReadSoFar
 pub mod ReadingLemmas
 pub mod SettleLemmas
 pub mod TouchedLemmas
-pub mod WantedLemmas
-pub mod WantsLemmas
+pub mod NeededLemmas
+pub mod NeedsLemmas
 pub mod WorkspaceLemmas

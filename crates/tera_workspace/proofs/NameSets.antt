@@ -49,7 +49,7 @@ drop_end (x ∷ xs) (suc i) h = drop_end xs i (omega arith)
 pub drop_next : {X : Type 0} (xs : List X) (i : ℕ) (x : X) → i < length xs → x ≡ get_or xs i x → drop i xs ≡ x ∷ drop (suc i) xs
 drop_next xs i x h is = drop-cons xs i x h ∙ ap (λ y. y ∷ drop (suc i) xs) (sym is)
 
--- two lists of names behind one another
+-- two lists of names after one another
 pub among_append : (n : List ℕ) (ms ks : List (List ℕ)) → is_among n (ms ++ ks) ≡ (is_among n ms || is_among n ks)
 among_append n [] ks = refl
 among_append n (m ∷ ms) ks = by_first (bytes_eq m n) (is_among n (ms ++ ks)) (is_among n ms) (is_among n ks) (among_append n ms ks)
@@ -64,8 +64,8 @@ equal_itself n = (bytes_eq-Decides n n).1 refl
 
 pub all_among : (Q : List ℕ → Type 0) (ns : List (List ℕ)) → ((n : List ℕ) → is_among n ns ≡ true → Q n) → AllByRecursion Q ns
 all_among Q [] h = tt
-all_among Q (n ∷ ns) h = (h n (ap (λ (b : Bool). if b then true else is_among n ns) (equal_itself n)), all_among Q ns (λ m among. h m (behind (bytes_eq n m) (is_among m ns) among)))
+all_among Q (n ∷ ns) h = (h n (ap (λ (b : Bool). if b then true else is_among n ns) (equal_itself n)), all_among Q ns (λ m among. h m (following (bytes_eq n m) (is_among m ns) among)))
   where
-    behind : (b x : Bool) → x ≡ true → (if b then true else x) ≡ true
-    behind true x e = refl
-    behind false x e = e
+    following : (b x : Bool) → x ≡ true → (if b then true else x) ≡ true
+    following true x e = refl
+    following false x e = e

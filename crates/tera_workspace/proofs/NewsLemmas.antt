@@ -1,4 +1,4 @@
--- What is to be told of documents, and of which of them it is another list than was told.
+-- What is to be reported for documents, and of which of them it is another list than was reported.
 use Rattle.std.proofs.Common.{◌≡◌, ◌≢◌, ◌∙◌, ◌<◌, ◌≤◌, ◌+◌, ℕ, zero, suc, List, [], ◌∷◌, ◌++◌, length, get_or, set, take, drop, map, Bool, true, false, cond, None, String, string_bytes, refl, sym, ap, subst, inl, inr, arith, append_assoc}
 use Rattle.std.proofs.Common.{if◌then◌else◌}
 use Rattle.std.proofs.lemmas.Bool.{cases_eq}
@@ -13,10 +13,10 @@ use Rattle.std.specs.declared.alloc.Global.{Global}
 use Rattle.std.specs.declared.cmp.Ordering.TheVariants.{Less}
 use Rattle.text_edits.specs.declared.positions.Encoding.{Encoding}
 use Rattle.tera_workspace.specs.Diagnostics.{DiagnosticVal}
-use Rattle.tera_workspace.specs.Kept.{sources_of, told_of, told_named}
+use Rattle.tera_workspace.specs.Kept.{sources_of, reported_of, reported_named}
 use Rattle.tera_workspace.specs.Names.{is_among}
 use Rattle.tera_workspace.specs.Sources.{Source, AreInOrder, AreAscending}
-use Rattle.tera_workspace.specs.Told.{IsNews, AreNews, AreOfOthers, told_one, told_each}
+use Rattle.tera_workspace.specs.Reported.{IsNews, AreNews, AreOfOthers, reported_one, reported_each}
 use Rattle.tera_workspace.specs.Workspaces.{AreOthers}
 use Rattle.tera_workspace.specs.declared.judged.Judged.{Judged}
 use Rattle.tera_workspace.proofs.NameSets.{drop_next, drop_end}
@@ -27,7 +27,7 @@ use Rattle.tera_workspace.proofs.SettleLemmas.{News, one_template, not_equal}
 false_true : false ≡ true → ⊥
 false_true e = cc
 
--- ---- what is to be told of the first ones
+-- ---- what is to be reported for the first ones
 
 pub record AreNewsSoFar (e : Encoding) (js : List Judged) (news : List News) : Type 0 where
   pub within : length news ≤ length js
@@ -71,14 +71,14 @@ module _ (js : List Judged) (news : List News) (i : ℕ) (j : Judged) (v : News)
       subst (λ (xs : List Judged). AreOfOthers xs (drop i news) names) (sym (drop_next js i j in_js is))
       (subst (λ (vs : List News). AreOfOthers (j ∷ drop (suc i) js) vs names) (sym (drop_next news i v in_news is_v)) h)
 
-  behind : (rest : List (List ℕ)) → AreOfOthers (drop (i + 1) js) (drop (i + 1) news) rest → AreOfOthers (drop (suc i) js) (drop (suc i) news) rest
-  behind rest h = let next : i + 1 ≡ suc i = omega arith in subst (λ (k : ℕ). AreOfOthers (drop k js) (drop k news) rest) next h
+  following : (rest : List (List ℕ)) → AreOfOthers (drop (i + 1) js) (drop (i + 1) news) rest → AreOfOthers (drop (suc i) js) (drop (suc i) news) rest
+  following rest h = let next : i + 1 ≡ suc i = omega arith in subst (λ (k : ℕ). AreOfOthers (drop k js) (drop k news) rest) next h
 
-  pub is_other : told_of (told_one j v) ≢ told_of j → (rest : List (List ℕ)) → AreOfOthers (drop (i + 1) js) (drop (i + 1) news) rest → AreOfOthers (drop i js) (drop i news) (string_bytes j.template.file ∷ rest)
-  is_other apart rest h = from_here (string_bytes j.template.file ∷ rest) (inr (apart, rest, refl, behind rest h))
+  pub is_other : reported_of (reported_one j v) ≢ reported_of j → (rest : List (List ℕ)) → AreOfOthers (drop (i + 1) js) (drop (i + 1) news) rest → AreOfOthers (drop i js) (drop i news) (string_bytes j.template.file ∷ rest)
+  is_other apart rest h = from_here (string_bytes j.template.file ∷ rest) (inr (apart, rest, refl, following rest h))
 
-  pub is_same : told_of (told_one j v) ≡ told_of j → (rest : List (List ℕ)) → AreOfOthers (drop (i + 1) js) (drop (i + 1) news) rest → AreOfOthers (drop i js) (drop i news) rest
-  is_same same rest h = from_here rest (inl (same, behind rest h))
+  pub is_same : reported_of (reported_one j v) ≡ reported_of j → (rest : List (List ℕ)) → AreOfOthers (drop (i + 1) js) (drop (i + 1) news) rest → AreOfOthers (drop i js) (drop i news) rest
+  is_same same rest h = from_here rest (inl (same, following rest h))
 
 pub name_pushed : (names now : List (String Global)) (s : String Global) (name : List ℕ) (rest : List (List ℕ)) → now ≡ names ++ s ∷ [] → string_bytes s ≡ name
     → map string_bytes names ++ (name ∷ rest) ≡ map string_bytes now ++ rest
@@ -97,17 +97,17 @@ pub others_done : (js : List Judged) (news : List News) (names : List (List ℕ)
 others_done js news names i all h =
     subst (AreOfOthers js news) (nil_end names) (h [] (subst (λ (xs : List Judged). AreOfOthers xs (drop i news) []) (sym (drop_end js i all)) refl))
 
--- ---- each list that is told, and told before
+-- ---- each list that is reported, and reported before
 
-abbrev Tells : Bool → List DiagnosticVal → List DiagnosticVal → Type 0
-Tells true x y = x ≢ y
-Tells false x y = x ≡ y
+abbrev Reports : Bool → List DiagnosticVal → List DiagnosticVal → Type 0
+Reports true x y = x ≢ y
+Reports false x y = x ≡ y
 
-same_first : (b among : Bool) (t u r s : List DiagnosticVal) → t ≡ u → (b ≡ true → among ≡ false) → Tells among r s → Tells among (cond b t r) (cond b u s)
-same_first true among t u r s e none h = subst (λ (c : Bool). Tells c t u) (sym (none refl)) e
+same_first : (b among : Bool) (t u r s : List DiagnosticVal) → t ≡ u → (b ≡ true → among ≡ false) → Reports among r s → Reports among (cond b t r) (cond b u s)
+same_first true among t u r s e none h = subst (λ (c : Bool). Reports c t u) (sym (none refl)) e
 same_first false among t u r s e none h = h
 
-other_first : (b among : Bool) (t u r s : List DiagnosticVal) → t ≢ u → Tells among r s → Tells (if b then true else among) (cond b t r) (cond b u s)
+other_first : (b among : Bool) (t u r s : List DiagnosticVal) → t ≢ u → Reports among r s → Reports (if b then true else among) (cond b t r) (cond b u s)
 other_first true among t u r s apart h = apart
 other_first false among t u r s apart h = h
 
@@ -134,37 +134,37 @@ not_among a (m ∷ ms) all =
     ap (λ (b : Bool). if b then true else is_among a ms) (differ m a (λ same. false_true (sym (not_equal a m all.0) ∙ (bytes_eq-Decides a m).1 (sym same))))
     ∙ not_among a ms all.1
 
-tells : (js : List Judged) (news : List News) (names : List (List ℕ)) → length news ≡ length js → AreInOrder (map (λ (s : Source). s.name) (sources_of js)) → AreOfOthers js news names
-    → (n : List ℕ) → Tells (is_among n names) (told_named n (told_each js news)) (told_named n js)
-tells [] news names as_many o h n = subst (λ ns. Tells (is_among n ns) [] []) (sym h) refl
-tells (j ∷ js) [] names as_many o h n = absurd (omega arith)
-tells (j ∷ js) (v ∷ news) names as_many o h n =
+reports : (js : List Judged) (news : List News) (names : List (List ℕ)) → length news ≡ length js → AreInOrder (map (λ (s : Source). s.name) (sources_of js)) → AreOfOthers js news names
+    → (n : List ℕ) → Reports (is_among n names) (reported_named n (reported_each js news)) (reported_named n js)
+reports [] news names as_many o h n = subst (λ ns. Reports (is_among n ns) [] []) (sym h) refl
+reports (j ∷ js) [] names as_many o h n = absurd (omega arith)
+reports (j ∷ js) (v ∷ news) names as_many o h n =
     let name = string_bytes j.template.file in
-    let now = told_named n (told_each js news) in
-    let was = told_named n js in
-    subst (λ t. Tells (is_among n names) (cond (bytes_eq (string_bytes t.file) n) (told_of (told_one j v)) now) (cond (bytes_eq name n) (told_of j) was)) (sym (one_template j v))
+    let now = reported_named n (reported_each js news) in
+    let was = reported_named n js in
+    subst (λ t. Reports (is_among n names) (cond (bytes_eq (string_bytes t.file) n) (reported_of (reported_one j v)) now) (cond (bytes_eq name n) (reported_of j) was)) (sym (one_template j v))
     (elim h [
-      | inl w ↦ same_first (bytes_eq name n) (is_among n names) (told_of (told_one j v)) (told_of j) now was w.0
+      | inl w ↦ same_first (bytes_eq name n) (is_among n names) (reported_of (reported_one j v)) (reported_of j) now was w.0
           (λ e. ap (λ m. is_among m names) (sym ((bytes_eq-Decides name n).0 e)) ∙ not_among name names (all_of (λ m. slice_cmp nat_cmp name m ≡ Less) js news names w.1 o.0))
-          (tells js news names (omega arith) o.1 w.1 n)
-      | inr w ↦ subst (λ ns. Tells (is_among n ns) (cond (bytes_eq name n) (told_of (told_one j v)) now) (cond (bytes_eq name n) (told_of j) was)) (sym w.2)
-          (other_first (bytes_eq name n) (is_among n w.1) (told_of (told_one j v)) (told_of j) now was w.0 (tells js news w.1 (omega arith) o.1 w.3 n))
+          (reports js news names (omega arith) o.1 w.1 n)
+      | inr w ↦ subst (λ ns. Reports (is_among n ns) (cond (bytes_eq name n) (reported_of (reported_one j v)) now) (cond (bytes_eq name n) (reported_of j) was)) (sym w.2)
+          (other_first (bytes_eq name n) (is_among n w.1) (reported_of (reported_one j v)) (reported_of j) now was w.0 (reports js news w.1 (omega arith) o.1 w.3 n))
     ])
 
 pub others_are : (js : List Judged) (news : List News) (names : List (List ℕ)) → length news ≡ length js → AreAscending (sources_of js) → AreOfOthers js news names
-    → AreOthers names (λ n. told_named n js) (λ n. told_named n (told_each js news))
+    → AreOthers names (λ n. reported_named n js) (λ n. reported_named n (reported_each js news))
 others_are js news names as_many o h = record {
   ordered = in_order js news names h o;
-  others = λ n among. subst (λ (b : Bool). Tells b (told_named n (told_each js news)) (told_named n js)) among (tells js news names as_many o h n);
-  same = λ n free. subst (λ (b : Bool). Tells b (told_named n (told_each js news)) (told_named n js)) free (tells js news names as_many o h n);
+  others = λ n among. subst (λ (b : Bool). Reports b (reported_named n (reported_each js news)) (reported_named n js)) among (reports js news names as_many o h n);
+  same = λ n free. subst (λ (b : Bool). Reports b (reported_named n (reported_each js news)) (reported_named n js)) free (reports js news names as_many o h n);
 }
 
--- ---- those before a number were told
+-- ---- those before a number were reported
 
-pub record AreToldSoFar (number : ℕ) (old : List Judged) (all : List News) (now : List Judged) (left : List News) : Type 0 where
+pub record AreReportedSoFar (number : ℕ) (old : List Judged) (all : List News) (now : List Judged) (left : List News) : Type 0 where
   pub as_many : length left ≡ length now
   pub whole : length now ≡ length old
-  pub done : now ≡ told_each (take number old) (take number all) ++ drop number old
+  pub done : now ≡ reported_each (take number old) (take number all) ++ drop number old
   pub to_come : drop number left ≡ drop number all
 
 first_left : {X : Type 0} (xs : List X) (i : ℕ) (d : X) → get_or xs i d ≡ get_or (drop i xs) 0 d
@@ -193,33 +193,33 @@ length_set [] i x = refl
 length_set (y ∷ xs) zero x = refl
 length_set (y ∷ xs) (suc i) x = ap suc (length_set xs i x)
 
-told_next : (old : List Judged) (all : List News) (i : ℕ) (d : Judged) → i < length old → length all ≡ length old
-    → set (told_each (take i old) (take i all) ++ drop i old) i (told_one (get_or (told_each (take i old) (take i all) ++ drop i old) i d) (get_or all i None))
-    ≡ told_each (take (suc i) old) (take (suc i) all) ++ drop (suc i) old
-told_next [] all i d h same = absurd (omega arith)
-told_next (j ∷ js) [] i d h same = absurd (omega arith)
-told_next (j ∷ js) (v ∷ all) zero d h same = refl
-told_next (j ∷ js) (v ∷ all) (suc i) d h same = ap (λ xs. told_one j v ∷ xs) (told_next js all i d (omega arith) (omega arith))
+reported_next : (old : List Judged) (all : List News) (i : ℕ) (d : Judged) → i < length old → length all ≡ length old
+    → set (reported_each (take i old) (take i all) ++ drop i old) i (reported_one (get_or (reported_each (take i old) (take i all) ++ drop i old) i d) (get_or all i None))
+    ≡ reported_each (take (suc i) old) (take (suc i) all) ++ drop (suc i) old
+reported_next [] all i d h same = absurd (omega arith)
+reported_next (j ∷ js) [] i d h same = absurd (omega arith)
+reported_next (j ∷ js) (v ∷ all) zero d h same = refl
+reported_next (j ∷ js) (v ∷ all) (suc i) d h same = ap (λ xs. reported_one j v ∷ xs) (reported_next js all i d (omega arith) (omega arith))
 
-pub one_told_more : (i : ℕ) (old now next : List Judged) (all left rest : List News) (j : Judged) (v : News) → i < length old → length all ≡ length old
-    → j ≡ get_or now i j → v ≡ get_or left i v → next ≡ set now i (told_one j v) → rest ≡ set left i None
-    → AreToldSoFar i old all now left → AreToldSoFar (i + 1) old all next rest
-one_told_more i old now next all left rest j v within same is is_v next_is rest_is h =
+pub one_reported_more : (i : ℕ) (old now next : List Judged) (all left rest : List News) (j : Judged) (v : News) → i < length old → length all ≡ length old
+    → j ≡ get_or now i j → v ≡ get_or left i v → next ≡ set now i (reported_one j v) → rest ≡ set left i None
+    → AreReportedSoFar i old all now left → AreReportedSoFar (i + 1) old all next rest
+one_reported_more i old now next all left rest j v within same is is_v next_is rest_is h =
     let step : suc i ≡ i + 1 = omega arith in
     let here : v ≡ get_or all i None =
     is_v ∙ any_default left i v None (omega (arith, h.as_many, h.whole)) ∙ first_left left i None ∙ ap (λ vs. get_or vs 0 None) h.to_come ∙ sym (first_left all i None) in
-    let told : next ≡ told_each (take (suc i) old) (take (suc i) all) ++ drop (suc i) old =
-    next_is ∙ ap (λ x. set now i (told_one x v)) is ∙ ap (λ x. set now i (told_one (get_or now i j) x)) here
-    ∙ ap (λ xs. set xs i (told_one (get_or xs i j) (get_or all i None))) h.done ∙ told_next old all i j within same in
-    subst (λ (k : ℕ). AreToldSoFar k old all next rest) step
+    let reported : next ≡ reported_each (take (suc i) old) (take (suc i) all) ++ drop (suc i) old =
+    next_is ∙ ap (λ x. set now i (reported_one x v)) is ∙ ap (λ x. set now i (reported_one (get_or now i j) x)) here
+    ∙ ap (λ xs. set xs i (reported_one (get_or xs i j) (get_or all i None))) h.done ∙ reported_next old all i j within same in
+    subst (λ (k : ℕ). AreReportedSoFar k old all next rest) step
     (record {
-      as_many = ap length rest_is ∙ length_set left i None ∙ h.as_many ∙ sym (ap length next_is ∙ length_set now i (told_one j v));
-      whole = ap length next_is ∙ length_set now i (told_one j v) ∙ h.whole;
-      done = told;
+      as_many = ap length rest_is ∙ length_set left i None ∙ h.as_many ∙ sym (ap length next_is ∙ length_set now i (reported_one j v));
+      whole = ap length next_is ∙ length_set now i (reported_one j v) ∙ h.whole;
+      done = reported;
       to_come = ap (drop (suc i)) rest_is ∙ drop_set left i None ∙ drop_one left i ∙ ap (drop 1) h.to_come ∙ sym (drop_one all i);
     })
 
--- where nothing is to be told of the next one
+-- where nothing is to be reported for the next one
 some_at : (xs : List Judged) (i : ℕ) → i < length xs → (j : Judged) × (j ≡ get_or xs i j)
 some_at [] i h = absurd (omega arith)
 some_at (x ∷ xs) zero h = (x, refl)
@@ -230,12 +230,12 @@ set_same [] i x is = refl
 set_same (y ∷ xs) zero x is = ap (λ z. z ∷ xs) (sym is)
 set_same (y ∷ xs) (suc i) x is = ap (λ ys. y ∷ ys) (set_same xs i x is)
 
-pub none_told_more : (i : ℕ) (old now next : List Judged) (all left rest : List News) (v : News) → i < length old → length all ≡ length old
+pub none_reported_more : (i : ℕ) (old now next : List Judged) (all left rest : List News) (v : News) → i < length old → length all ≡ length old
     → v ≡ get_or left i v → v ≡ None → next ≡ now → rest ≡ set left i None
-    → AreToldSoFar i old all now left → AreToldSoFar (i + 1) old all next rest
-none_told_more i old now next all left rest v within same is_v none next_is rest_is h =
+    → AreReportedSoFar i old all now left → AreReportedSoFar (i + 1) old all next rest
+none_reported_more i old now next all left rest v within same is_v none next_is rest_is h =
     let (j, is) = some_at now i (omega (arith, h.whole)) in
-    one_told_more i old now next all left rest j v within same is is_v (next_is ∙ set_same now i j is ∙ ap (λ x. set now i (told_one j x)) (sym none)) rest_is h
+    one_reported_more i old now next all left rest j v within same is is_v (next_is ∙ set_same now i j is ∙ ap (λ x. set now i (reported_one j x)) (sym none)) rest_is h
 
 -- ---- a test that failed
 

@@ -6,7 +6,7 @@ use Rattle.std.specs.Str.{bytes_eq}
 use Rattle.std.proofs.lemmas.List.Edits.{map_over_more}
 use Rattle.tera_check.specs.Lost.{is_open, are_open}
 use Rattle.text_edits.specs.declared.positions.Encoding.{Encoding}
-use Rattle.tera_workspace.specs.Kept.{source_of, sources_of, templates_of, told_of, told_named, AllWhole, AreCurrent, StayKept, IsTextAt, made_stale, marked_if}
+use Rattle.tera_workspace.specs.Kept.{source_of, sources_of, templates_of, reported_of, reported_named, AllWhole, AreCurrent, StayKept, IsTextAt, made_stale, marked_if}
 use Rattle.tera_workspace.specs.Sources.{AreAscending, text_named}
 use Rattle.tera_workspace.specs.declared.judged.Judged.{Judged}
 use Rattle.tera_workspace.proofs.CurrentLemmas.{map_length}
@@ -24,9 +24,9 @@ stale_sources : (js : List Judged) → sources_of (map made_stale js) ≡ source
 stale_sources [] = refl
 stale_sources (j ∷ js) = ap (λ ss. source_of j ∷ ss) (stale_sources js)
 
-stale_told : (n : List ℕ) (js : List Judged) → told_named n (map made_stale js) ≡ told_named n js
-stale_told n [] = refl
-stale_told n (j ∷ js) = ap (cond (bytes_eq (string_bytes j.template.file) n) (told_of j)) (stale_told n js)
+stale_reported : (n : List ℕ) (js : List Judged) → reported_named n (map made_stale js) ≡ reported_named n js
+stale_reported n [] = refl
+stale_reported n (j ∷ js) = ap (cond (bytes_eq (string_bytes j.template.file) n) (reported_of j)) (stale_reported n js)
 
 stale_at : (js : List Judged) (k : ℕ) (d : Judged) → k < length js → (get_or (map made_stale js) k d).stale ≡ true
 stale_at [] k d h = absurd (omega arith)
@@ -57,11 +57,11 @@ if_sources false false js = refl
 if_sources true false js = stale_sources js
 if_sources false true js = stale_sources js
 
-if_told : (was now : Bool) (n : List ℕ) (js : List Judged) → told_named n (marked_if was now js) ≡ told_named n js
-if_told true true n js = refl
-if_told false false n js = refl
-if_told true false n js = stale_told n js
-if_told false true n js = stale_told n js
+if_reported : (was now : Bool) (n : List ℕ) (js : List Judged) → reported_named n (marked_if was now js) ≡ reported_named n js
+if_reported true true n js = refl
+if_reported false false n js = refl
+if_reported true false n js = stale_reported n js
+if_reported false true n js = stale_reported n js
 
 if_current : (was now : Bool) (e : Encoding) (js : List Judged) → (was ≡ now → AreCurrent e js) → AreCurrent e (marked_if was now js)
 if_current true true e js h = h refl
@@ -69,12 +69,12 @@ if_current false false e js h = h refl
 if_current true false e js h = stale_current e js
 if_current false true e js h = stale_current e js
 
--- documents in the place of others, of which may be said what was told where as many may define more as before
+-- documents in the place of others, of which may be said what was reported where as many may define more as before
 pub record StayIf (old now : List Judged) : Type 0 where
   pub whole : AllWhole old → AllWhole now
   pub current : (e : Encoding) → AllWhole old → are_open (templates_of old) ≡ are_open (templates_of now) → AreCurrent e old → AreCurrent e now
   pub ordered : AreAscending (sources_of old) → AreAscending (sources_of now)
-  pub told : (n : List ℕ) → told_named n now ≡ told_named n old
+  pub reported : (n : List ℕ) → reported_named n now ≡ reported_named n old
 
 module _ (old now : List Judged) where
   abbrev pub now_marked : List Judged
@@ -85,7 +85,7 @@ module _ (old now : List Judged) where
     whole = λ w. if_whole (are_open (templates_of old)) (are_open (templates_of now)) now (h.whole w);
     current = λ e w current. if_current (are_open (templates_of old)) (are_open (templates_of now)) e now (λ same. h.current e w same current);
     ordered = λ o. subst AreAscending (sym (if_sources (are_open (templates_of old)) (are_open (templates_of now)) now)) (h.ordered o);
-    told = λ n. if_told (are_open (templates_of old)) (are_open (templates_of now)) n now ∙ h.told n;
+    reported = λ n. if_reported (are_open (templates_of old)) (are_open (templates_of now)) n now ∙ h.reported n;
   }
 
   pub text_if : (name text : List ℕ) → IsTextAt name text old now → IsTextAt name text old now_marked

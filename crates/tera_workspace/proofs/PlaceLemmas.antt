@@ -1,4 +1,4 @@
--- What is told of findings that tell no place in a file, where the text of that file is another.
+-- What is reported for findings that say no place in a file, where the text of that file is another.
 use Rattle.std.proofs.Common.{◌≡◌, ◌≢◌, ◌∙◌, ◌<◌, ℕ, zero, suc, List, [], ◌∷◌, ◌||◌, length, get_or, set, map, Bool, true, false, cond, string_bytes, refl, sym, ap, arith}
 use Rattle.std.specs.List.{AllByRecursion, list_any}
 use Rattle.std.specs.Str.{bytes_eq}
@@ -63,52 +63,52 @@ module _ (e : Encoding) (file : List ℕ) (before after : List Source) (same : (
   findings_same text [] h = refl
   findings_same text (f ∷ fs) h = λ i. finding_same text f h.0 i ∷ findings_same text fs h.1 i
 
--- ---- whether a finding tells a place in a file, and what was told of it
+-- ---- whether a finding says a place in a file, and what was reported for it
 
 abbrev note_in : List ℕ → NoteVal → Bool
 note_in file (NoteOf of_file span message) = bytes_eq of_file file
 
-abbrev pub tells : List ℕ → FindingVal → Bool
-tells file (FindingOf kind span message notes) = list_any (note_in file) notes
+abbrev pub reports : List ℕ → FindingVal → Bool
+reports file (FindingOf kind span message notes) = list_any (note_in file) notes
 
 notes_beside : (file : List ℕ) (notes : List NoteVal) → list_any (note_in file) notes ≡ false → AllByRecursion (IsElsewhere file) notes
 notes_beside file [] h = tt
 notes_beside file (NoteOf of_file span message ∷ notes) h =
     (apart of_file file (first_false (bytes_eq of_file file) (list_any (note_in file) notes) h), notes_beside file notes (second_false (bytes_eq of_file file) (list_any (note_in file) notes) h))
 
-one_beside : (file : List ℕ) (f : FindingVal) → tells file f ≡ false → IsBeside file f
+one_beside : (file : List ℕ) (f : FindingVal) → reports file f ≡ false → IsBeside file f
 one_beside file (FindingOf kind span message notes) h = notes_beside file notes h
 
-pub all_beside : (file : List ℕ) (fs : List FindingVal) → list_any (tells file) fs ≡ false → AllByRecursion (IsBeside file) fs
+pub all_beside : (file : List ℕ) (fs : List FindingVal) → list_any (reports file) fs ≡ false → AllByRecursion (IsBeside file) fs
 all_beside file [] h = tt
 all_beside file (f ∷ fs) h =
-    (one_beside file f (first_false (tells file f) (list_any (tells file) fs) h), all_beside file fs (second_false (tells file f) (list_any (tells file) fs) h))
+    (one_beside file f (first_false (reports file f) (list_any (reports file) fs) h), all_beside file fs (second_false (reports file f) (list_any (reports file) fs) h))
 
--- the same by what is told
-abbrev told_in : List ℕ → DiagnosticVal → Bool
-told_in file d = list_any (λ (r : RelatedVal). bytes_eq r.file file) d.related
+-- the same by what is reported
+abbrev reported_in : List ℕ → DiagnosticVal → Bool
+reported_in file d = list_any (λ (r : RelatedVal). bytes_eq r.file file) d.related
 
-told_notes : (file : List ℕ) (rs : List Related) → list_any (λ (r : RelatedVal). bytes_eq r.file file) (map related_view rs) ≡ list_any (λ (r : Related). bytes_eq (string_bytes r.file) file) rs
-told_notes file [] = refl
-told_notes file (r ∷ rs) = ap (λ (b : Bool). bytes_eq (string_bytes r.file) file || b) (told_notes file rs)
+reported_notes : (file : List ℕ) (rs : List Related) → list_any (λ (r : RelatedVal). bytes_eq r.file file) (map related_view rs) ≡ list_any (λ (r : Related). bytes_eq (string_bytes r.file) file) rs
+reported_notes file [] = refl
+reported_notes file (r ∷ rs) = ap (λ (b : Bool). bytes_eq (string_bytes r.file) file || b) (reported_notes file rs)
 
-told_all : (file : List ℕ) (ds : List Diagnostic) → list_any (told_in file) (map diagnostic_view ds) ≡ list_any (is_about file) ds
-told_all file [] = refl
-told_all file (d ∷ ds) = λ i. told_notes file d.related.items i || told_all file ds i
+reported_all : (file : List ℕ) (ds : List Diagnostic) → list_any (reported_in file) (map diagnostic_view ds) ≡ list_any (is_about file) ds
+reported_all file [] = refl
+reported_all file (d ∷ ds) = λ i. reported_notes file d.related.items i || reported_all file ds i
 
-tell_notes : (e : Encoding) (file : List ℕ) (ss : List Source) (notes : List NoteVal) → list_any (λ (r : RelatedVal). bytes_eq r.file file) (map (related_of e ss) notes) ≡ list_any (note_in file) notes
-tell_notes e file ss [] = refl
-tell_notes e file ss (NoteOf of_file span message ∷ notes) = ap (λ (b : Bool). bytes_eq of_file file || b) (tell_notes e file ss notes)
+report_notes : (e : Encoding) (file : List ℕ) (ss : List Source) (notes : List NoteVal) → list_any (λ (r : RelatedVal). bytes_eq r.file file) (map (related_of e ss) notes) ≡ list_any (note_in file) notes
+report_notes e file ss [] = refl
+report_notes e file ss (NoteOf of_file span message ∷ notes) = ap (λ (b : Bool). bytes_eq of_file file || b) (report_notes e file ss notes)
 
-tell_one : (e : Encoding) (file : List ℕ) (ss : List Source) (text : List ℕ) (f : FindingVal) → told_in file (diagnostic_of e ss text f) ≡ tells file f
-tell_one e file ss text (FindingOf kind span message notes) = tell_notes e file ss notes
+report_one : (e : Encoding) (file : List ℕ) (ss : List Source) (text : List ℕ) (f : FindingVal) → reported_in file (diagnostic_of e ss text f) ≡ reports file f
+report_one e file ss text (FindingOf kind span message notes) = report_notes e file ss notes
 
-tell_all : (e : Encoding) (file : List ℕ) (ss : List Source) (text : List ℕ) (fs : List FindingVal) → list_any (told_in file) (map (diagnostic_of e ss text) fs) ≡ list_any (tells file) fs
-tell_all e file ss text [] = refl
-tell_all e file ss text (f ∷ fs) = λ i. tell_one e file ss text f i || tell_all e file ss text fs i
+report_all : (e : Encoding) (file : List ℕ) (ss : List Source) (text : List ℕ) (fs : List FindingVal) → list_any (reported_in file) (map (diagnostic_of e ss text) fs) ≡ list_any (reports file) fs
+report_all e file ss text [] = refl
+report_all e file ss text (f ∷ fs) = λ i. report_one e file ss text f i || report_all e file ss text fs i
 
--- no place in the file was told, so the findings tell none
-pub none_told : (e : Encoding) (file : List ℕ) (ss : List Source) (text : List ℕ) (ds : List Diagnostic) (fs : List FindingVal)
-    → map diagnostic_view ds ≡ map (diagnostic_of e ss text) fs → list_any (is_about file) ds ≡ false → list_any (tells file) fs ≡ false
-none_told e file ss text ds fs told none =
-    sym (tell_all e file ss text fs) ∙ ap (list_any (told_in file)) (sym told) ∙ told_all file ds ∙ none
+-- no place in the file was reported, so the findings say none
+pub none_reported : (e : Encoding) (file : List ℕ) (ss : List Source) (text : List ℕ) (ds : List Diagnostic) (fs : List FindingVal)
+    → map diagnostic_view ds ≡ map (diagnostic_of e ss text) fs → list_any (is_about file) ds ≡ false → list_any (reports file) fs ≡ false
+none_reported e file ss text ds fs reported none =
+    sym (report_all e file ss text fs) ∙ ap (list_any (reported_in file)) (sym reported) ∙ reported_all file ds ∙ none

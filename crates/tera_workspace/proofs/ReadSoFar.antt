@@ -13,7 +13,7 @@ use Rattle.tera_workspace.specs.Kept.{sources_of, StayKept, IsTextAt}
 use Rattle.tera_workspace.specs.Names.{is_among}
 use Rattle.tera_workspace.specs.Sources.{text_named}
 use Rattle.tera_workspace.specs.declared.judged.Judged.{Judged}
-use Rattle.tera_workspace.proofs.ReadingLemmas.{stay_same, stay_behind}
+use Rattle.tera_workspace.proofs.ReadingLemmas.{stay_same, stay_after}
 
 -- those of the first names have the texts of the documents, and those of other names what they had
 pub record AreRead (ds : Documents) (names : List (List ℕ)) (i : ℕ) (old now : List Judged) : Type 0 where
@@ -46,9 +46,9 @@ if_itself : (b : Bool) → (if b then true else false) ≡ (false || b)
 if_itself true = refl
 if_itself false = refl
 
-behind_one : (b x y : Bool) → (if b then true else (x || y)) ≡ ((if b then true else x) || y)
-behind_one true x y = refl
-behind_one false x y = refl
+after_one : (b x y : Bool) → (if b then true else (x || y)) ≡ ((if b then true else x) || y)
+after_one true x y = refl
+after_one false x y = refl
 
 one_taken : (n : List ℕ) (items : List (String Global)) (i : ℕ) (s : String Global) → i < length items
     → is_among n (take (suc i) (map string_bytes items)) ≡ (is_among n (take i (map string_bytes items)) || bytes_eq (string_bytes (get_or items i s)) n)
@@ -56,7 +56,7 @@ one_taken n [] i s h = absurd (omega arith)
 one_taken n (x ∷ items) zero s h = if_itself (bytes_eq (string_bytes x) n)
 one_taken n (x ∷ items) (suc i) s h =
     ap (λ (c : Bool). if bytes_eq (string_bytes x) n then true else c) (one_taken n items i s (omega arith))
-    ∙ behind_one (bytes_eq (string_bytes x) n) (is_among n (take i (map string_bytes items))) (bytes_eq (string_bytes (get_or items i s)) n)
+    ∙ after_one (bytes_eq (string_bytes x) n) (is_among n (take i (map string_bytes items))) (bytes_eq (string_bytes (get_or items i s)) n)
 
 or_left : (a b : Bool) → b ≡ false → (a || b) ≡ true → a ≡ true
 or_left true b none h = refl
@@ -75,7 +75,7 @@ module _ (ds : Documents) (items : List (String Global)) (i : ℕ) (s : String G
 
   pub one_read : AreRead ds (map string_bytes items) (i + 1) old next
   one_read = record {
-    kept = stay_behind old now next h.kept stay;
+    kept = stay_after old now next h.kept stay;
     others = λ n free.
         at n ∙ ap (λ (b : Bool). cond b text (text_named n (sources_of now))) (ap (λ x. bytes_eq (string_bytes x) n) is ∙ apart_at n items i s within free)
         ∙ h.others n free;

@@ -13,7 +13,7 @@ use Rattle.tera_check.specs.Lost.{are_open}
 use Rattle.tera_check.specs.Named.{definitions_of}
 use Rattle.tera_workspace.specs.Diagnostics.{DiagnosticVal}
 use Rattle.tera_workspace.specs.Heads.{definition_named, HaveOneHeadIfAny}
-use Rattle.tera_workspace.specs.Kept.{source_of, sources_of, templates_of, told_of, told_named, has_name, NoneBefore, IsNumbered, IsPlaceOf, IsWhole, IsAnew, AllWhole, AreCurrent, StayKept, IsTextAt, marked}
+use Rattle.tera_workspace.specs.Kept.{source_of, sources_of, templates_of, reported_of, reported_named, has_name, NoneBefore, IsNumbered, IsPlaceOf, IsWhole, IsAnew, AllWhole, AreCurrent, StayKept, IsTextAt, marked}
 use Rattle.tera_workspace.specs.Names.{is_among}
 use Rattle.tera_workspace.specs.Sources.{Source, AreInOrder, AreAscending, text_named}
 use Rattle.tera_workspace.specs.declared.diagnostics.Diagnostic.{Diagnostic}
@@ -28,14 +28,14 @@ false_true : false ≡ true → ⊥
 false_true e = cc
 
 pub stay_same : (js : List Judged) → StayKept js js
-stay_same js = record { whole = λ w. w; current = λ e w c. c; ordered = λ o. o; told = λ n. refl }
+stay_same js = record { whole = λ w. w; current = λ e w c. c; ordered = λ o. o; reported = λ n. refl }
 
-pub stay_behind : (a b c : List Judged) → StayKept a b → StayKept b c → StayKept a c
-stay_behind a b c h g = record {
+pub stay_after : (a b c : List Judged) → StayKept a b → StayKept b c → StayKept a c
+stay_after a b c h g = record {
   whole = λ w. g.whole (h.whole w);
   current = λ e w current. g.current e (h.whole w) (h.current e w current);
   ordered = λ o. g.ordered (h.ordered o);
-  told = λ n. g.told n ∙ h.told n;
+  reported = λ n. g.reported n ∙ h.reported n;
 }
 
 -- ---- values by tests
@@ -59,7 +59,7 @@ both a name n apart e g =
 equal : (a n : List ℕ) → bytes_eq a n ≡ true → a ≡ n
 equal a n e = (bytes_eq-Decides a n).0 e
 
--- ---- the text and what was told of each name, where one of a name is put in the place of the first
+-- ---- the text and what was reported for each name, where one of a name is put in the place of the first
 
 module _ (name : List ℕ) (j : Judged) (named : string_bytes j.template.file ≡ name) where
   pub text_set : (js : List Judged) (i : ℕ) → i < length js → has_name name (get_or js i j) ≡ true → ((m : ℕ) → m < i → has_name name (get_or js m j) ≡ false)
@@ -73,14 +73,14 @@ module _ (name : List ℕ) (j : Judged) (named : string_bytes j.template.file �
       ap (cond (bytes_eq (string_bytes x.template.file) n) x.text) (text_set js i (omega arith) is (λ m h. first (suc m) (omega arith)) n)
       ∙ swapped (bytes_eq (string_bytes x.template.file) n) (bytes_eq name n) x.text j.text (text_named n (sources_of js)) (both (string_bytes x.template.file) name n (first 0 (omega arith)))
 
-  pub told_set : (js : List Judged) (i : ℕ) → i < length js → has_name name (get_or js i j) ≡ true → told_of j ≡ told_of (get_or js i j)
-      → (n : List ℕ) → told_named n (set js i j) ≡ told_named n js
-  told_set [] i within is same n = refl
-  told_set (x ∷ js) zero within is same n =
-      ap (λ m. cond (bytes_eq m n) (told_of j) (told_named n js)) (named ∙ sym (equal (string_bytes x.template.file) name is))
-      ∙ ap (λ ds. cond (bytes_eq (string_bytes x.template.file) n) ds (told_named n js)) same
-  told_set (x ∷ js) (suc i) within is same n =
-      ap (cond (bytes_eq (string_bytes x.template.file) n) (told_of x)) (told_set js i (omega arith) is same n)
+  pub reported_set : (js : List Judged) (i : ℕ) → i < length js → has_name name (get_or js i j) ≡ true → reported_of j ≡ reported_of (get_or js i j)
+      → (n : List ℕ) → reported_named n (set js i j) ≡ reported_named n js
+  reported_set [] i within is same n = refl
+  reported_set (x ∷ js) zero within is same n =
+      ap (λ m. cond (bytes_eq m n) (reported_of j) (reported_named n js)) (named ∙ sym (equal (string_bytes x.template.file) name is))
+      ∙ ap (λ ds. cond (bytes_eq (string_bytes x.template.file) n) ds (reported_named n js)) same
+  reported_set (x ∷ js) (suc i) within is same n =
+      ap (cond (bytes_eq (string_bytes x.template.file) n) (reported_of x)) (reported_set js i (omega arith) is same n)
 
   -- where it is put among others, of which none has the name
   pub text_insert : (js : List Judged) (i : ℕ) → i ≤ length js → ((m : ℕ) → m < length js → has_name name (get_or js m j) ≡ false)
@@ -91,29 +91,29 @@ module _ (name : List ℕ) (j : Judged) (named : string_bytes j.template.file �
       ap (cond (bytes_eq (string_bytes x.template.file) n) x.text) (text_insert js i (omega arith) (λ m h. none (suc m) (omega arith)) n)
       ∙ swapped (bytes_eq (string_bytes x.template.file) n) (bytes_eq name n) x.text j.text (text_named n (sources_of js)) (both (string_bytes x.template.file) name n (none 0 (omega arith)))
 
-  none_told : (js : List Judged) → ((m : ℕ) → m < length js → has_name name (get_or js m j) ≡ false) → told_named name js ≡ []
-  none_told [] none = refl
-  none_told (x ∷ js) none =
-      ap (λ b. cond b (told_of x) (told_named name js)) (none 0 (omega arith)) ∙ none_told js (λ m h. none (suc m) (omega arith))
+  none_reported : (js : List Judged) → ((m : ℕ) → m < length js → has_name name (get_or js m j) ≡ false) → reported_named name js ≡ []
+  none_reported [] none = refl
+  none_reported (x ∷ js) none =
+      ap (λ b. cond b (reported_of x) (reported_named name js)) (none 0 (omega arith)) ∙ none_reported js (λ m h. none (suc m) (omega arith))
 
-  told_insert_at : (js : List Judged) (i : ℕ) → i ≤ length js → told_of j ≡ [] → ((m : ℕ) → m < length js → has_name name (get_or js m j) ≡ false)
-      → (n : List ℕ) → told_named n (insert js i j) ≡ cond (bytes_eq name n) [] (told_named n js)
-  told_insert_at js zero within untold none n =
-      ap (λ m. cond (bytes_eq m n) (told_of j) (told_named n js)) named ∙ ap (λ ds. cond (bytes_eq name n) ds (told_named n js)) untold
-  told_insert_at [] (suc i) within untold none n = absurd (omega arith)
-  told_insert_at (x ∷ js) (suc i) within untold none n =
-      ap (cond (bytes_eq (string_bytes x.template.file) n) (told_of x)) (told_insert_at js i (omega arith) untold (λ m h. none (suc m) (omega arith)) n)
-      ∙ swapped (bytes_eq (string_bytes x.template.file) n) (bytes_eq name n) (told_of x) [] (told_named n js) (both (string_bytes x.template.file) name n (none 0 (omega arith)))
+  reported_insert_at : (js : List Judged) (i : ℕ) → i ≤ length js → reported_of j ≡ [] → ((m : ℕ) → m < length js → has_name name (get_or js m j) ≡ false)
+      → (n : List ℕ) → reported_named n (insert js i j) ≡ cond (bytes_eq name n) [] (reported_named n js)
+  reported_insert_at js zero within unreported none n =
+      ap (λ m. cond (bytes_eq m n) (reported_of j) (reported_named n js)) named ∙ ap (λ ds. cond (bytes_eq name n) ds (reported_named n js)) unreported
+  reported_insert_at [] (suc i) within unreported none n = absurd (omega arith)
+  reported_insert_at (x ∷ js) (suc i) within unreported none n =
+      ap (cond (bytes_eq (string_bytes x.template.file) n) (reported_of x)) (reported_insert_at js i (omega arith) unreported (λ m h. none (suc m) (omega arith)) n)
+      ∙ swapped (bytes_eq (string_bytes x.template.file) n) (bytes_eq name n) (reported_of x) [] (reported_named n js) (both (string_bytes x.template.file) name n (none 0 (omega arith)))
 
   if_nothing : (b : Bool) (ds : List DiagnosticVal) → (b ≡ true → ds ≡ []) → cond b [] ds ≡ ds
   if_nothing true ds h = sym (h refl)
   if_nothing false ds h = refl
 
-  pub told_insert : (js : List Judged) (i : ℕ) → i ≤ length js → told_of j ≡ [] → ((m : ℕ) → m < length js → has_name name (get_or js m j) ≡ false)
-      → (n : List ℕ) → told_named n (insert js i j) ≡ told_named n js
-  told_insert js i within untold none n =
-      told_insert_at js i within untold none n
-      ∙ if_nothing (bytes_eq name n) (told_named n js) (λ e. ap (λ m. told_named m js) (sym (equal name n e)) ∙ none_told js none)
+  pub reported_insert : (js : List Judged) (i : ℕ) → i ≤ length js → reported_of j ≡ [] → ((m : ℕ) → m < length js → has_name name (get_or js m j) ≡ false)
+      → (n : List ℕ) → reported_named n (insert js i j) ≡ reported_named n js
+  reported_insert js i within unreported none n =
+      reported_insert_at js i within unreported none n
+      ∙ if_nothing (bytes_eq name n) (reported_named n js) (λ e. ap (λ m. reported_named m js) (sym (equal name n e)) ∙ none_reported js none)
 
 -- ---- all of them whole
 
@@ -134,9 +134,9 @@ insert_whole js zero j within one w = (one, w)
 insert_whole [] (suc i) j within one w = absurd (omega arith)
 insert_whole (x ∷ js) (suc i) j within one w = (w.0, insert_whole js i j (omega arith) one w.1)
 
-marked_told : (n : List ℕ) (touched : List (List ℕ)) (file : List ℕ) (js : List Judged) → told_named n (map (marked touched file) js) ≡ told_named n js
-marked_told n touched file [] = refl
-marked_told n touched file (j ∷ js) = ap (cond (bytes_eq (string_bytes j.template.file) n) (told_of j)) (marked_told n touched file js)
+marked_reported : (n : List ℕ) (touched : List (List ℕ)) (file : List ℕ) (js : List Judged) → reported_named n (map (marked touched file) js) ≡ reported_named n js
+marked_reported n touched file [] = refl
+marked_reported n touched file (j ∷ js) = ap (cond (bytes_eq (string_bytes j.template.file) n) (reported_of j)) (marked_reported n touched file js)
 
 pub default_same : (js : List Judged) (k : ℕ) (d e : Judged) → k < length js → get_or js k d ≡ get_or js k e
 default_same [] k d e h = absurd (omega arith)
@@ -187,59 +187,59 @@ module _ (name : List ℕ) (j : Judged) (named : string_bytes j.template.file �
       → (i < length js → is_gt (slice_cmp nat_cmp (string_bytes (get_or js i j).template.file) name) ≡ true)
       → ((m : ℕ) → m < length js → has_name name (get_or js m j) ≡ false)
       → AreInOrder (map (λ (s : Source). s.name) (sources_of js)) → AreInOrder (map (λ (s : Source). s.name) (sources_of (insert js i j)))
-  insert_ordered [] zero within before behind none o = (tt, tt)
-  insert_ordered (x ∷ js) zero within before behind none o =
+  insert_ordered [] zero within before following none o = (tt, tt)
+  insert_ordered (x ∷ js) zero within before following none o =
       let below : slice_cmp nat_cmp (string_bytes j.template.file) (string_bytes x.template.file) ≡ Less =
       ap (λ n. slice_cmp nat_cmp n (string_bytes x.template.file)) named
       ∙ nat_list_cmp_total.antisymm name (string_bytes x.template.file)
-      ∙ turned (slice_cmp nat_cmp (string_bytes x.template.file) name) (behind (omega arith)) in
+      ∙ turned (slice_cmp nat_cmp (string_bytes x.template.file) name) (following (omega arith)) in
       ((below, all_above (string_bytes j.template.file) (string_bytes x.template.file) below (map (λ (s : Source). s.name) (sources_of js)) o.0), o)
-  insert_ordered [] (suc i) within before behind none o = absurd (omega arith)
-  insert_ordered (x ∷ js) (suc i) within before behind none o = (
+  insert_ordered [] (suc i) within before following none o = absurd (omega arith)
+  insert_ordered (x ∷ js) (suc i) within before following none o = (
     all_insert (string_bytes x.template.file) js i j o.0 (less_named x (before 0 (omega arith)) (none 0 (omega arith))) (omega arith),
-    insert_ordered js i (omega arith) (λ m h. before (suc m) (omega arith)) (λ h. behind (omega arith)) (λ m h. none (suc m) (omega arith)) o.1,
+    insert_ordered js i (omega arith) (λ m h. before (suc m) (omega arith)) (λ h. following (omega arith)) (λ m h. none (suc m) (omega arith)) o.1,
   )
 
   insert_sorted : (js : List Judged) (i : ℕ) → IsPlaceOf name js i → ((m : ℕ) → m < length js → has_name name (get_or js m j) ≡ false) → AreAscending (sources_of js) → AreAscending (sources_of (insert js i j))
-  insert_sorted js i place none o = insert_ordered js i place.within (λ m h. place.before m j h) (λ h. place.behind j h) none o
+  insert_sorted js i place none o = insert_ordered js i place.within (λ m h. place.before m j h) (λ h. place.following j h) none o
 
 -- ---- another text of one that is among them
 
 module _ (name : List ℕ) (touched : List (List ℕ)) (js : List Judged) (i : ℕ) (j d : Judged) (number : IsNumbered name js i) (anew : IsAnew name j.text j)
     (heads : (n : List ℕ) → is_among n touched ≡ false → HaveOneHeadIfAny (definition_named n (definitions_of (get_or js i d).template)) (definition_named n (definitions_of j.template))) where
-  -- it keeps what was told
-  abbrev pub with_told : Judged
-  with_told = record j { told = (get_or js i d).told }
+  -- it keeps what was reported
+  abbrev pub with_reported : Judged
+  with_reported = record j { reported = (get_or js i d).reported }
 
   abbrev pub put_there : List Judged
-  put_there = set (map (marked touched name) js) i with_told
+  put_there = set (map (marked touched name) js) i with_reported
 
-  whole_told : IsWhole with_told
-  whole_told = record { read = anew.whole.read; names = anew.whole.names }
+  whole_reported : IsWhole with_reported
+  whole_reported = record { read = anew.whole.read; names = anew.whole.names }
 
-  told_same : told_of with_told ≡ told_of (get_or (map (marked touched name) js) i with_told)
-  told_same = ap told_of (default_same js i d with_told number.within) ∙ sym (ap told_of (marked_at touched name js i with_told number.within))
+  reported_same : reported_of with_reported ≡ reported_of (get_or (map (marked touched name) js) i with_reported)
+  reported_same = ap reported_of (default_same js i d with_reported number.within) ∙ sym (ap reported_of (marked_at touched name js i with_reported number.within))
 
   put_stays : StayIf js put_there
   put_stays = record {
-    whole = λ w. set_whole (map (marked touched name) js) i with_told whole_told (marked_whole touched name js w);
+    whole = λ w. set_whole (map (marked touched name) js) i with_reported whole_reported (marked_whole touched name js w);
     current = λ e w opened current.
-        subst (λ file. AreCurrent e (set (map (marked touched file) js) i with_told)) anew.named
-        (replaced_current e touched js i with_told d number.within (equal (string_bytes (get_or js i d).template.file) name (number.is d) ∙ sym anew.named) anew.stale w heads
-        (subst (λ file. are_open (templates_of js) ≡ are_open (templates_of (set (map (marked touched file) js) i with_told))) (sym anew.named) opened) current);
-    ordered = λ o. subst AreInOrder (sym (names_set (map (marked touched name) js) i with_told
-        (ap (λ x. string_bytes x.template.file) (marked_at touched name js i with_told number.within) ∙ equal (string_bytes (get_or js i with_told).template.file) name (number.is with_told) ∙ sym anew.named)
+        subst (λ file. AreCurrent e (set (map (marked touched file) js) i with_reported)) anew.named
+        (replaced_current e touched js i with_reported d number.within (equal (string_bytes (get_or js i d).template.file) name (number.is d) ∙ sym anew.named) anew.stale w heads
+        (subst (λ file. are_open (templates_of js) ≡ are_open (templates_of (set (map (marked touched file) js) i with_reported))) (sym anew.named) opened) current);
+    ordered = λ o. subst AreInOrder (sym (names_set (map (marked touched name) js) i with_reported
+        (ap (λ x. string_bytes x.template.file) (marked_at touched name js i with_reported number.within) ∙ equal (string_bytes (get_or js i with_reported).template.file) name (number.is with_reported) ∙ sym anew.named)
         ∙ ap (map (λ (s : Source). s.name)) (marked_sources touched name js))) o;
-    told = λ n.
-        told_set name with_told anew.named (map (marked touched name) js) i (omega (arith, number.within, marked_length touched name js))
-        (ap (has_name name) (marked_at touched name js i with_told number.within) ∙ number.is with_told)
-        told_same n
-        ∙ marked_told n touched name js;
+    reported = λ n.
+        reported_set name with_reported anew.named (map (marked touched name) js) i (omega (arith, number.within, marked_length touched name js))
+        (ap (has_name name) (marked_at touched name js i with_reported number.within) ∙ number.is with_reported)
+        reported_same n
+        ∙ marked_reported n touched name js;
   }
 
   put_text : IsTextAt name j.text js put_there
   put_text n =
-      ap (text_named n) (sources_set (map (marked touched name) js) i with_told ∙ ap (λ ss. set ss i (source_of j)) (marked_sources touched name js))
+      ap (text_named n) (sources_set (map (marked touched name) js) i with_reported ∙ ap (λ ss. set ss i (source_of j)) (marked_sources touched name js))
       ∙ text_set name j anew.named js i number.within (number.is j) (λ m h. number.first m j h) n
 
   pub put_kept : StayKept js (now_marked js put_there)
@@ -249,12 +249,12 @@ module _ (name : List ℕ) (touched : List (List ℕ)) (js : List Judged) (i : �
   put_read = text_if js put_there name j.text put_text
 
   -- as the code puts it there: the mark, and then the other text
-  pub put_is : (items : List Judged) (m n : Judged) (told : Vec Diagnostic Global) → items ≡ map (marked touched name) js → m ≡ get_or items i m → told ≡ m.told
-      → set (set items i n) i (record j { told = told }) ≡ put_there
-  put_is items m n told are is same =
-      let one : told ≡ (get_or js i d).told =
-      same ∙ ap (λ x. x.told) (is ∙ ap (λ xs. get_or xs i m) are ∙ marked_at touched name js i m number.within) ∙ ap (λ x. x.told) (default_same js i m d number.within) in
-      set_again items i n (record j { told = told }) ∙ λ k. set (are k) i (record j { told = one k })
+  pub put_is : (items : List Judged) (m n : Judged) (reported : Vec Diagnostic Global) → items ≡ map (marked touched name) js → m ≡ get_or items i m → reported ≡ m.reported
+      → set (set items i n) i (record j { reported = reported }) ≡ put_there
+  put_is items m n reported are is same =
+      let one : reported ≡ (get_or js i d).reported =
+      same ∙ ap (λ x. x.reported) (is ∙ ap (λ xs. get_or xs i m) are ∙ marked_at touched name js i m number.within) ∙ ap (λ x. x.reported) (default_same js i m d number.within) in
+      set_again items i n (record j { reported = reported }) ∙ λ k. set (are k) i (record j { reported = one k })
 
 -- ---- the same text again
 
@@ -283,7 +283,7 @@ module _ (name : List ℕ) (touched : List (List ℕ)) (js : List Judged) (i : �
         inserted_current e name touched js i j place.within anew.stale w heads
         (λ n other. text_more n ∙ ap (λ b. cond b j.text (text_named n (sources_of js))) (differ name n (λ same. other (sym same)))) opened current;
     ordered = λ o. subst AreAscending (sym (marked_sources touched name (insert js i j))) (insert_sorted name j anew.named js i place (λ m h. none m j h) o);
-    told = λ n. marked_told n touched name (insert js i j) ∙ told_insert name j anew.named js i place.within anew.untold (λ m h. none m j h) n;
+    reported = λ n. marked_reported n touched name (insert js i j) ∙ reported_insert name j anew.named js i place.within anew.unreported (λ m h. none m j h) n;
   }
 
   insert_text : IsTextAt name j.text js inserted

@@ -11,17 +11,17 @@ use Rattle.text_edits.specs.declared.documents.Documents.{Documents}
 use Rattle.tera_workspace.specs.Components.{files_by}
 use Rattle.tera_workspace.specs.Definitions.{AreRead}
 use Rattle.tera_workspace.specs.Fresh.{AreFresh}
-use Rattle.tera_workspace.specs.Kept.{name_of, sources_of, templates_of, told_of, told_named, AllWhole, AreCurrent, StayKept}
+use Rattle.tera_workspace.specs.Kept.{name_of, sources_of, templates_of, reported_of, reported_named, AllWhole, AreCurrent, StayKept}
 use Rattle.tera_workspace.specs.Names.{is_among}
 use Rattle.tera_workspace.specs.Sources.{Source, AreAscending, text_named}
-use Rattle.tera_workspace.specs.Told.{AreNews, told_each}
+use Rattle.tera_workspace.specs.Reported.{AreNews, reported_each}
 use Rattle.tera_workspace.specs.Workspaces.{IsKept, IsSettled}
 use Rattle.tera_workspace.specs.declared.judged.Judged.{Judged}
 use Rattle.tera_workspace.specs.declared.workspace.Workspace.{Workspace}
 use Rattle.tera_workspace.proofs.NameSets.{among_append}
 use Rattle.tera_workspace.specs.Diagnostics.{DiagnosticVal}
 use Rattle.tera_workspace.proofs.PlaceLemmas.{first_false, second_false, false_true}
-use Rattle.tera_workspace.proofs.SettleLemmas.{News, told_sources, told_whole, all_told, now_current, all_read, all_fresh}
+use Rattle.tera_workspace.proofs.SettleLemmas.{News, reported_sources, reported_whole, all_reported, now_current, all_read, all_fresh}
 
 -- those that are not among the names that changed are what they were
 kept_by : (w : Workspace) (ds : Documents) (changed : Vec (String Global) Global) → IsKept w
@@ -89,10 +89,10 @@ module _ (w : Workspace) (now : Vec Judged Global) (k : IsKept w) (stay : StayKe
   pub kept_so_far : IsKept (record w { judged = now })
   kept_so_far = kept_read w (record w { judged = now }) k refl stay (λ n free. others n free ∙ k.texts n free)
 
-  pub kept_behind : (changed : Vec (String Global) Global)
+  pub kept_after : (changed : Vec (String Global) Global)
       → ((n : List ℕ) → is_among n (map string_bytes w.changed.items) ≡ true → text_named n (sources_of now.items) ≡ unwrap_or (text_of (document_of w.documents n)) [])
       → IsKept (record w { changed = changed; judged = now })
-  kept_behind changed read =
+  kept_after changed read =
       kept_read w (record w { changed = changed; judged = now }) k refl stay
       (λ n free. each_text (map string_bytes w.changed.items) (λ m. unwrap_or (text_of (document_of w.documents m)) []) (λ m. text_named m (sources_of w.judged.items)) (λ m. text_named m (sources_of now.items))
       k.texts others read n)
@@ -126,49 +126,49 @@ pub is_there : (ds : Documents) (file name : List ℕ) (text : Option (Bor (List
 is_there ds file name text b same is tests =
     ap (λ n. is_some (text_of (document_of ds n))) (sym same) ∙ ap is_some (sym is) ∙ some_text text ∙ sym tests
 
--- ---- all was told
+-- ---- all was reported
 
--- of what is not among the names nothing was told
+-- of what is not among the names nothing was reported
 not_here : (here : Bool) (one more : List DiagnosticVal) (rest : Bool) → (if here then true else rest) ≡ false → (rest ≡ false → more ≡ []) → cond here one more ≡ []
 not_here true one more rest free h = absurd (false_true (sym free))
 not_here false one more rest free h = h free
 
-untold : (n : List ℕ) (js : List Judged) → is_among n (map (λ s. s.name) (sources_of js)) ≡ false → told_named n js ≡ []
-untold n [] free = refl
-untold n (j ∷ js) free =
-    not_here (bytes_eq (string_bytes j.template.file) n) (told_of j) (told_named n js) (is_among n (map (λ s. s.name) (sources_of js))) free (untold n js)
+unreported : (n : List ℕ) (js : List Judged) → is_among n (map (λ s. s.name) (sources_of js)) ≡ false → reported_named n js ≡ []
+unreported n [] free = refl
+unreported n (j ∷ js) free =
+    not_here (bytes_eq (string_bytes j.template.file) n) (reported_of j) (reported_named n js) (is_among n (map (λ s. s.name) (sources_of js))) free (unreported n js)
 
-pub is_settled : (w : Workspace) (js : List Judged) (news : List News) → w.judged.items ≡ told_each js news → AllWhole js → AreAscending (sources_of js) → AreCurrent w.encoding js → AreNews w.encoding js news
+pub is_settled : (w : Workspace) (js : List Judged) (news : List News) → w.judged.items ≡ reported_each js news → AllWhole js → AreAscending (sources_of js) → AreCurrent w.encoding js → AreNews w.encoding js news
     → ((n : List ℕ) → text_named n (sources_of js) ≡ unwrap_or (text_of (document_of w.documents n)) []) → IsSettled w
 is_settled w js news is whole ordered current are texts = record {
   sources = sources_of js;
   are = record { ascending = ordered; texts = texts };
   fresh =
-      subst (λ (xs : List Judged). AreFresh w.encoding (sources_of js) (λ n. told_named n xs)) (sym is)
-      (subst (λ (ss : List Source). AreFresh w.encoding ss (λ n. told_named n (told_each js news))) (told_sources js news)
-      (all_fresh w.encoding (told_each js news) (told_whole js news whole) (subst AreAscending (sym (told_sources js news)) ordered) (all_told w.encoding js news current are)));
-  others = λ n free. untold n w.judged.items (subst (λ (ss : List Source). is_among n (map (λ s. s.name) ss) ≡ false) (sym (ap sources_of is ∙ told_sources js news)) free);
+      subst (λ (xs : List Judged). AreFresh w.encoding (sources_of js) (λ n. reported_named n xs)) (sym is)
+      (subst (λ (ss : List Source). AreFresh w.encoding ss (λ n. reported_named n (reported_each js news))) (reported_sources js news)
+      (all_fresh w.encoding (reported_each js news) (reported_whole js news whole) (subst AreAscending (sym (reported_sources js news)) ordered) (all_reported w.encoding js news current are)));
+  others = λ n free. unreported n w.judged.items (subst (λ (ss : List Source). is_among n (map (λ s. s.name) ss) ≡ false) (sym (ap sources_of is ∙ reported_sources js news)) free);
 }
 
-pub kept_settled : (w : Workspace) (js : List Judged) (news : List News) → w.judged.items ≡ told_each js news → AllWhole js → AreAscending (sources_of js) → AreCurrent w.encoding js → AreNews w.encoding js news
+pub kept_settled : (w : Workspace) (js : List Judged) (news : List News) → w.judged.items ≡ reported_each js news → AllWhole js → AreAscending (sources_of js) → AreCurrent w.encoding js → AreNews w.encoding js news
     → ((n : List ℕ) → text_named n (sources_of js) ≡ unwrap_or (text_of (document_of w.documents n)) []) → IsKept w
 kept_settled w js news is whole ordered current are texts = record {
-  whole = subst AllWhole (sym is) (told_whole js news whole);
-  ordered = subst (λ (xs : List Judged). AreAscending (sources_of xs)) (sym is) (subst AreAscending (sym (told_sources js news)) ordered);
+  whole = subst AllWhole (sym is) (reported_whole js news whole);
+  ordered = subst (λ (xs : List Judged). AreAscending (sources_of xs)) (sym is) (subst AreAscending (sym (reported_sources js news)) ordered);
   current = subst (AreCurrent w.encoding) (sym is) (now_current w.encoding js news current are);
-  texts = λ n free. ap (λ (xs : List Judged). text_named n (sources_of xs)) is ∙ ap (text_named n) (told_sources js news) ∙ texts n;
+  texts = λ n free. ap (λ (xs : List Judged). text_named n (sources_of xs)) is ∙ ap (text_named n) (reported_sources js news) ∙ texts n;
 }
 
--- as a call answered that changes a document, or leaves all on want of memory
+-- as a call answered that changes a document, or leaves all after an allocation failure
 pub kept_either : {X E : Type 0} (r : Result X E) (w : Workspace) (ds : Documents) (changed : Vec (String Global) Global) (key : String Global) (name : List ℕ) (change : DocumentVal → DocumentVal)
     → changed.items ≡ w.changed.items ++ key ∷ [] → string_bytes key ≡ name → OnOk r (IsChangedAt name change w.documents ds) → OnErr r (AreSame w.documents ds) → IsKept w → IsKept (record w { documents = ds; changed = changed })
 kept_either (Ok x) w ds changed key name change is same ok err k = kept_changed w ds changed key name change is same ok k
 kept_either (Err e) w ds changed key name change is same ok err k = kept_same w ds changed key name is same err k
 
--- ---- documents that were read, and told of
+-- ---- documents that were read, and reported about
 
 module _ (w : Workspace) (now : Vec Judged Global) (news : List News) (k : IsKept w) (read : AreRead w)
-    (are : AllWhole w.judged.items → AreNews w.encoding w.judged.items news) (is : now.items ≡ told_each w.judged.items news) where
+    (are : AllWhole w.judged.items → AreNews w.encoding w.judged.items news) (is : now.items ≡ reported_each w.judged.items news) where
   abbrev settled : Workspace
   settled = record w { judged = now }
 

@@ -1,4 +1,4 @@
--- What is found in a template, as far as it tells no place in one file.
+-- What is found in a template, as far as it says no place in one file.
 use Rattle.std.specs.Prelude.{◌≡◌, ◌≢◌, ◌⊎◌, ℕ, List, Option, None, Some, nat_eq}
 use Rattle.std.specs.List.{AllByRecursion}
 use Rattle.tera_check.specs.Findings.{NoteVal, NoteOf, FindingVal, FindingOf}
@@ -12,7 +12,7 @@ IsElsewhere file (NoteOf of_file span text) = of_file ≢ file
 abbrev pub IsBeside : List ℕ → FindingVal → Type 0
 IsBeside file (FindingOf kind span text notes) = AllByRecursion (IsElsewhere file) notes
 
--- components that are told alike, but that in this file their spans may differ
+-- components that are reported alike, but that in this file their spans may differ
 pub record AreAlikeBut (file : List ℕ) (number : ℕ) (k j : KnownVal) : Type 0 where
   pub name : k.definition.name ≡ j.definition.name
   pub arguments : k.definition.arguments ≡ j.definition.arguments

@@ -30,7 +30,7 @@ parameters_by ts name = option_map_or parameters_of (first_named name (defined_b
 abbrev pub files_by : Documents → List (List ℕ) → List (List ℕ)
 files_by ds files = filter (λ f. is_some (text_of (document_of ds f))) files
 
--- what is told by the documents that were read
+-- what is given by the documents that were read
 abbrev pub components_of : Workspace → List (List ℕ)
 components_of w = components_by (templates_of w.judged.items)
 

@@ -17,7 +17,7 @@ use Rattle.tera_workspace.specs.declared.queries.Definition.{Definition}
 use Rattle.tera_workspace.specs.declared.queries.FileText.{FileText}
 use Rattle.tera_workspace.specs.declared.workspace.Workspace.{Workspace}
 
--- a file, and the part of its text in which the name of a component stands, where it is defined
+-- a file, and the part of its text in which the name of a component is, where it is defined
 pub record DefinitionVal : Type 0 where
   pub file : List ℕ
   pub start : Position
@@ -63,7 +63,7 @@ pub record AreRead (w : Workspace) : Type 0 where
 
 -- ---- what is so of them
 
--- a component of the name is defined by the template, and its name stands there: of its definitions the one of a number
+-- a component of the name is defined by the template, and its name is there: of its definitions the one of a number
 pub record IsDefinedIn (e : Encoding) (sources : List Source) (t : Template) (name : List ℕ) (d : DefinitionVal) : Type 0 where
   pub file : d.file ≡ string_bytes t.file
   pub at : ℕ

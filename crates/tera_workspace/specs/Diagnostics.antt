@@ -1,4 +1,4 @@
--- What is told of a finding: positions in texts in the place of its spans.
+-- What is reported for a finding: positions in texts in the place of its spans.
 use Rattle.std.specs.Prelude.{ℕ, List, map, string_bytes}
 use Rattle.text_edits.specs.Lines.{lines_of}
 use Rattle.text_edits.specs.Positions.{position_of, boundary_to}
@@ -41,7 +41,7 @@ diagnostic_view d = record {
 abbrev pub position_in : Encoding → List ℕ → ℕ → Position
 position_in e text byte = position_of e (lines_of text) (boundary_to text byte)
 
--- what is told of a note: the part of the text of its file that its span is
+-- what is reported for a note: the part of the text of its file that its span is
 abbrev pub related_of : Encoding → List Source → NoteVal → RelatedVal
 related_of e sources (NoteOf file span message) = record {
   file = file;

@@ -1,4 +1,4 @@
--- What is found in documents, computed afresh.
+-- What is found in documents, computed again.
 use Rattle.std.specs.Prelude.{◌≡◌, ℕ, ◌<◌, List, [], ◌++◌, length, map, string_bytes, slice_index_or, None, IfOk, IfErr, IfSome, MatchOption, MatchResult}
 use Rattle.std.specs.List.Sorted.{IsPermutation}
 use Rattle.tera_grammar.specs.Limits.{usual}
@@ -53,19 +53,19 @@ pub record IsFound (ts : List Template) (number : ℕ) (t : Template) (fs : List
   pub are : AreFaultsOf t faults
   pub found : IsPermutation (faults ++ due_findings (λ n. first_named n (defined_by 0 ts)) (are_open ts) number t) (map finding_view fs)
 
--- and what is to be told of it in a text
-abbrev pub IsTold : Encoding → List Source → List Template → ℕ → List ℕ → Template → List DiagnosticVal → Type 0
-IsTold e sources ts number text t told =
-    (fs : List Finding) × IsFound ts number t fs × (told ≡ map (diagnostic_of e sources text) (map finding_view fs))
+-- and what is to be reported for it in a text
+abbrev pub IsReported : Encoding → List Source → List Template → ℕ → List ℕ → Template → List DiagnosticVal → Type 0
+IsReported e sources ts number text t reported =
+    (fs : List Finding) × IsFound ts number t fs × (reported ≡ map (diagnostic_of e sources text) (map finding_view fs))
 
 -- the templates are what it gives for the sources, in their order
 pub record AreTemplates (sources : List Source) (templates : List Template) : Type 0 where
   pub as_many : length templates ≡ length sources
   pub read : (k : ℕ) (s : Source) (t : Template) → k < length sources → IsRead (slice_index_or sources k s) (slice_index_or templates k t)
 
--- of each, what is told under its name
-pub record AreFresh (e : Encoding) (sources : List Source) (told_of : List ℕ → List DiagnosticVal) : Type 0 where
+-- of each, what is reported under its name
+pub record AreFresh (e : Encoding) (sources : List Source) (reported_of : List ℕ → List DiagnosticVal) : Type 0 where
   pub templates : List Template
   pub are : AreTemplates sources templates
-  pub told : (k : ℕ) (s : Source) (t : Template) → k < length sources →
-      IsTold e sources templates k (slice_index_or sources k s).text (slice_index_or templates k t) (told_of (slice_index_or sources k s).name)
+  pub reported : (k : ℕ) (s : Source) (t : Template) → k < length sources →
+      IsReported e sources templates k (slice_index_or sources k s).text (slice_index_or templates k t) (reported_of (slice_index_or sources k s).name)

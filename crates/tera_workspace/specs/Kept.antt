@@ -13,7 +13,7 @@ use Rattle.tera_check.specs.Named.{tree_of}
 use Rattle.tera_check.specs.declared.templates.Template.{Template}
 use Rattle.text_edits.specs.declared.positions.Encoding.{Encoding}
 use Rattle.tera_workspace.specs.Diagnostics.{DiagnosticVal, diagnostic_view}
-use Rattle.tera_workspace.specs.Fresh.{IsRead, IsTold}
+use Rattle.tera_workspace.specs.Fresh.{IsRead, IsReported}
 use Rattle.tera_workspace.specs.Names.{is_among, contains_name}
 use Rattle.tera_workspace.specs.Sources.{Source, AreAscending, text_named}
 use Rattle.tera_workspace.specs.declared.diagnostics.Diagnostic.{Diagnostic}
@@ -31,15 +31,15 @@ sources_of js = map source_of js
 abbrev pub templates_of : List Judged → List Template
 templates_of js = map (λ j. j.template) js
 
-abbrev pub told_of : Judged → List DiagnosticVal
-told_of j = map diagnostic_view j.told.items
+abbrev pub reported_of : Judged → List DiagnosticVal
+reported_of j = map diagnostic_view j.reported.items
 
--- what was told under a name; nothing where it is not among them
-abbrev pub told_named : List ℕ → List Judged → List DiagnosticVal
-told_named n [] = []
-told_named n (j ∷ js) = cond (bytes_eq (string_bytes j.template.file) n) (told_of j) (told_named n js)
+-- what was reported under a name; nothing where it is not among them
+abbrev pub reported_named : List ℕ → List Judged → List DiagnosticVal
+reported_named n [] = []
+reported_named n (j ∷ js) = cond (bytes_eq (string_bytes j.template.file) n) (reported_of j) (reported_named n js)
 
--- where the first of a name stands
+-- where the first of a name is
 abbrev pub has_name : List ℕ → Judged → Bool
 has_name n j = bytes_eq (string_bytes j.template.file) n
 
@@ -51,11 +51,11 @@ pub record IsNumbered (n : List ℕ) (js : List Judged) (k : ℕ) : Type 0 where
   pub is : (d : Judged) → has_name n (slice_index_or js k d) ≡ true
   pub first : NoneBefore n js k
 
--- where one of a name would stand in the order of the names
+-- where one of a name would be in the order of the names
 pub record IsPlaceOf (n : List ℕ) (js : List Judged) (k : ℕ) : Type 0 where
   pub within : k ≤ length js
   pub before : (m : ℕ) (d : Judged) → m < k → is_gt (slice_cmp nat_cmp (string_bytes (slice_index_or js m d).template.file) n) ≡ false
-  pub behind : (d : Judged) → k < length js → is_gt (slice_cmp nat_cmp (string_bytes (slice_index_or js k d).template.file) n) ≡ true
+  pub following : (d : Judged) → k < length js → is_gt (slice_cmp nat_cmp (string_bytes (slice_index_or js k d).template.file) n) ≡ true
 
 -- these are the names of the components that the tree of the template defines and calls; of one without a tree none are
 -- asked for
@@ -73,12 +73,12 @@ pub record IsAnew (name text : List ℕ) (j : Judged) : Type 0 where
   pub texted : j.text ≡ text
   pub whole : IsWhole j
   pub stale : j.stale ≡ true
-  pub untold : told_of j ≡ []
+  pub unreported : reported_of j ≡ []
 
--- what was told of the document of a number is as it would be found now, unless it is stale
+-- what was reported for the document of a number is as it would be found now, unless it is stale
 abbrev pub IsCurrent : Encoding → List Judged → ℕ → Judged → Type 0
 IsCurrent e js number j =
-    j.stale ≡ false → IsTold e (sources_of js) (templates_of js) number j.text j.template (told_of j)
+    j.stale ≡ false → IsReported e (sources_of js) (templates_of js) number j.text j.template (reported_of j)
 
 -- so it is with each
 abbrev pub AllWhole : List Judged → Type 0
@@ -89,16 +89,16 @@ AreCurrent e js = (k : ℕ) (d : Judged) → k < length js → IsCurrent e js k 
 
 -- ---- what is marked when components of some names, and the places in a file, are others than they were
 
--- a place in the file was told of a finding, and of a document
+-- a place in the file was reported for a finding, and of a document
 abbrev pub is_about : List ℕ → Diagnostic → Bool
 is_about file d = list_any (λ r. bytes_eq (string_bytes r.file) file) d.related.items
 
-abbrev pub is_told_in : List ℕ → Judged → Bool
-is_told_in file j = list_any (is_about file) j.told.items
+abbrev pub is_reported_in : List ℕ → Judged → Bool
+is_reported_in file j = list_any (is_about file) j.reported.items
 
 abbrev pub marked : List (List ℕ) → List ℕ → Judged → Judged
 marked touched file j =
-    record j { stale = if list_any (λ n. is_among n (map string_bytes j.names.items)) touched || is_told_in file j then true else j.stale }
+    record j { stale = if list_any (λ n. is_among n (map string_bytes j.names.items)) touched || is_reported_in file j then true else j.stale }
 
 -- all of them, if these differ: whether one may define more components than its tree, before and now
 abbrev pub made_stale : Judged → Judged
@@ -111,8 +111,8 @@ marked_if true false js = map made_stale js
 marked_if false true js = map made_stale js
 
 -- the names have all by which the documents are judged that are stale
-abbrev pub WantsAll : BTreeSet (Bor (List ℕ)) → List Judged → Type 0
-WantsAll wanted js = AllByRecursion (λ j. j.stale ≡ true → (n : List ℕ) → is_among n (map string_bytes j.names.items) ≡ true → contains_name wanted n ≡ true) js
+abbrev pub NeedsAll : BTreeSet (Bor (List ℕ)) → List Judged → Type 0
+NeedsAll needed js = AllByRecursion (λ j. j.stale ≡ true → (n : List ℕ) → is_among n (map string_bytes j.names.items) ≡ true → contains_name needed n ≡ true) js
 
 -- ---- what stays so, whatever is read
 
@@ -120,7 +120,7 @@ pub record StayKept (old now : List Judged) : Type 0 where
   pub whole : AllWhole old → AllWhole now
   pub current : (e : Encoding) → AllWhole old → AreCurrent e old → AreCurrent e now
   pub ordered : AreAscending (sources_of old) → AreAscending (sources_of now)
-  pub told : (n : List ℕ) → told_named n now ≡ told_named n old
+  pub reported : (n : List ℕ) → reported_named n now ≡ reported_named n old
 
 -- and the text of a name is this one
 abbrev pub IsTextAt : List ℕ → List ℕ → List Judged → List Judged → Type 0

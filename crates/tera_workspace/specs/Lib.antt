@@ -7,5 +7,5 @@ pub mod Heads
 pub mod Kept
 pub mod Names
 pub mod Sources
-pub mod Told
+pub mod Reported
 pub mod Workspaces

@@ -1,17 +1,17 @@
--- What a workspace has, and when what it told is as it would be found afresh.
+-- What a workspace has, and when what it reported is as it would be found again.
 use Rattle.std.specs.Prelude.{◌≡◌, ◌≢◌, ℕ, List, [], true, false, map, string_bytes, unwrap_or}
 use Rattle.text_edits.specs.Documents.{text_of}
 use Rattle.text_edits.specs.Stored.{document_of}
 use Rattle.tera_workspace.specs.Diagnostics.{DiagnosticVal}
 use Rattle.tera_workspace.specs.Fresh.{AreFresh}
-use Rattle.tera_workspace.specs.Kept.{sources_of, told_named, AllWhole, AreCurrent}
+use Rattle.tera_workspace.specs.Kept.{sources_of, reported_named, AllWhole, AreCurrent}
 use Rattle.tera_workspace.specs.Names.{is_among}
 use Rattle.tera_workspace.specs.Sources.{Source, AreInOrder, AreSources, AreAscending, text_named}
 use Rattle.tera_workspace.specs.declared.workspace.Workspace.{Workspace}
 
--- what was told last of the document of a name
-abbrev pub told_of_name : Workspace → List ℕ → List DiagnosticVal
-told_of_name w n = told_named n w.judged.items
+-- what was reported last of the document of a name
+abbrev pub reported_of_name : Workspace → List ℕ → List DiagnosticVal
+reported_of_name w n = reported_named n w.judged.items
 
 -- what is so of each workspace
 pub record IsKept (w : Workspace) : Type 0 where
@@ -20,14 +20,15 @@ pub record IsKept (w : Workspace) : Type 0 where
   pub current : AreCurrent w.encoding w.judged.items
   pub texts : (n : List ℕ) → is_among n (map string_bytes w.changed.items) ≡ false → text_named n (sources_of w.judged.items) ≡ unwrap_or (text_of (document_of w.documents n)) []
 
--- what was told is what is found afresh in the documents as they are, wherever that is computed, and of others nothing
+-- what was reported is what is found again in the documents as they are, wherever that is computed, and of others
+-- nothing
 pub record IsSettled (w : Workspace) : Type 0 where
   pub sources : List Source
   pub are : AreSources w.documents sources
-  pub fresh : AreFresh w.encoding sources (told_of_name w)
-  pub others : (n : List ℕ) → is_among n (map (λ s. s.name) sources) ≡ false → told_of_name w n ≡ []
+  pub fresh : AreFresh w.encoding sources (reported_of_name w)
+  pub others : (n : List ℕ) → is_among n (map (λ s. s.name) sources) ≡ false → reported_of_name w n ≡ []
 
--- in their order, the names under which another list is told now than before
+-- in their order, the names under which another list is reported now than before
 pub record AreOthers (names : List (List ℕ)) (before now : List ℕ → List DiagnosticVal) : Type 0 where
   pub ordered : AreInOrder names
   pub others : (n : List ℕ) → is_among n names ≡ true → now n ≢ before n

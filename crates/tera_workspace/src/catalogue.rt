@@ -30,14 +30,14 @@ pub(crate) fn first_known<'a>(all: &'a Vec<Judged>, name: &str) -> Option<Known<
 pub(crate) fn catalogue_for<'a>(
     alloc: Global,
     all: &'a Vec<Judged>,
-    wanted: &BTreeSet<&str>,
+    needed: &BTreeSet<&str>,
 ) -> Result<Catalogue<'a>, AllocError>
-    ensures { IfOk result (λ c. (n : List ℕ) → contains_name wanted.now n ≡ true →
+    ensures { IfOk result (λ c. (n : List ℕ) → contains_name needed.now n ≡ true →
         known_in c n ≡ first_named n (defined_by 0 (templates_of all.now.items))) }
 {
     let mut catalogue = BTreeMap::new(alloc);
     for (number, judged) in all.iter().enumerate() {
-        add_template(&mut catalogue, wanted, number, &judged.template)?;
+        add_template(&mut catalogue, needed, number, &judged.template)?;
     }
     Ok(catalogue)
 }
@@ -45,16 +45,16 @@ pub(crate) fn catalogue_for<'a>(
 // Adds the components of these names that the template defines, unless there is one of the name.
 fn add_template<'a>(
     catalogue: &mut Catalogue<'a>,
-    wanted: &BTreeSet<&str>,
+    needed: &BTreeSet<&str>,
     number: usize,
     template: &'a Template,
 ) -> Result<(), AllocError>
-    ensures { OnOk result ((n : List ℕ) → contains_name wanted.now n ≡ true → known_in catalogue.new n
+    ensures { OnOk result ((n : List ℕ) → contains_name needed.now n ≡ true → known_in catalogue.new n
         ≡ or_else (known_in catalogue.old n) (first_named n (defined_in number template.now))) }
 {
     for (at, definition) in definitions_of(template).iter().enumerate() {
         let name = definition.name.as_str();
-        if wanted.contains(name) && !catalogue.contains_key(name) {
+        if needed.contains(name) && !catalogue.contains_key(name) {
             let known = known_at(number, template, at, definition);
             catalogue.insert(definition.name.clone()?, known)?;
         }

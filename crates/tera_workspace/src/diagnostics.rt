@@ -2,7 +2,7 @@
 
 ghost use Rattle.std.specs.Prelude.{◌≡◌, IfOk, map};
 ghost use Rattle.tera_check.specs.Findings.{finding_view, note_view};
-ghost use Rattle.tera_workspace.specs.Diagnostics.{diagnostic_view, related_view, diagnostic_of, related_of as told_of_note, position_in};
+ghost use Rattle.tera_workspace.specs.Diagnostics.{diagnostic_view, related_view, diagnostic_of, related_of as reported_of_note, position_in};
 ghost use Rattle.tera_workspace.specs.Kept.{sources_of};
 ghost use Rattle.tera_workspace.specs.Sources.{text_named};
 
@@ -31,7 +31,7 @@ pub struct Related {
     pub message: String,
 }
 
-/// What is told of findings in a document, which stands among all.
+/// What is reported for findings in a document, which is among all.
 pub(crate) fn diagnostics_of(
     alloc: Global,
     encoding: Encoding,
@@ -65,7 +65,7 @@ fn related_of(
     notes: Vec<Note>,
 ) -> Result<Vec<Related>, AllocError>
     ensures { IfOk result (λ v. map related_view v.items
-        ≡ map (told_of_note encoding (sources_of all.now.items)) (map note_view notes.items)) }
+        ≡ map (reported_of_note encoding (sources_of all.now.items)) (map note_view notes.items)) }
 {
     let mut related = Vec::new(alloc);
     for note in notes {

@@ -19,20 +19,20 @@ use tera_parser::value::Spanned;
 /// How many faults of a document are reported at the most.
 const MOST_FAULTS: usize = 100;
 
-/// A document: the text that was read, and what was told of it.
+/// A document: the text that was read, and what was reported for it.
 #[derive(Drop)]
 pub(crate) struct Judged {
     pub(crate) text: LinedText,
     pub(crate) template: Template,
     // Of the components that it defines and calls, in their order.
     pub(crate) names: Vec<String>,
-    // Whether other findings may be in it than those that were told.
+    // Whether other findings may be in it than those that were reported.
     pub(crate) stale: bool,
-    pub(crate) told: Vec<Diagnostic>,
+    pub(crate) reported: Vec<Diagnostic>,
 }
 
 impl Judged {
-    /// The document of this name and text, of which nothing was told.
+    /// The document of this name and text, of which nothing was reported.
     pub(crate) fn read(alloc: Global, name: &str, text: &str) -> Result<Judged, AllocError>
         ensures { IfOk result (IsAnew name.now text.now) }
     {
@@ -44,7 +44,7 @@ impl Judged {
             template,
             names,
             stale: true,
-            told: Vec::new(alloc),
+            reported: Vec::new(alloc),
         })
     }
 }
@@ -106,7 +106,7 @@ fn push_called(
     Ok(())
 }
 
-/// Where the document of this name stands.
+/// Where the document of this name is.
 pub(crate) fn number_of(all: &Vec<Judged>, name: &str) -> Option<usize>
     ensures { MatchOption result (NoneBefore name.now all.now.items (length all.now.items))
         (IsNumbered name.now all.now.items) }

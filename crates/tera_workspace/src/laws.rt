@@ -13,8 +13,8 @@ ghost use Rattle.tera_workspace.specs.Definitions.{DefinitionVal, definition_of_
 ghost use Rattle.tera_workspace.specs.Kept.{sources_of, templates_of};
 ghost use Rattle.tera_workspace.specs.declared.workspace.Workspace.{Workspace};
 
-/// Where nothing that is found in a tree tells a place in a file, it is the same by what is known alike under the names
-/// that the tree defines and calls, but for the spans of components in that file.
+/// Where nothing that is found in a tree says a place in a file, it is the same by what is known alike under the names
+/// that the tree defines and calls, except the spans of components in that file.
 pub fn beside()
     ensures { (known others : List ℕ → Option KnownVal) (file : List ℕ) (number : ℕ)
         (t : Template) (o : Output) → AgreeBut (names_in o) file number known others →
@@ -22,7 +22,7 @@ pub fn beside()
         tree_findings known number t o ≡ tree_findings others number t o }
 {}
 
-/// The place that is told of a component is one of a definition of this component, in a document that was read.
+/// The place that is reported for a component is one of a definition of this component, in a document that was read.
 pub fn definitions_define()
     ensures { (w : Workspace) (n : List ℕ) (d : DefinitionVal) → definition_of_name w n ≡ Some d →
         (t : Template) × Contains (templates_of w.judged.items) t
@@ -35,7 +35,7 @@ pub fn components_are_defined()
         (d : DefinitionVal) × (definition_of_name w n ≡ Some d) }
 {}
 
-/// The parameters that are told of a component are those of a definition of this component, in a document that was
+/// The parameters that are reported for a component are those of a definition of this component, in a document that was
 /// read.
 pub fn parameters_are_defined()
     ensures { (w : Workspace) (n p : List ℕ) → Contains (parameters_of_name w n) p →

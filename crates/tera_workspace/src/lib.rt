@@ -1,17 +1,14 @@
-//! The findings of templates that are open in an editor or stand on disk, kept while they change.
+//! The findings in templates that an editor has open or that are on disk, kept up to date while they change.
 //!
-//! It takes documents as `text_edits` keeps them, and tells what `tera_check` finds in each, with positions of
-//! `text_edits` in the place of spans. After an edit the document is read again, unless it has the text that was judged;
-//! judged again are it and those that name a component that may be another now, or that were told a place in it. All are
-//! judged again where a document may define more components than its tree now and none could before, or the other way
-//! round.
+//! It takes documents as `text_edits` keeps them, and reports what `tera_check` finds in each, with positions of
+//! `text_edits` in place of spans. After an edit the document is read again, unless it has the text that was checked.
+//! Checked again are the document, the documents that name a component that may be another one now, and those that have
+//! a finding with a place in it. It also has the components and the files that there are, the parameters of a
+//! component, where it is defined, and the texts that were read.
 //!
-//! It tells which components and files there are, which parameters a component has and where it is defined, and which texts
-//! it has read, too.
-//!
-//! In the order of reading: specs `Sources`, `Diagnostics`, `Fresh`, `Workspaces`; `lined_text` and `diagnostics`; `judged`, a
-//! document as it was judged; `reading`, and `touched`, what a new text changes for others; `catalogue`; `news`; specs `Components` and
-//! `Definitions`; `workspace`; `queries`.
+//! In the order of reading: specs `Sources`, `Diagnostics`, `Fresh`, `Workspaces`; `lined_text` and `diagnostics`;
+//! `judged`, a document as it was judged; `reading`, and `touched`, what a new text changes for others; `catalogue`;
+//! `news`; specs `Components` and `Definitions`; `workspace`; `queries`.
 #![tactic(auto)]
 
 mod catalogue;

@@ -1,12 +1,12 @@
-//! What is to be told of documents.
+//! What is to be reported for documents.
 
 ghost use Rattle.std.specs.Prelude.{◌≡◌, ℕ, List, true, IfOk, length, map, string_bytes};
 ghost use Rattle.std.specs.Bool.{Decides};
 ghost use Rattle.tera_check.specs.Lost.{are_open};
 ghost use Rattle.tera_check.specs.Named.{known_in, first_named, defined_by};
-ghost use Rattle.tera_workspace.specs.Kept.{IsWhole, AllWhole, WantsAll, templates_of, told_of};
+ghost use Rattle.tera_workspace.specs.Kept.{IsWhole, AllWhole, NeedsAll, templates_of, reported_of};
 ghost use Rattle.tera_workspace.specs.Names.{is_among};
-ghost use Rattle.tera_workspace.specs.Told.{IsNews, AreNews, AreOfOthers, told_one, told_each};
+ghost use Rattle.tera_workspace.specs.Reported.{IsNews, AreNews, AreOfOthers, reported_one, reported_each};
 
 use crate::catalogue::catalogue_for;
 use crate::diagnostics::{Diagnostic, diagnostics_of};
@@ -16,7 +16,7 @@ use std::collections::BTreeSet;
 use tera_check::{Catalogue, findings_of};
 use text_edits::Encoding;
 
-/// What is to be told of each document: of one that is stale, what is found in it now.
+/// What is to be reported for each document: of one that is stale, what is found in it now.
 pub(crate) fn news_of(
     alloc: Global,
     encoding: Encoding,
@@ -25,8 +25,8 @@ pub(crate) fn news_of(
     ensures as_many { IfOk result (λ v. length v.items ≡ length all.now.items) }
     ensures news { AllWhole all.now.items → IfOk result (λ v. AreNews encoding all.now.items v.items) }
 {
-    let wanted = wanted_of(alloc, all)?;
-    let catalogue = catalogue_for(alloc, all, &wanted)?;
+    let needed = needed_of(alloc, all)?;
+    let catalogue = catalogue_for(alloc, all, &needed)?;
     let is_open = are_open(all);
     let mut news = Vec::new(alloc);
     for (number, judged) in all.iter().enumerate() {
@@ -59,21 +59,21 @@ fn news_of_one(
 }
 
 // The names of the components by which those are judged that are stale.
-fn wanted_of(alloc: Global, all: &Vec<Judged>) -> Result<BTreeSet<&str>, AllocError>
-    ensures { IfOk result (λ s. WantsAll s all.now.items) }
+fn needed_of(alloc: Global, all: &Vec<Judged>) -> Result<BTreeSet<&str>, AllocError>
+    ensures { IfOk result (λ s. NeedsAll s all.now.items) }
 {
-    let mut wanted = BTreeSet::new(alloc);
+    let mut needed = BTreeSet::new(alloc);
     for judged in all {
         if judged.stale {
             for name in &judged.names {
-                wanted.insert(name.as_str())?;
+                needed.insert(name.as_str())?;
             }
         }
     }
-    Ok(wanted)
+    Ok(needed)
 }
 
-/// The names of the documents of which other findings are to be told than were told, in their order.
+/// The names of the documents of which other findings are to be reported than were reported, in their order.
 pub(crate) fn names_of(
     alloc: Global,
     all: &Vec<Judged>,
@@ -84,33 +84,33 @@ pub(crate) fn names_of(
 {
     let mut names = Vec::new(alloc);
     for (number, judged) in all.iter().enumerate() {
-        if !is_told_already(judged, &news[number]) {
+        if !is_reported_already(judged, &news[number]) {
             names.push(judged.template.file.clone()?)?;
         }
     }
     Ok(names)
 }
 
-// Whether what is to be told of the document is what was told.
-fn is_told_already(judged: &Judged, news: &Option<Vec<Diagnostic>>) -> bool
-    ensures { Decides result (told_of (told_one judged.now news.now) ≡ told_of judged.now) }
+// Whether what is to be reported for the document is what was reported.
+fn is_reported_already(judged: &Judged, news: &Option<Vec<Diagnostic>>) -> bool
+    ensures { Decides result (reported_of (reported_one judged.now news.now) ≡ reported_of judged.now) }
 {
     match news {
-        Some(diagnostics) => *diagnostics == judged.told,
+        Some(diagnostics) => *diagnostics == judged.reported,
         None => true,
     }
 }
 
-/// Tells it.
-pub(crate) fn tell(all: &mut Vec<Judged>, news: Vec<Option<Vec<Diagnostic>>>)
+/// Reports it.
+pub(crate) fn report(all: &mut Vec<Judged>, news: Vec<Option<Vec<Diagnostic>>>)
     requires { length news.items ≡ length all.old.items }
-    ensures { all.new.items ≡ told_each all.old.items news.items }
+    ensures { all.new.items ≡ reported_each all.old.items news.items }
 {
     let mut news = news;
     for number in 0..all.len() {
         if let Some(diagnostics) = news[number].take() {
             let judged = &mut all[number];
-            judged.told = diagnostics;
+            judged.reported = diagnostics;
             judged.stale = false;
         }
     }

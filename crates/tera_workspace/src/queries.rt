@@ -12,7 +12,7 @@ use crate::workspace::Workspace;
 use std::alloc::{AllocError, Global};
 use text_edits::Position;
 
-/// Where a component is defined: a file, and the part of its text in which its name stands, of `ui.button` the `button`.
+/// Where a component is defined: a file, and the part of its text in which its name is, of `ui.button` the `button`.
 #[derive(Debug, Drop, PartialEq, Eq)]
 pub struct Definition {
     pub file: String,

@@ -65,13 +65,13 @@ fn replace(
     let touched = touched_names(alloc, &all[number].template, &judged.template)?;
     let was_open = are_open(all);
     mark(all, &touched, name);
-    mem::swap(&mut judged.told, &mut all[number].told);
+    mem::swap(&mut judged.reported, &mut all[number].reported);
     all[number] = judged;
     mark_if_opened(all, was_open);
     Ok(())
 }
 
-// Where it stands in the order of the names. The numbers of those behind it are others then.
+// Where it is in the order of the names. The numbers of those after it are others then.
 fn insert(
     alloc: Global,
     all: &mut Vec<Judged>,

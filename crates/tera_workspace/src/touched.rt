@@ -6,7 +6,7 @@ ghost use Rattle.tera_tree.specs.View.{definition_view};
 ghost use Rattle.tera_check.specs.Lost.{are_open};
 ghost use Rattle.tera_check.specs.Named.{definitions_of};
 ghost use Rattle.tera_workspace.specs.Heads.{definition_named, HaveOneHead, HaveOneHeadIfAny};
-ghost use Rattle.tera_workspace.specs.Kept.{is_told_in, made_stale, marked, marked_if, templates_of};
+ghost use Rattle.tera_workspace.specs.Kept.{is_reported_in, made_stale, marked, marked_if, templates_of};
 ghost use Rattle.tera_workspace.specs.Names.{is_among};
 
 use crate::judged::{Judged, are_open, definitions_of, push_defined};
@@ -37,7 +37,7 @@ pub(crate) fn touched_names(
     Ok(touched)
 }
 
-// Adds the names of those that stand at one number and are not called alike.
+// Adds the names of those that are at one number and are not called alike.
 fn push_others(
     touched: &mut Vec<String>,
     before: &[ComponentDefinition],
@@ -66,7 +66,7 @@ fn have_one_head(one: &ComponentDefinition, other: &ComponentDefinition) -> bool
         && one.rest_param_name == other.rest_param_name
 }
 
-/// Marks the documents that name one of these components, or were told a place in this file.
+/// Marks the documents that name one of these components, or have a finding with a place in this file.
 pub(crate) fn mark(all: &mut Vec<Judged>, touched: &Vec<String>, file: &str)
     ensures { all.new.items ≡ map (marked (map string_bytes touched.now.items) file.now) all.old.items }
 {
@@ -97,21 +97,21 @@ fn mark_all(all: &mut Vec<Judged>)
 
 fn is_touched(judged: &Judged, touched: &Vec<String>, file: &str) -> bool
     ensures { result ≡ (list_any (λ n. is_among n (map string_bytes judged.now.names.items))
-        (map string_bytes touched.now.items) || is_told_in file.now judged.now) }
+        (map string_bytes touched.now.items) || is_reported_in file.now judged.now) }
 {
     for name in touched {
         if judged.names.contains(name) {
             return true;
         }
     }
-    is_told_place_in(judged, file)
+    is_reported_place_in(judged, file)
 }
 
-// Whether a place in the file was told of the document.
-fn is_told_place_in(judged: &Judged, file: &str) -> bool
-    ensures { result ≡ is_told_in file.now judged.now }
+// Whether a place in the file was reported for the document.
+fn is_reported_place_in(judged: &Judged, file: &str) -> bool
+    ensures { result ≡ is_reported_in file.now judged.now }
 {
-    for diagnostic in &judged.told {
+    for diagnostic in &judged.reported {
         for related in &diagnostic.related {
             if related.file.as_str() == file {
                 return true;

@@ -1,4 +1,4 @@
-//! The documents, and what was told of them.
+//! The documents, and what was reported for them.
 
 ghost use Rattle.std.specs.Prelude.{◌≡◌, ℕ, List, [], IfOk, OnOk, OnErr, map, string_bytes};
 ghost use Rattle.std.specs.Option.{option_map, is_some};
@@ -7,18 +7,18 @@ ghost use Rattle.text_edits.specs.Edits.{change_view};
 ghost use Rattle.text_edits.specs.Stored.{document_of, IsChangedAt, AreSame};
 ghost use Rattle.tera_workspace.specs.Definitions.{AreRead};
 ghost use Rattle.tera_workspace.specs.Diagnostics.{diagnostic_view};
-ghost use Rattle.tera_workspace.specs.Workspaces.{told_of_name, IsKept, IsSettled, AreOthers};
+ghost use Rattle.tera_workspace.specs.Workspaces.{reported_of_name, IsKept, IsSettled, AreOthers};
 
 use crate::diagnostics::Diagnostic;
 use crate::judged::{Judged, number_of};
-use crate::news::{names_of, news_of, tell};
+use crate::news::{names_of, news_of, report};
 use crate::reading::read_changed;
 use std::alloc::{AllocError, Global};
 use text_edits::{Change, Documents, Encoding};
 
-/// Templates by the names of their files, and what was told of each.
+/// Templates by the names of their files, and what was reported for each.
 ///
-/// Of two components of one name that counts which stands in the first file by the order of the names.
+/// Of two components of one name that counts which is in the first file by the order of the names.
 #[derive(Drop)]
 pub struct Workspace {
     pub(crate) encoding: Encoding,
@@ -34,7 +34,7 @@ impl Workspace {
     pub fn new(alloc: Global, encoding: Encoding) -> Workspace
         ensures encoding { result.encoding ≡ encoding }
         ensures documents { (n : List ℕ) → document_of result.documents n ≡ no_document }
-        ensures told { (n : List ℕ) → told_of_name result n ≡ [] }
+        ensures reported { (n : List ℕ) → reported_of_name result n ≡ [] }
         ensures kept { IsKept result }
     {
         Workspace {
@@ -45,20 +45,20 @@ impl Workspace {
         }
     }
 
-    /// The editor has opened the file with this text. On want of memory nothing changes.
+    /// The editor has opened the file with this text. After an allocation failure nothing changes.
     pub fn open(&mut self, alloc: Global, name: &str, text: &str) -> Result<(), AllocError>
         ensures opened { OnOk result (IsChangedAt name.now (opened text.now) self.old.documents self.new.documents) }
         ensures err { OnErr result (AreSame self.old.documents self.new.documents) }
         ensures encoding { self.new.encoding ≡ self.old.encoding }
         ensures kept { IsKept self.old → IsKept self.new }
-        ensures told { (n : List ℕ) → told_of_name self.new n ≡ told_of_name self.old n }
+        ensures reported { (n : List ℕ) → reported_of_name self.new n ≡ reported_of_name self.old n }
     {
         self.changed.push(String::from_str(alloc, name)?)?;
         self.documents.open(alloc, name, text)
     }
 
-    /// The editor has made these changes, in order; the answer says whether it has the file open. On want of memory
-    /// nothing changes, so that the editor has another text from then on.
+    /// The editor has made these changes, in order; the answer says whether it has the file open. After an allocation
+    /// failure nothing changes, so that the editor has another text from then on.
     pub fn change(
         &mut self,
         alloc: Global,
@@ -71,44 +71,45 @@ impl Workspace {
         ensures err { OnErr result (AreSame self.old.documents self.new.documents) }
         ensures encoding { self.new.encoding ≡ self.old.encoding }
         ensures kept { IsKept self.old → IsKept self.new }
-        ensures told { (n : List ℕ) → told_of_name self.new n ≡ told_of_name self.old n }
+        ensures reported { (n : List ℕ) → reported_of_name self.new n ≡ reported_of_name self.old n }
     {
         self.changed.push(String::from_str(alloc, name)?)?;
         self.documents.change(alloc, self.encoding, name, changes)
     }
 
-    /// The editor has closed the file: what is on disk counts again, if anything is. On want of memory nothing changes.
+    /// The editor has closed the file: what is on disk counts again, if anything is. After an allocation failure
+    /// nothing changes.
     pub fn close(&mut self, alloc: Global, name: &str) -> Result<(), AllocError>
         ensures closed { OnOk result (IsChangedAt name.now closed self.old.documents self.new.documents) }
         ensures err { OnErr result (AreSame self.old.documents self.new.documents) }
         ensures encoding { self.new.encoding ≡ self.old.encoding }
         ensures kept { IsKept self.old → IsKept self.new }
-        ensures told { (n : List ℕ) → told_of_name self.new n ≡ told_of_name self.old n }
+        ensures reported { (n : List ℕ) → reported_of_name self.new n ≡ reported_of_name self.old n }
     {
         self.changed.push(String::from_str(alloc, name)?)?;
         self.documents.close(name);
         Ok(())
     }
 
-    /// This text is on disk now, which counts where the file is not open. On want of memory nothing changes.
+    /// This text is on disk now, which counts where the file is not open. After an allocation failure nothing changes.
     pub fn set_file(&mut self, alloc: Global, name: &str, text: &str) -> Result<(), AllocError>
         ensures written { OnOk result (IsChangedAt name.now (written text.now) self.old.documents self.new.documents) }
         ensures err { OnErr result (AreSame self.old.documents self.new.documents) }
         ensures encoding { self.new.encoding ≡ self.old.encoding }
         ensures kept { IsKept self.old → IsKept self.new }
-        ensures told { (n : List ℕ) → told_of_name self.new n ≡ told_of_name self.old n }
+        ensures reported { (n : List ℕ) → reported_of_name self.new n ≡ reported_of_name self.old n }
     {
         self.changed.push(String::from_str(alloc, name)?)?;
         self.documents.set_file(alloc, name, text)
     }
 
-    /// Nothing is on disk any more. On want of memory nothing changes.
+    /// Nothing is on disk any more. After an allocation failure nothing changes.
     pub fn remove_file(&mut self, alloc: Global, name: &str) -> Result<(), AllocError>
         ensures removed { OnOk result (IsChangedAt name.now removed self.old.documents self.new.documents) }
         ensures err { OnErr result (AreSame self.old.documents self.new.documents) }
         ensures encoding { self.new.encoding ≡ self.old.encoding }
         ensures kept { IsKept self.old → IsKept self.new }
-        ensures told { (n : List ℕ) → told_of_name self.new n ≡ told_of_name self.old n }
+        ensures reported { (n : List ℕ) → reported_of_name self.new n ≡ reported_of_name self.old n }
     {
         self.changed.push(String::from_str(alloc, name)?)?;
         self.documents.remove_file(name);
@@ -122,46 +123,46 @@ impl Workspace {
         self.documents.text(name)
     }
 
-    /// What was told of the file last.
-    pub fn told(&self, name: &str) -> &[Diagnostic]
-        ensures { map diagnostic_view result.now ≡ told_of_name self.now name.now }
+    /// What was reported for the file last.
+    pub fn reported(&self, name: &str) -> &[Diagnostic]
+        ensures { map diagnostic_view result.now ≡ reported_of_name self.now name.now }
     {
         match number_of(&self.judged, name) {
-            Some(number) => self.judged[number].told.as_slice(),
+            Some(number) => self.judged[number].reported.as_slice(),
             None => &[],
         }
     }
 
-    /// Reads the documents that changed, by which components, files and texts are told. What was told stays. On want of memory
-    /// some may be read.
+    /// Reads the documents that changed, by which components, files and texts are reported. What was reported stays.
+    /// After an allocation failure some may be read.
     pub fn read(&mut self, alloc: Global) -> Result<(), AllocError>
         ensures encoding { self.new.encoding ≡ self.old.encoding }
         ensures documents { AreSame self.old.documents self.new.documents }
         ensures read { IsKept self.old → OnOk result (AreRead self.new) }
         ensures kept { IsKept self.old → IsKept self.new }
-        ensures told { (n : List ℕ) → told_of_name self.new n ≡ told_of_name self.old n }
+        ensures reported { (n : List ℕ) → reported_of_name self.new n ≡ reported_of_name self.old n }
     {
         read_changed(alloc, &self.documents, &self.changed, &mut self.judged)?;
         self.changed.clear();
         Ok(())
     }
 
-    /// Finds anew what the documents have that changed, and those whose findings may be others by that. The answer names
-    /// the documents whose findings are others than were told before, in the order of the names; from now on `told` has
-    /// them. On want of memory what was told stays.
+    /// Finds again what the documents have that changed, and those whose findings may be others by that. The answer
+    /// names the documents whose findings are others than were reported before, in the order of the names; from now on
+    /// `reported` has them. After an allocation failure what was reported stays.
     pub fn settle(&mut self, alloc: Global) -> Result<Vec<String>, AllocError>
         ensures encoding { self.new.encoding ≡ self.old.encoding }
         ensures documents { AreSame self.old.documents self.new.documents }
         ensures settled { IsKept self.old → OnOk result (IsSettled self.new) }
         ensures names { IsKept self.old → IfOk result (λ v.
-            AreOthers (map string_bytes v.items) (told_of_name self.old) (told_of_name self.new)) }
+            AreOthers (map string_bytes v.items) (reported_of_name self.old) (reported_of_name self.new)) }
         ensures kept { IsKept self.old → IsKept self.new }
-        ensures err { OnErr result ((n : List ℕ) → told_of_name self.new n ≡ told_of_name self.old n) }
+        ensures err { OnErr result ((n : List ℕ) → reported_of_name self.new n ≡ reported_of_name self.old n) }
     {
         self.read(alloc)?;
         let news = news_of(alloc, self.encoding, &self.judged)?;
         let names = names_of(alloc, &self.judged, &news)?;
-        tell(&mut self.judged, news);
+        report(&mut self.judged, news);
         Ok(names)
     }
 }

@@ -50,7 +50,7 @@ line_safe : (w : Window) → All IsSafe (shown_line w)
 line_safe w =
     All-append IsSafe (ellipsis w.left_out ++ shown w.before) _ (All-append IsSafe (ellipsis w.left_out) (shown w.before) (ellipsis_safe w.left_out) (shown_safe w.before))
     (All-append IsSafe (shown w.marked) _ (shown_safe w.marked)
-    (All-append IsSafe (shown w.behind) (ellipsis w.beyond) (shown_safe w.behind) (ellipsis_safe w.beyond)))
+    (All-append IsSafe (shown w.following) (ellipsis w.beyond) (shown_safe w.following) (ellipsis_safe w.beyond)))
 
 -- ---- bytes
 

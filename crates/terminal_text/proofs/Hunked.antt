@@ -33,7 +33,7 @@ fits_first (q ∷ qs) p e fits =
     let new : q.new + sum_by new_count (q ∷ qs) < 2 ^ 64 = subst (λ n. q.new + n < 2 ^ 64) (new_counted (q ∷ qs)) fits.1 in
     (subst (λ (r : Placed). r.old + sum_by old_count (q ∷ qs) < 2 ^ 64) is old, subst (λ (r : Placed). r.new + sum_by new_count (q ∷ qs) < 2 ^ 64) is new)
 
--- the first fits behind these edits
+-- the first fits after these edits
 abbrev FirstFits : List EditView → List (List PlacedView) → Type 0
 FirstFits before [] = Unit {0}
 FirstFits before (h ∷ hs) = (old_lines before + old_lines (edits_in h) < 2 ^ 64) × (new_lines before + new_lines (edits_in h) < 2 ^ 64)
@@ -128,7 +128,7 @@ pub on_ok : {T E P Q : Type 0} (r : Result T E) → (P → Q) → OnOk r P → O
 on_ok (Ok x) f h = f h
 on_ok (Err e) f h = h
 
--- the text of the next hunk, and of those behind it
+-- the text of the next hunk, and of those after it
 pub text_before : (text f : List ℕ) (hunk : List PlacedView) (style : Style) (more : List (List PlacedView)) → f ≡ hunk_text style hunk → (text ++ f) ++ flat_map (hunk_text style) more ≡ text ++ flat_map (hunk_text style) (hunk ∷ more)
 text_before text f hunk style more e =
     append_assoc text f (flat_map (hunk_text style) more) ∙ ap (λ l. text ++ (l ++ flat_map (hunk_text style) more)) e

@@ -19,7 +19,7 @@ use Rattle.terminal_text.specs.declared.excerpt.Marked.{Marked}
 use Rattle.terminal_text.specs.declared.style.Part.{Part}
 use Rattle.terminal_text.specs.declared.style.Style.TheVariants.{Plain}
 
--- a character of ASCII that is no control character takes one column
+-- a character of ASCII that is not a control character takes one column
 plain_width : (c : ℕ) → IsPlain c → width c ≡ 1
 unfolding char_width
 plain_width c is =

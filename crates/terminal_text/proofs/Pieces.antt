@@ -1,4 +1,4 @@
--- The pieces of a line that are written one behind another.
+-- The pieces of a line that are written one after another.
 use Rattle.std.proofs.Common.{◌≡◌, ◌<◌, ℕ, List, [], ◌∷◌, ◌++◌, length, chars, encode_utf8_all, IsUtf8, refl, ap, ◌∙◌, arith, append_assoc}
 use Rattle.std.proofs.lemmas.List.{nil_from_length}
 use Rattle.std.proofs.lemmas.Str.{chars-nil, encodes-chars, encodes-append}

@@ -46,7 +46,7 @@ edit_before (a ∷ c ∷ cs) (b ∷ d ∷ ds) o n more rest e h same =
     ap (λ t. cond t (SameLine a ∷ edits_of (c ∷ (cs ++ o ∷ more)) (d ∷ (ds ++ n ∷ rest))) (with_other a b (edits_of (c ∷ (cs ++ o ∷ more)) (d ∷ (ds ++ n ∷ rest))))) h.0
     ∙ ap (with_other a b) (edit_before (c ∷ cs) (d ∷ ds) o n more rest (omega arith) h.1 same)
 
--- what stands from one element on, up to a later one
+-- what is from one element on, up to a later one
 pub parted : {A : Type 0} (xs : List A) (start at : ℕ) (x d : A) → start ≤ at → at < length xs → get_or xs at d ≡ x → drop start xs ≡ take (at - start) (drop start xs) ++ x ∷ drop (at + 1) xs
 parted xs start at x d order within is =
     let m : start + (at - start) ≡ at = omega arith in

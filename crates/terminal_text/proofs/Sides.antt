@@ -38,7 +38,7 @@ new_sides [] (n ∷ ns) = append-nil (n ∷ ns)
 new_sides (o ∷ os) [] = refl
 new_sides (o ∷ os) (n ∷ ns) = new_either (bytes_eq o n) o n (edits_of os ns) (bytes_eq-Decides o n).0 ∙ ap (λ l. n ∷ l) (new_sides os ns)
 
--- so as many lines stand in them
+-- so as many lines are in them
 pub old_count_is : (os ns : List (List ℕ)) → old_lines (edits_of os ns) ≡ length os
 old_count_is os ns = sym (length-flat_map old_side (edits_of os ns)) ∙ ap length (old_sides os ns)
 

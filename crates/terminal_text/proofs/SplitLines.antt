@@ -23,7 +23,7 @@ lacks : (bs : List ℕ) → ((i : ℕ) → i < length bs → get_or bs i 0 ≢ 1
 lacks [] h = tt
 lacks (b ∷ bs) h = (other_byte b (h 0 (omega arith)), lacks bs (λ i p. h (suc i) (omega arith)))
 
--- a line is what stands before a line feed, with that
+-- a line is what is before a line feed, with that
 pub line_before : (front rest : List ℕ) → Lacks front → lines_of (front ++ 10 ∷ rest) ≡ (front ++ 10 ∷ []) ∷ lines_of rest
 line_before [] rest h = refl
 line_before (b ∷ bs) rest h =

@@ -40,8 +40,8 @@ is_window line m =
     let from : List ℕ = drop (start - first) part in
     let width = unwrap_or m.end (length line) - start in
     let w = window_of line m in
-    let marked : w.marked ++ w.behind ≡ from = take-append-drop width from in
-    let shown : w.before ++ (w.marked ++ w.behind) ≡ part
+    let marked : w.marked ++ w.following ≡ from = take-append-drop width from in
+    let shown : w.before ++ (w.marked ++ w.following) ≡ part
     = ap (λ l. w.before ++ l) marked ∙ take-append-drop (start - first) part in
     let l1 : length (drop first line) ≡ length line - first = length-drop first line in
     let l2 : length part ≡ min 120 (length (drop first line)) = length-take 120 (drop first line) in
@@ -52,7 +52,7 @@ is_window line m =
     let l7 : length w.marked ≡ min width (length from) = length-take width from in
     let i1 : start ≡ min m.start (length line) = refl in
     let i2 : first ≡ min (start - 60) (length line - 120) = refl in record {
-      whole = ap (λ l. w.left_out ++ l) (regrouped w.before w.marked w.behind w.beyond ∙ ap (λ l. l ++ w.beyond) shown ∙ take-append-drop 120 (drop first line))
+      whole = ap (λ l. w.left_out ++ l) (regrouped w.before w.marked w.following w.beyond ∙ ap (λ l. l ++ w.beyond) shown ∙ take-append-drop 120 (drop first line))
           ∙ take-append-drop first line;
       begin = omega (arith, l1, l2, l4, l5, l6, i1, i2);
       long = l7 ∙ ap (λ l. min width (length l)) (sym marked);
@@ -70,8 +70,8 @@ marked_short line m =
     let l3 : length (take width from) ≡ min width (length from) = length-take width from in
     omega (arith, l1, l2, l3)
 
-pub behind_short : (line : List ℕ) (m : Marked) → length (window_of line m).behind ≤ 120
-behind_short line m =
+pub after_short : (line : List ℕ) (m : Marked) → length (window_of line m).following ≤ 120
+after_short line m =
     let part : List ℕ = take 120 (drop (first_in line m) line) in
     let from : List ℕ = drop (start_in line m - first_in line m) part in
     let width = unwrap_or m.end (length line) - start_in line m in
@@ -81,8 +81,8 @@ behind_short line m =
     omega (arith, l1, l2, l3)
 
 -- .. of a line that is there
-pub found_short : (line : Option (List ℕ)) (m : Marked) (w : Window) → Some w ≡ window_in line m → (length w.marked ≤ 120) × (length w.behind ≤ 120)
+pub found_short : (line : Option (List ℕ)) (m : Marked) (w : Window) → Some w ≡ window_in line m → (length w.marked ≤ 120) × (length w.following ≤ 120)
 found_short None m w is = absurd (none-some w (sym is))
 found_short (Some line) m w is =
     let same : w ≡ window_of (chars line) m = ap (λ o. unwrap_or o w) is in
-    (subst (λ (v : Window). length v.marked ≤ 120) (sym same) (marked_short (chars line) m), subst (λ (v : Window). length v.behind ≤ 120) (sym same) (behind_short (chars line) m))
+    (subst (λ (v : Window). length v.marked ≤ 120) (sym same) (marked_short (chars line) m), subst (λ (v : Window). length v.following ≤ 120) (sym same) (after_short (chars line) m))

@@ -38,22 +38,22 @@ has_end line = slice_index line (length line - 1) == 10
 abbrev pub without_end : List ℕ → List ℕ
 without_end line = if has_end line then take (length line - 1) line else line
 
--- what is printed behind it
+-- what is printed after it
 abbrev pub end_text : List ℕ → List ℕ
 end_text line = if has_end line then codes "\n" else codes "\n\\ No newline at end of file\n"
 
--- a line behind its sign
-abbrev pub told_line : Style → Part → List ℕ → List ℕ → List ℕ
-told_line style part sign line = styled style part (sign ++ without_end line) ++ end_text line
+-- a line after its sign
+abbrev pub signed_line : Style → Part → List ℕ → List ℕ → List ℕ
+signed_line style part sign line = styled style part (sign ++ without_end line) ++ end_text line
 
 -- the lines of an edit: one of both texts, or those of the old and then those of the new
 abbrev pub edit_text : Style → EditView → List ℕ
 edit_text style (SameLine line) = codes " " ++ (without_end line ++ end_text line)
 edit_text style (OtherLines old new) =
-    flat_map (told_line style Gone (codes "-")) old ++ flat_map (told_line style New (codes "+")) new
+    flat_map (signed_line style Gone (codes "-")) old ++ flat_map (signed_line style New (codes "+")) new
 
--- so many lines behind those before them: the number of the first, from 1, and how many, if not one; of none the number of
--- the line before
+-- so many lines after those before them: the number of the first, from 1, and how many, if not one; of none the number
+-- of the line before
 abbrev pub range_text : ℕ → ℕ → List ℕ
 range_text before count =
     if count == 0 then decimal before ++ codes ",0"

@@ -11,7 +11,7 @@ abbrev pub lines_of : List ℕ → List (List ℕ)
 lines_of [] = []
 lines_of (b ∷ bs) = if b == 10 then (b ∷ []) ∷ lines_of bs else onto_first b (lines_of bs)
 
--- what stands in the one text, and what in the other in its place: the same line, or lines and lines
+-- what is in the one text, and what in the other in its place: the same line, or lines and lines
 pub data EditView : Type 0 where
   SameLine : List ℕ → EditView
   OtherLines : List (List ℕ) → List (List ℕ) → EditView
@@ -32,7 +32,7 @@ abbrev pub new_side : EditView → List (List ℕ)
 new_side (SameLine line) = line ∷ []
 new_side (OtherLines old new) = new
 
--- edits before which a line stands in place of another
+-- edits before which a line is in place of another
 abbrev pub with_other : List ℕ → List ℕ → List EditView → List EditView
 with_other o n (OtherLines old new ∷ es) = OtherLines (o ∷ old) (n ∷ new) ∷ es
 with_other o n es = OtherLines (o ∷ []) (n ∷ []) ∷ es

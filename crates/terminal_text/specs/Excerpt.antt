@@ -7,16 +7,16 @@ use Rattle.terminal_text.specs.declared.style.Part.{Part}
 use Rattle.terminal_text.specs.declared.style.Part.TheVariants.{Frame}
 use Rattle.terminal_text.specs.declared.style.Style.{Style}
 
--- the characters of a line: those left out at its start, those shown before the mark, above it and behind it, and those
+-- the characters of a line: those left out at its start, those shown before the mark, above it and after it, and those
 -- left out at its end
 pub record Window : Type 0 where
   pub left_out : List ℕ
   pub before : List ℕ
   pub marked : List ℕ
-  pub behind : List ℕ
+  pub following : List ℕ
   pub beyond : List ℕ
 
--- the character at which the mark begins, behind the last where the line has none of that number
+-- the character at which the mark begins, after the last where the line has none of that number
 abbrev pub start_in : List ℕ → Marked → ℕ
 start_in line m = min m.start (length line)
 
@@ -36,7 +36,7 @@ window_of line m =
       left_out = take first line;
       before = take (start - first) shown_part;
       marked = take long from;
-      behind = drop long from;
+      following = drop long from;
       beyond = drop 120 (drop first line);
     }
 
@@ -49,16 +49,16 @@ abbrev pub shown_before : Window → List ℕ
 shown_before w = ellipsis w.left_out ++ shown w.before
 
 abbrev pub shown_line : Window → List ℕ
-shown_line w = shown_before w ++ (shown w.marked ++ (shown w.behind ++ ellipsis w.beyond))
+shown_line w = shown_before w ++ (shown w.marked ++ (shown w.following ++ ellipsis w.beyond))
 
--- what stands before a line and before its mark: a number, or none, in so many columns, and a bar
+-- what is before a line and before its mark: a number, or none, in so many columns, and a bar
 abbrev pub frame : ℕ → List ℕ → List ℕ
 frame digits number = replicate (digits - length number) 32 ++ (number ++ codes " | ")
 
 abbrev pub digits_of : ℕ → ℕ
 digits_of line = max (length (decimal line)) 5
 
--- the line of a mark: behind so many columns, below so many
+-- the line of a mark: after so many columns, below so many
 abbrev pub mark_line : Style → Part → ℕ → ℕ → ℕ → List ℕ
 mark_line style part digits before above =
     styled style Frame (frame digits []) ++ (replicate before 32 ++ (styled style part (replicate (max above 1) 94) ++ 10 ∷ []))

@@ -1,4 +1,4 @@
--- Which edits are shown: those that change lines, and those that stand around them. A hunk is as long a run of them as
+-- Which edits are shown: those that change lines, and those that are around them. A hunk is as long a run of them as
 -- there is.
 use Rattle.std.specs.Prelude.{◌-◌, ◌+◌, ◌^◌, ◌<◌, ◌++◌, ◌||◌, if◌then◌else◌, ℕ, Bool, true, false, not, List, [], ◌∷◌, length, map, take, drop, sum_by}
 use Rattle.std.specs.List.{list_any, slice_split}
@@ -9,7 +9,7 @@ abbrev pub changes : EditView → Bool
 changes (SameLine line) = false
 changes (OtherLines old new) = true
 
--- the first of the edits changes lines, or one of the three before it does, or one of the three behind it
+-- the first of the edits changes lines, or one of the three before it does, or one of the three after it
 abbrev pub is_shown : List EditView → List EditView → Bool
 is_shown before es = list_any changes (drop (length before - 3) before) || list_any changes (take 4 es)
 
@@ -20,7 +20,7 @@ old_lines es = sum_by (λ e. length (old_side e)) es
 abbrev pub new_lines : List EditView → ℕ
 new_lines es = sum_by (λ e. length (new_side e)) es
 
--- an edit, how many lines of the one text and of the other stand before it, and whether it is shown
+-- an edit, how many lines of the one text and of the other are before it, and whether it is shown
 pub record PlacedView : Type 0 where
   pub old : ℕ
   pub new : ℕ
@@ -30,7 +30,7 @@ pub record PlacedView : Type 0 where
 abbrev pub placed_view : Placed → PlacedView
 placed_view p = record { old = p.old; new = p.new; shown = p.shown; edit = edit_view p.edit }
 
--- the edits behind others, each where it stands
+-- the edits after others, each where it is
 abbrev pub placed_edits : List EditView → List EditView → List PlacedView
 placed_edits before [] = []
 placed_edits before (e ∷ es) =
@@ -41,7 +41,7 @@ placed_edits before (e ∷ es) =
       edit = e;
     } ∷ placed_edits (before ++ (e ∷ [])) es
 
--- what stands between edits that are not shown: hunks, and nothing
+-- what is between edits that are not shown: hunks, and nothing
 abbrev pub cut_hunks : List PlacedView → List (List PlacedView)
 cut_hunks ps = slice_split (λ p. not p.shown) ps
 

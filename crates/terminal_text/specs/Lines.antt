@@ -3,7 +3,7 @@ use Rattle.std.specs.List.{slice_split}
 use Rattle.std.specs.Prelude.{ℕ, get_or, zero, suc, ◌≡◌, ◌<◌, ◌*◌, ◌==◌, List, map, length, take, chars, encode_utf8_all, Option, None, Some, slice_get}
 use Rattle.std.specs.Str.Lines.{strip_carriage_return}
 
--- what stands between line feeds
+-- what is between line feeds
 abbrev pub parts : List ℕ → List (List ℕ)
 parts source = slice_split (λ b. b == 10) source
 

@@ -5,7 +5,7 @@ use Rattle.terminal_text.specs.declared.style.Part.TheVariants.{Error, Warning, 
 use Rattle.terminal_text.specs.declared.style.Style.{Style}
 use Rattle.terminal_text.specs.declared.style.Style.TheVariants.{Plain, Coloured}
 
--- an escape that sets how the text behind it is shown: colours, bold, or nothing of both
+-- an escape that sets how the text after it is shown: colours, bold, or nothing of both
 abbrev pub escape : List ℕ → List ℕ
 escape parameters = 27 ∷ (codes "[" ++ (parameters ++ codes "m"))
 

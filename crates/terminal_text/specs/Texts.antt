@@ -8,6 +8,6 @@ window_view t = record {
   left_out = chars t.left_out.now;
   before = chars t.before.now;
   marked = chars t.marked.now;
-  behind = chars t.behind.now;
+  following = chars t.following.now;
   beyond = chars t.beyond.now;
 }

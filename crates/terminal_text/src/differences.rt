@@ -2,7 +2,7 @@
 
 ghost use Rattle.std.specs.Prelude.{◌≡◌, ◌+◌, ◌<◌, ◌^◌, ◌++◌, map, sum_by, string_bytes, IfOk, OnOk};
 ghost use Rattle.std.specs.List.{flat_map, AllByRecursion};
-ghost use Rattle.terminal_text.specs.Differences.{difference_text, head_text, styled_line, name_text, is_special as is_special_byte, quoted_character, hunk_text, range_text, edit_text, told_line, without_end, end_text};
+ghost use Rattle.terminal_text.specs.Differences.{difference_text, head_text, styled_line, name_text, is_special as is_special_byte, quoted_character, hunk_text, range_text, edit_text, signed_line, without_end, end_text};
 ghost use Rattle.terminal_text.specs.Edits.{texts_of, edit_view};
 ghost use Rattle.terminal_text.specs.Hunks.{old_lines as all_old_lines, new_lines as all_new_lines, placed_view, cut_hunks, hunks_of, old_count, new_count, Fits};
 
@@ -11,11 +11,11 @@ use crate::hunks::{Placed, is_hidden, new_lines, old_lines, placed_of};
 use crate::style::{Part, Style};
 use std::alloc::{AllocError, Global};
 
-/// The difference of two texts in unified form, as `patch -p0` takes it: hunks with three lines around what differs; and
-/// nothing where the texts are the same. The lines are compared one by one, the first with the first, so a line that is
-/// put in makes all behind it differ: it is for texts that have as many lines, of which some are written in another way.
-/// The file is named as it is; in quotes, as C writes them, where it has a space, a quote, a backslash or a control
-/// character.
+/// The difference of two texts in unified form, as `patch -p0` takes it: hunks with three lines around what differs;
+/// and nothing where the texts are the same. The lines are compared one by one, the first with the first, so a line
+/// that is put in makes all after it differ: it is for texts that have as many lines, of which some are written in
+/// another way. The file is named as it is; in quotes, as C writes them, where it has a space, a quote, a backslash or
+/// a control character.
 pub fn difference(
     alloc: Global,
     style: Style,
@@ -172,7 +172,7 @@ fn lines_in(hunk: &[Placed<'_>]) -> (usize, usize)
     (old, new)
 }
 
-// So many lines behind those before them, by the number of the first.
+// So many lines after those before them, by the number of the first.
 fn range_of(alloc: Global, before: usize, count: usize) -> Result<String, AllocError>
     requires { before + count < 2 ^ 64 }
     ensures { IfOk result (λ t. string_bytes t ≡ range_text before count) }
@@ -216,7 +216,7 @@ fn push_lines(
     lines: &[&str],
 ) -> Result<(), AllocError>
     ensures { OnOk result (string_bytes text.new
-        ≡ string_bytes text.old ++ flat_map (told_line style part sign.now) (texts_of lines.now)) }
+        ≡ string_bytes text.old ++ flat_map (signed_line style part sign.now) (texts_of lines.now)) }
 {
     'lines: for line in lines {
         push_line(alloc, text, style, part, sign, line)?;
@@ -224,7 +224,7 @@ fn push_lines(
     Ok(())
 }
 
-// The line behind its sign, in the colour of the part.
+// The line after its sign, in the colour of the part.
 fn push_line(
     alloc: Global,
     text: &mut String,
@@ -234,7 +234,7 @@ fn push_line(
     line: &str,
 ) -> Result<(), AllocError>
     ensures { OnOk result (string_bytes text.new
-        ≡ string_bytes text.old ++ told_line style part sign.now line.now) }
+        ≡ string_bytes text.old ++ signed_line style part sign.now line.now) }
 {
     let (body, end) = parts_of(line);
     let signed = format!(in alloc; "{sign}{body}")?;
@@ -242,7 +242,7 @@ fn push_line(
     text.push_str(end)
 }
 
-// The line less the line feed that ends it, and what is printed behind it.
+// The line less the line feed that ends it, and what is printed after it.
 fn parts_of(line: &str) -> (&str, &str)
     ensures body { result.0.now ≡ without_end line.now }
     ensures end { result.1.now ≡ end_text line.now }

@@ -5,7 +5,7 @@ ghost use Rattle.terminal_text.specs.Edits.{SameLine, texts_of, edit_view, lines
 
 use std::alloc::{AllocError, Global};
 
-/// What stands in the one text, and what in the other in its place.
+/// What is in the one text, and what in the other in its place.
 #[derive(Clone, Copy, Debug)]
 pub(crate) enum Edit<'a> {
     /// A line of both texts.

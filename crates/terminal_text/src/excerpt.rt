@@ -15,7 +15,7 @@ use crate::source::Sources;
 use crate::style::{Part, Style};
 use std::alloc::{AllocError, Global};
 
-// So many characters of a line are shown, and at most so many of them before the mark, if more stand behind it.
+// So many characters of a line are shown, and at most so many of them before the mark, if more come after it.
 const SHOWN: usize = 120;
 
 const BEFORE: usize = 60;
@@ -23,14 +23,14 @@ const BEFORE: usize = 60;
 // The number of the line takes so many columns at least.
 const DIGITS: usize = 5;
 
-/// What a mark stands below: characters of a line.
+/// What a mark is below, the characters of a line.
 #[derive(Clone, Copy, Debug)]
 pub struct Marked {
     /// The line, from 1.
     pub line: usize,
-    /// The first of them, from 0. Beyond the end of the line the mark stands behind its last character.
+    /// The first of them, from 0. Beyond the end of the line the mark comes after its last character.
     pub start: usize,
-    /// The first character behind them, from 0, or none, if they go to the end of the line.
+    /// The first character after them, from 0, or none, if they go to the end of the line.
     pub end: Option<usize>,
 }
 
@@ -67,7 +67,7 @@ fn push_marked(
 ) -> Result<(), AllocError>
     requires before { length (window_view window.now).before ≤ 120 }
     requires marked { length (window_view window.now).marked ≤ 120 }
-    requires behind { length (window_view window.now).behind ≤ 120 }
+    requires following { length (window_view window.now).following ≤ 120 }
     ensures { OnOk result (string_bytes to.new
         ≡ string_bytes to.old ++ window_text style part number (window_view window.now)) }
 {
@@ -80,7 +80,7 @@ fn push_marked(
     push_mark(alloc, to, style, part, digits, before, above)
 }
 
-// Adds the line of the mark, behind so many columns and below so many.
+// Adds the line of the mark, after so many columns and below so many.
 fn push_mark(
     alloc: Global,
     to: &mut String,
@@ -101,7 +101,7 @@ fn push_mark(
     to.push('\n')
 }
 
-// Adds what stands before a line and before its mark: the number, or nothing, in so many columns, and a bar.
+// Adds what is before a line and before its mark: the number, or nothing, in so many columns, and a bar.
 fn push_frame(
     alloc: Global,
     to: &mut String,
@@ -131,14 +131,14 @@ fn push_repeated(to: &mut String, character: char, count: usize) -> Result<(), A
     Ok(())
 }
 
-// The characters of a line: those left out at its start, those shown before the mark, above it and behind it, and those
+// The characters of a line: those left out at its start, those shown before the mark, above it and after it, and those
 // left out at its end.
 #[derive(Drop)]
 pub(crate) struct Window<'a> {
     left_out: &'a str,
     before: &'a str,
     marked: &'a str,
-    behind: &'a str,
+    following: &'a str,
     beyond: &'a str,
 }
 
@@ -156,22 +156,22 @@ impl<'a> Window<'a> {
         let (left_out, rest) = line.split(first);
         let (shown, beyond) = split_characters(rest, SHOWN);
         let (before, from) = split_characters(shown, start - first);
-        let (marked, behind) = split_characters(from, end.saturating_sub(start));
+        let (marked, following) = split_characters(from, end.saturating_sub(start));
         Window {
             left_out,
             before,
             marked,
-            behind,
+            following,
             beyond,
         }
     }
 }
 
-// Adds the line as it is shown, and answers how many columns stand before the mark, and how many above it.
+// Adds the line as it is shown, and answers how many columns are before the mark, and how many above it.
 fn push_window(to: &mut String, window: &Window<'_>) -> Result<(usize, usize), AllocError>
     requires before { length (window_view window.now).before ≤ 120 }
     requires marked { length (window_view window.now).marked ≤ 120 }
-    requires behind { length (window_view window.now).behind ≤ 120 }
+    requires following { length (window_view window.now).following ≤ 120 }
     ensures text { OnOk result (string_bytes to.new
         ≡ string_bytes to.old ++ encode_utf8_all (shown_line (window_view window.now))) }
     ensures columns { IfOk result (λ n. n ≡ (
@@ -182,7 +182,7 @@ fn push_window(to: &mut String, window: &Window<'_>) -> Result<(usize, usize), A
     let left_out = push_ellipsis(to, window.left_out)?;
     let before = left_out + push_shown(to, window.before)?;
     let above = push_shown(to, window.marked)?;
-    push_shown(to, window.behind)?;
+    push_shown(to, window.following)?;
     push_ellipsis(to, window.beyond)?;
     Ok((before, above))
 }

@@ -1,4 +1,4 @@
-//! Which edits are shown, and where they stand.
+//! Which edits are shown, and where they are.
 
 ghost use Rattle.std.specs.Prelude.{◌≡◌, ◌<◌, ◌^◌, [], not, length, map, take, drop, IfOk};
 ghost use Rattle.std.specs.List.{list_any};
@@ -11,19 +11,19 @@ use std::alloc::{AllocError, Global};
 // So many lines that are the same are shown around those that are not.
 const AROUND: usize = 3;
 
-/// An edit, and where it stands.
+/// An edit, and where it is.
 #[derive(Clone, Copy, Debug)]
 pub(crate) struct Placed<'a> {
-    /// So many lines of the old text stand before it.
+    /// So many lines of the old text are before it.
     pub(crate) old: usize,
     /// So many of the new one.
     pub(crate) new: usize,
-    /// Whether it stands in a hunk.
+    /// Whether it is in a hunk.
     pub(crate) shown: bool,
     pub(crate) edit: Edit<'a>,
 }
 
-// The edits, each where it stands.
+// The edits, each where it is.
 pub(crate) fn placed_of<'a>(
     alloc: Global,
     edits: &[Edit<'a>],
@@ -57,15 +57,15 @@ pub(crate) fn is_hidden(placed: Placed<'_>) -> bool
     !placed.shown
 }
 
-// Whether an edit that changes lines stands near the one at this place.
+// Whether an edit that changes lines is near the one at this place.
 fn is_shown(edits: &[Edit<'_>], at: usize) -> bool
     requires { at < length edits.now }
     ensures { result
         ≡ is_near (map edit_view (take at edits.now)) (map edit_view (drop at edits.now)) }
 {
-    let (before, behind) = edits.split_at(at);
+    let (before, following) = edits.split_at(at);
     has_change(&before[at.saturating_sub(AROUND)..])
-        || has_change(&behind[..(AROUND + 1).min(behind.len())])
+        || has_change(&following[..(AROUND + 1).min(following.len())])
 }
 
 fn has_change(edits: &[Edit<'_>]) -> bool

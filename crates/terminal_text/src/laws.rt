@@ -18,8 +18,8 @@ pub fn window()
     ensures { (line : List ℕ) (m : Marked) → IsWindow line m (window_of line m) }
 {}
 
-/// The mark stands behind as many columns as are shown before the characters that it marks, and takes as many as they
-/// do, but one at least.
+/// The mark comes after as many columns as are shown before the characters that it marks, and takes as many as they do,
+/// but one at least.
 pub fn mark_below()
     ensures { (part : Part) (m : Marked) (line : List ℕ) → m.line < 2 ^ 64 →
         IsMarkedBelow (excerpt Plain part m (Some line)) (window_of (chars line) m) }

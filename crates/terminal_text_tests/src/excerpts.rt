@@ -12,7 +12,7 @@ const BEHIND: &str = "    1 | {% if a\n      |        ^\n";
 const EXCERPTS: [(&str, usize, usize, Option<usize>, &str); 15] = [
     (LINES, 2, 3, Some(6), "    2 | {{ two }}\n      |    ^^^\n"),
     (LINES, 3, 2, None, "    3 | three\n      |   ^^^\n"),
-    // An empty line stands behind the last line feed.
+    // An empty line comes after the last line feed.
     (LINES, 4, 0, Some(0), "    4 | \n      | ^\n"),
     (LINES, 5, 0, Some(0), ""),
     (LINES, 0, 0, Some(0), ""),
@@ -99,9 +99,9 @@ fn excerpt_of(
 
 #[test]
 fn excerpts(rt: HostRuntime) -> Result<(), Fail> {
-    for (source, line, start, end, wanted) in &EXCERPTS {
+    for (source, line, start, end, expected) in &EXCERPTS {
         let text = excerpt_of(rt.alloc(), source, *line, *start, *end)?;
-        assert!(rt; text.as_str() == *wanted, "{text} for {wanted}");
+        assert!(rt; text.as_str() == *expected, "{text} for {expected}");
     }
     Ok(())
 }
@@ -145,7 +145,7 @@ fn other_files(rt: HostRuntime) -> Result<(), Fail> {
 const TENS: &str =
     "0123456789012345678901234567890123456789012345678901234567890123456789012345678901234567890123456789";
 
-// Where the mark starts and ends in a long line; what stands around the tens that are shown, and the mark's line.
+// Where the mark starts and ends in a long line; what is around the tens that are shown, and the mark's line.
 const LONG: [(usize, Option<usize>, &str, &str, usize, &str); 3] = [
     (0, Some(10), "", "01234567890123456789…", 0, "^^^^^^^^^^"),
     (65, Some(70), "…56789", "012345678901234…", 61, "^^^^^"),
@@ -155,14 +155,14 @@ const LONG: [(usize, Option<usize>, &str, &str, usize, &str); 3] = [
 #[test]
 fn long_lines(rt: HostRuntime) -> Result<(), Fail> {
     let line = format!(in rt.alloc(); "{TENS}012345678901234567890123456789end")?;
-    for (start, end, before, behind, columns, mark) in &LONG {
+    for (start, end, before, following, columns, mark) in &LONG {
         let text = excerpt_of(rt.alloc(), line.as_str(), 1, *start, *end)?;
         let columns = *columns;
-        let wanted = format!(in rt.alloc();
-            "    1 | {before}{TENS}{behind}\n      | {:columns$}{mark}\n",
+        let expected = format!(in rt.alloc();
+            "    1 | {before}{TENS}{following}\n      | {:columns$}{mark}\n",
             ""
         )?;
-        assert!(rt; text.as_str() == wanted.as_str(), "{text} for {wanted}");
+        assert!(rt; text.as_str() == expected.as_str(), "{text} for {expected}");
     }
     Ok(())
 }
@@ -175,7 +175,10 @@ fn long_line_of_wide_characters(rt: HostRuntime) -> Result<(), Fail> {
     let text = excerpt_of(rt.alloc(), line.as_str(), 1, 1000, Some(1001))?;
     let (before, after) = ("日".repeat(rt.alloc(), 60)?, "日".repeat(rt.alloc(), 59)?);
     let columns = 121;
-    let wanted = format!(in rt.alloc(); "    1 | …{before}x{after}…\n      | {:columns$}^\n", "")?;
-    assert!(rt; text.as_str() == wanted.as_str(), "{text} for {wanted}");
+    let expected = format!(in rt.alloc();
+        "    1 | …{before}x{after}…\n      | {:columns$}^\n",
+        ""
+    )?;
+    assert!(rt; text.as_str() == expected.as_str(), "{text} for {expected}");
     Ok(())
 }

@@ -11,8 +11,8 @@ fn one_line(rt: HostRuntime) -> Result<(), Fail> {
         &mut text,
         "a\r\nb\tc\u{1b}[0m \u{2067}ü\u{7f} \u{9b}\u{2028}日",
     )?;
-    let wanted = "a\\r\\nb\\tc\\u001b[0m \\u2067ü\\u007f \\u009b\\u2028日";
-    assert!(rt; text.as_str() == wanted, "{text}");
+    let expected = "a\\r\\nb\\tc\\u001b[0m \\u2067ü\\u007f \\u009b\\u2028日";
+    assert!(rt; text.as_str() == expected, "{text}");
     Ok(())
 }
 
@@ -50,13 +50,13 @@ fn colours(rt: HostRuntime) -> Result<(), Fail> {
 
 #[test]
 fn counts(rt: HostRuntime) -> Result<(), Fail> {
-    for (count, what, wanted) in &[
+    for (count, what, expected) in &[
         (0, "file", "0 files"),
         (1, "file", "1 file"),
         (12, "finding", "12 findings"),
     ] {
         let text = counted(rt.alloc(), *count, what)?;
-        assert!(rt; text.as_str() == *wanted, "{text}");
+        assert!(rt; text.as_str() == *expected, "{text}");
     }
     Ok(())
 }

@@ -5,10 +5,10 @@ use Rattle.std.proofs.lemmas.Bool.Decides.{leb_tells, eqb_tells}
 use Rattle.text_edits.specs.Positions.{is_boundary, boundary_to}
 
 -- of a byte that is the k-th of n
-test_tells : (k n x : ℕ)
+test_reports : (k n x : ℕ)
     → ((((k == n) || (nat_lt k n && (nat_lt x 128 || nat_le 192 x))) ≡ true) × ((k ≤ n) × (k < n → 128 ≤ x → 192 ≤ x)))
     ⊎ ((((k == n) || (nat_lt k n && (nat_lt x 128 || nat_le 192 x))) ≡ false) × ((k ≤ n) × (k < n → 128 ≤ x → 192 ≤ x) → ⊥))
-test_tells k n x = elim (eqb_tells k n) [
+test_reports k n x = elim (eqb_tells k n) [
   | inl same ↦ inl (rw same.0 refl, (omega (arith, same.1), λ h _. absurd (omega (arith, same.1, h))))
   | inr other ↦ elim (leb_tells (suc k) n) [
     | inr beyond ↦ inr (rw (other.0, beyond.0) refl, λ is. other.1 (omega (arith, is.0, beyond.1)))
@@ -22,13 +22,13 @@ test_tells k n x = elim (eqb_tells k n) [
   ]
 ]
 
-pub boundary_tells : (text : List ℕ) (k : ℕ) → ((is_boundary text k ≡ true) × IsCharBoundary text k) ⊎ ((is_boundary text k ≡ false) × (IsCharBoundary text k → ⊥))
-boundary_tells text k = test_tells k (length text) (get_or text k 0)
+pub boundary_reports : (text : List ℕ) (k : ℕ) → ((is_boundary text k ≡ true) × IsCharBoundary text k) ⊎ ((is_boundary text k ≡ false) × (IsCharBoundary text k → ⊥))
+boundary_reports text k = test_reports k (length text) (get_or text k 0)
 
 -- the last boundary up to a byte is found
 pub last_is : (text : List ℕ) (byte at : ℕ) → at ≤ byte → IsCharBoundary text at → ((k : ℕ) → at < k → k ≤ byte → IsCharBoundary text k → ⊥) → at ≡ boundary_to text byte
 last_is text zero at within is nearest = omega arith
-last_is text (suc byte) at within is nearest = elim (boundary_tells text (suc byte)) [
+last_is text (suc byte) at within is nearest = elim (boundary_reports text (suc byte)) [
   | inl here ↦
       let same : at ≡ suc byte = elim (leb_tells (suc byte) at) [ inl h ↦ omega (arith, h.1) | inr h ↦ absurd (nearest (suc byte) h.1 (omega arith) here.1) ] in
       rw here.0 same
@@ -39,21 +39,21 @@ last_is text (suc byte) at within is nearest = elim (boundary_tells text (suc by
 
 pub last_within : (text : List ℕ) (byte : ℕ) → boundary_to text byte ≤ byte
 last_within text zero = omega arith
-last_within text (suc byte) = elim (boundary_tells text (suc byte)) [
+last_within text (suc byte) = elim (boundary_reports text (suc byte)) [
   | inl here ↦ rw here.0 (omega arith)
   | inr not_here ↦ rw not_here.0 (omega (arith, last_within text byte))
 ]
 
 pub last_boundary : (text : List ℕ) (byte : ℕ) → IsCharBoundary text 0 → IsCharBoundary text (boundary_to text byte)
 last_boundary text zero first = first
-last_boundary text (suc byte) first = elim (boundary_tells text (suc byte)) [
+last_boundary text (suc byte) first = elim (boundary_reports text (suc byte)) [
   | inl here ↦ rw here.0 here.1
   | inr not_here ↦ rw not_here.0 (last_boundary text byte first)
 ]
 
 pub last_nearest : (text : List ℕ) (byte k : ℕ) → boundary_to text byte < k → k ≤ byte → IsCharBoundary text k → ⊥
 last_nearest text zero k above within is = omega (arith, above, within)
-last_nearest text (suc byte) k above within is = elim (boundary_tells text (suc byte)) [
+last_nearest text (suc byte) k above within is = elim (boundary_reports text (suc byte)) [
   | inl here ↦ let last : boundary_to text (suc byte) ≡ suc byte = rw here.0 refl in omega (arith, last, above, within)
   | inr not_here ↦
       let last : boundary_to text (suc byte) ≡ boundary_to text byte = rw not_here.0 refl in

@@ -1,4 +1,4 @@
--- The byte at which a character of a line stands.
+-- The byte at which a character of a line is.
 use Rattle.std.proofs.Common.{◌≡◌, ◌∙◌, ◌+◌, ◌-◌, ◌<◌, ◌≤◌, ◌⊎◌, inl, inr, zero, suc, ℕ, cond, List, [], ◌∷◌, length, get_or, drop, refl, sym, ap, arith, length-append}
 use Rattle.std.specs.Prelude.{flat_map, nat_le}
 use Rattle.std.proofs.lemmas.List.{drop_all, drop_more}

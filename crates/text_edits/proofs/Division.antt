@@ -71,7 +71,7 @@ found_lines (l ∷ ls) some plain ends =
     let rest : 0 < length ls → lines_of (flat_map whole ls) ≡ ls = λ some. found_lines ls some (All-tail PlainLine l ls plain) ends.1 in
     rw append_assoc (before_bytes l.bytes (l.end ++ flat_map whole ls) l.end ls (All-head PlainLine l ls plain) (found_end l.end ls ends.0 rest))
 
--- what stands first in a text, and how the lines begin
+-- what is first in a text, and how the lines begin
 pub data First (b : ℕ) (bs : List ℕ) : Type 0 where
   ended : (b ≡ 10) ⊎ ((b ≡ 13) × (slice_index bs 0 ≢ 10)) → ends_line (b ∷ bs) ≡ true → lines_of (b ∷ bs) ≡ at_end (b ∷ []) ∷ lines_of bs → First b bs
   both : b ≡ 13 → ends_line (b ∷ bs) ≡ false → (ls : List Line) → lines_of bs ≡ at_end (10 ∷ []) ∷ ls → lines_of (b ∷ bs) ≡ at_end (13 ∷ 10 ∷ []) ∷ ls → First b bs

@@ -10,7 +10,7 @@ use Rattle.text_edits.specs.declared.positions.Encoding.{Encoding}
 use Rattle.text_edits.specs.declared.positions.Position.{Position}
 use Rattle.text_edits.proofs.Division.{at_end, ended, both, inside, first_of_text, no_lines, are_lines}
 use Rattle.text_edits.proofs.Widths.{lead_adds}
-use Rattle.text_edits.proofs.Steps.{begun, shifted, starts_at, within_line, behind_line, on_line, ended_moves, both_moves, inside_moves}
+use Rattle.text_edits.proofs.Steps.{begun, shifted, starts_at, within_line, after_line, on_line, ended_moves, both_moves, inside_moves}
 
 -- the longest front with no more units
 pub fits : (e : Encoding) (room b : ℕ) (bs : List ℕ) → units e b ≤ room → front_within e room (b ∷ bs) ≡ 1 + front_within e (room - units e b) bs
@@ -44,10 +44,10 @@ inside_column e b l ls zero c =
     fits e (units e b + c) b l.bytes (omega arith) ∙ ap (λ room. 1 + front_within e room l.bytes) rest ∙ omega arith
 inside_column e b l ls (suc line) c = let other : suc line ≢ 0 = omega arith in rw (ne_eqb (suc line) 0 other) (omega arith)
 
--- behind a line's first byte
-both_behind : (e : Encoding) (ls : List Line) (k : ℕ) → IsEndBefore (10 ∷ []) ls → (p : Position) × (position_of e (at_end (10 ∷ []) ∷ ls) (suc k) ≡ below p)
-both_behind e [] k is = absurd (cc)
-both_behind e (l ∷ ls) k is = (position_of e (l ∷ ls) (suc k - 1), behind_line e (at_end (10 ∷ [])) (l ∷ ls) (suc k) (omega arith) (omega arith))
+-- after a line's first byte
+both_after : (e : Encoding) (ls : List Line) (k : ℕ) → IsEndBefore (10 ∷ []) ls → (p : Position) × (position_of e (at_end (10 ∷ []) ∷ ls) (suc k) ≡ below p)
+both_after e [] k is = absurd (cc)
+both_after e (l ∷ ls) k is = (position_of e (l ∷ ls) (suc k - 1), after_line e (at_end (10 ∷ [])) (l ∷ ls) (suc k) (omega arith) (omega arith))
 
 first_byte : (e : Encoding) (text : List ℕ) → IsCharBoundary text 0 → byte_of e (lines_of text) begun ≡ 0
 first_byte e [] is = rw no_lines refl
@@ -69,11 +69,11 @@ both_inverse : (e : Encoding) (b : ℕ) (bs : List ℕ) (ls : List Line) (k : �
 both_inverse e b bs ls zero return ends next lines out rest =
     let all : flat_map whole (at_end (10 ∷ []) ∷ ls) ≡ bs = ap (flat_map whole) (sym next) ∙ (are_lines bs).all in absurd (out (return, sym (ap (λ t. slice_index t 0) all)))
 both_inverse e b bs ls (suc k) return ends next lines out rest =
-    let behind = both_behind e ls k (rw next at (are_lines bs).ends).0 in
-    let at : position_of e (lines_of bs) (suc k) ≡ below behind.0 = ap (λ xs. position_of e xs (suc k)) next ∙ behind.1 in
-    let back : byte_of e (at_end (10 ∷ []) ∷ ls) (below behind.0) ≡ suc k
-    = ap (λ xs. byte_of e xs (below behind.0)) (sym next) ∙ ap (byte_of e (lines_of bs)) (sym at) ∙ rest in
-    ap (byte_of e (lines_of (b ∷ bs))) ((both_moves e b bs ls return ends next lines).later (suc k) ∙ at) ∙ ap (λ xs. byte_of e xs (below behind.0)) lines ∙ both_byte e ls behind.0 ∙ ap suc back
+    let following = both_after e ls k (rw next at (are_lines bs).ends).0 in
+    let at : position_of e (lines_of bs) (suc k) ≡ below following.0 = ap (λ xs. position_of e xs (suc k)) next ∙ following.1 in
+    let back : byte_of e (at_end (10 ∷ []) ∷ ls) (below following.0) ≡ suc k
+    = ap (λ xs. byte_of e xs (below following.0)) (sym next) ∙ ap (byte_of e (lines_of bs)) (sym at) ∙ rest in
+    ap (byte_of e (lines_of (b ∷ bs))) ((both_moves e b bs ls return ends next lines).later (suc k) ∙ at) ∙ ap (λ xs. byte_of e xs (below following.0)) lines ∙ both_byte e ls following.0 ∙ ap suc back
 
 pub inverse_is : (e : Encoding) (text : List ℕ) (k : ℕ) → IsCharBoundary text k → (IsWithinEnd text k → ⊥) → byte_of e (lines_of text) (position_of e (lines_of text) k) ≡ k
 inverse_is e text zero is out = ap (byte_of e (lines_of text)) (starts_at e text) ∙ first_byte e text is
@@ -104,4 +104,4 @@ exact_is e (l ∷ ls) zero c ends has =
 exact_is e (l ∷ ls) (suc line) c ends has =
     let at : ℕ = length (whole l) + byte_in e ls line c in
     let rest : at - length (whole l) ≡ byte_in e ls line c = omega arith in
-    behind_line e l ls at (omega arith) (has_line e ls line c has) ∙ ap (λ k. below (position_of e ls k)) rest ∙ ap below (exact_is e ls line c ends.1 has) ∙ rw add-one refl
+    after_line e l ls at (omega arith) (has_line e ls line c has) ∙ ap (λ k. below (position_of e ls k)) rest ∙ ap below (exact_is e ls line c ends.1 has) ∙ rw add-one refl

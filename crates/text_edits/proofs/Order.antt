@@ -8,7 +8,7 @@ use Rattle.text_edits.specs.Positions.{units, front_within, byte_in, below, posi
 use Rattle.text_edits.specs.Laws.{IsUpTo}
 use Rattle.text_edits.specs.declared.positions.Encoding.{Encoding}
 use Rattle.text_edits.specs.declared.positions.Position.{Position}
-use Rattle.text_edits.proofs.Steps.{within_line, behind_line}
+use Rattle.text_edits.proofs.Steps.{within_line, after_line}
 use Rattle.text_edits.proofs.Inverse.{fits, full}
 
 -- a front is within the longest just where it adds no more units
@@ -63,12 +63,12 @@ pub positions_order : (e : Encoding) (ls : List Line) (k n : ℕ) → k ≤ n �
 positions_order e [] k n h = inr (refl, omega arith)
 positions_order e (l ∷ []) k n h = rw (within_line e l [] k (inr refl), within_line e l [] n (inr refl)) (inr (refl, take_order (units e) l.bytes k n h))
 positions_order e (l ∷ m ∷ ls) k n h = elim (leb_tells (length (whole l)) k) [
-  | inl behind ↦
-      let further : length (whole l) ≤ n = omega (arith, behind.1) in
-      rw (behind_line e l (m ∷ ls) k behind.1 (omega arith), behind_line e l (m ∷ ls) n further (omega arith))
+  | inl following ↦
+      let further : length (whole l) ≤ n = omega (arith, following.1) in
+      rw (after_line e l (m ∷ ls) k following.1 (omega arith), after_line e l (m ∷ ls) n further (omega arith))
       (below_order (position_of e (m ∷ ls) (k - length (whole l))) (position_of e (m ∷ ls) (n - length (whole l))) (positions_order e (m ∷ ls) (k - length (whole l)) (n - length (whole l)) (omega arith)))
   | inr within ↦ elim (leb_tells (length (whole l)) n) [
-    | inl behind ↦ rw (within_line e l (m ∷ ls) k (inl within.1), behind_line e l (m ∷ ls) n behind.1 (omega arith)) (inl (omega arith))
+    | inl following ↦ rw (within_line e l (m ∷ ls) k (inl within.1), after_line e l (m ∷ ls) n following.1 (omega arith)) (inl (omega arith))
     | inr on ↦ rw (within_line e l (m ∷ ls) k (inl within.1), within_line e l (m ∷ ls) n (inl on.1)) (inr (refl, take_order (units e) l.bytes k n h))
   ]
 ]

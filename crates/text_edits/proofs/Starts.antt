@@ -6,7 +6,7 @@ use Rattle.std.proofs.lemmas.List.Elements.{All-drop}
 use Rattle.text_edits.specs.Lines.{Line, whole, EndWhole, AreLines, ends_line, with_byte, lines_of, starts_from, starts_of}
 use Rattle.text_edits.proofs.Division.{at_end, lines_some, lines_end, lines_on, no_lines, are_lines, found_lines, PlainLine}
 
--- where the lines behind the first of those begin that stand behind this many bytes
+-- where the lines after the first of those begin that come after this many bytes
 abbrev pub later : List ℕ → ℕ → List ℕ
 later text at = drop 1 (starts_from at (lines_of (drop at text)))
 
@@ -61,7 +61,7 @@ found_none text starts all at h e rest = ap (λ xs. starts ++ xs) (sym (later_on
 pub found_all : (text starts all : List ℕ) (at : ℕ) → length text ≤ at → starts ++ later text at ≡ all → starts ≡ all
 found_all text starts all at h rest = sym (append-nil starts) ∙ ap (λ xs. starts ++ xs) (sym (later_none text at h)) ∙ rest
 
--- how many bytes stand before the line
+-- how many bytes are before the line
 abbrev pub offset : List Line → ℕ → ℕ
 offset [] line = 0
 offset (l ∷ ls) zero = 0

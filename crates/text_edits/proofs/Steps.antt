@@ -6,7 +6,7 @@ use Rattle.std.proofs.lemmas.Bool.Decides.{leb_tells}
 use Rattle.std.proofs.lemmas.List.Sums.{sum_by-cons}
 use Rattle.text_edits.specs.Lines.{Line, whole, IsEndBefore, EndWhole, ends_line, lines_of, starts_of}
 use Rattle.text_edits.specs.Positions.{units, below, position_of}
-use Rattle.text_edits.specs.Walks.{position_behind, IsReached}
+use Rattle.text_edits.specs.Walks.{position_after, IsReached}
 use Rattle.text_edits.specs.declared.positions.Encoding.{Encoding}
 use Rattle.text_edits.specs.declared.positions.Position.{Position}
 use Rattle.text_edits.proofs.Division.{at_end, ended, both, inside, first_of_text, lines_some, no_lines, are_lines}
@@ -16,7 +16,7 @@ use Rattle.text_edits.proofs.Columns.{line_start, start_within}
 abbrev pub begun : Position
 begun = record { line = 0; character = 0 }
 
--- within the first line, and behind it
+-- within the first line, and after it
 pub within_line : (e : Encoding) (l : Line) (ls : List Line) (k : ℕ) → (k < length (whole l)) ⊎ (ls ≡ []) → position_of e (l ∷ ls) k ≡ record { line = 0; character = sum_by (units e) (take k l.bytes) }
 within_line e l ls k (inl h) = rw (lt-ltb k (length (whole l)) h) refl
 within_line e l ls k (inr h) = rw h (last (nat_lt k (length (whole l))))
@@ -25,8 +25,8 @@ within_line e l ls k (inr h) = rw h (last (nat_lt k (length (whole l))))
     last true = refl
     last false = refl
 
-pub behind_line : (e : Encoding) (l : Line) (ls : List Line) (k : ℕ) → length (whole l) ≤ k → 0 < length ls → position_of e (l ∷ ls) k ≡ below (position_of e ls (k - length (whole l)))
-behind_line e l ls k h some = let other : length ls ≢ 0 = omega arith in rw (le-ltb k (length (whole l)) h, ne_eqb (length ls) 0 other) refl
+pub after_line : (e : Encoding) (l : Line) (ls : List Line) (k : ℕ) → length (whole l) ≤ k → 0 < length ls → position_of e (l ∷ ls) k ≡ below (position_of e ls (k - length (whole l)))
+after_line e l ls k h some = let other : length ls ≢ 0 = omega arith in rw (le-ltb k (length (whole l)) h, ne_eqb (length ls) 0 other) refl
 
 pub starts_at : (e : Encoding) (text : List ℕ) → position_of e (lines_of text) 0 ≡ begun
 starts_at e [] = rw no_lines refl
@@ -43,12 +43,12 @@ shifted u p = record { line = p.line; character = cond (p.line == 0) (u + p.char
 -- how the positions move where the byte is put before the text
 pub record Moved (e : Encoding) (b : ℕ) (bs : List ℕ) (move : Position → Position) : Type 0 where
   pub later : (k : ℕ) → position_of e (lines_of (b ∷ bs)) (suc k) ≡ move (position_of e (lines_of bs) k)
-  pub steps : (rest : List ℕ) (p : Position) → move (position_behind e rest p) ≡ position_behind e rest (move p)
-  pub first : move begun ≡ position_behind e (b ∷ bs) begun
+  pub steps : (rest : List ℕ) (p : Position) → move (position_after e rest p) ≡ position_after e rest (move p)
+  pub first : move begun ≡ position_after e (b ∷ bs) begun
   pub line : (p : Position) → (move p).line ≤ p.line + 1
   pub character : (p : Position) → (move p).character ≤ units e b + p.character
 
--- a step, by what stands at the byte
+-- a step, by what is at the byte
 abbrev stepped : Bool → Bool → ℕ → Position → Position
 stepped s t u p = cond s (record { line = p.line + 1; character = 0 }) (cond t p (record { line = p.line; character = p.character + u }))
 
@@ -73,7 +73,7 @@ shifted_line false more c = omega arith
 -- the positions where the byte ends a line, where it is half of an end, and where it is in a line
 pub ended_moves : (e : Encoding) (b : ℕ) (bs : List ℕ) → ends_line (b ∷ bs) ≡ true → lines_of (b ∷ bs) ≡ at_end (b ∷ []) ∷ lines_of bs → Moved e b bs below
 ended_moves e b bs ends is = record {
-  later = λ k. ap (λ ls. position_of e ls (suc k)) is ∙ behind_line e (at_end (b ∷ [])) (lines_of bs) (suc k) (omega arith) (lines_some bs) ∙ ap (λ n. below (position_of e (lines_of bs) n)) (omega arith);
+  later = λ k. ap (λ ls. position_of e ls (suc k)) is ∙ after_line e (at_end (b ∷ [])) (lines_of bs) (suc k) (omega arith) (lines_some bs) ∙ ap (λ n. below (position_of e (lines_of bs) n)) (omega arith);
   steps = λ rest p. below_steps (ends_line rest) (slice_index rest 0 == 13) (units e (slice_index rest 0)) p;
   first = rw ends refl;
   line = λ p. omega arith;
@@ -84,8 +84,8 @@ ends_alike : (e : Encoding) (ls : List Line) (k : ℕ) → position_of e (at_end
 ends_alike e ls zero = refl
 ends_alike e [] (suc k) = within_line e (at_end (13 ∷ 10 ∷ [])) [] (suc (suc k)) (inr refl) ∙ sym (within_line e (at_end (10 ∷ [])) [] (suc k) (inr refl))
 ends_alike e (l ∷ ls) (suc k) =
-    behind_line e (at_end (13 ∷ 10 ∷ [])) (l ∷ ls) (suc (suc k)) (omega arith) (omega arith) ∙ ap (λ n. below (position_of e (l ∷ ls) n)) (omega arith)
-    ∙ sym (behind_line e (at_end (10 ∷ [])) (l ∷ ls) (suc k) (omega arith) (omega arith))
+    after_line e (at_end (13 ∷ 10 ∷ [])) (l ∷ ls) (suc (suc k)) (omega arith) (omega arith) ∙ ap (λ n. below (position_of e (l ∷ ls) n)) (omega arith)
+    ∙ sym (after_line e (at_end (10 ∷ [])) (l ∷ ls) (suc k) (omega arith) (omega arith))
 
 lines_within : (e : Encoding) (b : ℕ) (l : Line) (ls : List Line) (k : ℕ) → (k < length (whole l)) ⊎ (ls ≡ [])
     → position_of e (record { bytes = b ∷ l.bytes; end = l.end } ∷ ls) (suc k) ≡ shifted (units e b) (position_of e (l ∷ ls) k)
@@ -94,19 +94,19 @@ lines_within e b l ls k h =
     within_line e (record { bytes = b ∷ l.bytes; end = l.end }) ls (suc k) on ∙ ap (λ c. record { line = 0; character = c }) (sum_by-cons (units e) b (take k l.bytes))
     ∙ ap (shifted (units e b)) (sym (within_line e l ls k h))
 
-lines_behind : (e : Encoding) (b : ℕ) (l m : Line) (ls : List Line) (k : ℕ) → length (whole l) ≤ k
+lines_after : (e : Encoding) (b : ℕ) (l m : Line) (ls : List Line) (k : ℕ) → length (whole l) ≤ k
     → position_of e (record { bytes = b ∷ l.bytes; end = l.end } ∷ m ∷ ls) (suc k) ≡ shifted (units e b) (position_of e (l ∷ m ∷ ls) k)
-lines_behind e b l m ls k h =
+lines_after e b l m ls k h =
     let rest : Position = position_of e (m ∷ ls) (k - length (whole l)) in
     let other : rest.line + 1 ≢ 0 = omega arith in
     let apart : shifted (units e b) (below rest) ≡ below rest = rw (ne_eqb (rest.line + 1) 0 other) refl in
-    behind_line e (record { bytes = b ∷ l.bytes; end = l.end }) (m ∷ ls) (suc k) (omega arith) (omega arith) ∙ ap (λ n. below (position_of e (m ∷ ls) n)) (omega arith)
-    ∙ sym apart ∙ ap (shifted (units e b)) (sym (behind_line e l (m ∷ ls) k h (omega arith)))
+    after_line e (record { bytes = b ∷ l.bytes; end = l.end }) (m ∷ ls) (suc k) (omega arith) (omega arith) ∙ ap (λ n. below (position_of e (m ∷ ls) n)) (omega arith)
+    ∙ sym apart ∙ ap (shifted (units e b)) (sym (after_line e l (m ∷ ls) k h (omega arith)))
 
 lines_alike : (e : Encoding) (b : ℕ) (l : Line) (ls : List Line) (k : ℕ) → position_of e (record { bytes = b ∷ l.bytes; end = l.end } ∷ ls) (suc k) ≡ shifted (units e b) (position_of e (l ∷ ls) k)
 lines_alike e b l [] k = lines_within e b l [] k (inr refl)
 lines_alike e b l (m ∷ ls) k = elim (leb_tells (length (whole l)) k) [
-  | inl behind ↦ lines_behind e b l m ls k behind.1
+  | inl following ↦ lines_after e b l m ls k following.1
   | inr within ↦ lines_within e b l (m ∷ ls) k (inl within.1)
 ]
 
@@ -137,14 +137,14 @@ moved e b bs = elim (first_of_text b bs) [
   | inside _ plain ends l ls next is ↦ (shifted (units e b), inside_moves e b bs l ls plain ends next is)
 ]
 
-pub one_more : (e : Encoding) (text : List ℕ) (k : ℕ) → k < length text → position_of e (lines_of text) (suc k) ≡ position_behind e (drop k text) (position_of e (lines_of text) k)
+pub one_more : (e : Encoding) (text : List ℕ) (k : ℕ) → k < length text → position_of e (lines_of text) (suc k) ≡ position_after e (drop k text) (position_of e (lines_of text) k)
 one_more e [] k h = absurd (omega arith)
 one_more e (b ∷ bs) zero h =
     let (move, is) = moved e b bs in
-    is.later 0 ∙ ap move (starts_at e bs) ∙ is.first ∙ ap (position_behind e (b ∷ bs)) (sym (starts_at e (b ∷ bs)))
+    is.later 0 ∙ ap move (starts_at e bs) ∙ is.first ∙ ap (position_after e (b ∷ bs)) (sym (starts_at e (b ∷ bs)))
 one_more e (b ∷ bs) (suc k) h =
     let (move, is) = moved e b bs in
-    is.later (suc k) ∙ ap move (one_more e bs k (omega arith)) ∙ is.steps (drop k bs) (position_of e (lines_of bs) k) ∙ ap (position_behind e (drop k bs)) (sym (is.later k))
+    is.later (suc k) ∙ ap move (one_more e bs k (omega arith)) ∙ is.steps (drop k bs) (position_of e (lines_of bs) k) ∙ ap (position_after e (drop k bs)) (sym (is.later k))
 
 pub line_bound : (e : Encoding) (text : List ℕ) (k : ℕ) → k ≤ length text → (position_of e (lines_of text) k).line ≤ k
 line_bound e text zero h = omega (arith, ap (λ (p : Position). p.line) (starts_at e text))
@@ -160,7 +160,7 @@ character_bound e (b ∷ bs) (suc k) h =
     let (move, is) = moved e b bs in
     omega (arith, ap (λ (p : Position). p.character) (is.later k), is.character (position_of e (lines_of bs) k), character_bound e bs k (omega arith), sum_by-cons (units e) b (take k bs))
 
--- a byte of a line, or that of its end, stands on the line
+-- a byte of a line, or that of its end, is on the line
 pub on_line : (l : Line) (ls : List Line) (k : ℕ) → IsEndBefore l.end ls → k ≤ length l.bytes → (k < length (whole l)) ⊎ (ls ≡ [])
 on_line l [] k is h = inr refl
 on_line l (m ∷ ls) k is h =
@@ -174,7 +174,7 @@ line_begins e (l ∷ ls) zero ends h = within_line e l ls 0 (on_line l ls 0 ends
 line_begins e (l ∷ ls) (suc line) ends h =
     let at : ℕ = length (whole l) + offset ls line in
     let rest : at - length (whole l) ≡ offset ls line = omega arith in
-    behind_line e l ls at (omega arith) (omega arith) ∙ ap (λ k. below (position_of e ls k)) rest ∙ ap below (line_begins e ls line ends.1 (omega arith)) ∙ rw add-one refl
+    after_line e l ls at (omega arith) (omega arith) ∙ ap (λ k. below (position_of e ls k)) rest ∙ ap below (line_begins e ls line ends.1 (omega arith)) ∙ rw add-one refl
 
 -- the same of a text, whose lines begin at these bytes
 pub line_reached : (e : Encoding) (text starts : List ℕ) (line start : ℕ) → starts ≡ starts_of (lines_of text) → line < length starts → start ≡ get_or starts line 0

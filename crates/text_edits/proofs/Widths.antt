@@ -19,7 +19,7 @@ of_lead Utf8 bytes units = bytes
 of_lead Utf16 bytes units = units
 of_lead Utf32 bytes units = 1
 
--- what a byte adds, by where it stands
+-- what a byte adds, by where it is
 low : (e : Encoding) (b : ℕ) → b < 0x80 → units e b ≡ 1
 low Utf8 b h = rw (lt-ltb b 0x80 h) refl
 low Utf16 b h = rw (lt-ltb b 0x80 h) refl

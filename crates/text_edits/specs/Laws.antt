@@ -5,11 +5,11 @@ use Rattle.text_edits.specs.Positions.{units}
 use Rattle.text_edits.specs.declared.positions.Encoding.{Encoding}
 use Rattle.text_edits.specs.declared.positions.Position.{Position}
 
--- the byte stands between a carriage return and a line feed
+-- the byte is between a carriage return and a line feed
 abbrev pub IsWithinEnd : List ℕ → ℕ → Type 0
 IsWithinEnd text byte = (slice_index text (byte - 1) ≡ 13) × (slice_index text byte ≡ 10)
 
--- on that line so many units stand before a character, or before the line's end
+-- on that line so many units are before a character, or before the line's end
 abbrev pub HasColumn : Encoding → List Line → ℕ → ℕ → Type 0
 HasColumn e [] line character = ⊥
 HasColumn e (l ∷ ls) zero character = (k : ℕ) × IsCharBoundary l.bytes k × (character ≡ sum_by (units e) (take k l.bytes))

@@ -10,28 +10,29 @@ pub record Line : Type 0 where
 abbrev pub whole : Line → List ℕ
 whole l = l.bytes ++ l.end
 
--- what ends a line before the others: nothing the last; a line feed, a carriage return with no line feed behind it, or both
+-- what ends a line before the others: nothing the last; a line feed, a carriage return with no line feed after it, or
+-- both
 abbrev pub IsEndBefore : List ℕ → List Line → Type 0
 IsEndBefore end [] = end ≡ []
 IsEndBefore end (l ∷ ls) = (end ≡ 10 ∷ []) ⊎ (((end ≡ 13 ∷ []) × (slice_index (flat_map whole (l ∷ ls)) 0 ≢ 10)) ⊎ (end ≡ 13 ∷ 10 ∷ []))
 
--- each line has an end that suits the lines behind it
+-- each line has an end that suits the lines after it
 abbrev pub EndWhole : List Line → Type 0
 EndWhole [] = Unit {0}
 EndWhole (l ∷ ls) = IsEndBefore l.end ls × EndWhole ls
 
--- the text is these lines, in order; within none stands a line feed or a carriage return
+-- the text is these lines, in order; within none is a line feed or a carriage return
 pub record AreLines (text : List ℕ) (lines : List Line) : Type 0 where
   pub some : 0 < length lines
   pub all : flat_map whole lines ≡ text
   pub inside : All (λ (l : Line). All (λ b. (b ≢ 10) × (b ≢ 13)) l.bytes) lines
   pub ends : EndWhole lines
 
--- whether a line ends behind the first byte
+-- whether a line ends after the first byte
 abbrev pub ends_line : List ℕ → Bool
 ends_line text = (slice_index text 0 == 10) || ((slice_index text 0 == 13) && not (slice_index text 1 == 10))
 
--- the lines with a byte before them, behind which none ends: a carriage return goes before the line feed
+-- the lines with a byte before them, after which none ends: a carriage return goes before the line feed
 abbrev pub with_byte : ℕ → List Line → List Line
 with_byte b [] = []
 with_byte b (l ∷ ls) = (if b == 13 then record { bytes = l.bytes; end = b ∷ l.end } else record { bytes = b ∷ l.bytes; end = l.end }) ∷ ls

@@ -29,7 +29,7 @@ impl Documents {
         }
     }
 
-    /// An editor has opened the file with this text. On want of memory nothing changes.
+    /// An editor has opened the file with this text. After an allocation failure nothing changes.
     pub fn open(&mut self, alloc: Global, name: &str, text: &str) -> Result<(), AllocError>
         ensures opened { OnOk result (IsChangedAt name.now (opened text.now) self.old self.new) }
         ensures err { OnErr result (AreSame self.old self.new) }
@@ -39,8 +39,8 @@ impl Documents {
         Ok(())
     }
 
-    /// The editor has made these changes, in order; the answer says whether it has the file open. On want of memory
-    /// nothing changes, so that the editor has another text from then on.
+    /// The editor has made these changes, in order; the answer says whether it has the file open. After an allocation
+    /// failure nothing changes, so that the editor has another text from then on.
     pub fn change(
         &mut self,
         alloc: Global,
@@ -67,7 +67,7 @@ impl Documents {
         self.opened.remove(name);
     }
 
-    /// This text is on disk now, which counts where the file is not open. On want of memory nothing changes.
+    /// This text is on disk now, which counts where the file is not open. After an allocation failure nothing changes.
     pub fn set_file(&mut self, alloc: Global, name: &str, text: &str) -> Result<(), AllocError>
         ensures written { OnOk result (IsChangedAt name.now (written text.now) self.old self.new) }
         ensures err { OnErr result (AreSame self.old self.new) }

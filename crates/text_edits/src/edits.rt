@@ -12,11 +12,11 @@ use std::alloc::{AllocError, Global};
 pub enum Change<'a> {
     /// This text in place of all.
     Whole(&'a str),
-    /// This text in place of what stands between two positions, or at the first where the second stands before it.
+    /// This text in place of what is between two positions, or at the first where the second is before it.
     Part(Position, Position, &'a str),
 }
 
-/// The text behind these changes, each of which speaks of the text that those before it left. A change takes the time of
+/// The text after these changes, each of which speaks of the text that those before it left. A change takes the time of
 /// the text.
 pub fn edited(
     alloc: Global,

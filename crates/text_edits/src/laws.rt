@@ -53,7 +53,7 @@ pub fn exact()
         position_of e (lines_of text) (byte_of e (lines_of text) p) ≡ p }
 {}
 
-/// Positions stand in the order of their bytes.
+/// Positions are in the order of their bytes.
 pub fn ordered()
     ensures bytes { (e : Encoding) (text : List ℕ) (p q : Position) → IsUpTo p q →
         byte_of e (lines_of text) p ≤ byte_of e (lines_of text) q }
@@ -61,7 +61,7 @@ pub fn ordered()
         IsUpTo (position_of e (lines_of text) b) (position_of e (lines_of text) c) }
 {}
 
-/// The last boundary up to a byte is one, stands no later than the byte, and no other stands between them.
+/// The last boundary up to a byte is one, is not after the byte, and no other is between them.
 pub fn last_boundary()
     ensures boundary { (text : List ℕ) (byte : ℕ) → IsUtf8 text →
         IsCharBoundary text (boundary_to text byte) }

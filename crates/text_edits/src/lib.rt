@@ -1,11 +1,10 @@
-//! Lines, positions and edits of a text, as an editor tells them, and the texts that it has open.
+//! Lines, positions and edits of a text, as an editor sends them, and the texts that the editor has open.
 //!
-//! It takes texts in UTF-8, and positions that count a line from 0 and in it so many units of UTF-8, UTF-16 or UTF-32
-//! from 0. It finds the byte of a position (`byte_of`) and the position of a byte (`position_of`), and makes the changes
-//! of a text that are told by positions (`edited`). A line ends with a line feed, a carriage return, or both in that
-//! order. It keeps texts by the names of their files ([`Documents`]): of a name the text that counts is what the editor
-//! has, or else what is on disk (`text_of`). It knows nothing of what the texts are, and stands on nothing of the
-//! repository.
+//! It takes texts in UTF-8, and positions: a line from 0, and in it a number of units of UTF-8, UTF-16 or UTF-32 from
+//! 0. It finds the byte of a position (`byte_of`) and the position of a byte (`position_of`), and applies changes that
+//! are given by positions (`edited`). A line ends with a line feed, a carriage return, or both in that order. It keeps
+//! texts by the names of their files ([`Documents`]): the text that counts is the editor's, or else the one on disk
+//! (`text_of`). It knows nothing of what the texts are, and depends on the standard library alone.
 //!
 //! In the order of reading: specs `Lines`, `Positions` and `Edits`; `lines`, where they begin, and spec `Places`;
 //! `positions`; `walk`, from one byte to a later one; `edits`; `laws`; specs `Documents` and `Stored`; `documents`.

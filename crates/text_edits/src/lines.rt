@@ -146,7 +146,7 @@ fn places_of(alloc: Global, text: &str, encoding: Encoding) -> Result<Vec<Walk>,
     Ok(places)
 }
 
-// Whether a line ends behind the byte at this place.
+// Whether a line ends after the byte at this place.
 pub(crate) fn ends_line(bytes: &[u8], at: usize) -> bool
     requires { at < length bytes.now }
     ensures { result ≡ is_line_end (drop at bytes.now) }

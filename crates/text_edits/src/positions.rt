@@ -1,4 +1,4 @@
-//! Positions in a text, and the bytes at which they stand.
+//! Positions in a text, and the bytes at which they are.
 
 ghost use Rattle.std.specs.Prelude.{◌≡◌, ◌≤◌, length, IsCharBoundary};
 ghost use Rattle.text_edits.specs.Lines.{lines_of};
@@ -23,8 +23,8 @@ pub struct Position {
     pub character: usize,
 }
 
-/// The byte at which the position stands: beyond the end of its line that end, within a character its start, and on a
-/// line beyond the last the end of the text. It takes the time of the line.
+/// The byte at which the position is: beyond the end of its line that end, within a character its start, and on a line
+/// beyond the last the end of the text. It takes the time of the line.
 pub fn byte_at(text: &str, lines: &Lines, encoding: Encoding, position: Position) -> usize
     requires { AreLinesOf text.now lines.now }
     ensures byte { result ≡ byte_of encoding (lines_of text.now) position }
@@ -55,7 +55,7 @@ pub fn position_at(text: &str, lines: &Lines, encoding: Encoding, byte: usize) -
     near.onward(text, encoding, byte).position
 }
 
-// The byte at which the character of the first line stands.
+// The byte at which the character of the first line is.
 fn column_byte(text: &[u8], encoding: Encoding, character: usize) -> usize
     ensures byte { result ≡ byte_in encoding (lines_of text.now) 0 character }
     ensures boundary { IsCharBoundary text.now result }

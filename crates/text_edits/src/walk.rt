@@ -2,7 +2,7 @@
 
 ghost use Rattle.std.specs.Prelude.{◌≡◌, ◌+◌, ◌<◌, ◌^◌, ℕ, List, length, drop, max};
 ghost use Rattle.text_edits.specs.Positions.{boundary_to};
-ghost use Rattle.text_edits.specs.Walks.{position_behind, IsReached};
+ghost use Rattle.text_edits.specs.Walks.{position_after, IsReached};
 
 use crate::lines::ends_line;
 use crate::positions::{Encoding, Position, units_of};
@@ -28,7 +28,7 @@ impl Walk {
         }
     }
 
-    /// The place of the byte, as `position_at` finds it; this place, where the byte stands before it. It takes the time of
+    /// The place of the byte, as `position_at` finds it; this place, where the byte is before it. It takes the time of
     /// the bytes between.
     pub fn onward(self, text: &str, encoding: Encoding, byte: usize) -> Walk
         requires { IsReached encoding text.now self }
@@ -39,7 +39,7 @@ impl Walk {
         let end = text.floor_char_boundary(byte);
         let mut position = self.position;
         for at in self.byte..end {
-            position = behind(bytes, at, encoding, position);
+            position = following(bytes, at, encoding, position);
         }
         Walk {
             byte: end.max(self.byte),
@@ -48,12 +48,12 @@ impl Walk {
     }
 }
 
-// The position behind the byte at this place, from that before it.
-fn behind(bytes: &[u8], at: usize, encoding: Encoding, position: Position) -> Position
+// The position after the byte at this place, from that before it.
+fn following(bytes: &[u8], at: usize, encoding: Encoding, position: Position) -> Position
     requires at { at < length bytes.now }
     requires line { position.line + 1 < 2 ^ 64 }
     requires character { position.character + 4 < 2 ^ 64 }
-    ensures { result ≡ position_behind encoding (drop at bytes.now) position }
+    ensures { result ≡ position_after encoding (drop at bytes.now) position }
 {
     if ends_line(bytes, at) {
         let line = position.line + 1;

@@ -35,14 +35,14 @@ stack::expression-steps-init t c = turns.stack::expression-steps-init t c
 pub stack::expression-returns-in-Some-clause-gives : goal.stack::expression-returns-in-Some-clause-gives
 stack::expression-returns-in-Some-clause-gives t c = turns.stack::expression-returns-in-Some-clause-gives t c
 
-pub stack::expression-returns-in_err-next-in-Wants-clause-refusal : goal.stack::expression-returns-in_err-next-in-Wants-clause-refusal
-stack::expression-returns-in_err-next-in-Wants-clause-refusal t c = turns.stack::expression-returns-in_err-next-in-Wants-clause-refusal t c
+pub stack::expression-returns-in_err-next-in-Needs-clause-refusal : goal.stack::expression-returns-in_err-next-in-Needs-clause-refusal
+stack::expression-returns-in_err-next-in-Needs-clause-refusal t c = turns.stack::expression-returns-in_err-next-in-Needs-clause-refusal t c
 
 pub stack::expression-returns-in_err-next-in-Holds-clause-refusal : goal.stack::expression-returns-in_err-next-in-Holds-clause-refusal
 stack::expression-returns-in_err-next-in-Holds-clause-refusal t c = turns.stack::expression-returns-in_err-next-in-Holds-clause-refusal t c
 
-pub stack::expression-steps-preserved-in_ok-next-in-Wants : goal.stack::expression-steps-preserved-in_ok-next-in-Wants
-stack::expression-steps-preserved-in_ok-next-in-Wants t c = turns.stack::expression-steps-preserved-in_ok-next-in-Wants t c
+pub stack::expression-steps-preserved-in_ok-next-in-Needs : goal.stack::expression-steps-preserved-in_ok-next-in-Needs
+stack::expression-steps-preserved-in_ok-next-in-Needs t c = turns.stack::expression-steps-preserved-in_ok-next-in-Needs t c
 
 pub stack::expression-steps-preserved : goal.stack::expression-steps-preserved
 stack::expression-steps-preserved t c = turns.stack::expression-steps-preserved t c

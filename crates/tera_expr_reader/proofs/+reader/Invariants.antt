@@ -65,7 +65,7 @@ invariant-component_calls::attributes-reading l = record {
 abbrev pub decreases-component_calls::attributes-reading : goal.decreases-component_calls::attributes-reading
 decreases-component_calls::attributes-reading l = size l.cursor.left
 
--- each call stands behind a token, or goes to a function of a lower rank
+-- each call comes after a token, or goes to a function of a lower rank
 abbrev pub decreases-stack::expression : goal.decreases-stack::expression
 decreases-stack::expression l = 8 * size l.cursor.now.left + 4
 

@@ -15,7 +15,7 @@ use Rattle.tera_grammar.proofs.expressions.Repeated.{twice, once}
 abbrev distinct_row : List (List ℕ) → Reads Row → Reads Row
 distinct_row names o = o >>= λ r. cond (are_distinct (names ++ argument_names r.0)) (Some r) None
 
--- what is made of a row, of an end, of a value, behind `=`, and of an argument
+-- what is made of a row, of an end, of a value, after `=`, and of an argument
 abbrev shaped : (Row → Row) → Reads Row → Reads Row
 shaped make o = o >>= λ r. Some (make r.0, r.1)
 
@@ -36,7 +36,7 @@ kept_then true r make = refl
 kept_then false r make = refl
 
 module _ (names : List (List ℕ)) (n : Name) (rows : Place → Reads Row) where
-  -- what stands behind an argument whose name comes again
+  -- what comes after an argument whose name comes again
   again_at : is_one_of names n.text ≡ true → (s : Span) (e : Tree) (p : Place) (o : Reads Span) → distinct_row names (comma_at rows of_arguments (argument n s e) p o) ≡ None
   again_at h s e p None = by (skip RightParen p)
     where
@@ -62,7 +62,7 @@ module _ (names : List (List ℕ)) (n : Name) (rows : Place → Reads Row) where
       by (Some s) = at_value s.0 (f w 0 s.1)
 
   module _ (more : Place → Reads Row) (same : (p : Place) → more p ≡ distinct_row (names ++ n.text ∷ []) (rows p)) (distinct : are_distinct (names ++ n.text ∷ []) ≡ true) where
-    -- what stands behind one whose name is new
+    -- what comes after one whose name is new
     new_at : (s : Span) (e : Tree) (p : Place) (o : Reads Span)
         → comma_at more of_arguments (argument n s e) p o ≡ distinct_row names (comma_at rows of_arguments (argument n s e) p o)
     new_at s e p None = by (skip RightParen p)

@@ -100,7 +100,7 @@ unfolding lead_of
 lead_power_is (Binary o) = refl
 lead_power_is (Condition s c t) = refl
 
--- what stands behind an operand lets it end
+-- what comes after an operand lets it end
 before_suffix : (a : Tree) (s : Suffix) (r : Items) → Carries a s → Quiet a (suffix_yield s r)
 before_suffix a (Test s n x g) r h =
     Quiet-above a 5 _ (λ m k. subst (StopsAt m) (sym (front_ending (ends_test s) (negation_yield n (name_yield x (args_yield g r))))) k)
@@ -221,7 +221,7 @@ at_weaker : (ps : List ℕ) (m n : ℕ) → n ≤ m → AllByRecursion (λ p. m 
 at_weaker [] m n le h = tt
 at_weaker (p ∷ ps) m n le h = (le_trans le h.0, at_weaker ps m n le h.1)
 
--- what is read at power 1 may stand before an `if` that is not its own
+-- what is read at power 1 may be before an `if` that is not its own
 above_zero : (l : Bool) (t : Tree) → IsExpression l t → AtLeast 1 t → Above 0 t
 above_zero l (Atomic a) is h = tt
 above_zero l (Prefix s e) is h = (sign_positive s, above_zero l e is.2 (at_weaker _ (sign_power s) 1 (sign_positive s) is.0))
@@ -250,7 +250,7 @@ inside e reach d w is fits m stop s k r =
     let ends = ends_mark m stop s r in
     operand e reach d w 0 k (mark m s r) is (at_zero _) (Quiet-ends e (mark m s r) ends) (ends_stops (mark m s r) ends 0) fits
 
--- behind its target a comprehension has a condition or ends
+-- after its target a comprehension has a condition or ends
 target_quiet : (l : Bool) (t : Tree) (x : Extra) (c : Span) (r : Items) → IsExpression l t → AtLeast 1 t
     → Quiet t (extra_yield If x (mark RightBracket c r)) × Stops 1 (extra_yield If x (mark RightBracket c r))
 target_quiet l t no_extra c r is left = let ends = ends_mark RightBracket tt c r in (Quiet-ends t _ ends, ends_stops _ ends 1)

@@ -165,12 +165,12 @@ misplaced_not : reading (id (codes "a") (id (codes "not") (id (codes "b") Ended)
 unfolding reading_in
 misplaced_not = refl
 
-minus_behind_not : reading (id (codes "not") (op (codes "-") (id (codes "a") Ended))) ≡ None
+minus_after_not : reading (id (codes "not") (op (codes "-") (id (codes "a") Ended))) ≡ None
 unfolding reading_in
-minus_behind_not = refl
+minus_after_not = refl
 
--- The table of powers: of two operators the first takes both operands before it in (`Some true`), or the second
--- takes both behind it (`Some false`).
+-- The table of powers: of two operators the first takes both operands before it in (`Some true`), or the second takes
+-- both after it (`Some false`).
 
 abbrev side : Option Expr → Option Bool
 side (Some (tree.BinaryOperation o (tree.BinaryOperation p a b s) c t)) = Some true
@@ -206,7 +206,7 @@ sums_and_products : others_alike written.Plus (written.Minus ∷ []) ++ others_a
 unfolding reading_in
 sums_and_products = refl
 
--- whether a test, a filter and a prefix stand outermost
+-- whether a test, a filter and a prefix are outermost
 abbrev outside : Option Expr → Option Bool
 outside (Some (tree.Test e n g s)) = Some true
 outside (Some (tree.Filter e n g s)) = Some true

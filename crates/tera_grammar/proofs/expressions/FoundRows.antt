@@ -19,8 +19,8 @@ use Rattle.tera_grammar.proofs.expressions.Fronts.{holds_ok, skip_ok, name_of_ok
 use Rattle.tera_grammar.proofs.expressions.Quiet.{Stops, Quiet}
 use Rattle.tera_grammar.proofs.expressions.Arguments.{arguments_are}
 
--- What a reading of a whole expression has found, where d expressions may open in some room. What it costs is
--- told by toll, and what else is known of it by fits.
+-- What a reading of a whole expression has found, where d expressions may open in some room. What it costs is given by
+-- toll, and what else is known of it by fits.
 pub record Found (toll : Tree → ℕ) (fits : Room → Tree → Type 0) (d : ℕ) (w : Room) (m : ℕ) (p : Place) (t : Tree) (q : Place) :
     Type 0 where
   pub spelled : p.tokens ≡ yield t q.tokens

@@ -72,7 +72,7 @@ pub none_skip : (m : Mark) (k : ℕ) (r : Items) → takes m r ≡ None → skip
 unfolding skip
 none_skip m k r h = rw h
 
--- a mark is taken where it stands
+-- a mark is taken where it is
 pub skip_mark : (m : Mark) → same_token (mark_token m) (mark_token m) ≡ true → (k : ℕ) (s : Span) (r : Items)
     → skip m (at k (mark m s r)) ≡ Some (s, at k r)
 unfolding skip

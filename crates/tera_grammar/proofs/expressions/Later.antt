@@ -1,16 +1,16 @@
--- What holds of tokens and passes to tokens in front of them holds of an expression in front of them: as that a
--- fault stands behind.
+-- What holds of tokens and passes to tokens in front of them holds of an expression in front of them: as that a fault
+-- comes after.
 use Rattle.std.proofs.Common.{◌≡◌, true, refl}
 use Rattle.tera_base.specs.declared.utils.Span.{Span}
 use Rattle.tera_lexer.specs.grammar.Tokens.{Tok, Items, Token}
-use Rattle.tera_lexer.specs.grammar.Tiling.{in_tag_behind}
+use Rattle.tera_lexer.specs.grammar.Tiling.{in_tag_after}
 use Rattle.tera_grammar.specs.expressions.Operators.{BinaryOperator, Mul, Div, Mod, Plus, Minus, FloorDiv, Power, LessThan, GreaterThan, LessThanOrEqual, GreaterThanOrEqual, Equal, NotEqual, And, Or, StrConcat, In}
 use Rattle.tera_grammar.specs.expressions.Marks.{Mark, LeftParen, RightParen, LeftBracket, RightBracket, QuestionBracket, LeftBrace, RightBrace, Comma, Colon, Dot, QuestionDot, Spread, Assign, Bar, At, Not, Is, If, Else, For, Operation, Other, operator_token, mark_token}
 use Rattle.tera_grammar.specs.expressions.Concrete.{Quote, Simple, Escaped, Lit, Number, Quoted, Truth, quote_token, literal_token, closing, Sign, Negative, Negates, Joint, plain_dot, optional_dot, Bracket, plain_bracket, optional_bracket, Negation, plainly, negated, Second, no_second, second, Dotted, no_dots, dots, Op, Single, NotIn, Kind, of_arguments, of_items, of_entries, Tree, Atomic, Prefix, Suffixed, Infix, Atom, Literal, Null, Chain, Call, Paren, Array, Comprehension, Map, Component, Links, no_links, field, item, Sub, index, slice, Part, absent, present, Extra, no_extra, extra, Row, ended, only, then, Element, plain, spread, pair, argument, Attributes, no_attributes, bare, quoted, valued, spreading, Suffix, Test, Filter, Subscript, Args, no_args, args, Operator, Binary, Condition, sign_yield, joint_yield, bracket_yield, negation_yield, second_yield, dotted_yield, op_yield, yield, atom_yield, links_yield, sub_yield, part_yield, extra_yield, row_yield, element_yield, attributes_yield, suffix_yield, args_yield, operator_yield}
 
--- a token that is no marker
+-- a token that is not a marker
 abbrev pub IsInside : Tok → Type 0
-IsInside t = in_tag_behind true t ≡ true
+IsInside t = in_tag_after true t ≡ true
 
 operator_inside : (o : BinaryOperator) → IsInside (operator_token o)
 operator_inside Mul = refl

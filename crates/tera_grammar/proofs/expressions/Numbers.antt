@@ -18,38 +18,38 @@ use Rattle.tera_grammar.specs.expressions.Output.{output, atom_output, links_out
 use Rattle.tera_grammar.specs.expressions.Constants.{IsLiteralNumber, EachNumber, EachOfValue, EachOfValues, EachOfPairs, EachConstant, EachOfMaybe, EachOfArgs, EachOfItems, EachOfEntries}
 
 module _ (P : ℤ → Type 0) where
-  -- behind a token of whatever kind
-  pub behind : (t : Tok) (s : Span) (r : Items) → EachNumber P (Token t s r) → EachNumber P r
-  behind (toks.Integer n) s r h = h.1
-  behind _ s r h = h
+  -- after a token of whatever kind
+  pub following : (t : Tok) (s : Span) (r : Items) → EachNumber P (Token t s r) → EachNumber P r
+  following (toks.Integer n) s r h = h.1
+  following _ s r h = h
 
-  behind_sign : (s : Sign) (r : Items) → EachNumber P (sign_yield s r) → EachNumber P r
-  behind_sign (Negative s) r h = h
-  behind_sign (Negates s) r h = h
+  after_sign : (s : Sign) (r : Items) → EachNumber P (sign_yield s r) → EachNumber P r
+  after_sign (Negative s) r h = h
+  after_sign (Negates s) r h = h
 
-  behind_joint : (d : Joint) (r : Items) → EachNumber P (joint_yield d r) → EachNumber P r
-  behind_joint (plain_dot s) r h = h
-  behind_joint (optional_dot s) r h = h
+  after_joint : (d : Joint) (r : Items) → EachNumber P (joint_yield d r) → EachNumber P r
+  after_joint (plain_dot s) r h = h
+  after_joint (optional_dot s) r h = h
 
-  behind_bracket : (b : Bracket) (r : Items) → EachNumber P (bracket_yield b r) → EachNumber P r
-  behind_bracket (plain_bracket s) r h = h
-  behind_bracket (optional_bracket s) r h = h
+  after_bracket : (b : Bracket) (r : Items) → EachNumber P (bracket_yield b r) → EachNumber P r
+  after_bracket (plain_bracket s) r h = h
+  after_bracket (optional_bracket s) r h = h
 
-  behind_negation : (n : Negation) (r : Items) → EachNumber P (negation_yield n r) → EachNumber P r
-  behind_negation plainly r h = h
-  behind_negation (negated s) r h = h
+  after_negation : (n : Negation) (r : Items) → EachNumber P (negation_yield n r) → EachNumber P r
+  after_negation plainly r h = h
+  after_negation (negated s) r h = h
 
-  pub behind_second : (m : Second) (r : Items) → EachNumber P (second_yield m r) → EachNumber P r
-  behind_second no_second r h = h
-  behind_second (second s n) r h = h
+  pub after_second : (m : Second) (r : Items) → EachNumber P (second_yield m r) → EachNumber P r
+  after_second no_second r h = h
+  after_second (second s n) r h = h
 
-  pub behind_dotted : (ds : Dotted) (r : Items) → EachNumber P (dotted_yield ds r) → EachNumber P r
-  behind_dotted no_dots r h = h
-  behind_dotted (dots s n ds) r h = behind_dotted ds r h
+  pub after_dotted : (ds : Dotted) (r : Items) → EachNumber P (dotted_yield ds r) → EachNumber P r
+  after_dotted no_dots r h = h
+  after_dotted (dots s n ds) r h = after_dotted ds r h
 
-  behind_op : (o : Op) (r : Items) → EachNumber P (op_yield o r) → EachNumber P r
-  behind_op (Single o s) r h = behind (mark_token (Operation o)) s r h
-  behind_op (NotIn s t) r h = h
+  after_op : (o : Op) (r : Items) → EachNumber P (op_yield o r) → EachNumber P r
+  after_op (Single o s) r h = following (mark_token (Operation o)) s r h
+  after_op (NotIn s t) r h = h
 
   pub literal_holds : (x : Lit) (s : Span) (r : Items) → EachNumber P (Token (literal_token x) s r) → EachOfValue P (literal_value x)
   literal_holds (Number n) s r h = h.0
@@ -131,7 +131,7 @@ module _ (P : ℤ → Type 0) where
       pub constants_hold : (l : Bool) (t : Tree) (r : Items) → EachNumber P (yield t r) → EachConstant P (output l t) × EachNumber P r
       constants_hold l (Atomic a) r h = atom_holds l a r h
       constants_hold l (Prefix s e) r h =
-          let x = constants_hold l e r (behind_sign s (yield e r) h) in (prefixed_holds s (output l e) _ x.0, x.1)
+          let x = constants_hold l e r (after_sign s (yield e r) h) in (prefixed_holds s (output l e) _ x.0, x.1)
       constants_hold l (Suffixed a s) r h =
           let x = constants_hold l a (suffix_yield s r) h in suffix_holds l (first a) (output l a) s r x.0 x.1
       constants_hold l (Infix a o b) r h =
@@ -139,7 +139,7 @@ module _ (P : ℤ → Type 0) where
           infix_holds l _ (output l a) o (output l b) (yield b r) r x.0 x.1 (constants_hold l b r)
 
       atom_holds : (l : Bool) (a : Atom) (r : Items) → EachNumber P (atom_yield a r) → EachConstant P (atom_output l a) × EachNumber P r
-      atom_holds l (Literal x s) r h = (literal_holds x s r h, behind (literal_token x) s r h)
+      atom_holds l (Literal x s) r h = (literal_holds x s r h, following (literal_token x) s r h)
       atom_holds l (Null n) r h = (tt, h)
       atom_holds l (Chain n ls) r h = links_hold l (of_loop l n) (tree.Var n.text n.span) ls r tt h
       atom_holds l (Call n s row) r h = arguments_hold l row tree.NoArgs r tt h
@@ -149,7 +149,7 @@ module _ (P : ℤ → Type 0) where
           (array_holds (items_output l row) _ (constant_items (items_output l row)) x.0 (constant_items_hold (items_output l row) x.0), x.1)
       atom_holds l (Comprehension s e f n m i t g c) r h =
           let x = constants_hold l e _ h in
-          let y = constants_hold l t (extra_yield If g (mark RightBracket c r)) (behind_second m _ x.1) in
+          let y = constants_hold l t (extra_yield If g (mark RightBracket c r)) (after_second m _ x.1) in
           let z = extra_holds l If g (mark RightBracket c r) y.1 in
           ((x.0, y.0, z.0), z.1)
       atom_holds l (Map s row) r h =
@@ -158,14 +158,14 @@ module _ (P : ℤ → Type 0) where
                 (constant_entries_hold (entries_output l row) values.NoPairs x.0 tt),
             x.1,
           )
-      atom_holds l (Component s n ds ats t u) r h = attributes_hold l ats (mark (Operation Div) t (mark (Operation GreaterThan) u r)) (behind_dotted ds _ h)
+      atom_holds l (Component s n ds ats t u) r h = attributes_hold l ats (mark (Operation Div) t (mark (Operation GreaterThan) u r)) (after_dotted ds _ h)
 
       links_hold : (l c : Bool) (e : Expr) (ls : Links) (r : Items) → EachConstant P e → EachNumber P (links_yield ls r)
           → EachConstant P (links_output l c e ls) × EachNumber P r
       links_hold l c e no_links r k h = (k, h)
-      links_hold l c e (field d n ls) r k h = links_hold l c (field_output c e d n) ls r (field_holds c e d n k) (behind_joint d _ h)
+      links_hold l c e (field d n ls) r k h = links_hold l c (field_output c e d n) ls r (field_holds c e d n k) (after_joint d _ h)
       links_hold l c e (item b s ls) r k h =
-          let x = sub_holds l (is_optional_bracket b) e s (links_yield ls r) k (behind_bracket b _ h) in
+          let x = sub_holds l (is_optional_bracket b) e s (links_yield ls r) k (after_bracket b _ h) in
           links_hold l c (sub_output l (is_optional_bracket b) e s) ls r x.0 x.1
 
       sub_holds : (l o : Bool) (e : Expr) (s : Sub) (r : Items) → EachConstant P e → EachNumber P (sub_yield s r)
@@ -184,7 +184,7 @@ module _ (P : ℤ → Type 0) where
       extra_holds : (l : Bool) (m : Mark) (x : Extra) (r : Items) → EachNumber P (extra_yield m x r)
           → EachOfMaybe P (extra_output l x) × EachNumber P r
       extra_holds l m no_extra r h = (tt, h)
-      extra_holds l m (extra s e) r h = constants_hold l e r (behind (mark_token m) s (yield e r) h)
+      extra_holds l m (extra s e) r h = constants_hold l e r (following (mark_token m) s (yield e r) h)
 
       arguments_hold : (l : Bool) (row : Row) (g : tree.Args) (r : Items) → EachOfArgs P g → EachNumber P (row_yield of_arguments row r)
           → EachOfArgs P (arguments_output l row g) × EachNumber P r
@@ -199,13 +199,13 @@ module _ (P : ℤ → Type 0) where
       argument_holds l (argument n s e) g r k h = let x = constants_hold l e r h in (put_arg_holds n.text (output l e) g x.0 k, x.1)
       argument_holds l (plain e) g r k h = (k, (constants_hold l e r h).1)
       argument_holds l (spread s e) g r k h = (k, (constants_hold l e r h).1)
-      argument_holds l (pair x s t e) g r k h = (k, (constants_hold l e r (behind (literal_token x) s _ h)).1)
+      argument_holds l (pair x s t e) g r k h = (k, (constants_hold l e r (following (literal_token x) s _ h)).1)
 
       pub items_hold : (l : Bool) (k : Kind) (row : Row) (r : Items) → EachNumber P (row_yield k row r)
           → EachOfItems P (items_output l row) × EachNumber P r
-      items_hold l k (ended s) r h = (tt, behind (mark_token (closing k)) s r h)
+      items_hold l k (ended s) r h = (tt, following (mark_token (closing k)) s r h)
       items_hold l k (only x s) r h =
-          let y = item_holds l x tree.NoItems (mark (closing k) s r) h in (y.0 tt, behind (mark_token (closing k)) s r y.1)
+          let y = item_holds l x tree.NoItems (mark (closing k) s r) h in (y.0 tt, following (mark_token (closing k)) s r y.1)
       items_hold l k (then x s xs) r h =
           let y = item_holds l x (items_output l xs) (mark Comma s (row_yield k xs r)) h in
           let z = items_hold l k xs r y.1 in
@@ -215,14 +215,14 @@ module _ (P : ℤ → Type 0) where
           → (EachOfItems P is → EachOfItems P (item_output l x is)) × EachNumber P r
       item_holds l (plain e) is r h = let x = constants_hold l e r h in (λ k. (x.0, k), x.1)
       item_holds l (spread s e) is r h = let x = constants_hold l e r h in (λ k. (x.0, k), x.1)
-      item_holds l (pair x s t e) is r h = (λ k. k, (constants_hold l e r (behind (literal_token x) s _ h)).1)
+      item_holds l (pair x s t e) is r h = (λ k. k, (constants_hold l e r (following (literal_token x) s _ h)).1)
       item_holds l (argument n s e) is r h = (λ k. k, (constants_hold l e r h).1)
 
       pub entries_hold : (l : Bool) (k : Kind) (row : Row) (r : Items) → EachNumber P (row_yield k row r)
           → EachOfEntries P (entries_output l row) × EachNumber P r
-      entries_hold l k (ended s) r h = (tt, behind (mark_token (closing k)) s r h)
+      entries_hold l k (ended s) r h = (tt, following (mark_token (closing k)) s r h)
       entries_hold l k (only x s) r h =
-          let y = entry_holds l x tree.NoEntries (mark (closing k) s r) h in (y.0 tt, behind (mark_token (closing k)) s r y.1)
+          let y = entry_holds l x tree.NoEntries (mark (closing k) s r) h in (y.0 tt, following (mark_token (closing k)) s r y.1)
       entries_hold l k (then x s xs) r h =
           let y = entry_holds l x (entries_output l xs) (mark Comma s (row_yield k xs r)) h in
           let z = entries_hold l k xs r y.1 in
@@ -231,7 +231,7 @@ module _ (P : ℤ → Type 0) where
       entry_holds : (l : Bool) (x : Element) (es : tree.Entries) (r : Items) → EachNumber P (element_yield x r)
           → (EachOfEntries P es → EachOfEntries P (entry_output l x es)) × EachNumber P r
       entry_holds l (pair x s t e) es r h =
-          let y = constants_hold l e r (behind (literal_token x) s _ h) in (λ k. (y.0, k), y.1)
+          let y = constants_hold l e r (following (literal_token x) s _ h) in (λ k. (y.0, k), y.1)
       entry_holds l (spread s e) es r h = let x = constants_hold l e r h in (λ k. (x.0, k), x.1)
       entry_holds l (plain e) es r h = (λ k. k, (constants_hold l e r h).1)
       entry_holds l (argument n s e) es r h = (λ k. k, (constants_hold l e r h).1)
@@ -241,7 +241,7 @@ module _ (P : ℤ → Type 0) where
       attributes_hold l no_attributes r h = (tt, h)
       attributes_hold l (bare n ats) r h = let x = attributes_hold l ats r h in ((tt, x.0), x.1)
       attributes_hold l (quoted n s q t ats) r h =
-          let x = attributes_hold l ats r (behind (quote_token q) t (attributes_yield ats r) h) in ((tt, x.0), x.1)
+          let x = attributes_hold l ats r (following (quote_token q) t (attributes_yield ats r) h) in ((tt, x.0), x.1)
       attributes_hold l (valued n s b e c ats) r h =
           let x = constants_hold l e (mark RightBrace c (attributes_yield ats r)) h in
           let y = attributes_hold l ats r x.1 in
@@ -258,14 +258,14 @@ module _ (P : ℤ → Type 0) where
       suffix_holds : (l : Bool) (start : Span) (e : Expr) (s : Suffix) (r : Items) → EachConstant P e → EachNumber P (suffix_yield s r)
           → EachConstant P (suffix_output l start e s) × EachNumber P r
       suffix_holds l start e (Test s n w g) r k h =
-          let x = args_hold l g r (behind_negation n _ h) in (negation_holds n _ _ (k, x.0), x.1)
+          let x = args_hold l g r (after_negation n _ h) in (negation_holds n _ _ (k, x.0), x.1)
       suffix_holds l start e (Filter s w g) r k h = let x = args_hold l g r h in ((k, x.0), x.1)
       suffix_holds l start e (Subscript s b) r k h = sub_holds l false e b r k h
 
       infix_holds : (l : Bool) (span : Span) (a : Expr) (o : Operator) (b : Expr) (us r : Items) → EachConstant P a
           → EachNumber P (operator_yield o us) → (EachNumber P us → EachConstant P b × EachNumber P r)
           → EachConstant P (operator_output l span a o b) × EachNumber P r
-      infix_holds l span a (Binary o) b us r k h right = let x = right (behind_op o us h) in (op_holds o a b span k x.0, x.1)
+      infix_holds l span a (Binary o) b us r k h right = let x = right (after_op o us h) in (op_holds o a b span k x.0, x.1)
       infix_holds l span a (Condition s c t) b us r k h right =
           let y = constants_hold l c (mark Else t us) h in
           let x = right y.1 in

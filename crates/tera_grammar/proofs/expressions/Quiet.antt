@@ -8,7 +8,7 @@ use Rattle.tera_grammar.specs.expressions.Powers.{right_power, sign_power, right
 use Rattle.tera_grammar.specs.expressions.Reading.Front.{takes, no_link, bracketed, link_of, ends_test, ends_filter, ends_subscript, Front, nothing, joins, closes, misplaced, lead_power, front}
 use Rattle.tera_grammar.proofs.expressions.Fronts.{Apart, Ends}
 
--- The tokens behind an operand begin with nothing that the power m lets in.
+-- The tokens after an operand begin with nothing that the power m lets in.
 abbrev pub StopsAt : ℕ → Front → Type 0
 StopsAt m nothing = Unit {0}
 StopsAt m (joins e us) = lead_power e < m

@@ -1,4 +1,4 @@
--- Brackets, links and heads are read from their tokens, where what stands in them is.
+-- Brackets, links and heads are read from their tokens, where what is in them is.
 use Rattle.std.proofs.Common.{◌≡◌, ℕ, zero, suc, ◌+◌, ◌≤◌, Bool, true, false, List, Some, None, refl, sym, ap, subst, ◌∙◌, ◌⊎◌, inl, inr, ⊎_elim, arith, codes, bytes_eq}
 use Rattle.std.proofs.lemmas.Bool.{cases_Bool}
 use Rattle.std.proofs.lemmas.Slice.Eq.{bytes_eq-Decides}
@@ -20,7 +20,7 @@ use Rattle.tera_grammar.proofs.expressions.Fronts.{none_skip, skip_mark, skip_pa
 use Rattle.tera_grammar.proofs.expressions.FoundRows.{row_toll}
 use Rattle.tera_grammar.proofs.expressions.ReadRows.{Whole, Bars, free, after_end, after_comma, element_read, element_free, row_read}
 
--- something holds of the expression that stands there
+-- something holds of the expression that is there
 abbrev pub EachPart : (Tree → Type 0) → Part → Type 0
 EachPart P absent = Unit {0}
 EachPart P (present e) = P e
@@ -38,7 +38,7 @@ pub inside_array_read : (l : Bool) (s a : ℕ) → inside_array (room l s (suc a
 unfolding inside_array
 inside_array_read l s a = refl
 
--- the tokens behind a bracket, of a slice and of a guard, are no marks of theirs
+-- the tokens after a bracket, of a slice and of a guard, are not marks of theirs
 bracket_past : (m : Mark) → same_token (mark_token RightBracket) (mark_token m) ≡ false → (k : ℕ) (s : Span) (r : Items)
     → skip m (at k (mark RightBracket s r)) ≡ None
 bracket_past m other k s r = skip_past m k (mark_token RightBracket) s r other
@@ -319,7 +319,7 @@ module _ (f : Reader) (bars : Bars f) where
   call_read w n s row j k us r is h = chain_head w n j (mark LeftParen s us) is
       ∙ ap (called_at f w n _) (skip_mark LeftParen refl j s us) ∙ rw h
 
--- no call begins behind the name of a chain
+-- no call begins after the name of a chain
 pub chain_open : (ls : Links) (k : ℕ) (r : Items) → link_of r ≡ no_link → skip LeftParen (at k (links_yield ls r)) ≡ None
 unfolding skip
 chain_open no_links k r h = rw (unlinked_apart r h).call

@@ -27,21 +27,21 @@ other_of a b h false e = refl
 other_both : (a b : List ℕ) → bytes_eq a b ≡ false → bytes_eq b a ≡ false
 other_both a b h = let e = other_of a b h (bytes_eq b a) refl in e
 
-is_behind : (ds more : List (List ℕ)) (n d : List ℕ) → bytes_eq n d ≡ true → is_one_of (ds ++ n ∷ more) d ≡ true
-is_behind ds more n d h =
+is_after : (ds more : List (List ℕ)) (n d : List ℕ) → bytes_eq n d ≡ true → is_one_of (ds ++ n ∷ more) d ≡ true
+is_after ds more n d h =
     list_any-append (λ m. bytes_eq d m) ds (n ∷ more) ∙ or_second (is_one_of ds d) (bytes_eq d n || is_one_of more d) (rw (same_both n d h))
 
 -- a name that is met again
 pub twice : (done more : List (List ℕ)) (n : List ℕ) → is_one_of done n ≡ true → are_distinct (done ++ n ∷ more) ≡ false
 twice [] more n h = cc
 twice (d ∷ ds) more n h =
-    ⊎_elim (λ (here : bytes_eq n d ≡ true). ap (λ b. not b && are_distinct (ds ++ n ∷ more)) (is_behind ds more n d here))
+    ⊎_elim (λ (here : bytes_eq n d ≡ true). ap (λ b. not b && are_distinct (ds ++ n ∷ more)) (is_after ds more n d here))
     (λ (later : is_one_of ds n ≡ true). ap (λ b. not (is_one_of (ds ++ n ∷ more) d) && b) (twice ds more n later)
     ∙ and_false (not (is_one_of (ds ++ n ∷ more) d)))
     (or_either (bytes_eq n d) (is_one_of ds n) h)
 
-not_behind : (ds : List (List ℕ)) (n d : List ℕ) → is_one_of ds d ≡ false → bytes_eq n d ≡ false → is_one_of (ds ++ n ∷ []) d ≡ false
-not_behind ds n d none other = list_any-append (λ m. bytes_eq d m) ds (n ∷ []) ∙ rw (none, other_both n d other)
+not_after : (ds : List (List ℕ)) (n d : List ℕ) → is_one_of ds d ≡ false → bytes_eq n d ≡ false → is_one_of (ds ++ n ∷ []) d ≡ false
+not_after ds n d none other = list_any-append (λ m. bytes_eq d m) ds (n ∷ []) ∙ rw (none, other_both n d other)
 
 -- a name that is met for the first time
 pub once : (done : List (List ℕ)) (n : List ℕ) → are_distinct done ≡ true → is_one_of done n ≡ false → are_distinct (done ++ n ∷ []) ≡ true
@@ -49,4 +49,4 @@ once [] n distinct h = refl
 once (d ∷ ds) n distinct h =
     let (first, rest) = and_ok (not (is_one_of ds d)) (are_distinct ds) distinct in
     let (other, none) = or_false (bytes_eq n d) (is_one_of ds n) h in
-    ap (λ b. not b && are_distinct (ds ++ n ∷ [])) (not_behind ds n d (not_ok (is_one_of ds d) first) other) ∙ once ds n rest none
+    ap (λ b. not b && are_distinct (ds ++ n ∷ [])) (not_after ds n d (not_ok (is_one_of ds d) first) other) ∙ once ds n rest none

@@ -191,7 +191,7 @@ module _ (w : Room) (v : Level) (a : Operand) (p : Place) where
       going_at (front p.tokens) refl
       ∙ ap (λ s. s >>= λ g. go_on (grown_operand w.in_loop) (going w v) a p g) (stops_at (front p.tokens) h)
 
-  -- A `not` that is no `not in` is read nowhere but where it stops.
+  -- A `not` that is not a `not in` is read nowhere but where it stops.
   pub ends_badly : front p.tokens ≡ misplaced → stops v.least (front p.tokens) ≡ false → going w v a p ≡ None
   unfolding step
   ends_badly is goes = let h = subst (λ fr. stops v.least fr ≡ false) is goes in going_at misplaced is ∙ rw h refl
@@ -217,7 +217,7 @@ module _ (w : Room) (v : Level) (a : Operand) (p : Place) where
       let h = subst (λ fr. stops v.least fr ≡ false) is goes in
       going_at (closes e us) is ∙ rw h (closed_alike e (at p.links us))
 
-  -- behind a suffix that was read, and where none is
+  -- after a suffix that was read, and where none is
   pub suffix_holds : (e : Ending) (us : Items) → front p.tokens ≡ closes e us → stops v.least (front p.tokens) ≡ false
       → (s : Suffix) (q : Place) → suffix_of w v e (at p.links us) ≡ Some (s, q)
       → going w v (suffixed w.in_loop a s) q ≡ going w v a p
@@ -288,16 +288,16 @@ begins_at t r k s us h = same_Some _ _ (sym (begins t r) ∙ ap span_of_first h)
 
 -- the head, where it is read by a function of its own
 module _ (w : Room) (v : Level) (p : Place) where
-  -- the loop behind a head
-  abbrev behind : Reads Tree → Shows
-  behind r = outcome w.in_loop r >>= λ h. going w v h.0 h.1
+  -- the loop after a head
+  abbrev following : Reads Tree → Shows
+  following r = outcome w.in_loop r >>= λ h. going w v h.0 h.1
 
   pub heads : (t : Tree) (q : Place) → head_of (expr v.depth) w p ≡ Some (t, q)
       → heading w v p ≡ going w v (shown w.in_loop t) q
-  heads t q h = ap behind h
+  heads t q h = ap following h
 
   pub heads_badly : head_of (expr v.depth) w p ≡ None → heading w v p ≡ None
-  heads_badly h = ap behind h
+  heads_badly h = ap following h
 
   -- an operand begins at the first token that is taken
   pub heads_at : (k : Tok) (s : Span) (us : Items) → p.tokens ≡ Token k s us → (t : Tree) (q : Place)
@@ -307,7 +307,7 @@ module _ (w : Room) (v : Level) (p : Place) where
       (begins_at t q.tokens k s us (sym (head_found v.depth (expr v.depth) (expr_sound v.depth) w p (t, q) h).spelled ∙ is))
 
   paren_opens : (s : Span) (q : Place)
-      → behind (paren_of (expr v.depth) w s q) ≡ (coming v.depth w 0 q >>= resume w (in_paren v s))
+      → following (paren_of (expr v.depth) w s q) ≡ (coming v.depth w 0 q >>= resume w (in_paren v s))
   unfolding paren_of
   paren_opens s q = inside (expr v.depth w 0 q)
     where
@@ -315,18 +315,18 @@ module _ (w : Room) (v : Level) (p : Place) where
       closes_it t r = r >>= λ c. Some (Atomic (Paren s t c.0), c.1)
 
       closed : (t : Tree) (r : Reads Span)
-          → behind (closes_it t r) ≡ (r >>= λ c. going w v (enclosed s (shown w.in_loop t) c.0) c.1)
+          → following (closes_it t r) ≡ (r >>= λ c. going w v (enclosed s (shown w.in_loop t) c.0) c.1)
       closed t None = refl
       closed t (Some c) = refl
 
-      inside : (r : Reads Tree) → behind (r >>= λ e. closes_it e.0 (skip RightParen e.1))
+      inside : (r : Reads Tree) → following (r >>= λ e. closes_it e.0 (skip RightParen e.1))
           ≡ (outcome w.in_loop r >>= resume w (in_paren v s))
       inside None = refl
       inside (Some x) = closed x.0 (skip RightParen x.1)
 
-  prefix_opens : (s : Sign) (q : Place) → begins_sign q.tokens ≡ false → behind (prefix_of (expr v.depth) w s q) ≡ prefixing w v s q
+  prefix_opens : (s : Sign) (q : Place) → begins_sign q.tokens ≡ false → following (prefix_of (expr v.depth) w s q) ≡ prefixing w v s q
   unfolding prefix_of
-  prefix_opens s q h = ap behind (decided h) ∙ inside (expr v.depth w (sign_power s) q)
+  prefix_opens s q h = ap following (decided h) ∙ inside (expr v.depth w (sign_power s) q)
     where
       signs : Reads Tree → Reads Tree
       signs r = r >>= λ e. Some (Prefix s e.0, e.1)
@@ -334,17 +334,17 @@ module _ (w : Room) (v : Level) (p : Place) where
       decided : begins_sign q.tokens ≡ false → prefix_of (expr v.depth) w s q ≡ signs (expr v.depth w (sign_power s) q)
       decided h = ap (λ c. cond c None (signs (expr v.depth w (sign_power s) q))) h
 
-      inside : (r : Reads Tree) → behind (signs r) ≡ (outcome w.in_loop r >>= resume w (in_prefix v s))
+      inside : (r : Reads Tree) → following (signs r) ≡ (outcome w.in_loop r >>= resume w (in_prefix v s))
       inside None = refl
       inside (Some x) = refl
 
-  prefix_refused : (s : Sign) (q : Place) → begins_sign q.tokens ≡ true → behind (prefix_of (expr v.depth) w s q) ≡ None
+  prefix_refused : (s : Sign) (q : Place) → begins_sign q.tokens ≡ true → following (prefix_of (expr v.depth) w s q) ≡ None
   unfolding prefix_of
   prefix_refused s q h =
-      ap (λ c. behind (cond c None (expr v.depth w (sign_power s) q >>= λ e. Some (Prefix s e.0, e.1)))) h
+      ap (λ c. following (cond c None (expr v.depth w (sign_power s) q >>= λ e. Some (Prefix s e.0, e.1)))) h
 
-  begun : (ts : Items) → p.tokens ≡ ts → heading w v p ≡ behind (head_in (expr v.depth) w p.links ts)
-  begun ts is = ap (λ us. behind (head_in (expr v.depth) w p.links us)) is
+  begun : (ts : Items) → p.tokens ≡ ts → heading w v p ≡ following (head_in (expr v.depth) w p.links ts)
+  begun ts is = ap (λ us. following (head_in (expr v.depth) w p.links us)) is
 
   pub heads_paren : (s : Span) (us : Items) → p.tokens ≡ mark LeftParen s us
       → heading w v p ≡ (coming v.depth w 0 (at p.links us) >>= resume w (in_paren v s))
@@ -374,7 +374,7 @@ module _ (w : Room) (v : Level) (p : Place) where
   pub heads_nothing : (n : List ℕ) (s : Span) (us : Items) → p.tokens ≡ Token (Ident n) s us → is_none n ≡ true
       → heading w v p ≡ going w v (tree.Const values.Nothing s, s) (at p.links us)
   unfolding word_head
-  heads_nothing n s us is none = ap behind (worded n s us is) ∙ rw none refl
+  heads_nothing n s us is none = ap following (worded n s us is) ∙ rw none refl
 
   negates : (n : List ℕ) (s : Span) (us : Items) → p.tokens ≡ Token (Ident n) s us → is_none n ≡ false → is_not n ≡ true
       → head_of (expr v.depth) w p ≡ prefix_of (expr v.depth) w (Negates s) (at p.links us)
@@ -383,11 +383,11 @@ module _ (w : Room) (v : Level) (p : Place) where
 
   pub heads_not : (n : List ℕ) (s : Span) (us : Items) → p.tokens ≡ Token (Ident n) s us → is_none n ≡ false → is_not n ≡ true
       → begins_sign us ≡ false → heading w v p ≡ prefixing w v (Negates s) (at p.links us)
-  heads_not n s us is none other h = ap behind (negates n s us is none other) ∙ prefix_opens (Negates s) (at p.links us) h
+  heads_not n s us is none other h = ap following (negates n s us is none other) ∙ prefix_opens (Negates s) (at p.links us) h
 
   pub not_refused : (n : List ℕ) (s : Span) (us : Items) → p.tokens ≡ Token (Ident n) s us → is_none n ≡ false → is_not n ≡ true
       → begins_sign us ≡ true → heading w v p ≡ None
-  not_refused n s us is none other h = ap behind (negates n s us is none other) ∙ prefix_refused (Negates s) (at p.links us) h
+  not_refused n s us is none other h = ap following (negates n s us is none other) ∙ prefix_refused (Negates s) (at p.links us) h
 
   pub heads_array : (s : Span) (us : Items) → p.tokens ≡ mark LeftBracket s us
       → head_of (expr v.depth) w p ≡ array_of (expr v.depth) w s (at p.links us)
@@ -408,7 +408,7 @@ module _ (w : Room) (v : Level) (p : Place) where
   pub heads_no_mark : (o : List ℕ) (s : Span) (us : Items) → p.tokens ≡ Token (Symbol o) s us → head_mark (Symbol o) ≡ Other
       → heading w v p ≡ None
   heads_no_mark o s us is h =
-      begun (Token (Symbol o) s us) is ∙ ap (λ m. behind (mark_head (expr v.depth) w m s (at p.links us))) h
+      begun (Token (Symbol o) s us) is ∙ ap (λ m. following (mark_head (expr v.depth) w m s (at p.links us))) h
 
   pub heads_end : p.tokens ≡ Ended → heading w v p ≡ None
   heads_end is = begun Ended is

@@ -1,4 +1,4 @@
--- The laws of reading: what is read stands in the grammar, what stands in it is read, and so it is the only one.
+-- The laws of reading: what is read is in the grammar, what is in it is read, and so it is the only one.
 use Rattle.std.proofs.Common.{◌≡◌, ℕ, zero, suc, ◌+◌, ◌≤◌, Bool, false, Option, Some, None, refl, sym, ap, subst, ◌∙◌, arith}
 use Rattle.std.proofs.lemmas.Option.{same_Some}
 use Rattle.tera_base.specs.Values as values

@@ -16,7 +16,7 @@ use Rattle.tera_grammar.specs.statements.Expressions.{Limits, Expression, IsExpr
 use Rattle.tera_grammar.specs.statements.Components.{Head, ending_yield, FitsHead}
 use Rattle.tera_grammar.specs.statements.Heads.{Loop, loop_yield, FitsLoop, Filters, NoFilters, Piped, filters_yield, Capture, SetBody, Section, CallBody, capture_end, FitsCapture}
 use Rattle.tera_grammar.specs.statements.Grammar.{Plain, Text, Shown, Set, Include, Extends, Break, Continue, plain_yield, FitsPlain, Body, Done, Then, Item, Single, Block, Define, Capturing, For, If, Branches, Elif, Last, Else, NoElse, Otherwise, yield, item_yield, branches_yield, else_yield, InFor, InForElse, InBlock, InIf, InComponent, InCapture, Path, may_block, in_loop, is_outermost, text_if_any, Fits, FitsItem, FitsBranches, FitsElse, height, item_height, branch_height, else_height}
-use Rattle.tera_grammar.specs.statements.Reading.{Place, at, Reads, Reader, else_in, branch_in, branches, set_behind, set_of, include_of, extends_of, break_of, block_end, block_of, component_def_of, section_of, call_end, call_of, for_of, if_of, tag_of, shown_of, step, go_on, body}
+use Rattle.tera_grammar.specs.statements.Reading.{Place, at, Reads, Reader, else_in, branch_in, branches, set_after, set_of, include_of, extends_of, break_of, block_end, block_of, component_def_of, section_of, call_end, call_of, for_of, if_of, tag_of, shown_of, step, go_on, body}
 use Rattle.tera_grammar.specs.statements.Reading.TagParts.{Front, Ends, Closes, Opens, front}
 use Rattle.tera_grammar.proofs.statements.Names.{NamesAreNew, first_names, having_both, then_names}
 use Rattle.tera_grammar.proofs.statements.Expressions.{expression_found, filter_found, attributes_found, attributes_begin, component_found}
@@ -62,7 +62,7 @@ module _ (l : Limits) (f : Reader) (path : Path) (seen : Seen) where
   step_opens o t r x h = ap (step l f path seen) (front_opening o t r) ∙ ap (λ y. y >>= λ z. Some (Some z)) h
 
   plain_found : (p : Plain) (r : Items) → FitsPlain l path p → step l f path seen (front (plain_yield p r)) ≡ Some (Some (Single p, at seen r))
-  unfolding step shown_of set_of set_behind include_of extends_of break_of
+  unfolding step shown_of set_of set_after include_of extends_of break_of
   plain_found (Text text span) r fits = refl
   plain_found (Shown a e b) r fits = rw (expression_found l (in_loop path) e (Token (toks.Finish kind.Variable b.dash) b.span r) fits refl) refl
   plain_found (Set global t n sign e) r fits =
@@ -100,7 +100,7 @@ module _ (l : Limits) (f : Reader) (path : Path) (seen : Seen) where
   capture_found : (new : Seen) (c : Capture) (b : Body) (r : Items) → FitsCapture l (in_loop path) c →
       f (InCapture ∷ path) (at seen (yield b (capture_end c r))) ≡ Some (b, at new (capture_end c r)) →
       step l f path seen (front (item_yield (Capturing c b) r)) ≡ Some (Some (Capturing c b, at new r))
-  unfolding set_of set_behind section_of call_of call_end
+  unfolding set_of set_after section_of call_of call_end
   capture_found new (SetBody global t n fs e) b r fits read =
       let tail = finish t (yield b (capture_end (SetBody global t n fs e) r)) in
       step_opens (OpensSet global) t _ _ (rw (fits.0, no_sign fs t (yield b (capture_end (SetBody global t n fs e) r)), filters_found l (in_loop path) fs tail fits.1 refl refl, read) refl)
@@ -143,7 +143,7 @@ module _ (l : Limits) (f : Reader) (path : Path) (seen : Seen) where
   last_found again new NoElse t r read = rw read refl
   last_found again new (Otherwise s b) t r read = rw read refl
 
--- no `else` stands there
+-- no `else` is there
 abbrev Lacks : Items → Type 0
 Lacks r = (f : Reader) (path : Path) (seen : Seen) → else_in f path seen r (front r) ≡ Some (NoElse, at seen r)
 

@@ -1,4 +1,4 @@
--- The definition of a component, but for its body: what is read of it is its tokens, and those are read as it.
+-- The definition of a component, except its body: what is read of it is its tokens, and those are read as it.
 use Rattle.std.proofs.Common.{◌≡◌, ◌<◌, ◌≤◌, ℕ, zero, suc, Bool, true, false, Option, Some, None, refl, sym, ap, subst, ◌∙◌, arith, le_refl}
 use Rattle.std.proofs.lemmas.Option.{same_Some}
 use Rattle.tera_base.specs.declared.utils.Span.{Span}
@@ -16,12 +16,12 @@ use Rattle.tera_grammar.specs.statements.TagParts.{Edge, Name, name_yield, Opens
 use Rattle.tera_grammar.specs.statements.Expressions.{Limits, ComponentName, component_yield, component_text, LiteralMap, map_yield}
 use Rattle.tera_grammar.specs.statements.Reading.Expressions.{array_of, map_of}
 use Rattle.tera_grammar.specs.statements.Components.{Default, LiteralDefault, MinusDefault, NothingDefault, ArrayDefault, MapDefault, FitsDefault, default_yield, Annotation, Assigned, Parameter, at_yield, annotation_yield, assigned_yield, parameter_yield, is_known, is_body, FitsAssigned, FitsParameter, Parameters, Closed, Rest, Final, More, parameters_yield, parameter_names, FitEach, FitParameters, Head, head_yield, ending_yield, metadata_yield, component_if_any_yield, component_texts, FitsMetadata, FitsHead}
-use Rattle.tera_grammar.specs.statements.Reading.Components.{minus_of, default_marks, default_by, default_at, default_of, at_in, annotation_in, assigned_in, parameter, fresh_name, parameter_behind, parameter_of, parameters_behind, parameters_at, parameters_in, parameters_by, parameters_of, metadata_in, Opened, opened_of, is_name, end_name_in, head, ending_of}
+use Rattle.tera_grammar.specs.statements.Reading.Components.{minus_of, default_marks, default_by, default_at, default_of, at_in, annotation_in, assigned_in, parameter, fresh_name, parameter_after, parameter_of, parameters_after, parameters_at, parameters_in, parameters_by, parameters_of, metadata_in, Opened, opened_of, is_name, end_name_in, head, ending_of}
 use Rattle.tera_grammar.specs.statements.Reading.Meeting.{Met, meet, nothing_met}
 use Rattle.tera_grammar.proofs.Options.{bound, bind_both, guard_ok, guard_not}
 use Rattle.tera_grammar.proofs.statements.Names.{AreNew, all_new, new_distinct}
-use Rattle.tera_grammar.proofs.statements.Expressions.{component_stands, component_found, component_size, component_begins, array_stands, array_found, array_size, array_begins, map_stands, map_found, map_size, map_begins}
-use Rattle.tera_grammar.proofs.statements.TagParts.{finish_stands, closed_stands}
+use Rattle.tera_grammar.proofs.statements.Expressions.{component_sound, component_found, component_size, component_begins, array_sound, array_found, array_size, array_begins, map_sound, map_found, map_size, map_begins}
+use Rattle.tera_grammar.proofs.statements.TagParts.{finish_sound, closed_sound}
 
 -- no tokens are lost
 default_size : (d : Default) (rest : Items) → size rest ≤ size (default_yield d rest)
@@ -57,7 +57,7 @@ metadata_size : (m : Option LiteralMap) (rest : Items) → size rest ≤ size (m
 metadata_size None rest = le_refl _
 metadata_size (Some m) rest = map_size m rest
 
--- the tokens of an opening tag, behind its first word
+-- the tokens of an opening tag, after its first word
 abbrev pub opened_yield : Opened → Items → Items
 opened_yield o items = component_yield o.name (mark LeftParen o.paren (parameters_yield o.parameters (metadata_yield o.metadata (finish_yield o.finish items))))
 
@@ -84,38 +84,38 @@ module _ (l : Limits) where
   abbrev DefaultStands : Items → Default × Items → Type 0
   DefaultStands ts x = FitsDefault l x.0 × (ts ≡ default_yield x.0 x.1)
 
-  minus_stands : (minus : Span) (ts : Items) (x : Default × Items) → minus_of minus ts ≡ Some x → DefaultStands (mark (Operation Minus) minus ts) x
-  minus_stands minus (Token (Integer n) span items) x h = subst (DefaultStands (mark (Operation Minus) minus (Token (Integer n) span items))) (same_Some (MinusDefault minus n span, items) x h) (tt, refl)
-  minus_stands minus _ x h = cc
+  minus_sound : (minus : Span) (ts : Items) (x : Default × Items) → minus_of minus ts ≡ Some x → DefaultStands (mark (Operation Minus) minus ts) x
+  minus_sound minus (Token (Integer n) span items) x h = subst (DefaultStands (mark (Operation Minus) minus (Token (Integer n) span items))) (same_Some (MinusDefault minus n span, items) x h) (tt, refl)
+  minus_sound minus _ x h = cc
 
-  default_by_stands : (m : Mark) (t : Tok) → among default_marks t ≡ m → (span : Span) (items : Items) (x : Default × Items)
+  default_by_sound : (m : Mark) (t : Tok) → among default_marks t ≡ m → (span : Span) (items : Items) (x : Default × Items)
       → default_by l m span items ≡ Some x → DefaultStands (Token t span items) x
   unfolding default_by
-  default_by_stands (Operation Minus) t is span items x h =
-      subst (λ v. DefaultStands (Token v span items) x) (sym (among_is default_marks t (Operation Minus) is (λ c. cc))) (minus_stands span items x h)
-  default_by_stands LeftBracket t is span items x h =
+  default_by_sound (Operation Minus) t is span items x h =
+      subst (λ v. DefaultStands (Token v span items) x) (sym (among_is default_marks t (Operation Minus) is (λ c. cc))) (minus_sound span items x h)
+  default_by_sound LeftBracket t is span items x h =
       subst (λ v. DefaultStands (Token v span items) x) (sym (among_is default_marks t LeftBracket is (λ c. cc)))
       (bound _ _ _ h (λ a read made.
-      let found = array_stands l (mark LeftBracket span items) a read in
+      let found = array_sound l (mark LeftBracket span items) a read in
       subst (DefaultStands (mark LeftBracket span items)) (same_Some (ArrayDefault a.0, a.1) x made) (found.0, found.1)))
-  default_by_stands LeftBrace t is span items x h =
+  default_by_sound LeftBrace t is span items x h =
       subst (λ v. DefaultStands (Token v span items) x) (sym (among_is default_marks t LeftBrace is (λ c. cc)))
       (bound _ _ _ h (λ m read made.
-      let found = map_stands l (mark LeftBrace span items) m read in
+      let found = map_sound l (mark LeftBrace span items) m read in
       subst (DefaultStands (mark LeftBrace span items)) (same_Some (MapDefault m.0, m.1) x made) (found.0, found.1)))
-  default_by_stands _ t is span items x h = cc
+  default_by_sound _ t is span items x h = cc
 
-  default_stands : (ts : Items) (x : Default × Items) → default_of l ts ≡ Some x → DefaultStands ts x
+  default_sound : (ts : Items) (x : Default × Items) → default_of l ts ≡ Some x → DefaultStands ts x
   unfolding default_of default_at
-  default_stands (Token (toks.Truth b) span items) x h = subst (DefaultStands (Token (toks.Truth b) span items)) (same_Some (LiteralDefault (Truth b) span, items) x h) (tt, refl)
-  default_stands (Token (toks.Str text) span items) x h = subst (DefaultStands (Token (toks.Str text) span items)) (same_Some (LiteralDefault (Quoted (Simple text)) span, items) x h) (tt, refl)
-  default_stands (Token (toks.Escaped text) span items) x h = subst (DefaultStands (Token (toks.Escaped text) span items)) (same_Some (LiteralDefault (Quoted (Escaped text)) span, items) x h) (tt, refl)
-  default_stands (Token (Integer n) span items) x h = subst (DefaultStands (Token (Integer n) span items)) (same_Some (LiteralDefault (Number n) span, items) x h) (tt, refl)
-  default_stands (Token (Ident text) span items) x h =
+  default_sound (Token (toks.Truth b) span items) x h = subst (DefaultStands (Token (toks.Truth b) span items)) (same_Some (LiteralDefault (Truth b) span, items) x h) (tt, refl)
+  default_sound (Token (toks.Str text) span items) x h = subst (DefaultStands (Token (toks.Str text) span items)) (same_Some (LiteralDefault (Quoted (Simple text)) span, items) x h) (tt, refl)
+  default_sound (Token (toks.Escaped text) span items) x h = subst (DefaultStands (Token (toks.Escaped text) span items)) (same_Some (LiteralDefault (Quoted (Escaped text)) span, items) x h) (tt, refl)
+  default_sound (Token (Integer n) span items) x h = subst (DefaultStands (Token (Integer n) span items)) (same_Some (LiteralDefault (Number n) span, items) x h) (tt, refl)
+  default_sound (Token (Ident text) span items) x h =
       bound _ _ _ h (λ u none made.
       subst (DefaultStands (Token (Ident text) span items)) (same_Some (NothingDefault (record { text = text; span = span }), items) x made) (guard_ok _ u none, refl))
-  default_stands (Token (Symbol op) span items) x h = default_by_stands (among default_marks (Symbol op)) (Symbol op) refl span items x h
-  default_stands _ x h = cc
+  default_sound (Token (Symbol op) span items) x h = default_by_sound (among default_marks (Symbol op)) (Symbol op) refl span items x h
+  default_sound _ x h = cc
 
   begun_array : (ts : Items) (span : Span) (items : Items) → ts ≡ mark LeftBracket span items → default_of l ts ≡ (array_of l ts >>= λ a. Some (ArrayDefault a.0, a.1))
   unfolding default_of default_at default_by
@@ -141,15 +141,15 @@ module _ (l : Limits) where
       begun_map _ span items is ∙ ap (λ o. o >>= λ b. Some (MapDefault b.0, b.1)) (map_found l m rest fits)
 
   -- the parts of a parameter
-  at_stands : (ts : Items) (o : Option (Span × Items)) → takes At ts ≡ o → ts ≡ at_yield (at_in ts o).0 (at_in ts o).1
-  at_stands ts None is = refl
-  at_stands ts (Some x) is = takes_ok At ts x is
+  at_sound : (ts : Items) (o : Option (Span × Items)) → takes At ts ≡ o → ts ≡ at_yield (at_in ts o).0 (at_in ts o).1
+  at_sound ts None is = refl
+  at_sound ts (Some x) is = takes_ok At ts x is
 
-  annotation_stands : (ts : Items) (o : Option (Span × Items)) (x : Option Annotation × Items) → takes Colon ts ≡ o → annotation_in ts o ≡ Some x
+  annotation_sound : (ts : Items) (o : Option (Span × Items)) (x : Option Annotation × Items) → takes Colon ts ≡ o → annotation_in ts o ≡ Some x
       → (is_known x.0 ≡ true) × (ts ≡ annotation_yield x.0 x.1)
   unfolding annotation_in
-  annotation_stands ts None x is h = subst (λ (y : Option Annotation × Items). (is_known y.0 ≡ true) × (ts ≡ annotation_yield y.0 y.1)) (same_Some (None, ts) x h) (refl, refl)
-  annotation_stands ts (Some colon) x is h =
+  annotation_sound ts None x is h = subst (λ (y : Option Annotation × Items). (is_known y.0 ≡ true) × (ts ≡ annotation_yield y.0 y.1)) (same_Some (None, ts) x h) (refl, refl)
+  annotation_sound ts (Some colon) x is h =
       bound _ _ _ h (λ n read more. bound _ _ _ more (λ u known made.
       subst (λ (y : Option Annotation × Items). (is_known y.0 ≡ true) × (ts ≡ annotation_yield y.0 y.1)) (same_Some (Some (record { colon = colon.0; name = n.0 }), n.1) x made)
       (guard_ok _ u known, takes_ok Colon ts colon is ∙ ap (mark Colon colon.0) (taken_name_ok colon.1 n read))))
@@ -159,13 +159,13 @@ module _ (l : Limits) where
   annotation_found None rest known none = ap (annotation_in rest) none
   annotation_found (Some a) rest known none = rw known refl
 
-  assigned_stands : (ts : Items) (o : Option (Span × Items)) (x : Option Assigned × Items) → takes Assign ts ≡ o → assigned_in l ts o ≡ Some x
+  assigned_sound : (ts : Items) (o : Option (Span × Items)) (x : Option Assigned × Items) → takes Assign ts ≡ o → assigned_in l ts o ≡ Some x
       → FitsAssigned l x.0 × (ts ≡ assigned_yield x.0 x.1)
   unfolding assigned_in
-  assigned_stands ts None x is h = subst (λ (y : Option Assigned × Items). FitsAssigned l y.0 × (ts ≡ assigned_yield y.0 y.1)) (same_Some (None, ts) x h) (tt, refl)
-  assigned_stands ts (Some sign) x is h =
+  assigned_sound ts None x is h = subst (λ (y : Option Assigned × Items). FitsAssigned l y.0 × (ts ≡ assigned_yield y.0 y.1)) (same_Some (None, ts) x h) (tt, refl)
+  assigned_sound ts (Some sign) x is h =
       bound _ _ _ h (λ d read made.
-      let found = default_stands sign.1 d read in
+      let found = default_sound sign.1 d read in
       subst (λ (y : Option Assigned × Items). FitsAssigned l y.0 × (ts ≡ assigned_yield y.0 y.1)) (same_Some (Some (record { sign = sign.0; value = d.0 }), d.1) x made)
       (found.0, takes_ok Assign ts sign is ∙ ap (mark Assign sign.0) found.1))
 
@@ -174,8 +174,8 @@ module _ (l : Limits) where
   assigned_found None rest fits none = ap (assigned_in l rest) none
   assigned_found (Some d) rest fits none = rw (default_found d.value rest fits) refl
 
-  fresh_name_stands : (seen : Met) (ts : Items) (x : Name × Items) → fresh_name seen ts ≡ Some x → (is_body x.0.text ≡ false) × (seen x.0.text ≡ false) × (ts ≡ name_yield x.0 x.1)
-  fresh_name_stands seen ts x h =
+  fresh_name_sound : (seen : Met) (ts : Items) (x : Name × Items) → fresh_name seen ts ≡ Some x → (is_body x.0.text ≡ false) × (seen x.0.text ≡ false) × (ts ≡ name_yield x.0 x.1)
+  fresh_name_sound seen ts x h =
       bound _ _ _ h (λ n read rest. bound _ _ _ rest (λ u other more. bound _ _ _ more (λ v fresh made.
       subst (λ (y : Name × Items). (is_body y.0.text ≡ false) × (seen y.0.text ≡ false) × (ts ≡ name_yield y.0 y.1)) (same_Some n x made)
       (guard_not _ u other, guard_not _ v fresh, taken_name_ok ts n read))))
@@ -184,20 +184,20 @@ module _ (l : Limits) where
   abbrev ParameterStands : Met → Items → Parameter × Items → Type 0
   ParameterStands seen ts x = FitsParameter l x.0 × (seen x.0.name.text ≡ false) × (ts ≡ parameter_yield x.0 x.1)
 
-  parameter_behind_stands : (seen : Met) (at : Option Span) (ts : Items) (x : Parameter × Items) → parameter_behind l seen at ts ≡ Some x → ParameterStands seen (at_yield at ts) x
-  unfolding parameter_behind
-  parameter_behind_stands seen at ts x h =
+  parameter_after_sound : (seen : Met) (at : Option Span) (ts : Items) (x : Parameter × Items) → parameter_after l seen at ts ≡ Some x → ParameterStands seen (at_yield at ts) x
+  unfolding parameter_after
+  parameter_after_sound seen at ts x h =
       bound _ _ _ h (λ n named rest. bound _ _ _ rest (λ t typed rest'. bound _ _ _ rest' (λ d defaulted more. bound _ _ _ more (λ u fits made.
-      let name = fresh_name_stands seen ts n named in
-      let type = annotation_stands n.1 (takes Colon n.1) t refl typed in
-      let value = assigned_stands t.1 (takes Assign t.1) d refl defaulted in
+      let name = fresh_name_sound seen ts n named in
+      let type = annotation_sound n.1 (takes Colon n.1) t refl typed in
+      let value = assigned_sound t.1 (takes Assign t.1) d refl defaulted in
       subst (ParameterStands seen (at_yield at ts)) (same_Some (parameter at n.0 t.0 d.0, d.1) x made)
       ((name.0, type.0, value.0, guard_ok _ u fits), name.1, ap (at_yield at) (name.2 ∙ ap (name_yield n.0) (type.1 ∙ ap (annotation_yield t.0) value.1)))))))
 
-  parameter_stands : (seen : Met) (ts : Items) (x : Parameter × Items) → parameter_of l seen ts ≡ Some x → ParameterStands seen ts x
-  parameter_stands seen ts x h =
-      let found = parameter_behind_stands seen (at_in ts (takes At ts)).0 (at_in ts (takes At ts)).1 x h in
-      (found.0, found.1, at_stands ts (takes At ts) refl ∙ found.2)
+  parameter_sound : (seen : Met) (ts : Items) (x : Parameter × Items) → parameter_of l seen ts ≡ Some x → ParameterStands seen ts x
+  parameter_sound seen ts x h =
+      let found = parameter_after_sound seen (at_in ts (takes At ts)).0 (at_in ts (takes At ts)).1 x h in
+      (found.0, found.1, at_sound ts (takes At ts) refl ∙ found.2)
 
   at_found : (at : Option Span) (n : Name) (rest : Items) → at_in (at_yield at (name_yield n rest)) (takes At (at_yield at (name_yield n rest))) ≡ (at, name_yield n rest)
   at_found None n rest = refl
@@ -209,9 +209,9 @@ module _ (l : Limits) where
 
   parameter_found : (seen : Met) (p : Parameter) (rest : Items) → FitsParameter l p → seen p.name.text ≡ false → takes Colon rest ≡ None → takes Assign rest ≡ None
       → parameter_of l seen (parameter_yield p rest) ≡ Some (p, rest)
-  unfolding parameter_behind
+  unfolding parameter_after
   parameter_found seen p rest fits fresh colon sign =
-      ap (λ (y : Option Span × Items). parameter_behind l seen y.0 y.1) (at_found p.at p.name (annotation_yield p.type (assigned_yield p.default rest)))
+      ap (λ (y : Option Span × Items). parameter_after l seen y.0 y.1) (at_found p.at p.name (annotation_yield p.type (assigned_yield p.default rest)))
       ∙ rw (fits.0, fresh, annotation_found p.type (assigned_yield p.default rest) fits.1 (no_colon p.default rest colon), assigned_found p.default rest fits.2 sign, fits.3) refl
 
   -- parameters
@@ -221,61 +221,61 @@ module _ (l : Limits) where
   abbrev AllStand : (Met → Items → Takes Parameters) → Type 0
   AllStand again = (seen : Met) (ts : Items) (x : Parameters × Items) → again seen ts ≡ Some x → ParametersStand seen ts x
 
-  parameters_behind_stand : (again : Met → Items → Takes Parameters) → AllStand again → (seen : Met) (p : Parameter) (ts us : Items) (o : Option (Span × Items)) (x : Parameters × Items)
-      → ParameterStands seen ts (p, us) → takes RightParen us ≡ o → parameters_behind again seen p us o ≡ Some x → ParametersStand seen ts x
-  unfolding parameters_behind
-  parameters_behind_stand again goes seen p ts us (Some end) x stands is h =
+  parameters_after_sound : (again : Met → Items → Takes Parameters) → AllStand again → (seen : Met) (p : Parameter) (ts us : Items) (o : Option (Span × Items)) (x : Parameters × Items)
+      → ParameterStands seen ts (p, us) → takes RightParen us ≡ o → parameters_after again seen p us o ≡ Some x → ParametersStand seen ts x
+  unfolding parameters_after
+  parameters_after_sound again goes seen p ts us (Some end) x sound is h =
       subst (ParametersStand seen ts) (same_Some (Final p end.0, end.1) x h)
-      (stands.0, (stands.1, tt), stands.2 ∙ ap (parameter_yield p) (takes_ok RightParen us end is))
-  parameters_behind_stand again goes seen p ts us None x stands is h =
+      (sound.0, (sound.1, tt), sound.2 ∙ ap (parameter_yield p) (takes_ok RightParen us end is))
+  parameters_after_sound again goes seen p ts us None x sound is h =
       bound _ _ _ h (λ comma read more. bound _ _ _ more (λ ps others made.
       let then = goes (meet p.name.text seen) comma.1 ps others in
       subst (ParametersStand seen ts) (same_Some (More p comma.0 ps.0, ps.1) x made) (
-        (stands.0, then.0),
-        (stands.1, then.1),
-        stands.2 ∙ ap (parameter_yield p) (takes_ok Comma us comma read ∙ ap (mark Comma comma.0) then.2),
+        (sound.0, then.0),
+        (sound.1, then.1),
+        sound.2 ∙ ap (parameter_yield p) (takes_ok Comma us comma read ∙ ap (mark Comma comma.0) then.2),
       )))
 
-  parameters_at_stand : (again : Met → Items → Takes Parameters) → AllStand again → (seen : Met) (ts : Items) (o : Option (Span × Items)) (x : Parameters × Items)
+  parameters_at_sound : (again : Met → Items → Takes Parameters) → AllStand again → (seen : Met) (ts : Items) (o : Option (Span × Items)) (x : Parameters × Items)
       → takes Spread ts ≡ o → parameters_at again l seen ts o ≡ Some x → ParametersStand seen ts x
   unfolding parameters_at
-  parameters_at_stand again goes seen ts (Some dots) x is h =
+  parameters_at_sound again goes seen ts (Some dots) x is h =
       bound _ _ _ h (λ n named more. bound _ _ _ more (λ end ended made.
-      let name = fresh_name_stands seen dots.1 n named in
+      let name = fresh_name_sound seen dots.1 n named in
       subst (ParametersStand seen ts) (same_Some (Rest dots.0 n.0 end.0, end.1) x made) (
         name.0,
         (name.1, tt),
         takes_ok Spread ts dots is ∙ ap (mark Spread dots.0) (name.2 ∙ ap (name_yield n.0) (takes_ok RightParen n.1 end ended)),
       )))
-  parameters_at_stand again goes seen ts None x is h =
+  parameters_at_sound again goes seen ts None x is h =
       bound _ _ _ h (λ p read more.
-      parameters_behind_stand again goes seen p.0 ts p.1 (takes RightParen p.1) x (parameter_stands seen ts p read) refl more)
+      parameters_after_sound again goes seen p.0 ts p.1 (takes RightParen p.1) x (parameter_sound seen ts p read) refl more)
 
-  parameters_in_stand : (again : Met → Items → Takes Parameters) → AllStand again → (seen : Met) (ts : Items) (o : Option (Span × Items)) (x : Parameters × Items)
+  parameters_in_sound : (again : Met → Items → Takes Parameters) → AllStand again → (seen : Met) (ts : Items) (o : Option (Span × Items)) (x : Parameters × Items)
       → takes RightParen ts ≡ o → parameters_in again l seen ts o ≡ Some x → ParametersStand seen ts x
   unfolding parameters_in
-  parameters_in_stand again goes seen ts (Some end) x is h =
+  parameters_in_sound again goes seen ts (Some end) x is h =
       subst (ParametersStand seen ts) (same_Some (Closed end.0, end.1) x h) (tt, tt, takes_ok RightParen ts end is)
-  parameters_in_stand again goes seen ts None x is h = parameters_at_stand again goes seen ts (takes Spread ts) x refl h
+  parameters_in_sound again goes seen ts None x is h = parameters_at_sound again goes seen ts (takes Spread ts) x refl h
 
-  parameters_by_stand : (n : ℕ) → AllStand (parameters_by n l)
+  parameters_by_sound : (n : ℕ) → AllStand (parameters_by n l)
   unfolding parameters_by
-  parameters_by_stand zero seen ts x h = cc
-  parameters_by_stand (suc n) seen ts x h = parameters_in_stand (parameters_by n l) (parameters_by_stand n) seen ts (takes RightParen ts) x refl h
+  parameters_by_sound zero seen ts x h = cc
+  parameters_by_sound (suc n) seen ts x h = parameters_in_sound (parameters_by n l) (parameters_by_sound n) seen ts (takes RightParen ts) x refl h
 
-  parameters_stand : AllStand (parameters_of l)
+  parameters_sound : AllStand (parameters_of l)
   unfolding parameters_of
-  parameters_stand seen ts x h = parameters_by_stand (suc (size ts)) seen ts x h
+  parameters_sound seen ts x h = parameters_by_sound (suc (size ts)) seen ts x h
 
   -- the number that bounds them has no say
   abbrev Agree : (Met → Items → Takes Parameters) → (Met → Items → Takes Parameters) → Items → Type 0
   Agree again other ts = (seen : Met) (us : Items) → size us < size ts → again seen us ≡ other seen us
 
-  behind_agree : (again other : Met → Items → Takes Parameters) (seen : Met) (p : Parameter) (ts us : Items) → ts ≡ parameter_yield p us → Agree again other ts
-      → (o : Option (Span × Items)) → parameters_behind again seen p us o ≡ parameters_behind other seen p us o
-  unfolding parameters_behind
-  behind_agree again other seen p ts us is goes (Some end) = refl
-  behind_agree again other seen p ts us is goes None =
+  after_agree : (again other : Met → Items → Takes Parameters) (seen : Met) (p : Parameter) (ts us : Items) → ts ≡ parameter_yield p us → Agree again other ts
+      → (o : Option (Span × Items)) → parameters_after again seen p us o ≡ parameters_after other seen p us o
+  unfolding parameters_after
+  after_agree again other seen p ts us is goes (Some end) = refl
+  after_agree again other seen p ts us is goes None =
       bind_both _ _ _ (λ comma read.
       let shorter : size comma.1 < size ts =
       subst (λ v. size comma.1 < size v) (sym (is ∙ ap (parameter_yield p) (takes_ok Comma us comma read))) (omega (arith, parameter_size p (mark Comma comma.0 comma.1))) in
@@ -286,7 +286,7 @@ module _ (l : Limits) where
   unfolding parameters_at
   at_agree again other seen ts goes (Some dots) = refl
   at_agree again other seen ts goes None =
-      bind_both _ _ _ (λ p read. behind_agree again other seen p.0 ts p.1 (parameter_stands seen ts p read).2 goes (takes RightParen p.1))
+      bind_both _ _ _ (λ p read. after_agree again other seen p.0 ts p.1 (parameter_sound seen ts p read).2 goes (takes RightParen p.1))
 
   in_agree : (again other : Met → Items → Takes Parameters) (seen : Met) (ts : Items) → Agree again other ts
       → (o : Option (Span × Items)) → parameters_in again l seen ts o ≡ parameters_in other l seen ts o
@@ -316,35 +316,35 @@ module _ (l : Limits) where
   no_dots (Some span) n rest = refl
 
   -- what is read at a parameter
-  read_behind : (seen : Met) (p : Parameter) (us : Items) → FitsParameter l p → seen p.name.text ≡ false → takes Colon us ≡ None → takes Assign us ≡ None
-      → parameters_of l seen (parameter_yield p us) ≡ parameters_behind (parameters_of l) seen p us (takes RightParen us)
+  read_after : (seen : Met) (p : Parameter) (us : Items) → FitsParameter l p → seen p.name.text ≡ false → takes Colon us ≡ None → takes Assign us ≡ None
+      → parameters_of l seen (parameter_yield p us) ≡ parameters_after (parameters_of l) seen p us (takes RightParen us)
   unfolding parameters_in parameters_at
-  read_behind seen p us fits fresh colon sign =
-      let behind = annotation_yield p.type (assigned_yield p.default us) in
+  read_after seen p us fits fresh colon sign =
+      let following = annotation_yield p.type (assigned_yield p.default us) in
       parameters_steps seen (parameter_yield p us)
-      ∙ ap (parameters_in (parameters_of l) l seen (parameter_yield p us)) (no_end p.at p.name behind)
-      ∙ ap (parameters_at (parameters_of l) l seen (parameter_yield p us)) (no_dots p.at p.name behind)
-      ∙ ap (λ o. o >>= λ q. parameters_behind (parameters_of l) seen q.0 q.1 (takes RightParen q.1)) (parameter_found seen p us fits fresh colon sign)
+      ∙ ap (parameters_in (parameters_of l) l seen (parameter_yield p us)) (no_end p.at p.name following)
+      ∙ ap (parameters_at (parameters_of l) l seen (parameter_yield p us)) (no_dots p.at p.name following)
+      ∙ ap (λ o. o >>= λ q. parameters_after (parameters_of l) seen q.0 q.1 (takes RightParen q.1)) (parameter_found seen p us fits fresh colon sign)
 
   parameters_found : (ps : Parameters) (seen : Met) (rest : Items) → FitEach l ps → AreNew seen (parameter_names ps) → parameters_of l seen (parameters_yield ps rest) ≡ Some (ps, rest)
-  unfolding parameters_in parameters_at parameters_behind
+  unfolding parameters_in parameters_at parameters_after
   parameters_found (Closed end) seen rest fits new = parameters_steps seen _
   parameters_found (Rest dots n end) seen rest fits new =
       parameters_steps seen (parameters_yield (Rest dots n end) rest) ∙ rw (fits, new.0) refl
   parameters_found (Final p end) seen rest fits new =
-      read_behind seen p (mark RightParen end rest) fits new.0 refl refl
+      read_after seen p (mark RightParen end rest) fits new.0 refl refl
   parameters_found (More p comma ps) seen rest fits new =
-      read_behind seen p (mark Comma comma (parameters_yield ps rest)) fits.0 new.0 refl refl
+      read_after seen p (mark Comma comma (parameters_yield ps rest)) fits.0 new.0 refl refl
       ∙ ap (λ o. o >>= λ qs. Some (More p comma qs.0, qs.1))
       (parameters_found ps (meet p.name.text seen) rest fits.1 new.1)
 
   -- metadata
-  metadata_stands : (ts : Items) (b : Bool) (x : Option LiteralMap × Items) → metadata_in l ts b ≡ Some x → FitsMetadata l x.0 × (ts ≡ metadata_yield x.0 x.1)
+  metadata_sound : (ts : Items) (b : Bool) (x : Option LiteralMap × Items) → metadata_in l ts b ≡ Some x → FitsMetadata l x.0 × (ts ≡ metadata_yield x.0 x.1)
   unfolding metadata_in
-  metadata_stands ts false x h = subst (λ (y : Option LiteralMap × Items). FitsMetadata l y.0 × (ts ≡ metadata_yield y.0 y.1)) (same_Some (None, ts) x h) (tt, refl)
-  metadata_stands ts true x h =
+  metadata_sound ts false x h = subst (λ (y : Option LiteralMap × Items). FitsMetadata l y.0 × (ts ≡ metadata_yield y.0 y.1)) (same_Some (None, ts) x h) (tt, refl)
+  metadata_sound ts true x h =
       bound _ _ _ h (λ m read made.
-      let found = map_stands l ts m read in
+      let found = map_sound l ts m read in
       subst (λ (y : Option LiteralMap × Items). FitsMetadata l y.0 × (ts ≡ metadata_yield y.0 y.1)) (same_Some (Some m.0, m.1) x made) (found.0, found.1))
 
   metadata_found : (m : Option LiteralMap) (rest : Items) → FitsMetadata l m → begins LeftBrace rest ≡ false → metadata_in l (metadata_yield m rest) (begins LeftBrace (metadata_yield m rest)) ≡ Some (m, rest)
@@ -361,18 +361,18 @@ module _ (l : Limits) where
     pub metadata : FitsMetadata l x.0.metadata
     pub tokens : ts ≡ opened_yield x.0 x.1
 
-  pub opened_stands : (seen : Met) (ts : Items) (x : Opened × Items) → opened_of l seen ts ≡ Some x → OpenedStands seen ts x
+  pub opened_sound : (seen : Met) (ts : Items) (x : Opened × Items) → opened_of l seen ts ≡ Some x → OpenedStands seen ts x
   unfolding opened_of
-  opened_stands seen ts x h =
+  opened_sound seen ts x h =
       bound _ _ _ h (λ n named rest1. bound _ _ _ rest1 (λ u fresh rest2. bound _ _ _ rest2 (λ paren opened rest3. bound _ _ _ rest3 (λ ps listed rest4. bound _ _ _ rest4 (λ m meant more. bound _ _ _ more (λ f ended made.
-      let parameters = parameters_stand nothing_met paren.1 ps listed in
-      let metadata = metadata_stands ps.1 (begins LeftBrace ps.1) m meant in
+      let parameters = parameters_sound nothing_met paren.1 ps listed in
+      let metadata = metadata_sound ps.1 (begins LeftBrace ps.1) m meant in
       subst (OpenedStands seen ts) (same_Some (record { name = n.0; paren = paren.0; parameters = ps.0; metadata = m.0; finish = f.0 }, f.1) x made) (record {
         fresh = guard_not _ u fresh;
         parameters = (parameters.0, new_distinct nothing_met (parameter_names ps.0) parameters.1);
         metadata = metadata.0;
-        tokens = component_stands ts n named ∙ ap (component_yield n.0) (takes_ok LeftParen n.1 paren opened ∙ ap (mark LeftParen paren.0)
-            (parameters.2 ∙ ap (parameters_yield ps.0) (metadata.1 ∙ ap (metadata_yield m.0) (finish_stands m.1 f ended))));
+        tokens = component_sound ts n named ∙ ap (component_yield n.0) (takes_ok LeftParen n.1 paren opened ∙ ap (mark LeftParen paren.0)
+            (parameters.2 ∙ ap (parameters_yield ps.0) (metadata.1 ∙ ap (metadata_yield m.0) (finish_sound m.1 f ended))));
       })))))))
 
   pub opened_found : (seen : Met) (o : Opened) (rest : Items) → seen (component_text o.name) ≡ false → FitParameters l o.parameters → FitsMetadata l o.metadata
@@ -387,12 +387,12 @@ module _ (l : Limits) where
       ) refl
 
   -- the closing tag
-  end_name_stands : (ts : Items) (b : Bool) (x : Option ComponentName × Items) → end_name_in ts b ≡ Some x → ts ≡ component_if_any_yield x.0 x.1
+  end_name_sound : (ts : Items) (b : Bool) (x : Option ComponentName × Items) → end_name_in ts b ≡ Some x → ts ≡ component_if_any_yield x.0 x.1
   unfolding end_name_in
-  end_name_stands ts false x h = subst (λ (y : Option ComponentName × Items). ts ≡ component_if_any_yield y.0 y.1) (same_Some (None, ts) x h) refl
-  end_name_stands ts true x h =
+  end_name_sound ts false x h = subst (λ (y : Option ComponentName × Items). ts ≡ component_if_any_yield y.0 y.1) (same_Some (None, ts) x h) refl
+  end_name_sound ts true x h =
       bound _ _ _ h (λ n read made.
-      subst (λ (y : Option ComponentName × Items). ts ≡ component_if_any_yield y.0 y.1) (same_Some (Some n.0, n.1) x made) (component_stands ts n read))
+      subst (λ (y : Option ComponentName × Items). ts ≡ component_if_any_yield y.0 y.1) (same_Some (Some n.0, n.1) x made) (component_sound ts n read))
 
   end_name_found : (n : Option ComponentName) (e : Edge) (rest : Items) →
       end_name_in (component_if_any_yield n (finish_yield e rest)) (is_name (component_if_any_yield n (finish_yield e rest))) ≡ Some (n, finish_yield e rest)
@@ -410,13 +410,13 @@ module _ (l : Limits) where
     pub name : x.0.name ≡ o.name
     pub parameters : x.0.parameters ≡ o.parameters
 
-  pub ending_stands : (start : Edge) (first : Span) (o : Opened) (ts : Items) (x : Head × Items) → ending_of start first o ts ≡ Some x → EndingStands start first o ts x
+  pub ending_sound : (start : Edge) (first : Span) (o : Opened) (ts : Items) (x : Head × Items) → ending_of start first o ts ≡ Some x → EndingStands start first o ts x
   unfolding ending_of
-  ending_stands start first o ts x h =
-      bound _ _ _ h (λ e stands rest1. bound _ _ _ rest1 (λ n named rest2. bound _ _ _ rest2 (λ u agreed more. bound _ _ _ more (λ f ended made.
+  ending_sound start first o ts x h =
+      bound _ _ _ h (λ e sound rest1. bound _ _ _ rest1 (λ n named rest2. bound _ _ _ rest2 (λ u agreed more. bound _ _ _ more (λ f ended made.
       subst (EndingStands start first o ts) (same_Some (head start first o e.0.0 e.0.1 n.0 f.0, f.1) x made) (record {
-        tokens = closed_stands AtEndComponent ts e stands
-            ∙ ap (λ v. start_yield e.0.0 (Token (closer_token AtEndComponent) e.0.1 v)) (end_name_stands e.1 (is_name e.1) n named ∙ ap (component_if_any_yield n.0) (finish_stands n.1 f ended));
+        tokens = closed_sound AtEndComponent ts e sound
+            ∙ ap (λ v. start_yield e.0.0 (Token (closer_token AtEndComponent) e.0.1 v)) (end_name_sound e.1 (is_name e.1) n named ∙ ap (component_if_any_yield n.0) (finish_sound n.1 f ended));
         opened = λ items. refl;
         fits = λ parameters metadata. (parameters, metadata, guard_ok _ u agreed);
         name = refl;

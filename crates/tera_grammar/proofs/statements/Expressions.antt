@@ -1,6 +1,6 @@
--- The laws of what the statements use of expressions: what is read meets its condition and its tokens were
--- there (`.._stands`); what meets its condition is read from its tokens, whatever else stands there
--- (`.._found`); no tokens are lost (`.._size`); none is a marker (`.._closed`); and what some of them begin with.
+-- The laws of what the statements use of expressions: what is read meets its condition and its tokens were there
+-- (`.._sound`); what meets its condition is read from its tokens, whatever else is there (`.._found`); no tokens are
+-- lost (`.._size`); none is a marker (`.._closed`); and what some of them begin with.
 use Rattle.std.proofs.Common.{◌≡◌, ◌≤◌, ℕ, Bool, true, false, ◌||◌, List, codes, Some, None, inl, inr, refl, sym, ap, subst, arith, le_refl}
 use Rattle.std.specs.Str.{bytes_eq}
 use Rattle.tera_base.specs.declared.utils.Span.{Span}
@@ -22,7 +22,7 @@ use Rattle.tera_grammar.specs.expressions.Ends.{IsStop}
 use Rattle.tera_grammar.proofs.statements.Inside.{IsClosed}
 use Rattle.tera_grammar.proofs.Options.{bytes_same}
 
--- what stands behind an expression of a tag, a filter, attributes
+-- what comes after an expression of a tag, a filter, attributes
 abbrev pub is_finish : Items → Bool
 is_finish (Token (Finish kind dash) span items) = true
 is_finish items = false
@@ -36,7 +36,7 @@ ends_filter items = is_finish items || begins Bar items
 abbrev pub ends_attributes : Items → Bool
 ends_attributes items = begins (Operation Div) items || begins (Operation GreaterThan) items
 
--- what passes on to a token in front that is no marker: no fewer tokens than these, and to be closed
+-- what passes on to a token in front that is not a marker: no fewer tokens than these, and to be closed
 abbrev IsLonger : Items → Items → Type 0
 IsLonger start r = size start ≤ size r
 
@@ -70,9 +70,9 @@ no_dot (Token t s r) h = rw h
 no_dot _ h = refl
 
 -- expressions, before the end of a tag
-pub expression_stands : (l : Limits) (in_loop : Bool) (items : Items) (x : Expression × Items) → expression_of l in_loop items ≡ Some x → IsExpression l in_loop x.0 × (items ≡ expression_yield x.0 x.1)
+pub expression_sound : (l : Limits) (in_loop : Bool) (items : Items) (x : Expression × Items) → expression_of l in_loop items ≡ Some x → IsExpression l in_loop x.0 × (items ≡ expression_yield x.0 x.1)
 unfolding IsExpression expression_yield
-expression_stands l in_loop items x h = let (is, condition, within) = wholes.expression_found l in_loop items x.1 x.0 h in ((condition, within), is)
+expression_sound l in_loop items x h = let (is, condition, within) = wholes.expression_found l in_loop items x.1 x.0 h in ((condition, within), is)
 
 pub expression_found : (l : Limits) (in_loop : Bool) (e : Expression) (rest : Items) → IsExpression l in_loop e → ends_expression rest ≡ true → expression_of l in_loop (expression_yield e rest) ≡ Some (e, rest)
 unfolding IsExpression expression_yield
@@ -92,9 +92,9 @@ unfolding expression_output
 expression_plain in_loop e = output_bodiless in_loop e
 
 -- filters of a tag, before a bar or the end of the tag
-pub filter_stands : (l : Limits) (in_loop : Bool) (items : Items) (x : Filtering × Items) → filter_of l in_loop items ≡ Some x → IsFilter l in_loop x.0 × (items ≡ filter_yield x.0 x.1)
+pub filter_sound : (l : Limits) (in_loop : Bool) (items : Items) (x : Filtering × Items) → filter_of l in_loop items ≡ Some x → IsFilter l in_loop x.0 × (items ≡ filter_yield x.0 x.1)
 unfolding IsFilter filter_yield
-filter_stands l in_loop items x h = let (is, condition, within) = wholes.filter_found l in_loop items x.1 x.0 h in ((condition, within), is)
+filter_sound l in_loop items x h = let (is, condition, within) = wholes.filter_found l in_loop items x.1 x.0 h in ((condition, within), is)
 
 pub filter_found : (l : Limits) (in_loop : Bool) (f : Filtering) (rest : Items) → IsFilter l in_loop f → ends_filter rest ≡ true → filter_of l in_loop (filter_yield f rest) ≡ Some (f, rest)
 unfolding IsFilter filter_yield
@@ -109,9 +109,9 @@ unfolding filter_yield
 filter_closed f rest is = args_later (IsClosed true) closed_later f.args rest is
 
 -- attributes, before a slash or `>`
-pub attributes_stands : (l : Limits) (in_loop : Bool) (items : Items) (x : Attributes × Items) → attributes_of l in_loop items ≡ Some x → AreAttributes l in_loop x.0 × (items ≡ attributes_yield x.0 x.1)
+pub attributes_sound : (l : Limits) (in_loop : Bool) (items : Items) (x : Attributes × Items) → attributes_of l in_loop items ≡ Some x → AreAttributes l in_loop x.0 × (items ≡ attributes_yield x.0 x.1)
 unfolding AreAttributes attributes_yield
-attributes_stands l in_loop items x h = let (is, condition, within) = wholes.attributes_found_whole l in_loop items x.1 x.0 h in ((condition, within), is)
+attributes_sound l in_loop items x h = let (is, condition, within) = wholes.attributes_found_whole l in_loop items x.1 x.0 h in ((condition, within), is)
 
 pub attributes_found : (l : Limits) (in_loop : Bool) (a : Attributes) (rest : Items) → AreAttributes l in_loop a → ends_attributes rest ≡ true → attributes_of l in_loop (attributes_yield a rest) ≡ Some (a, rest)
 unfolding AreAttributes attributes_yield
@@ -134,9 +134,9 @@ attributes_begin (valued n s b e c a) rest h = refl
 attributes_begin (spreading b s e c a) rest h = refl
 
 -- the name of a component, before any token but a dot
-pub component_stands : (items : Items) (x : ComponentName × Items) → component_of items ≡ Some x → items ≡ component_yield x.0 x.1
+pub component_sound : (items : Items) (x : ComponentName × Items) → component_of items ≡ Some x → items ≡ component_yield x.0 x.1
 unfolding component_yield
-component_stands items x h = wholes.path_found items x.1 x.0 h
+component_sound items x h = wholes.path_found items x.1 x.0 h
 
 pub component_found : (n : ComponentName) (rest : Items) → begins Dot rest ≡ false → component_of (component_yield n rest) ≡ Some (n, rest)
 unfolding component_yield
@@ -155,9 +155,9 @@ unfolding component_yield
 component_begins n rest = (n.name.text, n.name.span, dotted_yield n.further rest, refl)
 
 -- constant arrays and maps, whatever follows
-pub array_stands : (l : Limits) (items : Items) (x : LiteralArray × Items) → array_of l items ≡ Some x → IsLiteralArray l x.0 × (items ≡ array_yield x.0 x.1)
+pub array_sound : (l : Limits) (items : Items) (x : LiteralArray × Items) → array_of l items ≡ Some x → IsLiteralArray l x.0 × (items ≡ array_yield x.0 x.1)
 unfolding IsLiteralArray array_yield
-array_stands l items x h = let (is, condition, within) = wholes.literal_array_found l items x.1 x.0.0 x.0.1 h in ((condition, within), is)
+array_sound l items x h = let (is, condition, within) = wholes.literal_array_found l items x.1 x.0.0 x.0.1 h in ((condition, within), is)
 
 pub array_found : (l : Limits) (a : LiteralArray) (rest : Items) → IsLiteralArray l a → array_of l (array_yield a rest) ≡ Some (a, rest)
 unfolding IsLiteralArray array_yield
@@ -175,9 +175,9 @@ pub array_begins : (a : LiteralArray) (rest : Items) → (span : Span) × (items
 unfolding array_yield
 array_begins a rest = (a.0.mark, row_yield of_items a.0.row rest, refl)
 
-pub map_stands : (l : Limits) (items : Items) (x : LiteralMap × Items) → map_of l items ≡ Some x → IsLiteralMap l x.0 × (items ≡ map_yield x.0 x.1)
+pub map_sound : (l : Limits) (items : Items) (x : LiteralMap × Items) → map_of l items ≡ Some x → IsLiteralMap l x.0 × (items ≡ map_yield x.0 x.1)
 unfolding IsLiteralMap map_yield
-map_stands l items x h = let (is, condition, within) = wholes.literal_map_found l items x.1 x.0.0 x.0.1 h in ((condition, within), is)
+map_sound l items x h = let (is, condition, within) = wholes.literal_map_found l items x.1 x.0.0 x.0.1 h in ((condition, within), is)
 
 pub map_found : (l : Limits) (m : LiteralMap) (rest : Items) → IsLiteralMap l m → map_of l (map_yield m rest) ≡ Some (m, rest)
 unfolding IsLiteralMap map_yield

@@ -1,4 +1,4 @@
--- What the reading function gives is a template that meets its conditions, and the tokens behind it.
+-- What the reading function gives is a template that meets its conditions, and the tokens after it.
 use Rattle.std.proofs.Common.{◌≡◌, ℕ, zero, suc, ◌≤◌, zero-le, Bool, true, false, ◌∷◌, Option, Some, None, refl, sym, ap, subst, ◌∙◌, arith}
 use Rattle.std.proofs.lemmas.Option.{same_Some}
 use Rattle.std.specs.Str.{bytes_eq}
@@ -21,14 +21,14 @@ use Rattle.tera_grammar.specs.statements.TagParts.{Edge, Name, name_yield, name_
 use Rattle.tera_grammar.specs.statements.Expressions.{Limits, expression_yield, filter_yield, attributes_yield, ComponentName, component_yield, component_text}
 use Rattle.tera_grammar.specs.statements.Heads.{loop_yield, filters_yield, Capture, SetBody, Section, CallBody, capture_yield, capture_end, FitsCapture}
 use Rattle.tera_grammar.specs.statements.Grammar.{Plain, Text, Shown, Set, Include, Extends, Break, Continue, plain_yield, FitsPlain, Body, Then, Item, Single, Block, Define, Capturing, For, If, Branches, Elif, Last, Else, NoElse, Otherwise, yield, item_yield, branches_yield, else_yield, InFor, InForElse, InBlock, InIf, InComponent, InCapture, Path, may_break, in_loop, text_if_any, Fits, FitsItem, FitsBranches, FitsElse, height, item_height, branch_height, else_height}
-use Rattle.tera_grammar.specs.statements.Reading.{Place, at, Reads, Reader, else_in, branch_in, branches_by, branches, set_behind, set_of, include_of, extends_of, break_of, block_end, block_of, component_def_of, section_of, call_end, call_of, for_of, if_of, tag_of, shown_of, step, go_on, items_by, items, body}
+use Rattle.tera_grammar.specs.statements.Reading.{Place, at, Reads, Reader, else_in, branch_in, branches_by, branches, set_after, set_of, include_of, extends_of, break_of, block_end, block_of, component_def_of, section_of, call_end, call_of, for_of, if_of, tag_of, shown_of, step, go_on, items_by, items, body}
 use Rattle.tera_grammar.specs.statements.Reading.TagParts.{Front, Ends, Closes, Holds, Shows, Opens, Wrong, front, name_if_any, tag}
 use Rattle.tera_grammar.proofs.Options.{bound, guard_ok, guard_not}
 use Rattle.tera_grammar.proofs.statements.Names.{Named, named_nothing, named_both, named_block, named_component}
-use Rattle.tera_grammar.proofs.statements.Expressions.{expression_stands, filter_stands, attributes_stands, component_stands}
-use Rattle.tera_grammar.proofs.statements.TagParts.{name_if_any_stands, quote_stands, finish_stands, variable_end_stands, FrontOf, front_is, closed_stands, closed_tag_stands}
-use Rattle.tera_grammar.proofs.statements.Heads.{free_name_stands, loop_stands, filters_stand}
-use Rattle.tera_grammar.proofs.statements.Components.{opened_yield, opened_stands, ending_stands}
+use Rattle.tera_grammar.proofs.statements.Expressions.{expression_sound, filter_sound, attributes_sound, component_sound}
+use Rattle.tera_grammar.proofs.statements.TagParts.{name_if_any_sound, quote_sound, finish_sound, variable_end_sound, FrontOf, front_is, closed_sound, closed_tag_sound}
+use Rattle.tera_grammar.proofs.statements.Heads.{free_name_sound, loop_sound, filters_sound}
+use Rattle.tera_grammar.proofs.statements.Components.{opened_yield, opened_sound, ending_sound}
 
 pub record FoundBody (l : Limits) (d : ℕ) (path : Path) (p : Place) (b : Body) (q : Place) : Type 0 where
   pub tokens : p.tokens ≡ yield b q.tokens
@@ -72,7 +72,7 @@ module _ (l : Limits) (d : ℕ) (f : Reader) (sound : Sound l d f) where
       bound _ _ _ h (λ e ended more. bound _ _ _ more (λ b read made.
       let found = sound path (at seen e.1) b read in
       subst (λ (y : Else × Place). FoundElse l d path (at seen ts) y.0 y.1) (same_Some (Otherwise (tag start first e.0) b.0, b.1) x made) (record {
-        tokens = is ∙ ap (λ v. start_yield start (Token (closer_token AtElse) first v)) (finish_stands us e ended ∙ ap (finish (tag start first e.0)) found.tokens);
+        tokens = is ∙ ap (λ v. start_yield start (Token (closer_token AtElse) first v)) (finish_sound us e ended ∙ ap (finish (tag start first e.0)) found.tokens);
         named = found.named;
         fits = found.fits;
         height = found.height;
@@ -91,11 +91,11 @@ module _ (l : Limits) (d : ℕ) (f : Reader) (sound : Sound l d f) where
   unfolding branch_in
   branch_found path again goes seen ts (Closes AtElif start first us) x is h =
       bound _ _ _ h (λ c read rest1. bound _ _ _ rest1 (λ e ended rest2. bound _ _ _ rest2 (λ b inside more. bound _ _ _ more (λ bs others made.
-      let condition = expression_stands l (in_loop path) us c read in
+      let condition = expression_sound l (in_loop path) us c read in
       let found = sound path (at seen e.1) b inside in
       let then = goes b.1 bs others in
       subst (λ (y : Branches × Place). FoundBranches l d path (at seen ts) y.0 y.1) (same_Some (Elif (tag start first e.0) c.0 b.0 bs.0, bs.1) x made) (record {
-        tokens = is ∙ ap (λ v. start_yield start (Token (closer_token AtElif) first v)) (condition.1 ∙ ap (expression_yield c.0) (finish_stands c.1 e ended
+        tokens = is ∙ ap (λ v. start_yield start (Token (closer_token AtElif) first v)) (condition.1 ∙ ap (expression_yield c.0) (finish_sound c.1 e ended
             ∙ ap (finish (tag start first e.0)) (found.tokens ∙ ap (yield b.0) then.tokens)));
         named = named_both _ _ found.named then.named;
         fits = (condition.0, found.fits, then.fits);
@@ -132,29 +132,29 @@ module _ (l : Limits) (d : ℕ) (f : Reader) (sound : Sound l d f) where
         height = found.height;
       })
 
-  set_behind_found : (path : Path) (global : Bool) (start : Edge) (first : Span) (seen : Seen) (ts us : Items) (n : Name) (sign : Option (Span × Items)) (x : Item × Place)
-      → ts ≡ begun start (OpensSet global) first (name_yield n us) → is_reserved n.text ≡ false → takes Assign us ≡ sign → set_behind l f path global start first seen n us sign ≡ Some x → Finds path seen ts x
-  unfolding set_behind
-  set_behind_found path global start first seen ts us n (Some sign) x is free stands h =
+  set_after_found : (path : Path) (global : Bool) (start : Edge) (first : Span) (seen : Seen) (ts us : Items) (n : Name) (sign : Option (Span × Items)) (x : Item × Place)
+      → ts ≡ begun start (OpensSet global) first (name_yield n us) → is_reserved n.text ≡ false → takes Assign us ≡ sign → set_after l f path global start first seen n us sign ≡ Some x → Finds path seen ts x
+  unfolding set_after
+  set_after_found path global start first seen ts us n (Some sign) x is free is_sound h =
       bound _ _ _ h (λ e read more. bound _ _ _ more (λ g ended made.
-      let value = expression_stands l (in_loop path) sign.1 e read in
+      let value = expression_sound l (in_loop path) sign.1 e read in
       single_found path seen ts g.1 (Set global (tag start first g.0) n sign.0 e.0) x
-      (is ∙ ap (λ v. begun start (OpensSet global) first (name_yield n v)) (takes_ok Assign us sign stands ∙ ap (mark Assign sign.0) (value.1 ∙ ap (expression_yield e.0) (finish_stands e.1 g ended))))
+      (is ∙ ap (λ v. begun start (OpensSet global) first (name_yield n v)) (takes_ok Assign us sign is_sound ∙ ap (mark Assign sign.0) (value.1 ∙ ap (expression_yield e.0) (finish_sound e.1 g ended))))
       (free, value.0) made))
-  set_behind_found path global start first seen ts us n None x is free stands h =
+  set_after_found path global start first seen ts us n None x is free is_sound h =
       bound _ _ _ h (λ fs piped rest1. bound _ _ _ rest1 (λ g ended rest2. bound _ _ _ rest2 (λ b read more. bound _ _ _ more (λ e closed made.
-      let filters = filters_stand l (in_loop path) us fs piped in
+      let filters = filters_sound l (in_loop path) us fs piped in
       capture_found path seen ts g.1 (SetBody global (tag start first g.0) n fs.0 e.0) b e.1 x
-      (is ∙ ap (λ v. begun start (OpensSet global) first (name_yield n v)) (filters.1 ∙ ap (filters_yield fs.0) (finish_stands fs.1 g ended)))
-      (free, filters.0) read (closed_tag_stands AtEndSet b.1.tokens e closed) made))))
+      (is ∙ ap (λ v. begun start (OpensSet global) first (name_yield n v)) (filters.1 ∙ ap (filters_yield fs.0) (finish_sound fs.1 g ended)))
+      (free, filters.0) read (closed_tag_sound AtEndSet b.1.tokens e closed) made))))
 
   set_found : (path : Path) (global : Bool) (start : Edge) (first : Span) (seen : Seen) (ts us : Items) (x : Item × Place)
       → ts ≡ begun start (OpensSet global) first us → set_of l f path global start first seen us ≡ Some x → Finds path seen ts x
   unfolding set_of
   set_found path global start first seen ts us x is h =
       bound _ _ _ h (λ n named more.
-      let name = free_name_stands us n named in
-      set_behind_found path global start first seen ts n.1 n.0 (takes Assign n.1) x (is ∙ ap (begun start (OpensSet global) first) name.1) name.0 refl more)
+      let name = free_name_sound us n named in
+      set_after_found path global start first seen ts n.1 n.0 (takes Assign n.1) x (is ∙ ap (begun start (OpensSet global) first) name.1) name.0 refl more)
 
   include_found : (path : Path) (start : Edge) (first : Span) (seen : Seen) (ts us : Items) (x : Item × Place)
       → ts ≡ begun start OpensInclude first us → include_of start first seen us ≡ Some x → Finds path seen ts x
@@ -162,7 +162,7 @@ module _ (l : Limits) (d : ℕ) (f : Reader) (sound : Sound l d f) where
   include_found path start first seen ts us x is h =
       bound _ _ _ h (λ q read more. bound _ _ _ more (λ g ended made.
       single_found path seen ts g.1 (Include (tag start first g.0) q.0.0 q.0.1) x
-      (is ∙ ap (begun start OpensInclude first) (quote_stands us q read ∙ ap (Token (quote_token q.0.0) q.0.1) (finish_stands q.1 g ended))) tt made))
+      (is ∙ ap (begun start OpensInclude first) (quote_sound us q read ∙ ap (Token (quote_token q.0.0) q.0.1) (finish_sound q.1 g ended))) tt made))
 
   extends_found : (path : Path) (start : Edge) (first : Span) (seen : Seen) (ts us : Items) (x : Item × Place)
       → ts ≡ begun start OpensExtends first us → extends_of path start first seen us ≡ Some x → Finds path seen ts x
@@ -170,7 +170,7 @@ module _ (l : Limits) (d : ℕ) (f : Reader) (sound : Sound l d f) where
   extends_found path start first seen ts us x is h =
       bound _ _ _ h (λ q read rest. bound _ _ _ rest (λ u may more. bound _ _ _ more (λ g ended made.
       single_found path seen ts g.1 (Extends (tag start first g.0) q.0.0 q.0.1) x
-      (is ∙ ap (begun start OpensExtends first) (quote_stands us q read ∙ ap (Token (quote_token q.0.0) q.0.1) (finish_stands q.1 g ended))) (guard_ok _ u may) made)))
+      (is ∙ ap (begun start OpensExtends first) (quote_sound us q read ∙ ap (Token (quote_token q.0.0) q.0.1) (finish_sound q.1 g ended))) (guard_ok _ u may) made)))
 
   break_found : (path : Path) (o : Opener) (make : Tag → Plain) → ((t : Tag) (vs : Items) → opening o t (finish t vs) ≡ plain_yield (make t) vs) → ((t : Tag) → may_break path ≡ true → FitsPlain l path (make t))
       → (start : Edge) (first : Span) (seen : Seen) (ts us : Items) (x : Item × Place) → ts ≡ begun start o first us → break_of path make start first seen us ≡ Some x → Finds path seen ts x
@@ -178,18 +178,18 @@ module _ (l : Limits) (d : ℕ) (f : Reader) (sound : Sound l d f) where
   break_found path o make yields fits start first seen ts us x is h =
       bound _ _ _ h (λ u may more. bound _ _ _ more (λ g ended made.
       single_found path seen ts g.1 (make (tag start first g.0)) x
-      (is ∙ ap (begun start o first) (finish_stands us g ended) ∙ yields (tag start first g.0) g.1) (fits (tag start first g.0) (guard_ok _ u may)) made))
+      (is ∙ ap (begun start o first) (finish_sound us g ended) ∙ yields (tag start first g.0) g.1) (fits (tag start first g.0) (guard_ok _ u may)) made))
 
-  pub block_end_stands : (n : Name) (ts : Items) (x : (Tag × Option Name) × Items) → block_end n ts ≡ Some x
+  pub block_end_sound : (n : Name) (ts : Items) (x : (Tag × Option Name) × Items) → block_end n ts ≡ Some x
       → (agrees n.text (text_if_any x.0.1) ≡ true) × (ts ≡ closing AtEndBlock x.0.0 (name_if_any_yield x.0.1 (finish x.0.0 x.1)))
   unfolding block_end
-  block_end_stands n ts x h =
-      bound _ _ _ h (λ e stands rest. bound _ _ _ rest (λ u agreed more. bound _ _ _ more (λ g ended made.
+  block_end_sound n ts x h =
+      bound _ _ _ h (λ e is_sound rest. bound _ _ _ rest (λ u agreed more. bound _ _ _ more (λ g ended made.
       subst (λ (y : (Tag × Option Name) × Items). (agrees n.text (text_if_any y.0.1) ≡ true) × (ts ≡ closing AtEndBlock y.0.0 (name_if_any_yield y.0.1 (finish y.0.0 y.1))))
       (same_Some ((tag e.0.0 e.0.1 g.0, (name_if_any e.1).0), g.1) x made) (
         guard_ok _ u agreed,
-        closed_stands AtEndBlock ts e stands
-            ∙ ap (λ v. start_yield e.0.0 (Token (closer_token AtEndBlock) e.0.1 v)) (name_if_any_stands e.1 ∙ ap (name_if_any_yield (name_if_any e.1).0) (finish_stands (name_if_any e.1).1 g ended)),
+        closed_sound AtEndBlock ts e is_sound
+            ∙ ap (λ v. start_yield e.0.0 (Token (closer_token AtEndBlock) e.0.1 v)) (name_if_any_sound e.1 ∙ ap (name_if_any_yield (name_if_any e.1).0) (finish_sound (name_if_any e.1).1 g ended)),
       ))))
 
   block_found : (path : Path) (start : Edge) (first : Span) (seen : Seen) (ts us : Items) (x : Item × Place)
@@ -198,9 +198,9 @@ module _ (l : Limits) (d : ℕ) (f : Reader) (sound : Sound l d f) where
   block_found path start first seen ts us x is h =
       bound _ _ _ h (λ u may rest1. bound _ _ _ rest1 (λ n named rest2. bound _ _ _ rest2 (λ v fresh rest3. bound _ _ _ rest3 (λ g ended rest4. bound _ _ _ rest4 (λ b read more. bound _ _ _ more (λ e closed made.
       let found = sound (InBlock ∷ path) (at (seen having block_placed n.0) g.1) b read in
-      let end = block_end_stands n.0 b.1.tokens e closed in
+      let end = block_end_sound n.0 b.1.tokens e closed in
       subst (Finds path seen ts) (same_Some (Block (tag start first g.0) n.0 b.0 e.0.0 e.0.1, at b.1.seen e.1) x made) (record {
-        tokens = is ∙ ap (begun start OpensBlock first) (taken_name_ok us n named ∙ ap (name_yield n.0) (finish_stands n.1 g ended
+        tokens = is ∙ ap (begun start OpensBlock first) (taken_name_ok us n named ∙ ap (name_yield n.0) (finish_sound n.1 g ended
             ∙ ap (finish (tag start first g.0)) (found.tokens ∙ ap (yield b.0) end.1)));
         named = named_block n.0 (places b.0) (guard_not _ v fresh) found.named;
         fits = (guard_ok _ u may, end.0, found.fits);
@@ -212,9 +212,9 @@ module _ (l : Limits) (d : ℕ) (f : Reader) (sound : Sound l d f) where
   unfolding component_def_of
   define_found path start first seen ts us x is h =
       bound _ _ _ h (λ u may rest1. bound _ _ _ rest1 (λ o opened rest2. bound _ _ _ rest2 (λ b read more. bound _ _ _ more (λ e closed made.
-      let head = opened_stands l (met seen.components) us o opened in
+      let head = opened_sound l (met seen.components) us o opened in
       let found = sound (InComponent ∷ path) (at (seen having component_placed o.0.name o.0.parameters) o.1) b read in
-      let end = ending_stands l start first o.0 b.1.tokens e closed in
+      let end = ending_sound l start first o.0 b.1.tokens e closed in
       subst (Finds path seen ts) (same_Some (Define e.0 b.0, at b.1.seen e.1) x made) (record {
         tokens = is ∙ ap (begun start OpensComponent first) (head.tokens ∙ ap (opened_yield o.0) (found.tokens ∙ ap (yield b.0) end.tokens)) ∙ end.opened _;
         named = subst (λ p. Named (p followed_by places b.0) seen b.1.seen) (λ i. component_placed (sym end.name i) (sym end.parameters i))
@@ -228,23 +228,23 @@ module _ (l : Limits) (d : ℕ) (f : Reader) (sound : Sound l d f) where
   unfolding section_of
   section_found path start first seen ts us x is h =
       bound _ _ _ h (λ k filtered rest1. bound _ _ _ rest1 (λ fs piped rest2. bound _ _ _ rest2 (λ g ended rest3. bound _ _ _ rest3 (λ b read more. bound _ _ _ more (λ e closed made.
-      let filter = filter_stands l (in_loop path) us k filtered in
-      let filters = filters_stand l (in_loop path) k.1 fs piped in
+      let filter = filter_sound l (in_loop path) us k filtered in
+      let filters = filters_sound l (in_loop path) k.1 fs piped in
       capture_found path seen ts g.1 (Section (tag start first g.0) k.0 fs.0 e.0) b e.1 x
-      (is ∙ ap (begun start OpensFilter first) (filter.1 ∙ ap (filter_yield k.0) (filters.1 ∙ ap (filters_yield fs.0) (finish_stands fs.1 g ended))))
-      (filter.0, filters.0) read (closed_tag_stands AtEndFilter b.1.tokens e closed) made)))))
+      (is ∙ ap (begun start OpensFilter first) (filter.1 ∙ ap (filter_yield k.0) (filters.1 ∙ ap (filters_yield fs.0) (finish_sound fs.1 g ended))))
+      (filter.0, filters.0) read (closed_tag_sound AtEndFilter b.1.tokens e closed) made)))))
 
-  call_end_stands : (n : ComponentName) (ts : Items) (x : (Tag × ComponentName × Span) × Items) → call_end n ts ≡ Some x
+  call_end_sound : (n : ComponentName) (ts : Items) (x : (Tag × ComponentName × Span) × Items) → call_end n ts ≡ Some x
       → (bytes_eq (component_text x.0.1) (component_text n) ≡ true) × (ts ≡ closing AtEndCall x.0.0 (component_yield x.0.1 (mark (Operation GreaterThan) x.0.2 (finish x.0.0 x.1))))
   unfolding call_end
-  call_end_stands n ts x h =
-      bound _ _ _ h (λ e stands rest1. bound _ _ _ rest1 (λ m named rest2. bound _ _ _ rest2 (λ u agreed rest3. bound _ _ _ rest3 (λ end last more. bound _ _ _ more (λ g ended made.
+  call_end_sound n ts x h =
+      bound _ _ _ h (λ e is_sound rest1. bound _ _ _ rest1 (λ m named rest2. bound _ _ _ rest2 (λ u agreed rest3. bound _ _ _ rest3 (λ end last more. bound _ _ _ more (λ g ended made.
       subst (λ (y : (Tag × ComponentName × Span) × Items). (bytes_eq (component_text y.0.1) (component_text n) ≡ true)
       × (ts ≡ closing AtEndCall y.0.0 (component_yield y.0.1 (mark (Operation GreaterThan) y.0.2 (finish y.0.0 y.1)))))
       (same_Some ((tag e.0.0 e.0.1 g.0, m.0, end.0), g.1) x made) (
         guard_ok _ u agreed,
-        closed_stands AtEndCall ts e stands
-            ∙ ap (λ v. start_yield e.0.0 (Token (closer_token AtEndCall) e.0.1 v)) (component_stands e.1 m named ∙ ap (component_yield m.0) (takes_ok (Operation GreaterThan) m.1 end last ∙ ap (mark (Operation GreaterThan) end.0) (finish_stands end.1 g ended))),
+        closed_sound AtEndCall ts e is_sound
+            ∙ ap (λ v. start_yield e.0.0 (Token (closer_token AtEndCall) e.0.1 v)) (component_sound e.1 m named ∙ ap (component_yield m.0) (takes_ok (Operation GreaterThan) m.1 end last ∙ ap (mark (Operation GreaterThan) end.0) (finish_sound end.1 g ended))),
       ))))))
 
   call_found : (path : Path) (start : Edge) (first : Span) (seen : Seen) (ts us : Items) (x : Item × Place)
@@ -252,10 +252,10 @@ module _ (l : Limits) (d : ℕ) (f : Reader) (sound : Sound l d f) where
   unfolding call_of
   call_found path start first seen ts us x is h =
       bound _ _ _ h (λ n named rest1. bound _ _ _ rest1 (λ a given rest2. bound _ _ _ rest2 (λ last shut rest3. bound _ _ _ rest3 (λ g ended rest4. bound _ _ _ rest4 (λ b read more. bound _ _ _ more (λ e closed made.
-      let attributes = attributes_stands l (in_loop path) n.1 a given in
-      let end = call_end_stands n.0 b.1.tokens e closed in
+      let attributes = attributes_sound l (in_loop path) n.1 a given in
+      let end = call_end_sound n.0 b.1.tokens e closed in
       capture_found path seen ts g.1 (CallBody (tag start first g.0) n.0 a.0 last.0 e.0.0 e.0.1 e.0.2) b e.1 x
-      (is ∙ ap (begun start OpensCall first) (component_stands us n named ∙ ap (component_yield n.0) (attributes.1 ∙ ap (attributes_yield a.0) (takes_ok (Operation GreaterThan) a.1 last shut ∙ ap (mark (Operation GreaterThan) last.0) (finish_stands last.1 g ended)))))
+      (is ∙ ap (begun start OpensCall first) (component_sound us n named ∙ ap (component_yield n.0) (attributes.1 ∙ ap (attributes_yield a.0) (takes_ok (Operation GreaterThan) a.1 last shut ∙ ap (mark (Operation GreaterThan) last.0) (finish_sound last.1 g ended)))))
       (attributes.0, end.0) read end.1 made))))))
 
   for_found : (path : Path) (start : Edge) (first : Span) (seen : Seen) (ts us : Items) (x : Item × Place)
@@ -263,12 +263,12 @@ module _ (l : Limits) (d : ℕ) (f : Reader) (sound : Sound l d f) where
   unfolding for_of
   for_found path start first seen ts us x is h =
       bound _ _ _ h (λ lp headed rest1. bound _ _ _ rest1 (λ g ended rest2. bound _ _ _ rest2 (λ b read rest3. bound _ _ _ rest3 (λ o others more. bound _ _ _ more (λ e closed made.
-      let loop = loop_stands l us lp headed in
+      let loop = loop_sound l us lp headed in
       let found = sound (InFor ∷ path) (at seen g.1) b read in
       let then = else_found (InForElse ∷ path) b.1.seen b.1.tokens (front b.1.tokens) o (front_is b.1.tokens) others in
       subst (Finds path seen ts) (same_Some (For (tag start first g.0) lp.0 b.0 o.0 e.0, at o.1.seen e.1) x made) (record {
-        tokens = is ∙ ap (begun start OpensFor first) (loop.1 ∙ ap (loop_yield lp.0) (finish_stands lp.1 g ended
-            ∙ ap (finish (tag start first g.0)) (found.tokens ∙ ap (yield b.0) (then.tokens ∙ ap (else_yield o.0) (closed_tag_stands AtEndFor o.1.tokens e closed)))));
+        tokens = is ∙ ap (begun start OpensFor first) (loop.1 ∙ ap (loop_yield lp.0) (finish_sound lp.1 g ended
+            ∙ ap (finish (tag start first g.0)) (found.tokens ∙ ap (yield b.0) (then.tokens ∙ ap (else_yield o.0) (closed_tag_sound AtEndFor o.1.tokens e closed)))));
         named = named_both _ _ found.named then.named;
         fits = (loop.0, found.fits, then.fits);
         height = omega (arith, found.height, then.height);
@@ -279,12 +279,12 @@ module _ (l : Limits) (d : ℕ) (f : Reader) (sound : Sound l d f) where
   unfolding if_of
   if_found path start first seen ts us x is h =
       bound _ _ _ h (λ c asked rest1. bound _ _ _ rest1 (λ g ended rest2. bound _ _ _ rest2 (λ b read rest3. bound _ _ _ rest3 (λ bs others more. bound _ _ _ more (λ e closed made.
-      let condition = expression_stands l (in_loop path) us c asked in
+      let condition = expression_sound l (in_loop path) us c asked in
       let found = sound (InIf ∷ path) (at seen g.1) b read in
       let then = branches_found (InIf ∷ path) b.1 bs others in
       subst (Finds path seen ts) (same_Some (If (tag start first g.0) c.0 b.0 bs.0 e.0, at bs.1.seen e.1) x made) (record {
-        tokens = is ∙ ap (begun start OpensIf first) (condition.1 ∙ ap (expression_yield c.0) (finish_stands c.1 g ended
-            ∙ ap (finish (tag start first g.0)) (found.tokens ∙ ap (yield b.0) (then.tokens ∙ ap (branches_yield bs.0) (closed_tag_stands AtEndIf bs.1.tokens e closed)))));
+        tokens = is ∙ ap (begun start OpensIf first) (condition.1 ∙ ap (expression_yield c.0) (finish_sound c.1 g ended
+            ∙ ap (finish (tag start first g.0)) (found.tokens ∙ ap (yield b.0) (then.tokens ∙ ap (branches_yield bs.0) (closed_tag_sound AtEndIf bs.1.tokens e closed)))));
         named = named_both _ _ found.named then.named;
         fits = (condition.0, found.fits, then.fits);
         height = omega (arith, found.height, then.height);
@@ -308,9 +308,9 @@ module _ (l : Limits) (d : ℕ) (f : Reader) (sound : Sound l d f) where
   unfolding shown_of
   shown_found path start seen ts us x is h =
       bound _ _ _ h (λ e read more. bound _ _ _ more (λ g ended made.
-      let shown = expression_stands l (in_loop path) us e read in
+      let shown = expression_sound l (in_loop path) us e read in
       single_found path seen ts g.1 (Shown start e.0 g.0) x
-      (is ∙ ap (Token (toks.Start kind.Variable start.dash) start.span) (shown.1 ∙ ap (expression_yield e.0) (variable_end_stands e.1 g ended))) shown.0 made))
+      (is ∙ ap (Token (toks.Start kind.Variable start.dash) start.span) (shown.1 ∙ ap (expression_yield e.0) (variable_end_sound e.1 g ended))) shown.0 made))
 
   -- a step finds an item
   pub step_found : (path : Path) (seen : Seen) (ts : Items) (fr : Front) (x : Item × Place) → FrontOf ts fr → step l f path seen fr ≡ Some (Some x) → FoundItem l d path (at seen ts) x.0 x.1

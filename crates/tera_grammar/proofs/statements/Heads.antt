@@ -26,10 +26,10 @@ use Rattle.tera_grammar.proofs.expressions.FoundAtoms.{variables_found}
 use Rattle.tera_grammar.proofs.expressions.Longer.{longer_second}
 use Rattle.tera_grammar.proofs.expressions.ReadParts.{second_read}
 use Rattle.tera_grammar.proofs.expressions.Wholes.{left_over_ok}
-use Rattle.tera_grammar.proofs.statements.Expressions.{expression_stands, expression_found, expression_size, filter_stands, filter_found, filter_size, ends_expression, ends_filter}
+use Rattle.tera_grammar.proofs.statements.Expressions.{expression_sound, expression_found, expression_size, filter_sound, filter_found, filter_size, ends_expression, ends_filter}
 
-pub free_name_stands : (ts : Items) (x : Name × Items) → free_name ts ≡ Some x → (is_reserved x.0.text ≡ false) × (ts ≡ name_yield x.0 x.1)
-free_name_stands ts x h =
+pub free_name_sound : (ts : Items) (x : Name × Items) → free_name ts ≡ Some x → (is_reserved x.0.text ≡ false) × (ts ≡ name_yield x.0 x.1)
+free_name_sound ts x h =
     bound _ _ _ h (λ n read more. bound _ _ _ more (λ u free made.
     subst (λ (y : Name × Items). (is_reserved y.0.text ≡ false) × (ts ≡ name_yield y.0 y.1)) (same_Some n x made) (guard_not _ u free, taken_name_ok ts n read)))
 
@@ -38,17 +38,17 @@ module _ (l : Limits) where
   abbrev LoopStands : Items → Loop × Items → Type 0
   LoopStands ts x = FitsLoop l x.0 × (ts ≡ loop_yield x.0 x.1)
 
-  pub loop_stands : (ts : Items) (x : Loop × Items) → loop_of l ts ≡ Some x → FitsLoop l x.0 × (ts ≡ loop_yield x.0 x.1)
+  pub loop_sound : (ts : Items) (x : Loop × Items) → loop_of l ts ≡ Some x → FitsLoop l x.0 × (ts ≡ loop_yield x.0 x.1)
   unfolding loop_of
-  loop_stands ts x h =
-      bound _ _ _ h (λ v read rest. bound _ _ _ rest (λ w stands more. bound _ _ _ more (λ e target_read made.
+  loop_sound ts x h =
+      bound _ _ _ h (λ v read rest. bound _ _ _ rest (λ w sound more. bound _ _ _ more (λ e target_read made.
       let (y, named, is) = left_over_ok (variables_of (at 0 ts)) v read in
       let variables = variables_found (at 0 ts) y named in
-      let target = expression_stands l true w.1 e target_read in
+      let target = expression_sound l true w.1 e target_read in
       subst (LoopStands ts) (same_Some (record { first = v.0.0; second = v.0.1; word = w.0; target = e.0 }, e.1) x made) (
         (subst (λ (z : (Name × Second) × Items). AreVariables z.0.0 z.0.1) is variables.2, target.0),
         variables.0 ∙ ap (λ (z : (Name × Second) × Items). name_yield z.0.0 (second_yield z.0.1 z.1)) is
-            ∙ ap (λ u. name_yield v.0.0 (second_yield v.0.1 u)) (takes_ok (Operation In) v.1 w stands ∙ ap (mark (Operation In) w.0) target.1),
+            ∙ ap (λ u. name_yield v.0.0 (second_yield v.0.1 u)) (takes_ok (Operation In) v.1 w sound ∙ ap (mark (Operation In) w.0) target.1),
       ))))
 
   pub loop_found : (lp : Loop) (rest : Items) → FitsLoop l lp → ends_expression rest ≡ true → loop_of l (loop_yield lp rest) ≡ Some (lp, rest)
@@ -64,25 +64,25 @@ module _ (l : Limits) where
   FiltersStand in_loop ts x = AreFilters l in_loop x.0 × (ts ≡ filters_yield x.0 x.1)
 
   module _ (in_loop : Bool) where
-    filters_in_stand : (again : Items → Takes Filters) → ((ts : Items) (x : Filters × Items) → again ts ≡ Some x → FiltersStand in_loop ts x)
+    filters_in_sound : (again : Items → Takes Filters) → ((ts : Items) (x : Filters × Items) → again ts ≡ Some x → FiltersStand in_loop ts x)
         → (ts : Items) (bar : Option (Span × Items)) (x : Filters × Items) → takes Bar ts ≡ bar → filters_in again l in_loop ts bar ≡ Some x → FiltersStand in_loop ts x
     unfolding filters_in
-    filters_in_stand again goes ts None x is h = subst (FiltersStand in_loop ts) (same_Some (NoFilters, ts) x h) (tt, refl)
-    filters_in_stand again goes ts (Some bar) x is h =
+    filters_in_sound again goes ts None x is h = subst (FiltersStand in_loop ts) (same_Some (NoFilters, ts) x h) (tt, refl)
+    filters_in_sound again goes ts (Some bar) x is h =
         bound _ _ _ h (λ f read more. bound _ _ _ more (λ fs others made.
-        let first = filter_stands l in_loop bar.1 f read in
+        let first = filter_sound l in_loop bar.1 f read in
         let then = goes f.1 fs others in
         subst (FiltersStand in_loop ts) (same_Some (Piped bar.0 f.0 fs.0, fs.1) x made)
         ((first.0, then.0), takes_ok Bar ts bar is ∙ ap (mark Bar bar.0) (first.1 ∙ ap (filter_yield f.0) then.1))))
 
-    filters_by_stand : (n : ℕ) (ts : Items) (x : Filters × Items) → filters_by n l in_loop ts ≡ Some x → FiltersStand in_loop ts x
+    filters_by_sound : (n : ℕ) (ts : Items) (x : Filters × Items) → filters_by n l in_loop ts ≡ Some x → FiltersStand in_loop ts x
     unfolding filters_by
-    filters_by_stand zero ts x h = cc
-    filters_by_stand (suc n) ts x h = filters_in_stand (filters_by n l in_loop) (filters_by_stand n) ts (takes Bar ts) x refl h
+    filters_by_sound zero ts x h = cc
+    filters_by_sound (suc n) ts x h = filters_in_sound (filters_by n l in_loop) (filters_by_sound n) ts (takes Bar ts) x refl h
 
-    pub filters_stand : (ts : Items) (x : Filters × Items) → filters_of l in_loop ts ≡ Some x → AreFilters l in_loop x.0 × (ts ≡ filters_yield x.0 x.1)
+    pub filters_sound : (ts : Items) (x : Filters × Items) → filters_of l in_loop ts ≡ Some x → AreFilters l in_loop x.0 × (ts ≡ filters_yield x.0 x.1)
     unfolding filters_of
-    filters_stand ts x h = filters_by_stand (suc (size ts)) ts x h
+    filters_sound ts x h = filters_by_sound (suc (size ts)) ts x h
 
     -- the number that bounds them has no say
     filters_in_agree : (again other : Items → Takes Filters) (ts : Items) → ((us : Items) → size us < size ts → again us ≡ other us)
@@ -92,7 +92,7 @@ module _ (l : Limits) where
     filters_in_agree again other ts goes (Some bar) is =
         bind_both _ _ _ (λ f read.
         let shorter : size f.1 < size ts =
-        subst (λ v. size f.1 < size v) (sym (takes_ok Bar ts bar is ∙ ap (mark Bar bar.0) (filter_stands l in_loop bar.1 f read).1)) (omega (arith, filter_size f.0 f.1)) in
+        subst (λ v. size f.1 < size v) (sym (takes_ok Bar ts bar is ∙ ap (mark Bar bar.0) (filter_sound l in_loop bar.1 f read).1)) (omega (arith, filter_size f.0 f.1)) in
         ap (λ r. r >>= λ fs. Some (Piped bar.0 f.0 fs.0, fs.1)) (goes f.1 shorter))
 
     filters_agree : (n k : ℕ) (ts : Items) → size ts < n → size ts < k → filters_by n l in_loop ts ≡ filters_by k l in_loop ts

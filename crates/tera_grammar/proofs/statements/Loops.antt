@@ -24,9 +24,9 @@ use Rattle.tera_grammar.specs.statements.Heads.{Filters, NoFilters, Piped, filte
 use Rattle.tera_grammar.specs.statements.Grammar.{is_outermost, Text, Shown, Set, Include, Extends, Break, Continue, Body, Done, Then, Item, Single, Block, Define, Capturing, For, If, Branches, Elif, Last, Else, Path}
 use Rattle.tera_grammar.specs.statements.Reading.Loops.{Going, Branch, chain, chain_output, nest, Branching, pipe, pipe_output, Piping, list, Listing, with_added, text_weight, weight, Parent, turn, Topping}
 use Rattle.tera_grammar.specs.statements.Output.{added_nodes, added_by, output, branch_output, else_output, later, parent_by, definitions_by, parent_of, definitions_of, output_of}
-use Rattle.tera_grammar.specs.statements.Reading.{extends_of, Place, at, Reads, else_in, else_of, branch_in, branches, step, go_on, body, Phase, Starting, Standing, Extending, behind_text, next_phase, phases, template}
+use Rattle.tera_grammar.specs.statements.Reading.{extends_of, Place, at, Reads, else_in, else_of, branch_in, branches, step, go_on, body, Phase, Starting, Standalone, Extending, after_text, next_phase, phases, template}
 use Rattle.tera_grammar.specs.statements.Reading.Heads.{filters_in, filters_of}
-use Rattle.tera_grammar.specs.statements.Reading.Components.{parameter_of, parameters_behind, parameters_at, parameters_in, parameters_of}
+use Rattle.tera_grammar.specs.statements.Reading.Components.{parameter_of, parameters_after, parameters_at, parameters_in, parameters_of}
 use Rattle.tera_grammar.specs.statements.Reading.TagParts.{Front, Closes, Opens, front, finish_of, tag}
 use Rattle.tera_grammar.specs.statements.Top.{is_blank, join}
 use Rattle.tera_grammar.proofs.Options.{bound}
@@ -136,7 +136,7 @@ chain_output-more : (f : Bool) (before : List Branch) (b : Branch) → chain_out
 chain_output-more f [] b = refl
 chain_output-more f (a ∷ before) b = ap (λ v. (expression_output f a.condition, output f a.body) ∷ v) (chain_output-more f before b)
 
--- whether an `elif` stands there
+-- whether an `elif` is there
 abbrev pub is_elif : Front → Bool
 is_elif (Closes AtElif start first us) = true
 is_elif fr = false
@@ -254,7 +254,7 @@ module _ (l : Limits) (start here : Items) (seen : Located) (gathered : Sorted A
     stand = λ ps. ap (locate_all (parameters_placed ps)) (sym nothing);
   }
 
-  -- what is left comes to what stands next
+  -- what is left comes to what is next
   pub listing_steps : (g : Listing l start here seen gathered) → parameters_of l nothing_met start ≡ (parameters_in (parameters_of l) l (met seen) here (takes RightParen here) >>= λ ps. Some (list g.before ps.0, ps.1))
   listing_steps g = g.reads ∙ ap (λ o. o >>= λ ps. Some (list g.before ps.0, ps.1)) (parameters_steps l (met seen) here)
 
@@ -270,16 +270,16 @@ module _ (l : Limits) (start here : Items) (seen : Located) (gathered : Sorted A
   pub listing_on : (g : Listing l start here seen gathered) → takes RightParen here ≡ None → takes Spread here ≡ None → (p : Parameter × Items) → parameter_of l (met seen) here ≡ Some p
       → takes RightParen p.1 ≡ None → (comma : Span × Items) → takes Comma p.1 ≡ Some comma
       → Listing l start comma.1 (locate p.0.name seen) (put_name p.0.name.text (argument_of p.0) gathered)
-  unfolding parameters_in parameters_at parameters_behind
-  listing_on g no_end no_dots p read no_last comma stands = record {
+  unfolding parameters_in parameters_at parameters_after
+  listing_on g no_end no_dots p read no_last comma sound = record {
     before = g.before ++ (p.0, comma.0) ∷ [];
     reads =
         let next = met (locate p.0.name seen) in
         let steps : parameters_in (parameters_of l) l (met seen) here (takes RightParen here) ≡ (parameters_of l next comma.1 >>= λ ps. Some (More p.0 comma.0 ps.0, ps.1)) =
         ap (parameters_in (parameters_of l) l (met seen) here) no_end ∙ ap (parameters_at (parameters_of l) l (met seen) here) no_dots
-        ∙ ap (λ o. o >>= λ q. parameters_behind (parameters_of l) (met seen) q.0 q.1 (takes RightParen q.1)) read
-        ∙ ap (parameters_behind (parameters_of l) (met seen) p.0 p.1) no_last
-        ∙ ap (λ o. o >>= λ c. parameters_of l (meet p.0.name.text (met seen)) c.1 >>= λ ps. Some (More p.0 c.0 ps.0, ps.1)) stands
+        ∙ ap (λ o. o >>= λ q. parameters_after (parameters_of l) (met seen) q.0 q.1 (takes RightParen q.1)) read
+        ∙ ap (parameters_after (parameters_of l) (met seen) p.0 p.1) no_last
+        ∙ ap (λ o. o >>= λ c. parameters_of l (meet p.0.name.text (met seen)) c.1 >>= λ ps. Some (More p.0 c.0 ps.0, ps.1)) sound
         ∙ ap (λ v. parameters_of l v comma.1 >>= λ ps. Some (More p.0 comma.0 ps.0, ps.1)) (sym (met_located p.0.name seen)) in
         listing_steps g ∙ ap (λ o. o >>= λ ps. Some (list g.before ps.0, ps.1)) steps
         ∙ bind_assoc (parameters_of l next comma.1) _ _
@@ -289,13 +289,13 @@ module _ (l : Limits) (start here : Items) (seen : Located) (gathered : Sorted A
   }
 
 -- The top level, in its loop: the phase turns by what an item adds.
-blank_starts : (b : Bool) → Some (behind_text b) ≡ turn Starting (text_weight b)
+blank_starts : (b : Bool) → Some (after_text b) ≡ turn Starting (text_weight b)
 blank_starts true = refl
 blank_starts false = refl
 
-blank_stands : (b : Bool) → Some Standing ≡ turn Standing (text_weight b)
-blank_stands true = refl
-blank_stands false = refl
+blank_sound : (b : Bool) → Some Standalone ≡ turn Standalone (text_weight b)
+blank_sound true = refl
+blank_sound false = refl
 
 blank_extends : (b : Bool) → (guard b >>= λ u. Some Extending) ≡ turn Extending (text_weight b)
 blank_extends true = refl
@@ -317,21 +317,21 @@ phase_turns Starting (Capturing (Section t g fs e) b) = refl
 phase_turns Starting (Capturing (CallBody t n a last e m end) b) = refl
 phase_turns Starting (For t lp b o e) = refl
 phase_turns Starting (If t c b bs e) = refl
-phase_turns Standing (Single (Text [] span)) = refl
-phase_turns Standing (Single (Text (b ∷ bs) span)) = blank_stands (is_blank (b ∷ bs))
-phase_turns Standing (Single (Shown a e b)) = refl
-phase_turns Standing (Single (Set g t n s e)) = refl
-phase_turns Standing (Single (Include t q span)) = refl
-phase_turns Standing (Single (Extends t q span)) = refl
-phase_turns Standing (Single (Break t)) = refl
-phase_turns Standing (Single (Continue t)) = refl
-phase_turns Standing (Block t n b e m) = refl
-phase_turns Standing (Define h b) = refl
-phase_turns Standing (Capturing (SetBody g t n fs e) b) = refl
-phase_turns Standing (Capturing (Section t g fs e) b) = refl
-phase_turns Standing (Capturing (CallBody t n a last e m end) b) = refl
-phase_turns Standing (For t lp b o e) = refl
-phase_turns Standing (If t c b bs e) = refl
+phase_turns Standalone (Single (Text [] span)) = refl
+phase_turns Standalone (Single (Text (b ∷ bs) span)) = blank_sound (is_blank (b ∷ bs))
+phase_turns Standalone (Single (Shown a e b)) = refl
+phase_turns Standalone (Single (Set g t n s e)) = refl
+phase_turns Standalone (Single (Include t q span)) = refl
+phase_turns Standalone (Single (Extends t q span)) = refl
+phase_turns Standalone (Single (Break t)) = refl
+phase_turns Standalone (Single (Continue t)) = refl
+phase_turns Standalone (Block t n b e m) = refl
+phase_turns Standalone (Define h b) = refl
+phase_turns Standalone (Capturing (SetBody g t n fs e) b) = refl
+phase_turns Standalone (Capturing (Section t g fs e) b) = refl
+phase_turns Standalone (Capturing (CallBody t n a last e m end) b) = refl
+phase_turns Standalone (For t lp b o e) = refl
+phase_turns Standalone (If t c b bs e) = refl
 phase_turns Extending (Single (Text [] span)) = refl
 phase_turns Extending (Single (Text (b ∷ bs) span)) = blank_extends (is_blank (b ∷ bs))
 phase_turns Extending (Single (Shown a e b)) = refl
@@ -416,14 +416,14 @@ module _ (l : Limits) (d : ℕ) (opens : l.bodies ≡ suc d) (ts : Items) (here 
     on : Going (body (suc d) l []) false First new more.nodes
     on = going_on l d [] false First here out.nodes i new more.nodes g.going read (ap (λ (o : Output). o.nodes) grown)
 
-    behind : phases Starting (join g.going.before (Then i Done)) ≡ (turn ph (weight (added_by false i)) >>= λ q. Some q)
-    behind = phases-join g.going.before (Then i Done) Starting ∙ ap (λ o. o >>= λ q. phases q (Then i Done)) g.phased ∙ ap (λ o. o >>= λ q. Some q) (phase_turns ph i)
+    following : phases Starting (join g.going.before (Then i Done)) ≡ (turn ph (weight (added_by false i)) >>= λ q. Some q)
+    following = phases-join g.going.before (Then i Done) Starting ∙ ap (λ o. o >>= λ q. phases q (Then i Done)) g.phased ∙ ap (λ o. o >>= λ q. Some q) (phase_turns ph i)
 
     pub topping_on : (q : Phase) → turn ph (weight (added_by false i)) ≡ Some q → TopOn new more q
     unfolding going_on on
     topping_on q turned = record {
       going = on;
-      phased = behind ∙ rw turned refl;
+      phased = following ∙ rw turned refl;
       parent = ap (λ (o : Output). o.parent) grown ∙ ap (λ p. later p (parent_by (added_by false i))) g.parent
           ∙ ap (later (parent_of g.going.before)) (later-one (parent_by (added_by false i))) ∙ sym (parent-join g.going.before (Then i Done));
       definitions = ap (λ (o : Output). o.definitions) grown ∙ ap (λ v. v ++ definitions_by (added_by false i)) g.definitions
@@ -433,7 +433,7 @@ module _ (l : Limits) (d : ℕ) (opens : l.bodies ≡ suc d) (ts : Items) (here 
     -- what the phase does not allow is refused as a whole
     pub topping_stops : turn ph (weight (added_by false i)) ≡ None → template l ts ≡ None
     unfolding going_on on
-    topping_stops none = template_is ∙ ap (λ o. o >>= last_steps) on.reads ∙ stops on.before (behind ∙ rw none refl) (body (suc d) l [] new)
+    topping_stops none = template_is ∙ ap (λ o. o >>= last_steps) on.reads ∙ stops on.before (following ∙ rw none refl) (body (suc d) l [] new)
 
   step_extends : (start : Edge) (first : Span) (us : Items) → front here.tokens ≡ Opens OpensExtends start first us
       → step l (body d l) [] here.seen (front here.tokens) ≡ (extends_of [] start first here.seen us >>= λ x. Some (Some x))

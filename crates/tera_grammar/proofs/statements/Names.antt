@@ -29,9 +29,9 @@ unmet_apart : (n : List ℕ) (met : Met) (ns : List (List ℕ)) → NoneMet (mee
 unmet_apart n met [] h = tt
 unmet_apart n met (m ∷ ms) h = (bytes_differ n m (or_false _ _ h.0).0, unmet_apart n met ms h.1)
 
-unmet_behind : (n : List ℕ) (met : Met) (ns : List (List ℕ)) → AllByRecursion (λ m. n ≢ m) ns → NoneMet met ns → NoneMet (meet n met) ns
-unmet_behind n met [] apart h = tt
-unmet_behind n met (m ∷ ms) apart h = (rw (bytes_apart n m apart.0, h.0) refl, unmet_behind n met ms apart.1 h.1)
+unmet_after : (n : List ℕ) (met : Met) (ns : List (List ℕ)) → AllByRecursion (λ m. n ≢ m) ns → NoneMet met ns → NoneMet (meet n met) ns
+unmet_after n met [] apart h = tt
+unmet_after n met (m ∷ ms) apart h = (rw (bytes_apart n m apart.0, h.0) refl, unmet_after n met ms apart.1 h.1)
 
 none_met : (met : Met) (ns : List (List ℕ)) → AreNew met ns → NoneMet met ns
 none_met met [] new = tt
@@ -44,7 +44,7 @@ new_distinct met (n ∷ ns) new = (unmet_apart n met ns (none_met (meet n met) n
 
 distinct_new : (met : Met) (ns : List (List ℕ)) → NoneMet met ns → AreDistinct ns → AreNew met ns
 distinct_new met [] none distinct = tt
-distinct_new met (n ∷ ns) none distinct = (none.0, distinct_new (meet n met) ns (unmet_behind n met ns distinct.0 none.1) distinct.1)
+distinct_new met (n ∷ ns) none distinct = (none.0, distinct_new (meet n met) ns (unmet_after n met ns distinct.0 none.1) distinct.1)
 
 nothing_unmet : (ns : List (List ℕ)) → NoneMet nothing_met ns
 nothing_unmet [] = tt

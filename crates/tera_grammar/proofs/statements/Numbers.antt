@@ -12,7 +12,7 @@ use Rattle.tera_lexer.specs.grammar.Tokens as toks
 use Rattle.tera_lexer.specs.grammar.Tokens.{Tok, Items, Ended, Token, tokens_of}
 use Rattle.tera_lexer.specs.grammar.Marks.{Marks, IsValid}
 use Rattle.tera_lexer.specs.grammar.Division.{Complete}
-use Rattle.tera_lexer.specs.grammar.Tiling.{Tile, Shows, in_tag_behind}
+use Rattle.tera_lexer.specs.grammar.Tiling.{Tile, Shows, in_tag_after}
 use Rattle.tera_lexer.proofs.Tilings.{tokens_tile}
 use Rattle.tera_lexer.specs.declared.lexer.delimiters.Kind.TheVariants as kind
 use Rattle.tera_ast.specs.Tree as tree
@@ -34,7 +34,7 @@ use Rattle.tera_grammar.specs.statements.Output.{text_adds, added_nodes, added_b
 use Rattle.tera_grammar.specs.statements.Top.{IsTemplate, Derives}
 use Rattle.tera_grammar.specs.statements.Constants.{EachOfFilters, EachOfNodes, EachOfNode, EachOfDefault, EachOfDefinition, EachOfOutput}
 use Rattle.tera_grammar.proofs.expressions.Bodiless.{has_body}
-use Rattle.tera_grammar.proofs.expressions.Numbers.{literal_negates, behind, behind_dotted, behind_second, literal_holds, OfValues, OfPairs, constant_items_hold, constant_entries_hold, constants_hold, items_hold, entries_hold, attributes_hold, args_hold}
+use Rattle.tera_grammar.proofs.expressions.Numbers.{literal_negates, following, after_dotted, after_second, literal_holds, OfValues, OfPairs, constant_items_hold, constant_entries_hold, constants_hold, items_hold, entries_hold, attributes_hold, args_hold}
 use Rattle.tera_grammar.proofs.statements.Expressions.{expression_plain}
 
 all-append : {A : Type 0} (P : A → Type 0) (xs ys : List A) → AllByRecursion P xs → AllByRecursion P ys → AllByRecursion P (xs ++ ys)
@@ -53,7 +53,7 @@ put_all {X} Q k v (e ∷ es) h hs =
     ]
 
 module _ (P : ℤ → Type 0) (negates : (n : ℤ) → P n → P (neg_ℤ n)) where
-  -- what stands in tags
+  -- what is in tags
   expression_holds : (f : Bool) (e : Expression) (r : Items) → EachNumber P (expression_yield e r) → EachConstant P (expression_output f e) × EachNumber P r
   unfolding expression_yield expression_output
   expression_holds f e r h = constants_hold P negates f e r h
@@ -66,9 +66,9 @@ module _ (P : ℤ → Type 0) (negates : (n : ℤ) → P n → P (neg_ℤ n)) wh
   unfolding attributes_yield attributes_output
   attributes_hold_too f a r h = attributes_hold P negates f a r h
 
-  behind_component : (n : ComponentName) (r : Items) → EachNumber P (component_yield n r) → EachNumber P r
+  after_component : (n : ComponentName) (r : Items) → EachNumber P (component_yield n r) → EachNumber P r
   unfolding component_yield
-  behind_component n r h = behind_dotted P n.further r h
+  after_component n r h = after_dotted P n.further r h
 
   array_holds : (l : Limits) (a : LiteralArray) (r : Items) → IsLiteralArray l a → EachNumber P (array_yield a r) → EachOfValues P (array_output a) × EachNumber P r
   unfolding IsLiteralArray array_yield array_output
@@ -90,11 +90,11 @@ module _ (P : ℤ → Type 0) (negates : (n : ℤ) → P n → P (neg_ℤ n)) wh
       ((y.0, z.0), z.1)
 
   loop_holds : (lp : Loop) (r : Items) → EachNumber P (loop_yield lp r) → EachConstant P (expression_output true lp.target) × EachNumber P r
-  loop_holds lp r h = expression_holds true lp.target r (behind_second P lp.second _ h)
+  loop_holds lp r h = expression_holds true lp.target r (after_second P lp.second _ h)
 
   -- a component's definition
   default_holds : (l : Limits) (d : Default) (r : Items) → FitsDefault l d → EachNumber P (default_yield d r) → EachOfValue P (default_output d) × EachNumber P r
-  default_holds l (LiteralDefault x span) r is h = (literal_holds P x span r h, behind P (literal_token x) span r h)
+  default_holds l (LiteralDefault x span) r is h = (literal_holds P x span r h, following P (literal_token x) span r h)
   default_holds l (MinusDefault minus n span) r is h = (negates n h.0, h.1)
   default_holds l (NothingDefault n) r is h = (tt, h)
   default_holds l (ArrayDefault a) r is h = array_holds l a r is h
@@ -104,17 +104,17 @@ module _ (P : ℤ → Type 0) (negates : (n : ℤ) → P n → P (neg_ℤ n)) wh
   assigned_holds l None r is h = (tt, h)
   assigned_holds l (Some d) r is h = default_holds l d.value r is h
 
-  behind_annotation : (t : Option Annotation) (r : Items) → EachNumber P (annotation_yield t r) → EachNumber P r
-  behind_annotation None r h = h
-  behind_annotation (Some a) r h = h
+  after_annotation : (t : Option Annotation) (r : Items) → EachNumber P (annotation_yield t r) → EachNumber P r
+  after_annotation None r h = h
+  after_annotation (Some a) r h = h
 
-  behind_at : (at : Option Span) (r : Items) → EachNumber P (at_yield at r) → EachNumber P r
-  behind_at None r h = h
-  behind_at (Some span) r h = h
+  after_at : (at : Option Span) (r : Items) → EachNumber P (at_yield at r) → EachNumber P r
+  after_at None r h = h
+  after_at (Some span) r h = h
 
   parameter_holds : (l : Limits) (p : Parameter) (r : Items) → FitsParameter l p → EachNumber P (parameter_yield p r) → EachOfDefault P (argument_of p).default × EachNumber P r
   parameter_holds l p r is h =
-      assigned_holds l p.default r is.2 (behind_annotation p.type (assigned_yield p.default r) (behind_at p.at (name_yield p.name (annotation_yield p.type (assigned_yield p.default r))) h))
+      assigned_holds l p.default r is.2 (after_annotation p.type (assigned_yield p.default r) (after_at p.at (name_yield p.name (annotation_yield p.type (assigned_yield p.default r))) h))
 
   abbrev OfArgument : Argument → Type 0
   OfArgument a = EachOfDefault P a.default
@@ -138,13 +138,13 @@ module _ (P : ℤ → Type 0) (negates : (n : ℤ) → P n → P (neg_ℤ n)) wh
   metadata_holds l None r is h = (tt, h)
   metadata_holds l (Some m) r is h = let x = map_holds l m r is h in (pairs_hold (map_output m) [] x.0 tt, x.1)
 
-  behind_component_if_any : (n : Option ComponentName) (r : Items) → EachNumber P (component_if_any_yield n r) → EachNumber P r
-  behind_component_if_any None r h = h
-  behind_component_if_any (Some n) r h = behind_component n r h
+  after_component_if_any : (n : Option ComponentName) (r : Items) → EachNumber P (component_if_any_yield n r) → EachNumber P r
+  after_component_if_any None r h = h
+  after_component_if_any (Some n) r h = after_component n r h
 
-  behind_name_if_any : (n : Option Name) (r : Items) → EachNumber P (name_if_any_yield n r) → EachNumber P r
-  behind_name_if_any None r h = h
-  behind_name_if_any (Some n) r h = h
+  after_name_if_any : (n : Option Name) (r : Items) → EachNumber P (name_if_any_yield n r) → EachNumber P r
+  after_name_if_any None r h = h
+  after_name_if_any (Some n) r h = h
 
   -- nodes
   nodes-append : (xs ys : List Stmt) → EachOfNodes P (nodes_of xs) → EachOfNodes P (nodes_of ys) → EachOfNodes P (nodes_of (xs ++ ys))
@@ -163,11 +163,11 @@ module _ (P : ℤ → Type 0) (negates : (n : ℤ) → P n → P (neg_ℤ n)) wh
   text_defines [] = tt
   text_defines (b ∷ bs) = tt
 
-  behind_opener : (global : Bool) (t : Tag) (r : Items) → EachNumber P (opening (OpensSet global) t r) → EachNumber P r
-  behind_opener true t r h = h
-  behind_opener false t r h = h
+  after_opener : (global : Bool) (t : Tag) (r : Items) → EachNumber P (opening (OpensSet global) t r) → EachNumber P r
+  after_opener true t r h = h
+  after_opener false t r h = h
 
-  -- what an item adds, and what stands behind it
+  -- what an item adds, and what comes after it
   pub record ItemHolds (f : Bool) (i : Item) (r : Items) : Type 0 where
     pub nodes : EachOfNodes P (nodes_of (added_nodes (added_by f i)))
     pub definitions : AllByRecursion (EachOfDefinition P) (definitions_by (added_by f i))
@@ -188,22 +188,22 @@ module _ (P : ℤ → Type 0) (negates : (n : ℤ) → P n → P (neg_ℤ n)) wh
         let x = expression_holds f e (Token (toks.Finish kind.Variable b.dash) b.span r) h in
         record { nodes = (shown_holds (expression_output f e) (expression_plain f e) x.0, tt); definitions = tt; later = x.1 }
     item_holds l path f (Single (Set g t n s e)) r is h =
-        let x = expression_holds f e (finish t r) (behind_opener g t _ h) in record { nodes = (x.0, tt); definitions = tt; later = x.1 }
-    item_holds l path f (Single (Include t q span)) r is h = record { nodes = (tt, tt); definitions = tt; later = behind P (quote_token q) span (finish t r) h }
-    item_holds l path f (Single (Extends t q span)) r is h = record { nodes = tt; definitions = tt; later = behind P (quote_token q) span (finish t r) h }
+        let x = expression_holds f e (finish t r) (after_opener g t _ h) in record { nodes = (x.0, tt); definitions = tt; later = x.1 }
+    item_holds l path f (Single (Include t q span)) r is h = record { nodes = (tt, tt); definitions = tt; later = following P (quote_token q) span (finish t r) h }
+    item_holds l path f (Single (Extends t q span)) r is h = record { nodes = tt; definitions = tt; later = following P (quote_token q) span (finish t r) h }
     item_holds l path f (Single (Break t)) r is h = record { nodes = (tt, tt); definitions = tt; later = h }
     item_holds l path f (Single (Continue t)) r is h = record { nodes = (tt, tt); definitions = tt; later = h }
     item_holds l path f (Block t n b e m) r is h =
         let x = body_holds l (InBlock ∷ path) f b (closing AtEndBlock e (name_if_any_yield m (finish e r))) is.2 h in
-        record { nodes = (x.0, tt); definitions = tt; later = behind_name_if_any m (finish e r) x.1 }
+        record { nodes = (x.0, tt); definitions = tt; later = after_name_if_any m (finish e r) x.1 }
     item_holds l path f (Define d b) r is h =
         let tail = yield b (ending_yield d r) in
-        let x = parameters_hold l d.parameters [] (metadata_yield d.metadata (finish d.tag tail)) is.1.0.0 tt (behind_component d.name _ h) in
+        let x = parameters_hold l d.parameters [] (metadata_yield d.metadata (finish d.tag tail)) is.1.0.0 tt (after_component d.name _ h) in
         let y = metadata_holds l d.metadata (finish d.tag tail) is.1.1 x.1 in
         let z = body_holds l (InComponent ∷ path) f b (ending_yield d r) is.2 y.1 in
-        record { nodes = tt; definitions = ((x.0, y.0, z.0), tt); later = behind_component_if_any d.end_name (finish d.ending r) z.1 }
+        record { nodes = tt; definitions = ((x.0, y.0, z.0), tt); later = after_component_if_any d.end_name (finish d.ending r) z.1 }
     item_holds l path f (Capturing (SetBody g t n fs e) b) r is h =
-        let x = filters_hold f fs (finish t (yield b _)) (behind_opener g t _ h) in
+        let x = filters_hold f fs (finish t (yield b _)) (after_opener g t _ h) in
         let y = body_holds l (InCapture ∷ path) f b _ is.1 x.1 in
         record { nodes = ((x.0, y.0), tt); definitions = tt; later = y.1 }
     item_holds l path f (Capturing (Section t g fs e) b) r is h =
@@ -212,9 +212,9 @@ module _ (P : ℤ → Type 0) (negates : (n : ℤ) → P n → P (neg_ℤ n)) wh
         let y = body_holds l (InCapture ∷ path) f b _ is.1 x.1 in
         record { nodes = (((w.0, x.0), y.0), tt); definitions = tt; later = y.1 }
     item_holds l path f (Capturing (CallBody t n a last e m end) b) r is h =
-        let x = attributes_hold_too f a (mark (Operation GreaterThan) last (finish t (yield b _))) (behind_component n _ h) in
+        let x = attributes_hold_too f a (mark (Operation GreaterThan) last (finish t (yield b _))) (after_component n _ h) in
         let y = body_holds l (InCapture ∷ path) f b _ is.1 x.1 in
-        record { nodes = ((x.0, y.0), tt); definitions = tt; later = behind_component m (mark (Operation GreaterThan) end (finish e r)) y.1 }
+        record { nodes = ((x.0, y.0), tt); definitions = tt; later = after_component m (mark (Operation GreaterThan) end (finish e r)) y.1 }
     item_holds l path f (For t lp b o e) r is h =
         let x = loop_holds lp (finish t (yield b (else_yield o (closing AtEndFor e (finish e r))))) h in
         let y = body_holds l (InFor ∷ path) true b (else_yield o (closing AtEndFor e (finish e r))) is.1 x.1 in
@@ -259,8 +259,8 @@ literal_more t span items bytes shows each = each
 tile_numbers : (items : Items) (inside : Bool) (front rest : List ℕ) → Tile inside front rest items → EachNumber IsLiteralNumber items
 tile_numbers Ended inside front rest tile = tt
 tile_numbers (toks.Failed text span) inside front rest tile = tt
-tile_numbers (Token t span items) inside front rest (gap, bytes, behind, e, between, some, belongs, shows, is, tile) =
-    literal_more t span items bytes shows (tile_numbers items (in_tag_behind inside t) ((front ++ gap) ++ bytes) behind tile)
+tile_numbers (Token t span items) inside front rest (gap, bytes, following, e, between, some, belongs, shows, is, tile) =
+    literal_more t span items bytes shows (tile_numbers items (in_tag_after inside t) ((front ++ gap) ++ bytes) following tile)
 
 pub source_holds : (l : Limits) (m : Marks) → IsValid m → (source : List ℕ) (out : Output) → Derives l m source out → EachOfOutput IsLiteralNumber out
 source_holds l m valid source out d =

@@ -1,4 +1,4 @@
--- The names of parameters, by where they stand, are those that the definitions of their components have.
+-- The names of parameters, by where they are, are those that the definitions of their components have.
 use Rattle.std.proofs.Common.{◌≡◌, ℕ, Bool, true, false, ◌||◌, List, [], ◌∷◌, ◌++◌, map, Less, Equal, Greater, nat_cmp, refl, sym, ap, ◌∙◌}
 use Rattle.std.proofs.lemmas.List.{map-append}
 use Rattle.std.proofs.lemmas.Map.Text.{is_eq-slice_cmp}
@@ -18,7 +18,7 @@ use Rattle.tera_grammar.specs.statements.Output.{added_by, definitions_by, defin
 use Rattle.tera_grammar.specs.statements.Places.{Places, places, item_places, branch_places, else_places, parameters_placed}
 use Rattle.tera_grammar.specs.statements.TagParts.{Name}
 use Rattle.tera_grammar.specs.statements.Top.{DerivesNames}
-use Rattle.tera_grammar.specs.statements.Trees.{definition_tells, group_tells, has_argument, is_rest}
+use Rattle.tera_grammar.specs.statements.Trees.{definition_names, group_names, has_argument, is_rest}
 use Rattle.tera_grammar.specs.statements.Types.{Sorted, put_name}
 use Rattle.tera_grammar.proofs.statements.Trees.{both_empty, no_components, no_branch_components, no_else_components, text_defines}
 
@@ -47,26 +47,26 @@ put_has k v (e ∷ es) name = by (slice_cmp nat_cmp k e.0) refl (put_has k v es 
   where
     by : (o : Ordering) → slice_cmp nat_cmp k e.0 ≡ o → has_argument (put_name k v es) name ≡ (bytes_eq k name || has_argument es name)
         → has_argument (by_order o ((k, v) ∷ e ∷ es) ((e.0, v) ∷ es) (e ∷ put_name k v es)) name ≡ (bytes_eq k name || (bytes_eq e.0 name || has_argument es name))
-    by Less h behind = refl
-    by Equal h behind =
+    by Less h following = refl
+    by Equal h following =
         let same : k ≡ e.0 = (bytes_eq-Decides k e.0).0 (sym (is_eq-slice_cmp k e.0) ∙ ap is_eq h) in
         twice (bytes_eq e.0 name) (has_argument es name) ∙ ap (λ t. bytes_eq t name || (bytes_eq e.0 name || has_argument es name)) (sym same)
-    by Greater h behind = ap (λ b. bytes_eq e.0 name || b) behind ∙ swap (bytes_eq e.0 name) (bytes_eq k name) (has_argument es name)
+    by Greater h following = ap (λ b. bytes_eq e.0 name || b) following ∙ swap (bytes_eq e.0 name) (bytes_eq k name) (has_argument es name)
 
 abbrev placed : Parameters → List ℕ → Bool
 placed ps name = list_any (λ n. bytes_eq n.text name) (parameters_placed ps)
 
 -- of parameters, whose arguments are put among others
-told : (ps : Parameters) (args : Sorted Argument) (name : List ℕ) → (has_argument (put_arguments ps args) name || is_rest (rest_of ps) name) ≡ (has_argument args name || placed ps name)
-told (Closed end) args name = refl
-told (Rest dots n end) args name = ap (λ b. has_argument args name || b) (nothing_more (bytes_eq n.text name))
-told (Final p end) args name =
+reported : (ps : Parameters) (args : Sorted Argument) (name : List ℕ) → (has_argument (put_arguments ps args) name || is_rest (rest_of ps) name) ≡ (has_argument args name || placed ps name)
+reported (Closed end) args name = refl
+reported (Rest dots n end) args name = ap (λ b. has_argument args name || b) (nothing_more (bytes_eq n.text name))
+reported (Final p end) args name =
     ap (λ b. b || false) (put_has p.name.text (argument_of p) args name) ∙ past (bytes_eq p.name.text name) (has_argument args name) false
-told (More p comma ps) args name =
-    told ps (put_name p.name.text (argument_of p) args) name ∙ ap (λ b. b || placed ps name) (put_has p.name.text (argument_of p) args name)
+reported (More p comma ps) args name =
+    reported ps (put_name p.name.text (argument_of p) args) name ∙ ap (λ b. b || placed ps name) (put_has p.name.text (argument_of p) args name)
     ∙ past (bytes_eq p.name.text name) (has_argument args name) (placed ps name)
 
--- the names under which they stand are those of the components
+-- the names under which they are stored are those of the components
 abbrev grouped : Places → List (List ℕ)
 grouped p = map (λ g. g.0) p.parameters
 
@@ -102,36 +102,36 @@ no_names (g ∷ gs) h = cc
 no_groups : (b : Body) (l : Limits) (path : Path) → is_outermost path ≡ false → Fits l path b → (places b).parameters ≡ []
 no_groups b l path inside fits = no_names (places b).parameters (same_groups b ∙ no_components b l path inside fits)
 
--- the definitions tell of the same
-item_parameters : (i : Item) (l : Limits) → FitsItem l [] i → map definition_tells (definitions_by (added_by false i)) ≡ map group_tells (item_places i).parameters
-item_parameters (Single (Text text span)) l fits = ap (map definition_tells) (text_defines text)
+-- the definitions report the same
+item_parameters : (i : Item) (l : Limits) → FitsItem l [] i → map definition_names (definitions_by (added_by false i)) ≡ map group_names (item_places i).parameters
+item_parameters (Single (Text text span)) l fits = ap (map definition_names) (text_defines text)
 item_parameters (Single (Shown a e b)) l fits = refl
 item_parameters (Single (Set g t n s e)) l fits = refl
 item_parameters (Single (Include t q span)) l fits = refl
 item_parameters (Single (Extends t q span)) l fits = refl
 item_parameters (Single (Break t)) l fits = refl
 item_parameters (Single (Continue t)) l fits = refl
-item_parameters (Block t n b e m) l fits = ap (map group_tells) (sym (no_groups b l (InBlock ∷ []) refl fits.2))
+item_parameters (Block t n b e m) l fits = ap (map group_names) (sym (no_groups b l (InBlock ∷ []) refl fits.2))
 item_parameters (Define h b) l fits =
-    let one : definition_tells (definition_of h (output false b)) ≡ group_tells (component_text h.name, parameters_placed h.parameters) = λ i.
-    (component_text h.name, λ name. told h.parameters [] name i) in
-    λ i. one i ∷ map group_tells (sym (no_groups b l (InComponent ∷ []) refl fits.2) i)
-item_parameters (Capturing c b) l fits = ap (map group_tells) (sym (no_groups b l (InCapture ∷ []) refl fits.1))
+    let one : definition_names (definition_of h (output false b)) ≡ group_names (component_text h.name, parameters_placed h.parameters) = λ i.
+    (component_text h.name, λ name. reported h.parameters [] name i) in
+    λ i. one i ∷ map group_names (sym (no_groups b l (InComponent ∷ []) refl fits.2) i)
+item_parameters (Capturing c b) l fits = ap (map group_names) (sym (no_groups b l (InCapture ∷ []) refl fits.1))
 item_parameters (For t lp b o e) l fits =
-    ap (map group_tells) (sym (both_empty (places b).parameters (else_places o).parameters (no_groups b l (InFor ∷ []) refl fits.1)
+    ap (map group_names) (sym (both_empty (places b).parameters (else_places o).parameters (no_groups b l (InFor ∷ []) refl fits.1)
     (no_names (else_places o).parameters (same_else_groups o ∙ no_else_components o l (InForElse ∷ []) refl fits.2))))
 item_parameters (If t c b bs e) l fits =
-    ap (map group_tells) (sym (both_empty (places b).parameters (branch_places bs).parameters (no_groups b l (InIf ∷ []) refl fits.1)
+    ap (map group_names) (sym (both_empty (places b).parameters (branch_places bs).parameters (no_groups b l (InIf ∷ []) refl fits.1)
     (no_names (branch_places bs).parameters (same_branch_groups bs ∙ no_branch_components bs l (InIf ∷ []) refl fits.2))))
 
-same_parameters : (b : Body) (l : Limits) → Fits l [] b → map definition_tells (definitions_of b) ≡ map group_tells (places b).parameters
+same_parameters : (b : Body) (l : Limits) → Fits l [] b → map definition_names (definitions_of b) ≡ map group_names (places b).parameters
 same_parameters Done l fits = refl
 same_parameters (Then i b) l fits =
-    map-append definition_tells (definitions_by (added_by false i)) (definitions_of b)
+    map-append definition_names (definitions_by (added_by false i)) (definitions_of b)
     ∙ (λ j. item_parameters i l fits.0 j ++ same_parameters b l fits.1 j)
-    ∙ sym (map-append group_tells (item_places i).parameters (places b).parameters)
+    ∙ sym (map-append group_names (item_places i).parameters (places b).parameters)
 
-pub parameters_told : (l : Limits) (m : Marks) (source : List ℕ) (output : Output) (ns : Places) → DerivesNames l m source output ns
-    → map group_tells ns.parameters ≡ map definition_tells output.definitions
-parameters_told l m source output ns (pieces, division, (b, is, same, named)) =
-    ap (λ (p : Places). map group_tells p.parameters) named ∙ sym (same_parameters b l is.fits) ∙ ap (λ (o : Output). map definition_tells o.definitions) (sym same)
+pub parameters_reported : (l : Limits) (m : Marks) (source : List ℕ) (output : Output) (ns : Places) → DerivesNames l m source output ns
+    → map group_names ns.parameters ≡ map definition_names output.definitions
+parameters_reported l m source output ns (pieces, division, (b, is, same, named)) =
+    ap (λ (p : Places). map group_names p.parameters) named ∙ sym (same_parameters b l is.fits) ∙ ap (λ (o : Output). map definition_names o.definitions) (sym same)

@@ -12,23 +12,23 @@ use Rattle.tera_grammar.specs.statements.Reading.TagParts.{openers, closers, ope
 use Rattle.tera_grammar.proofs.expressions.Fronts.{same_token_is, taken_as_ok, quote_of_ok}
 use Rattle.tera_grammar.proofs.Options.{bound, guard_ok}
 
-pub name_if_any_stands : (ts : Items) → ts ≡ name_if_any_yield (name_if_any ts).0 (name_if_any ts).1
-name_if_any_stands (Token (Ident text) span items) = refl
-name_if_any_stands _ = refl
+pub name_if_any_sound : (ts : Items) → ts ≡ name_if_any_yield (name_if_any ts).0 (name_if_any ts).1
+name_if_any_sound (Token (Ident text) span items) = refl
+name_if_any_sound _ = refl
 
-pub quote_stands : (ts : Items) (x : (Quote × Span) × Items) → taken_quote ts ≡ Some x → ts ≡ Token (quote_token x.0.0) x.0.1 x.1
-quote_stands ts x h = taken_as_ok quote_of quote_token quote_of_ok ts x h
+pub quote_sound : (ts : Items) (x : (Quote × Span) × Items) → taken_quote ts ≡ Some x → ts ≡ Token (quote_token x.0.0) x.0.1 x.1
+quote_sound ts x h = taken_as_ok quote_of quote_token quote_of_ok ts x h
 
-pub finish_stands : (ts : Items) (x : Edge × Items) → finish_of ts ≡ Some x → ts ≡ finish_yield x.0 x.1
-finish_stands (Token (Finish kind.Block dash) span items) x h = ap (λ (y : Edge × Items). finish_yield y.0 y.1) (same_Some _ _ h)
-finish_stands _ x h = cc
+pub finish_sound : (ts : Items) (x : Edge × Items) → finish_of ts ≡ Some x → ts ≡ finish_yield x.0 x.1
+finish_sound (Token (Finish kind.Block dash) span items) x h = ap (λ (y : Edge × Items). finish_yield y.0 y.1) (same_Some _ _ h)
+finish_sound _ x h = cc
 
 abbrev pub variable_end_yield : Edge → Items → Items
 variable_end_yield e items = Token (Finish kind.Variable e.dash) e.span items
 
-pub variable_end_stands : (ts : Items) (x : Edge × Items) → variable_end_of ts ≡ Some x → ts ≡ variable_end_yield x.0 x.1
-variable_end_stands (Token (Finish kind.Variable dash) span items) x h = ap (λ (y : Edge × Items). variable_end_yield y.0 y.1) (same_Some _ _ h)
-variable_end_stands _ x h = cc
+pub variable_end_sound : (ts : Items) (x : Edge × Items) → variable_end_of ts ≡ Some x → ts ≡ variable_end_yield x.0 x.1
+variable_end_sound (Token (Finish kind.Variable dash) span items) x h = ap (λ (y : Edge × Items). variable_end_yield y.0 y.1) (same_Some _ _ h)
+variable_end_sound _ x h = cc
 
 opener_in_ok : (os : List Opener) (t : Tok) (o : Opener) → opener_in os t ≡ Some o → t ≡ opener_token o
 opener_in_ok [] t o h = cc
@@ -81,11 +81,11 @@ closed_at_ok c ts (Closes d start first us) x is h =
     (is ∙ ap (λ t. start_yield start (Token t first us)) (same_token_is (closer_token d) (closer_token c) (guard_ok _ u same))))
 closed_at_ok c ts _ x is h = cc
 
-pub closed_stands : (c : Closer) (ts : Items) (x : (Edge × Span) × Items) → closed c ts ≡ Some x → ts ≡ start_yield x.0.0 (Token (closer_token c) x.0.1 x.1)
-closed_stands c ts x h = closed_at_ok c ts (front ts) x (front_is ts) h
+pub closed_sound : (c : Closer) (ts : Items) (x : (Edge × Span) × Items) → closed c ts ≡ Some x → ts ≡ start_yield x.0.0 (Token (closer_token c) x.0.1 x.1)
+closed_sound c ts x h = closed_at_ok c ts (front ts) x (front_is ts) h
 
-pub closed_tag_stands : (c : Closer) (ts : Items) (x : Tag × Items) → closed_tag c ts ≡ Some x → ts ≡ closing c x.0 (finish x.0 x.1)
-closed_tag_stands c ts x h =
-    bound _ _ _ h (λ y stands more. bound _ _ _ more (λ f ended made.
+pub closed_tag_sound : (c : Closer) (ts : Items) (x : Tag × Items) → closed_tag c ts ≡ Some x → ts ≡ closing c x.0 (finish x.0 x.1)
+closed_tag_sound c ts x h =
+    bound _ _ _ h (λ y sound more. bound _ _ _ more (λ f ended made.
     subst (λ (z : Tag × Items). ts ≡ closing c z.0 (finish z.0 z.1)) (same_Some (tag y.0.0 y.0.1 f.0, f.1) x made)
-    (closed_stands c ts y stands ∙ ap (λ v. start_yield y.0.0 (Token (closer_token c) y.0.1 v)) (finish_stands y.1 f ended))))
+    (closed_sound c ts y sound ∙ ap (λ v. start_yield y.0.0 (Token (closer_token c) y.0.1 v)) (finish_sound y.1 f ended))))

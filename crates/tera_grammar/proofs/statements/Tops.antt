@@ -12,7 +12,7 @@ use Rattle.tera_grammar.specs.statements.Expressions.{Limits}
 use Rattle.tera_grammar.specs.statements.Names.{NamesAreDistinct}
 use Rattle.tera_grammar.specs.statements.Places.{places}
 use Rattle.tera_grammar.specs.statements.Grammar.{Text, Shown, Set, Include, Extends, Break, Continue, Body, Done, Then, Item, Single, Block, Define, Capturing, For, If, yield}
-use Rattle.tera_grammar.specs.statements.Reading.{at, body, Phase, Starting, Standing, Extending, behind_text, from_start, next_phase, phases, template}
+use Rattle.tera_grammar.specs.statements.Reading.{at, body, Phase, Starting, Standalone, Extending, after_text, from_start, next_phase, phases, template}
 use Rattle.tera_grammar.proofs.statements.Names.{names_distinct, names_new, same_names}
 use Rattle.tera_grammar.specs.statements.Top.{is_blank, is_silent, is_kept, IsExtends, Each, join, Child, TopLevel, IsTemplate}
 use Rattle.tera_grammar.proofs.Options.{bound, guard_ok}
@@ -24,15 +24,15 @@ use Rattle.tera_grammar.proofs.statements.Complete.{whole}
 data Start (i : Item) : Type 0 where
   by_parent : (t : Tag) (q : Quote) (span : Span) → i ≡ Single (Extends t q span) → Start i
   by_silence : is_silent i ≡ true → (IsExtends i → ⊥) → from_start i ≡ Starting → Start i
-  by_others : (IsExtends i → ⊥) → from_start i ≡ Standing → Start i
+  by_others : (IsExtends i → ⊥) → from_start i ≡ Standalone → Start i
 
 start_of : (i : Item) → Start i
 start_of (Single (Extends t q span)) = by_parent t q span refl
 start_of (Single (Text text span)) = goes (is_blank text) refl
   where
     goes : (b : Bool) → is_blank text ≡ b → Start (Single (Text text span))
-    goes true is = by_silence is (λ h. h) (ap behind_text is)
-    goes false is = by_others (λ h. h) (ap behind_text is)
+    goes true is = by_silence is (λ h. h) (ap after_text is)
+    goes false is = by_others (λ h. h) (ap after_text is)
 start_of (Single (Shown a e b)) = by_others (λ h. h) refl
 start_of (Single (Set g t n s e)) = by_others (λ h. h) refl
 start_of (Single (Include t q span)) = by_others (λ h. h) refl
@@ -50,16 +50,16 @@ extending_ok (Then i b) ph h =
     bound _ _ _ h (λ r kept more. bound _ _ _ kept (λ u held made.
     (guard_ok _ u held, extending_ok b ph (subst (λ x. phases x b ≡ Some ph) (sym (same_Some _ _ made)) more))))
 
-stands : (i : Item) (ph : Phase) → next_phase Standing i ≡ Some ph → (IsExtends i → ⊥) × (ph ≡ Standing)
-stands (Single (Extends t q span)) ph h = cc
-stands i ph h = (λ e. e, sym (same_Some _ _ h))
+sound : (i : Item) (ph : Phase) → next_phase Standalone i ≡ Some ph → (IsExtends i → ⊥) × (ph ≡ Standalone)
+sound (Single (Extends t q span)) ph h = cc
+sound i ph h = (λ e. e, sym (same_Some _ _ h))
 
-standing_ok : (b : Body) (ph : Phase) → phases Standing b ≡ Some ph → Each (λ i. IsExtends i → ⊥) b
-standing_ok Done ph h = tt
-standing_ok (Then i b) ph h =
+standalone_ok : (b : Body) (ph : Phase) → phases Standalone b ≡ Some ph → Each (λ i. IsExtends i → ⊥) b
+standalone_ok Done ph h = tt
+standalone_ok (Then i b) ph h =
     bound _ _ _ h (λ r kept more.
-    let one = stands i r kept in
-    (one.0, standing_ok b ph (subst (λ x. phases x b ≡ Some ph) one.1 more)))
+    let one = sound i r kept in
+    (one.0, standalone_ok b ph (subst (λ x. phases x b ≡ Some ph) one.1 more)))
 
 after_silence : (i : Item) (b : Body) → is_silent i ≡ true → (IsExtends i → ⊥) → TopLevel b → TopLevel (Then i b)
 after_silence i b silent other top =
@@ -75,17 +75,17 @@ top_found (Then i b) ph h = goes (start_of i) (top_found b ph)
     goes (by_parent t q span is) again =
         inr (record { before = Done; tag = t; parent = q; span = span; after = b; is = ap (λ j. Then j b) is; silent = tt; kept = extending_ok b ph (subst (λ j. phases (from_start j) b ≡ Some ph) is h) })
     goes (by_silence silent other is) again = after_silence i b silent other (again (subst (λ x. phases x b ≡ Some ph) is h))
-    goes (by_others other is) again = inl (other, standing_ok b ph (subst (λ x. phases x b ≡ Some ph) is h))
+    goes (by_others other is) again = inl (other, standalone_ok b ph (subst (λ x. phases x b ≡ Some ph) is h))
 
 extending_read : (b : Body) → Each (λ i. is_kept i ≡ true) b → phases Extending b ≡ Some Extending
 extending_read Done h = refl
 extending_read (Then i b) h = rw (h.0, extending_read b h.1) refl
 
-stands_on : (i : Item) → (IsExtends i → ⊥) → next_phase Standing i ≡ Some Standing
+stands_on : (i : Item) → (IsExtends i → ⊥) → next_phase Standalone i ≡ Some Standalone
 stands_on (Single (Extends t q span)) h = absurd (h tt)
 stands_on i h = refl
 
-standing_read : (b : Body) → Each (λ i. IsExtends i → ⊥) b → phases Standing b ≡ Some Standing
+standing_read : (b : Body) → Each (λ i. IsExtends i → ⊥) b → phases Standalone b ≡ Some Standalone
 standing_read Done h = refl
 standing_read (Then i b) h = rw (stands_on i h.0, standing_read b h.1) refl
 
@@ -96,10 +96,10 @@ plain_read (Then i b) h = goes (start_of i) (plain_read b h.1)
     goes : Start i → (ph : Phase) × (phases Starting b ≡ Some ph) → (ph : Phase) × (phases Starting (Then i b) ≡ Some ph)
     goes (by_parent t q span is) more = absurd (h.0 (subst IsExtends (sym is) tt))
     goes (by_silence silent other is) more = (more.0, ap (λ x. phases x b) is ∙ more.1)
-    goes (by_others other is) more = (Standing, ap (λ x. phases x b) is ∙ standing_read b h.1)
+    goes (by_others other is) more = (Standalone, ap (λ x. phases x b) is ∙ standing_read b h.1)
 
 silent_starts : (i : Item) → is_silent i ≡ true → from_start i ≡ Starting
-silent_starts (Single (Text text span)) h = ap behind_text h
+silent_starts (Single (Text text span)) h = ap after_text h
 silent_starts (Define head b) h = refl
 silent_starts _ h = cc
 

@@ -15,14 +15,14 @@ use Rattle.tera_grammar.specs.statements.Heads.{SetBody, Section, CallBody}
 use Rattle.tera_grammar.specs.statements.Grammar.{Text, Shown, Set, Include, Extends, Break, Continue, Body, Done, Then, Item, Single, Block, Define, Capturing, For, If, Branches, Elif, Last, Else, NoElse, Otherwise, InFor, InForElse, InBlock, InIf, InComponent, InCapture, Path, may_block, may_break, is_outermost, Fits, FitsItem, FitsBranches, FitsElse, names, item_names, branch_names, else_names}
 use Rattle.tera_grammar.specs.statements.Output.{text_adds, added_nodes, added_by, later, parent_by, definitions_by, output, branch_output, else_output, parent_of, definitions_of, output_of}
 use Rattle.tera_grammar.specs.statements.Top.{is_blank, is_silent, is_kept, IsExtends, Each, Child, TopLevel, IsTemplate}
-use Rattle.tera_grammar.specs.statements.Trees.{blocks, stmt_blocks, BreaksStand, BreakStands, IsKeptNode, IsRight}
+use Rattle.tera_grammar.specs.statements.Trees.{blocks, stmt_blocks, BreaksAreInside, BreakIsInside, IsKeptNode, IsRight}
 use Rattle.tera_grammar.proofs.statements.Expressions.{expression_plain}
 use Rattle.tera_grammar.proofs.statements.Loops.{output-join}
 
 pub both_empty : {A : Type 0} (xs ys : List A) → xs ≡ [] → ys ≡ [] → xs ++ ys ≡ []
 both_empty xs ys a b = ap (λ v. v ++ ys) a ∙ b
 
--- where no block may stand there is none
+-- where no block may be there is none
 mutual
   no_blocks : (b : Body) (l : Limits) (path : Path) → may_block path ≡ false → Fits l path b → (names b).blocks ≡ []
   no_blocks Done l path may fits = refl
@@ -118,55 +118,55 @@ mutual
   same_else_blocks NoElse l path f fits = refl
   same_else_blocks (Otherwise t b) l path f fits = same_blocks b l path f fits
 
--- its turns and ends of loops stand where they may
-stand-append : (f : Bool) (xs ys : List Stmt) → BreaksStand f (nodes_of xs) → BreaksStand f (nodes_of ys) → BreaksStand f (nodes_of (xs ++ ys))
+-- its turns and ends of loops are where they may
+stand-append : (f : Bool) (xs ys : List Stmt) → BreaksAreInside f (nodes_of xs) → BreaksAreInside f (nodes_of ys) → BreaksAreInside f (nodes_of (xs ++ ys))
 stand-append f [] ys a b = b
 stand-append f (x ∷ xs) ys a b = (a.0, stand-append f xs ys a.1 b)
 
-plain_stands : (f : Bool) (e : Expr) → has_body e ≡ false → BreakStands f (tree.Shown e)
-plain_stands f (tree.ComponentCall name es body false span) h = cc
-plain_stands f e h = tt
+plain_sound : (f : Bool) (e : Expr) → has_body e ≡ false → BreakIsInside f (tree.Shown e)
+plain_sound f (tree.ComponentCall name es body false span) h = cc
+plain_sound f e h = tt
 
-text_stands : (f : Bool) (text : List ℕ) → BreaksStand f (nodes_of (added_nodes (text_adds text)))
-text_stands f [] = tt
-text_stands f (b ∷ bs) = (tt, tt)
+text_sound : (f : Bool) (text : List ℕ) → BreaksAreInside f (nodes_of (added_nodes (text_adds text)))
+text_sound f [] = tt
+text_sound f (b ∷ bs) = (tt, tt)
 
 mutual
-  breaks_stand : (b : Body) (l : Limits) (path : Path) (f : Bool) → Fits l path b → BreaksStand (may_break path) (nodes_of (output f b))
-  breaks_stand Done l path f fits = tt
-  breaks_stand (Then i b) l path f fits =
-      stand-append (may_break path) (added_nodes (added_by f i)) (output f b) (item_stands i l path f fits.0) (breaks_stand b l path f fits.1)
+  breaks_sound : (b : Body) (l : Limits) (path : Path) (f : Bool) → Fits l path b → BreaksAreInside (may_break path) (nodes_of (output f b))
+  breaks_sound Done l path f fits = tt
+  breaks_sound (Then i b) l path f fits =
+      stand-append (may_break path) (added_nodes (added_by f i)) (output f b) (item_sound i l path f fits.0) (breaks_sound b l path f fits.1)
 
-  item_stands : (i : Item) (l : Limits) (path : Path) (f : Bool) → FitsItem l path i → BreaksStand (may_break path) (nodes_of (added_nodes (added_by f i)))
-  item_stands (Single (Text text span)) l path f fits = text_stands (may_break path) text
-  item_stands (Single (Shown a e b)) l path f fits = (plain_stands (may_break path) (expression_output f e) (expression_plain f e), tt)
-  item_stands (Single (Set g t n s e)) l path f fits = (tt, tt)
-  item_stands (Single (Include t q span)) l path f fits = (tt, tt)
-  item_stands (Single (Extends t q span)) l path f fits = tt
-  item_stands (Single (Break t)) l path f fits = (fits, tt)
-  item_stands (Single (Continue t)) l path f fits = (fits, tt)
-  item_stands (Block t n b e m) l path f fits = (breaks_stand b l (InBlock ∷ path) f fits.2, tt)
-  item_stands (Define h b) l path f fits = tt
-  item_stands (Capturing (SetBody g t n fs e) b) l path f fits = (breaks_stand b l (InCapture ∷ path) f fits.1, tt)
-  item_stands (Capturing (Section t g fs e) b) l path f fits = (breaks_stand b l (InCapture ∷ path) f fits.1, tt)
-  item_stands (Capturing (CallBody t n a last e m end) b) l path f fits = (breaks_stand b l (InCapture ∷ path) f fits.1, tt)
-  item_stands (For t lp b o e) l path f fits = ((breaks_stand b l (InFor ∷ path) true fits.1, else_stands o l (InForElse ∷ path) f fits.2), tt)
-  item_stands (If t c b bs e) l path f fits = ((breaks_stand b l (InIf ∷ path) f fits.1, branches_stand bs l (InIf ∷ path) f fits.2), tt)
+  item_sound : (i : Item) (l : Limits) (path : Path) (f : Bool) → FitsItem l path i → BreaksAreInside (may_break path) (nodes_of (added_nodes (added_by f i)))
+  item_sound (Single (Text text span)) l path f fits = text_sound (may_break path) text
+  item_sound (Single (Shown a e b)) l path f fits = (plain_sound (may_break path) (expression_output f e) (expression_plain f e), tt)
+  item_sound (Single (Set g t n s e)) l path f fits = (tt, tt)
+  item_sound (Single (Include t q span)) l path f fits = (tt, tt)
+  item_sound (Single (Extends t q span)) l path f fits = tt
+  item_sound (Single (Break t)) l path f fits = (fits, tt)
+  item_sound (Single (Continue t)) l path f fits = (fits, tt)
+  item_sound (Block t n b e m) l path f fits = (breaks_sound b l (InBlock ∷ path) f fits.2, tt)
+  item_sound (Define h b) l path f fits = tt
+  item_sound (Capturing (SetBody g t n fs e) b) l path f fits = (breaks_sound b l (InCapture ∷ path) f fits.1, tt)
+  item_sound (Capturing (Section t g fs e) b) l path f fits = (breaks_sound b l (InCapture ∷ path) f fits.1, tt)
+  item_sound (Capturing (CallBody t n a last e m end) b) l path f fits = (breaks_sound b l (InCapture ∷ path) f fits.1, tt)
+  item_sound (For t lp b o e) l path f fits = ((breaks_sound b l (InFor ∷ path) true fits.1, else_sound o l (InForElse ∷ path) f fits.2), tt)
+  item_sound (If t c b bs e) l path f fits = ((breaks_sound b l (InIf ∷ path) f fits.1, branches_sound bs l (InIf ∷ path) f fits.2), tt)
 
-  branches_stand : (bs : Branches) (l : Limits) (path : Path) (f : Bool) → FitsBranches l path bs → BreaksStand (may_break path) (nodes_of (branch_output f bs))
-  branches_stand (Elif t c b bs) l path f fits = ((breaks_stand b l path f fits.1, branches_stand bs l path f fits.2), tt)
-  branches_stand (Last o) l path f fits = else_stands o l path f fits
+  branches_sound : (bs : Branches) (l : Limits) (path : Path) (f : Bool) → FitsBranches l path bs → BreaksAreInside (may_break path) (nodes_of (branch_output f bs))
+  branches_sound (Elif t c b bs) l path f fits = ((breaks_sound b l path f fits.1, branches_sound bs l path f fits.2), tt)
+  branches_sound (Last o) l path f fits = else_sound o l path f fits
 
-  else_stands : (o : Else) (l : Limits) (path : Path) (f : Bool) → FitsElse l path o → BreaksStand (may_break path) (nodes_of (else_output f o))
-  else_stands NoElse l path f fits = tt
-  else_stands (Otherwise t b) l path f fits = breaks_stand b l path f fits
+  else_sound : (o : Else) (l : Limits) (path : Path) (f : Bool) → FitsElse l path o → BreaksAreInside (may_break path) (nodes_of (else_output f o))
+  else_sound NoElse l path f fits = tt
+  else_sound (Otherwise t b) l path f fits = breaks_sound b l path f fits
 
 -- the components that are defined, at the top level
 abbrev definition_name : Definition → List ℕ
 definition_name d = d.name
 
 abbrev StandsAlone : Definition → Type 0
-StandsAlone d = BreaksStand false (nodes_of d.body)
+StandsAlone d = BreaksAreInside false (nodes_of d.body)
 
 pub text_defines : (text : List ℕ) → definitions_by (text_adds text) ≡ []
 text_defines [] = refl
@@ -206,7 +206,7 @@ item_stands_alone (Single (Extends t q span)) l fits = tt
 item_stands_alone (Single (Break t)) l fits = tt
 item_stands_alone (Single (Continue t)) l fits = tt
 item_stands_alone (Block t n b e m) l fits = tt
-item_stands_alone (Define h b) l fits = (breaks_stand b l (InComponent ∷ []) false fits.2, tt)
+item_stands_alone (Define h b) l fits = (breaks_sound b l (InComponent ∷ []) false fits.2, tt)
 item_stands_alone (Capturing c b) l fits = tt
 item_stands_alone (For t lp b o e) l fits = tt
 item_stands_alone (If t c b bs e) l fits = tt
@@ -275,7 +275,7 @@ pub template_right : (l : Limits) (ts : Items) (b : Body) → IsTemplate l ts b 
 template_right l ts b is = record {
   block_names = subst AreDistinct (sym (same_blocks b l [] false is.fits)) is.distinct.0;
   component_names = subst AreDistinct (sym (same_components b l is.fits)) is.distinct.1;
-  breaks = breaks_stand b l [] false is.fits;
+  breaks = breaks_sound b l [] false is.fits;
   breaks_inside = stand_alone b l is.fits;
   child = child_kept b is.top;
 }

@@ -16,8 +16,8 @@ use Rattle.tera_grammar.specs.statements.Reading.{Place, at, Reads, Reader, bran
 use Rattle.tera_grammar.specs.statements.Reading.TagParts.{Front, Closes, front, tag}
 use Rattle.tera_grammar.specs.statements.Reading.Meeting.{Seen}
 use Rattle.tera_grammar.proofs.Options.{bind_both}
-use Rattle.tera_grammar.proofs.statements.Expressions.{expression_stands, expression_size, filter_size, attributes_size, component_size}
-use Rattle.tera_grammar.proofs.statements.TagParts.{finish_stands, FrontOf, front_is}
+use Rattle.tera_grammar.proofs.statements.Expressions.{expression_sound, expression_size, filter_size, attributes_size, component_size}
+use Rattle.tera_grammar.proofs.statements.TagParts.{finish_sound, FrontOf, front_is}
 use Rattle.tera_grammar.proofs.statements.Heads.{filters_size, loop_size}
 use Rattle.tera_grammar.proofs.statements.Components.{opened_part, opened_size, ending_size}
 use Rattle.tera_grammar.proofs.statements.Found.{Sound, step_found, body_sound}
@@ -98,10 +98,10 @@ module _ (l : Limits) (d : ℕ) (f : Reader) (sound : Sound l d f) (path : Path)
   unfolding branch_in
   branch_agree again other seen ts goes (Closes AtElif start first us) is =
       bind_both _ _ _ (λ c read. bind_both _ _ _ (λ e ended. bind_both _ _ _ (λ b inside.
-      let condition = expression_stands l (in_loop path) us c read in
+      let condition = expression_sound l (in_loop path) us c read in
       let tail = finish (tag start first e.0) (yield b.0 b.1.tokens) in
       let shorter : size b.1.tokens < size ts =
-      subst (λ v. size b.1.tokens < size v) (sym (is ∙ ap (λ v. start_yield start (Token (closer_token AtElif) first v)) (condition.1 ∙ ap (expression_yield c.0) (finish_stands c.1 e ended
+      subst (λ v. size b.1.tokens < size v) (sym (is ∙ ap (λ v. start_yield start (Token (closer_token AtElif) first v)) (condition.1 ∙ ap (expression_yield c.0) (finish_sound c.1 e ended
       ∙ ap (finish (tag start first e.0)) (sound path (at seen e.1) b inside).tokens))))
       (omega (arith, expression_size c.0 tail, body_size b.0 b.1.tokens)) in
       ap (λ r. r >>= λ bs. Some (Elif (tag start first e.0) c.0 b.0 bs.0, bs.1)) (goes b.1 shorter))))

@@ -1,5 +1,5 @@
--- The top level is a body whose phases follow: that an item may not stand where it does is seen at it, and the template as a
--- whole is none.
+-- The top level is a body whose phases follow: that an item may not be where it does is seen at it, and the template as
+-- a whole is none.
 use Rattle.std.proofs.Common.{◌≡◌, ℕ, zero, suc, Bool, true, false, [], Option, Some, None, refl, sym, ap, ◌∙◌}
 use Rattle.tera_base.specs.declared.utils.Span.{Span}
 use Rattle.tera_lexer.specs.code.Cursors.{size, is_end}
@@ -10,7 +10,7 @@ use Rattle.tera_grammar.specs.expressions.Reading.Front.{Takes, taken_quote}
 use Rattle.tera_grammar.specs.statements.TagParts.{Edge, Tag, OpensExtends}
 use Rattle.tera_grammar.specs.statements.Expressions.{Limits}
 use Rattle.tera_grammar.specs.statements.Grammar.{Extends, Body, Done, Then, Item, Single, is_outermost}
-use Rattle.tera_grammar.specs.statements.Reading.{Place, at, Reads, Reader, extends_of, step, go_on, items_by, items, body, Phase, Starting, Standing, Extending, next_phase, phases, extends_at, top_step, top_on, top_by, top, template}
+use Rattle.tera_grammar.specs.statements.Reading.{Place, at, Reads, Reader, extends_of, step, go_on, items_by, items, body, Phase, Starting, Standalone, Extending, next_phase, phases, extends_at, top_step, top_on, top_by, top, template}
 use Rattle.tera_grammar.specs.statements.Reading.TagParts.{Front, Opens, front, finish_of, tag}
 use Rattle.tera_grammar.specs.statements.Reading.Meeting.{nothing_seen}
 use Rattle.tera_grammar.proofs.Options.{bind_both}
@@ -19,7 +19,7 @@ use Rattle.tera_grammar.proofs.Options.{bind_both}
 abbrev phased : Phase → Reads Body → Reads Body
 phased phase o = o >>= λ b. phases phase b.0 >>= λ q. Some b
 
--- an item in front of what is read behind it, and a body where a phase follows
+-- an item in front of what is read after it, and a body where a phase follows
 abbrev led : Item → Reads Body → Reads Body
 led i o = o >>= λ b. Some (Then i b.0, b.1)
 
@@ -37,15 +37,15 @@ module _ (again : Phase → Place → Reads Body) (more : Place → Reads Body) 
   by_phase phase i (Some q) None is = refl
   by_phase phase i (Some q) (Some b) is = last i b (phases q b.0) ∙ sym (ap (λ o. kept (Then i b.0, b.1) (o >>= λ q. phases q b.0)) is)
 
-  -- behind an item
-  behind : (phase : Phase) (i : Item) (p : Place) → (next_phase phase i >>= λ q. led i (again q p)) ≡ phased phase (led i (more p))
-  behind phase i p =
+  -- after an item
+  following : (phase : Phase) (i : Item) (p : Place) → (next_phase phase i >>= λ q. led i (again q p)) ≡ phased phase (led i (more p))
+  following phase i p =
       bind_both (next_phase phase i) (λ q. led i (again q p)) (λ q. led i (phased q (more p))) (λ q is. ap (led i) (same q p)) ∙ by_phase phase i (next_phase phase i) (more p) refl
 
   walk : (phase : Phase) (p : Place) (o : Option (Option (Item × Place))) → (o >>= top_on again phase p) ≡ phased phase (o >>= go_on more p)
   walk phase p None = refl
   walk phase p (Some None) = refl
-  walk phase p (Some (Some x)) = behind phase x.0 x.1
+  walk phase p (Some (Some x)) = following phase x.0 x.1
 
   -- an `extends` that comes too late
   module _ (l : Limits) (f : Reader) (phase : Phase) (late : (t : Tag) (q : Quote) (span : Span) → next_phase phase (Single (Extends t q span)) ≡ None) (start : Edge) (first : Span) where
@@ -79,7 +79,7 @@ module _ (again : Phase → Place → Reads Body) (more : Place → Reads Body) 
         ≡ phased phase (step l f [] p.seen (Opens OpensExtends start first us) >>= go_on more p)
     unfolding step
     extends_walk Starting p start first us = walk Starting p (extends_of [] start first p.seen us >>= λ x. Some (Some x))
-    extends_walk Standing p start first us = refused l f Standing (λ t q span. refl) start first p us
+    extends_walk Standalone p start first us = refused l f Standalone (λ t q span. refl) start first p us
     extends_walk Extending p start first us = refused l f Extending (λ t q span. refl) start first p us
 
     step_walk : (phase : Phase) (p : Place) (fr : Front) → (top_step l f phase p.seen fr >>= top_on again phase p) ≡ phased phase (step l f [] p.seen fr >>= go_on more p)

@@ -29,9 +29,9 @@ module _ (l : Limits) (m : Marks) (source : List ℕ) where
   names_derived output (pieces, division, (b, is, same)) = (places b, (pieces, division, (b, is, same, refl)))
 
   -- the names are those of the blocks and of the components of the output
-  pub names_told : (output : Output) (ns : Places) → DerivesNames l m source output ns
+  pub names_reported : (output : Output) (ns : Places) → DerivesNames l m source output ns
       → (texts ns.blocks ≡ blocks (nodes_of output.nodes)) × (texts ns.components ≡ map (λ d. d.name) output.definitions)
-  names_told output ns (pieces, division, (b, is, same, named)) = (
+  names_reported output ns (pieces, division, (b, is, same, named)) = (
     ap (λ (p : Places). texts p.blocks) named ∙ ap (λ (n : Names). n.blocks) (same_names b) ∙ sym (same_blocks b l [] false is.fits) ∙ ap (λ (o : Output). blocks (nodes_of o.nodes)) (sym same),
     ap (λ (p : Places). texts p.components) named ∙ ap (λ (n : Names). n.components) (same_names b) ∙ sym (same_components b l is.fits) ∙ ap (λ (o : Output). map (λ d. d.name) o.definitions) (sym same),
   )

@@ -1,4 +1,4 @@
--- What stands in tags and is made of expressions: arguments, a filter, the name of a component, arrays and maps of
+-- What is in tags and is made of expressions: arguments, a filter, the name of a component, arrays and maps of
 -- constants. Each value in them is an outermost expression, with limits of its own.
 use Rattle.std.specs.Prelude.{◌≡◌, ℕ, ◌+◌, ◌≤◌, Bool, false, List, Option, Some}
 use Rattle.tera_base.specs.Values as values
@@ -31,7 +31,7 @@ AreKwargs in_loop x = IsRow in_loop of_arguments x.row × AreDistinct (argument_
 abbrev pub kwargs_output : Bool → Opened → tree.Args
 kwargs_output in_loop x = arguments_output in_loop x.row tree.NoArgs
 
--- a filter: its name and its arguments; what it filters stands elsewhere
+-- a filter: its name and its arguments; what it filters is elsewhere
 pub record Filtering : Type 0 where
   pub name : Name
   pub args : Args

@@ -1,6 +1,6 @@
 -- The expressions as they are written, parentheses included, and their tokens. A tree keeps every token that it is
--- written with, so `yield` gives them all, in front of others. In the files on expressions e, a, b are expressions,
--- n, m, w names, x and row what their types say, r the tokens behind; the other letters are spans of marks.
+-- written with, so `yield` gives them all, in front of others. In the files on expressions e, a, b are expressions, n,
+-- m, w names, x and row what their types say, r the tokens after; the other letters are spans of marks.
 use Rattle.std.specs.Prelude.{ℕ, ℤ, Bool, List}
 use Rattle.tera_base.specs.declared.utils.Span.{Span}
 use Rattle.tera_lexer.specs.grammar.Tokens as toks
@@ -8,7 +8,7 @@ use Rattle.tera_lexer.specs.grammar.Tokens.{Tok, Items, Token}
 use Rattle.tera_grammar.specs.expressions.Operators.{BinaryOperator, Div, GreaterThan, In, LessThan, Minus}
 use Rattle.tera_grammar.specs.expressions.Marks.{Mark, mark, LeftParen, RightParen, LeftBracket, RightBracket, QuestionBracket, LeftBrace, RightBrace, Comma, Colon, Dot, QuestionDot, Spread, Assign, Bar, Not, Is, If, Else, For, Operation}
 
--- a name, and where it stands
+-- a name, and where it is
 pub record Name : Type 0 where
   pub text : List ℕ
   pub span : Span
@@ -43,7 +43,7 @@ pub data Negation : Type 0 where
   plainly : Negation
   negated : Span → Negation
 
--- the second variable of a comprehension, behind a comma
+-- the second variable of a comprehension, after a comma
 pub data Second : Type 0 where
   no_second : Second
   second : Span → Name → Second
@@ -62,8 +62,8 @@ pub data Op : Type 0 where
 pub data Kind : Type 0 where
   of_arguments of_items of_entries : Kind
 
--- A suffix closes its operand on the right; an operator stands between two operands, and the `if c else` of a
--- ternary is one.
+-- A suffix closes its operand on the right; an operator is between two operands, and the `if c else` of a ternary is
+-- one.
 mutual
   pub data Tree : Type 0 where
     Atomic : Atom → Tree
@@ -81,7 +81,7 @@ mutual
     Paren : Span → Tree → Span → Atom
     -- `[`, and the items up to `]`
     Array : Span → Row → Atom
-    -- `[`, the element, `for`, the variables, `in`, the target, the condition behind `if`, `]`
+    -- `[`, the element, `for`, the variables, `in`, the target, the condition after `if`, `]`
     Comprehension : Span → Tree → Span → Name → Second → Span → Tree → Extra → Span → Atom
     -- `{`, and the entries up to `}`
     Map : Span → Row → Atom
@@ -94,8 +94,8 @@ mutual
     field : Joint → Name → Links → Links
     item : Bracket → Sub → Links → Links
 
-  -- what stands behind an opening bracket, up to the closing one: an expression; or the start, `:`, the end,
-  -- and the step behind a second `:`
+  -- what comes after an opening bracket, up to the closing one: an expression; or the start, `:`, the end, and the step
+  -- after a second `:`
   pub data Sub : Type 0 where
     index : Tree → Span → Sub
     slice : Part → Span → Part → Extra → Span → Sub
@@ -104,13 +104,13 @@ mutual
     absent : Part
     present : Tree → Part
 
-  -- an expression behind a mark of its own, or none: the step of a slice, the condition of a comprehension
+  -- an expression after a mark of its own, or none: the step of a slice, the condition of a comprehension
   pub data Extra : Type 0 where
     no_extra : Extra
     extra : Span → Tree → Extra
 
-  -- what stands behind an opening bracket, up to the closing one: elements parted by commas, of which one
-  -- may stand behind the last
+  -- what comes after an opening bracket, up to the closing one: elements parted by commas, of which one may come after
+  -- the last
   pub data Row : Type 0 where
     ended : Span → Row
     only : Element → Span → Row
@@ -133,8 +133,8 @@ mutual
     valued : Name → Span → Span → Tree → Span → Attributes → Attributes
     spreading : Span → Span → Tree → Span → Attributes → Attributes
 
-  -- `is`, the `not` behind it, the name of the test and its arguments; the bar, the name of the filter and its
-  -- arguments; `[` and what stands behind it
+  -- `is`, the `not` after it, the name of the test and its arguments; the bar, the name of the filter and its
+  -- arguments; `[` and what comes after it
   pub data Suffix : Type 0 where
     Test : Span → Negation → Name → Args → Suffix
     Filter : Span → Name → Args → Suffix

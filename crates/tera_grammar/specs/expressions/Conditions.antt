@@ -10,7 +10,7 @@ use Rattle.tera_grammar.specs.expressions.Output.{of_loop, output, is_unary}
 abbrev pub IsFirst : Name → Type 0
 IsFirst n = (is_none n.text ≡ false) × (is_not n.text ≡ false)
 
--- directly behind `is` the word `not` is the negation
+-- directly after `is` the word `not` is the negation
 abbrev pub NamesTest : Negation → Name → Type 0
 NamesTest plainly n = is_not n.text ≡ false
 NamesTest (negated s) n = Unit {0}
@@ -41,13 +41,13 @@ argument_names (only x t) = []
 argument_names (then (argument n s e) t xs) = n.text ∷ argument_names xs
 argument_names (then x t xs) = argument_names xs
 
--- behind `~` stands nothing that is read as a minus or a negation
+-- after `~` is nothing that is read as a minus or a negation
 abbrev pub is_refused : Bool → Operator → Tree → Bool
 is_refused in_loop (Binary (Single StrConcat s)) e = is_unary (output in_loop e)
 is_refused in_loop _ e = false
 
--- The expressions, in a loop or not, by conditions on whole parts. A target and a condition of a comprehension are
--- read at power 1, so no ternary stands bare in them.
+-- The expressions, in a loop or not, by conditions on whole parts. A target and a condition of a comprehension are read
+-- at power 1, so no ternary is bare in them.
 abbrev mutual
   pub IsExpression : Bool → Tree → Type 0
   IsExpression in_loop (Atomic a) = IsAtom in_loop a

@@ -1,5 +1,5 @@
 -- How large an expression is, and the limits. Three of the four measures are depths, for which one definition serves:
--- each thing that stands inside another adds its weight.
+-- each thing that is inside another adds its weight.
 use Rattle.std.specs.Prelude.{ℕ, suc, ◌+◌, max, ◌≤◌}
 use Rattle.tera_grammar.specs.Limits.{Limits}
 use Rattle.tera_grammar.specs.expressions.Concrete.{Tree, Atomic, Prefix, Suffixed, Infix, Atom, Literal, Null, Chain, Call, Paren, Array, Comprehension, Map, Component, Links, no_links, field, item, Sub, index, slice, Part, absent, present, Extra, no_extra, extra, Row, ended, only, then, Element, plain, spread, pair, argument, Attributes, no_attributes, bare, quoted, valued, spreading, Suffix, Test, Filter, Subscript, Args, no_args, args, Operator, Binary, Condition}
@@ -10,8 +10,8 @@ pub record Weight : Type 0 where
   pub subscript : ℕ
   pub array : ℕ
 
--- The greatest weight of things that stand one inside the other. A left operand, a test and a filter open no
--- expression; all other parts do. A comprehension is an array around its element alone.
+-- The greatest weight of things that are one inside the other. A left operand, a test and a filter open no expression;
+-- all other parts do. A comprehension is an array around its element alone.
 abbrev mutual
   pub deep : Weight → Tree → ℕ
   deep w (Atomic a) = atom_deep w a
@@ -94,7 +94,7 @@ arrays = record { opening = 0; subscript = 0; array = 1 }
 abbrev pub height : Tree → ℕ
 height t = suc (deep openings t)
 
--- How many binary operators, tests, filters, dots of chains and subscripts stand in it, at any depth. `not in` and
+-- How many binary operators, tests, filters, dots of chains and subscripts are in it, at any depth. `not in` and
 -- `is not` count once; ternaries, prefixes, calls and the dots of a component's name do not count.
 abbrev mutual
   pub links : Tree → ℕ

@@ -1,4 +1,4 @@
--- What an expression is read as. `in_loop` says whether it stands in a loop. Parentheses have no node.
+-- What an expression is read as. `in_loop` says whether it is in a loop. Parentheses have no node.
 use Rattle.std.specs.Prelude.{ℕ, ℤ, Bool, true, false, ◌&&◌, cond, nat_eq, pos, negsuc, neg_ℤ, List, [], ◌++◌, Option, Some, None, codes}
 use Rattle.std.specs.Str.{bytes_eq}
 use Rattle.std.specs.Ordering.{nat_cmp, match_ordering}
@@ -14,7 +14,7 @@ use Rattle.tera_grammar.specs.expressions.Operators.{operator_made}
 use Rattle.tera_grammar.specs.expressions.Concrete.{Name, Quote, Simple, Escaped, Lit, Number, Quoted, Truth, Sign, Negative, Negates, Joint, plain_dot, optional_dot, Bracket, plain_bracket, optional_bracket, Negation, plainly, negated, Second, no_second, second, Dotted, no_dots, dots, Op, Single, NotIn, Tree, Atomic, Prefix, Suffixed, Infix, Atom, Literal, Null, Chain, Call, Paren, Array, Comprehension, Map, Component, Links, no_links, field, item, Sub, index, slice, Part, absent, present, Extra, no_extra, extra, Row, ended, only, then, Element, plain, spread, pair, argument, Attributes, no_attributes, bare, quoted, valued, spreading, Suffix, Test, Filter, Subscript, Args, no_args, args, Operator, Binary, Condition}
 use Rattle.tera_grammar.specs.expressions.Spans.{spanning, sign_span, row_end, args_end, first, last}
 use Rattle.tera_grammar.specs.Words.{is_loop}
--- where an expression stands
+-- where an expression is
 pub use Rattle.tera_ast.specs.Spans.{expr_span as place_of}
 
 abbrev pub quote_text : Quote → List ℕ
@@ -53,7 +53,7 @@ abbrev pub put_pair : KeyVal → Val → Pairs → Pairs
 put_pair k v NoPairs = values.OnePair k v NoPairs
 put_pair k v (values.OnePair l u ps) = cond (same_key k l) (values.OnePair l v ps) (values.OnePair l u (put_pair k v ps))
 
--- the argument stands where the byte order of the argument_names puts it
+-- the argument is where the byte order of the argument_names puts it
 abbrev pub put_arg : List ℕ → Expr → tree.Args → tree.Args
 put_arg n e tree.NoArgs = tree.Arg n e tree.NoArgs
 put_arg n e (tree.Arg m f rest) =
@@ -69,7 +69,7 @@ constant_items tree.NoItems = Some values.NoVals
 constant_items (tree.Item (tree.Const v s) is) = with_value v (constant_items is)
 constant_items _ = None
 
--- the pairs of constants that the entries are, put behind those that are there
+-- the pairs of constants that the entries are, put after those that are there
 abbrev pub constant_entries : tree.Entries → Pairs → Option Pairs
 constant_entries tree.NoEntries ps = Some ps
 constant_entries (tree.Entry k (tree.Const v s) es) ps = constant_entries es (put_pair k v ps)
@@ -107,7 +107,7 @@ abbrev pub is_optional_bracket : Bracket → Bool
 is_optional_bracket (plain_bracket s) = false
 is_optional_bracket (optional_bracket s) = true
 
--- whether the fields of a chain are those of a loop: it stands in one and begins with `loop`
+-- whether the fields of a chain are those of a loop: it is in one and begins with `loop`
 abbrev pub of_loop : Bool → Name → Bool
 of_loop in_loop n = in_loop && is_loop n.text
 
@@ -222,7 +222,7 @@ abbrev mutual
   attributes_output in_loop (valued n s b e c ats) = tree.Entry (TextKey n.text) (output in_loop e) (attributes_output in_loop ats)
   attributes_output in_loop (spreading b s e c ats) = tree.SpreadEntry (output in_loop e) (attributes_output in_loop ats)
 
-  -- a suffix behind an operand that begins here
+  -- a suffix after an operand that begins here
   pub suffix_output : Bool → Span → Expr → Suffix → Expr
   suffix_output in_loop start e (Test s n w g) =
       negation_output n (tree.Test e w.text (args_output in_loop g) (spanning w.span (args_end w g))) (spanning start (args_end w g))

@@ -1,5 +1,5 @@
--- The powers of the operators, what stands on the spines of an expression, and what the powers ask of operands.
--- The left spine is reached by left operands, the right spine by right operands, neither enters parentheses.
+-- The powers of the operators, what is on the spines of an expression, and what the powers ask of operands. The left
+-- spine is reached by left operands, the right spine by right operands, neither enters parentheses.
 use Rattle.std.specs.Prelude.{◌≡◌, ℕ, ◌<◌, ◌≤◌, List, [], ◌∷◌}
 use Rattle.std.specs.List.{AllByRecursion}
 use Rattle.tera_grammar.specs.expressions.Operators.{BinaryOperator, Mul, Div, Mod, Plus, Minus, FloorDiv, Power, LessThan, GreaterThan, LessThanOrEqual, GreaterThanOrEqual, Equal, NotEqual, And, Or, StrConcat, In}
@@ -97,12 +97,12 @@ AtLeast m t = AllByRecursion (λ p. m ≤ p) (left_spine t)
 abbrev pub Above : ℕ → Tree → Type 0
 Above p t = AllByRecursion (λ r. p < r) (right_spine t)
 
--- it is no name with its links, whose subscripts are links
+-- it is not a name with its links, whose subscripts are links
 abbrev pub NoChain : Tree → Type 0
 NoChain (Atomic (Chain n ls)) = ⊥
 NoChain _ = Unit {0}
 
--- The operand may stand before this suffix. Before a subscript it has to be closed on its right.
+-- The operand may be before this suffix. Before a subscript it has to be closed on its right.
 abbrev pub Carries : Tree → Suffix → Type 0
 Carries a (Test s n w g) = Above test_power a
 Carries a (Filter s w g) = Above filter_power a

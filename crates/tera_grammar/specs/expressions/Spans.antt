@@ -16,7 +16,7 @@ abbrev pub sign_span : Sign → Span
 sign_span (Negative s) = s
 sign_span (Negates s) = s
 
--- the closing mark of a row, and of what stands between brackets
+-- the closing mark of a row, and of what is between brackets
 abbrev pub row_end : Row → Span
 row_end (ended s) = s
 row_end (only x s) = s

@@ -19,7 +19,7 @@ use Rattle.tera_grammar.specs.expressions.Reading.Bracketed.{Room}
 use Rattle.tera_grammar.specs.expressions.Reading.Atoms.{head_of}
 use Rattle.tera_grammar.specs.expressions.Reading.Loop.{Growth, by_operator, by_suffix, suffix_in, loop_with, expr}
 
--- what an operand is read as, and where it stands with its parentheses
+-- what an operand is read as, and where it is with its parentheses
 abbrev pub Operand : Type 0
 Operand = Expr × Span
 
@@ -34,7 +34,7 @@ abbrev pub outcome : Bool → Reads Tree → Shows
 outcome l None = None
 outcome l (Some x) = Some (shown l x.0, x.1)
 
--- what becomes of an operand: behind a prefix, before a suffix, between parentheses, in a ternary
+-- what becomes of an operand: after a prefix, before a suffix, between parentheses, in a ternary
 abbrev pub signed : Sign → Operand → Operand
 signed s a = (prefixed s a.0 (spanning (sign_span s) a.1), spanning (sign_span s) a.1)
 
@@ -55,7 +55,7 @@ binary_output o true a b span = tree.UnaryOperation unary.Not (tree.BinaryOperat
 abbrev pub joined : BinaryOperator → Bool → Operand → Operand → Operand
 joined o n a b = (binary_output o n a.0 b.0 (spanning a.1 b.1), spanning a.1 b.1)
 
--- behind `~` no operand stands that became a minus or a negation
+-- after `~` no operand is that became a minus or a negation
 abbrev pub refuses : BinaryOperator → Expr → Bool
 refuses StrConcat e = is_unary e
 refuses _ e = false
@@ -89,14 +89,14 @@ pub data Frame : Type 0 where
   in_prefix : Level → Sign → Frame
   -- the operator, whether it is negated, the left operand
   in_binary : Level → BinaryOperator → Bool → Operand → Frame
-  -- behind the `if` of a ternary, and behind its `else`: the first part, and the condition
+  -- after the `if` of a ternary, and after its `else`: the first part, and the condition
   in_condition : Level → Operand → Frame
   in_last : Level → Operand → Expr → Frame
 
 -- an operand is wanted, inside of how many, from a least power on; or an operand of an open expression is read; or
 -- all is read
 pub data State : Type 0 where
-  wants : ℕ → ℕ → State
+  needs : ℕ → ℕ → State
   holds : Level → Operand → State
   done : Operand → State
 
@@ -128,7 +128,7 @@ stops m misplaced = ltb 5 m
 abbrev pub heading : Room → Level → Place → Shows
 heading w v p = outcome w.in_loop (head_of (expr v.depth) w p) >>= λ h. going w v h.0 h.1
 
--- what it comes to behind a prefix, a binary operator, and the `if` of a ternary
+-- what it comes to after a prefix, a binary operator, and the `if` of a ternary
 abbrev pub prefixing : Room → Level → Sign → Place → Shows
 prefixing w v s p = coming v.depth w (sign_power s) p >>= resume w (in_prefix v s)
 
@@ -138,7 +138,7 @@ joining w v o n a p = bump p >>= λ q. coming v.depth w (right_of o) q >>= resum
 abbrev pub choosing : Room → Level → Operand → Place → Shows
 choosing w v a p = coming v.depth w 0 p >>= resume w (in_condition v a)
 
--- a suffix with its link, and what an operand comes to behind it
+-- a suffix with its link, and what an operand comes to after it
 abbrev pub suffix_of : Room → Level → Ending → Place → Reads Suffix
 suffix_of w v e p = bump p >>= λ q. suffix_in (expr v.depth) w e q
 
@@ -153,11 +153,11 @@ unwind frame w (f ∷ fs) read = unwind frame w fs read >>= resume w (frame f)
 
 -- what the whole comes to from a state
 abbrev pub comes_to : {F : Type 0} → (F → Frame) → Room → State → List F → Place → Shows
-comes_to frame w (wants d m) fs p = unwind frame w fs (coming d w m p)
+comes_to frame w (needs d m) fs p = unwind frame w fs (coming d w m p)
 comes_to frame w (holds v a) fs p = unwind frame w fs (going w v a p)
 comes_to frame w (done a) fs p = Some (a, p)
 
--- The next state comes to the same. Want of memory says nothing, and otherwise nothing is read.
+-- The next state comes to the same. An allocation failure says nothing, and otherwise nothing is read.
 abbrev pub Keeps : {F S : Type 0} → (F → Frame) → (S → State) → Room → Result S Error → List F → Place → Shows → Type 0
 Keeps frame state w (Ok s) fs p read = comes_to frame w (state s) fs p ≡ read
 Keeps frame state w (Err e) fs p read = IsMemory e ⊎ (read ≡ None)
@@ -167,7 +167,7 @@ abbrev pub work : {F : Type 0} → List F → Place → ℕ
 work fs p = 2 * size p.tokens + length fs
 
 abbrev pub left_to_do : {F : Type 0} → State → List F → Place → ℕ
-left_to_do (wants d m) fs p = work fs p
+left_to_do (needs d m) fs p = work fs p
 left_to_do (holds v a) fs p = work fs p + 1
 left_to_do (done a) fs p = work fs p
 

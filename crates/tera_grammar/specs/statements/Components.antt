@@ -1,4 +1,4 @@
--- The definition of a component, but for its body: its name, its parameters and its metadata.
+-- The definition of a component, except its body: its name, its parameters and its metadata.
 use Rattle.std.specs.Prelude.{◌≡◌, ℕ, ℤ, Bool, true, false, ◌||◌, List, [], ◌∷◌, codes, Option, Some, None, is_some, neg_ℤ}
 use Rattle.std.specs.Str.{bytes_eq}
 use Rattle.tera_base.specs.declared.utils.Span.{Span}
@@ -50,7 +50,7 @@ default_output (NothingDefault n) = values.Nothing
 default_output (ArrayDefault a) = values.Array (array_output a)
 default_output (MapDefault m) = values.Map (map_output m)
 
--- the type of a parameter, behind a colon, and its default, behind an equals sign
+-- the type of a parameter, after a colon, and its default, after an equals sign
 pub record Annotation : Type 0 where
   pub colon : Span
   pub name : Name
@@ -59,7 +59,7 @@ pub record Assigned : Type 0 where
   pub sign : Span
   pub value : Default
 
--- a parameter: where `@` stands before it, if it does; its name; its type and its default, if any
+-- a parameter: where `@` is before it, if it does; its name; its type and its default, if any
 pub record Parameter : Type 0 where
   pub at : Option Span
   pub name : Name
@@ -150,7 +150,7 @@ FitEach l (Rest dots n end) = is_body n.text ≡ false
 FitEach l (Final p end) = FitsParameter l p
 FitEach l (More p comma ps) = FitsParameter l p × FitEach l ps
 
--- each may stand there, and no two have one name
+-- each may be there, and no two have one name
 abbrev pub FitParameters : Limits → Parameters → Type 0
 FitParameters l ps = FitEach l ps × AreDistinct (parameter_names ps)
 

@@ -66,8 +66,7 @@ array_yield a items = companions.array_yield a.0 items
 unfoldable pub map_yield : LiteralMap → Items → Items
 map_yield m items = companions.map_yield m.0 items
 
--- The outputs, in a loop or not. A filter of a tag has a constant of no value as its input, which stands at
--- this span.
+-- The outputs, in a loop or not. A filter of a tag has a constant of no value as its input, which is at this span.
 unfoldable pub expression_output : Bool → Expression → Expr
 expression_output in_loop e = outputs.output in_loop e
 
@@ -80,7 +79,7 @@ attributes_output in_loop a = outputs.attributes_output in_loop a
 unfoldable pub component_text : ComponentName → List ℕ
 component_text n = companions.path_output n
 
--- where its last part stands
+-- where its last part is
 unfoldable pub component_span : ComponentName → Span
 component_span n = dotted_end n.name.span n.further
 

@@ -1,5 +1,5 @@
--- Templates as they are written, their tokens, what may stand where, the names that they define and how deep their
--- bodies stand. Variable letters: t, e tags at the start and the end, b a body, n a name, l the limits.
+-- Templates as they are written, their tokens, what may be where, the names that they define and how deep their bodies
+-- are. Variable letters: t, e tags at the start and the end, b a body, n a name, l the limits.
 use Rattle.std.specs.Prelude.{◌≡◌, ℕ, suc, max, Bool, true, false, ◌&&◌, List, [], ◌∷◌, Option, Some, None}
 use Rattle.tera_base.specs.declared.utils.Span.{Span}
 use Rattle.tera_lexer.specs.grammar.Tokens as toks
@@ -86,7 +86,7 @@ abbrev mutual
   else_yield NoElse items = items
   else_yield (Otherwise t b) items = closing AtElse t (finish t (yield b items))
 
--- what stands around a statement: the body of a loop, and its `else`; a block; a branch of an `if`; a component's
+-- what is around a statement: the body of a loop, and its `else`; a block; a branch of an `if`; a component's
 -- definition; a body that is taken as a value
 pub data Context : Type 0 where
   InFor : Context
@@ -96,22 +96,22 @@ pub data Context : Type 0 where
   InComponent : Context
   InCapture : Context
 
--- all that stands around a statement, the innermost first
+-- all that is around a statement, the innermost first
 abbrev pub Path : Type 0
 Path = List Context
 
--- whether a block may stand inside
+-- whether a block may be inside
 abbrev pub holds_blocks : Context → Bool
 holds_blocks InFor = false
 holds_blocks InComponent = false
 holds_blocks c = true
 
--- every context around is one in which a block may stand
+-- every context around is one in which a block may be
 abbrev pub may_block : Path → Bool
 may_block [] = true
 may_block (c ∷ path) = holds_blocks c && may_block path
 
--- the body of a loop is around, with no capture between: there `break` and `continue` stand
+-- the body of a loop is around, with no capture between: there `break` and `continue` are
 abbrev pub may_break : Path → Bool
 may_break [] = false
 may_break (InFor ∷ path) = true
@@ -124,7 +124,7 @@ in_loop [] = false
 in_loop (InFor ∷ path) = true
 in_loop (c ∷ path) = in_loop path
 
--- nothing is around: there `extends` and definitions of components stand
+-- nothing is around: there `extends` and definitions of components are
 abbrev pub is_outermost : Path → Bool
 is_outermost [] = true
 is_outermost (c ∷ path) = false
@@ -142,7 +142,7 @@ FitsPlain l path (Extends t q span) = is_outermost path ≡ true
 FitsPlain l path (Break t) = may_break path ≡ true
 FitsPlain l path (Continue t) = may_break path ≡ true
 
--- Each statement stands where its path allows it, its parts are what they have to be, and closing names agree.
+-- Each statement is where its path allows it, its parts are what they have to be, and closing names agree.
 abbrev mutual
   pub Fits : Limits → Path → Body → Type 0
   Fits l path Done = Unit {0}

@@ -1,4 +1,4 @@
--- What stands in the tags of a loop, filters, and the tags around a body that is taken as a value.
+-- What is in the tags of a loop, filters, and the tags around a body that is taken as a value.
 use Rattle.std.specs.Prelude.{◌≡◌, Bool, true, false, List, [], ◌∷◌}
 use Rattle.std.specs.Str.{bytes_eq}
 use Rattle.tera_base.specs.declared.utils.Span.{Span}
@@ -34,7 +34,7 @@ abbrev pub loop_output : Loop → Nodes → Nodes → Stmt
 loop_output lp body other =
     tree.ForLoop (key_variable lp.first lp.second) (value_variable lp.first lp.second) (expression_output true lp.target) body other
 
--- filters, each behind its bar
+-- filters, each after its bar
 pub data Filters : Type 0 where
   NoFilters : Filters
   Piped : Span → Filtering → Filters → Filters
@@ -51,8 +51,8 @@ abbrev pub filters_output : Bool → Filters → List Expr
 filters_output in_loop NoFilters = []
 filters_output in_loop (Piped bar f fs) = filter_output in_loop bar f ∷ filters_output in_loop fs
 
--- The tags around a body that is taken as a value: it is set, with filters; it has filters, the first behind
--- the word `filter`; or it is the body of a component's call.
+-- The tags around a body that is taken as a value: it is set, with filters; it has filters, the first after the word
+-- `filter`; or it is the body of a component's call.
 pub data Capture : Type 0 where
   SetBody : Bool → Tag → Name → Filters → Tag → Capture
   Section : Tag → Filtering → Filters → Tag → Capture

@@ -1,4 +1,4 @@
--- Where the names stand that a template defines: of a block its name, of a component the last part of its name, of a
+-- Where the names are that a template defines: of a block its name, of a component the last part of its name, of a
 -- parameter its name.
 use Rattle.std.specs.Prelude.{ℕ, List, [], ◌∷◌, ◌++◌, map}
 use Rattle.tera_grammar.specs.statements.Names.{Names}

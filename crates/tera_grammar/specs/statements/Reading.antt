@@ -27,7 +27,7 @@ pub mod Heads
 pub mod Components
 pub mod Loops
 
--- Where the reading stands: the names so far, and the tokens that are not yet taken.
+-- Where the reading is: the names so far, and the tokens that are not yet taken.
 pub record Place : Type 0 where
   pub seen : Seen
   pub tokens : Items
@@ -35,7 +35,7 @@ pub record Place : Type 0 where
 abbrev pub at : Seen → Items → Place
 at seen items = record { seen = seen; tokens = items }
 
--- what is read, and the place behind it
+-- what is read, and the place after it
 abbrev pub Reads : Type 0 → Type 0
 Reads A = Option (A × Place)
 
@@ -48,7 +48,7 @@ else_in self path seen items (Closes AtElse start first us) =
     finish_of us >>= λ f. self path (at seen f.1) >>= λ b. Some (Otherwise (tag start first f.0) b.0, b.1)
 else_in self path seen items front = Some (NoElse, at seen items)
 
--- an `else` with its body, where one stands there
+-- an `else` with its body, where one is there
 abbrev pub else_of : Reader → Path → Place → Reads Else
 else_of self path p = else_in self path p.seen p.tokens (front p.tokens)
 
@@ -66,20 +66,20 @@ branches_by (suc n) l self path p = branch_in l self path (branches_by n l self 
 unfoldable pub branches : Limits → Reader → Path → Place → Reads Branches
 branches l self path p = branches_by (suc (size p.tokens)) l self path p
 
--- the rest of a `set`, behind its name: a value, or filters and a body
-unfoldable pub set_behind : Limits → Reader → Path → Bool → Edge → Span → Seen → Name → Items → Option (Span × Items) → Reads Item
-set_behind l self path global start first seen name items (Some sign) =
+-- the rest of a `set`, after its name: a value, or filters and a body
+unfoldable pub set_after : Limits → Reader → Path → Bool → Edge → Span → Seen → Name → Items → Option (Span × Items) → Reads Item
+set_after l self path global start first seen name items (Some sign) =
     expression_of l (in_loop path) sign.1 >>= λ e. finish_of e.1 >>= λ f.
     Some (Single (Set global (tag start first f.0) name sign.0 e.0), at seen f.1)
-set_behind l self path global start first seen name items None =
+set_after l self path global start first seen name items None =
     filters_of l (in_loop path) items >>= λ fs. finish_of fs.1 >>= λ f.
     self (InCapture ∷ path) (at seen f.1) >>= λ b. closed_tag AtEndSet b.1.tokens >>= λ e.
     Some (Capturing (SetBody global (tag start first f.0) name fs.0 e.0) b.0, at b.1.seen e.1)
 
--- The statements, behind the first token of their tag.
+-- The statements, after the first token of their tag.
 unfoldable pub set_of : Limits → Reader → Path → Bool → Edge → Span → Seen → Items → Reads Item
 set_of l self path global start first seen items =
-    free_name items >>= λ n. set_behind l self path global start first seen n.0 n.1 (takes Assign n.1)
+    free_name items >>= λ n. set_after l self path global start first seen n.0 n.1 (takes Assign n.1)
 
 unfoldable pub include_of : Edge → Span → Seen → Items → Reads Item
 include_of start first seen items =
@@ -190,24 +190,24 @@ body (suc d) l path p = items l (body d l) path p
 -- The top level: from the start, in a template that extends no other, or in one that does.
 pub data Phase : Type 0 where
   Starting : Phase
-  Standing : Phase
+  Standalone : Phase
   Extending : Phase
 
--- the phase behind a text at the start
-abbrev pub behind_text : Bool → Phase
-behind_text true = Starting
-behind_text false = Standing
+-- the phase after a text at the start
+abbrev pub after_text : Bool → Phase
+after_text true = Starting
+after_text false = Standalone
 
 abbrev pub from_start : Item → Phase
 from_start (Single (Extends t q span)) = Extending
-from_start (Single (Text text span)) = behind_text (is_blank text)
+from_start (Single (Text text span)) = after_text (is_blank text)
 from_start (Define h b) = Starting
-from_start i = Standing
+from_start i = Standalone
 
 abbrev pub next_phase : Phase → Item → Option Phase
 next_phase Starting i = Some (from_start i)
-next_phase Standing (Single (Extends t q span)) = None
-next_phase Standing i = Some Standing
+next_phase Standalone (Single (Extends t q span)) = None
+next_phase Standalone i = Some Standalone
 next_phase Extending i = guard (is_kept i) >>= λ u. Some Extending
 
 abbrev pub phases : Phase → Body → Option Phase
@@ -224,7 +224,7 @@ unfoldable pub top_step : Limits → Reader → Phase → Seen → Front → Opt
 top_step l self phase seen (Opens OpensExtends start first items) = extends_at phase start first seen items >>= λ x. Some (Some x)
 top_step l self phase seen front = step l self [] seen front
 
--- an item that the phase lets in, and what stands behind it
+-- an item that the phase lets in, and what comes after it
 abbrev pub top_on : (Phase → Place → Reads Body) → Phase → Place → Option (Item × Place) → Reads Body
 top_on again phase p None = Some (Done, p)
 top_on again phase p (Some x) = next_phase phase x.0 >>= λ q. again q x.1 >>= λ b. Some (Then x.0 b.0, b.1)

@@ -5,12 +5,12 @@ use Rattle.tera_lexer.specs.grammar.Tokens.{Tok, Items, Token, Start, Finish, Id
 use Rattle.tera_lexer.specs.declared.lexer.delimiters.Kind.TheVariants as kind
 pub use Rattle.tera_grammar.specs.expressions.Concrete.{Name, name_yield}
 
--- the marker at the start or the end of a tag: whether it has a dash, and where it stands
+-- the marker at the start or the end of a tag: whether it has a dash, and where it is
 pub record Edge : Type 0 where
   pub dash : Bool
   pub span : Span
 
--- a tag of a statement: its start, where its first token stands, and its end
+-- a tag of a statement: its start, where its first token is, and its end
 pub record Tag : Type 0 where
   pub start : Edge
   pub first : Span

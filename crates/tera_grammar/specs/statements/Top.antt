@@ -29,7 +29,7 @@ is_silent (Single (Text text span)) = is_blank text
 is_silent (Define h b) = true
 is_silent i = false
 
--- what may stand in a template that extends another
+-- what may be in a template that extends another
 abbrev pub is_kept : Item → Bool
 is_kept (Block t n b e m) = true
 is_kept i = is_silent i

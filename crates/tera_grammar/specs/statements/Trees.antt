@@ -26,9 +26,9 @@ abbrev mutual
   stmt_blocks (tree.Shown (tree.ComponentCall name es body false span)) = blocks body
   stmt_blocks s = []
 
--- The name of a component, and which names are those of its parameters: by where these stand, and by its definition.
-abbrev pub group_tells : List ℕ × List Name → List ℕ × (List ℕ → Bool)
-group_tells g = (g.0, λ name. list_any (λ n. bytes_eq n.text name) g.1)
+-- The name of a component, and which names are those of its parameters: by where these are, and by its definition.
+abbrev pub group_names : List ℕ × List Name → List ℕ × (List ℕ → Bool)
+group_names g = (g.0, λ name. list_any (λ n. bytes_eq n.text name) g.1)
 
 abbrev pub is_rest : Option (List ℕ) → List ℕ → Bool
 is_rest None name = false
@@ -37,26 +37,26 @@ is_rest (Some rest) name = bytes_eq rest name
 abbrev pub has_argument : List (List ℕ × Argument) → List ℕ → Bool
 has_argument arguments name = list_any (λ a. bytes_eq a.0 name) arguments
 
-abbrev pub definition_tells : Definition → List ℕ × (List ℕ → Bool)
-definition_tells d = (d.name, λ name. has_argument d.arguments name || is_rest d.rest name)
+abbrev pub definition_names : Definition → List ℕ × (List ℕ → Bool)
+definition_names d = (d.name, λ name. has_argument d.arguments name || is_rest d.rest name)
 
--- Each `break` and `continue` stands in the body of a loop, with no capture between; around the whole there is
--- such a loop, or none.
+-- Each `break` and `continue` is in the body of a loop, with no capture between; around the whole there is such a loop,
+-- or none.
 abbrev mutual
-  pub BreaksStand : Bool → Nodes → Type 0
-  BreaksStand inside NoNodes = Unit {0}
-  BreaksStand inside (OneNode s ss) = BreakStands inside s × BreaksStand inside ss
+  pub BreaksAreInside : Bool → Nodes → Type 0
+  BreaksAreInside inside NoNodes = Unit {0}
+  BreaksAreInside inside (OneNode s ss) = BreakIsInside inside s × BreaksAreInside inside ss
 
-  pub BreakStands : Bool → Stmt → Type 0
-  BreakStands inside tree.Break = inside ≡ true
-  BreakStands inside tree.Continue = inside ≡ true
-  BreakStands inside (tree.Block name span body) = BreaksStand inside body
-  BreakStands inside (tree.BlockSet name fs body global) = BreaksStand false body
-  BreakStands inside (tree.ForLoop key value target body other) = BreaksStand true body × BreaksStand inside other
-  BreakStands inside (tree.If e body other) = BreaksStand inside body × BreaksStand inside other
-  BreakStands inside (tree.FilterSection fs body) = BreaksStand false body
-  BreakStands inside (tree.Shown (tree.ComponentCall name es body false span)) = BreaksStand false body
-  BreakStands inside s = Unit {0}
+  pub BreakIsInside : Bool → Stmt → Type 0
+  BreakIsInside inside tree.Break = inside ≡ true
+  BreakIsInside inside tree.Continue = inside ≡ true
+  BreakIsInside inside (tree.Block name span body) = BreaksAreInside inside body
+  BreakIsInside inside (tree.BlockSet name fs body global) = BreaksAreInside false body
+  BreakIsInside inside (tree.ForLoop key value target body other) = BreaksAreInside true body × BreaksAreInside inside other
+  BreakIsInside inside (tree.If e body other) = BreaksAreInside inside body × BreaksAreInside inside other
+  BreakIsInside inside (tree.FilterSection fs body) = BreaksAreInside false body
+  BreakIsInside inside (tree.Shown (tree.ComponentCall name es body false span)) = BreaksAreInside false body
+  BreakIsInside inside s = Unit {0}
 
 -- a text of white space, or a block
 abbrev pub IsKeptNode : Stmt → Type 0
@@ -64,11 +64,11 @@ IsKeptNode (tree.Content text) = is_blank text ≡ true
 IsKeptNode (tree.Block name span body) = Unit {0}
 IsKeptNode s = ⊥
 
--- No two blocks have one name, nor two components; each `break` and `continue` stands in a loop; and a template
--- that extends another holds nothing but texts of white space and blocks.
+-- No two blocks have one name, nor two components; each `break` and `continue` is in a loop; and a template that
+-- extends another holds nothing but texts of white space and blocks.
 pub record IsRight (out : Output) : Type 0 where
   pub block_names : AreDistinct (blocks (nodes_of out.nodes))
   pub component_names : AreDistinct (map (λ d. d.name) out.definitions)
-  pub breaks : BreaksStand false (nodes_of out.nodes)
-  pub breaks_inside : AllByRecursion (λ d. BreaksStand false (nodes_of d.body)) out.definitions
+  pub breaks : BreaksAreInside false (nodes_of out.nodes)
+  pub breaks_inside : AllByRecursion (λ d. BreaksAreInside false (nodes_of d.body)) out.definitions
   pub child : (name : List ℕ) → out.parent ≡ Some name → AllByRecursion IsKeptNode out.nodes

@@ -1,4 +1,4 @@
--- What a `Tokens` and a `Cursor` have left as numbers and lists, by which a proof tells two of them apart.
+-- What a `Tokens` and a `Cursor` have left as numbers and lists, by which a proof says two of them apart.
 use Rattle.std.specs.Prelude.{◌≡◌, ℕ, zero, suc, ℤ, pos, Bool, true, false, List, [], ◌∷◌, Option, Some, None, refl}
 use Rattle.std.specs.Coded.{Coded, code_by, coded×, coded_ℕ, coded_ℤ, coded_bool, coded_list, coded_option}
 use Rattle.tera_base.specs.declared.utils.Span.{Span}

@@ -11,7 +11,7 @@ ArePrintable bytes = (k : ℕ) → k < length bytes → (32 ≤ slice_index byte
 abbrev pub is_printable_byte : ℕ → Bool
 is_printable_byte b = if nat_lt b 32 then false else nat_lt b 128
 
--- the place one byte further, and behind some bytes
+-- the place one byte further, and after some bytes
 abbrev pub stepped : Place → ℕ → Place
 stepped p b = record {
   line = if is_line_feed b then p.line + 1 else p.line;

@@ -28,8 +28,8 @@ with_item stopped None items = items
 with_item stopped (Some (Ok p)) items = toks.Token (seen p.0) p.1 items
 with_item stopped (Some (Err e)) items = stopped
 
-abbrev pub left_behind : Stream → Option (Result (Token × Span) Error) → Option (Result (Token × Span) Error) → Items
-left_behind s first second = with_item (stopped_before s) first (with_item (stopped_before s) second s.left)
+abbrev pub left_after : Stream → Option (Result (Token × Span) Error) → Option (Result (Token × Span) Error) → Items
+left_after s first second = with_item (stopped_before s) first (with_item (stopped_before s) second s.left)
 
 -- a token that was read ahead can be shown
 abbrev pub in_sight : Option (Result (Token × Span) Error) → ℕ → ℕ
@@ -40,20 +40,20 @@ in_sight (Some (Err e)) n = 0
 abbrev pub position_of : Inside → Position
 position_of c = record {
   source = c.tokens.source;
-  left = left_behind c.tokens c.first c.second;
+  left = left_after c.tokens c.first c.second;
   sight = in_sight c.first (in_sight c.second 0);
   taken = c.taken;
   span = c.current_span;
 }
 
--- an item that was read ahead of what is left: a token lies in the source; reading stopped at what is told; and
+-- an item that was read ahead of what is left: a token lies in the source; reading stopped at what is reported; and
 -- where there was none, or reading stopped, nothing more is given
 abbrev pub IsReadAhead : Stream → Option (Result (Token × Span) Error) → Type 0
 IsReadAhead s None = s.left ≡ Ended
 IsReadAhead s (Some (Ok p)) = IsWithin s.source p.1
 IsReadAhead s (Some (Err e)) = (s.left ≡ Ended) × Stops s.source (stopped_before s) e
 
--- behind an item that is no token none was read
+-- after an item that is not a token none was read
 abbrev pub Follows : Option (Result (Token × Span) Error) → Option (Result (Token × Span) Error) → Type 0
 Follows None second = second ≡ None
 Follows (Some (Ok p)) second = Unit {0}
@@ -63,8 +63,8 @@ pub record AreReadAhead (c : Inside) : Type 0 where
   pub first : IsReadAhead c.tokens c.first
   pub second : IsReadAhead c.tokens c.second
   pub follows : Follows c.first c.second
-  pub tokens : AreLexed (left_behind c.tokens c.first c.second)
-  pub count : c.taken + size (left_behind c.tokens c.first c.second) ≤ length c.tokens.source
+  pub tokens : AreLexed (left_after c.tokens c.first c.second)
+  pub count : c.taken + size (left_after c.tokens c.first c.second) ≤ length c.tokens.source
   pub fits : length c.tokens.source < 2 ^ 64
   pub span : IsWithin c.tokens.source c.current_span
 

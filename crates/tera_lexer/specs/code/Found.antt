@@ -1,9 +1,9 @@
--- What the program finds at a place in a tag, against what stands there.
+-- What the program finds at a place in a tag, against what is there.
 use Rattle.std.specs.Prelude.{◌≡◌, ◌==◌, if◌then◌else◌, true, false, not, ℕ, Bool, List, [], ◌∷◌, length, take, Option, Some, None}
 use Rattle.std.specs.List.{list_any}
 use Rattle.std.specs.Char.{is_ascii_digit, is_ascii_whitespace}
 use Rattle.tera_lexer.specs.grammar.Bytes.{backslash}
-use Rattle.tera_lexer.specs.grammar.Lexeme.{goes_on_name, spelled, told, quoted, Inner, IsQuoted, written, has_escape, has_unknown_escape}
+use Rattle.tera_lexer.specs.grammar.Lexeme.{goes_on_name, spelled, reported, quoted, Inner, IsQuoted, written, has_escape, has_unknown_escape}
 use Rattle.tera_lexer.specs.grammar.Lexeme as lexeme
 use Rattle.tera_lexer.specs.grammar.Tokens.{Tok, token_of, fault_text, Str, Symbol}
 use Rattle.tera_lexer.specs.reading.Front.{Front, Reads, Breaks}
@@ -28,17 +28,17 @@ abbrev pub BeginsBy : (ℕ → Bool) → List ℕ → Type 0
 BeginsBy p [] = ⊥
 BeginsBy p (b ∷ bs) = p b ≡ true
 
--- where a string closes, and whether a backslash stands in it
+-- where a string closes, and whether a backslash is in it
 abbrev pub IsClosing : Option ℕ → List ℕ → Option (ℕ × Bool) → Type 0
 IsClosing closing bytes None = None ≡ closing
 IsClosing closing bytes (Some p) = (Some p.0 ≡ closing) × (list_any (λ b. b == backslash) (take p.0 bytes) ≡ p.1)
 
--- the token of a lexeme that stands there, with its length
+-- the token of a lexeme that is there, with its length
 abbrev pub IsTokenAt : Tok → ℕ → Front → Type 0
 IsTokenAt token n (Reads lexeme rest) = (token ≡ token_of lexeme) × (n ≡ length (spelled lexeme))
 IsTokenAt token n (Breaks fault) = ⊥
 
--- the same of a lexeme that is no string
+-- the same of a lexeme that is not a string
 abbrev pub is_string : Front → Bool
 is_string (Reads (lexeme.Quoted quote is) rest) = true
 is_string front = false
@@ -46,12 +46,12 @@ is_string front = false
 abbrev pub IsPlainAt : Tok → ℕ → Front → Type 0
 IsPlainAt token n front = IsTokenAt token n front × (is_string front ≡ false)
 
--- the text of a fault that stands there, with the length of what it tells
+-- the text of a fault that is there, with the length of what it says
 abbrev pub IsFaultAt : List ℕ → ℕ → Front → Type 0
 IsFaultAt text n (Reads lexeme rest) = ⊥
-IsFaultAt text n (Breaks fault) = (text ≡ fault_text fault) × (n ≡ length (told fault))
+IsFaultAt text n (Breaks fault) = (text ≡ fault_text fault) × (n ≡ length (reported fault))
 
--- the inside of a string with escapes that stands there, with the length of the string
+-- the inside of a string with escapes that is there, with the length of the string
 abbrev pub IsEscapedAt : List ℕ → ℕ → Front → Type 0
 IsEscapedAt inside n (Reads (lexeme.Quoted quote is) rest) = (inside ≡ written is) × (has_escape is ≡ true) × (n ≡ length (quoted quote is))
 IsEscapedAt inside n _ = ⊥

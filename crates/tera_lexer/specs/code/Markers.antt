@@ -36,7 +36,7 @@ pub record ArePairs (m : Marks) (p : Pairs) : Type 0 where
   pub block : IsPair m.block_start p.block
   pub comment : IsPair m.comment_start p.comment
 
--- so many bytes are a text, behind which a start marker begins or nothing stands
+-- so many bytes are a text, after which a start marker begins or nothing is
 pub record IsTextLen (m : Marks) (rest : List ℕ) (len : ℕ) : Type 0 where
   pub cut : IsCharBoundary rest len
   pub plain : NowhereIn (is_at_start m) (take len rest) (drop len rest)
@@ -46,7 +46,7 @@ pub record IsTextLen (m : Marks) (rest : List ℕ) (len : ℕ) : Type 0 where
 abbrev pub marker_len : List ℕ → Bool → ℕ
 marker_len marker dash = length marker + length (dash_bytes dash)
 
--- a start marker with its dash, behind which the text may be cut
+-- a start marker with its dash, after which the text may be cut
 abbrev pub IsStartOf : List ℕ → List ℕ → Option Bool → Type 0
 IsStartOf marker rest None = begins marker rest ≡ false
 IsStartOf marker rest (Some dash) = Starts marker dash rest (drop (marker_len marker dash) rest) × IsCharBoundary rest (marker_len marker dash)
@@ -72,7 +72,7 @@ IsWordTagOf word end None None = Unit {0}
 IsWordTagOf word end (Some tag) (Some p) = IsTagOf word end tag p.0
 IsWordTagOf word end _ _ = ⊥
 
--- behind the block start with its dash stands the tag that opens a raw piece
+-- after the block start with its dash is the tag that opens a raw piece
 abbrev pub OpensBy : Marks → Bool → WordTag → List ℕ → Type 0
 OpensBy m dash tag rest =
     (t : raw.WordTag) × (inside : List ℕ) × IsTagOf raw_word m.block_end tag t
@@ -90,7 +90,7 @@ unfoldable pub further_end : ℕ → Option RawEnd → Option RawEnd
 further_end n None = None
 further_end n (Some e) = Some (record e { len = n + e.len })
 
--- bytes behind a block start and its dash that make it a piece: they close a raw piece that they open
+-- bytes after a block start and its dash that make it a piece: they close a raw piece that they open
 abbrev pub closes_by : Marks → Option (raw.WordTag × List ℕ) → Bool
 closes_by m None = true
 closes_by m (Some p) = is_some (raw_end m.block_start m.block_end false p.1)
@@ -98,11 +98,11 @@ closes_by m (Some p) = is_some (raw_end m.block_start m.block_end false p.1)
 abbrev pub is_block_piece : Marks → List ℕ → Bool
 is_block_piece m bytes = closes_by m (word_tag_at raw_word m.block_end bytes)
 
--- bytes behind a comment start and its dash that make it a piece
+-- bytes after a comment start and its dash that make it a piece
 abbrev pub is_comment : Marks → List ℕ → Bool
 is_comment m bytes = is_some (find_marker m.comment_end bytes)
 
--- at which the text may be cut before its block start and behind its tag
+-- at which the text may be cut before its block start and after its tag
 abbrev pub IsRawCut : Marks → List ℕ → ℕ × WordTag → Type 0
 IsRawCut m text p = IsCharBoundary text p.0 × IsCharBoundary text (p.0 + (length m.block_start + p.1.len))
 

@@ -1,4 +1,4 @@
--- From the fields of a `Tokens` to where it stands.
+-- From the fields of a `Tokens` to where it is.
 use Rattle.std.specs.Prelude.{◌≡◌, take, drop, IsUtf8}
 use Rattle.std.specs.Str.{IsCharBoundary}
 use Rattle.tera_lexer.specs.grammar.Marks.{marks_of, IsValid}
@@ -19,7 +19,7 @@ reading_of t = record {
 
 -- what is left is kept, and what is known of a piece is so; the counters are those of the place that is reached, and a character begins there, in a text
 pub record IsAtPlace (t : Inside) : Type 0 where
-  pub behind : t.rest.now ≡ drop t.place.byte t.source.now
+  pub following : t.rest.now ≡ drop t.place.byte t.source.now
   pub cut : IsCharBoundary t.source.now t.place.byte
   pub place : t.place ≡ place_after (take t.place.byte t.source.now)
   pub marks : IsValid (marks_of t.delimiters)

@@ -4,7 +4,7 @@ use Rattle.tera_lexer.specs.grammar.Place.{IsWithin}
 use Rattle.tera_lexer.specs.grammar.Tokens as toks
 use Rattle.tera_lexer.specs.grammar.Tokens.{Tok, Items, Ended, Failed, Content, Escaped}
 use Rattle.tera_lexer.specs.grammar.Tiling.{Shows}
-use Rattle.tera_base.specs.Errors.{IsMemory, Tells}
+use Rattle.tera_base.specs.Errors.{IsMemory, Reports}
 use Rattle.tera_lexer.specs.reading.Stream.{Stream}
 use Rattle.tera_lexer.specs.code.Seen.{seen}
 use Rattle.tera_base.specs.declared.utils.Span.{Span}
@@ -16,37 +16,36 @@ abbrev pub TakesMemory : Tok → Type 0
 TakesMemory (Escaped text) = Unit {0}
 TakesMemory _ = ⊥
 
--- reading stops before these tokens: at their fault, which is told, or at a token for which no memory was
--- found
+-- reading stops before these tokens: at their fault, which is reported, or at a token for which an allocation failed
 abbrev pub Stops : List ℕ → Items → Error → Type 0
 Stops source Ended e = ⊥
-Stops source (Failed text span) e = IsWithin source span × Tells text span e
+Stops source (Failed text span) e = IsWithin source span × Reports text span e
 Stops source (toks.Token t span items) e = TakesMemory t × IsMemory e
 
 -- the text is a part of the bytes
 abbrev pub IsPart : List ℕ → List ℕ → Type 0
-IsPart text bytes = (before behind : List ℕ) × (bytes ≡ before ++ (text ++ behind))
+IsPart text bytes = (before following : List ℕ) × (bytes ≡ before ++ (text ++ following))
 
 -- the bytes of a token show it, and a text is a part of them
-abbrev pub StandsIn : Tok → List ℕ → Type 0
-StandsIn (Content text) bytes = IsPart text bytes
-StandsIn t bytes = Shows t bytes
+abbrev pub IsIn : Tok → List ℕ → Type 0
+IsIn (Content text) bytes = IsPart text bytes
+IsIn t bytes = Shows t bytes
 
--- the token stands in the bytes that its span cuts out of the source
-abbrev pub StandsAt : List ℕ → Tok → Span → Type 0
-StandsAt source t span = IsWithin source span × StandsIn t (slice_range source span.range.start span.range.end)
+-- the token is in the bytes that its span cuts out of the source
+abbrev pub IsAt : List ℕ → Tok → Span → Type 0
+IsAt source t span = IsWithin source span × IsIn t (slice_range source span.range.start span.range.end)
 
--- each of the tokens stands so
-abbrev pub EachStandsAt : List ℕ → Items → Type 0
-EachStandsAt source Ended = Unit {0}
-EachStandsAt source (Failed text span) = Unit {0}
-EachStandsAt source (toks.Token t span items) = StandsAt source t span × EachStandsAt source items
+-- each of the tokens is so
+abbrev pub EachIsAt : List ℕ → Items → Type 0
+EachIsAt source Ended = Unit {0}
+EachIsAt source (Failed text span) = Unit {0}
+EachIsAt source (toks.Token t span items) = IsAt source t span × EachIsAt source items
 
 -- the first of the tokens that are left was taken; or they end; or reading stopped before those that were left,
 -- and none is left
 abbrev pub Steps : Stream → Option (Result (Token × Span) Error) → Stream → Type 0
 Steps old None new = (new ≡ old) × (old.left ≡ Ended)
 Steps old (Some (Ok p)) new =
-    (old.left ≡ toks.Token (seen p.0) p.1 new.left) × (new ≡ record old { left = new.left }) × StandsAt old.source (seen p.0) p.1
+    (old.left ≡ toks.Token (seen p.0) p.1 new.left) × (new ≡ record old { left = new.left }) × IsAt old.source (seen p.0) p.1
 Steps old (Some (Err e)) new =
     (new ≡ record { source = old.source; left = Ended; stopped = Some old.left }) × Stops old.source old.left e

@@ -15,9 +15,9 @@ abbrev pub EndsText : Marks → List ℕ → Type 0
 EndsText m [] = Unit {0}
 EndsText m (b ∷ bs) = is_at_start m (b ∷ bs) ≡ true
 
--- a text; a comment, by its start's dash and what stands before its end marker; a raw piece, by its start's
--- dash, its opening tag, its body and its closing tag; another tag, by its kind, its start's dash, its
--- lexemes, the gap before its end and its end's dash
+-- a text; a comment, by its start's dash and what is before its end marker; a raw piece, by its start's dash, its
+-- opening tag, its body and its closing tag; another tag, by its kind, its start's dash, its lexemes, the gap before
+-- its end and its end's dash
 pub data Piece : Type 0 where
   Text : List ℕ → Piece
   Comment : Bool → List ℕ → Piece
@@ -47,11 +47,11 @@ OpensTag m Block inside = (t : WordTag) (rest : List ℕ) → OpensRaw m t insid
 abbrev pub IsPiece : Marks → Piece → List ℕ → List ℕ → Type 0
 IsPiece m (Text text) bytes rest = (bytes ≡ text ++ rest) × (text ≢ []) × NowhereIn (is_at_start m) text rest × EndsText m rest
 IsPiece m (Comment dash inside) bytes rest =
-    (behind : List ℕ) × Starts m.comment_start dash bytes behind
-    × (behind ≡ inside ++ (m.comment_end ++ rest)) × NowhereIn (begins m.comment_end) inside (m.comment_end ++ rest)
+    (following : List ℕ) × Starts m.comment_start dash bytes following
+    × (following ≡ inside ++ (m.comment_end ++ rest)) × NowhereIn (begins m.comment_end) inside (m.comment_end ++ rest)
 IsPiece m (Raw dash opening body closing) bytes rest =
-    (behind : List ℕ) × (inside : List ℕ) × Starts m.block_start dash bytes behind
-    × OpensRaw m opening behind inside × IsBody m body closing inside rest
+    (following : List ℕ) × (inside : List ℕ) × Starts m.block_start dash bytes following
+    × OpensRaw m opening following inside × IsBody m body closing inside rest
 IsPiece m (Tag kind dash items gap end) bytes rest =
     (inside : List ℕ) × Starts (start_marker kind m) dash bytes inside × OpensTag m kind inside
     × IsInside (end_marker kind m) items (End gap end rest) inside
@@ -66,10 +66,10 @@ IsEnding m (BadTag kind dash items gap fault at) bytes =
     (inside : List ℕ) × Starts (start_marker kind m) dash bytes inside × OpensTag m kind inside
     × IsInside (end_marker kind m) items (Bad gap fault at) inside
 IsEnding m (OpenRaw dash) bytes =
-    (behind : List ℕ) × (inside : List ℕ) × (opening : WordTag) × Starts m.block_start dash bytes behind
-    × OpensRaw m opening behind inside × IsOpenBody m inside
+    (following : List ℕ) × (inside : List ℕ) × (opening : WordTag) × Starts m.block_start dash bytes following
+    × OpensRaw m opening following inside × IsOpenBody m inside
 IsEnding m (OpenComment dash) bytes =
-    (behind : List ℕ) × Starts m.comment_start dash bytes behind × NowhereIn (begins m.comment_end) behind []
+    (following : List ℕ) × Starts m.comment_start dash bytes following × NowhereIn (begins m.comment_end) following []
 
 -- the bytes are these pieces and then this ending
 abbrev pub IsDivision : Marks → List Piece → Ending → List ℕ → Type 0

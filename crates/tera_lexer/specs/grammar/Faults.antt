@@ -1,4 +1,4 @@
--- What a fault of some tokens tells.
+-- What a fault of some tokens says.
 use Rattle.std.specs.Prelude.{◌≡◌, ◌⊎◌, ℕ, List, codes}
 use Rattle.tera_base.specs.Errors.{end_of}
 use Rattle.tera_base.specs.declared.utils.Span.{Span}
@@ -27,22 +27,22 @@ Covers (Token t here items) span =
 -- the text and the span of the fault in which the tokens end
 abbrev pub IsFaultOf : Items → List ℕ → Span → Type 0
 IsFaultOf Ended text span = ⊥
-IsFaultOf (Failed told here) text span = (text ≡ told) × (span ≡ here)
+IsFaultOf (Failed reported here) text span = (text ≡ reported) × (span ≡ here)
 IsFaultOf (Token t here items) text span = IsFaultOf items text span
 
 -- the text and the span of the end of the input, where only these tokens follow the one at a place: its line and column
 -- are those of the end of the last
-abbrev pub IsEndBehind : Span → Items → List ℕ → Span → Type 0
-IsEndBehind last Ended text span = (text ≡ codes "Unexpected end of input") × (span ≡ end_of last)
-IsEndBehind last (Failed told here) text span = ⊥
-IsEndBehind last (Token t here items) text span = IsEndBehind here items text span
+abbrev pub IsEndAfter : Span → Items → List ℕ → Span → Type 0
+IsEndAfter last Ended text span = (text ≡ codes "Unexpected end of input") × (span ≡ end_of last)
+IsEndAfter last (Failed reported here) text span = ⊥
+IsEndAfter last (Token t here items) text span = IsEndAfter here items text span
 
--- the same, of the end behind some tokens
+-- the same, of the end after some tokens
 abbrev pub IsEndOf : Items → List ℕ → Span → Type 0
 IsEndOf Ended text span = ⊥
-IsEndOf (Failed told here) text span = ⊥
-IsEndOf (Token t here items) text span = IsEndBehind here items text span
+IsEndOf (Failed reported here) text span = ⊥
+IsEndOf (Token t here items) text span = IsEndAfter here items text span
 
--- the lexical fault in which the tokens end, the end of the input behind them, or a span that covers tokens
+-- the lexical fault in which the tokens end, the end of the input after them, or a span that covers tokens
 abbrev pub Faults : Items → List ℕ → Span → Type 0
 Faults items text span = IsFaultOf items text span ⊎ IsEndOf items text span ⊎ Covers items span

@@ -1,4 +1,4 @@
--- What stands inside a tag: gaps of white space, lexemes, and faults.
+-- What is inside a tag: gaps of white space, lexemes, and faults.
 use Rattle.std.specs.Prelude.{◌≡◌, ◌≢◌, ◌⊎◌, ℕ, ◌+◌, ◌-◌, ◌*◌, ◌^◌, ◌<◌, ◌≤◌, Bool, true, false, not, ◌||◌, ◌==◌, if◌then◌else◌, List, [], ◌∷◌, ◌++◌, Option, Some, None, find, codes}
 use Rattle.std.specs.List.{AllByRecursion, list_any}
 use Rattle.std.specs.Char.{is_ascii_digit, is_ascii_alphabetic, is_ascii_alphanumeric, is_ascii_whitespace}
@@ -27,8 +27,7 @@ goes_on_name b = is_ascii_alphanumeric b || b == underscore
 abbrev pub is_quote : ℕ → Bool
 is_quote b = b == double_quote || (b == single_quote || b == backquote)
 
--- what stands between two quotes: a byte that is neither that quote nor a backslash; a backslash with
--- the byte behind it
+-- what is between two quotes: a byte that is neither that quote nor a backslash; a backslash with the byte after it
 pub data Inner : Type 0 where
   Plain : ℕ → Inner
   Escape : ℕ → Inner
@@ -134,15 +133,15 @@ AreDigits b bs rest = (is_ascii_digit b ≡ true) × IsRun is_ascii_digit bs res
 abbrev pub IsQuoted : ℕ → List Inner → Type 0
 IsQuoted quote is = (is_quote quote ≡ true) × AllByRecursion (IsInner quote) is
 
--- the lexeme stands there, before rest
+-- the lexeme is there, before rest
 abbrev pub IsLexeme : Lexeme → List ℕ → Type 0
 IsLexeme (Name b bs) rest = (begins_name b ≡ true) × IsRun goes_on_name bs rest
 IsLexeme (Number b bs) rest = AreDigits b bs rest × (begins (dot ∷ []) rest ≡ false) × (decimal (b ∷ bs) < 2 ^ 63)
 IsLexeme (Quoted quote is) rest = IsQuoted quote is × (has_unknown_escape is ≡ false)
 IsLexeme (Operator op) rest = operator_at (op ++ rest) ≡ Some op
 
--- a character that begins no lexeme; a quote that never closes; a string with an unknown escape; digits of
--- a number that is too great; a number with a point and the digits behind it
+-- a character that begins no lexeme; a quote that never closes; a string with an unknown escape; digits of a number
+-- that is too great; a number with a point and the digits after it
 pub data Fault : Type 0 where
   Unexpected : Fault
   Unclosed : ℕ → Fault
@@ -150,13 +149,13 @@ pub data Fault : Type 0 where
   TooGreat : ℕ → List ℕ → Fault
   Float : ℕ → List ℕ → List ℕ → Fault
 
--- the bytes that a fault tells
-abbrev pub told : Fault → List ℕ
-told Unexpected = []
-told (Unclosed quote) = []
-told (UnknownEscape quote is) = quoted quote is
-told (TooGreat b bs) = b ∷ bs
-told (Float b bs more) = b ∷ (bs ++ dot ∷ more)
+-- the bytes that a fault says
+abbrev pub reported : Fault → List ℕ
+reported Unexpected = []
+reported (Unclosed quote) = []
+reported (UnknownEscape quote is) = quoted quote is
+reported (TooGreat b bs) = b ∷ bs
+reported (Float b bs more) = b ∷ (bs ++ dot ∷ more)
 
 -- the first byte begins no lexeme
 abbrev pub BeginsNothing : List ℕ → Type 0
@@ -164,12 +163,12 @@ BeginsNothing [] = ⊥
 BeginsNothing (b ∷ bs) =
     (is_ascii_digit b ≡ false) × (begins_name b ≡ false) × (is_quote b ≡ false) × (operator_at (b ∷ bs) ≡ None)
 
--- no quote closes in these bytes, which may end behind a backslash
+-- no quote closes in these bytes, which may end after a backslash
 abbrev pub IsUnclosed : ℕ → List ℕ → Type 0
 IsUnclosed quote bytes =
     (is : List Inner) × AllByRecursion (IsInner quote) is × ((bytes ≡ written is) ⊎ (bytes ≡ written is ++ backslash ∷ []))
 
--- the fault stands at the front of the bytes
+-- the fault is at the front of the bytes
 abbrev pub IsFault : Fault → List ℕ → Type 0
 IsFault Unexpected bytes = BeginsNothing bytes
 IsFault (Unclosed quote) bytes = (rest : List ℕ) × (bytes ≡ quote ∷ rest) × (is_quote quote ≡ true) × IsUnclosed quote rest
@@ -185,8 +184,8 @@ pub record Item : Type 0 where
   pub gap : List ℕ
   pub lexeme : Lexeme
 
--- how the inside of a tag ends, each behind a gap: at the end marker, with a dash or none, and with what
--- follows it; at the end of the source; or at a fault
+-- how the inside of a tag ends, each after a gap: at the end marker, with a dash or none, and with what follows it; at
+-- the end of the source; or at a fault
 pub data Close : Type 0 where
   End : List ℕ → Bool → List ℕ → Close
   Open : List ℕ → Close
@@ -196,7 +195,7 @@ pub data Close : Type 0 where
 abbrev pub is_at_end : List ℕ → List ℕ → Bool
 is_at_end end bytes = begins (dash_byte ∷ end) bytes || begins end bytes
 
--- the end marker with a dash or none; one that stands there with a dash in front is taken with it
+-- the end marker with a dash or none; one that is there with a dash in front is taken with it
 abbrev pub IsEnd : List ℕ → Bool → List ℕ → List ℕ → Type 0
 IsEnd end true at rest = at ≡ dash_byte ∷ (end ++ rest)
 IsEnd end false at rest = (at ≡ end ++ rest) × (begins (dash_byte ∷ end) at ≡ false)

@@ -79,7 +79,7 @@ abbrev pub dash_bytes : Bool → List ℕ
 dash_bytes true = dash_byte ∷ []
 dash_bytes false = []
 
--- a dash is taken wherever one stands
+-- a dash is taken wherever one is
 abbrev pub TakesDash : Bool → List ℕ → Type 0
 TakesDash true rest = Unit {0}
 TakesDash false rest = begins (dash_byte ∷ []) rest ≡ false

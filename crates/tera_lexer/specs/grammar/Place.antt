@@ -8,12 +8,12 @@ use Rattle.tera_base.specs.declared.utils.Span.{Span}
 abbrev pub is_line_feed : ℕ → Bool
 is_line_feed b = b == 10
 
--- the byte begins a character: it is no continuation byte
+-- the byte begins a character: it is not a continuation byte
 abbrev pub begins_character : ℕ → Bool
 begins_character b = nat_lt b 0x80 || nat_le 0xC0 b
 
--- the place behind these first bytes of a source: its line is one more than there are line feeds, its
--- column the number of characters behind the last of them, and its byte the number of bytes
+-- the place after these first bytes of a source: its line is one more than there are line feeds, its column the number
+-- of characters after the last of them, and its byte the number of bytes
 unfoldable pub place_after : List ℕ → Place
 place_after front = record {
   line = 1 + count_by is_line_feed front;
@@ -31,7 +31,7 @@ joined start end = record {
   range = record { start = start.byte; end = end.byte };
 }
 
--- the span of a text that stands behind these first bytes of a source
+-- the span of a text that comes after these first bytes of a source
 abbrev pub span_of : List ℕ → List ℕ → Span
 span_of front text = joined (place_after front) (place_after (front ++ text))
 

@@ -1,11 +1,11 @@
--- The rules that markers keep, and what is told of markers that break one.
+-- The rules that markers keep, and what is reported for markers that break one.
 use Rattle.std.specs.Prelude.{◌≡◌, ◌⊎◌, ℕ, Bool, true, false, not, ◌==◌, List, [], ◌∷◌, ◌++◌, length, codes, Result, Ok, Err}
 use Rattle.std.specs.Str.{bytes_eq}
 use Rattle.tera_base.specs.Errors.{Says}
 use Rattle.tera_base.specs.declared.errors.Error.{Error}
 use Rattle.tera_lexer.specs.grammar.Marks.{Marks}
 
--- whether a rule is kept, and the text that tells that it is not
+-- whether a rule is kept, and the text that says that it is not
 pub record Rule : Type 0 where
   pub kept : Bool
   pub text : List ℕ
@@ -41,7 +41,7 @@ abbrev pub Checks : Rule → Result (Unit {0}) Error → Type 0
 Checks r (Ok u) = r.kept ≡ true
 Checks r (Err e) = (r.kept ≡ false) × Says r.text e
 
--- the answer to all: the first that is broken is told
+-- the answer to all: the first that is broken is reported
 abbrev pub ChecksAll : List Rule → Result (Unit {0}) Error → Type 0
 ChecksAll [] (Ok u) = Unit {0}
 ChecksAll [] (Err e) = ⊥

@@ -1,5 +1,5 @@
--- How the tokens of a source stand in it: one behind the other, with nothing but white space between them,
--- and that only inside tags.
+-- How the tokens of a source are in it: one after the other, with nothing but white space between them, and that only
+-- inside tags.
 use Rattle.std.specs.Prelude.{◌≡◌, ◌≢◌, ◌<◌, ◌^◌, ℕ, pos, Bool, true, false, List, [], ◌∷◌, ◌++◌, length}
 use Rattle.std.specs.List.{AllByRecursion}
 use Rattle.std.specs.Char.{is_ascii_whitespace}
@@ -13,22 +13,22 @@ abbrev pub AreBetween : Bool → List ℕ → Type 0
 AreBetween true gap = AllByRecursion (λ b. is_ascii_whitespace b ≡ true) gap
 AreBetween false gap = gap ≡ []
 
--- whether a tag is open behind the token
-abbrev pub in_tag_behind : Bool → Tok → Bool
-in_tag_behind inside (Content text) = inside
-in_tag_behind inside (RawContent dash text end) = inside
-in_tag_behind inside (Remark dash end) = inside
-in_tag_behind inside (Start kind dash) = true
-in_tag_behind inside (Finish kind dash) = false
-in_tag_behind inside (Ident name) = inside
-in_tag_behind inside (Str text) = inside
-in_tag_behind inside (Escaped text) = inside
-in_tag_behind inside (Integer n) = inside
-in_tag_behind inside (Truth b) = inside
-in_tag_behind inside (Symbol op) = inside
+-- whether a tag is open after the token
+abbrev pub in_tag_after : Bool → Tok → Bool
+in_tag_after inside (Content text) = inside
+in_tag_after inside (RawContent dash text end) = inside
+in_tag_after inside (Remark dash end) = inside
+in_tag_after inside (Start kind dash) = true
+in_tag_after inside (Finish kind dash) = false
+in_tag_after inside (Ident name) = inside
+in_tag_after inside (Str text) = inside
+in_tag_after inside (Escaped text) = inside
+in_tag_after inside (Integer n) = inside
+in_tag_after inside (Truth b) = inside
+in_tag_after inside (Symbol op) = inside
 
--- outside a tag stand texts and starts of tags, and inside one all but those. A raw piece and a comment as such
--- stand nowhere.
+-- outside a tag are texts and starts of tags, and inside one all but those. A raw piece and a comment as such are
+-- nowhere.
 abbrev pub Belongs : Bool → Tok → Type 0
 Belongs inside (Content text) = inside ≡ false
 Belongs inside (RawContent dash text end) = ⊥
@@ -42,12 +42,12 @@ Belongs inside (Integer n) = inside ≡ true
 Belongs inside (Truth b) = inside ≡ true
 Belongs inside (Symbol op) = inside ≡ true
 
--- what the bytes of a token have to do with what it holds: a name and an operator are the bytes; a string stands
--- between two quotes; a number is that which they write, below 2^63; a text is a part of them, with or without the
--- white space at its ends. A raw piece and a comment as such have none.
+-- what the bytes of a token have to do with what it holds: a name and an operator are the bytes; a string is between
+-- two quotes; a number is that which they write, below 2^63; a text is a part of them, with or without the white space
+-- at its ends. A raw piece and a comment as such have none.
 abbrev pub Shows : Tok → List ℕ → Type 0
 Shows (Content text) bytes =
-    (before body behind : List ℕ) × (start end : Bool) × (bytes ≡ before ++ (body ++ behind)) × (text ≡ trimmed start end body)
+    (before body following : List ℕ) × (start end : Bool) × (bytes ≡ before ++ (body ++ following)) × (text ≡ trimmed start end body)
 Shows (RawContent dash text end) bytes = ⊥
 Shows (Remark dash end) bytes = ⊥
 Shows (Ident name) bytes = name ≡ bytes
@@ -59,12 +59,12 @@ Shows (Escaped text) bytes = Unit {0}
 Shows (Integer n) bytes = (n ≡ pos (decimal bytes)) × (decimal bytes < 2 ^ 63)
 Shows (Truth b) bytes = Unit {0}
 
--- the tokens stand in the rest of a source behind front: each where it belongs, with some bytes behind a gap, and
--- its span is theirs; a fault stands behind a gap before some byte
+-- the tokens are in the rest of a source after front: each where it belongs, with some bytes after a gap, and its span
+-- is theirs; a fault comes after a gap before some byte
 abbrev pub Tile : Bool → List ℕ → List ℕ → Items → Type 0
 Tile inside front rest Ended = AreBetween inside rest
 Tile inside front rest (Failed text span) =
     (gap at : List ℕ) × (rest ≡ gap ++ at) × AreBetween inside gap × (at ≢ []) × (span.range.start ≡ length (front ++ gap))
 Tile inside front rest (Token t span items) =
-    (gap bytes behind : List ℕ) × (rest ≡ gap ++ (bytes ++ behind)) × AreBetween inside gap × (bytes ≢ []) × Belongs inside t × Shows t bytes
-    × (span ≡ span_of (front ++ gap) bytes) × Tile (in_tag_behind inside t) ((front ++ gap) ++ bytes) behind items
+    (gap bytes following : List ℕ) × (rest ≡ gap ++ (bytes ++ following)) × AreBetween inside gap × (bytes ≢ []) × Belongs inside t × Shows t bytes
+    × (span ≡ span_of (front ++ gap) bytes) × Tile (in_tag_after inside t) ((front ++ gap) ++ bytes) following items

@@ -3,7 +3,7 @@ use Rattle.std.specs.Prelude.{◌≡◌, ℕ, ℤ, pos, Bool, true, false, ◌||
 use Rattle.std.specs.Str.{bytes_eq}
 use Rattle.tera_lexer.specs.grammar.Marks.{Marks, start_marker, end_marker, dash_bytes}
 use Rattle.tera_lexer.specs.grammar.Place.{span_of}
-use Rattle.tera_lexer.specs.grammar.Lexeme.{Item, Lexeme, Name, Number, Quoted, Operator, Fault, Unexpected, Unclosed, UnknownEscape, TooGreat, Float, spelled, told, decimal, written, value_of, has_escape}
+use Rattle.tera_lexer.specs.grammar.Lexeme.{Item, Lexeme, Name, Number, Quoted, Operator, Fault, Unexpected, Unclosed, UnknownEscape, TooGreat, Float, spelled, reported, decimal, written, value_of, has_escape}
 use Rattle.tera_lexer.specs.grammar.Raw.{WordTag, word_tag_bytes, raw_word, endraw_word}
 use Rattle.tera_lexer.specs.grammar.Division.{Piece, Text, Comment, Raw, Tag, Ending, Complete, OpenTag, BadTag, OpenRaw, OpenComment, IsDivision}
 use Rattle.tera_lexer.specs.grammar.Trimming.{trims_start, trims_end, trimmed}
@@ -59,27 +59,27 @@ fault_text (UnknownEscape quote is) = codes "unexpected escape character"
 fault_text (TooGreat b bs) = codes "Invalid Integer"
 fault_text (Float b bs more) = codes "Float literals are not supported"
 
--- the lexemes' tokens behind front, and then what follows, which is told what stands before it
+-- the lexemes' tokens after front, and then what follows, which is reported what is before it
 abbrev pub lexemes : List ℕ → List Item → (List ℕ → Items) → Items
 lexemes front [] follows = follows front
 lexemes front (i ∷ is) follows =
     Token (token_of i.lexeme) (span_of (front ++ i.gap) (spelled i.lexeme)) (lexemes ((front ++ i.gap) ++ spelled i.lexeme) is follows)
 
--- the start of a tag behind front, and what follows it
+-- the start of a tag after front, and what follows it
 abbrev pub tag_start : Marks → List ℕ → Kind → Bool → (List ℕ → Items) → Items
 tag_start m front kind dash follows =
     let start = start_marker kind m ++ dash_bytes dash in
     Token (Start kind dash) (span_of front start) (follows (front ++ start))
 
--- the end of a tag behind front, and what follows it
+-- the end of a tag after front, and what follows it
 abbrev pub tag_end : Marks → List ℕ → Kind → Bool → (List ℕ → Items) → Items
 tag_end m front kind dash follows =
     let end = dash_bytes dash ++ end_marker kind m in
     Token (Finish kind dash) (span_of front end) (follows (front ++ end))
 
--- a fault behind front
+-- a fault after front
 abbrev pub failed : List ℕ → Fault → Items
-failed front fault = Failed (fault_text fault) (span_of front (told fault))
+failed front fault = Failed (fault_text fault) (span_of front (reported fault))
 
 abbrev pub open_raw : List ℕ
 open_raw = codes "unexpected end of raw block"
@@ -96,9 +96,8 @@ raw_bytes m dash opening body closing =
     m.block_start ++ (dash_bytes dash ++ (word_tag_bytes raw_word m.block_end opening
     ++ (body ++ (m.block_start ++ word_tag_bytes endraw_word m.block_end closing))))
 
--- the tokens of a piece behind front, and what follows them: a text, which neighbours may trim at its start and
--- at its end; a comment, which is an empty text; the body of a raw piece, which the dashes of its inner sides
--- trim as well
+-- the tokens of a piece after front, and what follows them: a text, which neighbours may trim at its start and at its
+-- end; a comment, which is an empty text; the body of a raw piece, which the dashes of its inner sides trim as well
 abbrev pub piece_tokens : Marks → List ℕ → Bool → Bool → Piece → (List ℕ → Items) → Items
 piece_tokens m front start end (Text text) follows = Token (Content (trimmed start end text)) (span_of front text) (follows (front ++ text))
 piece_tokens m front start end (Comment dash inside) follows =
@@ -110,7 +109,7 @@ piece_tokens m front start end (Raw dash opening body closing) follows =
 piece_tokens m front start end (Tag kind dash items gap last) follows =
     tag_start m front kind dash (λ f. lexemes f items (λ g. tag_end m (g ++ gap) kind last follows))
 
--- the tokens of an ending behind front
+-- the tokens of an ending after front
 abbrev pub ending_tokens : Marks → List ℕ → Ending → Items
 ending_tokens m front Complete = Ended
 ending_tokens m front (OpenTag kind dash items gap) = tag_start m front kind dash (λ f. lexemes f items (λ g. Ended))
@@ -118,8 +117,7 @@ ending_tokens m front (BadTag kind dash items gap fault at) = tag_start m front 
 ending_tokens m front (OpenRaw dash) = Failed open_raw (span_of front (m.block_start ++ dash_bytes dash))
 ending_tokens m front (OpenComment dash) = Failed (open_comment m) (span_of front (m.comment_start ++ dash_bytes dash))
 
--- the tokens of the pieces and of the ending, behind front and to the right of the pieces on the left, the
--- nearest first
+-- the tokens of the pieces and of the ending, after front and to the right of the pieces on the left, the nearest first
 abbrev pub tokens_of : Marks → List ℕ → List Piece → List Piece → Ending → Items
 tokens_of m front left [] ending = ending_tokens m front ending
 tokens_of m front left (p ∷ right) ending =

@@ -18,8 +18,8 @@ trims_start (Comment dash inside ∷ left) = trims_start left || ends_dashed ins
 trims_start (Raw dash opening body closing ∷ left) = closing.dash_out
 trims_start (Tag kind dash items gap end ∷ left) = end
 
--- of what stands to the right, the nearest first: the nearest piece begins with a dash. A tag is one even where
--- it never ends or a fault stands in it; a comment or a raw piece that never closes is none.
+-- of what is to the right, the nearest first: the nearest piece begins with a dash. A tag is one even where it never
+-- ends or a fault is in it; a comment or a raw piece that never closes is none.
 abbrev pub trims_end : List Piece → Ending → Bool
 trims_end [] Complete = false
 trims_end [] (OpenTag kind dash items gap) = dash

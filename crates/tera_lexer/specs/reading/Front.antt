@@ -1,5 +1,5 @@
--- What stands at the front of some bytes, as a function: the reading that the definitions of lexemes and
--- pieces allow. The contract of `Parser::parse` does not name it.
+-- What is at the front of some bytes, as a function: the reading that the definitions of lexemes and pieces allow. The
+-- contract of `Parser::parse` does not name it.
 use Rattle.std.specs.Prelude.{ℕ, zero, suc, ◌+◌, ◌^◌, Bool, true, false, not, if◌then◌else◌, nat_lt, ◌==◌, List, [], ◌∷◌, length, take, drop, codes, Option, Some, None}
 use Rattle.std.specs.List.{prefix_len, list_any}
 use Rattle.std.specs.Char.{is_ascii_digit, is_ascii_whitespace}
@@ -11,19 +11,19 @@ use Rattle.tera_lexer.specs.grammar.Division.{is_at_start, Piece, Text, Comment,
 use Rattle.tera_lexer.specs.declared.lexer.delimiters.Kind.{Kind}
 use Rattle.tera_lexer.specs.declared.lexer.delimiters.Kind.TheVariants.{Variable, Block}
 
--- a lexeme and the bytes behind it, or a fault
+-- a lexeme and the bytes after it, or a fault
 pub data Front : Type 0 where
   Reads : Lexeme → List ℕ → Front
   Breaks : Fault → Front
 
--- the longest run of bytes that pass the test, and what is behind it
+-- the longest run of bytes that pass the test, and what is after it
 abbrev pub run_of : (ℕ → Bool) → List ℕ → List ℕ
 run_of p bytes = take (prefix_len p bytes) bytes
 
-abbrev pub behind_run : (ℕ → Bool) → List ℕ → List ℕ
-behind_run p bytes = drop (prefix_len p bytes) bytes
+abbrev pub after_run : (ℕ → Bool) → List ℕ → List ℕ
+after_run p bytes = drop (prefix_len p bytes) bytes
 
--- the inside of a string and what is behind its closing quote
+-- the inside of a string and what is after its closing quote
 abbrev pub with_inner : Inner → Option (List Inner × List ℕ) → Option (List Inner × List ℕ)
 with_inner i None = None
 with_inner i (Some p) = Some (i ∷ p.0, p.1)
@@ -35,7 +35,7 @@ string_at quote (b ∷ c ∷ cs) =
     if b == quote then Some ([], c ∷ cs)
     else (if b == backslash then with_inner (Escape c) (string_at quote cs) else with_inner (Plain b) (string_at quote (c ∷ cs)))
 
--- how many bytes stand before the closing quote, behind a backslash or not
+-- how many bytes are before the closing quote, after a backslash or not
 abbrev pub more : Option ℕ → Option ℕ
 more None = None
 more (Some n) = Some (suc n)
@@ -55,7 +55,7 @@ unescaped [] = []
 unescaped (b ∷ []) = b ∷ []
 unescaped (b ∷ c ∷ cs) = if b == backslash then escaped c ∷ unescaped cs else b ∷ unescaped (c ∷ cs)
 
--- whether an escape in it is unknown, behind a backslash or not
+-- whether an escape in it is unknown, after a backslash or not
 abbrev pub unknown_in : Bool → List ℕ → Bool
 unknown_in escape [] = false
 unknown_in true (b ∷ bs) = if is_known b then unknown_in false bs else true
@@ -65,7 +65,7 @@ abbrev pub string_front : ℕ → Option (List Inner × List ℕ) → Front
 string_front quote None = Breaks (Unclosed quote)
 string_front quote (Some p) = if has_unknown_escape p.0 then Breaks (UnknownEscape quote p.0) else Reads (Quoted quote p.0) p.1
 
--- digits b and bs, and what is behind them
+-- digits b and bs, and what is after them
 abbrev pub number_front : ℕ → List ℕ → List ℕ → Front
 number_front b bs rest =
     if begins (dot ∷ []) rest then Breaks (Float b bs (run_of is_ascii_digit (drop 1 rest)))
@@ -79,26 +79,26 @@ abbrev pub operator_front : List ℕ → Option (List ℕ) → Front
 operator_front bytes None = Breaks Unexpected
 operator_front bytes (Some op) = Reads (Operator op) (drop (length op) bytes)
 
--- what stands at the front of bytes in a tag
+-- what is at the front of bytes in a tag
 unfoldable pub front_of : List ℕ → Front
 front_of [] = Breaks Unexpected
 front_of (b ∷ bs) =
-    if is_ascii_digit b then number_front b (run_of is_ascii_digit bs) (behind_run is_ascii_digit bs)
-    else (if begins_name b then Reads (Name b (run_of goes_on_name bs)) (behind_run goes_on_name bs)
+    if is_ascii_digit b then number_front b (run_of is_ascii_digit bs) (after_run is_ascii_digit bs)
+    else (if begins_name b then Reads (Name b (run_of goes_on_name bs)) (after_run goes_on_name bs)
     else (if is_quote b then string_front b (string_at b bs)
     else operator_front (b ∷ bs) (operator_at (b ∷ bs))))
 
--- what comes next in a tag, behind a gap
+-- what comes next in a tag, after a gap
 pub data Next : Type 0 where
   Ends : Next
   Closes : Bool → List ℕ → Next
-  Stands : Front → Next
+  GoesOnWith : Front → Next
 
 abbrev pub next_at : List ℕ → List ℕ → Next
 next_at end [] = Ends
 next_at end (b ∷ bs) =
     if begins (dash_byte ∷ end) (b ∷ bs) then Closes true (drop (suc (length end)) (b ∷ bs))
-    else (if begins end (b ∷ bs) then Closes false (drop (length end) (b ∷ bs)) else Stands (front_of (b ∷ bs)))
+    else (if begins end (b ∷ bs) then Closes false (drop (length end) (b ∷ bs)) else GoesOnWith (front_of (b ∷ bs)))
 
 abbrev pub item_before : Item → List Item × Close → List Item × Close
 item_before i p = (i ∷ p.0, p.1)
@@ -107,20 +107,20 @@ item_before i p = (i ∷ p.0, p.1)
 abbrev pub inside_step : (List ℕ → List Item × Close) → List ℕ → List ℕ → Next → List Item × Close
 inside_step go gap at Ends = ([], Open gap)
 inside_step go gap at (Closes dash rest) = ([], End gap dash rest)
-inside_step go gap at (Stands (Breaks fault)) = ([], Bad gap fault at)
-inside_step go gap at (Stands (Reads lexeme rest)) = item_before (record { gap = gap; lexeme = lexeme }) (go rest)
+inside_step go gap at (GoesOnWith (Breaks fault)) = ([], Bad gap fault at)
+inside_step go gap at (GoesOnWith (Reads lexeme rest)) = item_before (record { gap = gap; lexeme = lexeme }) (go rest)
 
 -- the inside of a tag, in at most so many steps
 unfoldable pub inside_by : ℕ → List ℕ → List ℕ → List Item × Close
 inside_by zero end bytes = ([], Open [])
 inside_by (suc n) end bytes =
-    let at = behind_run is_ascii_whitespace bytes in
+    let at = after_run is_ascii_whitespace bytes in
     inside_step (inside_by n end) (run_of is_ascii_whitespace bytes) at (next_at end at)
 
 abbrev pub inside_of : List ℕ → List ℕ → List Item × Close
 inside_of end bytes = inside_by (suc (length bytes)) end bytes
 
--- how many bytes stand before the first start marker
+-- how many bytes are before the first start marker
 abbrev pub text_len : Marks → List ℕ → ℕ
 text_len m [] = 0
 text_len m (b ∷ bs) = if is_at_start m (b ∷ bs) then 0 else suc (text_len m bs)
@@ -128,39 +128,39 @@ text_len m (b ∷ bs) = if is_at_start m (b ∷ bs) then 0 else suc (text_len m 
 abbrev pub with_piece : Piece → List Piece × Ending → List Piece × Ending
 with_piece p d = (p ∷ d.0, d.1)
 
--- how many bytes stand before the first such marker
+-- how many bytes are before the first such marker
 abbrev pub find_marker : List ℕ → List ℕ → Option ℕ
 find_marker marker [] = None
 find_marker marker (b ∷ bs) = if begins marker (b ∷ bs) then Some 0 else more (find_marker marker bs)
 
--- what is behind a start marker, and behind its dash
-abbrev pub behind_marker : List ℕ → List ℕ → List ℕ
-behind_marker marker bytes = drop (length marker) bytes
+-- what is after a start marker, and after its dash
+abbrev pub after_marker : List ℕ → List ℕ → List ℕ
+after_marker marker bytes = drop (length marker) bytes
 
 abbrev pub at_dash : List ℕ → Bool
 at_dash bytes = begins (dash_byte ∷ []) bytes
 
-abbrev pub behind_dash : List ℕ → List ℕ
-behind_dash bytes = drop (length (dash_bytes (at_dash bytes))) bytes
+abbrev pub after_dash : List ℕ → List ℕ
+after_dash bytes = drop (length (dash_bytes (at_dash bytes))) bytes
 
 -- how many bytes a dash or none and then white space take
 abbrev pub gap_len : List ℕ → ℕ
-gap_len bytes = length (dash_bytes (at_dash bytes)) + prefix_len is_ascii_whitespace (behind_dash bytes)
+gap_len bytes = length (dash_bytes (at_dash bytes)) + prefix_len is_ascii_whitespace (after_dash bytes)
 
--- a tag of a raw piece, and what is behind it
+-- a tag of a raw piece, and what is after it
 abbrev pub word_tag_end : List ℕ → WordTag → List ℕ → Option (WordTag × List ℕ)
-word_tag_end end t at = if begins end at then Some (t, behind_marker end at) else None
+word_tag_end end t at = if begins end at then Some (t, after_marker end at) else None
 
 abbrev pub word_tag_at : List ℕ → List ℕ → List ℕ → Option (WordTag × List ℕ)
 word_tag_at word end bytes =
-    let inner = behind_dash bytes in
-    let at = behind_run is_ascii_whitespace inner in
-    let after = behind_marker word at in
-    let last = behind_run is_ascii_whitespace after in
-    let tag : WordTag = record { dash_in = at_dash bytes; before = run_of is_ascii_whitespace inner; behind = run_of is_ascii_whitespace after; dash_out = at_dash last } in
-    if begins word at then word_tag_end end tag (behind_dash last) else None
+    let inner = after_dash bytes in
+    let at = after_run is_ascii_whitespace inner in
+    let after = after_marker word at in
+    let last = after_run is_ascii_whitespace after in
+    let tag : WordTag = record { dash_in = at_dash bytes; before = run_of is_ascii_whitespace inner; following = run_of is_ascii_whitespace after; dash_out = at_dash last } in
+    if begins word at then word_tag_end end tag (after_dash last) else None
 
--- how long the body of a raw piece is, the tag that closes it, and what is behind that
+-- how long the body of a raw piece is, the tag that closes it, and what is after that
 pub record RawEnd : Type 0 where
   pub len : ℕ
   pub close : WordTag
@@ -180,7 +180,7 @@ abbrev pub raw_end : List ℕ → List ℕ → Bool → List ℕ → Option RawE
 raw_end start end second [] = None
 raw_end start end true (b ∷ bs) = longer (raw_end start end false bs)
 raw_end start end false (b ∷ bs) =
-    if begins start (b ∷ bs) then closed_or (word_tag_at endraw_word end (behind_marker start (b ∷ bs))) (longer (raw_end start end true bs))
+    if begins start (b ∷ bs) then closed_or (word_tag_at endraw_word end (after_marker start (b ∷ bs))) (longer (raw_end start end true bs))
     else longer (raw_end start end false bs)
 
 abbrev pub tag_step : (List ℕ → List Piece × Ending) → Kind → Bool → List Item → Close → List Piece × Ending
@@ -192,16 +192,16 @@ abbrev pub tag_front : (List ℕ → List Piece × Ending) → Marks → Kind �
 tag_front go m kind dash inside = tag_step go kind dash (inside_of (end_marker kind m) inside).0 (inside_of (end_marker kind m) inside).1
 
 abbrev pub comment_step : (List ℕ → List Piece × Ending) → Marks → Bool → List ℕ → Option ℕ → List Piece × Ending
-comment_step go m dash behind None = ([], OpenComment dash)
-comment_step go m dash behind (Some n) = with_piece (Comment dash (take n behind)) (go (behind_marker m.comment_end (drop n behind)))
+comment_step go m dash following None = ([], OpenComment dash)
+comment_step go m dash following (Some n) = with_piece (Comment dash (take n following)) (go (after_marker m.comment_end (drop n following)))
 
 abbrev pub raw_step : (List ℕ → List Piece × Ending) → Bool → WordTag → List ℕ → Option RawEnd → List Piece × Ending
 raw_step go dash opening inside None = ([], OpenRaw dash)
 raw_step go dash opening inside (Some e) = with_piece (Raw dash opening (take e.len inside) e.close) (go e.rest)
 
 abbrev pub block_step : (List ℕ → List Piece × Ending) → Marks → Bool → List ℕ → Option (WordTag × List ℕ) → List Piece × Ending
-block_step go m dash behind None = tag_front go m Block dash behind
-block_step go m dash behind (Some p) = raw_step go dash p.0 p.1 (raw_end m.block_start m.block_end false p.1)
+block_step go m dash following None = tag_front go m Block dash following
+block_step go m dash following (Some p) = raw_step go dash p.0 p.1 (raw_end m.block_start m.block_end false p.1)
 
 abbrev pub text_step : (List ℕ → List Piece × Ending) → ℕ → List ℕ → List Piece × Ending
 text_step go n bytes = with_piece (Text (take n bytes)) (go (drop n bytes))
@@ -211,12 +211,12 @@ unfoldable pub division_by : ℕ → Marks → List ℕ → List Piece × Ending
 division_by zero m bytes = ([], Complete)
 division_by (suc n) m [] = ([], Complete)
 division_by (suc n) m (b ∷ bs) =
-    let variable = behind_marker m.variable_start (b ∷ bs) in
-    let block = behind_marker m.block_start (b ∷ bs) in
-    let comment = behind_marker m.comment_start (b ∷ bs) in
-    if begins m.variable_start (b ∷ bs) then tag_front (division_by n m) m Variable (at_dash variable) (behind_dash variable)
-    else (if begins m.block_start (b ∷ bs) then block_step (division_by n m) m (at_dash block) (behind_dash block) (word_tag_at raw_word m.block_end (behind_dash block))
-    else (if begins m.comment_start (b ∷ bs) then comment_step (division_by n m) m (at_dash comment) (behind_dash comment) (find_marker m.comment_end (behind_dash comment))
+    let variable = after_marker m.variable_start (b ∷ bs) in
+    let block = after_marker m.block_start (b ∷ bs) in
+    let comment = after_marker m.comment_start (b ∷ bs) in
+    if begins m.variable_start (b ∷ bs) then tag_front (division_by n m) m Variable (at_dash variable) (after_dash variable)
+    else (if begins m.block_start (b ∷ bs) then block_step (division_by n m) m (at_dash block) (after_dash block) (word_tag_at raw_word m.block_end (after_dash block))
+    else (if begins m.comment_start (b ∷ bs) then comment_step (division_by n m) m (at_dash comment) (after_dash comment) (find_marker m.comment_end (after_dash comment))
     else text_step (division_by n m) (suc (text_len m bs)) (b ∷ bs)))
 
 abbrev pub division_of : Marks → List ℕ → List Piece × Ending

@@ -14,24 +14,23 @@ use Rattle.tera_lexer.specs.declared.lexer.delimiters.Kind.{Kind}
 abbrev pub start_of : Marks → List ℕ → Progress
 start_of m source = record { marks = m; front = []; rest = source; tag = None; trim = false; failed = false }
 
--- whether a dash trims the start of a text behind a piece, where one trims that of the piece or none does
-abbrev pub trims_behind : Bool → Piece → Bool
-trims_behind trim (Text text) = false
-trims_behind trim (Comment dash inside) = trim || ends_dashed inside
-trims_behind trim (Raw dash opening body closing) = closing.dash_out
-trims_behind trim (Tag kind dash items gap end) = end
+-- whether a dash trims the start of a text after a piece, where one trims that of the piece or none does
+abbrev pub trims_after : Bool → Piece → Bool
+trims_after trim (Text text) = false
+trims_after trim (Comment dash inside) = trim || ends_dashed inside
+trims_after trim (Raw dash opening body closing) = closing.dash_out
+trims_after trim (Tag kind dash items gap end) = end
 
--- the tokens of the pieces and of the ending, behind front, where a dash trims the start of the first text or none
--- does
+-- the tokens of the pieces and of the ending, after front, where a dash trims the start of the first text or none does
 abbrev pub tokens_by : Marks → List ℕ → Bool → List Piece → Ending → Items
 tokens_by m front trim [] ending = ending_tokens m front ending
-tokens_by m front trim (p ∷ ps) ending = piece_tokens m front trim (trims_end ps ending) p (λ f. tokens_by m f (trims_behind trim p) ps ending)
+tokens_by m front trim (p ∷ ps) ending = piece_tokens m front trim (trims_end ps ending) p (λ f. tokens_by m f (trims_after trim p) ps ending)
 
 -- the piece that begins the bytes begins with a dash
 abbrev pub starts_dashed : Marks → List ℕ → Bool
 starts_dashed m bytes = trims_end (division_of m bytes).0 (division_of m bytes).1
 
--- the tokens behind front, where rest is outside a tag
+-- the tokens after front, where rest is outside a tag
 abbrev pub left_outside : Marks → List ℕ → Bool → List ℕ → Items
 left_outside m front trim rest = tokens_by m front trim (division_of m rest).0 (division_of m rest).1
 
@@ -41,7 +40,7 @@ left_by m kind front items (End gap dash rest) = lexemes front items (λ g. tag_
 left_by m kind front items (Open gap) = lexemes front items (λ g. Ended)
 left_by m kind front items (Bad gap fault at) = lexemes front items (λ g. failed (g ++ gap) fault)
 
--- the tokens behind front, where rest is inside a tag
+-- the tokens after front, where rest is inside a tag
 abbrev pub left_inside : Marks → Kind → List ℕ → List ℕ → Items
 left_inside m kind front rest = left_by m kind front (inside_of (end_marker kind m) rest).0 (inside_of (end_marker kind m) rest).1
 
@@ -49,7 +48,7 @@ abbrev pub left_in : Marks → Option Kind → List ℕ → Bool → List ℕ �
 left_in m None front trim rest = left_outside m front trim rest
 left_in m (Some kind) front trim rest = left_inside m kind front rest
 
--- the tokens behind the place that is reached
+-- the tokens after the place that is reached
 unfoldable pub ahead_of : Progress → Items
 ahead_of r = left_in r.marks r.tag r.front r.trim r.rest
 

@@ -6,7 +6,7 @@ ghost use Rattle.tera_lexer.specs.grammar.Lexed.{AreLexed};
 ghost use Rattle.tera_lexer.specs.code.Seen.{seen};
 ghost use Rattle.std.specs.Option.{option_map, option_transpose};
 ghost use Rattle.tera_lexer.specs.code.CursorView.{IsTokenAhead};
-ghost use Rattle.tera_base.specs.Errors.{Tells, end_of};
+ghost use Rattle.tera_base.specs.Errors.{Reports, end_of};
 
 use crate::lexer::stream::Tokens;
 use crate::lexer::tokens::Token;
@@ -17,7 +17,7 @@ use tera_base::{Error, ReportError, Span};
 
 /// The tokens of a source that are not taken yet, of which the next two can be looked at.
 ///
-/// A fault, or want of memory for a token, that is met while looking ahead is answered when its place is taken.
+/// A fault, or an allocation failure for a token, that is met while looking ahead is answered when its place is taken.
 #[derive(Drop)]
 pub struct Cursor<'a> {
     alloc: Global,
@@ -44,7 +44,7 @@ impl<'a> Model for Cursor<'a> {
 }
 
 impl<'a> Cursor<'a> {
-    ghost use Rattle.tera_lexer.specs.code.Cursors.{nowhere, is_end, FirstIs, FirstStandsAt, SecondIs, SeesTwo, Skips, Takes, TakesOne, IsLater, RefusesFrom};
+    ghost use Rattle.tera_lexer.specs.code.Cursors.{nowhere, is_end, FirstIs, FirstIsAt, SecondIs, SeesTwo, Skips, Takes, TakesOne, IsLater, RefusesFrom};
 
     /// A cursor before the next of the tokens. The next two are read.
     pub fn new(tokens: Tokens<'a>) -> Cursor<'a>
@@ -93,7 +93,7 @@ impl<'a> Cursor<'a> {
         let third = self.tokens.next();
         let second = mem::replace(&mut self.second, third);
         let first = mem::replace(&mut self.first, second);
-        if let Some((_, span)) = shown(&first) {
+        if let Some((_, span)) = token_ahead(&first) {
             self.taken += 1;
             self.current_span = span.copied();
         }
@@ -107,7 +107,7 @@ impl<'a> Cursor<'a> {
         ensures count { self.new.taken ≤ length self.new.source }
         ensures tokens { AreLexed self.old.left }
     {
-        let Some((_, span)) = shown(&self.first) else {
+        let Some((_, span)) = token_ahead(&self.first) else {
             return false;
         };
         self.current_span = span.copied();
@@ -116,35 +116,35 @@ impl<'a> Cursor<'a> {
         true
     }
 
-    /// The next token. There is none at the end, at a fault, and where no memory was found for it.
+    /// The next token. There is none at the end, at a fault, and if an allocation fails for it.
     pub fn first(&self) -> Option<&Token<'a>>
         ensures shows { MatchOption result (self.now.sight ≡ 0) (λ t.
             (0 < self.now.sight) × FirstIs self.now.left (seen t.now)) }
         ensures sight { SeesTwo self.now }
         ensures tokens { AreLexed self.now.left }
     {
-        let (token, _) = shown(&self.first)?;
+        let (token, _) = token_ahead(&self.first)?;
         Some(token)
     }
 
-    /// The token behind the next one. There is none where either is not shown.
+    /// The token after the next one. There is none where either is not shown.
     pub fn second(&self) -> Option<&Token<'a>>
         ensures shows { MatchOption result (self.now.sight ≤ 1) (λ t.
             (1 < self.now.sight) × SecondIs self.now.left (seen t.now)) }
         ensures sight { SeesTwo self.now }
     {
-        let _ = shown(&self.first)?;
-        let (token, _) = shown(&self.second)?;
+        let _ = token_ahead(&self.first)?;
+        let (token, _) = token_ahead(&self.second)?;
         Some(token)
     }
 
     /// The span of the next token, where `first` shows that.
     pub fn first_span(&self) -> Option<&Span>
         ensures shows { MatchOption result (self.now.sight ≡ 0) (λ s. (0 < self.now.sight)
-            × FirstStandsAt self.now.left s.now × IsWithin self.now.source s.now) }
+            × FirstIsAt self.now.left s.now × IsWithin self.now.source s.now) }
         ensures sight { SeesTwo self.now }
     {
-        let (_, span) = shown(&self.first)?;
+        let (_, span) = token_ahead(&self.first)?;
         Some(span)
     }
 
@@ -168,9 +168,9 @@ impl<'a> Cursor<'a> {
         self.alloc
     }
 
-    /// The end of the input, behind the token taken last: a syntax error, or `Memory` where its text finds none.
+    /// The end of the input, after the token taken last: a syntax error, or `Memory` where its text finds none.
     pub fn eoi(&self) -> Error
-        ensures tells { Tells (codes "Unexpected end of input") (end_of self.now.span) result }
+        ensures reports { Reports (codes "Unexpected end of input") (end_of self.now.span) result }
         ensures within { IsWithin self.now.source (end_of self.now.span) }
     {
         ReportError::unexpected_end_of_input(self.alloc, &self.current_span)
@@ -195,7 +195,7 @@ impl<'a> Cursor<'a> {
 }
 
 // The token that was read ahead, if one was.
-fn shown<'b, 'a>(
+fn token_ahead<'b, 'a>(
     item: &'b Option<Result<(Token<'a>, Span), Error>>,
 ) -> Option<&'b (Token<'a>, Span)>
     ensures { IsTokenAhead item.now (option_map (λ p. p.now) result) }

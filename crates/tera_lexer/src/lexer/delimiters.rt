@@ -6,22 +6,22 @@ use std::alloc::{AllocError, Global};
 use std::borrow::CowStr;
 use tera_base::Error;
 
-/// The six markers between which a template's tags stand.
+/// The six markers between which a template's tags are.
 ///
 /// Each is two bytes long, and the three starts differ.
 #[derive(Debug, PartialEq, Drop)]
 pub struct Delimiters {
     /// Before a statement: `{%` by default.
     pub block_start: CowStr<'static>,
-    /// Behind a statement: `%}` by default.
+    /// After a statement: `%}` by default.
     pub block_end: CowStr<'static>,
     /// Before an expression: `{{` by default.
     pub variable_start: CowStr<'static>,
-    /// Behind an expression: `}}` by default.
+    /// After an expression: `}}` by default.
     pub variable_end: CowStr<'static>,
     /// Before a comment: `{#` by default.
     pub comment_start: CowStr<'static>,
-    /// Behind a comment: `#}` by default.
+    /// After a comment: `#}` by default.
     pub comment_end: CowStr<'static>,
 }
 
@@ -75,7 +75,7 @@ impl Delimiters {
 
     /// Whether a template can be read with the markers: each is two bytes long, and the three starts differ.
     ///
-    /// The first rule that they break is told: the lengths in the order of the fields, and then the starts.
+    /// The first rule that they break is reported: the lengths in the order of the fields, and then the starts.
     pub fn validate(&self, alloc: Global) -> Result<(), Error>
         ensures rules { ChecksAll (rules_of (marks_of self.now)) result }
         ensures ok { IfOk result (λ _. IsValid (marks_of self.now)) }

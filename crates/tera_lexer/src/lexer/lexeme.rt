@@ -1,4 +1,4 @@
-//! What stands at a place in a tag.
+//! What is at a place in a tag.
 
 ghost use Rattle.std.specs.Prelude.{◌≡◌, ◌^◌, ◌<◌, ◌≤◌, ◌∷◌, [], length, take, drop, get_or, true, false, pos, string_bytes, IfOk, MatchOption};
 ghost use Rattle.std.specs.List.{AllByRecursion, prefix_len};
@@ -18,7 +18,7 @@ use std::alloc::{AllocError, Global};
 use std::simd::prelude::*;
 use tera_base::lanes::first_set;
 
-/// What was found: a token that is no string, or the inside of a string without or with escapes, with how many bytes
+/// What was found: a token that is not a string, or the inside of a string without or with escapes, with how many bytes
 /// it takes; or a fault.
 #[derive(Drop)]
 pub enum Found<'a> {
@@ -28,7 +28,7 @@ pub enum Found<'a> {
     Fault(Fault),
 }
 
-/// A lexical fault: its text, and how many bytes it tells.
+/// A lexical fault: its text, and how many bytes it covers.
 #[derive(Clone, Copy)]
 pub struct Fault {
     pub message: &'static str,
@@ -43,7 +43,7 @@ pub enum Class {
     Digit,
 }
 
-// Each byte of a name stands at its own place, and a comma at every other place.
+// Each byte of a name is at its own place, and a comma at every other place.
 static NAMES: [u8; 256] = *b"\
     ,,,,,,,,,,,,,,,,,,,,,,,,,,,,,,,,\
     ,,,,,,,,,,,,,,,,0123456789,,,,,,\
@@ -72,7 +72,7 @@ pub(crate) fn run_len(bytes: &[u8], class: Class) -> usize
     bytes.iter().take_while(|b| is_in(class, **b)).count()
 }
 
-// How many bytes at the front go on a name. So many are told at a time.
+// How many bytes at the front go on a name. So many are found at a time.
 fn name_len(bytes: &[u8]) -> usize
     ensures { result ≡ prefix_len goes_on_name bytes.now }
 {
@@ -102,7 +102,7 @@ fn name_lanes(bytes: &[u8]) -> usize
     first_set(stops.to_bitmask(), LANES)
 }
 
-/// Whether so many bytes at the front are printable, where one look at the lanes tells it.
+/// Whether so many bytes at the front are printable, where one look at the lanes decides it.
 #[inline(always)]
 pub(crate) fn begins_printable(bytes: &[u8], len: usize) -> bool
     ensures { OnTrue result (ArePrintable (take len bytes.now)) }
@@ -128,7 +128,7 @@ fn is_quote(b: u8) -> bool
     b == b'"' || b == b'\'' || b == b'`'
 }
 
-/// What stands at the front of the text, in a tag.
+/// What is at the front of the text, in a tag.
 pub(crate) fn lexeme_at(rest: &str) -> Found<'_>
     requires { 0 < length rest.now }
     ensures { IsFound result (front_of rest.now) }
@@ -158,10 +158,10 @@ fn number_at(rest: &str) -> Found<'_>
     ensures { IsFound result (front_of rest.now) }
 {
     let len = run_len(rest.as_bytes(), Class::Digit);
-    let (digits, behind) = rest.split_at(len);
-    let behind = behind.as_bytes();
-    if behind.starts_with(b".") {
-        let more = run_len(&behind[1..], Class::Digit);
+    let (digits, following) = rest.split_at(len);
+    let following = following.as_bytes();
+    if following.starts_with(b".") {
+        let more = run_len(&following[1..], Class::Digit);
         return Found::Fault(Fault {
             message: "Float literals are not supported",
             len: len + 1 + more,
@@ -211,14 +211,14 @@ fn string_at(rest: &str) -> Found<'_>
     ensures { IsFound result (front_of rest.now) }
 {
     let quote = rest.as_bytes()[0];
-    let (_, behind) = rest.split_at(1);
-    let Some((len, escapes)) = string_end(behind.as_bytes(), quote) else {
+    let (_, following) = rest.split_at(1);
+    let Some((len, escapes)) = string_end(following.as_bytes(), quote) else {
         return Found::Fault(Fault {
             message: unclosed(quote),
             len: 0,
         });
     };
-    let (inside, _) = behind.split_at(len);
+    let (inside, _) = following.split_at(len);
     if !escapes {
         return Found::Text(inside, len + 2);
     }
@@ -231,7 +231,7 @@ fn string_at(rest: &str) -> Found<'_>
     Found::Escaped(inside, len + 2)
 }
 
-// Where the quote comes that closes a string, and whether a backslash stands before it.
+// Where the quote comes that closes a string, and whether a backslash is before it.
 #[tactic(auto, using(crate::proofs::Closings::hidden_by_escape))]
 fn string_end(bytes: &[u8], quote: u8) -> Option<(usize, bool)>
     requires { is_quote quote ≡ true }
@@ -272,7 +272,7 @@ fn string_lanes(bytes: &[u8], quote: u8) -> usize
     first_set(stops.to_bitmask(), LANES)
 }
 
-// Whether a backslash stands before a byte that makes no escape with it.
+// Whether a backslash is before a byte that makes no escape with it.
 fn has_unknown_escape(bytes: &[u8]) -> bool
     ensures { result ≡ unknown_in false bytes.now }
 {
@@ -310,13 +310,13 @@ pub(crate) fn unescape(alloc: Global, inside: &str) -> Result<String, AllocError
             text.push_str(escape)?;
             return Ok(text);
         }
-        let (escape, behind) = escape.split_at(2);
+        let (escape, following) = escape.split_at(2);
         text.push_str(escaped(escape))?;
-        rest = behind;
+        rest = following;
     }
 }
 
-// How many bytes stand before the first backslash.
+// How many bytes are before the first backslash.
 fn plain_len(bytes: &[u8]) -> usize
     ensures run { result ≡ prefix_len is_plain bytes.now }
     ensures within { result ≤ length bytes.now }

@@ -1,4 +1,4 @@
-//! Where markers stand.
+//! Where markers are.
 
 ghost use Rattle.std.specs.Prelude.{◌≡◌, ◌≤◌, ◌∷◌, ◌+◌, ◌||◌, true, false, List, ℕ, Some, IfSome, MatchOption, length, drop};
 ghost use Rattle.std.specs.Bool.{OnTrue};
@@ -22,7 +22,7 @@ pub(crate) fn dash_len(dash: bool) -> usize
     usize::from(dash)
 }
 
-/// What begins a text: a start marker, with a dash behind it or none, or no marker.
+/// What begins a text: a start marker, with a dash after it or none, or no marker.
 #[derive(Clone, Copy)]
 pub(crate) enum Start {
     Variable(bool),
@@ -89,8 +89,8 @@ impl Pairs {
         if bytes.len() < 2 {
             return Start::Text;
         }
-        let (_, behind) = bytes.split_at(2);
-        let dash = behind.starts_with(b"-");
+        let (_, following) = bytes.split_at(2);
+        let dash = following.starts_with(b"-");
         if self.variable.begins(bytes) {
             return Start::Variable(dash);
         }
@@ -111,15 +111,15 @@ impl Pairs {
     }
 }
 
-/// What is known of the piece that comes next, where its end was sought to see whether it is one.
+/// What is known of the piece that comes next, where its end was looked for to see whether it is one.
 #[derive(Clone, Copy)]
 pub(crate) enum Ahead {
     /// Nothing.
     Nothing,
-    /// It is a comment with a dash, whose end marker stands so many bytes behind that.
+    /// It is a comment with a dash, whose end marker is so many bytes after that.
     Comment(usize),
-    /// It is a raw piece with a dash: the tag that opens it, and where the block start stands that closes it, with
-    /// the tag behind that.
+    /// It is a raw piece with a dash: the tag that opens it, and where the block start is that closes it, with the tag
+    /// after that.
     Raw(WordTag, (usize, WordTag)),
 }
 
@@ -133,7 +133,7 @@ fn begins(bytes: &[u8], marker: &[u8]) -> bool
     bytes.starts_with(marker)
 }
 
-/// Whether the marker begins the text, which may then be cut behind it.
+/// Whether the marker begins the text, which may then be cut after it.
 pub(crate) fn at_marker(rest: &str, marker: &str) -> bool
     ensures test { result ≡ begins marker.now rest.now }
     ensures cut { OnTrue result (IsCharBoundary rest.now (length marker.now)) }
@@ -141,7 +141,7 @@ pub(crate) fn at_marker(rest: &str, marker: &str) -> bool
     begins(rest.as_bytes(), marker.as_bytes())
 }
 
-// Whether a dash and then the marker begin the text, which may then be cut behind them.
+// Whether a dash and then the marker begin the text, which may then be cut after them.
 fn at_dashed(rest: &str, marker: &str) -> bool
     ensures test { result ≡ begins (45 ∷ marker.now) rest.now }
     ensures cut { OnTrue result (IsCharBoundary rest.now (length marker.now + 1)) }
@@ -150,7 +150,7 @@ fn at_dashed(rest: &str, marker: &str) -> bool
     bytes.starts_with(b"-") && begins(&bytes[1..], marker.as_bytes())
 }
 
-/// Whether a dash stands before the end marker that begins the text, if it does.
+/// Whether a dash is before the end marker that begins the text, if it does.
 #[tactic(auto, using(crate::proofs::Dashes::end_found_dashed, crate::proofs::Dashes::end_found_plain))]
 pub(crate) fn end_at(rest: &str, marker: &str) -> Option<bool>
     ensures { IsEndOf marker.now rest.now result }
@@ -164,7 +164,7 @@ pub(crate) fn end_at(rest: &str, marker: &str) -> Option<bool>
     }
 }
 
-/// How many bytes stand before the first start marker.
+/// How many bytes are before the first start marker.
 pub(crate) fn text_len(rest: &str, pairs: &Pairs) -> usize
     ensures { (m : Marks) → ArePairs m pairs.now → IsTextLen m rest.now result }
 {
@@ -181,7 +181,7 @@ pub(crate) fn text_len(rest: &str, pairs: &Pairs) -> usize
     bytes.len()
 }
 
-// Where the first of three bytes stands. It is looked for nearby first, where a search would cost more.
+// Where the first of three bytes is. It is looked for nearby first, where a search would cost more.
 fn next_of(a: u8, b: u8, c: u8, bytes: &[u8]) -> Option<usize>
     ensures { IsFirstByte (is_byte3 a b c) bytes.now result }
 {
@@ -194,7 +194,7 @@ fn next_of(a: u8, b: u8, c: u8, bytes: &[u8]) -> Option<usize>
     further_of(a, b, c, bytes, near)
 }
 
-// The same, where none stands before this place. A hit costs the least in a window of fewer than 64 bytes.
+// The same, where none is before this place. A hit costs the least in a window of fewer than 64 bytes.
 fn further_of(a: u8, b: u8, c: u8, bytes: &[u8], first: usize) -> Option<usize>
     requires within { first ≤ length bytes.now }
     requires passed { Nowhere (Passes (is_byte3 a b c) bytes.now) 0 first }
@@ -212,7 +212,7 @@ fn further_of(a: u8, b: u8, c: u8, bytes: &[u8], first: usize) -> Option<usize>
     None
 }
 
-/// How many bytes stand before the first such marker.
+/// How many bytes are before the first such marker.
 pub(crate) fn find_marker(bytes: &[u8], marker: &[u8]) -> Option<usize>
     requires { length marker.now ≡ 2 }
     ensures { result ≡ find_marker marker.now bytes.now }
@@ -220,7 +220,7 @@ pub(crate) fn find_marker(bytes: &[u8], marker: &[u8]) -> Option<usize>
     first_marker(bytes, marker)
 }
 
-// The same, where the marker stands. It is looked for nearby first, where the search would cost more.
+// The same, where the marker is. It is looked for nearby first, where the search would cost more.
 fn first_marker(bytes: &[u8], marker: &[u8]) -> Option<usize>
     requires { length marker.now ≡ 2 }
     ensures { FindsNeedle bytes.now marker.now 0 result }
@@ -236,7 +236,7 @@ fn first_marker(bytes: &[u8], marker: &[u8]) -> Option<usize>
     }
 }
 
-// Where the marker stands among the first places.
+// Where the marker is among the first places.
 fn near_marker(bytes: &[u8], near: usize, marker: &[u8]) -> Option<usize>
     requires two { length marker.now ≡ 2 }
     requires near { near ≤ length bytes.now }
@@ -253,7 +253,7 @@ fn near_marker(bytes: &[u8], near: usize, marker: &[u8]) -> Option<usize>
 
 /// Whether the text before this one loses the white space at its end, by its own end or by the dash with which the
 /// piece begins that begins this text; and what was found of that piece. A tag is one even where it never ends or a
-/// fault stands in it; a comment or a raw piece that never closes is none.
+/// fault is in it; a comment or a raw piece that never closes is none.
 #[inline(always)]
 pub(crate) fn look_ahead(
     trim: bool,
@@ -283,12 +283,12 @@ fn block_ahead(rest: &str, delimiters: &Delimiters) -> (bool, Ahead)
     ensures trims { result.0 ≡ starts_dashed (marks_of delimiters.now) rest.now }
     ensures ahead { IsAhead (marks_of delimiters.now) rest.now result.1 }
 {
-    let (_, behind) = rest.split_at(delimiters.block_start.len() + 1);
+    let (_, following) = rest.split_at(delimiters.block_start.len() + 1);
     let end = delimiters.block_end.as_str().as_bytes();
-    let Some(opening) = raw_tag_at(behind.as_bytes(), end) else {
+    let Some(opening) = raw_tag_at(following.as_bytes(), end) else {
         return (true, Ahead::Nothing);
     };
-    let (_, body) = behind.split_at(opening.len);
+    let (_, body) = following.split_at(opening.len);
     match raw_end(body, delimiters) {
         Some(closing) => (true, Ahead::Raw(opening, closing)),
         None => (false, Ahead::Nothing),
@@ -302,15 +302,15 @@ fn comment_ahead(rest: &str, delimiters: &Delimiters) -> (bool, Ahead)
     ensures trims { result.0 ≡ starts_dashed (marks_of delimiters.now) rest.now }
     ensures ahead { IsAhead (marks_of delimiters.now) rest.now result.1 }
 {
-    let (_, behind) = rest.as_bytes().split_at(delimiters.comment_start.len() + 1);
-    match find_marker(behind, delimiters.comment_end.as_str().as_bytes()) {
+    let (_, following) = rest.as_bytes().split_at(delimiters.comment_start.len() + 1);
+    match find_marker(following, delimiters.comment_end.as_str().as_bytes()) {
         Some(len) => (true, Ahead::Comment(len)),
         None => (false, Ahead::Nothing),
     }
 }
 
-/// A tag that opens or closes a raw piece, behind its block start and the dash of that: whether it begins and
-/// ends with a dash, and how many bytes it takes.
+/// A tag that opens or closes a raw piece, after its block start and the dash of that: whether it begins and ends with
+/// a dash, and how many bytes it takes.
 #[derive(Clone, Copy)]
 pub struct WordTag {
     pub dash_in: bool,
@@ -352,7 +352,7 @@ fn word_tag_at(bytes: &[u8], word: &[u8], end: &[u8]) -> Option<WordTag>
     })
 }
 
-/// Where the block start stands that closes a raw piece, and the tag behind it.
+/// Where the block start is that closes a raw piece, and the tag after it.
 pub(crate) fn raw_end(text: &str, delimiters: &Delimiters) -> Option<(usize, WordTag)>
     requires { IsValid (marks_of delimiters.now) }
     ensures end { IsRawEndOf (marks_of delimiters.now).block_end result
@@ -373,18 +373,18 @@ fn end_between(bytes: &[u8], start: &[u8], end: &[u8]) -> Option<(usize, WordTag
     let Some(at) = first_marker(bytes, start) else {
         return None;
     };
-    let (_, behind) = bytes.split_at(at + 2);
-    match word_tag_at(behind, b"endraw", end) {
+    let (_, following) = bytes.split_at(at + 2);
+    match word_tag_at(following, b"endraw", end) {
         Some(tag) => Some((at, tag)),
-        None => end_behind(bytes, at + 2, start, end),
+        None => end_after(bytes, at + 2, start, end),
     }
 }
 
-// The same, where it does not stand before this place.
+// The same, where it is not before this place.
 //
-// Block starts may themselves be white space. Where a tag is missed behind a run of it, none stands at any place of
-// the run: so no run is read again at each block start in it.
-fn end_behind(bytes: &[u8], first: usize, start: &[u8], end: &[u8]) -> Option<(usize, WordTag)>
+// Block starts may themselves be white space. Where a tag is missed after a run of it, none is at any place of the run:
+// so no run is read again at each block start in it.
+fn end_after(bytes: &[u8], first: usize, start: &[u8], end: &[u8]) -> Option<(usize, WordTag)>
     requires start { length start.now ≡ 2 }
     requires within { first ≤ length bytes.now }
     requires left { raw_end start.now end.now false bytes.now
@@ -396,19 +396,19 @@ fn end_behind(bytes: &[u8], first: usize, start: &[u8], end: &[u8]) -> Option<(u
     let mut missed = 0;
     while let Some(len) = next_start(&starts, &bytes[from..]) {
         let at = from + len;
-        let (_, behind) = bytes.split_at(at + 2);
-        if missed < at + 2 || behind.starts_with(b"-") {
-            if let Some(tag) = word_tag_at(behind, b"endraw", end) {
+        let (_, following) = bytes.split_at(at + 2);
+        if missed < at + 2 || following.starts_with(b"-") {
+            if let Some(tag) = word_tag_at(following, b"endraw", end) {
                 return Some((at, tag));
             }
-            missed = at + 2 + start_gap_len(behind, start);
+            missed = at + 2 + start_gap_len(following, start);
         }
         from = at + 2;
     }
     None
 }
 
-// Where the next block start stands. It is looked for nearby first, where the search would cost more.
+// Where the next block start is. It is looked for nearby first, where the search would cost more.
 fn next_start(starts: &memmem::Finder<'_>, bytes: &[u8]) -> Option<usize>
     requires { length starts.now ≡ 2 }
     ensures { FindsNeedle bytes.now starts.now 0 result }

@@ -23,7 +23,7 @@ impl Place {
     ghost use Rattle.tera_lexer.specs.grammar.Place.{joined};
     ghost use Rattle.tera_lexer.specs.code.Counting.{moved};
 
-    /// The place behind this text, which stands at this place.
+    /// The place after this text, which is at this place.
     #[inline(always)]
     pub(crate) fn after(self, text: &str) -> Place
         requires line { self.line + length text.now < 2 ^ 64 }
@@ -69,10 +69,10 @@ impl Place {
                 byte,
             };
         };
-        let (_, behind) = bytes.split_at(last + 1);
+        let (_, following) = bytes.split_at(last + 1);
         Place {
             line: self.line + line_feeds(bytes),
-            column: characters(behind),
+            column: characters(following),
             byte,
         }
     }
@@ -112,9 +112,9 @@ fn line_feeds(bytes: &[u8]) -> usize
     let mut count = 0;
     let mut rest = bytes;
     while !rest.is_empty() {
-        let (chunk, behind) = rest.split_at(rest.len().min(128));
+        let (chunk, following) = rest.split_at(rest.len().min(128));
         count += usize::from(few_line_feeds(chunk));
-        rest = behind;
+        rest = following;
     }
     count
 }
@@ -139,9 +139,9 @@ fn characters(bytes: &[u8]) -> usize
     let mut count = 0;
     let mut rest = bytes;
     while !rest.is_empty() {
-        let (chunk, behind) = rest.split_at(rest.len().min(128));
+        let (chunk, following) = rest.split_at(rest.len().min(128));
         count += usize::from(few_characters(chunk));
-        rest = behind;
+        rest = following;
     }
     count
 }

@@ -17,7 +17,7 @@ ghost use Rattle.tera_lexer.specs.code.Found.{IsEscapedAt};
 ghost use Rattle.tera_lexer.specs.grammar.Division.{is_at_start};
 ghost use Rattle.tera_lexer.specs.reading.Front.{find_marker};
 ghost use Rattle.tera_lexer.specs.code.Markers.{marker_len, IsStartOf, IsEndOf, OpensBy, ClosesBy, IsAhead};
-ghost use Rattle.tera_base.specs.Errors.{Tells};
+ghost use Rattle.tera_base.specs.Errors.{Reports};
 ghost use Rattle.tera_lexer.specs.code.Steps.{Steps, IsPart};
 
 use crate::lexer::delimiters::{Delimiters, Kind};
@@ -32,7 +32,7 @@ use std::alloc::{AllocError, Global};
 use std::marker::Model;
 use tera_base::{Error, Span};
 
-/// Where the reading of a source stands.
+/// Where the reading of a source is.
 #[derive(Drop)]
 pub(crate) struct Scanner<'a> {
     source: &'a str,
@@ -119,7 +119,7 @@ impl<'a> Scanner<'a> {
         self.rest
     }
 
-    // The next bytes, and the place behind them.
+    // The next bytes, and the place after them.
     #[inline(always)]
     fn peek(&self, n: usize) -> (&'a str, Place)
         requires { IsCharBoundary self.now.rest n }
@@ -132,7 +132,7 @@ impl<'a> Scanner<'a> {
         (text, self.place.after(text))
     }
 
-    // Takes the next bytes, and says which they are and where they stand.
+    // Takes the next bytes, and says which they are and where they are.
     #[inline(always)]
     fn advance(&mut self, n: usize) -> (&'a str, Span)
         requires { IsCharBoundary self.old.rest n }
@@ -152,14 +152,14 @@ impl<'a> Scanner<'a> {
         (text, span)
     }
 
-    // Tells a fault in the next bytes, after which nothing comes.
+    // Reports a fault in the next bytes, after which nothing comes.
     fn fail(&mut self, message: Result<String, AllocError>, len: usize) -> Error
         requires { IsCharBoundary self.old.rest len }
         ensures state { self.new ≡ record self.old { failed = true } }
         ensures within { IsWithin (whole_of self.old)
             (span_of self.old.front (take len self.old.rest)) }
         ensures error { (text : List ℕ) → IfOk message (λ t. string_bytes t ≡ text) →
-            Tells text (span_of self.old.front (take len self.old.rest)) result }
+            Reports text (span_of self.old.front (take len self.old.rest)) result }
     {
         let (_, end) = self.peek(len);
         let span = self.place.to(end);
@@ -209,8 +209,8 @@ impl<'a> Scanner<'a> {
     {
         let rest = self.rest();
         let len = text_len(rest, &self.pairs);
-        let (text, behind) = rest.split_at(len);
-        let (trim_end, ahead) = look_ahead(false, behind, &self.pairs, &self.delimiters);
+        let (text, following) = rest.split_at(len);
+        let (trim_end, ahead) = look_ahead(false, following, &self.pairs, &self.delimiters);
         let text = trimmed(text, self.trim, trim_end);
         let (_, span) = self.advance(len);
         self.trim = false;
@@ -252,9 +252,9 @@ impl<'a> Scanner<'a> {
         ensures { Steps (stream_of self.old) (Some result) (stream_of self.new) }
     {
         let len = self.delimiters.block_start.len() + dash_len(dash);
-        let (_, behind) = self.rest().split_at(len);
+        let (_, following) = self.rest().split_at(len);
         let end = self.delimiters.block_end.as_str().as_bytes();
-        if let Some(opening) = raw_tag_at(behind.as_bytes(), end) {
+        if let Some(opening) = raw_tag_at(following.as_bytes(), end) {
             return self.raw(dash, opening);
         }
         let (_, span) = self.advance(len);
@@ -300,10 +300,10 @@ impl<'a> Scanner<'a> {
         let whole = begin + (len + (self.delimiters.block_start.len() + closing.len));
         let (_, body) = self.rest().split_at(begin);
         let (text, _) = body.split_at(len);
-        let (_, behind) = self.rest().split_at(whole);
+        let (_, following) = self.rest().split_at(whole);
         let trim_start = opening.dash_out || self.trim;
         let (pairs, delimiters) = (&self.pairs, &self.delimiters);
-        let (trim_end, ahead) = look_ahead(closing.dash_in, behind, pairs, delimiters);
+        let (trim_end, ahead) = look_ahead(closing.dash_in, following, pairs, delimiters);
         let text = trimmed(text, trim_start, trim_end);
         let (_, span) = self.advance(whole);
         self.trim = closing.dash_out;
@@ -319,16 +319,16 @@ impl<'a> Scanner<'a> {
         ensures { Steps (stream_of self.old) (Some result) (stream_of self.new) }
     {
         let start = self.delimiters.comment_start.len() + dash_len(dash);
-        let (_, behind) = self.rest().split_at(start);
+        let (_, following) = self.rest().split_at(start);
         let end = self.delimiters.comment_end.as_str();
-        let Some(len) = find_marker(behind.as_bytes(), end.as_bytes()) else {
+        let Some(len) = find_marker(following.as_bytes(), end.as_bytes()) else {
             let message = format!(in self.alloc; "Closing comment tag `{end}` not found");
             return Err(self.fail(message, start));
         };
         Ok(self.closed_comment(dash, len))
     }
 
-    // The same, of which so many bytes stand before the end marker.
+    // The same, of which so many bytes are before the end marker.
     fn closed_comment(&mut self, dash: bool, len: usize) -> (Token<'a>, Span)
         requires going { self.old.failed ≡ false }
         requires outside { self.old.tag ≡ None }
@@ -338,8 +338,8 @@ impl<'a> Scanner<'a> {
         ensures { Steps (stream_of self.old) (Some (Ok result)) (stream_of self.new) }
     {
         let start = self.delimiters.comment_start.len() + dash_len(dash);
-        let (_, behind) = self.rest().as_bytes().split_at(start);
-        let (inside, _) = behind.split_at(len);
+        let (_, following) = self.rest().as_bytes().split_at(start);
+        let (inside, _) = following.split_at(len);
         let dash_end = inside.ends_with(b"-");
         let end = self.delimiters.comment_end.as_str();
         let whole = start + (len + end.len());
@@ -348,7 +348,7 @@ impl<'a> Scanner<'a> {
         (Token::Content(""), span)
     }
 
-    // Takes the next bytes, which are printable, so that there is no need to look at them, and says where they stand.
+    // Takes the next bytes, which are printable, so that there is no need to look at them, and says where they are.
     #[inline(always)]
     fn advance_plain(&mut self, n: usize) -> Span
         requires cut { IsCharBoundary self.old.rest n }
@@ -368,7 +368,7 @@ impl<'a> Scanner<'a> {
         span
     }
 
-    // Takes the next bytes, of which most are short and printable, and says where they stand.
+    // Takes the next bytes, of which most are short and printable, and says where they are.
     #[inline(always)]
     fn advance_string(&mut self, n: usize) -> Span
         requires { IsCharBoundary self.old.rest n }
@@ -418,11 +418,11 @@ impl<'a> Scanner<'a> {
             return None;
         }
         self.pass(gap);
-        Some(self.behind_gap(kind))
+        Some(self.after_gap(kind))
     }
 
     // The next token inside a tag, where no white space comes first.
-    fn behind_gap(&mut self, kind: Kind) -> Result<(Token<'a>, Span), Error>
+    fn after_gap(&mut self, kind: Kind) -> Result<(Token<'a>, Span), Error>
         requires going { self.old.failed ≡ false }
         requires inside { self.old.tag ≡ Some kind }
         requires some { 0 < length self.old.rest }

@@ -16,8 +16,8 @@ use tera_base::{Error, Span};
 
 /// The tokens of a source, each with its span, to its end or to its fault.
 ///
-/// An item is an error at a lexical fault, which is a syntax error with its place, and at a string with escapes
-/// for which no memory is found. After an error none comes. The other tokens take no memory.
+/// An item is an error at a lexical fault, which is a syntax error with its place, and at a string with escapes for
+/// which an allocation fails. After an error none comes. The other tokens take no memory.
 ///
 /// A text loses the white space at its start or at its end where a dash of its neighbours says so. The body of a
 /// raw piece is a text too, and a comment an empty one. The span of each is that of the whole piece.

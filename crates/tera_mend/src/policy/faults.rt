@@ -3,7 +3,7 @@
 use crate::edits::Edit;
 use crate::lone::LoneTag;
 use crate::policy::pairs::{Pairs, paired_tags, pairs_of};
-use crate::policy::stand_ins::{comment, other_name, squeezed, stand_in, with_word};
+use crate::policy::placeholders::{comment, other_name, placeholder, squeezed, with_word};
 use crate::policy::tags::{Tag, Tags, tags_of};
 use crate::policy::words::{Body, Role, end_tag, near_words, role_of};
 use std::alloc::{AllocError, Global};
@@ -103,7 +103,7 @@ impl<'t> Scene<'t> {
         {
             return self.alone(number);
         }
-        match stand_in(self.alloc, tag, tag.role)? {
+        match placeholder(self.alloc, tag, tag.role)? {
             Some(edit) => Ok(vec![in self.alloc; edit]?),
             None => self.kept_pair(self.pairs.head_of(number), &self.pairs),
         }
@@ -128,7 +128,7 @@ impl<'t> Scene<'t> {
         if let Some(edit) = with_word(self.alloc, tag, word)? {
             return Ok(vec![in self.alloc; edit]?);
         }
-        match stand_in(self.alloc, tag, role)? {
+        match placeholder(self.alloc, tag, role)? {
             Some(edit) => Ok(vec![in self.alloc; edit]?),
             None => self.kept_pair(pairs.head_of(tag.number), &pairs),
         }
@@ -205,7 +205,7 @@ impl<'t> Scene<'t> {
             && let Some(last) = self.tag(end)
             && !last.name().is_empty()
         {
-            match stand_in(self.alloc, last, last.role)? {
+            match placeholder(self.alloc, last, last.role)? {
                 Some(edit) => edits.push(edit)?,
                 None => return self.pair(number, &self.pairs),
             }
@@ -326,7 +326,7 @@ impl<'t> Scene<'t> {
         self.tag(self.tags.opened?)
     }
 
-    // The last tag, but for comments and raw pieces, that begins there or before.
+    // The last tag, except comments and raw pieces, that begins there or before.
     fn last_before(&self, byte: usize) -> Option<&Tag<'t>> {
         let mut tags = self.tags.all.iter().rev();
         tags.find(|tag| tag.start <= byte && !matches!(tag.role, Role::Comment | Role::Raw))

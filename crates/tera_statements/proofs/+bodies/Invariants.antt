@@ -5,7 +5,7 @@ use Rattle.tera_grammar.specs.statements.Grammar.{Path, in_loop, InIf}
 use Rattle.tera_grammar.specs.statements.Reading.{body, branches}
 use Rattle.tera_grammar.specs.statements.Reading.Loops.{Going, Branching}
 use Rattle.tera_statements.specs.Adding.{here}
-use Rattle.tera_statements.specs.Around.{Stands, context_of}
+use Rattle.tera_statements.specs.Around.{Represents, context_of}
 use Rattle.tera_expr_parts.specs.Rooms.{limits_of}
 use Rattle.tera_expect.specs.Taking.{GoesOn}
 use Rattle.tera_statements.specs.Conditions.{branch_view}
@@ -13,7 +13,7 @@ use Rattle.tera_statements.proofs.+bodies.Given as goal
 
 abbrev pub invariant-bodies::body-items : goal.invariant-bodies::body-items
 invariant-bodies::body-items l = record {
-  going : (path : Path) → Stands path l.around
+  going : (path : Path) → Represents path l.around
       → Going (body (suc (l.depth - 1)) (limits_of l.setting.limits) (context_of l.opening.context ∷ path)) (in_loop (context_of l.opening.context ∷ path))
       (here l.fn.names l.fn.cursor) (here l.names l.cursor) (map node_view l.nodes.items);
   later : GoesOn l.fn.cursor l.cursor;
@@ -24,7 +24,7 @@ decreases-bodies::body-items l = size l.cursor.left
 
 abbrev pub invariant-conditions::other_branches-branches : goal.invariant-conditions::other_branches-branches
 invariant-conditions::other_branches-branches l = record {
-  branching : (path : Path) → Stands path l.around
+  branching : (path : Path) → Represents path l.around
       → Branching (λ p. branches (limits_of l.setting.limits) (body l.depth (limits_of l.setting.limits)) (InIf ∷ path) p) (in_loop path)
       (here l.fn.names l.fn.cursor) (here l.names l.cursor) (map branch_view l.branches.items);
   later : GoesOn l.fn.cursor l.cursor;

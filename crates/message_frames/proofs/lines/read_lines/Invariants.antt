@@ -5,7 +5,7 @@ use Rattle.message_frames.proofs.lines.read_lines.Given as goal
 
 abbrev pub invariant-lines : goal.invariant-lines
 invariant-lines l = record {
-  read : LinesBefore l.bytes l.fn.told l.rest l.told;
+  read : LinesBefore l.bytes l.fn.stated l.rest l.stated;
   within : l.searched ≤ length l.rest;
   none : NoneEndsBefore l.rest l.searched;
 }

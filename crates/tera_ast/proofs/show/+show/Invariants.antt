@@ -22,8 +22,8 @@ invariant-show_entries-loop-entry g l =
 abbrev pub decreases-show : goal.decreases-show
 decreases-show g l = 10 * goal.size-show g l + 0
 
-abbrev pub decreases-show_behind : goal.decreases-show_behind
-decreases-show_behind g l = 10 * goal.size-show_behind g l + 1
+abbrev pub decreases-show_after : goal.decreases-show_after
+decreases-show_after g l = 10 * goal.size-show_after g l + 1
 
 abbrev pub decreases-show_pair : goal.decreases-show_pair
 decreases-show_pair g l = 10 * goal.size-show_pair g l + 1

@@ -8,7 +8,7 @@ use Rattle.tera_expr_parts.specs.Rooms.{limits_of}
 use Rattle.tera_parser.specs.Job.{Job}
 use Rattle.tera_parser.specs.Refusal.{Refuses}
 use Rattle.tera_tree.specs.Tree.{Output}
-use Rattle.tera_c.specs.Told.{Reports}
+use Rattle.tera_c.specs.Results.{Reports}
 use Rattle.tera_c.proofs.parsed.parsed_text.Goals as goal
 
 -- what a parser with these limits, these marks and this source is given
@@ -28,8 +28,8 @@ returns-in-SyntaxError-clause-err c =
     let same = job l _ m s c.with_limits-parser.result c.with_limits-parser.ensures in
     let none : (output : Output) → Derives l m s output → IsMemoryKind c.in-Err.error.kind
     = λ output d. c.in-Err.ensures.complete output ((same (λ l m s. Derives l m s output)).1 d) in
-    let told : Refuses m s c.in-Err.error = (same (λ l m s. Refuses m s c.in-Err.error)).0 c.in-Err.ensures.refusal in
-    let reports : Reports m s (report_view c.in-SyntaxError.report.value) = rw c.in-SyntaxError.is at told in (
+    let returned : Refuses m s c.in-Err.error = (same (λ l m s. Refuses m s c.in-Err.error)).0 c.in-Err.ensures.refusal in
+    let reports : Reports m s (report_view c.in-SyntaxError.report.value) = rw c.in-SyntaxError.is at returned in (
       λ output d. rw c.in-SyntaxError.is at (none output d),
       subst (λ r. Reports m s (report_view r.value)) (sym c.in-SyntaxError.report-is) reports,
     )

@@ -8,7 +8,7 @@ use Rattle.tera_tree.specs.declared.outputs.ParserOutput.{ParserOutput}
 use Rattle.tera_catalogue.specs.Offered.{IsTemplateText}
 use Rattle.tera_catalogue.proofs.offers.is_template.Goals as goal
 
--- a flag that says whether something was accepted tells what holds of all that is accepted
+-- a flag that says whether something was accepted says what holds of all that is accepted
 accepted : {T E F : Type 0} (flag : Result Bool F) (parsed : Result T E) (P : T → Type 0) (Q : Type 0) → ((x : T) → P x → Q)
     → IfOk flag (λ b. b ≡ is_ok parsed) → IfOk parsed P → IfOk flag (λ b. OnTrue b Q)
 accepted (Ok b) (Ok x) P Q so is h = rw is (so x h)

@@ -1,8 +1,8 @@
 use Rattle.std.proofs.Common.{ap, ◌∙◌}
 use Rattle.std.specs.Option.{option_map}
 use Rattle.tera_check.specs.Judged.{known_view}
-use Rattle.tera_check.proofs.JudgedLemmas.{known_behind}
+use Rattle.tera_check.proofs.JudgedLemmas.{known_after}
 use Rattle.tera_check.proofs.checked.known_as.Goals as goal
 
 pub returns : goal.returns
-returns c = known_behind c.get.result ∙ ap (option_map known_view) c.get.ensures.value
+returns c = known_after c.get.result ∙ ap (option_map known_view) c.get.ensures.value

@@ -10,7 +10,7 @@ abbrev pub invariant-attributes : goal.invariant-attributes
 invariant-attributes l =
     (done : List (MapEntryOf Expr)) × (map entry_view l.left ++ done ≡ map entry_view l.attributes.items)
     × (map finding_view l.findings.items ≡ map finding_view l.fn.findings.items ++ repeated_findings l.file (entries_of done))
-    × ((n : List ℕ) → span_under l.behind n ≡ next_in n (entries_of done))
+    × ((n : List ℕ) → span_under l.following n ≡ next_in n (entries_of done))
 
 abbrev pub decreases-attributes : goal.decreases-attributes
 decreases-attributes l = length l.left

@@ -5,7 +5,7 @@ use Rattle.tera_ast.specs.declared.ast.ForLoop.{out-ForLoop}
 use Rattle.tera_tree.specs.Parts.{parts_view}
 use Rattle.tera_check.specs.Parameters.{binds, named_in, named_in_nodes}
 use Rattle.tera_check.specs.Scopes.{is_hidden, is_to_come, named_in_parts}
-use Rattle.tera_check.proofs.ParametersLemmas.{in_nodes, loop_sum, or_false, pushed, put_behind, scope_more}
+use Rattle.tera_check.proofs.ParametersLemmas.{in_nodes, loop_sum, or_false, pushed, put_after, scope_more}
 use Rattle.tera_check.proofs.parameters.take_loop.Goals as goal
 
 pub returns : goal.returns
@@ -20,5 +20,5 @@ returns c = λ takes n.
     scope_more takes n c.args.scopes.now.items c.push-2.new.self.items c.in_ok-scope_of.field-0 body c.in_ok-push-2.ensures.items
     (c.in_ok-scope_of.ensures takes n ∙ ap (λ h. named_in_nodes takes h n (nodes_view t.body.items)) (c.in_ok-inner.ensures n)) in
     let target = pushed takes hidden n c.args.parts.now.items c.push.new.self.items _ _ c.in_ok-push.ensures.items (or_false _) in
-    let parts = put_behind takes hidden n c.push.new.self.items c.push_nodes.new.parts.items _ _ c.in_ok-push_nodes.ensures (in_nodes takes hidden n (nodes_view t.else_body.items)) in
+    let parts = put_after takes hidden n c.push.new.self.items c.push_nodes.new.parts.items _ _ c.in_ok-push_nodes.ensures (in_nodes takes hidden n (nodes_view t.else_body.items)) in
     (λ i. scopes i || (parts ∙ ap (λ b. b || otherwise) target) i) ∙ loop_sum others before (named_in takes hidden n (expression_view t.target)) body otherwise

@@ -18,7 +18,7 @@ use Rattle.tera_expect.specs.Taking.{mark_of}
 use Rattle.tera_expr_parts.specs.declared.limits.Scope.{Scope}
 use Rattle.tera_expr_reader.proofs.ArraysLemmas.{no_room, empty_read, by_spread, by_plain, by_for, by_items, head_by}
 use Rattle.tera_expr_reader.proofs.ComprehensionsLemmas.{same_parts, by_variables, no_in, by_target, by_condition, by_end, no_end, extra_absent, extra_present}
-use Rattle.tera_expect.proofs.TakingLemmas.{goes_took, took_all, took_further, refused_behind}
+use Rattle.tera_expect.proofs.TakingLemmas.{goes_took, took_all, took_further, refused_after}
 use Rattle.tera_expr_reader.proofs.ItemsLemmas.{Listed, all_of, no_items, array_shown, lacks_item, lacks_bracket, one_item, first_item, first_lacks_end, array_read, array_missed, spread_read, plain_read}
 use Rattle.tera_expr_reader.proofs.RowsLemmas.{fails_by}
 use Rattle.tera_expr_reader.proofs.+reader.Goals as goal
@@ -316,7 +316,7 @@ pub arrays::comprehension-returns-in_err-close_comprehension-clause-refusal : go
 arrays::comprehension-returns-in_err-close_comprehension-clause-refusal t c =
     let p = err_from_is_err_and c.from_residual-in_err-close_comprehension.result c.from_residual-in_err-close_comprehension.ensures.1 in
     let before = took_all _ _ _ c.in_ok-named.ensures.later (took_all _ _ _ c.in_ok-expect.ensures.later c.in_ok-target.ensures.later) in
-    rw (p.1, p.2) (refused_behind _ _ _ (took_further _ _ _ before c.in_ok-condition.ensures.later) c.in_err-close_comprehension.ensures.refusal)
+    rw (p.1, p.2) (refused_after _ _ _ (took_further _ _ _ before c.in_ok-condition.ensures.later) c.in_err-close_comprehension.ensures.refusal)
 
 pub arrays::comprehension-returns-clause-gives : goal.arrays::comprehension-returns-clause-gives
 arrays::comprehension-returns-clause-gives t c = λ t is.

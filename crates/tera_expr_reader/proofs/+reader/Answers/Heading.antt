@@ -11,7 +11,7 @@ use Rattle.tera_grammar.specs.expressions.Reading.Front.{at}
 use Rattle.tera_grammar.specs.expressions.Stack.{unwind}
 use Rattle.tera_expr_reader.specs.Frames.{frame_view, state_view, level_view}
 use Rattle.tera_expr_parts.specs.Rooms.{room_of}
-use Rattle.tera_expect.proofs.TakingLemmas.{refused_behind}
+use Rattle.tera_expect.proofs.TakingLemmas.{refused_after}
 use Rattle.tera_expr_reader.proofs.StackLemmas.{minus_opens, given_as, missed_as, literal_missed, begins_none, word_none, word_negates, word_given, word_missed}
 use Rattle.tera_expr_reader.proofs.+reader.Goals as goal
 
@@ -94,7 +94,7 @@ stack::head-returns-in_err-expr-in_default t c =
           c.in_err-expr-in_default.ensures.gives);
       falls = tt;
       negatable = tt;
-      refusal = refused_behind _ _ _ c.in_ok-token.ensures.later c.in_err-expr-in_default.ensures.refusal;
+      refusal = refused_after _ _ _ c.in_ok-token.ensures.later c.in_err-expr-in_default.ensures.refusal;
       later = tt;
     })
 

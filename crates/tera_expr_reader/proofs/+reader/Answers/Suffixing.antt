@@ -18,8 +18,8 @@ use Rattle.tera_expr_parts.specs.CommaLists.{reader_of, reader_by}
 use Rattle.tera_expect.specs.Taking.{name_at}
 use Rattle.tera_expr_reader.proofs.ArgumentsLemmas.{Arguing, Argued, none_yet, none_at_all}
 use Rattle.tera_expr_reader.proofs.ArgumentRows.{no_new_name, lacks_assign, lacks_value, lacks_end, one_argument, arguments_given}
-use Rattle.tera_expr_reader.proofs.CallsLemmas.{subscript_is, test_is, negated_is, test_fails, test_made, call_given, call_unnamed, call_fails, no_arguments, arguments_behind}
-use Rattle.tera_expect.proofs.TakingLemmas.{took_size, took_all, goes_size, refused_behind, refused_further}
+use Rattle.tera_expr_reader.proofs.CallsLemmas.{subscript_is, test_is, negated_is, test_fails, test_made, call_given, call_unnamed, call_fails, no_arguments, arguments_after}
+use Rattle.tera_expect.proofs.TakingLemmas.{took_size, took_all, goes_size, refused_after, refused_further}
 use Rattle.tera_expr_reader.proofs.RowsLemmas.{begun, gone_begun, gone_on, fresh_given}
 use Rattle.tera_expr_reader.proofs.+reader.Goals as goal
 
@@ -97,7 +97,7 @@ calls::maybe_arguments-returns-then-not-eat-clause-gives t c =
 pub calls::maybe_arguments-returns-clause-gives : goal.calls::maybe_arguments-returns-clause-gives
 calls::maybe_arguments-returns-clause-gives t c =
     let paren = rw c.if-not-eat.false at c.eat.ensures in
-    arguments_behind (reader_of c.args.values) (room_of c.args.values.room) _ _ _ c.arguments.result _ _ c.args.cursor.now.left c.eat.new.cursor.left c.eat.new.cursor.span paren.0 c.arguments.ensures.gives
+    arguments_after (reader_of c.args.values) (room_of c.args.values.room) _ _ _ c.arguments.result _ _ c.args.cursor.now.left c.eat.new.cursor.left c.eat.new.cursor.span paren.0 c.arguments.ensures.gives
 
 pub arguments::arguments-value-requires : goal.arguments::arguments-value-requires
 arguments::arguments-value-requires t c =
@@ -152,7 +152,7 @@ arguments::arguments-returns-in_err-open-clause-refusal t c =
     let before = rw c.elements-test.true at c.elements.invariant.gone in
     let p = err_from_is_err_and c.from_residual-in_err-open.result c.from_residual-in_err-open.ensures.1 in
     rw (p.1, p.2) (refused_further _ c.elements.cursor _ before
-    (refused_behind _ _ _ (took_all _ _ _ c.in_ok-name.ensures.later (took_all _ _ _ c.in_ok-expect.ensures.later c.in_ok-value.ensures.later)) c.in_err-open.ensures.refusal))
+    (refused_after _ _ _ (took_all _ _ _ c.in_ok-name.ensures.later (took_all _ _ _ c.in_ok-expect.ensures.later c.in_ok-value.ensures.later)) c.in_err-open.ensures.refusal))
 
 pub arguments::arguments-elements-preserved : goal.arguments::arguments-elements-preserved
 arguments::arguments-elements-preserved t c =

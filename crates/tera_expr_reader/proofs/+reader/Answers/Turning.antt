@@ -37,22 +37,22 @@ stack::expression-returns-in-Some-clause-gives t c =
     let lone = rw c.in-Some.is at c.in_ok-expr.ensures in
     lone_read c.args.depth (room_of c.args.room) c.args.least c.args.links.now c.args.cursor.now.left c.lone.new.cursor.left (expression_view c.in-Some.expr) lone.0
 
-pub stack::expression-returns-in_err-next-in-Wants-clause-refusal : goal.stack::expression-returns-in_err-next-in-Wants-clause-refusal
-stack::expression-returns-in_err-next-in-Wants-clause-refusal t c =
-    let p = err_from_is_err_and c.from_residual-in_err-next-in-Wants.result c.from_residual-in_err-next-in-Wants.ensures.1 in
-    rw (p.1, p.2) (refused_further _ c.steps.cursor _ (went_goes c.steps.state _ _ c.steps.invariant.went) c.in_err-next-in-Wants.ensures.refusal)
+pub stack::expression-returns-in_err-next-in-Needs-clause-refusal : goal.stack::expression-returns-in_err-next-in-Needs-clause-refusal
+stack::expression-returns-in_err-next-in-Needs-clause-refusal t c =
+    let p = err_from_is_err_and c.from_residual-in_err-next-in-Needs.result c.from_residual-in_err-next-in-Needs.ensures.1 in
+    rw (p.1, p.2) (refused_further _ c.steps.cursor _ (went_goes c.steps.state _ _ c.steps.invariant.went) c.in_err-next-in-Needs.ensures.refusal)
 
 pub stack::expression-returns-in_err-next-in-Holds-clause-refusal : goal.stack::expression-returns-in_err-next-in-Holds-clause-refusal
 stack::expression-returns-in_err-next-in-Holds-clause-refusal t c =
     let p = err_from_is_err_and c.from_residual-in_err-next-in-Holds.result c.from_residual-in_err-next-in-Holds.ensures.1 in
     rw (p.1, p.2) (refused_further _ c.steps.cursor _ (went_goes c.steps.state _ _ c.steps.invariant.went) c.in_err-next-in-Holds.ensures.refusal)
 
-pub stack::expression-steps-preserved-in_ok-next-in-Wants : goal.stack::expression-steps-preserved-in_ok-next-in-Wants
-stack::expression-steps-preserved-in_ok-next-in-Wants t c = record {
-  same = c.in_ok-next-in-Wants.ensures.keeps ∙ subst (λ s. comes_to frame_view (room_of c.args.room) (state_view s) c.steps.frames.items (at c.steps.links c.steps.cursor.left)
-      ≡ coming c.args.depth (room_of c.args.room) c.args.least (at c.args.links.now c.args.cursor.now.left)) c.in-Wants.is c.steps.invariant.same;
-  went = took_went _ _ _ (goes_took _ c.steps.cursor _ (went_goes c.steps.state _ _ c.steps.invariant.went) c.in_ok-next-in-Wants.ensures.later);
-  negatable = c.in_ok-next-in-Wants.ensures.negatable;
+pub stack::expression-steps-preserved-in_ok-next-in-Needs : goal.stack::expression-steps-preserved-in_ok-next-in-Needs
+stack::expression-steps-preserved-in_ok-next-in-Needs t c = record {
+  same = c.in_ok-next-in-Needs.ensures.keeps ∙ subst (λ s. comes_to frame_view (room_of c.args.room) (state_view s) c.steps.frames.items (at c.steps.links c.steps.cursor.left)
+      ≡ coming c.args.depth (room_of c.args.room) c.args.least (at c.args.links.now c.args.cursor.now.left)) c.in-Needs.is c.steps.invariant.same;
+  went = took_went _ _ _ (goes_took _ c.steps.cursor _ (went_goes c.steps.state _ _ c.steps.invariant.went) c.in_ok-next-in-Needs.ensures.later);
+  negatable = c.in_ok-next-in-Needs.ensures.negatable;
 }
 
 pub stack::expression-steps-preserved : goal.stack::expression-steps-preserved

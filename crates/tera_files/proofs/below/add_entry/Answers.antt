@@ -39,17 +39,17 @@ returns-in_ok-push-in-Templates-clause-kept c = λ top itself is are.
       folder = string_bytes c.args.folder.now.path;
       name = name;
       within = within_of top itself (string_bytes c.args.folder.now.path) (string_bytes c.args.folder.now.itself) is;
-      told = c.in_ok-path-in-Templates.ensures;
+      path_of_name = c.in_ok-path-in-Templates.ensures;
       kept = kept;
       ends = ends;
     } in
     let known : IsKnownTemplate top itself template = known_entry top itself (string_bytes c.args.folder.now.path)
     (string_bytes c.args.folder.now.itself) name path c.in_ok-itself-in-Templates.itself is kept c.in_ok-path-in-Templates.ensures c.in_ok-itself-in-Templates.ensures in
-    let behind = c.in_ok-push-in-Templates.ensures.items in
+    let following = c.in_ok-push-in-Templates.ensures.items in
     let all = c.args.below.now.templates.items in
     record {
-      templates = All-same Is c.push-in-Templates.new.self.items (all ++ template ∷ []) behind (All-push Is all template are.templates here);
-      known = All-same (IsKnownTemplate top itself) c.push-in-Templates.new.self.items (all ++ template ∷ []) behind (All-push (IsKnownTemplate top itself) all template are.known known);
+      templates = All-same Is c.push-in-Templates.new.self.items (all ++ template ∷ []) following (All-push Is all template are.templates here);
+      known = All-same (IsKnownTemplate top itself) c.push-in-Templates.new.self.items (all ++ template ∷ []) following (All-push (IsKnownTemplate top itself) all template are.known known);
       folders = are.folders;
       unlisted = are.unlisted;
     }

@@ -2,7 +2,7 @@ use Rattle.std.proofs.Common.{inl, inr, ⊎_elim, arith}
 use Rattle.std.proofs.lemmas.List.Sorted.{All-permutation, length_permutation}
 use Rattle.tera_files.specs.Below.{IsKnownTemplate}
 use Rattle.tera_files.specs.Names.{texts}
-use Rattle.tera_files.proofs.BelowLemmas.{tells_more, templates_in_order}
+use Rattle.tera_files.proofs.BelowLemmas.{reports_more, templates_in_order}
 use Rattle.tera_files.proofs.below.templates_below.Goals as goal
 
 pub returns-clause-templates : goal.returns-clause-templates
@@ -24,8 +24,8 @@ returns-clause-known g c =
           c.in_ok-templates.ensures.same all.known,
     )
 
-pub returns-clause-told : goal.returns-clause-told
-returns-clause-told g c =
+pub returns-clause-path_of_name : goal.returns-clause-path_of_name
+returns-clause-path_of_name g c =
     let many = length_permutation c.add_top_if_empty.new.below.templates.items c.in_ok-templates.templates.items c.in_ok-templates.ensures.same in
     ⊎_elim
     (λ some. inl (omega (arith, some, many, c.in_ok-templates.templates.ok.0, c.add_top_if_empty.new.below.templates.ok.0)))
@@ -37,4 +37,4 @@ returns-clause-unlisted g c =
     let top = c.args.top.now in
     let walked = c.in_ok-below.ensures.below in
     let all = c.in_ok-add_top_if_empty.ensures.kept (texts c.args.extensions.now) walked.0 walked.1 in
-    tells_more top c.args.unlisted.now.items c.add_top_if_empty.new.below.unlisted.items c.append.new.self.items c.in_ok-append.ensures.items all.unlisted
+    reports_more top c.args.unlisted.now.items c.add_top_if_empty.new.below.unlisted.items c.append.new.self.items c.in_ok-append.ensures.items all.unlisted

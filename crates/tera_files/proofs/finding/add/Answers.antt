@@ -3,7 +3,7 @@ use Rattle.std.specs.Prelude.{Contains}
 use Rattle.tera_files.specs.Below.{path_of}
 use Rattle.tera_files.specs.Listing.{files_in}
 use Rattle.tera_files.specs.Names.{texts}
-use Rattle.tera_files.proofs.BelowLemmas.{some_templates, tells_none}
+use Rattle.tera_files.proofs.BelowLemmas.{some_templates, reports_none}
 use Rattle.tera_files.proofs.FindingLemmas.{adds_itself, adds_key, ok_anyway, on_ok}
 use Rattle.tera_files.proofs.ListingLemmas.{insert_key-has}
 use Rattle.tera_files.proofs.finding.add.Goals as goal
@@ -37,12 +37,12 @@ returns-clause-added g c =
     let part = c.in_ok-add_templates.ensures.some all.sorted in
     record {
       more = part.more;
-      behind = part.behind;
+      following = part.following;
       of_path = inr (some_templates extensions c.args.path.now paths (files_in c.args.listing.now) (files_in c.add_templates.new.listing) all part);
     }
 
 pub returns-then-eq-clause-unlisted : goal.returns-then-eq-clause-unlisted
-returns-then-eq-clause-unlisted g c = ok_anyway c.add_path.result (tells_none c.args.path.now c.args.unlisted.now.items)
+returns-then-eq-clause-unlisted g c = ok_anyway c.add_path.result (reports_none c.args.path.now c.args.unlisted.now.items)
 
 pub returns-then-not-is_folder-clause-unlisted : goal.returns-then-not-is_folder-clause-unlisted
-returns-then-not-is_folder-clause-unlisted g c = ok_anyway c.add_file.result (tells_none c.args.path.now c.args.unlisted.now.items)
+returns-then-not-is_folder-clause-unlisted g c = ok_anyway c.add_file.result (reports_none c.args.path.now c.args.unlisted.now.items)

@@ -8,7 +8,7 @@ use Rattle.tera_files.proofs.finding.files_of.Given as goal
 
 abbrev pub invariant-loop-path : goal.invariant-loop-path
 invariant-loop-path g l = record {
-  found : AreOfAll (texts l.sought.extensions.now) (take l.path-index (texts l.paths)) (files_in l.listing);
+  found : AreOfAll (texts l.selection.extensions.now) (take l.path-index (texts l.paths)) (files_in l.listing);
   unlisted : All (λ one. Any (λ path. IsUnlisted path one) (take l.path-index (texts l.paths))) l.unlisted.items;
   input_read : Contains (take l.path-index (texts l.paths)) input → Contains (files_in l.listing) input;
   started : IsStarted l.initial.listing → IsStarted l.listing;

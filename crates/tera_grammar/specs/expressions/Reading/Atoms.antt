@@ -26,7 +26,7 @@ second_at n p (Some x) = name_of x.1 >>= λ m. cond (is_reserved m.0.text) None 
 unfoldable pub variables_of : Place → Reads (Name × Second)
 variables_of p = name_of p >>= λ n. cond (is_reserved n.0.text) None (second_at n.0 n.1 (skip Comma n.1))
 
--- the rest of a comprehension, behind `for`
+-- the rest of a comprehension, after `for`
 unfoldable pub comprehension_of : Reader → Room → Span → Tree → Span → Place → Reads Tree
 comprehension_of self w s e f p =
     variables_of p >>= λ v. skip (Operation In) v.1 >>= λ i. self w 1 i.1 >>= λ t. extra_of self w If 1 t.1 >>= λ g. skip
@@ -37,7 +37,7 @@ comprehension_of self w s e f p =
 unfoldable pub items_from : Reader → Room → Span → Element → Place → Reads Tree
 items_from self v s x p = after_element (row_of self v of_items) of_items x p >>= λ r. Some (Atomic (Array s r.0), r.1)
 
--- a comprehension has a `for` behind its first expression; in its further parts it counts as no array
+-- a comprehension has a `for` after its first expression; in its further parts it counts as no array
 abbrev pub for_at : Reader → Room → Room → Span → Tree → Place → Reads Span → Reads Tree
 for_at self w v s e p (Some x) = comprehension_of self w s e x.0 x.1
 for_at self w v s e p None = items_from self v s (plain e) p

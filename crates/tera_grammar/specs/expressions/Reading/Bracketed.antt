@@ -1,5 +1,4 @@
--- Reading what stands between brackets, as functions on places. Each takes the reading of whole expressions as
--- an argument.
+-- Reading what is between brackets, as functions on places. Each takes the reading of whole expressions as an argument.
 use Rattle.std.specs.Prelude.{ℕ, zero, suc, Bool, cond, List, [], ◌∷◌, ◌++◌, Option, Some, None}
 use Rattle.tera_base.specs.declared.utils.Span.{Span}
 use Rattle.tera_lexer.specs.code.Cursors.{size}
@@ -10,7 +9,7 @@ use Rattle.tera_grammar.specs.expressions.Conditions.{is_field_of}
 use Rattle.tera_grammar.specs.Options.{◌>>=◌}
 use Rattle.tera_grammar.specs.expressions.Reading.Front.{Place, at, Reads, skip, lowered, bump, name_of, literal_at, quote_at, Link, no_link, jointed, bracketed, called, link_of}
 
--- whether the expression stands in a loop, and how many subscripts and arrays may still open
+-- whether the expression is in a loop, and how many subscripts and arrays may still open
 pub record Room : Type 0 where
   pub in_loop : Bool
   pub subscripts : ℕ
@@ -30,7 +29,7 @@ inside_subscript w = lowered w.subscripts >>= λ s. Some (room w.in_loop s w.arr
 unfoldable pub inside_array : Room → Option Room
 inside_array w = lowered w.arrays >>= λ a. Some (room w.in_loop w.subscripts a)
 
--- an expression behind a mark of its own
+-- an expression after a mark of its own
 abbrev pub extra_at : Reader → Room → ℕ → Place → Reads Span → Reads Extra
 extra_at self w m p None = Some (no_extra, p)
 extra_at self w m p (Some x) = self w m x.1 >>= λ e. Some (extra x.0 e.0, e.1)
@@ -75,7 +74,7 @@ entry_at self w p (Some x) = spread_at self w x.0 x.1
 entry_at self w p None = literal_at p >>= λ l. skip Colon l.1 >>= λ s. self w 0 s.1 >>= λ e. Some
     (pair l.0.0 l.0.1 s.0 e.0, e.1)
 
--- an argument, behind its name
+-- an argument, after its name
 abbrev pub argument_at : Reader → Room → Name → Place → Reads Element
 argument_at self w n p = skip Assign p >>= λ s. self w 0 s.1 >>= λ e. Some (argument n s.0 e.0, e.1)
 
@@ -84,7 +83,7 @@ element_of self w of_arguments p = name_of p >>= λ n. argument_at self w n.0 n.
 element_of self w of_items p = item_at self w p (skip Spread p)
 element_of self w of_entries p = entry_at self w p (skip Spread p)
 
--- what stands behind an element: a comma and more, or the end
+-- what comes after an element: a comma and more, or the end
 abbrev pub comma_at : (Place → Reads Row) → Kind → Element → Place → Reads Span → Reads Row
 comma_at more k x p (Some y) = more y.1 >>= λ r. Some (then x y.0 r.0, r.1)
 comma_at more k x p None = skip (closing k) p >>= λ c. Some (only x c.0, c.1)
@@ -104,8 +103,8 @@ row_by (suc n) self w k p = row_at (row_by n self w k) self w k p (skip (closing
 unfoldable pub row_of : Reader → Room → Kind → Place → Reads Row
 row_of self w k p = row_by (suc (size p.tokens)) self w k p
 
--- Arguments, each with a name that none before it has; `names` are those before. A name that comes again is refused where it
--- stands, whatever follows.
+-- Arguments, each with a name that none before it has; `names` are those before. A name that comes again is refused
+-- where it is, whatever follows.
 abbrev pub arguments_at : (List (List ℕ) → Place → Reads Row) → Reader → Room → List (List ℕ) → Place → Reads Span → Reads Row
 arguments_at more self w names p (Some x) = Some (ended x.0, x.1)
 arguments_at more self w names p None =

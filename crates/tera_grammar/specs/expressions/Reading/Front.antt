@@ -10,7 +10,7 @@ use Rattle.tera_grammar.specs.expressions.Concrete.{Name, Quote, Simple, Escaped
 use Rattle.tera_grammar.specs.Options.{◌>>=◌}
 use Rattle.tera_grammar.specs.expressions.Powers.{op_left, test_power, filter_power}
 
--- Where the reading stands: how many links may still come, and the tokens that are not yet taken.
+-- Where the reading is: how many links may still come, and the tokens that are not yet taken.
 pub record Place : Type 0 where
   pub links : ℕ
   pub tokens : Items
@@ -18,7 +18,7 @@ pub record Place : Type 0 where
 abbrev pub at : ℕ → Items → Place
 at k ts = record { links = k; tokens = ts }
 
--- what is read, and the place behind it
+-- what is read, and the place after it
 abbrev pub Reads : Type 0 → Type 0
 Reads A = Option (A × Place)
 
@@ -32,7 +32,7 @@ abbrev pub among : List Mark → Tok → Mark
 among [] t = Other
 among (m ∷ ms) t = cond (same_token t (mark_token m)) m (among ms t)
 
--- what the tokens begin with, and the tokens behind it
+-- what the tokens begin with, and the tokens after it
 abbrev pub Takes : Type 0 → Type 0
 Takes A = Option (A × Items)
 
@@ -49,7 +49,7 @@ abbrev pub moved : {A : Type 0} → ℕ → Takes A → Reads A
 moved k None = None
 moved k (Some x) = Some (x.0, at k x.1)
 
--- a mark that has to stand there
+-- a mark that has to be there
 unfoldable pub skip : Mark → Place → Reads Span
 skip m p = moved p.links (takes m p.tokens)
 
@@ -96,7 +96,7 @@ literal_at p = moved p.links (taken_as literal_of p.tokens)
 unfoldable pub quote_at : Place → Reads (Quote × Span)
 quote_at p = moved p.links (taken_quote p.tokens)
 
--- how a link begins, with the tokens behind it; a call is none
+-- how a link begins, with the tokens after it; a call is none
 pub data Link : Type 0 where
   no_link : Link
   jointed : Joint → Items → Link
@@ -126,7 +126,7 @@ pub data Lead : Type 0 where
 pub data Ending : Type 0 where
   ends_test ends_filter ends_subscript : Span → Ending
 
--- what the tokens behind an operand begin with; a `not` that is no `not in` is misplaced
+-- what the tokens after an operand begin with; a `not` that is not a `not in` is misplaced
 pub data Front : Type 0 where
   nothing : Front
   joins : Lead → Items → Front
@@ -171,7 +171,7 @@ abbrev pub front : Items → Front
 front (Token t s us) = front_of_token t s us
 front _ = nothing
 
--- how an operand begins, where it is no name and no literal
+-- how an operand begins, where it is not a name and no literal
 abbrev pub head_marks : List Mark
 head_marks = Operation Minus ∷ LeftParen ∷ LeftBracket ∷ LeftBrace ∷ Operation LessThan ∷ []
 

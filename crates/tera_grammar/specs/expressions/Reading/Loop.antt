@@ -11,7 +11,7 @@ use Rattle.tera_grammar.specs.expressions.Reading.Front.{Place, at, Reads, skip,
 use Rattle.tera_grammar.specs.expressions.Reading.Bracketed.{Room, Reader, sub_of, args_of}
 use Rattle.tera_grammar.specs.expressions.Reading.Atoms.{head_of}
 
--- an operator that begins so, with what stands in it
+-- an operator that begins so, with what is in it
 unfoldable pub operator_of : Reader → Room → Lead → Place → Reads Operator
 operator_of self w (leads_binary o) p = bump p >>= λ q. Some (Binary o, q)
 operator_of self w (leads_condition s) p = self w 0 p >>= λ c. skip Else c.1 >>= λ t. Some (Condition s c.0 t.0, t.1)

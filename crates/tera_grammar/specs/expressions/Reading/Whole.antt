@@ -1,4 +1,4 @@
--- Reading what stands outermost, from tokens alone.
+-- Reading what is outermost, from tokens alone.
 use Rattle.std.specs.Prelude.{Bool, false, Option, Some, None}
 use Rattle.tera_lexer.specs.grammar.Tokens.{Items}
 use Rattle.tera_base.specs.Values as values
@@ -19,7 +19,7 @@ widest limits l = room l limits.subscripts limits.arrays
 abbrev pub outermost : Limits → Reader
 outermost limits = fresh limits.links (expr limits.depth)
 
--- what is read, and the tokens behind it
+-- what is read, and the tokens after it
 abbrev pub left_over : {A : Type 0} → Reads A → Option (A × Items)
 left_over None = None
 left_over (Some x) = Some (x.0, x.1.tokens)

@@ -1,4 +1,4 @@
--- Reading the definition of a component, but for its body.
+-- Reading the definition of a component, except its body.
 use Rattle.std.specs.Prelude.{ℕ, zero, suc, Bool, true, false, not, List, [], ◌∷◌, Option, Some, None}
 use Rattle.tera_base.specs.declared.utils.Span.{Span}
 use Rattle.tera_lexer.specs.code.Cursors.{size}
@@ -16,7 +16,7 @@ use Rattle.tera_grammar.specs.statements.Components.{Default, LiteralDefault, Mi
 use Rattle.tera_grammar.specs.statements.Reading.TagParts.{finish_of, closed, tag}
 use Rattle.tera_grammar.specs.statements.Reading.Meeting.{Met, meet, nothing_met}
 
--- the number behind a minus
+-- the number after a minus
 abbrev pub minus_at : Span → Tok → Span → Items → Takes Default
 minus_at minus (Integer n) span items = Some (MinusDefault minus n span, items)
 minus_at minus t span items = None
@@ -44,7 +44,7 @@ unfoldable pub default_of : Limits → Items → Takes Default
 default_of l (Token t span items) = default_at l t span items
 default_of l items = None
 
--- the parts of a parameter, where they stand there
+-- the parts of a parameter, where they are there
 abbrev pub at_in : Items → Option (Span × Items) → Option Span × Items
 at_in items None = (None, items)
 at_in items (Some at) = (Some at.0, at.1)
@@ -67,9 +67,9 @@ abbrev pub fresh_name : Met → Items → Takes Name
 fresh_name seen items =
     taken_name items >>= λ n. guard (not (is_body n.0.text)) >>= λ u. guard (not (seen n.0.text)) >>= λ v. Some n
 
--- a parameter, behind `@`, if any
-unfoldable pub parameter_behind : Limits → Met → Option Span → Items → Takes Parameter
-parameter_behind l seen at items =
+-- a parameter, after `@`, if any
+unfoldable pub parameter_after : Limits → Met → Option Span → Items → Takes Parameter
+parameter_after l seen at items =
     fresh_name seen items >>= λ n.
     annotation_in n.1 (takes Colon n.1) >>= λ t.
     assigned_in l t.1 (takes Assign t.1) >>= λ d.
@@ -78,12 +78,12 @@ parameter_behind l seen at items =
 
 abbrev pub parameter_of : Limits → Met → Items → Takes Parameter
 parameter_of l seen items =
-    parameter_behind l seen (at_in items (takes At items)).0 (at_in items (takes At items)).1
+    parameter_after l seen (at_in items (takes At items)).0 (at_in items (takes At items)).1
 
--- behind a parameter: the closing parenthesis, or a comma and others
-unfoldable pub parameters_behind : (Met → Items → Takes Parameters) → Met → Parameter → Items → Option (Span × Items) → Takes Parameters
-parameters_behind again seen p items (Some end) = Some (Final p end.0, end.1)
-parameters_behind again seen p items None =
+-- after a parameter: the closing parenthesis, or a comma and others
+unfoldable pub parameters_after : (Met → Items → Takes Parameters) → Met → Parameter → Items → Option (Span × Items) → Takes Parameters
+parameters_after again seen p items (Some end) = Some (Final p end.0, end.1)
+parameters_after again seen p items None =
     takes Comma items >>= λ comma. again (meet p.name.text seen) comma.1 >>= λ ps. Some (More p comma.0 ps.0, ps.1)
 
 -- the rest parameter, or another
@@ -91,9 +91,9 @@ unfoldable pub parameters_at : (Met → Items → Takes Parameters) → Limits �
 parameters_at again l seen items (Some dots) =
     fresh_name seen dots.1 >>= λ n. takes RightParen n.1 >>= λ end. Some (Rest dots.0 n.0 end.0, end.1)
 parameters_at again l seen items None =
-    parameter_of l seen items >>= λ p. parameters_behind again seen p.0 p.1 (takes RightParen p.1)
+    parameter_of l seen items >>= λ p. parameters_after again seen p.0 p.1 (takes RightParen p.1)
 
--- none, where the closing parenthesis stands there
+-- none, where the closing parenthesis is there
 unfoldable pub parameters_in : (Met → Items → Takes Parameters) → Limits → Met → Items → Option (Span × Items) → Takes Parameters
 parameters_in again l seen items (Some end) = Some (Closed end.0, end.1)
 parameters_in again l seen items None = parameters_at again l seen items (takes Spread items)
@@ -106,12 +106,12 @@ parameters_by (suc n) l seen items = parameters_in (parameters_by n l) l seen it
 unfoldable pub parameters_of : Limits → Met → Items → Takes Parameters
 parameters_of l seen items = parameters_by (suc (size items)) l seen items
 
--- metadata, where it stands there
+-- metadata, where it is there
 unfoldable pub metadata_in : Limits → Items → Bool → Takes (Option LiteralMap)
 metadata_in l items false = Some (None, items)
 metadata_in l items true = map_of l items >>= λ m. Some (Some m.0, m.1)
 
--- the parts of the opening tag, behind its first word
+-- the parts of the opening tag, after its first word
 pub record Opened : Type 0 where
   pub name : ComponentName
   pub paren : Span
@@ -126,7 +126,7 @@ opened_of l seen items =
     metadata_in l ps.1 (begins LeftBrace ps.1) >>= λ m. finish_of m.1 >>= λ f.
     Some (record { name = n.0; paren = paren.0; parameters = ps.0; metadata = m.0; finish = f.0 }, f.1)
 
--- whether a name stands there
+-- whether a name is there
 abbrev pub is_name_token : Tok → Bool
 is_name_token (Ident text) = true
 is_name_token t = false

@@ -25,7 +25,7 @@ loop_of l items =
     left_over (variables_of (at 0 items)) >>= λ v. takes (Operation In) v.1 >>= λ w. expression_of l true w.1 >>= λ e.
     Some (record { first = v.0.0; second = v.0.1; word = w.0; target = e.0 }, e.1)
 
--- filters, each behind its bar
+-- filters, each after its bar
 unfoldable pub filters_in : (Items → Takes Filters) → Limits → Bool → Items → Option (Span × Items) → Takes Filters
 filters_in again l in_loop items None = Some (NoFilters, items)
 filters_in again l in_loop items (Some bar) =

@@ -15,7 +15,7 @@ use Rattle.tera_grammar.specs.statements.Places.{parameters_placed}
 use Rattle.tera_grammar.specs.statements.Heads.{Filters, Piped}
 use Rattle.tera_grammar.specs.statements.Grammar.{Body, Branches, Elif}
 use Rattle.tera_grammar.specs.statements.Output.{Adds, AddsNothing, AddsNode, AddsParent, AddsDefinition, added_nodes, later, parent_by, definitions_by, output, parent_of, definitions_of}
-use Rattle.tera_grammar.specs.statements.Reading.{Place, Reads, body, Phase, Starting, Standing, Extending, phases}
+use Rattle.tera_grammar.specs.statements.Reading.{Place, Reads, body, Phase, Starting, Standalone, Extending, phases}
 use Rattle.tera_grammar.specs.statements.Reading.Heads.{filters_of}
 use Rattle.tera_grammar.specs.statements.Reading.Components.{parameters_of}
 use Rattle.tera_grammar.specs.statements.Reading.Meeting.{Located, locate_all, met, nothing_located, nothing_met}
@@ -88,8 +88,8 @@ with_added out a = record {
   definitions = out.definitions ++ definitions_by a;
 }
 
--- what the top level needs to know of what an item adds: it is silent; it may stand in a template that extends
--- another; it is what the template extends; anything else
+-- what the top level needs to know of what an item adds: it is silent; it may be in a template that extends another; it
+-- is what the template extends; anything else
 pub data Weight : Type 0 where
   Silent : Weight
   Kept : Weight
@@ -111,13 +111,13 @@ weight (AddsNode s) = node_weight s
 weight (AddsParent name) = Parent
 weight (AddsDefinition d) = Silent
 
--- the phase behind an item of this weight
+-- the phase after an item of this weight
 abbrev pub turn : Phase → Weight → Option Phase
 turn Starting Silent = Some Starting
 turn Starting Parent = Some Extending
-turn Starting w = Some Standing
-turn Standing Parent = None
-turn Standing w = Some Standing
+turn Starting w = Some Standalone
+turn Standalone Parent = None
+turn Standalone w = Some Standalone
 turn Extending Silent = Some Extending
 turn Extending Kept = Some Extending
 turn Extending w = None

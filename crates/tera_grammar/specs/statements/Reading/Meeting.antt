@@ -1,5 +1,5 @@
--- The names that a reading has met. Of a parameter it asks only whether its name was met; of blocks and of components it
--- keeps where each stands, and of a component where the names of its parameters stand.
+-- The names that a reading has met. Of a parameter it asks only whether its name was met; of blocks and of components
+-- it keeps where each is, and of a component where the names of its parameters are.
 use Rattle.std.specs.Prelude.{ℕ, Bool, false, ◌||◌, cond, List, [], ◌∷◌, Option, Some, None, is_some}
 use Rattle.std.specs.Str.{bytes_eq}
 use Rattle.tera_base.specs.declared.utils.Span.{Span}

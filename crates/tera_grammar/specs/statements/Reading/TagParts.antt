@@ -67,7 +67,7 @@ front Ended = Ends
 front (Failed text span) = Wrong
 front (Token t span items) = front_at t span items
 
--- a name, where one stands there
+-- a name, where one is there
 abbrev pub name_if_found : Items → Option (Name × Items) → Option Name × Items
 name_if_found items None = (None, items)
 name_if_found items (Some n) = (Some n.0, n.1)

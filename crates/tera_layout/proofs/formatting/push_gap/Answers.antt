@@ -7,6 +7,6 @@ pub returns-then-stays-clause-text : goal.returns-then-stays-clause-text
 returns-then-stays-clause-text c =
     let source = c.args.source.now in
     run_goes_on (marks_of c.args.delimiters.now) source (string_bytes c.args.out.now) c.args.cut c.args.join c.unless_end-join.result
-    c.requires.cut.behind_run c.requires.cut.behind_gap
+    c.requires.cut.after_run c.requires.cut.after_gap
     (rw (sym c.range-gap.ensures.value, sym c.range.ensures.value, sym c.range-text.ensures.value) c.unless_end-join.ensures)
     (rw (sym c.range-gap.ensures.value) (sym c.stays.ensures ∙ c.if-stays.true))

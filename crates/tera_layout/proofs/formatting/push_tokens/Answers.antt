@@ -16,18 +16,18 @@ pub tokens-preserved-in_ok-run : goal.tokens-preserved-in_ok-run
 tokens-preserved-in_ok-run c = record {
   source = ap (λ s. s.source) (subst (λ x. Steps c.tokens.tokens (Some x) c.next.new.self) c.in_ok-token.was c.in-Some.ensures.steps).1 ∙ c.tokens.invariant.source;
   written =
-      further_written c.tokens.tokens c.next.new.self (c.in_ok-token.token, c.in_ok-token.span) c.behind-next.result (string_bytes c.push_gap.new.out)
+      further_written c.tokens.tokens c.next.new.self (c.in_ok-token.token, c.in_ok-token.span) c.following-next.result (string_bytes c.push_gap.new.out)
       c.in_ok-run.run' c.join-join.result c.tokens.invariant.written c.tokens.invariant.source
       (subst (λ x. Steps c.tokens.tokens (Some x) c.next.new.self) c.in_ok-token.was c.in-Some.ensures.steps)
-      c.behind-next.ensures c.join-join.ensures c.in_ok-run.ensures.cut c.in_ok-run.ensures.text;
+      c.following-next.ensures c.join-join.ensures c.in_ok-run.ensures.cut c.in_ok-run.ensures.text;
 }
 
 pub tokens-preserved : goal.tokens-preserved
 tokens-preserved c = record {
   source = ap (λ s. s.source) (subst (λ x. Steps c.tokens.tokens (Some x) c.next.new.self) c.in_ok-token.was c.in-Some.ensures.steps).1 ∙ c.tokens.invariant.source;
   written =
-      further_written c.tokens.tokens c.next.new.self (c.in_ok-token.token, c.in_ok-token.span) c.behind-next.result (string_bytes c.push_gap.new.out)
+      further_written c.tokens.tokens c.next.new.self (c.in_ok-token.token, c.in_ok-token.span) c.following-next.result (string_bytes c.push_gap.new.out)
       c.in_ok-run.run' c.join-join.result c.tokens.invariant.written c.tokens.invariant.source
       (subst (λ x. Steps c.tokens.tokens (Some x) c.next.new.self) c.in_ok-token.was c.in-Some.ensures.steps)
-      c.behind-next.ensures c.join-join.ensures c.in_ok-run.ensures.cut c.in_ok-run.ensures.text;
+      c.following-next.ensures c.join-join.ensures c.in_ok-run.ensures.cut c.in_ok-run.ensures.text;
 }

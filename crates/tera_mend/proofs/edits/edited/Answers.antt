@@ -4,7 +4,7 @@ use Rattle.tera_mend.specs.Views.{edit_view}
 use Rattle.tera_mend.specs.declared.edits.Edit.{Edit}
 use Rattle.tera_mend.proofs.edits.edited.Goals as goal
 
--- an edit, and then those behind it
+-- an edit, and then those after it
 step : (edits : List Edit) (i : ℕ) (e : Edit) (old mid new : List ℕ) → i < length edits → e ≡ get_or edits i e → Puts (edit_view e) old mid
     → Edits (map edit_view (drop (i + 1) edits)) mid new → Edits (map edit_view (drop i edits)) old new
 step edits i e old mid new below is put rest =

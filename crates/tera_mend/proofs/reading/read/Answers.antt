@@ -14,17 +14,17 @@ returns-in-Ok c = (
       (c.in-Ok.ensures.complete other ns read).0,
 )
 
--- the error is not want of memory
-told : (c : Else-is_memory) → IsMemory c.in-Err.error → ⊥
-told c memory = let h : IsTrue false = c.if-is_memory.ensures.1 memory in cc
+-- the error is not an allocation failure
+reported : (c : Else-is_memory) → IsMemory c.in-Err.error → ⊥
+reported c memory = let h : IsTrue false = c.if-is_memory.ensures.1 memory in cc
 
 pub returns-else-is_memory : goal.returns-else-is_memory
 returns-else-is_memory c = (
   (
     λ output d.
         let (ns, read) = names_derived usual default_marks _ output d in
-        told c (c.in-Err.ensures.complete output ns read),
-    told c,
+        reported c (c.in-Err.ensures.complete output ns read),
+    reported c,
     c.in-Err.ensures.refusal,
   ),
   c.in-Err.ensures.notes,

@@ -10,9 +10,9 @@ returns-in-Some c =
 
 pub pieces-preserved : goal.pieces-preserved
 pieces-preserved c =
-    argument_passed c.args.last c.args.byte c.pieces.before c.behind_token-before.result c.piece-item.result c.pieces.rest.now c.begins_call.result _ c.piece-item.is c.in-len1-up.len_at_least
+    argument_passed c.args.last c.args.byte c.pieces.before c.after_token-before.result c.piece-item.result c.pieces.rest.now c.begins_call.result _ c.piece-item.is c.in-len1-up.len_at_least
     c.begins_call.ensures
     (elim c.if-begins_call.branch [
       | then-begins_call+in_default-called_at w ↦ rw w.if-begins_call.true (sym w.called_at.ensures ∙ w.in_default-called_at.is)
       | else-begins_call w ↦ rw w.if-begins_call.false refl
-    ]) c.behind_token-before.ensures c.pieces.invariant
+    ]) c.after_token-before.ensures c.pieces.invariant

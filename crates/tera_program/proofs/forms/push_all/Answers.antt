@@ -4,7 +4,7 @@ use Rattle.tera_check.specs.Findings.{finding_view}
 use Rattle.terminal_text.specs.Files.{source_of}
 use Rattle.tera_program.specs.Forms.{finding_text, of_each}
 use Rattle.tera_program.specs.Found.{found_view}
-use Rattle.tera_program.proofs.Lists.{told_more}
+use Rattle.tera_program.proofs.Lists.{reported_more}
 use Rattle.tera_program.proofs.Same.{same_answers}
 use Rattle.tera_program.proofs.forms.push_all.Goals as goal
 
@@ -19,6 +19,6 @@ loop-found-preserved c =
     = subst (λ k. c.push_found.new.to.items ≡ c.loop-found.to.items ++ flat_map (finding_text c.args.form c.args.style k one.file.now) (map finding_view one.findings.items)) same
     c.in_ok-push_found.ensures.text in
     record {
-      text = told_more found_view text _ _ _ all c.loop-found.found-index one c.loop-found-test.true c.found-item.is held.text step;
+      text = reported_more found_view text _ _ _ all c.loop-found.found-index one c.loop-found-test.true c.found-item.is held.text step;
       same = λ other. c.push_found.ensures.same other ∙ held.same other;
     }

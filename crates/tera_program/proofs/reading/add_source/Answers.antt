@@ -20,7 +20,7 @@ returns-in_ok-push-2 c =
         mended = subst (λ file. IfSome template.mended (IsMended file (string_bytes c.args.source.text) c.args.faults)) c.as_str.ensures.value
             (subst (λ source. IfSome template.mended (IsMended c.as_str.result.now source c.args.faults)) text c.in_ok-template.ensures.mended);
       };
-      behind = c.in_ok-push.ensures.items;
+      following = c.in_ok-push.ensures.items;
       kept = rw c.if-keeps_source.true (c.args.source, refl, refl, c.in_ok-push-2.ensures.items);
     }
 
@@ -37,6 +37,6 @@ returns-else-keeps_source c =
         mended = subst (λ file. IfSome template.mended (IsMended file (string_bytes c.args.source.text) c.args.faults)) c.as_str.ensures.value
             (subst (λ source. IfSome template.mended (IsMended c.as_str.result.now source c.args.faults)) text c.in_ok-template.ensures.mended);
       };
-      behind = c.in_ok-push.ensures.items;
+      following = c.in_ok-push.ensures.items;
       kept = rw c.if-keeps_source.false refl;
     }

@@ -1,5 +1,5 @@
 use Rattle.std.proofs.Common.{[], OnOk, ◌≡◌, subst}
-use Rattle.tera_server.specs.States.{wanted_of}
+use Rattle.tera_server.specs.States.{needed_of}
 use Rattle.tera_program.proofs.ServingLemmas.{rests_short, rests_all}
 use Rattle.tera_program.proofs.server.come_to_rest.Goals as goal
 
@@ -12,9 +12,9 @@ returns-then-not-settled-clause-rests g c =
 pub returns-in-Ok-clause-rests : goal.returns-in-Ok-clause-rests
 returns-in-Ok-clause-rests g c =
     let settled = c.in_ok-settled.ensures.settles in
-    let none : wanted_of c.give-given.new.server ≡ [] = subst (λ r. OnOk r (wanted_of c.give-given.new.server ≡ [])) c.in-Ok.is c.give-given.ensures.all in
+    let none : needed_of c.give-given.new.server ≡ [] = subst (λ r. OnOk r (needed_of c.give-given.new.server ≡ [])) c.in-Ok.is c.give-given.ensures.all in
     rests_all c.in_ok-settled.settled c.args.server.now c.give-given.new.server c.settle.new.server settled.0 (g.W.Write.contents c.args.writer.now) (g.W.Write.contents c.settle.new.writer)
-    c.if-not-settled.false c.give-given.ensures.given none settled.1 c.settle.ensures.wanted settled.2
+    c.if-not-settled.false c.give-given.ensures.given none settled.1 c.settle.ensures.needed settled.2
 
 pub returns-in-Err-clause-rests : goal.returns-in-Err-clause-rests
 returns-in-Err-clause-rests g c =

@@ -13,7 +13,7 @@ pieces-init g c = record {
   read = (
     [],
     consumes_none (g.R.Read.remaining c.args.reader.now),
-    reading_begun LONGEST c.new-server.result c.new-frames.result (g.W.Write.contents c.args.writer.now) c.new-frames.ensures.stands,
+    reading_begun LONGEST c.new-server.result c.new-frames.result (g.W.Write.contents c.args.writer.now) c.new-frames.ensures.represents,
   );
   sent = c.in_ok-out.ensures;
   room = ap length (c.in_ok-piece.ensures.items_if_clones_equal (λ y e. e)) ∙ length-replicate {A = ℕ} PIECE 0;
@@ -31,7 +31,7 @@ returns-then-not-branch g c =
     let came = c.in_ok-take_piece.ensures.came in
     let end = came.3 c.if-not-branch.true in
     served_at_end LONGEST c.ended-finished.result c.pieces.short start c.pieces.server before.0 came.0 c.pieces.frames r0 r2 w0 w1
-    (record { phase = new.phase; known = new.known; told = new.told; kept = new.kept; none = new.none })
+    (record { phase = new.phase; known = new.known; reported = new.reported; kept = new.kept; none = new.none })
     (consumes_more r0 (g.R.Read.remaining c.pieces.reader) r2 before.0 came.0 before.1 came.1)
     end.0 end.1 c.ended-finished.ensures before.2
 
@@ -55,9 +55,9 @@ returns-in-Ended g c =
     let answered : IsWaiting LONGEST (lefts.Ended c.in-Ended.finished) s t came_before now w1 w2 =
     subst (λ left. IsWaiting LONGEST left s t came_before now w1 w2) c.in-Ended.is
     (subst (λ n. IsTalking n None s s came_before held w1 w1 → IsWaiting n c.in_ok-finished.field-0 s t came_before now w1 w2) limit
-    (c.in_ok-finished.ensures.talked s came_before w1) (talk_begun LONGEST s came_before held w1 (came.2 before.2.rest before.2.stands))) in
+    (c.in_ok-finished.ensures.talked s came_before w1) (talk_begun LONGEST s came_before held w1 (came.2 before.2.rest before.2.represents))) in
     served_ended LONGEST c.in-Ended.finished c.pieces.short start s t before.0 came.0 c.pieces.frames now r0 r2 w0 w1 w2
-    (record { phase = new.phase; known = new.known; told = new.told; kept = new.kept; none = new.none })
+    (record { phase = new.phase; known = new.known; reported = new.reported; kept = new.kept; none = new.none })
     (consumes_more r0 (g.R.Read.remaining c.pieces.reader) r2 before.0 came.0 before.1 came.1) before.2 answered
 
 pub pieces-preserved : goal.pieces-preserved
@@ -78,7 +78,7 @@ pieces-preserved g c =
     let limit : held.limit ≡ LONGEST = c.take_piece.ensures.limit ∙ c.pieces.invariant.limit in
     let answered : IsWaiting LONGEST c.in_ok-finished.field-0 s t came_before now w1 w2 =
     subst (λ n. IsTalking n None s s came_before held w1 w1 → IsWaiting n c.in_ok-finished.field-0 s t came_before now w1 w2) limit
-    (c.in_ok-finished.ensures.talked s came_before w1) (talk_begun LONGEST s came_before held w1 (came.2 before.2.rest before.2.stands)) in
+    (c.in_ok-finished.ensures.talked s came_before w1) (talk_begun LONGEST s came_before held w1 (came.2 before.2.rest before.2.represents)) in
     let on : IsReading LONGEST c.match-branch-5.short start t (before.0 ++ came.0) now w0 w2 = elim c.match-branch-5.branch [
       | in-AtRest w ↦
           subst (λ short. IsReading LONGEST short start t (before.0 ++ came.0) now w0 w2) (sym w.short-is)

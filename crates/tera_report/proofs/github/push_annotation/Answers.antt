@@ -2,7 +2,7 @@ use Rattle.std.proofs.Common.{◌≡◌, ◌∙◌, ◌++◌, ap, string_bytes, 
 use Rattle.line_text.specs.Line.{on_one_line}
 use Rattle.tera_check.specs.Findings.{kind_name, severity_of}
 use Rattle.tera_report.specs.Annotations.{annotation, command_of, escaped, property, span_text}
-use Rattle.tera_report.proofs.Texts.{behind}
+use Rattle.tera_report.proofs.Texts.{following}
 use Rattle.tera_report.proofs.github.push_annotation.Goals as goal
 
 pub returns : goal.returns
@@ -18,11 +18,11 @@ returns c =
     c.in_ok-push_message.ensures ∙ ap (λ l. string_bytes c.push_str-5.new.self ++ escaped (on_one_line l)) c.as_str-2.ensures.value in
     let file = c.args.file.now in
     let f = c.args.finding.now in
-    behind (string_bytes c.args.to.now) (string_bytes c.push_str.new.self) (string_bytes c.push_str-6.new.self) (command_of (severity_of f.kind)) ((property file) ++ ((span_text f.span) ++ ((codes ",title=") ++ ((kind_name f.kind) ++ ((codes "::") ++ ((escaped (on_one_line (string_bytes f.message))) ++ (codes "\n"))))))) command
-    (behind (string_bytes c.push_str.new.self) (string_bytes c.push_property.new.to) (string_bytes c.push_str-6.new.self) (property file) ((span_text f.span) ++ ((codes ",title=") ++ ((kind_name f.kind) ++ ((codes "::") ++ ((escaped (on_one_line (string_bytes f.message))) ++ (codes "\n")))))) c.in_ok-push_property.ensures
-    (behind (string_bytes c.push_property.new.to) (string_bytes c.push_str-2.new.self) (string_bytes c.push_str-6.new.self) (span_text f.span) ((codes ",title=") ++ ((kind_name f.kind) ++ ((codes "::") ++ ((escaped (on_one_line (string_bytes f.message))) ++ (codes "\n"))))) place
-    (behind (string_bytes c.push_str-2.new.self) (string_bytes c.push_str-3.new.self) (string_bytes c.push_str-6.new.self) (codes ",title=") ((kind_name f.kind) ++ ((codes "::") ++ ((escaped (on_one_line (string_bytes f.message))) ++ (codes "\n")))) c.in_ok-push_str-3.ensures.bytes
-    (behind (string_bytes c.push_str-3.new.self) (string_bytes c.push_str-4.new.self) (string_bytes c.push_str-6.new.self) (kind_name f.kind) ((codes "::") ++ ((escaped (on_one_line (string_bytes f.message))) ++ (codes "\n"))) title
-    (behind (string_bytes c.push_str-4.new.self) (string_bytes c.push_str-5.new.self) (string_bytes c.push_str-6.new.self) (codes "::") ((escaped (on_one_line (string_bytes f.message))) ++ (codes "\n")) c.in_ok-push_str-5.ensures.bytes
-    (behind (string_bytes c.push_str-5.new.self) (string_bytes c.push_message.new.to) (string_bytes c.push_str-6.new.self) (escaped (on_one_line (string_bytes f.message))) (codes "\n") text
+    following (string_bytes c.args.to.now) (string_bytes c.push_str.new.self) (string_bytes c.push_str-6.new.self) (command_of (severity_of f.kind)) ((property file) ++ ((span_text f.span) ++ ((codes ",title=") ++ ((kind_name f.kind) ++ ((codes "::") ++ ((escaped (on_one_line (string_bytes f.message))) ++ (codes "\n"))))))) command
+    (following (string_bytes c.push_str.new.self) (string_bytes c.push_property.new.to) (string_bytes c.push_str-6.new.self) (property file) ((span_text f.span) ++ ((codes ",title=") ++ ((kind_name f.kind) ++ ((codes "::") ++ ((escaped (on_one_line (string_bytes f.message))) ++ (codes "\n")))))) c.in_ok-push_property.ensures
+    (following (string_bytes c.push_property.new.to) (string_bytes c.push_str-2.new.self) (string_bytes c.push_str-6.new.self) (span_text f.span) ((codes ",title=") ++ ((kind_name f.kind) ++ ((codes "::") ++ ((escaped (on_one_line (string_bytes f.message))) ++ (codes "\n"))))) place
+    (following (string_bytes c.push_str-2.new.self) (string_bytes c.push_str-3.new.self) (string_bytes c.push_str-6.new.self) (codes ",title=") ((kind_name f.kind) ++ ((codes "::") ++ ((escaped (on_one_line (string_bytes f.message))) ++ (codes "\n")))) c.in_ok-push_str-3.ensures.bytes
+    (following (string_bytes c.push_str-3.new.self) (string_bytes c.push_str-4.new.self) (string_bytes c.push_str-6.new.self) (kind_name f.kind) ((codes "::") ++ ((escaped (on_one_line (string_bytes f.message))) ++ (codes "\n"))) title
+    (following (string_bytes c.push_str-4.new.self) (string_bytes c.push_str-5.new.self) (string_bytes c.push_str-6.new.self) (codes "::") ((escaped (on_one_line (string_bytes f.message))) ++ (codes "\n")) c.in_ok-push_str-5.ensures.bytes
+    (following (string_bytes c.push_str-5.new.self) (string_bytes c.push_message.new.to) (string_bytes c.push_str-6.new.self) (escaped (on_one_line (string_bytes f.message))) (codes "\n") text
     c.in_ok-push_str-6.ensures.bytes))))))

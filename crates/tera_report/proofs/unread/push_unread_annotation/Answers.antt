@@ -2,7 +2,7 @@ use Rattle.std.proofs.Common.{◌≡◌, ◌∙◌, ◌++◌, ap, string_bytes, 
 use Rattle.line_text.specs.Line.{on_one_line}
 use Rattle.tera_check.specs.declared.finding.Severity.TheVariants.{Error}
 use Rattle.tera_report.specs.Annotations.{command_of, escaped, property}
-use Rattle.tera_report.proofs.Texts.{behind}
+use Rattle.tera_report.proofs.Texts.{following}
 use Rattle.tera_report.proofs.unread.push_unread_annotation.Goals as goal
 
 pub returns : goal.returns
@@ -17,7 +17,7 @@ returns c =
     let why = escaped (on_one_line c.args.why.now) in
     let title = codes ",title=unread::" in
     let first : named ≡ before ++ command_of Error = c.in_ok-push_str.ensures.bytes ∙ ap (λ l. before ++ l) c.command.ensures in
-    behind before named after (command_of Error) (file ++ (title ++ (why ++ codes "\n"))) first
-    (behind named placed after file (title ++ (why ++ codes "\n")) c.in_ok-push_property.ensures
-    (behind placed titled after title (why ++ codes "\n") c.in_ok-push_str-2.ensures.bytes
-    (behind titled said after why (codes "\n") c.in_ok-push_message.ensures c.in_ok-push_str-3.ensures.bytes)))
+    following before named after (command_of Error) (file ++ (title ++ (why ++ codes "\n"))) first
+    (following named placed after file (title ++ (why ++ codes "\n")) c.in_ok-push_property.ensures
+    (following placed titled after title (why ++ codes "\n") c.in_ok-push_str-2.ensures.bytes
+    (following titled said after why (codes "\n") c.in_ok-push_message.ensures c.in_ok-push_str-3.ensures.bytes)))

@@ -10,7 +10,7 @@ use Rattle.tera_outline.specs.declared.pieces.Piece.{Piece}
 use Rattle.json.specs.Tree.{json_tokens}
 use Rattle.tera_server.specs.Completions.{completion_json, items_json, kind_number, offered}
 use Rattle.tera_server.specs.Positions.{position_at}
-use Rattle.tera_server.proofs.CompletionLemmas.{told}
+use Rattle.tera_server.proofs.CompletionLemmas.{reported}
 use Rattle.tera_server.proofs.Tails.{and_so}
 use Rattle.tera_server.proofs.completions.put_completion.Goals as goal
 
@@ -23,10 +23,10 @@ returns-clause-tokens c =
     let parts = map part_of c.in_ok-pieces.pieces.items in
     let byte = c.byte_at-byte.result in
     let given : None ≡ option_map (completion_at byte) (slot_of (length text) byte parts) =
-    sym c.in-None.is ∙ rw c.as_slice.ensures.value at c.wanted.ensures in
+    sym c.in-None.is ∙ rw c.as_slice.ensures.value at c.completion_for.ensures in
     and_so c.null.result c.null.ensures.ok (λ written. (
       null,
-      (parts, c.in_ok-pieces.ensures, told e w folders text parts byte (byte_of e (lines_of text) c.args.position) (length text) None given refl c.byte_at-byte.ensures.byte),
+      (parts, c.in_ok-pieces.ensures, reported e w folders text parts byte (byte_of e (lines_of text) c.args.position) (length text) None given refl c.byte_at-byte.ensures.byte),
       written,
     ))
 
@@ -40,14 +40,14 @@ returns-in-Some-clause-tokens c =
     let byte = c.byte_at-byte.result in
     let one = c.in-Some.completion in
     let given : Some one ≡ option_map (completion_at byte) (slot_of (length text) byte parts) =
-    sym c.in-Some.is ∙ rw c.as_slice.ensures.value at c.wanted.ensures in
+    sym c.in-Some.is ∙ rw c.as_slice.ensures.value at c.completion_for.ensures in
     let old = c.args.out.now.tokens in
     let kind = kind_number one.kind in
     let start = position_at e text one.start in
     let names = offered w folders (names_of (map part_of c.as_slice-in-Some.result.now)) one.kind in
     and_so c.put_offered.result c.put_offered.ensures.tokens (λ written. (
       completion_json e w folders text (names_of parts) byte (Some one),
-      (parts, c.in_ok-pieces.ensures, told e w folders text parts byte (byte_of e (lines_of text) c.args.position) (length text) (Some one) given refl c.byte_at-byte.ensures.byte),
+      (parts, c.in_ok-pieces.ensures, reported e w folders text parts byte (byte_of e (lines_of text) c.args.position) (length text) (Some one) given refl c.byte_at-byte.ensures.byte),
       written
           ∙ ap (λ (p : Position). old ++ json_tokens (items_json p c.position_at-in-Some.result kind names)) c.position_at.ensures
           ∙ ap (λ (p : Position). old ++ json_tokens (items_json start p kind names)) c.position_at-in-Some.ensures

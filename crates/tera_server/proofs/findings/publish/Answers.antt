@@ -1,7 +1,7 @@
 use Rattle.std.proofs.Common.{◌≡◌, ◌∙◌, ◌⊎◌, refl, subst, append_assoc}
 use Rattle.tera_server.specs.Sending.{found_message}
-use Rattle.tera_server.specs.declared.editor.Stand.{Stand}
-use Rattle.tera_server.specs.declared.editor.Stand.TheVariants.{Open, Closed}
+use Rattle.tera_server.specs.declared.editor.DocumentState.{DocumentState}
+use Rattle.tera_server.specs.declared.editor.DocumentState.TheVariants.{Open, Closed}
 use Rattle.tera_server.proofs.PublishLemmas.{one_sent}
 use Rattle.tera_server.proofs.Tails.{and_so}
 use Rattle.tera_server.proofs.findings.publish.Goals as goal
@@ -9,9 +9,9 @@ use Rattle.tera_server.proofs.findings.publish.Goals as goal
 pub returns-in_ok-end_message-in-Open-clause-published : goal.returns-in_ok-end_message-in-Open-clause-published
 unfolding found_message
 returns-in_ok-end_message-in-Open-clause-published c =
-    let e = c.args.telling.editor.now in
-    let u = c.args.telling.unread.now in
-    let related = c.args.telling.related in
+    let e = c.args.publishing.editor.now in
+    let u = c.args.publishing.unread.now in
+    let related = c.args.publishing.related in
     let w = c.args.workspace.now in
     let name = c.args.name.now in
     let message = c.in_ok-end_message-in-Open.field-0.items in
@@ -22,8 +22,8 @@ returns-in_ok-end_message-in-Open-clause-published c =
       c.in_ok-message-in-Open.ensures.before,
       c.in_ok-put_published-in-Open.ensures.tokens,
       c.in_ok-message-in-Open.ensures.tokens,
-      c.told.ensures,
+      c.reported.ensures,
     )
     (simp append_assoc refl) in
     and_so c.push.result c.push.ensures.ok
-    (λ h. h ∙ one_sent e u related w name message c.args.out.now (subst (λ (s : Stand). (s ≡ Open) ⊎ (s ≡ Closed)) c.stand.ensures c.in-Open.is) is)
+    (λ h. h ∙ one_sent e u related w name message c.args.out.now (subst (λ (s : DocumentState). (s ≡ Open) ⊎ (s ≡ Closed)) c.state.ensures c.in-Open.is) is)

@@ -12,9 +12,9 @@ loop-name-init c = sym (with_none c.args.out.now)
 
 pub loop-name-preserved : goal.loop-name-preserved
 loop-name-preserved c =
-    let editor = c.args.telling.editor.now in
-    let unread = c.args.telling.unread.now in
-    let related = c.args.telling.related in
+    let editor = c.args.publishing.editor.now in
+    let unread = c.args.publishing.unread.now in
+    let related = c.args.publishing.related in
     let workspace = c.args.workspace.now in
     let others = map string_bytes c.args.others.now in
     let name = string_bytes c.name-item.result in
@@ -37,11 +37,11 @@ loop-name-preserved c =
 
 pub returns-in_err-publish-clause-in_part : goal.returns-in_err-publish-clause-in_part
 returns-in_err-publish-clause-in_part c =
-    let messages = λ (ns : List (List ℕ)). messages_in c.args.telling.editor.now c.args.telling.unread.now c.args.telling.related c.args.workspace.now (names_beside (map string_bytes c.args.others.now) ns) in
+    let messages = λ (ns : List (List ℕ)). messages_in c.args.publishing.editor.now c.args.publishing.unread.now c.args.publishing.related c.args.workspace.now (names_beside (map string_bytes c.args.others.now) ns) in
     on_any_err c.from_residual.result
     (sends_first messages c.args.names.now c.loop-name.name-index c.args.out.now c.publish.new.out (c.in_err-publish.ensures.err ∙ c.loop-name.invariant))
 
 pub returns-clause-published : goal.returns-clause-published
 returns-clause-published c =
-    let messages = λ (ns : List (List ℕ)). messages_in c.args.telling.editor.now c.args.telling.unread.now c.args.telling.related c.args.workspace.now (names_beside (map string_bytes c.args.others.now) ns) in
+    let messages = λ (ns : List (List ℕ)). messages_in c.args.publishing.editor.now c.args.publishing.unread.now c.args.publishing.related c.args.workspace.now (names_beside (map string_bytes c.args.others.now) ns) in
     sends_all messages c.args.names.now c.loop-name.name-index c.args.out.now c.loop-name.out (omega arith) c.loop-name.invariant

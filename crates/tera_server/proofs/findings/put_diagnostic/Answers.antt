@@ -9,6 +9,6 @@ pub returns-clause-tokens : goal.returns-clause-tokens
 unfolding one_found
 returns-clause-tokens c =
     and_so c.end_object.result c.end_object.ensures.ok
-    (λ h. rw (related_written c.args.telling.editor.now c.args.telling.related (map related_view c.args.diagnostic.now.related.items))
+    (λ h. rw (related_written c.args.publishing.editor.now c.args.publishing.related (map related_view c.args.diagnostic.now.related.items))
     (rw (h, c.in_ok-put_related.ensures.tokens, c.in_ok-put_tokens.ensures.tokens, c.in_ok-put_number.ensures.tokens, c.in_ok-put_range.ensures.tokens, c.in_ok-begin_object.ensures.ok)
     (simp (append_assoc, c.severity.ensures, c.severity_number.ensures, c.name.ensures, c.as_str.ensures.value, c.as_slice.ensures.value) refl)))

@@ -10,17 +10,17 @@ use Rattle.tera_server.proofs.findings.put_published.Goals as goal
 
 pub returns-clause-tokens : goal.returns-clause-tokens
 returns-clause-tokens c =
-    let e = c.args.telling.editor.now in
-    let told = c.args.telling.related in
+    let e = c.args.publishing.editor.now in
+    let reported = c.args.publishing.related in
     let name = c.args.name.now in
-    let why = why_of c.args.telling.unread.now name in
+    let why = why_of c.args.publishing.unread.now name in
     let ds = map diagnostic_view c.args.found.now in
     let old = c.args.out.now.tokens in
-    let each : c.loop-diagnostic.out.tokens ≡ c.put_unread.new.out.tokens ++ flat_map (one_found e told) ds =
-    left_last (λ ds. flat_map (one_found e told) (map diagnostic_view ds)) _ c.loop-diagnostic.out.tokens c.args.found.now c.loop-diagnostic.diagnostic-index c.loop-diagnostic-test.false refl c.loop-diagnostic.invariant.tokens in
+    let each : c.loop-diagnostic.out.tokens ≡ c.put_unread.new.out.tokens ++ flat_map (one_found e reported) ds =
+    left_last (λ ds. flat_map (one_found e reported) (map diagnostic_view ds)) _ c.loop-diagnostic.out.tokens c.args.found.now c.loop-diagnostic.diagnostic-index c.loop-diagnostic-test.false refl c.loop-diagnostic.invariant.tokens in
     and_so c.put_tokens-3.result c.put_tokens-3.ensures.tokens
     (λ h.
-    let written : c.put_tokens-3.new.out.tokens ≡ old ++ found_tokens e told name why ds =
+    let written : c.put_tokens-3.new.out.tokens ≡ old ++ found_tokens e reported name why ds =
     rw (h, each, c.in_ok-put_unread.ensures.tokens, c.of.ensures, c.in_ok-put_tokens-2.ensures.tokens, c.in_ok-put_version.ensures.tokens, c.in_ok-put_tokens.ensures.tokens, c.as_str.ensures.value, c.in_ok-uri.ensures)
     (simp append_assoc refl) in
-    written ∙ ap (λ ts. old ++ ts) (sym (found_written e told name why ds)))
+    written ∙ ap (λ ts. old ++ ts) (sym (found_written e reported name why ds)))

@@ -6,6 +6,6 @@ use Rattle.tera_server.proofs.findings.put_published.Given as goal
 
 abbrev pub invariant-loop-diagnostic : goal.invariant-loop-diagnostic
 invariant-loop-diagnostic l = record {
-  tokens : l.initial.out.tokens ++ flat_map (one_found l.telling.editor.now l.telling.related) (map diagnostic_view l.found) ≡ l.out.tokens ++ flat_map (one_found l.telling.editor.now l.telling.related) (map diagnostic_view (drop l.diagnostic-index l.found));
+  tokens : l.initial.out.tokens ++ flat_map (one_found l.publishing.editor.now l.publishing.related) (map diagnostic_view l.found) ≡ l.out.tokens ++ flat_map (one_found l.publishing.editor.now l.publishing.related) (map diagnostic_view (drop l.diagnostic-index l.found));
   before : l.out.before ≡ l.initial.out.before;
 }

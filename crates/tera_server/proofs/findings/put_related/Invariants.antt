@@ -6,6 +6,6 @@ use Rattle.tera_server.proofs.findings.put_related.Given as goal
 
 abbrev pub invariant-loop-one : goal.invariant-loop-one
 invariant-loop-one l = record {
-  tokens : l.initial.out.tokens ++ flat_map (one_related l.telling.editor.now) (map related_view l.related) ≡ l.out.tokens ++ flat_map (one_related l.telling.editor.now) (map related_view (drop l.one-index l.related));
+  tokens : l.initial.out.tokens ++ flat_map (one_related l.publishing.editor.now) (map related_view l.related) ≡ l.out.tokens ++ flat_map (one_related l.publishing.editor.now) (map related_view (drop l.one-index l.related));
   before : l.out.before ≡ l.initial.out.before;
 }

@@ -4,4 +4,4 @@ use Rattle.tera_server.proofs.SelectionLemmas.{selectable}
 use Rattle.tera_server.proofs.laws.names_within.Goals as goal
 
 pub returns : goal.returns
-returns c = λ e text parts are k d within. selectable e text (get_or (outline_of (length text) parts) k d) (c.symbols_stand.ensures text parts are k d within)
+returns c = λ e text parts are k d within. selectable e text (get_or (outline_of (length text) parts) k d) (c.symbols_in_text.ensures text parts are k d within)

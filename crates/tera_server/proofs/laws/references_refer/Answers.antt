@@ -3,6 +3,6 @@ use Rattle.tera_server.proofs.laws.references_refer.Goals as goal
 
 pub returns : goal.returns
 returns c = record {
-  each = λ k sources told are j there. each_refers k sources told are j there;
-  all = λ k sources told are s there. all_refer k sources told are s there;
+  each = λ k sources reported are j there. each_refers k sources reported are j there;
+  all = λ k sources reported are s there. all_refer k sources reported are s there;
 }

@@ -3,14 +3,14 @@ use Rattle.std.specs.List.{filter, flat_map}
 use Rattle.tera_outline.specs.Names.{name_view, names_of}
 use Rattle.tera_outline.specs.Pieces.{part_of}
 use Rattle.tera_workspace.specs.Definitions.{text_view}
-use Rattle.tera_server.specs.References.{sought_by, refers, reference_json, reference_tokens}
+use Rattle.tera_server.specs.References.{looked_for_by, refers, reference_json, reference_tokens}
 use Rattle.tera_server.proofs.ReferenceLemmas.{references_written}
 use Rattle.tera_server.proofs.Tails.{and_so}
 use Rattle.tera_server.proofs.references.put_in.Goals as goal
 
 pub returns-clause-tokens : goal.returns-clause-tokens
 returns-clause-tokens c =
-    let k = sought_by c.args.search in
+    let k = looked_for_by c.args.search in
     let s = text_view c.args.text.now in
     let parts = map part_of c.in_ok-pieces.pieces.items in
     let named = ap (map name_view) c.as_slice-2.ensures.value ∙ (c.in_ok-names.ensures ∙ ap (λ ps. names_of (map part_of ps)) c.as_slice.ensures.value) in

@@ -5,14 +5,14 @@ use Rattle.json.specs.Tree.{json_tokens}
 use Rattle.tera_outline.specs.Names.{name_view}
 use Rattle.tera_workspace.specs.Definitions.{text_view}
 use Rattle.tera_workspace.proofs.LeftLemmas.{left_next}
-use Rattle.tera_server.specs.References.{sought_by, reference_json, reference_tokens}
+use Rattle.tera_server.specs.References.{looked_for_by, reference_json, reference_tokens}
 use Rattle.tera_server.proofs.references.put_names.Goals as goal
 use Rattle.tera_server.proofs.references.put_names.Goals.{then-refers+in_ok-put_location, else-refers}
 
 pub loop-name-preserved : goal.loop-name-preserved
 unfolding reference_tokens
 loop-name-preserved c =
-    let k = sought_by c.args.search in
+    let k = looked_for_by c.args.search in
     let s = text_view c.args.text in
     let name = c.name-item.result in
     let old = c.loop-name.out.tokens in

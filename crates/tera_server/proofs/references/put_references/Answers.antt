@@ -3,7 +3,7 @@ use Rattle.std.proofs.lemmas.List.{drop_all}
 use Rattle.json.specs.Json.{array}
 use Rattle.json.specs.Value.{items_of}
 use Rattle.tera_workspace.specs.Definitions.{text_view}
-use Rattle.tera_server.specs.References.{sought_by}
+use Rattle.tera_server.specs.References.{looked_for_by}
 use Rattle.tera_server.proofs.ArrayLemmas.{array_closed}
 use Rattle.tera_server.proofs.NameLemmas.{drop_at}
 use Rattle.tera_server.proofs.ReferenceLemmas.{AreListed, one_listed, all_listed}
@@ -12,7 +12,7 @@ use Rattle.tera_server.proofs.references.put_references.Goals as goal
 
 pub loop-text-preserved : goal.loop-text-preserved
 loop-text-preserved c =
-    let k = sought_by c.args.search in
+    let k = looked_for_by c.args.search in
     let texts = c.args.texts.now in
     let old = c.begin_array.new.self.tokens in
     let then = c.loop-text.out.tokens in
@@ -25,7 +25,7 @@ loop-text-preserved c =
 
 pub returns-clause-tokens : goal.returns-clause-tokens
 returns-clause-tokens c =
-    let k = sought_by c.args.search in
+    let k = looked_for_by c.args.search in
     let texts = c.args.texts.now in
     let old = c.begin_array.new.self.tokens in
     let (js, are, written) = all_listed k (map text_view texts) old c.loop-text.out.tokens

@@ -2,7 +2,7 @@ use Rattle.std.proofs.Common.{◌∙◌, ◌+◌, ◌++◌, [], drop, get_or, ma
 use Rattle.std.specs.List.{flat_map}
 use Rattle.std.proofs.lemmas.List.{drop_more}
 use Rattle.tera_server.specs.SemanticTokens.{placed, numbers, data_from, number_tokens}
-use Rattle.tera_server.proofs.TokenLemmas.{no_token, first_at, ready_first, ready_at, ready_order, ready_up, ready_next, next_told}
+use Rattle.tera_server.proofs.TokenLemmas.{no_token, first_at, ready_first, ready_at, ready_order, ready_up, ready_next, next_reported}
 use Rattle.tera_server.proofs.semantic_tokens.put_data.Goals as goal
 
 pub loop-token-init : goal.loop-token-init
@@ -22,7 +22,7 @@ place-requires-clause-order c =
 
 pub place-requires-clause-line : goal.place-requires-clause-line
 place-requires-clause-line c =
-    (ready_at c.args.encoding c.args.text.now c.loop-token.last c.loop-token.walk c.args.tokens.now c.loop-token.token-index (omega arith) c.loop-token.invariant.ready).stand.1
+    (ready_at c.args.encoding c.args.text.now c.loop-token.last c.loop-token.walk c.args.tokens.now c.loop-token.token-index (omega arith) c.loop-token.invariant.ready).state.1
 
 pub put_placed-requires : goal.put_placed-requires
 put_placed-requires c =
@@ -35,13 +35,13 @@ loop-token-preserved c =
     let e = c.args.encoding in
     let text = c.args.text.now in
     let token = get_or c.args.tokens.now c.loop-token.token-index no_token in
-    let behind = drop (c.loop-token.token-index + 1) c.args.tokens.now in
+    let following = drop (c.loop-token.token-index + 1) c.args.tokens.now in
     record {
       ready = rw c.place.ensures.placed
-          (ready_next c.args.encoding c.args.text.now c.loop-token.last c.loop-token.walk c.place.result.1 token behind
+          (ready_next c.args.encoding c.args.text.now c.loop-token.last c.loop-token.walk c.place.result.1 token following
           (ready_at c.args.encoding c.args.text.now c.loop-token.last c.loop-token.walk c.args.tokens.now c.loop-token.token-index (omega arith) c.loop-token.invariant.ready) c.place.ensures.byte c.place.ensures.reached);
       tokens = rw c.place.ensures.placed
-          (next_told e text c.loop-token.last token behind _ c.loop-token.out.tokens c.put_placed.new.out.tokens
+          (next_reported e text c.loop-token.last token following _ c.loop-token.out.tokens c.put_placed.new.out.tokens
           (c.loop-token.invariant.tokens ∙ ap (λ ts. c.loop-token.out.tokens ++ flat_map number_tokens (data_from c.loop-token.last (map (placed e text) ts))) (drop_more c.args.tokens.now c.loop-token.token-index no_token (omega arith)))
           (c.in_ok-put_placed.ensures.tokens ∙ ap (λ p. c.loop-token.out.tokens ++ flat_map number_tokens (numbers c.loop-token.last p)) c.place.ensures.placed));
       before = c.in_ok-put_placed.ensures.before ∙ c.loop-token.invariant.before;

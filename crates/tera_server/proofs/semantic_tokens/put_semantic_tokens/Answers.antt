@@ -1,6 +1,6 @@
 use Rattle.std.proofs.Common.{refl, append_assoc}
 use Rattle.tera_outline.specs.SemanticTokens.{semantic_tokens_of}
-use Rattle.tera_outline.proofs.SemanticLemmas.{tokens_stand}
+use Rattle.tera_outline.proofs.SemanticLemmas.{tokens_sound}
 use Rattle.protocol_values.specs.Writing.{number_json}
 use Rattle.tera_server.specs.SemanticTokens.{data_of, tokens_json, number_tokens}
 use Rattle.tera_server.proofs.ArrayLemmas.{items_written}
@@ -10,7 +10,7 @@ use Rattle.tera_server.proofs.semantic_tokens.put_semantic_tokens.Goals as goal
 pub put_data-requires : goal.put_data-requires
 put_data-requires c =
     let (parts, are, same) = c.in_ok-tokens.ensures in
-    rw (c.as_slice.ensures.value, same) (tokens_stand c.args.text.now parts are)
+    rw (c.as_slice.ensures.value, same) (tokens_sound c.args.text.now parts are)
 
 pub returns-clause-tokens : goal.returns-clause-tokens
 unfolding number_tokens

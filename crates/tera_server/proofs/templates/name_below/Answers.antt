@@ -1,5 +1,5 @@
 use Rattle.std.proofs.Common.{◌∙◌, codes, Some, None, option_map, sym, ap}
-use Rattle.tera_server.proofs.TemplateNames.{stripped, not_below, not_named, named_below, split_behind}
+use Rattle.tera_server.proofs.TemplateNames.{stripped, not_below, not_named, named_below, split_after}
 use Rattle.tera_server.proofs.templates.name_below.Goals as goal
 
 pub returns-in_err-path : goal.returns-in_err-path
@@ -22,7 +22,7 @@ returns-in-Some c =
     let named = stripped (codes "/") path c.strip_prefix-2.result c.strip_prefix-2.ensures.cases in
     named_below c.args.folder.now c.args.file.now path c.in_ok-name.name.now (Some c.in-Some.inner.now)
     (sym below ∙ ap (option_map (λ n. n.now)) c.in_ok-path.was) (sym named ∙ ap (option_map (λ n. n.now)) c.in_ok-name.was)
-    (sym (ap (option_map (λ x. x.1.now)) c.in-Some.is) ∙ split_behind (codes "/templates/") path c.split_once.result c.split_once.ensures.cases)
+    (sym (ap (option_map (λ x. x.1.now)) c.in-Some.is) ∙ split_after (codes "/templates/") path c.split_once.result c.split_once.ensures.cases)
 
 pub returns-in-None : goal.returns-in-None
 returns-in-None c =
@@ -31,4 +31,4 @@ returns-in-None c =
     let named = stripped (codes "/") path c.strip_prefix-2.result c.strip_prefix-2.ensures.cases in
     named_below c.args.folder.now c.args.file.now path c.in_ok-name.name.now None
     (sym below ∙ ap (option_map (λ n. n.now)) c.in_ok-path.was) (sym named ∙ ap (option_map (λ n. n.now)) c.in_ok-name.was)
-    (sym (ap (option_map (λ x. x.1.now)) c.in-None.is) ∙ split_behind (codes "/templates/") path c.split_once.result c.split_once.ensures.cases)
+    (sym (ap (option_map (λ x. x.1.now)) c.in-None.is) ∙ split_after (codes "/templates/") path c.split_once.result c.split_once.ensures.cases)

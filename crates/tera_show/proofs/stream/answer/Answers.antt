@@ -34,12 +34,12 @@ returns-in-SyntaxError-clause-ok c =
     let same = job (limits_of c.args.limits) _ _ default_marks _ c.args.input.now c.with_limits-parser.result c.with_limits-parser.ensures c.default.ensures.0 text.0 in
     let none : (output : Output) → Derives (limits_of c.args.limits) default_marks c.args.input.now output → IsMemoryKind c.in-Err.error.kind =
     λ output d. c.in-Err.ensures.complete output ((same (λ l m s. Derives l m s output)).1 d) in
-    let told : Refuses default_marks c.args.input.now c.in-Err.error = (same (λ l m s. Refuses m s c.in-Err.error)).0 c.in-Err.ensures.refusal in
-    let tells = rw c.in-SyntaxError.is at told in
+    let reported : Refuses default_marks c.args.input.now c.in-Err.error = (same (λ l m s. Refuses m s c.in-Err.error)).0 c.in-Err.ensures.refusal in
+    let reports = rw c.in-SyntaxError.is at reported in
     let seen : c.deref.result.now ≡ c.in-SyntaxError.report.value = c.deref.ensures ∙ (λ i. (c.in-SyntaxError.report-is i).value) in
     let seen_span : c.deref-in-SyntaxError.result.now ≡ c.in-SyntaxError.report.value = c.deref-in-SyntaxError.ensures ∙ (λ i. (c.in-SyntaxError.report-is i).value) in
     let message : c.as_str.result.now ≡ string_bytes c.in-SyntaxError.report.value.message = c.as_str.ensures.value ∙ (λ i. string_bytes (seen i).message) in (
       text.1,
       (λ output d. rw c.in-SyntaxError.is at (none output d)),
-      (_, c.in-SyntaxError.report.value.span, c.in_ok-line-in-SyntaxError.ensures ∙ (λ i. fault_line (message i) (seen_span i).span), tells.0, tells.1),
+      (_, c.in-SyntaxError.report.value.span, c.in_ok-line-in-SyntaxError.ensures ∙ (λ i. fault_line (message i) (seen_span i).span), reports.0, reports.1),
     )

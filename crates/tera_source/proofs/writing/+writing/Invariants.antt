@@ -33,8 +33,8 @@ decreases-push_expression l = 10 * goal.size-push_expression l + 1
 abbrev pub decreases-push_negation : goal.decreases-push_negation
 decreases-push_negation l = 10 * goal.size-push_negation l + 2
 
-abbrev pub decreases-push_behind : goal.decreases-push_behind
-decreases-push_behind l = 10 * goal.size-push_behind l + 2
+abbrev pub decreases-push_after : goal.decreases-push_after
+decreases-push_after l = 10 * goal.size-push_after l + 2
 
 abbrev pub decreases-push_maybe : goal.decreases-push_maybe
 decreases-push_maybe l = 10 * goal.size-push_maybe l + 3

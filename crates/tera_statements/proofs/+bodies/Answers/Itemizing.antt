@@ -12,28 +12,28 @@ use Rattle.tera_expect.proofs.Steps.{failed_as}
 use Rattle.tera_statements.proofs.+bodies.Goals as goal
 
 pub items::item-returns-in-Ends-clause-gives : goal.items::item-returns-in-Ends-clause-gives
-items::item-returns-in-Ends-clause-gives t c = λ path stands.
+items::item-returns-in-Ends-clause-gives t c = λ path represents.
     let l = limits_of c.args.setting.now.limits in
     (step_ended l (body c.args.depth l) path (seen_of c.args.names.now) c.args.cursor.now.left c.in-Ends.ensures, refl)
 
 pub items::item-returns-in-Closes-clause-gives : goal.items::item-returns-in-Closes-clause-gives
-items::item-returns-in-Closes-clause-gives t c = λ path stands.
+items::item-returns-in-Closes-clause-gives t c = λ path represents.
     let l = limits_of c.args.setting.now.limits in
     (step_closed l (body c.args.depth l) path (seen_of c.args.names.now) _ c.args.cursor.now.left c.in-Closes.ensures, refl)
 
 pub items::item-returns-in_err-added-in-Opens-clause-gives : goal.items::item-returns-in_err-added-in-Opens-clause-gives
-items::item-returns-in_err-added-in-Opens-clause-gives t c = λ path stands.
+items::item-returns-in_err-added-in-Opens-clause-gives t c = λ path represents.
     let l = limits_of c.args.setting.now.limits in
     let p = err_from_is_err_and c.from_residual-in_err-added-in-Opens.result c.from_residual-in_err-added-in-Opens.ensures.1 in
     let (start, is) = c.in_ok-enter-in-Opens.ensures.enters in
     rw (p.1, p.2) (failed_as _ _ _ (λ h. opens_nothing l (body c.args.depth l) path (seen_of c.args.names.now) (front c.args.cursor.now.left) (opener_of c.in-Opens.opener) start
-    c.enter.new.cursor.span c.enter.new.cursor.left is h) (c.in_err-added-in-Opens.ensures.gives path stands start))
+    c.enter.new.cursor.span c.enter.new.cursor.left is h) (c.in_err-added-in-Opens.ensures.gives path represents start))
 
 pub items::item-returns-in_ok-added-in-Opens-clause-gives : goal.items::item-returns-in_ok-added-in-Opens-clause-gives
-items::item-returns-in_ok-added-in-Opens-clause-gives t c = λ path stands.
+items::item-returns-in_ok-added-in-Opens-clause-gives t c = λ path represents.
     let l = limits_of c.args.setting.now.limits in
     let (start, is) = c.in_ok-enter-in-Opens.ensures.enters in
-    let (i, read, shows) = c.in_ok-added-in-Opens.ensures.gives path stands start in (
+    let (i, read, shows) = c.in_ok-added-in-Opens.ensures.gives path represents start in (
       i,
       opens_item l (body c.args.depth l) path (seen_of c.args.names.now) (front c.args.cursor.now.left) (opener_of c.in-Opens.opener) start
           c.enter.new.cursor.span c.enter.new.cursor.left is i _ read,
@@ -41,7 +41,7 @@ items::item-returns-in_ok-added-in-Opens-clause-gives t c = λ path stands.
     )
 
 pub items::item-returns-in-Wrong-clause-gives : goal.items::item-returns-in-Wrong-clause-gives
-items::item-returns-in-Wrong-clause-gives t c = λ path stands.
+items::item-returns-in-Wrong-clause-gives t c = λ path represents.
     let l = limits_of c.args.setting.now.limits in
     inr (step_wrong l (body c.args.depth l) path (seen_of c.args.names.now) c.args.cursor.now.left c.in-Wrong.ensures)
 

@@ -5,7 +5,7 @@ use Rattle.tera_statements.specs.Known.{located_of, met_of}
 use Rattle.tera_statements.specs.Parameters.{has_default}
 use Rattle.tera_expr_parts.specs.Rooms.{limits_of}
 use Rattle.tera_expect.specs.Taking.{name_at}
-use Rattle.tera_statements.proofs.ParametersLemmas.{annotation_known, argument_is, at_behind, at_read, mistyped, no_annotation, no_assigned, no_fresh_name, parameter_given}
+use Rattle.tera_statements.proofs.ParametersLemmas.{annotation_known, argument_is, at_after, at_read, mistyped, no_annotation, no_assigned, no_fresh_name, parameter_given}
 use Rattle.tera_expect.proofs.Steps.{failed_as, fails_by}
 use Rattle.tera_statements.proofs.KnownLemmas.{same_place}
 use Rattle.tera_statements.proofs.parameters.parameter.Goals as goal
@@ -17,7 +17,7 @@ returns-in_err-name-clause-gives c =
     let ts = c.args.cursor.now.left in
     let (at, is, opens) = at_read c.eat-implicit.result c.args.cursor.now c.eat-implicit.new.cursor c.eat-implicit.ensures in
     let p = err_from_is_err_and c.from_residual.result c.from_residual.ensures.1 in
-    rw (p.1, p.2) (failed_as _ _ _ (λ h. at_behind l seen ts _ at opens ∙ no_fresh_name l seen at _ h) c.in_err-name.ensures.gives)
+    rw (p.1, p.2) (failed_as _ _ _ (λ h. at_after l seen ts _ at opens ∙ no_fresh_name l seen at _ h) c.in_err-name.ensures.gives)
 
 pub returns-in_err-typ-clause-gives : goal.returns-in_err-typ-clause-gives
 returns-in_err-typ-clause-gives c =
@@ -27,7 +27,7 @@ returns-in_err-typ-clause-gives c =
     let (at, is, opens) = at_read c.eat-implicit.result c.args.cursor.now c.eat-implicit.new.cursor c.eat-implicit.ensures in
     let p = err_from_is_err_and c.from_residual-in_err-typ.result c.from_residual-in_err-typ.ensures.1 in
     let n = name_at c.fresh_name.new.cursor.span c.in_ok-name.name in
-    rw (p.1, p.2) (failed_as _ _ _ (λ h. at_behind l seen ts _ at opens ∙ no_annotation l seen at _ n _ c.in_ok-name.ensures.gives h) c.in_err-typ.ensures.gives)
+    rw (p.1, p.2) (failed_as _ _ _ (λ h. at_after l seen ts _ at opens ∙ no_annotation l seen at _ n _ c.in_ok-name.ensures.gives h) c.in_err-typ.ensures.gives)
 
 pub returns-in_err-default-clause-gives : goal.returns-in_err-default-clause-gives
 returns-in_err-default-clause-gives c =
@@ -38,7 +38,7 @@ returns-in_err-default-clause-gives c =
     let p = err_from_is_err_and c.from_residual-in_err-default.result c.from_residual-in_err-default.ensures.1 in
     let n = name_at c.fresh_name.new.cursor.span c.in_ok-name.name in
     let (t, typed, written) = c.in_ok-typ.ensures.gives in
-    rw (p.1, p.2) (failed_as _ _ _ (λ h. at_behind l seen ts _ at opens ∙ no_assigned l seen at _ n _ c.in_ok-name.ensures.gives t _ typed h) c.in_err-default.ensures.gives)
+    rw (p.1, p.2) (failed_as _ _ _ (λ h. at_after l seen ts _ at opens ∙ no_assigned l seen at _ n _ c.in_ok-name.ensures.gives t _ typed h) c.in_err-default.ensures.gives)
 
 pub returns-in_err-check_default-clause-gives : goal.returns-in_err-check_default-clause-gives
 returns-in_err-check_default-clause-gives c =
@@ -51,7 +51,7 @@ returns-in_err-check_default-clause-gives c =
     let (t, typed, written) = c.in_ok-typ.ensures.gives in
     let (d, assigned, value) = c.in_ok-default.ensures.gives in
     let same = c.argument-argument.ensures ∙ argument_is at n t d _ _ _ is written (annotation_known _ _ _ typed) value in
-    rw (p.1, p.2) (fails_by _ _ (λ h. at_behind l seen ts _ at opens ∙ mistyped l seen at _ n _ c.in_ok-name.ensures.gives t _ typed d _ assigned (sym (ap has_default same) ∙ h)) c.in_err-check_default.ensures.fails)
+    rw (p.1, p.2) (fails_by _ _ (λ h. at_after l seen ts _ at opens ∙ mistyped l seen at _ n _ c.in_ok-name.ensures.gives t _ typed d _ assigned (sym (ap has_default same) ∙ h)) c.in_err-check_default.ensures.fails)
 
 pub returns-clause-gives : goal.returns-clause-gives
 returns-clause-gives c =
@@ -64,6 +64,6 @@ returns-clause-gives c =
     let (d, assigned, value) = c.in_ok-default.ensures.gives in
     let same = c.argument-argument.ensures ∙ argument_is at n t d _ _ _ is written (annotation_known _ _ _ typed) value in (
       reading.parameter at n t d,
-      at_behind l seen ts _ at opens ∙ parameter_given l seen at _ n _ c.in_ok-name.ensures.gives t _ typed d _ assigned (sym (ap has_default same) ∙ c.in_ok-check_default.ensures.fits),
+      at_after l seen ts _ at opens ∙ parameter_given l seen at _ n _ c.in_ok-name.ensures.gives t _ typed d _ assigned (sym (ap has_default same) ∙ c.in_ok-check_default.ensures.fits),
       ((c.in_ok-from_str.ensures.ok, same), c.in_ok-keep_name.ensures.kept ∙ same_place (located_of c.args.seen.now) refl c.current_span.ensures.span),
     )

@@ -11,7 +11,7 @@ use Rattle.tera_statements.specs.Known.{located_of}
 use Rattle.tera_statements.proofs.KnownLemmas.{none_located}
 use Rattle.tera_statements.specs.Parameters.{arguments_view}
 use Rattle.tera_expr_parts.specs.Rooms.{limits_of}
-use Rattle.tera_expect.proofs.TakingLemmas.{goes_further, goes_took, refused_behind, refused_further, stays, took_all, took_further, took_goes, took_size}
+use Rattle.tera_expect.proofs.TakingLemmas.{goes_further, goes_took, refused_after, refused_further, stays, took_all, took_further, took_goes, took_size}
 use Rattle.tera_statements.proofs.ParametersLemmas.{closed_there, eaten_goes, last_given, listing_more, no_comma, no_parameter, no_rest, rest_given, same_place}
 use Rattle.tera_expect.proofs.Steps.{failed_as}
 use Rattle.tera_statements.proofs.parameters.read_parameters.Goals as goal
@@ -115,12 +115,12 @@ parameters-preserved c =
     let second = eaten_goes c.eat-in-parameters.result c.eat.new.cursor c.eat-in-parameters.new.cursor (takes Spread c.eat.new.cursor.left) c.eat-in-parameters.ensures in
     let third = eaten_goes c.eat-in-parameters-2.result c.parameter.new.cursor c.eat-in-parameters-2.new.cursor (takes RightParen c.parameter.new.cursor.left) c.eat-in-parameters-2.ensures in
     let ahead = goes_further _ _ _ first second in
-    let behind = took_all _ _ _ (took_further _ _ _ c.in_ok-name.ensures.later third) c.in_ok-expect.ensures.later in
+    let following = took_all _ _ _ (took_further _ _ _ c.in_ok-name.ensures.later third) c.in_ok-expect.ensures.later in
     record {
       listing = listing_more l c.args.cursor.now.left here seen _ _ _ c.parameters.invariant.listing no_end.0 other q _ there no_last.0 _ _ comma
           is.1
           (c.in_ok-put_argument.ensures.puts ∙ (λ i. put_name (is.0.0 i) (is.0.1 i) (arguments_view c.parameters.arguments.entries)));
-      later = goes_further _ _ _ c.parameters.invariant.later (took_goes _ _ (goes_took _ _ _ ahead behind));
+      later = goes_further _ _ _ c.parameters.invariant.later (took_goes _ _ (goes_took _ _ _ ahead following));
     }
 
 pub parameters-smaller : goal.parameters-smaller
@@ -129,8 +129,8 @@ parameters-smaller c =
     let second = eaten_goes c.eat-in-parameters.result c.eat.new.cursor c.eat-in-parameters.new.cursor (takes Spread c.eat.new.cursor.left) c.eat-in-parameters.ensures in
     let third = eaten_goes c.eat-in-parameters-2.result c.parameter.new.cursor c.eat-in-parameters-2.new.cursor (takes RightParen c.parameter.new.cursor.left) c.eat-in-parameters-2.ensures in
     let ahead = goes_further _ _ _ first second in
-    let behind = took_all _ _ _ (took_further _ _ _ c.in_ok-name.ensures.later third) c.in_ok-expect.ensures.later in
-    took_size c.parameters.cursor c.expect.new.cursor (goes_took _ _ _ ahead behind)
+    let following = took_all _ _ _ (took_further _ _ _ c.in_ok-name.ensures.later third) c.in_ok-expect.ensures.later in
+    took_size c.parameters.cursor c.expect.new.cursor (goes_took _ _ _ ahead following)
 
 pub returns-then-eat-clause-later : goal.returns-then-eat-clause-later
 returns-then-eat-clause-later c =
@@ -142,7 +142,7 @@ returns-in_err-rest_parameter-clause-refusal c =
     let dots = rw c.if-eat-2.true at c.eat-in-parameters.ensures in
     let ahead = eaten_goes c.eat.result c.parameters.cursor c.eat.new.cursor (takes RightParen c.parameters.cursor.left) c.eat.ensures in
     let p = err_from_is_err_and c.from_residual.result c.from_residual.ensures.1 in
-    rw (p.1, p.2) (refused_further _ _ _ (goes_further _ _ _ c.parameters.invariant.later ahead) (refused_behind _ _ _ dots.1 c.in_err-rest_parameter.ensures.refusal))
+    rw (p.1, p.2) (refused_further _ _ _ (goes_further _ _ _ c.parameters.invariant.later ahead) (refused_after _ _ _ dots.1 c.in_err-rest_parameter.ensures.refusal))
 
 pub returns-then-eat-2-clause-later : goal.returns-then-eat-2-clause-later
 returns-then-eat-2-clause-later c =
@@ -171,4 +171,4 @@ returns-in_err-expect-clause-refusal c =
     let third = eaten_goes c.eat-in-parameters-2.result c.parameter.new.cursor c.eat-in-parameters-2.new.cursor (takes RightParen c.parameter.new.cursor.left) c.eat-in-parameters-2.ensures in
     let p = err_from_is_err_and c.from_residual-in_err-expect.result c.from_residual-in_err-expect.ensures.1 in
     rw (p.1, p.2) (refused_further _ _ _ (goes_further _ _ _ c.parameters.invariant.later (goes_further _ _ _ first second))
-    (refused_behind _ _ _ (took_further _ _ _ c.in_ok-name.ensures.later third) c.in_err-expect.ensures.refusal))
+    (refused_after _ _ _ (took_further _ _ _ c.in_ok-name.ensures.later third) c.in_err-expect.ensures.refusal))

@@ -11,21 +11,21 @@ use Rattle.tera_statements.proofs.simple.read_jump.Goals as goal
 
 pub returns-in_err-check_jump-clause-gives : goal.returns-in_err-check_jump-clause-gives
 unfolding break_of
-returns-in_err-check_jump-clause-gives c = λ path stands start seen.
+returns-in_err-check_jump-clause-gives c = λ path represents start seen.
     let p = err_from_is_err_and c.from_residual.result c.from_residual.ensures.1 in
-    rw (p.1, p.2) (fails_by _ _ (λ h. let none : may_break path ≡ false = sym stands.breaks ∙ h in rw none refl) c.in_err-check_jump.ensures.fails)
+    rw (p.1, p.2) (fails_by _ _ (λ h. let none : may_break path ≡ false = sym represents.breaks ∙ h in rw none refl) c.in_err-check_jump.ensures.fails)
 
 pub returns-in_err-finish-clause-gives : goal.returns-in_err-finish-clause-gives
 unfolding break_of
-returns-in_err-finish-clause-gives c = λ path stands start seen.
+returns-in_err-finish-clause-gives c = λ path represents start seen.
     let p = err_from_is_err_and c.from_residual-in_err-finish.result c.from_residual-in_err-finish.ensures.1 in
-    let may = sym stands.breaks ∙ c.in_ok-check_jump.ensures.stands in
+    let may = sym represents.breaks ∙ c.in_ok-check_jump.ensures.represents in
     rw (p.1, p.2, may) (failed _ _ _ c.in_err-finish.ensures.gives)
 
 pub returns-clause-gives : goal.returns-clause-gives
 unfolding break_of
-returns-clause-gives c = λ path stands start seen.
-    let may = sym stands.breaks ∙ c.in_ok-check_jump.ensures.stands in
+returns-clause-gives c = λ path represents start seen.
+    let may = sym represents.breaks ∙ c.in_ok-check_jump.ensures.represents in
     let (f, ended) = c.in_ok-finish.ensures.gives in (
       Single (jump_item c.args.jump (tag start c.args.cursor.now.span f)),
       rw (may, ended) refl,

@@ -27,20 +27,20 @@ returns-in_default-clause-gives c =
 pub returns-clause-gives : goal.returns-clause-gives
 returns-clause-gives c =
     let (i, read, shows) = rw c.in_ok-refuse_extends.ensures.stays at (rw c.in-Some.is at c.in_ok-added.ensures.gives) in
-    let turned = ap (turn (phase_of c.args.phase)) (sym (c.weigh.ensures ∙ ap weight shows)) ∙ sym c.behind.ensures ∙ ap phase_if_any c.in-Some-behind.is in
+    let turned = ap (turn (phase_of c.args.phase)) (sym (c.weigh.ensures ∙ ap weight shows)) ∙ sym c.following.ensures ∙ ap phase_if_any c.in-Some-following.is in
     (i, read, shows, turned)
 
-pub returns-in_default-behind-clause-gives : goal.returns-in_default-behind-clause-gives
-returns-in_default-behind-clause-gives c =
+pub returns-in_default-following-clause-gives : goal.returns-in_default-following-clause-gives
+returns-in_default-following-clause-gives c =
     let (i, read, shows) = rw c.in_ok-refuse_extends.ensures.stays at (rw c.in-Some.is at c.in_ok-added.ensures.gives) in
-    let turned = ap (turn (phase_of c.args.phase)) (sym (c.weigh.ensures ∙ ap weight shows)) ∙ sym c.behind.ensures ∙ ap phase_if_any c.in_default-behind.is in
+    let turned = ap (turn (phase_of c.args.phase)) (sym (c.weigh.ensures ∙ ap weight shows)) ∙ sym c.following.ensures ∙ ap phase_if_any c.in_default-following.is in
     inr (turn_excluded (limits_of c.args.setting.now.limits) c.args.setting.now.valid (here c.args.names.now c.args.cursor.now) (phase_of c.args.phase) i _ read turned)
 
-pub returns-in_default-behind-clause-refusal : goal.returns-in_default-behind-clause-refusal
-returns-in_default-behind-clause-refusal c =
+pub returns-in_default-following-clause-refusal : goal.returns-in_default-following-clause-refusal
+returns-in_default-following-clause-refusal c =
     let took = rw c.in_ok-refuse_extends.ensures.stays at (rw c.in-Some.is at c.in_ok-added.ensures.later) in
-    let stands = rw c.in_ok-refuse_extends.ensures.stays at c.next_place-first.ensures in
-    c.ignored.ensures c.args.cursor.now took stands
+    let represents = rw c.in_ok-refuse_extends.ensures.stays at c.next_place-first.ensures in
+    c.ignored.ensures c.args.cursor.now took represents
 
 pub returns-in_err-added-clause-empty : goal.returns-in_err-added-clause-empty
 returns-in_err-added-clause-empty c =
@@ -48,10 +48,10 @@ returns-in_err-added-clause-empty c =
     let refused = rw c.in_ok-refuse_extends.ensures.stays at c.in_err-added.ensures.empty in
     rw p.1 refused
 
-pub returns-in_default-behind-clause-empty : goal.returns-in_default-behind-clause-empty
-returns-in_default-behind-clause-empty c = λ empty.
+pub returns-in_default-following-clause-empty : goal.returns-in_default-following-clause-empty
+returns-in_default-following-clause-empty c = λ empty.
     let l = limits_of c.args.setting.now.limits in
     let (i, read, shows) = rw c.in_ok-refuse_extends.ensures.stays at (rw c.in-Some.is at c.in_ok-added.ensures.gives) in
     let nothing = empty_adds l (body (top_depth l) l) [] (seen_of c.args.names.now) false c.args.cursor.now.left i _ empty read in
-    let turned = ap (turn (phase_of c.args.phase)) (sym (c.weigh.ensures ∙ ap weight shows)) ∙ sym c.behind.ensures ∙ ap phase_if_any c.in_default-behind.is in
+    let turned = ap (turn (phase_of c.args.phase)) (sym (c.weigh.ensures ∙ ap weight shows)) ∙ sym c.following.ensures ∙ ap phase_if_any c.in_default-following.is in
     silent_turns (phase_of c.args.phase) (ap (λ a. turn (phase_of c.args.phase) (weight a)) (sym nothing) ∙ turned)

@@ -9,7 +9,7 @@ use Rattle.tera_statements.proofs.templates.refuse_extends.Goals as goal
 pub returns-in-Opens-Extends-clause-excludes : goal.returns-in-Opens-Extends-clause-excludes
 returns-in-Opens-Extends-clause-excludes c = λ seen.
     late_excluded (limits_of c.args.setting.now.limits) c.args.setting.now.valid (at seen c.args.cursor.now.left) (phase_of c.args.phase)
-    (no_phase _ _ c.behind.ensures (sym c.is_some.ensures ∙ c.if-is_some.false)) (rw c.in-Opens-Extends.field-0-is at c.in-Opens-Extends.ensures)
+    (no_phase _ _ c.following.ensures (sym c.is_some.ensures ∙ c.if-is_some.false)) (rw c.in-Opens-Extends.field-0-is at c.in-Opens-Extends.ensures)
 
 pub returns-in-Opens-Extends-clause-empty : goal.returns-in-Opens-Extends-clause-empty
 returns-in-Opens-Extends-clause-empty c = λ empty. quiet _ c.args.cursor.now.left c.in-Opens-Extends.ensures empty

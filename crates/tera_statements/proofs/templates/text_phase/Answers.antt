@@ -7,14 +7,14 @@ use Rattle.tera_statements.proofs.RefusalLemmas.{memory_inside, silent_turns}
 use Rattle.tera_statements.proofs.templates.text_phase.Goals as goal
 
 pub returns-in_default-clause-gives : goal.returns-in_default-clause-gives
-returns-in_default-clause-gives c = inr (sym c.behind_text.ensures ∙ ap phase_if_any c.in_default.is)
+returns-in_default-clause-gives c = inr (sym c.after_text.ensures ∙ ap phase_if_any c.in_default.is)
 
 pub returns-in_default-clause-refusal : goal.returns-in_default-clause-refusal
 returns-in_default-clause-refusal c = λ old took. c.ignored.ensures old took tt
 
 pub returns-in_default-clause-empty : goal.returns-in_default-clause-empty
 returns-in_default-clause-empty c = λ none.
-    silent_turns (phase_of c.args.phase) (ap (λ t. turn (phase_of c.args.phase) (weight (text_adds t))) (sym none) ∙ sym c.behind_text.ensures ∙ ap phase_if_any c.in_default.is)
+    silent_turns (phase_of c.args.phase) (ap (λ t. turn (phase_of c.args.phase) (weight (text_adds t))) (sym none) ∙ sym c.after_text.ensures ∙ ap phase_if_any c.in_default.is)
 
 pub returns-in_err-add_text-clause-refusal : goal.returns-in_err-add_text-clause-refusal
 returns-in_err-add_text-clause-refusal c = λ old took.
@@ -27,4 +27,4 @@ returns-in_err-add_text-clause-empty c =
     rw p.1 c.in_err-add_text.ensures.empty
 
 pub returns-clause-gives : goal.returns-clause-gives
-returns-clause-gives c = (c.in_ok-add_text.ensures.added, sym c.behind_text.ensures ∙ ap phase_if_any c.in-Some.is)
+returns-clause-gives c = (c.in_ok-add_text.ensures.added, sym c.after_text.ensures ∙ ap phase_if_any c.in-Some.is)

@@ -9,7 +9,7 @@ use Rattle.tera_tree.specs.Calls.{Pair, put_pair, put_pairs, RestNameComesTo}
 use Rattle.tera_tree.proofs.CallNames.{Name, split_texts, take_texts, take_whole, put_pairs_more, pairs_put, among_names}
 use Rattle.tera_tree.proofs.calls.rest_map.Goals as goal
 
--- what stands in no list
+-- what is in no list
 no_name : Name
 no_name = record { ref_ptr = (0, 0); now = [] }
 

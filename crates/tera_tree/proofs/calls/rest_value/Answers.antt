@@ -13,4 +13,4 @@ returns-in-Some g c =
 
 pub returns-in-None : goal.returns-in-None
 returns-in-None g c =
-    refused _ _ _ _ (Ok None, record { shown = c.args.name; shows = refl; says = record { met = rw c.in-None.is at c.in_ok-value.ensures } }, refl) (c.told.ensures _ c.no_value.ensures)
+    refused _ _ _ _ (Ok None, record { shown = c.args.name; shows = refl; says = record { met = rw c.in-None.is at c.in_ok-value.ensures } }, refl) (c.message_error.ensures _ c.no_value.ensures)

@@ -3,7 +3,7 @@ use Rattle.tera_tree.specs.Calls.{texts, place_names}
 use Rattle.tera_tree.proofs.CallNames.{Name, place_next}
 use Rattle.tera_tree.proofs.refusals.sorted_names.Goals as goal
 
--- what stands in no list
+-- what is in no list
 no_name : Name
 no_name = record { ref_ptr = (0, 0); now = [] }
 

@@ -5,4 +5,4 @@ use Rattle.tera_tree_text.proofs.lines.push_filters.Given as goal
 
 abbrev pub invariant-loop-filter : goal.invariant-loop-filter
 invariant-loop-filter l =
-    string_bytes l.initial.out ++ filters_text l.behind (filters_view l.filter-items) ≡ string_bytes l.out ++ filters_text l.later (filters_view (drop l.filter-index l.filter-items))
+    string_bytes l.initial.out ++ filters_text l.following (filters_view l.filter-items) ≡ string_bytes l.out ++ filters_text l.later (filters_view (drop l.filter-index l.filter-items))

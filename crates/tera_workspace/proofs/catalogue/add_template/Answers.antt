@@ -6,7 +6,7 @@ use Rattle.tera_tree.specs.View.{definition_view}
 use Rattle.tera_check.specs.Judged.{known_view}
 use Rattle.tera_check.specs.Named.{known_in, known_at, defined_from, first_named, or_else}
 use Rattle.tera_check.proofs.CatalogueLemmas.{some_known, none_known, known_by, kept, added}
-use Rattle.tera_workspace.proofs.WantedLemmas.{unwanted, definition_next, none_left}
+use Rattle.tera_workspace.proofs.NeededLemmas.{unwanted, definition_next, none_left}
 use Rattle.tera_workspace.proofs.catalogue.add_template.Goals as goal
 use Rattle.tera_workspace.proofs.catalogue.add_template.Goals.{then-contains+then-not-contains_key+in_ok-clone+in_ok-insert, else-contains, else-contains-via-then-contains+else-not-contains_key, else-contains-via-else-contains}
 
@@ -35,7 +35,7 @@ loop-at-preserved c = λ n has.
         | else-contains-via-then-contains+else-not-contains_key v ↦
             kept (known_in map) one n name c.as_str-name.ensures.value (some_known _ ∙ sym v.if-not-contains_key.ensures)
         | else-contains-via-else-contains v ↦
-            unwanted c.args.wanted.now one n name (known_in map n) c.as_str-name.ensures.value (sym v.if-contains.ensures) has
+            unwanted c.args.needed.now one n name (known_in map n) c.as_str-name.ensures.value (sym v.if-contains.ensures) has
       ]
     ] in
     definition_next n c.args.number c.args.template.now c.definitions_of-definition-items.result.now c.loop-at.at d (known_in map n) (known_in c.if-contains.catalogue n) _

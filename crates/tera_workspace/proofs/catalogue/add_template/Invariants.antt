@@ -6,6 +6,6 @@ use Rattle.tera_workspace.proofs.catalogue.add_template.Given as goal
 
 abbrev pub invariant-loop-at : goal.invariant-loop-at
 invariant-loop-at l =
-    (n : List ℕ) → contains_name l.wanted n ≡ true
+    (n : List ℕ) → contains_name l.needed n ≡ true
     → or_else (known_in l.initial.catalogue n) (first_named n (defined_in l.number l.template))
     ≡ or_else (known_in l.catalogue n) (first_named n (defined_from l.number l.template l.at (map definition_view (drop l.at l.definition-items))))

@@ -1,6 +1,6 @@
 use Rattle.std.proofs.Common.{◌≡◌, ◌<◌, length, get_or, ap, arith}
 use Rattle.tera_check.specs.Named.{known_in}
-use Rattle.tera_workspace.proofs.WantedLemmas.{document_next}
+use Rattle.tera_workspace.proofs.NeededLemmas.{document_next}
 use Rattle.tera_workspace.proofs.catalogue.catalogue_for.Goals as goal
 
 pub loop-number-preserved : goal.loop-number-preserved

@@ -6,5 +6,5 @@ use Rattle.tera_workspace.proofs.catalogue.catalogue_for.Given as goal
 
 abbrev pub invariant-loop-number : goal.invariant-loop-number
 invariant-loop-number l =
-    (n : List ℕ) → contains_name l.wanted n ≡ true
+    (n : List ℕ) → contains_name l.needed n ≡ true
     → first_named n (defined_by 0 (templates_of l.all.items)) ≡ or_else (known_in l.catalogue n) (first_named n (defined_by l.number (templates_of (drop l.number l.all.items))))

@@ -1,7 +1,7 @@
 use Rattle.std.proofs.Common.{◌≡◌, ◌∙◌, ◌<◌, length, get_or, true, false, Some, sym, ap, arith, string_bytes, bytes_eq}
 use Rattle.tera_check.specs.Named.{defined_by, first_named}
 use Rattle.tera_workspace.specs.Kept.{templates_of}
-use Rattle.tera_workspace.proofs.WantedLemmas.{document_begun, is_this, not_this, all_begun}
+use Rattle.tera_workspace.proofs.NeededLemmas.{document_begun, is_this, not_this, all_begun}
 use Rattle.tera_workspace.proofs.catalogue.first_known.Goals as goal
 
 pub loop-at-init : goal.loop-at-init

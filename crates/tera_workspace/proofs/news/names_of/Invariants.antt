@@ -1,5 +1,5 @@
 use Rattle.std.proofs.Common.{ℕ, List, ◌++◌, drop, map, string_bytes}
-use Rattle.tera_workspace.specs.Told.{AreOfOthers}
+use Rattle.tera_workspace.specs.Reported.{AreOfOthers}
 use Rattle.tera_workspace.proofs.news.names_of.Given as goal
 
 abbrev pub invariant-loop-number : goal.invariant-loop-number

@@ -4,7 +4,7 @@ use Rattle.tera_workspace.specs.Kept.{IsWhole}
 use Rattle.tera_workspace.specs.declared.judged.Judged.{Judged}
 use Rattle.tera_workspace.proofs.CurrentLemmas.{all_at}
 use Rattle.tera_workspace.proofs.NewsLemmas.{AreNewsSoFar, news_next, all_news}
-use Rattle.tera_workspace.proofs.WantsLemmas.{wants_at}
+use Rattle.tera_workspace.proofs.NeedsLemmas.{needs_at}
 use Rattle.tera_workspace.proofs.news.news_of.Goals as goal
 
 pub loop-number-preserved : goal.loop-number-preserved
@@ -35,7 +35,7 @@ news_of_one-requires c = record {
       let j = c.judged-item.result in
       let within : at < length js = omega (arith, ap length c.deref-judged-items.ensures.value) in
       let is : j ≡ get_or js at j = c.judged-item.is ∙ ap (λ xs. get_or xs at j) c.deref-judged-items.ensures.value in
-      c.in_ok-catalogue.ensures n (wants_at c.in_ok-wanted.wanted js at j within is c.in_ok-wanted.ensures stale n among);
+      c.in_ok-catalogue.ensures n (needs_at c.in_ok-needed.needed js at j within is c.in_ok-needed.ensures stale n among);
   is_open = c.are_open-is_open.ensures;
 }
 

@@ -4,7 +4,7 @@ use Rattle.text_edits.specs.Stored.{document_of}
 use Rattle.tera_workspace.specs.Kept.{sources_of, IsTextAt}
 use Rattle.tera_workspace.specs.Names.{is_among}
 use Rattle.tera_workspace.specs.Sources.{text_named}
-use Rattle.tera_workspace.proofs.ReadingLemmas.{stay_behind}
+use Rattle.tera_workspace.proofs.ReadingLemmas.{stay_after}
 use Rattle.tera_workspace.proofs.ReadSoFar.{none_read, one_read, all_read, text_or_none}
 use Rattle.tera_workspace.proofs.reading.read_changed.Goals as goal
 
@@ -25,7 +25,7 @@ loop-name-preserved c =
     within c.name-item.is has c.put.ensures.kept at c.loop-name.invariant
 
 pub returns-in_err-put-clause-kept : goal.returns-in_err-put-clause-kept
-returns-in_err-put-clause-kept c = stay_behind c.args.all.now.items c.loop-name.all.items c.put.new.all.items c.loop-name.invariant.kept c.put.ensures.kept
+returns-in_err-put-clause-kept c = stay_after c.args.all.now.items c.loop-name.all.items c.put.new.all.items c.loop-name.invariant.kept c.put.ensures.kept
 
 pub returns-in_err-put-clause-texts : goal.returns-in_err-put-clause-texts
 returns-in_err-put-clause-texts c = λ n free.

@@ -21,7 +21,7 @@ returns-clause-kept c =
     subst (λ (x : Judged). (n : List ℕ) → is_among n touched ≡ false → HaveOneHeadIfAny (definition_named n (definitions_of x.template)) (definition_named n (definitions_of j.template)))
     c.index.ensures c.in_ok-touched.ensures in
     let put = put_is name touched js c.args.number j d c.requires.number c.requires.anew heads c.mark.new.all.items c.index_mut.result.now
-    (record c.index_mut.result.now { told = c.swap.new.y }) c.swap.new.x c.mark.ensures c.index_mut.ensures.value c.swap.ensures.x_after in
+    (record c.index_mut.result.now { reported = c.swap.new.y }) c.swap.new.x c.mark.ensures c.index_mut.ensures.value c.swap.ensures.x_after in
     let is : c.mark_if_opened.new.all.items ≡ now_marked js (put_there name touched js c.args.number j d c.requires.number c.requires.anew heads) =
     c.mark_if_opened.ensures ∙ (λ i. marked_if (c.are_open-was_open.ensures i) (are_open (templates_of (put i))) (put i)) in
     subst (StayKept js) (sym is) (put_kept name touched js c.args.number j d c.requires.number c.requires.anew heads)
@@ -38,7 +38,7 @@ returns-clause-read c =
     subst (λ (x : Judged). (n : List ℕ) → is_among n touched ≡ false → HaveOneHeadIfAny (definition_named n (definitions_of x.template)) (definition_named n (definitions_of j.template)))
     c.index.ensures c.in_ok-touched.ensures in
     let put = put_is name touched js c.args.number j d c.requires.number c.requires.anew heads c.mark.new.all.items c.index_mut.result.now
-    (record c.index_mut.result.now { told = c.swap.new.y }) c.swap.new.x c.mark.ensures c.index_mut.ensures.value c.swap.ensures.x_after in
+    (record c.index_mut.result.now { reported = c.swap.new.y }) c.swap.new.x c.mark.ensures c.index_mut.ensures.value c.swap.ensures.x_after in
     let is : c.mark_if_opened.new.all.items ≡ now_marked js (put_there name touched js c.args.number j d c.requires.number c.requires.anew heads) =
     c.mark_if_opened.ensures ∙ (λ i. marked_if (c.are_open-was_open.ensures i) (are_open (templates_of (put i))) (put i)) in
     subst (IsTextAt name j.text js) (sym is) (put_read name touched js c.args.number j d c.requires.number c.requires.anew heads)

@@ -1,6 +1,6 @@
 use Rattle.std.proofs.Common.{◌≡◌, ◌∙◌, rules, bytes_eq, ◌||◌, ℕ, List, Bool, map, string_bytes, true, false, sym, ap}
 use Rattle.std.specs.List.{list_any}
-use Rattle.tera_workspace.specs.Kept.{is_told_in}
+use Rattle.tera_workspace.specs.Kept.{is_reported_in}
 use Rattle.tera_workspace.specs.Names.{is_among}
 use Rattle.tera_workspace.proofs.TouchedLemmas.{named_in, any_next, any_last}
 use Rattle.tera_workspace.proofs.touched.is_touched.Goals as goal
@@ -23,7 +23,7 @@ returns-then-contains c =
     let is_named : List ℕ → Bool = λ n. is_among n (map string_bytes names) in
     let found : list_any (λ s. bytes_eq (string_bytes s) (string_bytes name)) names ≡ true = search rules in
     let some : is_named (string_bytes name) ≡ true = sym (named_in (string_bytes name) names) ∙ found in
-    sym (ap (λ b. b || is_told_in c.args.file.now c.args.judged.now)
+    sym (ap (λ b. b || is_reported_in c.args.file.now c.args.judged.now)
     (ap (λ ns. list_any is_named (map string_bytes ns)) (sym c.deref-name-items.ensures.value)
     ∙ (c.loop-name.invariant ∙ any_next is_named items c.loop-name.name-index name true c.loop-name-test.true c.name-item.is some)))
 
@@ -32,7 +32,7 @@ returns c =
     let names = c.args.judged.now.names.items in
     let items = c.deref-name-items.result.now in
     let is_named : List ℕ → Bool = λ n. is_among n (map string_bytes names) in
-    c.is_told_place_in.ensures
-    ∙ sym (ap (λ b. b || is_told_in c.args.file.now c.args.judged.now)
+    c.is_reported_place_in.ensures
+    ∙ sym (ap (λ b. b || is_reported_in c.args.file.now c.args.judged.now)
     (ap (λ ns. list_any is_named (map string_bytes ns)) (sym c.deref-name-items.ensures.value)
     ∙ (c.loop-name.invariant ∙ any_last is_named items c.loop-name.name-index c.loop-name-test.false)))

@@ -8,6 +8,6 @@ pub push_marked-requires-clause-marked : goal.push_marked-requires-clause-marked
 push_marked-requires-clause-marked c =
     (found_short _ c.args.marked (window_view c.in-Some.window) (ap (option_map window_view) (sym c.in-Some.is) ∙ c.in_ok-window.ensures.window)).0
 
-pub push_marked-requires-clause-behind : goal.push_marked-requires-clause-behind
-push_marked-requires-clause-behind c =
+pub push_marked-requires-clause-following : goal.push_marked-requires-clause-following
+push_marked-requires-clause-following c =
     (found_short _ c.args.marked (window_view c.in-Some.window) (ap (option_map window_view) (sym c.in-Some.is) ∙ c.in_ok-window.ensures.window)).1

@@ -9,7 +9,7 @@ pub returns-clause-text : goal.returns-clause-text
 returns-clause-text c =
     let w = window_view c.args.window.now in
     c.in_ok-push_ellipsis.ensures.text ∙ ap (λ l. l ++ encode_utf8_all (ellipsis w.beyond))
-    (c.in_ok-push_shown.ensures.text ∙ ap (λ l. l ++ encode_utf8_all (shown w.behind))
+    (c.in_ok-push_shown.ensures.text ∙ ap (λ l. l ++ encode_utf8_all (shown w.following))
     (c.in_ok-above.ensures.text ∙ ap (λ l. l ++ encode_utf8_all (shown w.marked))
     (c.in_ok-before.ensures.text ∙ ap (λ l. l ++ encode_utf8_all (shown w.before)) c.in_ok-left_out.ensures.text)))
-    ∙ five_pieces (string_bytes c.args.to.now) (ellipsis w.left_out) (shown w.before) (shown w.marked) (shown w.behind) (ellipsis w.beyond)
+    ∙ five_pieces (string_bytes c.args.to.now) (ellipsis w.left_out) (shown w.before) (shown w.marked) (shown w.following) (ellipsis w.beyond)

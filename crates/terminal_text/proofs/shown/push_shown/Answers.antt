@@ -1,7 +1,7 @@
 use Rattle.std.proofs.Common.{◌++◌, length, string_bytes, sym, ap, ◌∙◌, arith, zero-add}
 use Rattle.std.proofs.lemmas.Str.{IsUtf8-past_char, chars_past_char}
 use Rattle.terminal_text.specs.Shown.{shown_as}
-use Rattle.terminal_text.proofs.Printable.{columns_as_it_stands, shown_as_it_stands, short_as_it_stands}
+use Rattle.terminal_text.proofs.Printable.{columns_as_it_sound, shown_as_it_sound, short_as_it_sound}
 use Rattle.line_text.proofs.Steps.{text_step, text_end}
 use Rattle.terminal_text.proofs.Steps.{columns_step, columns_end}
 use Rattle.terminal_text.proofs.shown.push_shown.Goals as goal
@@ -32,12 +32,12 @@ returns-clause-columns c = sym (columns_end shown_as _ _ c.in-None.ensures.steps
 pub returns-then-is_printable-clause-text : goal.returns-then-is_printable-clause-text
 returns-then-is_printable-clause-text c =
     let all = sym c.is_printable.ensures ∙ c.if-is_printable.true in
-    c.in_ok-push_str.ensures.bytes ∙ ap (λ l. string_bytes c.args.to.now ++ l) (sym (shown_as_it_stands c.args.text.now c.utf8.text all))
+    c.in_ok-push_str.ensures.bytes ∙ ap (λ l. string_bytes c.args.to.now ++ l) (sym (shown_as_it_sound c.args.text.now c.utf8.text all))
 
 pub returns-then-is_printable-clause-columns : goal.returns-then-is_printable-clause-columns
 returns-then-is_printable-clause-columns c =
-    sym (columns_as_it_stands c.args.text.now (sym c.is_printable.ensures ∙ c.if-is_printable.true))
+    sym (columns_as_it_sound c.args.text.now (sym c.is_printable.ensures ∙ c.if-is_printable.true))
 
 pub returns-then-is_printable-clause-few : goal.returns-then-is_printable-clause-few
 returns-then-is_printable-clause-few c =
-    short_as_it_stands c.args.text.now (sym c.is_printable.ensures ∙ c.if-is_printable.true) c.requires
+    short_as_it_sound c.args.text.now (sym c.is_printable.ensures ∙ c.if-is_printable.true) c.requires

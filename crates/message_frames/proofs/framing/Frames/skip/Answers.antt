@@ -1,9 +1,9 @@
 use Rattle.std.proofs.Common.{◌≡◌, ◌≤◌, ◌+◌, length, take, drop, sym, ap, subst, ◌∙◌, arith}
 use Rattle.std.proofs.lemmas.List.{drop-drop}
-use Rattle.message_frames.specs.declared.field.Told.TheVariants.{Nothing}
+use Rattle.message_frames.specs.declared.field.Stated.TheVariants.{Nothing}
 use Rattle.message_frames.specs.declared.framing.Stage.TheVariants as stages
-use Rattle.message_frames.specs.Standing.{StandsAt}
-use Rattle.message_frames.proofs.StandingLaws.{whole_next, starts}
+use Rattle.message_frames.specs.Representing.{RepresentsAt}
+use Rattle.message_frames.proofs.RepresentingLaws.{whole_next, starts}
 use Rattle.message_frames.proofs.framing.Frames.skip.Goals as goal
 
 pub returns-then-len-held-clause-skipped : goal.returns-then-len-held-clause-skipped
@@ -16,7 +16,7 @@ returns-then-len-held-clause-skipped c =
     rw (← c.self.view_is) (λ whole pending h. (
       take len bytes,
       whole_next f.limit pending bytes len (record { limit = f.limit; stage = stages.Lines Nothing 0; bytes = drop (f.taken + len) f.held.items })
-          (subst (λ s. StandsAt f.limit s bytes pending) c.in-Message.is h) room
+          (subst (λ s. RepresentsAt f.limit s bytes pending) c.in-Message.is h) room
           (rw left (starts f.limit (drop (f.taken + len) f.held.items))),
     ))
 

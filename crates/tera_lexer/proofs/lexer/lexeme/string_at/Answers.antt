@@ -4,7 +4,7 @@ use Rattle.tera_lexer.specs.grammar.Lexeme.{is_quote}
 use Rattle.tera_lexer.specs.reading.Front.{closing_at, unknown_in}
 use Rattle.tera_lexer.specs.code.Found.{IsClosing}
 use Rattle.tera_lexer.proofs.Closings.{IsInsideOf}
-use Rattle.tera_lexer.proofs.Cuts.{cut_behind_byte, quote_ascii}
+use Rattle.tera_lexer.proofs.Cuts.{cut_after_byte, quote_ascii}
 use Rattle.tera_lexer.proofs.Finds.{first_and_others, unclosed_is_found, inside_is_found, inside_cut, unknown_is_found, escaped_is_found, plain_is_found}
 use Rattle.tera_lexer.proofs.lexer.lexeme.string_at.Goals as goal
 use Rattle.tera_lexer.proofs.lexer.lexeme.string_at.Goals.{After-string_end, After-split_at-2}
@@ -12,9 +12,9 @@ use Rattle.tera_lexer.proofs.lexer.lexeme.string_at.Goals.{After-string_end, Aft
 pub split_at-requires : goal.split_at-requires
 split_at-requires c =
     let (splits, quote) = first_and_others is_quote c.args.rest.now c.requires in
-    cut_behind_byte c.args.rest.now [] (drop 1 c.args.rest.now) (get_or c.args.rest.now 0 0) c.utf8.rest splits (quote_ascii (get_or c.args.rest.now 0 0) quote)
+    cut_after_byte c.args.rest.now [] (drop 1 c.args.rest.now) (get_or c.args.rest.now 0 0) c.utf8.rest splits (quote_ascii (get_or c.args.rest.now 0 0) quote)
 
--- the text is the quote and what is behind it
+-- the text is the quote and what is after it
 splits : (c : After-string_end) → c.args.rest.now ≡ get_or c.as_bytes.result.now 0 0 ∷ c.as_bytes-2.result.now
 splits c =
     (first_and_others is_quote c.args.rest.now c.requires).0
@@ -23,7 +23,7 @@ splits c =
 quote : (c : After-string_end) → is_quote (get_or c.as_bytes.result.now 0 0) ≡ true
 quote c = rw c.as_bytes.ensures.value ((first_and_others is_quote c.args.rest.now c.requires).1)
 
--- where it closes, and whether a backslash stands in it
+-- where it closes, and whether a backslash is in it
 end : (c : After-string_end) (o : Option (ℕ × Bool)) → c.string_end.result ≡ o → IsClosing (closing_at (get_or c.as_bytes.result.now 0 0) false c.as_bytes-2.result.now) c.as_bytes-2.result.now o
 end c o is = subst (IsClosing (closing_at (get_or c.as_bytes.result.now 0 0) false c.as_bytes-2.result.now) c.as_bytes-2.result.now) is c.string_end.ensures
 

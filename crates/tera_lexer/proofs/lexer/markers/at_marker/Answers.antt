@@ -5,7 +5,7 @@ use Rattle.tera_lexer.specs.grammar.Marks.{begins}
 use Rattle.tera_lexer.proofs.Markers.{marker_cut}
 use Rattle.tera_lexer.proofs.lexer.markers.at_marker.Goals as goal
 
--- where the test says yes, the text may be cut behind the marker
+-- where the test says yes, the text may be cut after the marker
 if_begins : (bytes marker : List ℕ) (r : Bool) → IsUtf8 bytes → IsUtf8 marker → r ≡ begins marker bytes → OnTrue r (IsCharBoundary bytes (length marker))
 if_begins bytes marker true utf8 text e = marker_cut bytes marker utf8 text (sym e)
 if_begins bytes marker false utf8 text e = tt

@@ -7,7 +7,7 @@ use Rattle.tera_lexer.proofs.Neighbours.{comment_dashed}
 use Rattle.tera_lexer.proofs.lexer.markers.comment_ahead.Goals as goal
 use Rattle.tera_lexer.proofs.lexer.markers.comment_ahead.Goals.{After-find_marker}
 
--- the end marker is sought behind the dash
+-- the end marker is looked for after the dash
 found : (c : After-find_marker) → c.find_marker.result ≡ find_marker (marks_of c.args.delimiters.now).comment_end (drop (marker_len (marks_of c.args.delimiters.now).comment_start true) c.args.rest.now)
 found c =
     c.find_marker.ensures

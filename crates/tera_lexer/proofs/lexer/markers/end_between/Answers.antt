@@ -5,8 +5,8 @@ use Rattle.tera_lexer.specs.code.Markers.{IsWordTagOf}
 use Rattle.tera_lexer.proofs.RawEnds.{raw_start, raw_nowhere, first_missed, first_closed, closed_by, missed_by}
 use Rattle.tera_lexer.proofs.lexer.markers.end_between.Goals as goal
 
-pub end_behind-requires-clause-left : goal.end_behind-requires-clause-left
-end_behind-requires-clause-left c =
+pub end_after-requires-clause-left : goal.end_after-requires-clause-left
+end_after-requires-clause-left c =
     let tag : IsWordTagOf endraw_word c.args.end.now None (word_tag_at endraw_word c.args.end.now (drop (c.in-Some.at + 2) c.args.bytes.now)) = rw c.in-None.is at (rw c.split_at.ensures.back at c.word_tag_at.ensures) in
     first_missed c.args.start.now c.args.end.now c.args.bytes.now c.requires.start c.in-Some.at c.in-Some.ensures (missed_by c.args.end.now (word_tag_at endraw_word c.args.end.now (drop (c.in-Some.at + 2) c.args.bytes.now)) tag)
 

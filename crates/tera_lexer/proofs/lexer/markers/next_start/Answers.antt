@@ -7,7 +7,7 @@ use Rattle.tera_lexer.proofs.lexer.markers.next_start.Goals.{After-find}
 fits : (c : After-find) → c.min-near.result ≤ length c.args.bytes.now
 fits c = omega arith
 
--- none stands nearby
+-- none is nearby
 nowhere : (c : After-find) → Nowhere (OccursAt c.args.bytes.now c.args.starts.now) 0 c.min-near.result
 nowhere c = rw c.needle.ensures at c.in_default.ensures
 

@@ -2,7 +2,7 @@ use Rattle.std.proofs.Common.{◌≡◌, List, ℕ, suc, length, false, subst, �
 use Rattle.tera_lexer.specs.grammar.Marks.{marks_of}
 use Rattle.tera_lexer.specs.reading.Front.{raw_end}
 use Rattle.tera_lexer.specs.code.Markers.{IsRawEndOf}
-use Rattle.tera_lexer.proofs.RawEnds.{raw_stands}
+use Rattle.tera_lexer.proofs.RawEnds.{raw_sound}
 use Rattle.tera_lexer.proofs.TagCuts.{raw_cuts}
 use Rattle.tera_lexer.proofs.lexer.markers.raw_end.Goals as goal
 use Rattle.tera_lexer.proofs.lexer.markers.raw_end.Goals.{After-end_between}
@@ -26,4 +26,4 @@ pub returns-clause-cut : goal.returns-clause-cut
 returns-clause-cut c =
     let at = (goal.at.returns-clause-cut c).After-end_between in
     raw_cuts (marks_of c.args.delimiters.now) c.requires c.args.text.now c.end_between.result _ c.utf8.text (subst IsUtf8 c.as_str.ensures.value c.as_str.utf8) (subst IsUtf8 c.as_str-2.ensures.value c.as_str-2.utf8) (ends at)
-    (raw_stands (marks_of c.args.delimiters.now) c.requires.block_start (suc (length c.args.text.now)) c.args.text.now (omega arith))
+    (raw_sound (marks_of c.args.delimiters.now) c.requires.block_start (suc (length c.args.text.now)) c.args.text.now (omega arith))

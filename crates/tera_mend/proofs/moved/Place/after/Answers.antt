@@ -1,4 +1,4 @@
-use Rattle.tera_mend.proofs.Standing.{place_step}
+use Rattle.tera_mend.proofs.PlacesLemmas.{place_step}
 use Rattle.tera_mend.proofs.moved.Place.after.Goals as goal
 
 pub loop-byte-preserved : goal.loop-byte-preserved

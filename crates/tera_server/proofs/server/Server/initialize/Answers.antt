@@ -19,7 +19,7 @@ returns-clause-begun c =
         encoding = c.new.ensures.encoding;
         folders = c.in_ok-folders.ensures;
         documents = c.new.ensures.documents;
-        told = c.new.ensures.told;
+        reported = c.new.ensures.reported;
         kept = c.new.ensures.kept;
       },
       answered id (abilities_json (client_in (seen c.args.params)).encoding) c.put_abilities.new.out.before c.in_ok-answer.answer.items c.put_abilities.new.out.tokens

@@ -10,4 +10,4 @@ pub returns-then-is_empty : goal.returns-then-is_empty
 returns-then-is_empty g c = gave _ _ _ (rest_none _ _ _ c.args.unknown.now c.in-None.is c.if-is_empty.ensures)
 
 pub returns-else-is_empty : goal.returns-else-is_empty
-returns-else-is_empty g c = refused _ _ _ _ (rest_refused _ _ _ c.args.unknown.now c.in-None.is c.if-is_empty.ensures) (c.told.ensures _ c.unknown_arguments-message.ensures)
+returns-else-is_empty g c = refused _ _ _ _ (rest_refused _ _ _ c.args.unknown.now c.in-None.is c.if-is_empty.ensures) (c.message_error.ensures _ c.unknown_arguments-message.ensures)

@@ -1,6 +1,6 @@
 use Rattle.std.proofs.Common.{◌≡◌, ℕ, List, map, string_bytes, sym, subst}
 use Rattle.tera_workspace.specs.Diagnostics.{DiagnosticVal}
-use Rattle.tera_workspace.specs.Kept.{told_named}
+use Rattle.tera_workspace.specs.Kept.{reported_named}
 use Rattle.tera_workspace.specs.Workspaces.{AreOthers}
 use Rattle.tera_workspace.specs.declared.judged.Judged.{Judged}
 use Rattle.tera_workspace.proofs.NewsLemmas.{others_are}
@@ -9,18 +9,18 @@ use Rattle.tera_workspace.proofs.workspace.Workspace.settle.Goals as goal
 
 pub returns-clause-settled : goal.returns-clause-settled
 returns-clause-settled c = λ kept.
-    read_settled c.read.new.self c.tell.new.all c.in_ok-news.news.items (c.read.ensures.kept kept) (c.in_ok-read.ensures.read kept) c.in_ok-news.ensures.news c.tell.ensures
+    read_settled c.read.new.self c.report.new.all c.in_ok-news.news.items (c.read.ensures.kept kept) (c.in_ok-read.ensures.read kept) c.in_ok-news.ensures.news c.report.ensures
 
 pub returns-clause-kept : goal.returns-clause-kept
 returns-clause-kept c = λ kept.
-    read_kept c.read.new.self c.tell.new.all c.in_ok-news.news.items (c.read.ensures.kept kept) (c.in_ok-read.ensures.read kept) c.in_ok-news.ensures.news c.tell.ensures
+    read_kept c.read.new.self c.report.new.all c.in_ok-news.news.items (c.read.ensures.kept kept) (c.in_ok-read.ensures.read kept) c.in_ok-news.ensures.news c.report.ensures
 
 pub returns-clause-names : goal.returns-clause-names
 returns-clause-names c = λ kept.
     let js = c.read.new.self.judged.items in
     let news = c.in_ok-news.news.items in
     let names = map string_bytes c.in_ok-names.names.items in
-    let before : (λ (n : List ℕ). told_named n js) ≡ (λ (n : List ℕ). told_named n c.args.self.now.judged.items) = λ i n. c.read.ensures.told n i in
-    subst (λ (was : List ℕ → List DiagnosticVal). AreOthers names was (λ n. told_named n c.tell.new.all.items)) before
-    (subst (λ (xs : List Judged). AreOthers names (λ n. told_named n js) (λ n. told_named n xs)) (sym c.tell.ensures)
+    let before : (λ (n : List ℕ). reported_named n js) ≡ (λ (n : List ℕ). reported_named n c.args.self.now.judged.items) = λ i n. c.read.ensures.reported n i in
+    subst (λ (was : List ℕ → List DiagnosticVal). AreOthers names was (λ n. reported_named n c.report.new.all.items)) before
+    (subst (λ (xs : List Judged). AreOthers names (λ n. reported_named n js) (λ n. reported_named n xs)) (sym c.report.ensures)
     (others_are js news names c.in_ok-news.ensures.as_many (c.read.ensures.kept kept).ordered c.in_ok-names.ensures))

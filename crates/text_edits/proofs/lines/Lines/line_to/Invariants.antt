@@ -1,7 +1,7 @@
 use Rattle.std.proofs.Common.{◌<◌, ◌≤◌, ◌-◌, length, get_or}
 use Rattle.text_edits.proofs.lines.Lines.line_to.Given as goal
 
--- the line sought stands between these
+-- the line looked for is between these
 abbrev pub invariant-halves : goal.invariant-halves
 invariant-halves l = record {
   some : l.line < l.beyond;

@@ -1,6 +1,6 @@
 use Rattle.std.proofs.Common.{◌≡◌, suc, arith, ap, sym, ◌∙◌}
 use Rattle.tera_lexer.specs.code.Cursors.{Position}
-use Rattle.tera_lexer.specs.code.CursorView.{stopped_before, with_item, left_behind, in_sight}
+use Rattle.tera_lexer.specs.code.CursorView.{stopped_before, with_item, left_after, in_sight}
 use Rattle.tera_lexer.proofs.CursorSteps.{shown_is}
 use Rattle.tera_lexer.proofs.lexer.cursor.Cursor.first.Goals as goal
 
@@ -12,6 +12,6 @@ returns-clause-shows c =
       (
         c.in_ok-token.field-0.now.1,
         with_item (stopped_before c.self.inside.tokens) c.self.inside.second c.self.inside.tokens.left,
-        sym (ap (λ (p : Position). p.left) c.self.view_is) ∙ ap (λ o. left_behind c.self.inside.tokens o c.self.inside.second) first,
+        sym (ap (λ (p : Position). p.left) c.self.view_is) ∙ ap (λ o. left_after c.self.inside.tokens o c.self.inside.second) first,
       ),
     )

@@ -1,6 +1,6 @@
 use Rattle.std.proofs.Common.{◌≡◌, suc, arith, Some, Ok, ap, sym, subst, ◌∙◌}
 use Rattle.tera_lexer.specs.code.Cursors.{Position}
-use Rattle.tera_lexer.specs.code.CursorView.{stopped_before, with_item, left_behind, in_sight, IsReadAhead}
+use Rattle.tera_lexer.specs.code.CursorView.{stopped_before, with_item, left_after, in_sight, IsReadAhead}
 use Rattle.tera_lexer.specs.grammar.Place.{IsWithin}
 use Rattle.tera_lexer.specs.code.Seen.{seen}
 use Rattle.tera_lexer.proofs.CursorSteps.{shown_is}
@@ -15,7 +15,7 @@ returns-clause-shows c =
       (
         seen c.in_ok-span.field-0.now.0,
         with_item (stopped_before c.self.inside.tokens) c.self.inside.second c.self.inside.tokens.left,
-        sym (ap (λ (p : Position). p.left) c.self.view_is) ∙ ap (λ o. left_behind c.self.inside.tokens o c.self.inside.second) first,
+        sym (ap (λ (p : Position). p.left) c.self.view_is) ∙ ap (λ o. left_after c.self.inside.tokens o c.self.inside.second) first,
       ),
       subst (λ (p : Position). IsWithin p.source c.in_ok-span.field-0.now.1) c.self.view_is within,
     )

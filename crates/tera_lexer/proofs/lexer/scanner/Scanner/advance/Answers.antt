@@ -15,7 +15,7 @@ advanced c =
 pub invariant_of-self : goal.invariant_of-self
 invariant_of-self c =
     let a = advanced (goal.at.invariant_of-self c).After-peek in
-    record { behind = c.split_at.ensures.back ∙ ap (drop c.args.n) c.self.invariant.behind ∙ sym a.rest; cut = a.cut; place = a.place; marks = c.self.invariant.marks; text = c.self.invariant.text; pairs = c.self.invariant.pairs; ahead = c.self.invariant.ahead }
+    record { following = c.split_at.ensures.back ∙ ap (drop c.args.n) c.self.invariant.following ∙ sym a.rest; cut = a.cut; place = a.place; marks = c.self.invariant.marks; text = c.self.invariant.text; pairs = c.self.invariant.pairs; ahead = c.self.invariant.ahead }
 
 pub returns-clause-state : goal.returns-clause-state
 returns-clause-state c =

@@ -18,7 +18,7 @@ along-end-requires-clause-column c =
     let fits = counters_fit c.self.inside.source.now c.self.inside.place (take c.args.n left) c.args.n c.self.invariant.cut c.self.invariant.place refl in
     omega (arith, len_is left c.args.n cut, fits.1)
 
--- where the next bytes may be cut, and the place behind them
+-- where the next bytes may be cut, and the place after them
 cut : (c : After-along-end) → IsCharBoundary (drop c.self.inside.place.byte c.self.inside.source.now) c.args.n
 cut c = subst (λ (r : Progress). IsCharBoundary r.rest c.args.n) (sym c.self.view_is) c.requires.cut
 
@@ -34,7 +34,7 @@ advanced c = place_advances c.self.inside.source.now c.self.inside.place c.along
 pub invariant_of-self : goal.invariant_of-self
 invariant_of-self c =
     let a = advanced (goal.at.invariant_of-self c).After-along-end in
-    record { behind = c.split_at.ensures.back ∙ ap (drop c.args.n) c.self.invariant.behind ∙ sym a.rest; cut = a.cut; place = a.place; marks = c.self.invariant.marks; text = c.self.invariant.text; pairs = c.self.invariant.pairs; ahead = c.self.invariant.ahead }
+    record { following = c.split_at.ensures.back ∙ ap (drop c.args.n) c.self.invariant.following ∙ sym a.rest; cut = a.cut; place = a.place; marks = c.self.invariant.marks; text = c.self.invariant.text; pairs = c.self.invariant.pairs; ahead = c.self.invariant.ahead }
 
 pub returns-clause-state : goal.returns-clause-state
 returns-clause-state c =

@@ -14,16 +14,16 @@ use Rattle.tera_lexer.proofs.lexer.scanner.Scanner.block.Goals.{After-raw_tag_at
 start_is : (c : After-raw_tag_at) → c.len.result + c.dash_len.result ≡ marker_len c.args.self.now.marks.block_start c.args.dash
 start_is c = λ i. (c.len.ensures ∙ ap (λ (r : Progress). length r.marks.block_start) c.self.view_is) i + c.dash_len.ensures i
 
--- the tag is sought behind the block start
-behind_is : (c : After-raw_tag_at) → c.as_bytes.result.now ≡ drop (marker_len c.args.self.now.marks.block_start c.args.dash) c.args.self.now.rest
-behind_is c = c.as_bytes.ensures.value ∙ c.split_at.ensures.back ∙ (λ i. drop (start_is c i) (c.rest.ensures.rest i))
+-- the tag is looked for after the block start
+after_is : (c : After-raw_tag_at) → c.as_bytes.result.now ≡ drop (marker_len c.args.self.now.marks.block_start c.args.dash) c.args.self.now.rest
+after_is c = c.as_bytes.ensures.value ∙ c.split_at.ensures.back ∙ (λ i. drop (start_is c i) (c.rest.ensures.rest i))
 
 end_is : (c : After-raw_tag_at) → c.as_bytes-end.result.now ≡ c.args.self.now.marks.block_end
 end_is c = c.as_bytes-end.ensures.value ∙ c.as_str.ensures.value ∙ ap (λ (r : Progress). r.marks.block_end) c.self.view_is
 
 tag_is : (c : After-raw_tag_at) → IsWordTagOf raw_word c.args.self.now.marks.block_end c.raw_tag_at.result (word_tag_at raw_word c.args.self.now.marks.block_end (drop (marker_len c.args.self.now.marks.block_start c.args.dash) c.args.self.now.rest))
 tag_is c =
-    subst (λ (l : List ℕ). IsWordTagOf raw_word c.args.self.now.marks.block_end c.raw_tag_at.result (word_tag_at raw_word c.args.self.now.marks.block_end l)) (behind_is c)
+    subst (λ (l : List ℕ). IsWordTagOf raw_word c.args.self.now.marks.block_end c.raw_tag_at.result (word_tag_at raw_word c.args.self.now.marks.block_end l)) (after_is c)
     (subst (λ (l : List ℕ). IsWordTagOf raw_word l c.raw_tag_at.result (word_tag_at raw_word l c.as_bytes.result.now)) (end_is c) c.raw_tag_at.ensures)
 
 pub raw-requires-clause-opens : goal.raw-requires-clause-opens

@@ -21,13 +21,13 @@ whole_is : (c : After-rest) → c.len.result + c.dash_len.result + c.args.openin
 whole_is c =
     λ i. start_is c i + c.args.opening.len + (c.args.end.0 + ((c.len-2.ensures ∙ ap (λ (r : Progress). length r.marks.block_start) c.self.view_is) i + c.args.end.1.len))
 
--- it may be cut behind the closing tag
+-- it may be cut after the closing tag
 whole_cut : (c : After-rest) → IsCharBoundary c.args.self.now.rest (c.len.result + c.dash_len.result + c.args.opening.len + (c.args.end.0 + (c.len-2.result + c.args.end.1.len)))
 whole_cut c =
     let m = c.args.self.now.marks in
     let begin : ℕ = marker_len m.block_start c.args.dash + c.args.opening.len in
-    let behind : ℕ = c.args.end.0 + (length m.block_start + c.args.end.1.len) in
-    subst (IsCharBoundary c.args.self.now.rest) (sym (whole_is c)) (IsCharBoundary-from_rest c.args.self.now.rest begin behind c.requires.opens.3.0 c.requires.closes.1.1)
+    let following : ℕ = c.args.end.0 + (length m.block_start + c.args.end.1.len) in
+    subst (IsCharBoundary c.args.self.now.rest) (sym (whole_is c)) (IsCharBoundary-from_rest c.args.self.now.rest begin following c.requires.opens.3.0 c.requires.closes.1.1)
 
 pub split_at-requires-3 : goal.split_at-requires-3
 split_at-requires-3 c =
@@ -46,9 +46,9 @@ start_trims c =
       | else-opening w ↦ w.trim_start-is ∙ trim ∙ ap (λ b. b || c.args.self.now.trim) (sym w.if-opening.false)
     ]
 
--- behind it stands what was looked at
-behind_is : (c : After-split_at-3) → c.split_at-3.result.1.now ≡ drop (c.len.result + c.dash_len.result + c.args.opening.len + (c.args.end.0 + (c.len-2.result + c.args.end.1.len))) c.args.self.now.rest
-behind_is c = c.split_at-3.ensures.back ∙ ap (drop (c.len.result + c.dash_len.result + c.args.opening.len + (c.args.end.0 + (c.len-2.result + c.args.end.1.len)))) c.rest-2.ensures.rest
+-- after it is what was looked at
+after_is : (c : After-split_at-3) → c.split_at-3.result.1.now ≡ drop (c.len.result + c.dash_len.result + c.args.opening.len + (c.args.end.0 + (c.len-2.result + c.args.end.1.len))) c.args.self.now.rest
+after_is c = c.split_at-3.ensures.back ∙ ap (drop (c.len.result + c.dash_len.result + c.args.opening.len + (c.args.end.0 + (c.len-2.result + c.args.end.1.len)))) c.rest-2.ensures.rest
 
 pub keep-requires : goal.keep-requires
 keep-requires c =
@@ -56,7 +56,7 @@ keep-requires c =
     let n : ℕ = c.len.result + c.dash_len.result + c.args.opening.len + (c.args.end.0 + (c.len-2.result + c.args.end.1.len)) in
     subst (λ (r : Progress). IsAhead r.marks r.rest c.look_ahead-trim_end.result.1) (sym (c.self-2.view_is ∙ c.advance.ensures.state))
     (subst (λ (m : Marks). IsAhead m (drop n c.args.self.now.rest) c.look_ahead-trim_end.result.1) (ap (λ (r : Progress). r.marks) c.self.view_is)
-    (subst (λ (l : List ℕ). IsAhead (marks_of c.self.inside.delimiters) l c.look_ahead-trim_end.result.1) (behind_is at) c.look_ahead-trim_end.ensures.ahead))
+    (subst (λ (l : List ℕ). IsAhead (marks_of c.self.inside.delimiters) l c.look_ahead-trim_end.result.1) (after_is at) c.look_ahead-trim_end.ensures.ahead))
 
 pub returns : goal.returns
 returns c =
@@ -70,9 +70,9 @@ returns c =
     let ends = subst (λ (l : List ℕ). IsRawEndOf m.block_end (Some (c.args.end.0, c.args.end.1)) (raw_end m.block_start m.block_end false l)) begins c.requires.closes.0 in
     let inside : c.split_at.result.1.now ≡ c.requires.opens.1 = c.split_at.ensures.back ∙ (λ i. drop (start i + c.args.opening.len) (c.rest.ensures.rest i)) ∙ begins in
     let body : c.split_at-2.result.0.now ≡ take c.args.end.0 c.requires.opens.1 = c.split_at-2.ensures.front ∙ ap (take c.args.end.0) inside in
-    let behind = behind_is at.After-split_at-3 in
+    let following = after_is at.After-split_at-3 in
     let end_trims : c.look_ahead-trim_end.result.0 ≡ c.args.end.1.dash_in || starts_dashed m (drop n c.args.self.now.rest)
-    = c.look_ahead-trim_end.ensures.trims ∙ (λ i. c.args.end.1.dash_in || starts_dashed (marks i) (behind i)) in
+    = c.look_ahead-trim_end.ensures.trims ∙ (λ i. c.args.end.1.dash_in || starts_dashed (marks i) (following i)) in
     let text = c.trimmed-text.ensures.value ∙ (λ i. trimmed (start_trims at.Joined-opening i) (end_trims i) (body i)) in
     raw_step c.args.self.now c.requires.going c.requires.outside valid c.args.dash c.requires.starts c.args.opening c.requires.opens _ c.trimmed-text.result c.advance.result.1 c.args.end.0 n c.args.end.1 ends (whole_is at.After-rest) text
     (subst (IsPart c.trimmed-text.result.now) body c.trimmed-text.ensures.part) (c.keep.ensures ∙ (λ i. record ((c.self-2.view_is ∙ c.advance.ensures.state) i) { trim = c.args.end.1.dash_out })) c.advance.ensures.span c.advance.ensures.within

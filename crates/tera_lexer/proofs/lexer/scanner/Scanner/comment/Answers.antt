@@ -9,18 +9,18 @@ use Rattle.tera_lexer.proofs.Readings.{open_comment_step}
 use Rattle.tera_lexer.proofs.lexer.scanner.Scanner.comment.Goals as goal
 use Rattle.tera_lexer.proofs.lexer.scanner.Scanner.comment.Goals.{After-find_marker}
 
--- how long the start is, what is behind it, and the end marker
+-- how long the start is, what is after it, and the end marker
 start_is : (c : After-find_marker) → c.len.result + c.dash_len.result ≡ marker_len c.args.self.now.marks.comment_start c.args.dash
 start_is c = λ i. (c.len.ensures ∙ ap (λ (r : Progress). length r.marks.comment_start) c.self.view_is) i + c.dash_len.ensures i
 
-behind_is : (c : After-find_marker) → c.as_bytes.result.now ≡ drop (marker_len c.args.self.now.marks.comment_start c.args.dash) c.args.self.now.rest
-behind_is c = c.as_bytes.ensures.value ∙ c.split_at.ensures.back ∙ (λ i. drop (start_is c i) (c.rest.ensures.rest i))
+after_is : (c : After-find_marker) → c.as_bytes.result.now ≡ drop (marker_len c.args.self.now.marks.comment_start c.args.dash) c.args.self.now.rest
+after_is c = c.as_bytes.ensures.value ∙ c.split_at.ensures.back ∙ (λ i. drop (start_is c i) (c.rest.ensures.rest i))
 
 end_is : (c : After-find_marker) → c.as_str-end.result.now ≡ c.args.self.now.marks.comment_end
 end_is c = c.as_str-end.ensures.value ∙ ap (λ (r : Progress). r.marks.comment_end) c.self.view_is
 
 found : (c : After-find_marker) → c.find_marker.result ≡ find_marker c.args.self.now.marks.comment_end (drop (marker_len c.args.self.now.marks.comment_start c.args.dash) c.args.self.now.rest)
-found c = c.find_marker.ensures ∙ (λ i. find_marker ((c.as_bytes-2.ensures.value ∙ end_is c) i) (behind_is c i))
+found c = c.find_marker.ensures ∙ (λ i. find_marker ((c.as_bytes-2.ensures.value ∙ end_is c) i) (after_is c i))
 
 pub returns-in_default : goal.returns-in_default
 returns-in_default c =

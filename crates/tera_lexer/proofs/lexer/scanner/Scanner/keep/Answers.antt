@@ -5,7 +5,7 @@ use Rattle.tera_lexer.proofs.lexer.scanner.Scanner.keep.Goals as goal
 
 pub invariant_of-self : goal.invariant_of-self
 invariant_of-self c = record {
-  behind = c.self.invariant.behind;
+  following = c.self.invariant.following;
   cut = c.self.invariant.cut;
   place = c.self.invariant.place;
   marks = c.self.invariant.marks;

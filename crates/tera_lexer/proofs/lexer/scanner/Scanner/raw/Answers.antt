@@ -11,7 +11,7 @@ use Rattle.tera_lexer.proofs.lexer.scanner.Scanner.raw.Goals.{After-raw_end}
 start_is : (c : After-raw_end) → c.len.result + c.dash_len.result ≡ marker_len c.args.self.now.marks.block_start c.args.dash
 start_is c = λ i. (c.len.ensures ∙ ap (λ (r : Progress). length r.marks.block_start) c.self.view_is) i + c.dash_len.ensures i
 
--- the end is sought behind the tag
+-- the end is looked for after the tag
 body_is : (c : After-raw_end) → c.split_at.result.1.now ≡ drop (marker_len c.args.self.now.marks.block_start c.args.dash + c.args.opening.len) c.args.self.now.rest
 body_is c = c.split_at.ensures.back ∙ (λ i. drop (start_is c i + c.args.opening.len) (c.rest.ensures.rest i))
 

@@ -1,3 +1,0 @@
-pub mod YieldLemmas
-pub mod PromisesLemmas
-pub mod EndsLemmas

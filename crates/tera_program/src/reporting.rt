@@ -1,0 +1,65 @@
+//! What is found in templates, written.
+
+ghost use Rattle.std.specs.Prelude.{IfOk, OnErr, map};
+ghost use Rattle.std.specs.Io.KnownBytes.{Keeps};
+ghost use Rattle.terminal_text.specs.Files.{source_of};
+ghost use Rattle.tera_program.specs.Sources.{unreadable_view};
+ghost use Rattle.tera_program.specs.Report.{IsReported};
+
+use crate::forms::text_of;
+use crate::found::{all_found, count_of, faulty_of, has_error};
+use crate::job::Form;
+use crate::reading::Unreadable;
+use crate::writing::write_all;
+use std::alloc::{AllocError, Global};
+use std::io;
+use std::io::Write;
+use tera_check::Template;
+use terminal_text::{Sources, Style};
+
+/// What was reported.
+#[derive(Clone, Copy, Debug)]
+pub(crate) struct Report {
+    /// Whether an error was found.
+    pub(crate) errors: bool,
+    /// How many findings there are.
+    pub(crate) findings: usize,
+    /// In how many templates.
+    pub(crate) faulty: usize,
+    /// Why not all was written.
+    pub(crate) stopped: Option<io::Error>,
+}
+
+/// Writes the text of what could not be read, and of all that is found in the templates. Of those after the first `checked`
+/// only faults are reported. Nothing is written before the whole text is ready.
+pub(crate) fn write_findings<W: Write>(
+    alloc: Global,
+    writer: &mut W,
+    form: Form,
+    style: Style,
+    sources: &mut Sources<'_>,
+    unread: &Vec<Unreadable>,
+    templates: &Vec<Template>,
+    checked: usize,
+) -> Result<Report, AllocError>
+    ensures report { IfOk result (IsReported form style (source_of sources.old)
+        (map unreadable_view unread.now.items) templates.now.items checked
+        (W.contents writer.old) (W.contents writer.new)) }
+    ensures memory { OnErr result (Keeps (W.contents writer.old) (W.contents writer.new)) }
+{
+    let all = all_found(alloc, templates, checked)?;
+    let text = text_of(
+        alloc,
+        form,
+        style,
+        sources,
+        unread.as_slice(),
+        all.as_slice(),
+    )?;
+    Ok(Report {
+        errors: has_error(all.as_slice()),
+        findings: count_of(all.as_slice()),
+        faulty: faulty_of(all.as_slice()),
+        stopped: write_all(writer, text.as_slice()).err(),
+    })
+}

@@ -1,0 +1,52 @@
+-- A finding as people read it.
+use Rattle.std.specs.Prelude.{ℕ, ◌==◌, if◌then◌else◌, List, [], ◌∷◌, ◌++◌, flat_map, Option, Some, None, codes, decimal}
+use Rattle.line_text.specs.Line.{on_one_line}
+use Rattle.tera_base.specs.declared.utils.Span.{Span}
+use Rattle.tera_check.specs.Findings.{NoteVal, NoteOf, FindingVal, FindingOf, place_of, severity_of, severity_name}
+use Rattle.tera_check.specs.declared.finding.Place.{Place}
+use Rattle.tera_check.specs.declared.finding.Severity.TheVariants as severities
+use Rattle.tera_report.specs.declared.role.Role.{Role}
+use Rattle.tera_report.specs.declared.role.Role.TheVariants.{Finding, Note}
+use Rattle.terminal_text.specs.Excerpt.{excerpt}
+use Rattle.terminal_text.specs.Lines.{line_at}
+use Rattle.terminal_text.specs.Styled.{styled}
+use Rattle.terminal_text.specs.declared.excerpt.Marked.{Marked}
+use Rattle.terminal_text.specs.declared.style.Part.{Part}
+use Rattle.terminal_text.specs.declared.style.Part.TheVariants as parts
+use Rattle.terminal_text.specs.declared.style.Style.{Style}
+
+-- a message by what it is: its word, and its colour
+abbrev pub word_of : Role → List ℕ
+word_of (Finding severity) = severity_name severity
+word_of Note = codes "note"
+
+abbrev pub part_of : Role → Part
+part_of (Finding severities.Error) = parts.Error
+part_of (Finding severities.Warning) = parts.Warning
+part_of Note = parts.Note
+
+-- a file with a place in it
+abbrev pub place_text : List ℕ → Place → List ℕ
+place_text file place = on_one_line file ++ (codes ":" ++ (decimal place.line ++ (codes ":" ++ (decimal place.column ++ codes ":"))))
+
+-- the characters of a span, as far as they are on its first line
+abbrev pub marked_of : Span → Marked
+marked_of s = record { line = s.start_line; start = s.start_col; end = if s.end_line == s.start_line then Some s.end_col else None }
+
+-- a message: where, how grave, and what
+abbrev pub message_line : Style → Role → List ℕ → Span → List ℕ → List ℕ
+message_line style role file span text =
+    styled style parts.Place (place_text file (place_of span)) ++ (codes " " ++ (styled style (part_of role) (word_of role) ++ (codes ": " ++ (on_one_line text ++ 10 ∷ []))))
+
+-- with the line that it is about, where the source of the file is known
+abbrev pub message : Style → (List ℕ → Option (List ℕ)) → Role → List ℕ → Span → List ℕ → List ℕ
+message style known role file span text =
+    message_line style role file span text ++ excerpt style (part_of role) (marked_of span) (line_at (known file) span.start_line)
+
+abbrev pub note_text : Style → (List ℕ → Option (List ℕ)) → NoteVal → List ℕ
+note_text style known (NoteOf file span text) = message style known Note file span text
+
+-- the finding in a file, and its notes
+unfoldable pub full_text : Style → (List ℕ → Option (List ℕ)) → List ℕ → FindingVal → List ℕ
+full_text style known file (FindingOf kind span text notes) =
+    message style known (Finding (severity_of kind)) file span text ++ flat_map (note_text style known) notes
