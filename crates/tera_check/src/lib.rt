@@ -44,5 +44,5 @@ pub use faults::finding_of_fault;
 pub use finding::{Finding, KINDS, Kind, Note, Place, Severity};
 pub use lines::lines_of;
 pub use mended::Mended;
-pub use objects::object_of;
+pub use objects::{object_of, put_object};
 pub use templates::{Template, is_open, read_template, tree_of};

@@ -17,14 +17,23 @@ pub fn object_of(alloc: Global, file: &str, finding: &Finding) -> Result<Vec<u8>
         ≡ print (object_of file.now (finding_view finding.now)) ++ 10 ∷ []) }
 {
     let mut writer = Writer::new(Vec::new(alloc));
-    writer.begin_object()?;
-    write_members(&mut writer, file, finding.place(), finding.message.as_str())?;
-    write_severity(&mut writer, finding.kind)?;
-    write_notes(&mut writer, &finding.notes)?;
-    writer.end_object()?;
+    put_object(&mut writer, file, finding)?;
     let mut object = writer.into_inner();
     object.push(b'\n')?;
     Ok(object)
+}
+
+/// Adds the object of the finding to other JSON.
+pub fn put_object(writer: &mut Writer, file: &str, finding: &Finding) -> Result<(), AllocError>
+    ensures tokens { OnOk result (writer.new.tokens ≡ writer.old.tokens
+        ++ object_of file.now (finding_view finding.now)) }
+    ensures before { writer.new.before ≡ writer.old.before }
+{
+    writer.begin_object()?;
+    write_members(writer, file, finding.place(), finding.message.as_str())?;
+    write_severity(writer, finding.kind)?;
+    write_notes(writer, &finding.notes)?;
+    writer.end_object()
 }
 
 fn write_severity(writer: &mut Writer, kind: Kind) -> Result<(), AllocError>

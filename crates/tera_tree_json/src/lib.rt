@@ -15,4 +15,4 @@ mod fields;
 mod nodes;
 mod tree;
 
-pub use tree::tree_json;
+pub use tree::{put_tree, tree_json};

@@ -24,7 +24,8 @@ pub fn tree_json(alloc: Global, output: &ParserOutput) -> Result<String, AllocEr
     }
 }
 
-fn put_tree(out: &mut Writer, output: &ParserOutput) -> Result<(), AllocError>
+/// Adds the JSON of a tree to other JSON.
+pub fn put_tree(out: &mut Writer, output: &ParserOutput) -> Result<(), AllocError>
     ensures { PutsJson result out.old out.new (output_json (output_view output.now)) }
 {
     out.begin_object()?;
