@@ -39,7 +39,7 @@ pub enum Verdict {
 }
 
 // More runs than a room has pieces of 32 bytes.
-const RUNS: u16 = 520;
+const RUNS: u16 = 1040;
 
 // So many runs in turn meet no refusal before the last one.
 const USUAL: u16 = 16;

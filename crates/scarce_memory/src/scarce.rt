@@ -12,7 +12,7 @@ pub struct Scarce {
 
 impl Scarce {
     // Bytes of one room, below the size from which the C library maps a block of its own.
-    const ROOM: usize = 16384;
+    const ROOM: usize = 32768;
 
     /// Takes two rooms for each run, and then whatever else there is.
     pub fn new(alloc: Global, runs: u16) -> Result<Scarce, AllocError> {

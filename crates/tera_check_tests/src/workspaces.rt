@@ -41,9 +41,8 @@ fn reported(alloc: Global) -> Result<(usize, usize), AllocError> {
 fn each_request_of_memory_may_be_refused(rt: HostRuntime) -> Result<(), Fail> {
     let (defining, calling) = reported(rt.alloc())?;
     assert!(rt; defining == 1 && calling == 1);
-    // The usual end needs more than all pieces of a room.
     let verdict = refuse(rt.alloc(), &Reporting)?;
-    let is_refused = matches!(verdict, Verdict::NeverUsual);
+    let is_refused = matches!(verdict, Verdict::Refused(n) if n > 0);
     assert!(rt; is_refused, "{verdict:?}");
     Ok(())
 }
