@@ -144,20 +144,20 @@ must("the template that is extended is found", type(place) == "table" and place.
 local tokens = ask(page, "textDocument/semanticTokens/full", { textDocument = vim.lsp.util.make_text_document_params(page) })
 local kinds = client.server_capabilities.semanticTokensProvider.legend.tokenTypes
 local data = type(tokens) == "table" and tokens.data or {}
-local told, line, character = {}, 0, 0
+local coloured, line, character = {}, 0, 0
 for n = 1, #data, 5 do
   line, character = line + data[n], data[n] == 0 and character + data[n + 1] or data[n + 1]
-  table.insert(told, string.format("%d:%d-%d %s", line, character, character + data[n + 2], kinds[data[n + 3] + 1]))
+  table.insert(coloured, string.format("%d:%d-%d %s", line, character, character + data[n + 2], kinds[data[n + 3] + 1]))
 end
-told = table.concat(told, ", ")
-must("the tokens are coloured", told:match("0:3%-10 keyword, 0:11%-22 string, ") and told:match(", 2:6%-8 class, 2:9%-12 class, ")
-  and told:match(", 2:29%-30 variable, 2:31%-32 operator, 2:33%-38 function, "), told)
+coloured = table.concat(coloured, ", ")
+must("the tokens are coloured", coloured:match("0:3%-10 keyword, 0:11%-22 string, ") and coloured:match(", 2:6%-8 class, 2:9%-12 class, ")
+  and coloured:match(", 2:29%-30 variable, 2:31%-32 operator, 2:33%-38 function, "), coloured)
 -- What hover shows of a component, and where it is named, in all files and by the current texts.
 local hover = ask(page, "textDocument/hover", at(page, 2, 9))
-must("the head of the definition is told", type(hover) == "table" and type(hover.contents) == "table"
+must("hover shows the head of the definition", type(hover) == "table" and type(hover.contents) == "table"
   and hover.contents.value == "ui.box(size: string = 'l')", hover)
 hover = ask(page, "textDocument/hover", at(page, 0, 15))
-must("of a template nothing is told", hover == nil or hover == vim.NIL, hover)
+must("hover shows nothing for a template", hover == nil or hover == vim.NIL, hover)
 local function references(buffer, line, character, declared)
   local params = at(buffer, line, character)
   params.context = { includeDeclaration = declared }
