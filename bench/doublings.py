@@ -55,6 +55,31 @@ def stray_ends(n):
     return "{% endif %}\n" * n
 
 
+def open_strings(n):
+    """Tags without an end, each with a string without an end, one in a line."""
+    return '{{ "\n' * n
+
+
+def open_comments(n):
+    """Comments without an end, one in a line."""
+    return "{# a\n" * n
+
+
+def misspelt_heads(n):
+    """Heads of an unknown word, one in a line."""
+    return "{% iff a %}\n" * n
+
+
+def crossed_heads(n):
+    """Heads that an end of others crosses, two in a line."""
+    return "{% for a in b %}{% if a %}{% endfor %}\n" * n
+
+
+def tag_starts(n):
+    """Nothing but starts of tags, in one line."""
+    return "{%" * n
+
+
 def frame(message):
     body = json.dumps({"jsonrpc": "2.0"} | message).encode()
     return b"Content-Length: %d\r\n\r\n" % len(body) + body
@@ -159,6 +184,12 @@ JOBS = {
     "check, open tags": (of_file("check", "--output-format=concise", text=open_tags), FAULTS),
     "check, open heads": (of_file("check", "--output-format=concise", text=open_heads), FAULTS),
     "check, stray ends": (of_file("check", "--output-format=concise", text=stray_ends), FAULTS),
+    "tree, broken tags": (of_file("tree", "--faulty", "--json", text=broken_tags), FAULTS),
+    "tree, open strings": (of_file("tree", "--faulty", "--json", text=open_strings), FAULTS),
+    "tree, open comments": (of_file("tree", "--faulty", "--json", text=open_comments), FAULTS),
+    "tree, misspelt heads": (of_file("tree", "--faulty", "--json", text=misspelt_heads), FAULTS),
+    "tree, crossed heads": (of_file("tree", "--faulty", "--json", text=crossed_heads), FAULTS),
+    "tree, tag starts": (of_file("tree", "--faulty", "--json", text=tag_starts), FAULTS),
     "format": (of_file("format", text=edits), SIZES),
     "format, differences": (of_file("format", "--diff", text=edits), SIZES),
     "tree": (of_file("tree", text=references), SIZES),

@@ -5,10 +5,12 @@ pub mod DueLaws
 pub mod DueLemmas
 pub mod FaultFindingsLemmas
 pub mod FaultLemmas
+pub mod FoundLemmas
 pub mod HintsLemmas
 pub mod JudgedLemmas
 pub mod ParametersLemmas
 pub mod PassedLemmas
+pub mod ObjectsLemmas
 pub mod Pending
 pub mod PlaceLemmas
 pub mod ReadLemmas

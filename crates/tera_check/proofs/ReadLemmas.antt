@@ -7,7 +7,7 @@ use Rattle.tera_base.specs.declared.errors.ErrorKind.{ErrorKind}
 use Rattle.tera_base.specs.declared.errors.ErrorKind.TheVariants.{Memory, Message, SyntaxError}
 use Rattle.tera_base.specs.declared.utils.Span.{Span}
 use Rattle.tera_lexer.specs.grammar.Faults.{Faults}
-use Rattle.tera_lexer.specs.grammar.Marks.{default_marks}
+use Rattle.tera_lexer.specs.grammar.Marks.{Marks, default_marks}
 use Rattle.tera_lexer.specs.grammar.Place.{IsWithin}
 use Rattle.tera_lexer.specs.grammar.Tokens.{Items, AreTokensOf}
 use Rattle.tera_grammar.specs.Limits.{usual}
@@ -38,9 +38,9 @@ syntax_by P e (Message s) is reports other = subst (λ k. KindReports P k) is re
 syntax_by P e (SyntaxError b) is reports other = tt
 
 -- a refusal for which memory was found is a syntax error
-pub refused : (source : List ℕ) (e : Error) → Refuses default_marks source e → false ≡ is_memory e → IsSyntaxError e
-refused source e refuses other =
-    syntax_by (λ text span. IsWithin source span × ((items : Items) × AreTokensOf default_marks source items × Faults items text span)) e e.kind refl refuses other
+pub refused : (m : Marks) (source : List ℕ) (e : Error) → Refuses m source e → false ≡ is_memory e → IsSyntaxError e
+refused m source e refuses other =
+    syntax_by (λ text span. IsWithin source span × ((items : Items) × AreTokensOf m source items × Faults items text span)) e e.kind refl refuses other
 
 -- what is said of the fault of a template
 pub of_fault : (P : Error → Type 0) (t : Template) (e : Error) → t.parsed ≡ Err e → P e → IfErr t.parsed P

@@ -19,6 +19,10 @@ use Rattle.tera_check.specs.declared.finding.Severity.TheVariants as severities
 abbrev pub place_of : Span → Place
 place_of s = record { line = s.start_line; column = min (s.start_col + 1) (2 ^ 64 - 1) }
 
+-- where it ends, in the same way: the column after its last character
+abbrev pub end_of : Span → Place
+end_of s = record { line = s.end_line; column = min (s.end_col + 1) (2 ^ 64 - 1) }
+
 -- the span of nothing, where a file begins
 abbrev pub first_span : Span
 first_span = record { start_line = 1; start_col = 0; end_line = 1; end_col = 0; range = record { start = 0; end = 0 } }
@@ -54,6 +58,10 @@ severity_of _ = severities.Error
 abbrev pub severity_name : Severity → List ℕ
 severity_name severities.Error = codes "error"
 severity_name severities.Warning = codes "warning"
+
+-- what a line calls a finding of a kind: how grave it is, and the word for the kind
+abbrev pub label_of : Kind → List ℕ
+label_of kind = severity_name (severity_of kind) ++ (codes "[" ++ (kind_name kind ++ codes "]"))
 
 -- a note: its file, the span there that it is about, and its text
 pub data NoteVal : Type 0 where
@@ -95,14 +103,14 @@ IsOfError file NoMemory f = ⊥
 IsOfError file (Saying text) f = f ≡ FindingOf kinds.Fault first_span text []
 IsOfError file (Reporting r) f = f ≡ finding_of file r
 
--- a line: where, how grave, and what
+-- a line: where, what it is called, and what
 abbrev pub line_of : List ℕ → Place → List ℕ → List ℕ → List ℕ
-line_of file place severity text =
-    on_one_line file ++ ((codes ":" ++ (decimal place.line ++ (codes ":" ++ (decimal place.column ++ (codes ": " ++ (severity ++ codes ": ")))))) ++ (on_one_line text ++ 10 ∷ []))
+line_of file place label text =
+    on_one_line file ++ ((codes ":" ++ (decimal place.line ++ (codes ":" ++ (decimal place.column ++ (codes ": " ++ (label ++ codes ": ")))))) ++ (on_one_line text ++ 10 ∷ []))
 
 abbrev pub note_line : NoteVal → List ℕ
 note_line (NoteOf file span text) = line_of file (place_of span) (codes "note") text
 
 -- the lines of a finding in a file: its own, and one for each of its notes
 abbrev pub lines_of : List ℕ → FindingVal → List ℕ
-lines_of file (FindingOf kind span text notes) = line_of file (place_of span) (severity_name (severity_of kind)) text ++ flat_map note_line notes
+lines_of file (FindingOf kind span text notes) = line_of file (place_of span) (label_of kind) text ++ flat_map note_line notes

@@ -4,6 +4,7 @@ pub mod Due
 pub mod FaultFindings
 pub mod Faults
 pub mod Findings
+pub mod Found
 pub mod Hints
 pub mod Judged
 pub mod Lost

@@ -74,7 +74,7 @@ pub struct Note {
 
 impl Place {
     ghost use Rattle.std.specs.Prelude.{◌≡◌};
-    ghost use Rattle.tera_check.specs.Findings.{place_of};
+    ghost use Rattle.tera_check.specs.Findings.{place_of, end_of};
 
     /// Where the span begins.
     pub fn of(span: &Span) -> Place
@@ -83,6 +83,16 @@ impl Place {
         Place {
             line: span.start_line,
             column: span.start_col.saturating_add(1),
+        }
+    }
+
+    /// Where the span ends: the column after its last character.
+    pub fn end_of(span: &Span) -> Place
+        ensures { result ≡ end_of span.now }
+    {
+        Place {
+            line: span.end_line,
+            column: span.end_col.saturating_add(1),
         }
     }
 
@@ -95,8 +105,8 @@ impl Place {
 }
 
 impl Kind {
-    ghost use Rattle.std.specs.Prelude.{◌≡◌};
-    ghost use Rattle.tera_check.specs.Findings.{kind_name, severity_of};
+    ghost use Rattle.std.specs.Prelude.{◌≡◌, IfOk, string_bytes};
+    ghost use Rattle.tera_check.specs.Findings.{kind_name, severity_of, label_of};
 
     /// The word for the kind, which stays the same from version to version.
     pub fn name(self) -> &'static str
@@ -127,6 +137,14 @@ impl Kind {
             | Kind::DefinedAgain => Severity::Error,
             Kind::RepeatedArgument | Kind::UnusedParameter => Severity::Warning,
         }
+    }
+
+    /// What lines call a finding of the kind, as `error[missing-argument]`.
+    pub fn label(self, alloc: Global) -> Result<String, AllocError>
+        ensures { IfOk result (λ label. string_bytes label ≡ label_of self) }
+    {
+        let (severity, rule) = (self.severity().name(), self.name());
+        format!(in alloc; "{severity}[{rule}]")
     }
 }
 

@@ -8,7 +8,7 @@
 //! `Objects`, `Faults`, `Alike`; `templates`, which reads, and `spans`; `mended`, what a source with faults is read as
 //! (specs `Mended`), and `lost`, its words (specs `Lost`); `catalogue`; `calls`, over the parts of a tree (specs
 //! `Pending`); `passed`, `arguments` and `judged`, of one call; `parameters`, of one component (specs `Scopes`); `due`,
-//! what of that is reported beside faults (specs `Due`); `checked`, of a template; `messages`, texts; `finding`,
+//! what of that is reported beside faults (specs `Due`); `checked`, of a template, and `found`, of all; `messages`, texts; `finding`,
 //! `faults`; `fault_findings`, with `causes`, `tags`, `hints` and `walk` (specs `FaultFindings`, `Hints`); `lines` and
 //! `objects`; `laws`.
 #![tactic(auto)]
@@ -22,6 +22,7 @@ mod due;
 mod fault_findings;
 mod faults;
 mod finding;
+mod found;
 mod hints;
 mod judged;
 pub mod laws;
@@ -42,7 +43,8 @@ pub use catalogue::{Catalogue, Known, catalogue_of, known_at};
 pub use checked::{faults_of, findings_of, status};
 pub use faults::finding_of_fault;
 pub use finding::{Finding, KINDS, Kind, Note, Place, Severity};
+pub use found::{Found, all_found};
 pub use lines::lines_of;
 pub use mended::Mended;
-pub use objects::{object_of, put_object};
-pub use templates::{Template, is_open, read_template, tree_of};
+pub use objects::{object_of, put_object, unread_object_of};
+pub use templates::{Template, is_open, read_template, read_template_between, tree_of};

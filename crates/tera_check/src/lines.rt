@@ -9,15 +9,22 @@ use crate::finding::{Finding, Note, Place};
 use line_text::push_on_one_line;
 use std::alloc::{AllocError, Global};
 
-/// The line of the finding, `FILE:LINE:COLUMN: error: MESSAGE` or `.. warning: ..`, and below it a line for each of its
-/// notes. Each text is on one line, as `line_text::push_on_one_line` has it.
+/// The line of the finding, `FILE:LINE:COLUMN: error[RULE]: MESSAGE` or `.. warning[RULE]: ..`, and below it a line for
+/// each of its notes. Each text is on one line, as `line_text::push_on_one_line` has it.
 pub fn lines_of(alloc: Global, file: &str, finding: &Finding) -> Result<Vec<u8>, AllocError>
     ensures { IfOk result (λ v. v.items ≡ lines_of file.now (finding_view finding.now)) }
 {
     let mut lines = String::new(alloc);
-    let severity = finding.kind.severity().name();
+    let label = finding.kind.label(alloc)?;
     let message = finding.message.as_str();
-    push_line(alloc, &mut lines, file, finding.place(), severity, message)?;
+    push_line(
+        alloc,
+        &mut lines,
+        file,
+        finding.place(),
+        label.as_str(),
+        message,
+    )?;
     push_notes(alloc, &mut lines, &finding.notes)?;
     Ok(lines.into_bytes())
 }
@@ -45,13 +52,13 @@ fn push_line(
     lines: &mut String,
     file: &str,
     place: Place,
-    severity: &str,
+    label: &str,
     message: &str,
 ) -> Result<(), AllocError>
     ensures { OnOk result (string_bytes lines.new
-        ≡ string_bytes lines.old ++ line_of file.now place severity.now message.now) }
+        ≡ string_bytes lines.old ++ line_of file.now place label.now message.now) }
 {
-    let between = between(alloc, place, severity)?;
+    let between = between(alloc, place, label)?;
     push_on_one_line(lines, file)?;
     lines.push_str(between.as_str())?;
     push_on_one_line(lines, message)?;
@@ -59,12 +66,12 @@ fn push_line(
 }
 
 // What is between the file and the message.
-fn between(alloc: Global, place: Place, severity: &str) -> Result<String, AllocError>
+fn between(alloc: Global, place: Place, label: &str) -> Result<String, AllocError>
     ensures { IfOk result (λ t. string_bytes t
         ≡ codes ":" ++ (decimal place.line
         ++ (codes ":" ++ (decimal place.column
-        ++ (codes ": " ++ (severity.now ++ codes ": ")))))) }
+        ++ (codes ": " ++ (label.now ++ codes ": ")))))) }
 {
     let Place { line, column } = place;
-    format!(in alloc; ":{line}:{column}: {severity}: ")
+    format!(in alloc; ":{line}:{column}: {label}: ")
 }

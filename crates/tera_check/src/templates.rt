@@ -2,7 +2,7 @@
 
 ghost use Rattle.std.specs.Prelude.{◌≡◌, [], None, Err, IfOk, IfErr, IfSome, MatchOption, MatchResult, map, option_map, string_bytes};
 ghost use Rattle.tera_base.specs.Errors.{IsMemory};
-ghost use Rattle.tera_lexer.specs.grammar.Marks.{default_marks};
+ghost use Rattle.tera_lexer.specs.grammar.Marks.{IsValid, default_marks, marks_of};
 ghost use Rattle.tera_grammar.specs.Limits.{usual};
 ghost use Rattle.tera_grammar.specs.statements.Places.{Places};
 ghost use Rattle.tera_grammar.specs.statements.Top.{Derives, DerivesNames};
@@ -25,7 +25,7 @@ use tera_parser::lexer::Delimiters;
 use tera_parser::value::{Error, ErrorKind, Span};
 use tera_parser::{Names, Parser, ParserOutput};
 
-/// A template that was read, between the usual markers and within the usual limits.
+/// A template that was read within the usual limits.
 #[derive(Drop)]
 pub struct Template {
     /// The name of its file.
@@ -66,8 +66,52 @@ pub fn read_template(
         × (t.defined_at.items ≡ map (λ n. n.span) names.components)
         × (grouped_of t.parameters_at ≡ group_all names.parameters nothing_grouped))) }
 {
+    let Template {
+        file: name,
+        parsed,
+        defined_at,
+        parameters_at,
+        ..
+    } = read_template_between(alloc, file, source, Delimiters::default())?;
+    match parsed {
+        Ok(output) => Ok(Template {
+            file: name,
+            parsed: Ok(output),
+            mended: None,
+            defined_at,
+            parameters_at,
+        }),
+        Err(error) => with_fault(alloc, name, source, error, faults),
+    }
+}
+
+/// Reads the template in the file of this name between other markers. Of its faults only the first is known, and then
+/// there is no tree of what is right in it.
+pub fn read_template_between(
+    alloc: Global,
+    file: &str,
+    source: &str,
+    markers: Delimiters,
+) -> Result<Template, AllocError>
+    requires { IsValid (marks_of markers) }
+    ensures file { IfOk result (λ t. string_bytes t.file ≡ file.now) }
+    ensures sound { IfOk result (λ t. IfOk t.parsed
+        (λ o. Derives usual (marks_of markers) source.now (output_view o))) }
+    ensures complete { (output : Output) → Derives usual (marks_of markers) source.now output →
+        IfOk result (λ t. MatchResult t.parsed (λ o. output_view o ≡ output) (λ _. ⊥)) }
+    ensures fault { IfOk result (λ t. IfErr t.parsed IsSyntaxError) }
+    ensures refusal { IfOk result (λ t. IfErr t.parsed (Refuses (marks_of markers) source.now)) }
+    ensures notes { IfOk result (λ t. IfErr t.parsed (NotesName file.now)) }
+    ensures alone { IfOk result (λ t. t.mended ≡ None) }
+    ensures places { IfOk result (λ t. MatchOption (tree_of t)
+        ((t.defined_at.items ≡ []) × (grouped_of t.parameters_at ≡ nothing_grouped))
+        (λ o. (names : Places)
+        × DerivesNames usual (marks_of markers) source.now (output_view o) names
+        × (t.defined_at.items ≡ map (λ n. n.span) names.components)
+        × (grouped_of t.parameters_at ≡ group_all names.parameters nothing_grouped))) }
+{
     let name = String::from_str(alloc, file)?;
-    match parsed(alloc, file, source) {
+    match parsed(alloc, file, source, markers) {
         Ok((output, names)) => {
             let defined_at = spans_of(alloc, &names, &output.component_definitions)?;
             Ok(Template {
@@ -82,7 +126,7 @@ pub fn read_template(
             if is_memory(&error) {
                 return Err(AllocError);
             }
-            with_fault(alloc, name, source, error, faults)
+            Ok(without_tree(alloc, name, error))
         }
     }
 }
@@ -107,13 +151,7 @@ fn with_fault(
         × (grouped_of t.parameters_at ≡ group_all names.parameters nothing_grouped))) }
 {
     let Some((mended, names)) = read_mended(alloc, file.as_str(), source, faults)? else {
-        return Ok(Template {
-            file,
-            parsed: Err(error),
-            mended: None,
-            defined_at: Vec::new(alloc),
-            parameters_at: BTreeMap::new(alloc),
-        });
+        return Ok(without_tree(alloc, file, error));
     };
     let defined_at = spans_of(alloc, &names, &mended.output.component_definitions)?;
     Ok(Template {
@@ -123,6 +161,20 @@ fn with_fault(
         defined_at,
         parameters_at: names.parameters,
     })
+}
+
+// A template of which a fault is known, and nothing else.
+fn without_tree(alloc: Global, file: String, error: Error) -> Template
+    ensures { (result.file ≡ file) × (result.parsed ≡ Err error) × (result.mended ≡ None)
+        × (result.defined_at.items ≡ []) × (grouped_of result.parameters_at ≡ nothing_grouped) }
+{
+    Template {
+        file,
+        parsed: Err(error),
+        mended: None,
+        defined_at: Vec::new(alloc),
+        parameters_at: BTreeMap::new(alloc),
+    }
 }
 
 /// The tree of the template, or that of what is left of it.
@@ -161,16 +213,22 @@ fn is_memory(error: &Error) -> bool
     }
 }
 
-fn parsed(alloc: Global, file: &str, source: &str) -> Result<(ParserOutput, Names), Error>
+fn parsed(
+    alloc: Global,
+    file: &str,
+    source: &str,
+    markers: Delimiters,
+) -> Result<(ParserOutput, Names), Error>
+    requires { IsValid (marks_of markers) }
     ensures sound { IfOk result (λ p. (names : Places)
-        × DerivesNames usual default_marks source.now (output_view p.0) names
+        × DerivesNames usual (marks_of markers) source.now (output_view p.0) names
         × AreNames p.1 names) }
     ensures complete { (output : Output) (names : Places) →
-        DerivesNames usual default_marks source.now output names →
+        DerivesNames usual (marks_of markers) source.now output names →
         MatchResult result (λ p. (output_view p.0 ≡ output) × AreNames p.1 names) IsMemory }
-    ensures refusal { IfErr result (Refuses default_marks source.now) }
+    ensures refusal { IfErr result (Refuses (marks_of markers) source.now) }
     ensures notes { IfErr result (NotesName file.now) }
 {
-    let parser = Parser::new(alloc, file, source, Delimiters::default());
+    let parser = Parser::new(alloc, file, source, markers);
     parser.parse_with_names()
 }

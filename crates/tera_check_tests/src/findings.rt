@@ -8,13 +8,15 @@ use tera_check::{
 use tera_parser::value::{Error, Span};
 
 const OBJECT: &str =
-    r#"{"file":"a","line":3,"column":4,"message":"\"x\"\n","severity":"error","notes":[{"file":"b","line":1,"column":2,"message":"h"}]}
+    r#"{"file":"a","line":3,"column":4,"end_line":3,"end_column":9,"message":"\"x\"\n","severity":"error","kind":"wrong-type","notes":[{"file":"b","line":1,"column":2,"end_line":1,"end_column":7,"message":"h"}]}
 "#;
 
-fn span(line: usize, column: usize) -> Span {
+fn span(line: usize, column: usize, end: usize) -> Span {
     Span {
         start_line: line,
         start_col: column,
+        end_line: line,
+        end_col: end,
         ..Span::default()
     }
 }
@@ -23,12 +25,12 @@ fn finding(alloc: Global, kind: Kind) -> Result<Finding, AllocError> {
     let mut notes = Vec::new(alloc);
     notes.push(Note {
         file: String::from_str(alloc, "b")?,
-        span: span(1, 1),
+        span: span(1, 1, 6),
         message: String::from_str(alloc, "h")?,
     })?;
     Ok(Finding {
         kind,
-        span: span(3, 3),
+        span: span(3, 3, 8),
         message: String::from_str(alloc, "\"x\"\n")?,
         notes,
     })
@@ -45,8 +47,8 @@ fn a_finding_is_an_object(rt: HostRuntime) -> Result<(), Fail> {
 fn a_line_says_how_grave_it_is(rt: HostRuntime) -> Result<(), Fail> {
     for kind in &KINDS {
         let lines = lines_of(rt.alloc(), "a", &finding(rt.alloc(), *kind)?)?;
-        let word = kind.severity().name();
-        let line = format!(in rt.alloc(); "a:3:4: {word}: \"x\"\\n\nb:1:2: note: h\n")?;
+        let (word, rule) = (kind.severity().name(), kind.name());
+        let line = format!(in rt.alloc(); "a:3:4: {word}[{rule}]: \"x\"\\n\nb:1:2: note: h\n")?;
         assert!(rt; lines.as_slice() == line.as_bytes(), "{kind:?}");
     }
     Ok(())

@@ -1,9 +1,10 @@
 pub mod Defaults
-pub mod FoundLemmas
 pub mod Joined
 pub mod Lists
 pub mod PlanLemmas
+pub mod ReadingLemmas
 pub mod Same
 pub mod SourcesLemmas
 pub mod SendLemmas
 pub mod ServingLemmas
+pub mod TreeLemmas

@@ -1,10 +1,10 @@
 -- What a server was reported, and what was written of it, one step more.
-use Rattle.std.proofs.Common.{◌≡◌, ◌∙◌, ◌<◌, ◌+◌, Bool, true, false, ◌++◌, ◌∷◌, [], inl, inr, ℕ, List, String, string_bytes, length, get_or, take, drop, Result, Ok, Err, IfOk, OnOk, OnErr, map, Option, None, Some, refl, sym, ap, subst, append_assoc}
+use Rattle.std.proofs.Common.{◌≡◌, ◌∙◌, ◌<◌, ◌≤◌, ◌+◌, Bool, true, false, ◌++◌, ◌∷◌, [], inl, inr, ℕ, List, String, string_bytes, length, get_or, take, drop, Result, Ok, Err, IfOk, OnOk, OnErr, filter, map, Option, None, Some, refl, sym, ap, subst, append_assoc}
 use Rattle.std.specs.Io.KnownBytes.{Appends, Consumes, IsAtEnd}
 use Rattle.std.specs.List.{flat_map, AllZip}
 use Rattle.std.specs.Option.{option_map, option_to_list}
 use Rattle.std.specs.declared.alloc.Global.{Global}
-use Rattle.std.proofs.lemmas.List.{append-nil, map_push, map-append, take_more, take-append-drop}
+use Rattle.std.proofs.lemmas.List.{append-nil, map_push, map-append, take_more, take_all, take-append-drop}
 use Rattle.std.proofs.lemmas.List.Concat.{flat_map-append}
 use Rattle.json_rpc.specs.Outgoing.{Outgoing, nothing}
 use Rattle.message_frames.specs.Held.{Held}
@@ -21,12 +21,13 @@ use Rattle.tera_server.specs.declared.server.Ended.{Ended}
 use Rattle.tera_server.specs.declared.server.Phase.{Phase}
 use Rattle.tera_server.specs.declared.server.Phase.TheVariants.{New, Running, ShutDown}
 use Rattle.tera_server.specs.Steps.{ended_at}
-use Rattle.tera_server.specs.States.{text_on, why_on, IsLoadedAs, IsNotLoaded, needed_of, needed_view, KeepsReported}
+use Rattle.tera_server.specs.States.{text_on, why_on, is_there, IsLoadedAs, IsNotLoaded, needed_of, needed_view, KeepsReported}
+use Rattle.tera_server.specs.KnownFiles.{IsKnownAs}
 use Rattle.tera_server.specs.declared.server.OnDisk.{OnDisk}
 use Rattle.tera_server.specs.declared.server.Server.{Server}
 use Rattle.tera_server.specs.declared.server.Needed.{Needed}
 use Rattle.tera_files.specs.Finding.{AreOf, AreOfAll}
-use Rattle.tera_program.specs.Serving.{Takes, SettlesSo, Settles, IsNew, IsAsked, IsLoaded, AreLoaded, LoadedNone, LoadedNext, Gives, Talks, Silent, Took, Settled, Given, Rounds, NoRound, NextRound, or_short, IsAtRest, IsOver, IsServed, IsTalking, ended_of, IsLeft, IsWaiting, Rests}
+use Rattle.tera_program.specs.Serving.{Takes, SettlesSo, Settles, IsNew, IsAsked, IsLoaded, IsUnloaded, AreLoaded, AreLoadedInPart, LoadedNone, LoadedNext, Gives, Talks, Silent, Took, Settled, Given, Rounds, NoRound, NextRound, or_short, IsAtRest, IsOver, IsServed, IsTalking, ended_of, IsLeft, IsWaiting, Rests}
 use Rattle.tera_program.specs.declared.server.Left.{Left}
 use Rattle.tera_program.specs.declared.server.Left.TheVariants as lefts
 use Rattle.tera_show.proofs.Known.{appends_more}
@@ -70,38 +71,61 @@ loaded_next s t u files i file within is had loaded =
     subst (λ paths. AreLoaded s paths u) (sym (ap (map string_bytes) longer ∙ map-append string_bytes (take i files) (file ∷ [])))
     (LoadedNext (map string_bytes (take i files)) (string_bytes file) t u had loaded)
 
--- .. so the folder was given as far as that
-pub folder_given : (extensions : List (List ℕ)) (folder : List ℕ) (s t : Server) (files : List (String Global)) (i : ℕ) → AreOf extensions folder (map string_bytes files) →
-    AreLoaded s (map string_bytes (take i files)) t → (some rest : List (List ℕ)) × AreOf extensions folder (some ++ rest) × AreLoaded s some t
-folder_given extensions folder s t files i are loaded = (
+-- .. so all of them were
+pub all_loaded : (s t : Server) (files : List (String Global)) (i : ℕ) (paths : List (List ℕ)) → length files ≤ i → map string_bytes files ≡ paths →
+    AreLoaded s (map string_bytes (take i files)) t → AreLoaded s paths t
+all_loaded s t files i paths end are loaded = subst (λ ps. AreLoaded s ps t) (ap (map string_bytes) (take_all i files end) ∙ are) loaded
+
+-- .. or an allocation failed for the next one
+pub loaded_in_part : (s u t : Server) (files : List (String Global)) (i : ℕ) (path : List ℕ) (paths : List (List ℕ)) → map string_bytes files ≡ paths →
+    AreLoaded s (map string_bytes (take i files)) u → IsUnloaded path u t → AreLoadedInPart paths s t
+loaded_in_part s u t files i path paths are loaded unloaded = (
   map string_bytes (take i files),
   map string_bytes (drop i files),
-  subst (AreOf extensions folder) (ap (map string_bytes) (sym (take-append-drop i files)) ∙ map-append string_bytes (take i files) (drop i files)) are,
+  sym (map-append string_bytes (take i files) (drop i files)) ∙ (ap (map string_bytes) (take-append-drop i files) ∙ are),
+  u,
   loaded,
+  inr (path, unloaded),
 )
 
--- .. or none of it
-pub folder_unread : (extensions : List (List ℕ)) (folder : List ℕ) (s : Server) → (some rest : List (List ℕ)) × AreOf extensions folder (some ++ rest) × AreLoaded s some s
-folder_unread extensions folder s = ([], folder ∷ [], inl refl, LoadedNone)
+-- .. or for any
+pub none_loaded : (paths : List (List ℕ)) (s : Server) → AreLoadedInPart paths s s
+none_loaded paths s = ([], paths, refl, s, LoadedNone, inl refl)
 
 -- a text was loaded
-pub is_loaded : {T E : Type 0} (r : Result T E) (path : List ℕ) (found : OnDisk) (s t : Server) → KeepsReported s t → t ≡ record s { workspace = t.workspace; unread = t.unread; edited = t.edited } →
-    OnOk r (IsLoadedAs path (text_on found) (why_on found) s t) → OnErr r (IsNotLoaded path s t) → IsLoaded path s t
-is_loaded (Ok v) path found s t stays same loaded unchanged = record { documents = inl (found, loaded); same = same; stays = stays }
-is_loaded (Err e) path found s t stays same loaded unchanged = record { documents = inr unchanged; same = same; stays = stays }
+pub is_loaded : {T E : Type 0} (r : Result T E) (path : List ℕ) (found : OnDisk) (s t : Server) → KeepsReported s t →
+    t ≡ record s { workspace = t.workspace; known = t.known; unread = t.unread; edited = t.edited } →
+    OnOk r (IsLoadedAs path (text_on found) (why_on found) s t) → OnOk r (IsKnownAs path (is_there found) s.known t.known) → OnOk r (IsLoaded path s t)
+is_loaded (Ok v) path found s t stays same loaded known = record { found = found; loaded = loaded; known = known; same = same; stays = stays }
+is_loaded (Err e) path found s t stays same loaded known = tt
 
-pub some_found : {T E : Type 0} (r : Result T E) (path : List ℕ) (found : OnDisk) (s t : Server) → OnOk r (IsLoadedAs path (text_on found) (why_on found) s t) →
-    OnOk r ((found : OnDisk) × IsLoadedAs path (text_on found) (why_on found) s t)
-some_found (Ok v) path found s t loaded = (found, loaded)
-some_found (Err e) path found s t loaded = tt
+-- .. or an allocation failed for it
+pub is_unloaded : {T E : Type 0} (r : Result T E) (path : List ℕ) (s t : Server) → KeepsReported s t →
+    t ≡ record s { workspace = t.workspace; known = t.known; unread = t.unread; edited = t.edited } → OnErr r (IsNotLoaded path s t) → OnErr r (IsUnloaded path s t)
+is_unloaded (Ok v) path s t stays same unchanged = tt
+is_unloaded (Err e) path s t stays same unchanged = record { not_loaded = unchanged; same = same; stays = stays }
 
--- an allocation failed to read a file
-pub unloaded : (path : List ℕ) (s : Server) → IsLoaded path s s
+-- .. or to read its file
+pub unloaded : (path : List ℕ) (s : Server) → IsUnloaded path s s
 unloaded path s = record {
-  documents = inr (record { documents = λ n. refl; unread = λ n e. refl; edited = inl refl });
+  not_loaded = record { documents = λ n. refl; unread = λ n e. refl; known = λ n e. refl; edited = inl refl };
   same = refl;
   stays = record { encoding = refl; reported = λ n. refl; kept = λ k. k };
 }
+
+-- a folder that is not read is not open
+pub unopened : (opened read : Bool) → (opened ≡ true → read ≡ true) → read ≡ false → opened ≡ false
+unopened true read is not = cc (is refl, not)
+unopened false read is not = refl
+
+-- what follows from a result
+pub on_ok : {T E P Q : Type 0} (r : Result T E) → (P → Q) → OnOk r P → OnOk r Q
+on_ok (Ok v) f h = f h
+on_ok (Err e) f h = tt
+
+pub on_err : {T E P Q : Type 0} (r : Result T E) → (P → Q) → OnErr r P → OnErr r Q
+on_err (Ok v) f h = tt
+on_err (Err e) f h = f h
 
 -- no whole message is left, and none ended the exchange
 record Waits (limit : ℕ) (s t : Server) (bytes : List ℕ) (held : Held) (old new : Option (List ℕ)) : Type 0 where

@@ -4,20 +4,17 @@ use Rattle.std.specs.List.{flat_map}
 use Rattle.json.specs.Token.{Token}
 use Rattle.json.specs.Print.{print}
 use Rattle.tera_check.specs.Findings.{FindingVal, lines_of}
-use Rattle.tera_check.specs.Objects.{object_of}
+use Rattle.tera_check.specs.Objects.{object_of, unread_object}
 use Rattle.tera_report.specs.Annotations.{annotation}
 use Rattle.tera_report.specs.Logs.{log_begin, log_end, result_object}
 use Rattle.tera_report.specs.FullTexts.{full_text}
-use Rattle.tera_report.specs.Unread.{unread_annotation, unread_object, unread_result}
+use Rattle.tera_report.specs.Unread.{unread_annotation, unread_result}
+use Rattle.tera_server.specs.Abilities.{version}
 use Rattle.terminal_text.specs.declared.style.Style.{Style}
-use Rattle.tera_program.specs.Found.{FoundVal}
+use Rattle.tera_check.specs.Found.{FoundVal}
 use Rattle.tera_program.specs.Sources.{Known, UnreadVal}
 use Rattle.tera_program.specs.declared.job.Form.{Form}
 use Rattle.tera_program.specs.declared.job.Form.TheVariants as forms
-
--- the version that the program says
-abbrev pub version : List ℕ
-version = codes "0.1.0"
 
 -- what is written of the findings in a file, one after another
 abbrev pub of_each : {A : Type 0} → (List ℕ → FindingVal → List A) → FoundVal → List A

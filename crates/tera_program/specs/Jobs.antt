@@ -34,20 +34,23 @@ abbrev pub common_view : Common → CommonVal
 common_view c = record { extensions = lists_view c.extensions; stdin = c.stdin.now; colours = c.colours; quiet = c.quiet }
 
 pub data JobVal : Type 0 where
-  Checks : Form → Option (List (List ℕ)) → List ℕ → Option (List (List ℕ)) → CommonVal → JobVal
-  Shows : Bool → List ℕ → CommonVal → JobVal
-  Lists : Bool → Option (List (List ℕ)) → CommonVal → JobVal
+  Checks : Form → Option (List (List ℕ)) → List ℕ → Option (List (List ℕ)) → Option (List (List ℕ)) → Bool → Option (List ℕ) → Option (List (List ℕ)) → CommonVal → JobVal
+  Shows : Bool → Bool → Option (List ℕ) → List ℕ → CommonVal → JobVal
+  Lists : Bool → Option (List ℕ) → Option (List (List ℕ)) → CommonVal → JobVal
   LaysOut : Mode → Option (List ℕ) → Option (List (List ℕ)) → CommonVal → JobVal
+  Explains : List ℕ → JobVal
   Serves : JobVal
 
 abbrev pub check_view : Check → JobVal
-check_view j = Checks j.form (lists_view j.library) j.max_faults.now (lists_view j.files) (common_view j.common)
+check_view j =
+    Checks j.form (lists_view j.library) j.max_faults.now (lists_view j.rules.select) (lists_view j.rules.ignore) j.error_on_warnings (option_map (λ m. m.now) j.markers)
+    (lists_view j.files) (common_view j.common)
 
 abbrev pub tree_view : Tree → JobVal
-tree_view j = Shows j.json j.file.now (common_view j.common)
+tree_view j = Shows j.json j.faulty (option_map (λ m. m.now) j.markers) j.file.now (common_view j.common)
 
 abbrev pub components_view : Components → JobVal
-components_view j = Lists j.html (lists_view j.files) (common_view j.common)
+components_view j = Lists j.html (option_map (λ m. m.now) j.markers) (lists_view j.files) (common_view j.common)
 
 abbrev pub format_view : Format → JobVal
 format_view j = LaysOut j.mode (option_map (λ m. m.now) j.markers) (lists_view j.files) (common_view j.common)
@@ -57,6 +60,7 @@ job_view (jobs.Check j) = check_view j
 job_view (jobs.Tree j) = tree_view j
 job_view (jobs.Components j) = components_view j
 job_view (jobs.Format j) = format_view j
+job_view (jobs.Explain rule) = Explains rule.now
 job_view jobs.Server = Serves
 
 -- ---- whether standard input has a name for nothing
@@ -74,6 +78,7 @@ names_unread_input (jobs.Check j) = are_unread j.common j.files
 names_unread_input (jobs.Tree j) = is_unread j.common (j.file ∷ [])
 names_unread_input (jobs.Components j) = are_unread j.common j.files
 names_unread_input (jobs.Format j) = are_unread j.common j.files
+names_unread_input (jobs.Explain rule) = false
 names_unread_input jobs.Server = false
 
 -- ---- what is read of the rows of a subcommand
@@ -115,14 +120,16 @@ common_of rows = record {
 
 abbrev pub check_of : List Row → JobVal
 check_of rows =
-    Checks (form_of (first_of (codes "output-format") rows)) (all_of (codes "library") rows) (text_or [] (codes "max-faults") rows) (all_of (codes "files") rows) (common_of rows)
+    Checks (form_of (first_of (codes "output-format") rows)) (all_of (codes "library") rows) (text_or [] (codes "max-faults") rows)
+    (all_of (codes "select") rows) (all_of (codes "ignore") rows) (is_set (codes "error-on-warnings") rows) (first_of (codes "markers") rows) (all_of (codes "files") rows) (common_of rows)
 
 abbrev pub tree_of : List Row → JobVal
-tree_of rows = Shows (is_set (codes "json") rows) (text_or (codes "-") (codes "file") rows) (common_of rows)
+tree_of rows = Shows (is_set (codes "json") rows) (is_set (codes "faulty") rows) (first_of (codes "markers") rows) (text_or (codes "-") (codes "file") rows) (common_of rows)
 
 abbrev pub components_of : List Row → JobVal
 components_of rows =
-    Lists (is_text (codes "html") (first_of (codes "output-format") rows)) (all_of (codes "files") rows) (common_of rows)
+    Lists (is_text (codes "html") (first_of (codes "output-format") rows)) (first_of (codes "markers") rows)
+    (all_of (codes "files") rows) (common_of rows)
 
 abbrev pub format_of : List Row → JobVal
 format_of rows = LaysOut (mode_of rows) (first_of (codes "markers") rows) (all_of (codes "files") rows) (common_of rows)
@@ -134,4 +141,5 @@ job_of (name, rows) =
     else (if bytes_eq name (codes "tree") then Some (tree_of rows)
     else (if bytes_eq name (codes "components") then Some (components_of rows)
     else (if bytes_eq name (codes "format") then Some (format_of rows)
-    else (if bytes_eq name (codes "server") then Some Serves else None))))
+    else (if bytes_eq name (codes "explain") then Some (Explains (text_or [] (codes "rule") rows))
+    else (if bytes_eq name (codes "server") then Some Serves else None)))))

@@ -10,5 +10,7 @@ pub mod Plans
 pub mod Sources
 pub mod Report
 pub mod Reasons
+pub mod Rules
 pub mod Sent
 pub mod Serving
+pub mod Trees

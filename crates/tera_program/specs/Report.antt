@@ -1,17 +1,20 @@
 -- What is reported for templates, and how the program ends.
-use Rattle.std.specs.Prelude.{◌≡◌, ◌<◌, ◌||◌, ℕ, List, true, false, nat_lt, map, length, take, Option, None, Some, is_some, Result, Ok, Err, MatchResult, vec_len}
+use Rattle.std.specs.Prelude.{◌≡◌, ◌<◌, ◌&&◌, ◌||◌, ℕ, List, Bool, true, false, nat_lt, map, length, take, Option, None, Some, is_some, Result, Ok, Err, MatchResult, vec_len}
 use Rattle.std.specs.declared.alloc.AllocError.{AllocError}
 use Rattle.std.specs.Io.KnownBytes.{Appends, Keeps}
 use Rattle.std.specs.List.{list_any}
 use Rattle.std.specs.declared.io.Error.{Error}
+use Rattle.tera_check.specs.declared.finding.Finding.{Finding}
 use Rattle.tera_check.specs.declared.templates.Template.{Template}
 use Rattle.terminal_text.specs.declared.style.Style.{Style}
 use Rattle.tera_program.specs.Forms.{text_of}
 use Rattle.tera_check.specs.Lost.{are_open}
-use Rattle.tera_program.specs.Found.{AreFound, defined_in, count_in, faulty_in, found_view, is_wrong}
+use Rattle.tera_check.specs.Found.{AreFound, found_view, known_by}
+use Rattle.tera_program.specs.Found.{count_in, faulty_in, is_wrong}
+use Rattle.tera_program.specs.Rules.{AreReportedOf}
 use Rattle.tera_program.specs.Sources.{Known, UnreadVal, nothing, unreadable_view, with_sources}
 use Rattle.tera_program.specs.declared.counting.Checked.{Checked}
-use Rattle.tera_program.specs.declared.found.Found.{Found}
+use Rattle.tera_check.specs.declared.found.Found.{Found}
 use Rattle.tera_program.specs.declared.job.Form.{Form}
 use Rattle.tera_program.specs.declared.reading.Templates.{Templates}
 use Rattle.tera_program.specs.declared.status.Ended.{Ended}
@@ -22,10 +25,12 @@ abbrev pub Takes : Option (List ℕ) → Option (List ℕ) → List ℕ → Opti
 Takes old new text None = Appends old new text
 Takes old new text (Some error) = (n : ℕ) × (n < length text) × Appends old new (take n text)
 
--- what could not be read and what was found in the templates was written whole, or a beginning of it, and counted
-pub record IsReported (form : Form) (style : Style) (known : Known) (unread : List UnreadVal) (templates : List Template) (checked : ℕ) (old new : Option (List ℕ)) (report : Report) : Type 0 where
+-- what could not be read and what was found in the templates and is to be reported was written whole, or a beginning of it, and counted
+pub record IsReported (form : Form) (style : Style) (known : Known) (unread : List UnreadVal) (templates : List Template) (checked : ℕ) (on : Finding → Bool) (old new : Option (List ℕ)) (report : Report) : Type 0 where
+  pub found : List Found
+  pub are : AreFound (known_by templates) (are_open templates) checked 0 templates found
   pub all : List Found
-  pub are : AreFound (defined_in templates) (are_open templates) checked 0 templates all
+  pub reported : AreReportedOf on found all
   pub written : Takes old new (text_of form style known unread (map found_view all)) report.stopped
   pub errors : report.errors ≡ list_any is_wrong all
   pub findings : report.findings ≡ count_in all
@@ -35,17 +40,19 @@ pub record IsReported (form : Form) (style : Style) (known : Known) (unread : Li
 abbrev pub counts_of : Templates → Report → Checked
 counts_of all report = record { files = all.checked; findings = report.findings; faulty = report.faulty; unread = vec_len all.unread }
 
--- how the program ends where so many files could not be read
-abbrev pub ended_of : Result Report AllocError → ℕ → Ended
-ended_of (Ok report) unread = record { found = report.errors; failed = nat_lt 0 unread || is_some report.stopped }
-ended_of (Err error) unread = record { found = false; failed = true }
+-- how the program ends where so many files could not be read: something is found if there is an error, or, where that is
+-- asked for, a warning
+abbrev pub ended_of : Result Report AllocError → Bool → ℕ → Ended
+ended_of (Ok report) strict unread =
+    record { found = report.errors || (strict && nat_lt 0 report.findings); failed = nat_lt 0 unread || is_some report.stopped }
+ended_of (Err error) strict unread = record { found = false; failed = true }
 
 -- what was found in the templates was reported, and the program ends as that and the files that could not be read say;
 -- or an allocation failed, and nothing was written
-pub record IsChecked (form : Form) (style : Style) (all : Templates) (old new : Option (List ℕ)) (ended : Ended) : Type 0 where
+pub record IsChecked (form : Form) (style : Style) (on : Finding → Bool) (strict : Bool) (all : Templates) (old new : Option (List ℕ)) (ended : Ended) : Type 0 where
   pub report : Result Report AllocError
   pub written : MatchResult report
       (IsReported form style (with_sources nothing all.sources.items) (map unreadable_view all.unread.items) all.templates.items
-      all.checked old new)
+      all.checked on old new)
       (λ _. Keeps old new)
-  pub ends : ended ≡ ended_of report (vec_len all.unread)
+  pub ends : ended ≡ ended_of report strict (vec_len all.unread)

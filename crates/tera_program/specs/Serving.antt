@@ -1,8 +1,9 @@
 -- What `tera server` writes of what comes.
-use Rattle.std.specs.Prelude.{◌≡◌, ◌⊎◌, ⊤, ◌++◌, ℕ, Bool, true, false, List, [], ◌∷◌, map, Option, None, Some}
+use Rattle.std.specs.Prelude.{◌≡◌, ◌⊎◌, ⊤, ◌++◌, ℕ, Bool, true, false, List, [], ◌∷◌, filter, map, string_bytes, Option, None, Some}
 use Rattle.std.specs.Io.KnownBytes.{Appends, Consumes, IsAtEnd}
-use Rattle.std.specs.List.{flat_map}
+use Rattle.std.specs.List.{flat_map, list_any}
 use Rattle.std.specs.Option.{option_to_list}
+use Rattle.std.specs.Str.{bytes_eq}
 use Rattle.json_rpc.specs.Ids.{NullId}
 use Rattle.json_rpc.specs.Messages.{message_of}
 use Rattle.json_rpc.specs.Outgoing.{Outgoing, nothing}
@@ -18,10 +19,12 @@ use Rattle.tera_program.specs.declared.server.Left.{Left}
 use Rattle.tera_program.specs.declared.server.Left.TheVariants as lefts
 use Rattle.tera_server.specs.Settling.{due_of, IsSettling, ArePublishedInPart}
 use Rattle.tera_server.specs.Sending.{unpublished_of}
-use Rattle.tera_server.specs.States.{known_of, text_on, why_on, IsLoadedAs, IsNotLoaded, NeededVal, NeedsFile, NeedsFolder, needed_of, edited_of, KeepsReported}
+use Rattle.tera_server.specs.States.{known_of, text_on, why_on, IsLoadedAs, IsNotLoaded, NeededVal, NeedsFile, NeedsFolder, NeedsChanged, is_there, needed_of, edited_of, KeepsReported}
 use Rattle.tera_server.specs.Steps.{ended_at, Step, IsRefused, IsUntaken}
 use Rattle.tera_server.specs.declared.server.Ended.{Ended}
 use Rattle.tera_server.specs.declared.server.Phase.TheVariants.{New, Running}
+use Rattle.tera_server.specs.KnownFiles.{is_known, known_names, IsKnownAs}
+use Rattle.tera_server.specs.Templates.{is_inside}
 use Rattle.tera_server.specs.UnreadFiles.{why_of}
 use Rattle.tera_server.specs.declared.server.OnDisk.{OnDisk}
 use Rattle.tera_server.specs.declared.server.Server.{Server}
@@ -29,13 +32,14 @@ use Rattle.tera_workspace.specs.Workspaces.{reported_of_name, IsKept}
 use Rattle.text_edits.specs.Documents.{no_document}
 
 -- nothing was sent to a server: it knows no document, says nothing, asks for nothing, has nothing to publish, and knows
--- of no file that cannot be read
+-- of no file on disk
 pub record IsNew (s : Server) : Type 0 where
   pub phase : s.phase ≡ New
   pub known : (n : List ℕ) → known_of s n ≡ record { seen = None; texts = no_document }
   pub reported : (n : List ℕ) → reported_of_name s.workspace n ≡ []
   pub kept : IsKept s.workspace
   pub none : (needed_of s ≡ []) × (edited_of s ≡ []) × (unpublished_of s ≡ []) × ((n : List ℕ) → why_of s.unread n ≡ None)
+      × ((n : List ℕ) → is_known s.known n ≡ false)
 
 -- what a message does, and what is to be sent then; what is too long is missed, and what is not a message is refused:
 -- each may have been a change
@@ -62,11 +66,18 @@ pub record IsAsked (next : Option NeededVal) (s t : Server) : Type 0 where
   pub none : next ≡ None → needed_of s ≡ []
   pub same : t ≡ record s { needed = t.needed }
 
--- a text is in the file of this path, or it cannot be read, or there is none; or an allocation failed for that, and the texts
--- are what they were
+-- a text is in the file of this path, or it cannot be read, or there is none
 pub record IsLoaded (path : List ℕ) (s t : Server) : Type 0 where
-  pub documents : ((found : OnDisk) × IsLoadedAs path (text_on found) (why_on found) s t) ⊎ IsNotLoaded path s t
-  pub same : t ≡ record s { workspace = t.workspace; unread = t.unread; edited = t.edited }
+  pub found : OnDisk
+  pub loaded : IsLoadedAs path (text_on found) (why_on found) s t
+  pub known : IsKnownAs path (is_there found) s.known t.known
+  pub same : t ≡ record s { workspace = t.workspace; known = t.known; unread = t.unread; edited = t.edited }
+  pub stays : KeepsReported s t
+
+-- .. or an allocation failed for that, and the texts are what they were
+pub record IsUnloaded (path : List ℕ) (s t : Server) : Type 0 where
+  pub not_loaded : IsNotLoaded path s t
+  pub same : t ≡ record s { workspace = t.workspace; known = t.known; unread = t.unread; edited = t.edited }
   pub stays : KeepsReported s t
 
 -- files of these paths were given, in order
@@ -79,17 +90,60 @@ pub data AreLoaded (s : Server) : List (List ℕ) → Server → Type 0 where
 abbrev pub extensions : List (List ℕ)
 extensions = map (λ e. e.now) EXTENSIONS
 
--- what is asked for is given: the file of a path, or those that the path of a folder means, in order, as far as memory was
--- found for them
+-- files in a folder that were known are given again, in order
+abbrev pub AreKnownGiven : List ℕ → Server → Server → Type 0
+AreKnownGiven folder s t = AreLoaded s (filter (is_inside folder) (known_names s.known)) t
+
+-- .. and those that the path of a folder means
+abbrev pub AreListedGiven : List ℕ → Server → Server → Type 0
+AreListedGiven folder s t = (files : List (List ℕ)) × AreOf extensions folder files × AreLoaded s files t
+
+-- a folder is open
+abbrev pub is_open : List ℕ → Server → Bool
+is_open folder s = list_any (λ f. bytes_eq f folder) (map string_bytes s.folders.items)
+
+-- what was known in a folder is given, and what is there: always if the folder is open, and else if it is in one that is
+abbrev pub IsFolderGiven : List ℕ → Server → Server → Type 0
+IsFolderGiven folder s t =
+    (u : Server) × AreKnownGiven folder s u × (((is_open folder u ≡ false) × (t ≡ u)) ⊎ AreListedGiven folder u t)
+
+-- a file that was not known may be no template, and is passed over then
+abbrev pub IsPassedBy : List ℕ → Server → Server → Type 0
+IsPassedBy path s t = (is_known s.known path ≡ false) × (t ≡ s)
+
+-- what is asked for is given: the file of a path, or a folder; where it is not known what is under a path, either of them, or
+-- what was known below it
 abbrev pub AreGiven : NeededVal → Server → Server → Type 0
 AreGiven (NeedsFile path) s t = IsLoaded path s t
-AreGiven (NeedsFolder path) s t =
-    (files rest : List (List ℕ)) × AreOf extensions path (files ++ rest) × AreLoaded s files t
+AreGiven (NeedsFolder path) s t = IsFolderGiven path s t
+AreGiven (NeedsChanged path) s t = IsPassedBy path s t ⊎ (IsLoaded path s t ⊎ (AreKnownGiven path s t ⊎ IsFolderGiven path s t))
 
--- .. in part, if an allocation fails; so it is asked for again, unless that finds none either
+-- .. in part, if an allocation failed: the first ones of some files, and perhaps none of them
+abbrev pub AreLoadedInPart : List (List ℕ) → Server → Server → Type 0
+AreLoadedInPart paths s t =
+    (given rest : List (List ℕ)) × (given ++ rest ≡ paths) × (u : Server) × AreLoaded s given u
+    × ((t ≡ u) ⊎ ((path : List ℕ) × IsUnloaded path u t))
+
+abbrev pub AreKnownGivenInPart : List ℕ → Server → Server → Type 0
+AreKnownGivenInPart folder s t = AreLoadedInPart (filter (is_inside folder) (known_names s.known)) s t
+
+abbrev pub AreListedGivenInPart : List ℕ → Server → Server → Type 0
+AreListedGivenInPart folder s t =
+    (t ≡ s) ⊎ ((files : List (List ℕ)) × AreOf extensions folder files × AreLoadedInPart files s t)
+
+abbrev pub IsFolderGivenInPart : List ℕ → Server → Server → Type 0
+IsFolderGivenInPart folder s t =
+    AreKnownGivenInPart folder s t ⊎ ((u : Server) × AreKnownGiven folder s u × AreListedGivenInPart folder u t)
+
+abbrev pub AreGivenInPart : NeededVal → Server → Server → Type 0
+AreGivenInPart (NeedsFile path) s t = IsUnloaded path s t
+AreGivenInPart (NeedsFolder path) s t = IsFolderGivenInPart path s t
+AreGivenInPart (NeedsChanged path) s t = IsUnloaded path s t ⊎ IsFolderGivenInPart path s t
+
+-- .. so it is asked for again, unless an allocation fails for that too
 pub record IsGivenInPart (needed : NeededVal) (s t : Server) : Type 0 where
   pub mid : Server
-  pub given : AreGiven needed s mid
+  pub given : AreGivenInPart needed s mid
   pub same : t ≡ record mid { needed = t.needed }
   pub again : (needed_of t ≡ needed_of mid ++ needed ∷ []) ⊎ (needed_of t ≡ needed_of mid)
 

@@ -5,7 +5,8 @@ use Rattle.tera_check.specs.declared.templates.Template.{Template}
 use Rattle.tera_files.specs.declared.reading.Source.{Source}
 use Rattle.tera_grammar.specs.Limits.{usual}
 use Rattle.tera_grammar.specs.statements.Top.{Derives}
-use Rattle.tera_lexer.specs.grammar.Marks.{default_marks}
+use Rattle.tera_lexer.specs.declared.lexer.delimiters.Delimiters.{Delimiters}
+use Rattle.tera_lexer.specs.grammar.Marks.{Marks, default_marks, marks_of}
 use Rattle.tera_parser.specs.Refusal.{Refuses}
 use Rattle.tera_tree.specs.Outputs.{output_view}
 use Rattle.tera_program.specs.declared.reading.Templates.{Templates}
@@ -27,11 +28,16 @@ abbrev pub with_sources : Known → List Source → Known
 with_sources known [] = known
 with_sources known (source ∷ more) = with_sources (with_source known source) more
 
--- A template is that of the source of a file, of which at most so many faults are reported.
-pub record IsReadFrom (file source : List ℕ) (faults : ℕ) (template : Template) : Type 0 where
+-- the markers between which is read: those that are asked for, or the usual ones
+abbrev pub marks_in : Option Delimiters → Marks
+marks_in None = default_marks
+marks_in (Some markers) = marks_of markers
+
+-- A template is that of the source of a file between markers, of which at most so many faults are reported.
+pub record IsReadFrom (m : Marks) (file source : List ℕ) (faults : ℕ) (template : Template) : Type 0 where
   pub named : string_bytes template.file ≡ file
-  pub read : IfOk template.parsed (λ output. Derives usual default_marks source (output_view output))
-  pub refused : IfErr template.parsed (Refuses default_marks source)
+  pub read : IfOk template.parsed (λ output. Derives usual m source (output_view output))
+  pub refused : IfErr template.parsed (Refuses m source)
   pub mended : IfSome template.mended (IsMended file source faults)
 
 -- What is kept of a source: itself, or nothing.
@@ -41,9 +47,9 @@ AddsKept true file text old new =
 AddsKept false file text old new = new ≡ old
 
 -- The template of a file goes after the others, and so does its source where it is kept.
-pub record AddsRead (file text : List ℕ) (faults : ℕ) (keeps : Bool) (old new : Templates) : Type 0 where
+pub record AddsRead (m : Marks) (file text : List ℕ) (faults : ℕ) (keeps : Bool) (old new : Templates) : Type 0 where
   pub template : Template
-  pub read : IsReadFrom file text faults template
+  pub read : IsReadFrom m file text faults template
   pub following : new.templates.items ≡ old.templates.items ++ template ∷ []
   pub kept : AddsKept keeps file text old.sources.items new.sources.items
 

@@ -1,5 +1,10 @@
-//! Single files that the reading of folders leaves out.
+//! Files and folders that are open, and single ones that the reading of folders leaves out.
 
+ghost use Rattle.std.specs.Prelude.{◌≡◌, true, map, string_bytes, IfOk};
+ghost use Rattle.std.specs.List.{list_any};
+ghost use Rattle.std.specs.Str.{bytes_eq};
+
+use std::alloc::AllocError;
 use std::fs;
 use std::rt::Files;
 use tera_files::is_left_out as is_name_left_out;
@@ -21,6 +26,37 @@ pub(crate) fn is_left_out<F: Files + AllocGlobal>(
         }
     }
     left_out
+}
+
+/// Whether the file of this path is in a folder that is open.
+pub(crate) fn is_in_any(folders: &[String], path: &str) -> bool {
+    folders
+        .iter()
+        .any(|folder| rest_below(folder.as_str(), path).is_some())
+}
+
+/// Whether the folder of this path is open, or is read where one is that it is in.
+pub(crate) fn is_read<F: Files + AllocGlobal>(
+    files: &F,
+    folders: &[String],
+    path: &str,
+) -> Result<bool, AllocError>
+    ensures { IfOk result (λ read.
+        list_any (λ f. bytes_eq f path.now) (map string_bytes folders.now) ≡ true → read ≡ true) }
+{
+    if is_open(folders, path) {
+        return Ok(true);
+    }
+    let mut inner = String::from_str(files.alloc(), path)?;
+    inner.push('/')?;
+    Ok(is_in_any(folders, path) && !is_left_out(files, folders, inner.as_str()))
+}
+
+// Whether this folder is one of those that are open.
+fn is_open(folders: &[String], path: &str) -> bool
+    ensures { result ≡ list_any (λ f. bytes_eq f path.now) (map string_bytes folders.now) }
+{
+    folders.iter().any(|folder| folder.as_str() == path)
 }
 
 // What is after the folder in a path below it, which begins with a slash.

@@ -6,12 +6,14 @@ ghost use Rattle.std.specs.Io.KnownBytes.{Keeps};
 ghost use Rattle.tera_program.specs.Counting.{checked_line};
 ghost use Rattle.tera_program.specs.Sources.{nothing, unreadable_view, with_sources};
 ghost use Rattle.tera_program.specs.Report.{IsChecked, IsReported, counts_of, ended_of};
+ghost use Rattle.tera_program.specs.Rules.{is_reported};
 
 use crate::colours::{Terminals, style};
 use crate::counting::{Checked, checked_line};
 use crate::job::{Check, Form};
+use crate::markers::{other_markers_of, print_unfit};
 use crate::output::{print_error, print_stopped, put_error};
-use crate::reading::{Templates, read_all};
+use crate::reading::{Reading, Templates, read_all};
 use crate::reporting::{Report, write_findings};
 use crate::status::Ended;
 use std::alloc::{AllocError, Global};
@@ -40,9 +42,20 @@ pub(crate) fn run<R: Files + Env + Input + Print + Eprint + AllocGlobal + Clone 
         print_error(rt, "tera", "--max-faults: a number from 1 on is wanted");
         return Ended::failed();
     };
-    // Excerpts alone want the sources.
-    let keeps_sources = matches!(job.form, Form::Full);
-    match read_all(rt, job.common, files, job.library, keeps_sources, faults) {
+    let markers = match other_markers_of(rt.alloc(), job.markers) {
+        Ok(markers) => markers,
+        Err(why) => {
+            print_unfit(rt, &why);
+            return Ended::failed();
+        }
+    };
+    let reading = Reading {
+        markers,
+        faults,
+        // Excerpts alone want the sources.
+        keeps_sources: matches!(job.form, Form::Full),
+    };
+    match read_all(rt, job.common, files, job.library, &reading) {
         Ok(all) => {
             let (ended, is_said) = run_on(rt, style, job, &all, &mut io::writer(rt));
             all.forget();
@@ -83,10 +96,10 @@ fn run_on<R: Eprint + AllocGlobal, W: Write>(
     all: &Templates,
     writer: &mut W,
 ) -> (Ended, bool)
-    ensures { IsChecked job.now.form style all.now (W.contents writer.old) (W.contents writer.new)
-        result.0 }
+    ensures { IsChecked job.now.form style (is_reported job.now.rules) job.now.error_on_warnings
+        all.now (W.contents writer.old) (W.contents writer.new) result.0 }
 {
-    let report = write_all_findings(rt.alloc(), style, job.form, all, writer);
+    let report = write_all_findings(rt.alloc(), style, job, all, writer);
     let is_said = match &report {
         Ok(report) => print_end(rt, job, all, report),
         Err(_) => {
@@ -94,18 +107,22 @@ fn run_on<R: Eprint + AllocGlobal, W: Write>(
             false
         }
     };
-    (ended(&report, all.unread.len()), is_said)
+    (
+        ended(&report, job.error_on_warnings, all.unread.len()),
+        is_said,
+    )
 }
 
 fn write_all_findings<W: Write>(
     alloc: Global,
     style: Style,
-    form: Form,
+    job: &Check<'_, '_>,
     all: &Templates,
     writer: &mut W,
 ) -> Result<Report, AllocError>
-    ensures report { IfOk result (IsReported form style (with_sources nothing all.now.sources.items)
-        (map unreadable_view all.now.unread.items) all.now.templates.items all.now.checked
+    ensures report { IfOk result (IsReported job.now.form style
+        (with_sources nothing all.now.sources.items) (map unreadable_view all.now.unread.items)
+        all.now.templates.items all.now.checked (is_reported job.now.rules)
         (W.contents writer.old) (W.contents writer.new)) }
     ensures memory { OnErr result (Keeps (W.contents writer.old) (W.contents writer.new)) }
 {
@@ -113,22 +130,23 @@ fn write_all_findings<W: Write>(
     write_findings(
         alloc,
         writer,
-        form,
+        job.form,
         style,
         &mut sources,
         &all.unread,
         &all.templates,
         all.checked,
+        job.rules,
     )
 }
 
-// How the program ends where so many files could not be read.
-fn ended(report: &Result<Report, AllocError>, unread: usize) -> Ended
-    ensures { result ≡ ended_of report.now unread }
+// How the program ends where so many files could not be read. With `strict` a warning is as much as an error.
+fn ended(report: &Result<Report, AllocError>, strict: bool, unread: usize) -> Ended
+    ensures { result ≡ ended_of report.now strict unread }
 {
     match report {
         Ok(report) => Ended {
-            found: report.errors,
+            found: report.errors || (strict && report.findings > 0),
             failed: unread > 0 || report.stopped.is_some(),
         },
         Err(_) => Ended::failed(),

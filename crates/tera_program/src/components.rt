@@ -1,15 +1,20 @@
 //! `tera components`.
 
+ghost use Rattle.std.specs.Prelude.{IfSome};
+ghost use Rattle.tera_lexer.specs.grammar.Marks.{IsValid, marks_of};
+
 use crate::colours::{Terminals, style};
 use crate::counting::{Listed, listed_line};
 use crate::job::Components;
+use crate::markers::{other_markers_of, print_unfit};
 use crate::output::{print_error, put, put_error};
-use crate::reading::{Templates, read_all};
+use crate::reading::{Reading, Templates, read_all};
 use crate::status::Ended;
 use std::alloc::{AllocError, Global};
 use std::rt::{Env, Files};
 use tera_catalogue::{Component, components_of, html_of, json_of};
 use tera_check::finding_of_fault;
+use tera_parser::lexer::Delimiters;
 use tera_report::push_full;
 use terminal_text::Style;
 
@@ -19,7 +24,14 @@ pub(crate) fn run<R: Files + Env + Input + Print + Eprint + AllocGlobal + Clone 
     terminals: Terminals,
     job: &Components<'_, '_>,
 ) -> Ended {
-    match listed(rt, terminals, job) {
+    let markers = match other_markers_of(rt.alloc(), job.markers) {
+        Ok(markers) => markers,
+        Err(why) => {
+            print_unfit(rt, &why);
+            return Ended::failed();
+        }
+    };
+    match listed(rt, terminals, job, markers) {
         Ok(ended) => ended,
         Err(_) => {
             print_error(rt, "tera", "out of memory");
@@ -33,13 +45,21 @@ fn listed<R: Files + Env + Input + Print + Eprint + AllocGlobal + Clone + Drop>(
     rt: &R,
     terminals: Terminals,
     job: &Components<'_, '_>,
-) -> Result<Ended, AllocError> {
+    markers: Option<Delimiters>,
+) -> Result<Ended, AllocError>
+    requires { IfSome markers (λ m. IsValid (marks_of m)) }
+{
     let alloc = rt.alloc();
     let style = style(rt, job.common.colours, terminals.err);
     let Some(files) = job.files else {
         return Ok(Ended::failed());
     };
-    let all = read_all(rt, job.common, files, None, true, 0)?;
+    let reading = Reading {
+        markers,
+        faults: 0,
+        keeps_sources: true,
+    };
+    let all = read_all(rt, job.common, files, None, &reading)?;
     let faults = faults_of(alloc, style, &all)?;
     let mut said = put_error(rt, faults.text.as_str());
     let components = components_of(alloc, &all.templates)?;

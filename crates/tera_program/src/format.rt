@@ -7,7 +7,7 @@ ghost use Rattle.tera_lexer.specs.grammar.Marks.{marks_of, IsValid};
 use crate::colours::{Terminals, style};
 use crate::counting::{LaidOut, laid_out_line};
 use crate::job::{Format, Mode};
-use crate::markers::{markers_of, print_unfit};
+use crate::markers::{print_unfit, steady_markers_of};
 use crate::output::{
     difference_for, name_line, print_error, print_unread, print_unwritten, put, put_error,
 };
@@ -74,7 +74,7 @@ pub(crate) fn run<R: Files + Env + Input + Print + Eprint + AllocGlobal + Clone 
         err: style(rt, colours, terminals.err),
         is_terminal: terminals.out,
     };
-    match markers_of(rt.alloc(), job.markers) {
+    match steady_markers_of(rt.alloc(), job.markers) {
         Ok(markers) => match lay_out_all(rt, styles, job, &markers) {
             Ok(ended) => ended,
             Err(_) => {

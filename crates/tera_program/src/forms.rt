@@ -8,20 +8,18 @@ ghost use Rattle.tera_report.specs.Logs.{result_object};
 ghost use Rattle.terminal_text.specs.Files.{source_of};
 ghost use Rattle.tera_report.specs.Unread.{unread_result};
 ghost use Rattle.tera_program.specs.Forms.{text_of, finding_text, unread_text, log_of, of_each, of_unread};
-ghost use Rattle.tera_program.specs.Found.{found_view};
+ghost use Rattle.tera_check.specs.Found.{found_view};
 ghost use Rattle.tera_program.specs.Sources.{unreadable_view};
 
-use crate::found::Found;
 use crate::job::Form;
-use crate::options::VERSION;
 use crate::reading::Unreadable;
 use json::Writer;
 use std::alloc::{AllocError, Global};
-use tera_check::{Finding, lines_of, object_of};
+use tera_check::{Finding, Found, lines_of, object_of, unread_object_of};
 use tera_report::{
     begin_log, end_log, push_annotation, push_full, push_unread_annotation, put_result, put_unread,
-    unread_object_of,
 };
+use tera_server::VERSION;
 use terminal_text::{Sources, Style};
 
 // Most findings are reported in so many bytes.

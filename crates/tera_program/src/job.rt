@@ -6,6 +6,7 @@ ghost use Rattle.tera_files.specs.Names.{texts};
 ghost use Rattle.tera_program.specs.Jobs.{are_unread, check_of, check_view, colours_of, common_of, common_view, components_of, components_view, form_of, format_of, format_view, is_set, is_text, is_unread, job_of, job_view, mode_of, names_unread_input, tree_of, tree_view};
 
 use crate::colours::Colours;
+use crate::rules::Rules;
 use clap::ArgMatches;
 
 /// What is to be done.
@@ -15,6 +16,8 @@ pub(crate) enum Job<'b, 'a> {
     Tree(Tree<'b, 'a>),
     Components(Components<'b, 'a>),
     Format(Format<'b, 'a>),
+    /// The rule of this name is explained.
+    Explain(&'a str),
     Server,
 }
 
@@ -36,6 +39,11 @@ pub(crate) struct Check<'b, 'a> {
     pub(crate) library: Option<&'b [&'a str]>,
     /// How many faults of a file are reported at the most: a word, which need be no number.
     pub(crate) max_faults: &'a str,
+    pub(crate) rules: Rules<'b, 'a>,
+    /// Whether the status is that of an error where there are only warnings.
+    pub(crate) error_on_warnings: bool,
+    /// Six markers in one word, where they are not the usual ones.
+    pub(crate) markers: Option<&'a str>,
     pub(crate) files: Option<&'b [&'a str]>,
     pub(crate) common: Common<'b, 'a>,
 }
@@ -53,6 +61,10 @@ pub(crate) enum Form {
 #[derive(Clone, Copy, Debug)]
 pub(crate) struct Tree<'b, 'a> {
     pub(crate) json: bool,
+    /// Whether it is shown of a template with faults too, beside these.
+    pub(crate) faulty: bool,
+    /// Six markers in one word, where they are not the usual ones.
+    pub(crate) markers: Option<&'a str>,
     pub(crate) file: &'a str,
     pub(crate) common: Common<'b, 'a>,
 }
@@ -60,6 +72,8 @@ pub(crate) struct Tree<'b, 'a> {
 #[derive(Clone, Copy, Debug)]
 pub(crate) struct Components<'b, 'a> {
     pub(crate) html: bool,
+    /// Six markers in one word, where they are not the usual ones.
+    pub(crate) markers: Option<&'a str>,
     pub(crate) files: Option<&'b [&'a str]>,
     pub(crate) common: Common<'b, 'a>,
 }
@@ -93,6 +107,7 @@ impl<'b, 'a> Job<'b, 'a> {
             "tree" => Some(Job::Tree(tree_in(found))),
             "components" => Some(Job::Components(components_in(found))),
             "format" => Some(Job::Format(format_in(found))),
+            "explain" => Some(Job::Explain(text_or(found, "rule", ""))),
             "server" => Some(Job::Server),
             _ => None,
         }
@@ -107,7 +122,7 @@ impl<'b, 'a> Job<'b, 'a> {
             Job::Tree(job) => is_unread(job.common, &[job.file]),
             Job::Components(job) => are_unread(job.common, job.files),
             Job::Format(job) => are_unread(job.common, job.files),
-            Job::Server => false,
+            Job::Explain(_) | Job::Server => false,
         }
     }
 }
@@ -135,6 +150,12 @@ fn check_in<'b, 'a>(found: &'b ArgMatches<'a>) -> Check<'b, 'a>
         form: form_named(text(found, "output-format")),
         library: texts_in(found, "library"),
         max_faults: text_or(found, "max-faults", ""),
+        rules: Rules {
+            select: texts_in(found, "select"),
+            ignore: texts_in(found, "ignore"),
+        },
+        error_on_warnings: is_set(found, "error-on-warnings"),
+        markers: text(found, "markers"),
         files: texts_in(found, "files"),
         common: common_in(found),
     }
@@ -145,6 +166,8 @@ fn tree_in<'b, 'a>(found: &'b ArgMatches<'a>) -> Tree<'b, 'a>
 {
     Tree {
         json: is_set(found, "json"),
+        faulty: is_set(found, "faulty"),
+        markers: text(found, "markers"),
         file: text_or(found, "file", "-"),
         common: common_in(found),
     }
@@ -155,6 +178,7 @@ fn components_in<'b, 'a>(found: &'b ArgMatches<'a>) -> Components<'b, 'a>
 {
     Components {
         html: is_word(text(found, "output-format"), "html"),
+        markers: text(found, "markers"),
         files: texts_in(found, "files"),
         common: common_in(found),
     }

@@ -5,7 +5,7 @@
 //! its output.
 //!
 //! In the order of reading: `options`, the words; `job`, what they ask; `status`, how it ends; `colours` and `output`;
-//! `reading`, the templates; `found`, `forms`, `writing` and `reporting`, what is found in them as text; `counting`,
+//! `reading`, the templates; `rules`, `found`, `forms`, `writing` and `reporting`, what is found in them, counted and as text; `counting`,
 //! the last line; `plan` and `markers`, what a file becomes; `sending`, the messages to an editor; then a module for
 //! each subcommand.
 #![tactic(auto)]
@@ -15,6 +15,8 @@ mod check;
 mod colours;
 mod components;
 mod counting;
+mod explain;
+mod explanations;
 mod format;
 mod forms;
 mod found;
@@ -25,6 +27,7 @@ mod output;
 mod plan;
 mod reading;
 mod reporting;
+mod rules;
 mod sending;
 mod server;
 mod status;
@@ -125,6 +128,7 @@ fn done<R: Files + Env + Input + Print + Eprint + AllocGlobal + Clone + Drop>(
         Some(Job::Tree(job)) => tree::run(rt, terminals, &job),
         Some(Job::Components(job)) => components::run(rt, terminals, &job),
         Some(Job::Format(job)) => format::run(rt, terminals, &job),
+        Some(Job::Explain(rule)) => explain::run(rt, rule),
         Some(Job::Server) => server::run(rt),
         None => Ended::failed(),
     };

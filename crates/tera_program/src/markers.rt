@@ -1,6 +1,6 @@
-//! Markers between which files are laid out.
+//! Markers between which files are read and laid out.
 
-ghost use Rattle.std.specs.Prelude.{◌≡◌, IfOk, true};
+ghost use Rattle.std.specs.Prelude.{◌≡◌, IfOk, IfSome, true};
 ghost use Rattle.tera_layout.specs.Steady.{is_steady};
 ghost use Rattle.tera_lexer.specs.grammar.Marks.{marks_of, IsValid};
 
@@ -12,7 +12,7 @@ use tera_layout::are_steady;
 use tera_parser::lexer::Delimiters;
 use tera_parser::value::{Error, ErrorKind};
 
-/// Why nothing is laid out between some markers.
+/// Why nothing is read or laid out between some markers.
 #[derive(Drop)]
 pub(crate) enum Unfit {
     Memory,
@@ -24,28 +24,48 @@ pub(crate) enum Unfit {
     Unsteady,
 }
 
-/// The six markers that these words are; the default ones without them.
-pub(crate) fn markers_of(alloc: Global, words: Option<&str>) -> Result<Delimiters, Unfit>
+/// The six markers that these words are, if files can be laid out between them; the default ones without them.
+pub(crate) fn steady_markers_of(alloc: Global, words: Option<&str>) -> Result<Delimiters, Unfit>
     ensures { IfOk result (λ d. IsValid (marks_of d) × (is_steady (marks_of d) ≡ true)) }
 {
-    match words {
-        Some(words) => fit(alloc, six_of(alloc, words)?),
-        None => fit(alloc, Delimiters::default()),
+    let markers = markers_of(alloc, words)?;
+    if are_steady(&markers) {
+        Ok(markers)
+    } else {
+        Err(Unfit::Unsteady)
     }
 }
 
-// The markers, if files can be laid out between them.
-fn fit(alloc: Global, markers: Delimiters) -> Result<Delimiters, Unfit>
-    ensures { IfOk result (λ d. IsValid (marks_of d) × (is_steady (marks_of d) ≡ true)) }
+/// The six markers that these words are, where they are not the default ones.
+pub(crate) fn other_markers_of(
+    alloc: Global,
+    words: Option<&str>,
+) -> Result<Option<Delimiters>, Unfit>
+    ensures { IfOk result (λ markers. IfSome markers (λ d. IsValid (marks_of d))) }
+{
+    let markers = markers_of(alloc, words)?;
+    if markers == Delimiters::default() {
+        Ok(None)
+    } else {
+        Ok(Some(markers))
+    }
+}
+
+/// The six markers that these words are; the default ones without them.
+pub(crate) fn markers_of(alloc: Global, words: Option<&str>) -> Result<Delimiters, Unfit>
+    ensures { IfOk result (λ d. IsValid (marks_of d)) }
+{
+    match words {
+        Some(words) => valid(alloc, six_of(alloc, words)?),
+        None => valid(alloc, Delimiters::default()),
+    }
+}
+
+fn valid(alloc: Global, markers: Delimiters) -> Result<Delimiters, Unfit>
+    ensures { IfOk result (λ d. IsValid (marks_of d)) }
 {
     match markers.validate(alloc) {
-        Ok(()) => {
-            if are_steady(&markers) {
-                Ok(markers)
-            } else {
-                Err(Unfit::Unsteady)
-            }
-        }
+        Ok(()) => Ok(markers),
         Err(error) => Err(Unfit::Rule(error)),
     }
 }
@@ -77,7 +97,7 @@ fn next_of(alloc: Global, parts: &mut SplitWhitespace<'_>) -> Result<CowStr<'sta
     }
 }
 
-/// Says on standard error why nothing is laid out.
+/// Says on standard error why nothing is read or laid out.
 pub(crate) fn print_unfit<R: Eprint + AllocGlobal>(rt: &R, why: &Unfit) {
     match why {
         Unfit::Memory => print_error(rt, "tera", "out of memory"),

@@ -1,10 +1,9 @@
 //! The command line: which words there are, and what help says of them.
 
+use crate::explanations::{OPTIONAL_RULES, RULES};
 use clap::{Arg, ArgAction, Command};
 use std::alloc::{AllocError, Global};
-
-/// The version that `--version` says.
-pub(crate) const VERSION: &str = "0.1.0";
+use tera_server::VERSION;
 
 /// How many syntax errors of a file are reported, where nothing else is asked for.
 const MAX_FAULTS: &str = "100";
@@ -36,7 +35,8 @@ A folder means the templates below it: the files whose names end in .html, .htm,
 those in `node_modules`. A file that is given twice is checked once.
 
 All syntax errors of a file are reported, and what else is found in the rest of it. Nothing is reported that may come of
-a syntax error: no component is undefined while the tag of a definition has one.
+a syntax error: no component is undefined while the tag of a definition has one. Between other markers (--markers) only
+the first syntax error of a file is reported, and nothing else is found in it.
 
 This parser does not read floating-point numbers. Tera does: a tag that has one gets the error `Float literals are not
 supported`, and is not checked.
@@ -70,11 +70,22 @@ Examples:
 Exit status: 0 if every template was read, 1 if one has a syntax error, 2 if a file could not be read.";
 
 const OF_TREE: &str = "\
+With --faulty the tree of a template with syntax errors is shown too: the tree of its text with something else in the
+place of each error. Up to 100 errors are reported. With --json they are in the output: an object with `tree`, `faults`
+and `more`, which says whether there are more errors.
+
 Examples:
   tera tree page.html
   tera tree --json < page.html
+  tera tree --faulty page.html
 
-Exit status: 0 if the tree was shown, 1 if the template has a syntax error, 2 if it could not be read.";
+Exit status: 0 if the template has no syntax error, 1 if it has one, 2 if it could not be read.";
+
+const OF_EXPLAIN: &str = "\
+Examples:
+  tera explain missing-argument
+
+Exit status: 0 if the rule was explained, 2 if there is none of this name.";
 
 const OF_SERVER: &str = "\
 An editor starts it and ends it. It reports what is wrong in templates while they are edited, over all files below the
@@ -95,6 +106,7 @@ pub(crate) fn command<'a>(alloc: Global) -> Result<Command<'a>, AllocError> {
         .subcommand(format(alloc)?)?
         .subcommand(components(alloc)?)?
         .subcommand(tree(alloc)?)?
+        .subcommand(explain(alloc)?)?
         .subcommand(server(alloc)?)
 }
 
@@ -117,6 +129,24 @@ fn check<'a>(alloc: Global) -> Result<Command<'a>, AllocError> {
             "How many syntax errors of a file are reported at the most, from 1 on",
         )
         .default_value(MAX_FAULTS))?
+        .arg(rules(
+            alloc,
+            "select",
+            RULES.as_slice(),
+            "Report only findings of these rules, and syntax errors",
+        ))?
+        .arg(rules(
+            alloc,
+            "ignore",
+            OPTIONAL_RULES.as_slice(),
+            "Report no findings of these rules",
+        ))?
+        .arg(flag(
+            alloc,
+            "error-on-warnings",
+            "End with status 1 if there are only warnings, too",
+        ))?
+        .arg(markers(alloc))?
         .arg(several(
             alloc,
             "library",
@@ -136,12 +166,7 @@ fn format<'a>(alloc: Global) -> Result<Command<'a>, AllocError> {
             "Write no file, and print the names of those that would change",
         ))?
         .arg(flag(alloc, "diff", "Write no file, and show what would change"))?
-        .arg(option(
-            alloc,
-            "markers",
-            "WORDS",
-            "Six other markers in one word, for example '[% %] [[ ]] [# #]'",
-        ))?;
+        .arg(markers(alloc))?;
     with_files(alloc, command)
 }
 
@@ -156,7 +181,8 @@ fn components<'a>(alloc: Global) -> Result<Command<'a>, AllocError> {
             CATALOGUES.as_slice(),
             "json",
             "Format of the list",
-        ))?;
+        ))?
+        .arg(markers(alloc))?;
     with_files(alloc, command)
 }
 
@@ -169,6 +195,12 @@ fn tree<'a>(alloc: Global) -> Result<Command<'a>, AllocError> {
             "json",
             "Show it as JSON, with the positions of its expressions",
         ))?
+        .arg(flag(
+            alloc,
+            "faulty",
+            "Report every syntax error, and show the tree of the rest",
+        ))?
+        .arg(markers(alloc))?
         .arg(stdin_filename(alloc))?
         .arg(colour(alloc))?
         .arg(
@@ -176,6 +208,19 @@ fn tree<'a>(alloc: Global) -> Result<Command<'a>, AllocError> {
                 .value_name("FILE")
                 .default_value("-")
                 .help("A file, or - for standard input"),
+        )
+}
+
+fn explain<'a>(alloc: Global) -> Result<Command<'a>, AllocError> {
+    Command::new(alloc, "explain")
+        .about("Explains a rule of the findings")
+        .after_help(OF_EXPLAIN)
+        .arg(
+            Arg::new(alloc, "rule")
+                .value_name("RULE")
+                .required(true)
+                .value_parser(&*RULES.as_slice())
+                .help("The word in brackets of a finding"),
         )
 }
 
@@ -234,6 +279,26 @@ fn choice<'a>(
         .default_value(default)
 }
 
+fn rules<'a>(
+    alloc: Global,
+    name: &'a str,
+    among: &'static [&'static str],
+    help: &'a str,
+) -> Arg<'a> {
+    several(alloc, name, "RULES", help)
+        .value_delimiter(',')
+        .value_parser(&*among)
+}
+
+fn markers<'a>(alloc: Global) -> Arg<'a> {
+    option(
+        alloc,
+        "markers",
+        "WORDS",
+        "Six other markers in one word, for example '[% %] [[ ]] [# #]'",
+    )
+}
+
 fn stdin_filename<'a>(alloc: Global) -> Arg<'a> {
     option(
         alloc,
@@ -270,7 +335,7 @@ fn extension<'a>(alloc: Global) -> Arg<'a> {
 fn files<'a>(alloc: Global) -> Arg<'a> {
     Arg::new(alloc, "files")
         .value_name("FILE")
-        .required(true)
+        .default_value(".")
         .num_args(1..)
         .action(ArgAction::Append)
         .help("Files, folders, or - for standard input")

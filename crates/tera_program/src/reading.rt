@@ -1,8 +1,9 @@
 //! Templates that are read.
 
-ghost use Rattle.std.specs.Prelude.{◌≡◌, ◌++◌, ℕ, List, IfOk, OnOk, codes, string_bytes};
+ghost use Rattle.std.specs.Prelude.{◌≡◌, ◌++◌, ℕ, List, IfOk, IfSome, OnOk, codes, string_bytes};
+ghost use Rattle.tera_lexer.specs.grammar.Marks.{IsValid, marks_of};
 ghost use Rattle.terminal_text.specs.Files.{source_of};
-ghost use Rattle.tera_program.specs.Sources.{AddsRead, AddsUnread, nothing, with_source, with_sources};
+ghost use Rattle.tera_program.specs.Sources.{AddsRead, AddsUnread, IsReadFrom, marks_in, nothing, with_source, with_sources};
 
 use crate::job::Common;
 use crate::options::EXTENSIONS;
@@ -10,8 +11,9 @@ use crate::output::{print_error, why_unread};
 use std::alloc::{AllocError, Global};
 use std::mem;
 use std::rt::Files;
-use tera_check::{Template, read_template};
+use tera_check::{Template, read_template, read_template_between};
 use tera_files::{Found, Selection, Source, Unlisted, Unread, files_of, read_source};
+use tera_parser::lexer::Delimiters;
 use terminal_text::Sources;
 
 /// Templates, beside the sources that they were read from.
@@ -24,6 +26,17 @@ pub(crate) struct Templates {
     pub(crate) checked: usize,
     /// What could not be read.
     pub(crate) unread: Vec<Unreadable>,
+}
+
+/// How templates are read.
+#[derive(Debug, Drop)]
+pub(crate) struct Reading {
+    /// The markers, where they are not the usual ones.
+    pub(crate) markers: Option<Delimiters>,
+    /// How many faults of each are looked for, between the usual markers. Between others only the first is.
+    pub(crate) faults: usize,
+    /// Whether the sources are kept.
+    pub(crate) keeps_sources: bool,
 }
 
 /// A file or a folder that could not be read.
@@ -153,23 +166,23 @@ fn without_templates(alloc: Global, common: Common<'_, '_>) -> Result<String, Al
 }
 
 /// Reads the templates that the paths mean, and after them those of the library that are not among these. Standard
-/// error says which cannot be read. Their sources are kept where `keeps_sources` says so. Of each at most so many
-/// faults are looked for.
+/// error says which cannot be read.
 pub(crate) fn read_all<R: Files + Input + Eprint + AllocGlobal + Clone + Drop>(
     rt: &R,
     common: Common<'_, '_>,
     paths: &[&str],
     library: Option<&[&str]>,
-    keeps_sources: bool,
-    faults: usize,
-) -> Result<Templates, AllocError> {
+    reading: &Reading,
+) -> Result<Templates, AllocError>
+    requires { IfSome reading.now.markers (λ m. IsValid (marks_of m)) }
+{
     let (found, asked) = found_with(rt, common, paths, library)?;
     print_unlisted(rt, common, &found)?;
     let mut all = Templates::none(rt.alloc());
     add_unlisted(rt.alloc(), common, &found, &mut all)?;
     for (number, file) in found.files.iter().enumerate() {
         let name = name_of(file.as_str(), common.stdin);
-        if let Err(why) = add(rt, file.as_str(), name, keeps_sources, faults, &mut all) {
+        if let Err(why) = add(rt, file.as_str(), name, reading, &mut all) {
             refuse(rt, name, why, &mut all)?;
         }
         if number < asked {
@@ -246,32 +259,49 @@ fn add<R: Files + Input + AllocGlobal>(
     rt: &R,
     file: &str,
     name: &str,
-    keeps_source: bool,
-    faults: usize,
+    reading: &Reading,
     all: &mut Templates,
 ) -> Result<(), Unread>
-    ensures { OnOk result ((text : List ℕ) ×
-        AddsRead name.now text faults keeps_source all.old all.new) }
+    requires { IfSome reading.now.markers (λ m. IsValid (marks_of m)) }
+    ensures { OnOk result ((text : List ℕ) × AddsRead (marks_in reading.now.markers) name.now text
+        reading.now.faults reading.now.keeps_sources all.old all.new) }
 {
     let source = read_source(rt, file, name)?;
-    Ok(add_source(rt.alloc(), source, keeps_source, faults, all)?)
+    Ok(add_source(rt.alloc(), source, reading, all)?)
 }
 
 // Reads the template of a source, and puts it after the others; the source too, where it is kept.
 fn add_source(
     alloc: Global,
     source: Source,
-    keeps_source: bool,
-    faults: usize,
+    reading: &Reading,
     all: &mut Templates,
 ) -> Result<(), AllocError>
-    ensures { OnOk result (AddsRead (string_bytes source.file) (string_bytes source.text) faults
-        keeps_source all.old all.new) }
+    requires { IfSome reading.now.markers (λ m. IsValid (marks_of m)) }
+    ensures { OnOk result (AddsRead (marks_in reading.now.markers) (string_bytes source.file)
+        (string_bytes source.text) reading.now.faults reading.now.keeps_sources all.old all.new) }
 {
-    let template = read_template(alloc, source.file.as_str(), source.text.as_str(), faults)?;
+    let template = template_of(alloc, source.file.as_str(), source.text.as_str(), reading)?;
     all.templates.push(template)?;
-    if keeps_source {
+    if reading.keeps_sources {
         all.sources.push(source)?;
     }
     Ok(())
+}
+
+// The template of the source of a file.
+fn template_of(
+    alloc: Global,
+    file: &str,
+    source: &str,
+    reading: &Reading,
+) -> Result<Template, AllocError>
+    requires { IfSome reading.now.markers (λ m. IsValid (marks_of m)) }
+    ensures { IfOk result (IsReadFrom (marks_in reading.now.markers) file.now source.now
+        reading.now.faults) }
+{
+    match &reading.markers {
+        Some(markers) => read_template_between(alloc, file, source, markers.clone()?),
+        None => read_template(alloc, file, source, reading.faults),
+    }
 }

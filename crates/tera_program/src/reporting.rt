@@ -5,16 +5,18 @@ ghost use Rattle.std.specs.Io.KnownBytes.{Keeps};
 ghost use Rattle.terminal_text.specs.Files.{source_of};
 ghost use Rattle.tera_program.specs.Sources.{unreadable_view};
 ghost use Rattle.tera_program.specs.Report.{IsReported};
+ghost use Rattle.tera_program.specs.Rules.{is_reported};
 
 use crate::forms::text_of;
-use crate::found::{all_found, count_of, faulty_of, has_error};
+use crate::found::{count_of, faulty_of, has_error};
 use crate::job::Form;
 use crate::reading::Unreadable;
+use crate::rules::{Rules, leave_reported};
 use crate::writing::write_all;
 use std::alloc::{AllocError, Global};
 use std::io;
 use std::io::Write;
-use tera_check::Template;
+use tera_check::{Template, all_found};
 use terminal_text::{Sources, Style};
 
 /// What was reported.
@@ -30,8 +32,8 @@ pub(crate) struct Report {
     pub(crate) stopped: Option<io::Error>,
 }
 
-/// Writes the text of what could not be read, and of all that is found in the templates. Of those after the first `checked`
-/// only faults are reported. Nothing is written before the whole text is ready.
+/// Writes the text of what could not be read, and of all that is found in the templates and is to be reported. Of those
+/// after the first `checked` only faults are. Nothing is written before the whole text is ready.
 pub(crate) fn write_findings<W: Write>(
     alloc: Global,
     writer: &mut W,
@@ -41,13 +43,15 @@ pub(crate) fn write_findings<W: Write>(
     unread: &Vec<Unreadable>,
     templates: &Vec<Template>,
     checked: usize,
+    rules: Rules<'_, '_>,
 ) -> Result<Report, AllocError>
     ensures report { IfOk result (IsReported form style (source_of sources.old)
-        (map unreadable_view unread.now.items) templates.now.items checked
+        (map unreadable_view unread.now.items) templates.now.items checked (is_reported rules.entry)
         (W.contents writer.old) (W.contents writer.new)) }
     ensures memory { OnErr result (Keeps (W.contents writer.old) (W.contents writer.new)) }
 {
-    let all = all_found(alloc, templates, checked)?;
+    let mut all = all_found(alloc, templates, checked)?;
+    leave_reported(&mut all, rules);
     let text = text_of(
         alloc,
         form,

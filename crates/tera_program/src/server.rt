@@ -9,12 +9,13 @@ ghost use Rattle.message_frames.specs.Representing.{Represents};
 ghost use Rattle.message_frames.specs.Writing.{frame as frame_text};
 ghost use Rattle.tera_files.specs.declared.reading.Unread.TheVariants.{NotUtf8};
 ghost use Rattle.tera_program.specs.Reasons.{not_utf8, IsUnread};
-ghost use Rattle.tera_program.specs.Serving.{Takes, SettlesSo, Rests, IsLoaded, AreGiven, IsGivenInPart, Gives, IsTalking, IsWaiting, IsServed};
-ghost use Rattle.tera_server.specs.States.{NeedsFolder, needed_view, needed_of, text_on, why_on, IsLoadedAs};
+ghost use Rattle.tera_program.specs.Serving.{Takes, SettlesSo, Rests, IsLoaded, IsUnloaded, AreKnownGiven, AreKnownGivenInPart, AreListedGiven, AreListedGivenInPart, IsFolderGiven, IsFolderGivenInPart, AreGiven, AreGivenInPart, IsGivenInPart, Gives, IsTalking, IsWaiting, IsServed};
+ghost use Rattle.tera_server.specs.States.{NeedsChanged, needed_view, needed_of, text_on};
+ghost use Rattle.tera_server.specs.KnownFiles.{is_known};
 ghost use Rattle.tera_server.specs.declared.server.OnDisk.{OnDisk};
 ghost use Rattle.tera_server.specs.declared.server.Server.{Server};
 
-use crate::aside::is_left_out;
+use crate::aside::{is_in_any, is_left_out, is_read};
 use crate::options::EXTENSIONS;
 use crate::output::{print_error, why_unread};
 use crate::sending::send;
@@ -25,7 +26,7 @@ use std::alloc::{AllocError, Global};
 use std::io::{Read, Write};
 use std::rt::Files;
 use std::{fs, io};
-use tera_files::{Selection, Unread, files_of, read_source};
+use tera_files::{Selection, Unread, ends_in, files_of, read_source};
 use tera_server::{Ended as Finished, Needed, OnDisk, Server};
 
 // How the messages that came left the exchange.
@@ -326,12 +327,85 @@ fn give_needed<F: Files + Input + AllocGlobal + Clone + Drop>(
     server: &mut Server,
     needed: &Needed,
 ) -> Result<(), AllocError>
-    ensures { AreGiven (needed_view needed.now) server.old server.new }
+    ensures given { OnOk result (AreGiven (needed_view needed.now) server.old server.new) }
+    ensures in_part { OnErr result (AreGivenInPart (needed_view needed.now) server.old server.new) }
 {
     match needed {
         Needed::Folder(path) => give_folder(files, server, path.as_str()),
         Needed::File(path) => give_single(files, server, path.as_str()),
+        Needed::Changed(path) => give_changed(files, server, path.as_str()),
     }
+}
+
+// What is under a path now: a folder, a file or nothing.
+fn give_changed<F: Files + Input + AllocGlobal + Clone + Drop>(
+    files: &F,
+    server: &mut Server,
+    path: &str,
+) -> Result<(), AllocError>
+    ensures given { OnOk result (AreGiven (NeedsChanged path.now) server.old server.new) }
+    ensures in_part { OnErr result (AreGivenInPart (NeedsChanged path.now) server.old server.new) }
+{
+    match kind_of(files, path) {
+        Kind::Folder => give_folder(files, server, path),
+        Kind::File => give_template(files, server, path),
+        Kind::Nothing => give_gone(files, server, path),
+    }
+}
+
+// A file that was not known and has not the name of a template is passed over.
+fn give_template<F: Files + Input + AllocGlobal>(
+    files: &F,
+    server: &mut Server,
+    path: &str,
+) -> Result<(), AllocError>
+    ensures given { OnOk result (AreGiven (NeedsChanged path.now) server.old server.new) }
+    ensures in_part { OnErr result (AreGivenInPart (NeedsChanged path.now) server.old server.new) }
+{
+    if is_needed(server, path) {
+        give_single(files, server, path)
+    } else {
+        Ok(())
+    }
+}
+
+// A file that was known is gone, or what may have been a folder.
+fn give_gone<F: Files + Input + AllocGlobal>(
+    files: &F,
+    server: &mut Server,
+    path: &str,
+) -> Result<(), AllocError>
+    ensures given { OnOk result (AreGiven (NeedsChanged path.now) server.old server.new) }
+    ensures in_part { OnErr result (AreGivenInPart (NeedsChanged path.now) server.old server.new) }
+{
+    if server.is_known(path) {
+        give_single(files, server, path)
+    } else {
+        give_known(files, server, path)
+    }
+}
+
+// What is under a path.
+#[derive(Clone, Copy)]
+enum Kind {
+    File,
+    Folder,
+    Nothing,
+}
+
+fn kind_of(files: &impl Files, path: &str) -> Kind {
+    match fs::metadata(files, path) {
+        Ok(data) if data.is_dir() => Kind::Folder,
+        Ok(_) => Kind::File,
+        Err(error) if is_gone(error.kind()) => Kind::Nothing,
+        Err(_) => Kind::File,
+    }
+}
+
+fn is_needed(server: &Server, path: &str) -> bool
+    ensures { result ≡ false → is_known server.now.known path.now ≡ false }
+{
+    ends_in(path, EXTENSIONS.as_slice()) || server.is_known(path)
 }
 
 // Of a file that the reading of the folders leaves out no text is given.
@@ -340,7 +414,8 @@ fn give_single<F: Files + Input + AllocGlobal>(
     server: &mut Server,
     path: &str,
 ) -> Result<(), AllocError>
-    ensures { IsLoaded path.now server.old server.new }
+    ensures loaded { OnOk result (IsLoaded path.now server.old server.new) }
+    ensures unloaded { OnErr result (IsUnloaded path.now server.old server.new) }
 {
     if is_left_out(files, server.folders(), path) {
         return server.load(files.alloc(), path, OnDisk::Nothing);
@@ -348,12 +423,62 @@ fn give_single<F: Files + Input + AllocGlobal>(
     give_file(files, server, path)
 }
 
+// Gives each file in the folder that is known again, and those that are there, if the folder is in one that is open.
 fn give_folder<F: Files + Input + AllocGlobal + Clone + Drop>(
     files: &F,
     server: &mut Server,
     folder: &str,
 ) -> Result<(), AllocError>
-    ensures { AreGiven (NeedsFolder folder.now) server.old server.new }
+    ensures given { OnOk result (IsFolderGiven folder.now server.old server.new) }
+    ensures in_part { OnErr result (IsFolderGivenInPart folder.now server.old server.new) }
+{
+    give_known(files, server, folder)?;
+    if is_read(files, server.folders(), folder)? {
+        give_listed(files, server, folder)
+    } else {
+        Ok(())
+    }
+}
+
+// The files in the folder that are known, as they are now.
+fn give_known<F: Files + Input + AllocGlobal>(
+    files: &F,
+    server: &mut Server,
+    folder: &str,
+) -> Result<(), AllocError>
+    ensures given { OnOk result (AreKnownGiven folder.now server.old server.new) }
+    ensures in_part { OnErr result (AreKnownGivenInPart folder.now server.old server.new) }
+{
+    let known = server.known_inside(files.alloc(), folder)?;
+    for path in &known {
+        give_again(files, server, path.as_str())?;
+    }
+    Ok(())
+}
+
+// A file that was known. Of one that is in no folder that is open no text is given any more.
+fn give_again<F: Files + Input + AllocGlobal>(
+    files: &F,
+    server: &mut Server,
+    path: &str,
+) -> Result<(), AllocError>
+    ensures loaded { OnOk result (IsLoaded path.now server.old server.new) }
+    ensures unloaded { OnErr result (IsUnloaded path.now server.old server.new) }
+{
+    if is_in_any(server.folders(), path) {
+        give_single(files, server, path)
+    } else {
+        server.load(files.alloc(), path, OnDisk::Nothing)
+    }
+}
+
+fn give_listed<F: Files + Input + AllocGlobal + Clone + Drop>(
+    files: &F,
+    server: &mut Server,
+    folder: &str,
+) -> Result<(), AllocError>
+    ensures given { OnOk result (AreListedGiven folder.now server.old server.new) }
+    ensures in_part { OnErr result (AreListedGivenInPart folder.now server.old server.new) }
 {
     let selection = Selection {
         extensions: EXTENSIONS.as_slice(),
@@ -371,9 +496,8 @@ fn give_file<F: Files + Input + AllocGlobal>(
     server: &mut Server,
     path: &str,
 ) -> Result<(), AllocError>
-    ensures given { IsLoaded path.now server.old server.new }
-    ensures loaded { OnOk result ((found : OnDisk)
-        × IsLoadedAs path.now (text_on found) (why_on found) server.old server.new) }
+    ensures loaded { OnOk result (IsLoaded path.now server.old server.new) }
+    ensures unloaded { OnErr result (IsUnloaded path.now server.old server.new) }
 {
     let found = on_disk(files, path)?;
     server.load(files.alloc(), path, found)

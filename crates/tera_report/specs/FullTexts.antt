@@ -2,8 +2,9 @@
 use Rattle.std.specs.Prelude.{ℕ, ◌==◌, if◌then◌else◌, List, [], ◌∷◌, ◌++◌, flat_map, Option, Some, None, codes, decimal}
 use Rattle.line_text.specs.Line.{on_one_line}
 use Rattle.tera_base.specs.declared.utils.Span.{Span}
-use Rattle.tera_check.specs.Findings.{NoteVal, NoteOf, FindingVal, FindingOf, place_of, severity_of, severity_name}
+use Rattle.tera_check.specs.Findings.{NoteVal, NoteOf, FindingVal, FindingOf, label_of, place_of, severity_of}
 use Rattle.tera_check.specs.declared.finding.Place.{Place}
+use Rattle.tera_check.specs.declared.finding.Severity.{Severity}
 use Rattle.tera_check.specs.declared.finding.Severity.TheVariants as severities
 use Rattle.tera_report.specs.declared.role.Role.{Role}
 use Rattle.tera_report.specs.declared.role.Role.TheVariants.{Finding, Note}
@@ -15,14 +16,17 @@ use Rattle.terminal_text.specs.declared.style.Part.{Part}
 use Rattle.terminal_text.specs.declared.style.Part.TheVariants as parts
 use Rattle.terminal_text.specs.declared.style.Style.{Style}
 
--- a message by what it is: its word, and its colour
+-- a message by what it is: its word, with the rule of a finding, and its colour
 abbrev pub word_of : Role → List ℕ
-word_of (Finding severity) = severity_name severity
+word_of (Finding kind) = label_of kind
 word_of Note = codes "note"
 
+abbrev pub colour_of : Severity → Part
+colour_of severities.Error = parts.Error
+colour_of severities.Warning = parts.Warning
+
 abbrev pub part_of : Role → Part
-part_of (Finding severities.Error) = parts.Error
-part_of (Finding severities.Warning) = parts.Warning
+part_of (Finding kind) = colour_of (severity_of kind)
 part_of Note = parts.Note
 
 -- a file with a place in it
@@ -49,4 +53,4 @@ note_text style known (NoteOf file span text) = message style known Note file sp
 -- the finding in a file, and its notes
 unfoldable pub full_text : Style → (List ℕ → Option (List ℕ)) → List ℕ → FindingVal → List ℕ
 full_text style known file (FindingOf kind span text notes) =
-    message style known (Finding (severity_of kind)) file span text ++ flat_map (note_text style known) notes
+    message style known (Finding kind) file span text ++ flat_map (note_text style known) notes

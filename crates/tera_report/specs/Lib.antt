@@ -2,3 +2,4 @@ pub mod Annotations
 pub mod Logs
 pub mod FullTexts
 pub mod Unread
+pub mod Trees

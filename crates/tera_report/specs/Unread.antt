@@ -1,19 +1,12 @@
--- A file that could not be read, in the forms that other programs read.
-use Rattle.std.specs.Prelude.{List, ℕ, [], ◌∷◌, ◌++◌, codes}
-use Rattle.json.specs.Token.{Token, begin_object, end_object}
+-- A file that could not be read, in the forms of GitHub and of SARIF.
+use Rattle.std.specs.Prelude.{List, ℕ, ◌++◌, codes}
+use Rattle.json.specs.Token.{Token}
 use Rattle.line_text.specs.Line.{on_one_line}
-use Rattle.tera_check.specs.Findings.{first_span, place_of, severity_name}
-use Rattle.tera_check.specs.Objects.{text_member, members, notes_member}
+use Rattle.tera_check.specs.Findings.{first_span, severity_name}
+use Rattle.tera_check.specs.Objects.{text_member}
 use Rattle.tera_check.specs.declared.finding.Severity.TheVariants.{Error}
 use Rattle.tera_report.specs.Annotations.{command_of, escaped, property}
 use Rattle.tera_report.specs.Logs.{locations, message, object}
-
--- a line of JSON, with the members of a finding at the start of the file
-unfoldable pub unread_object : List ℕ → List ℕ → List Token
-unread_object file why =
-    (begin_object ∷ [])
-    ++ (members file (place_of first_span) why
-    ++ (text_member (codes "severity") (severity_name Error) ++ (notes_member [] ++ (end_object ∷ []))))
 
 -- a workflow command, whose title is the word for it
 abbrev pub unread_annotation : List ℕ → List ℕ → List ℕ

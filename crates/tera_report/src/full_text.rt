@@ -12,9 +12,9 @@ use tera_base::Span;
 use tera_check::{Finding, Note, Place};
 use terminal_text::{Marked, Part, Sources, Style, push_excerpt};
 
-/// Adds the line of the finding, `FILE:LINE:COLUMN: error: MESSAGE` or `.. warning: ..`, and those of its notes, each with
-/// the line of the source below that it is about, where that is known. A text is on one line, as `push_on_one_line` has
-/// it.
+/// Adds the line of the finding, `FILE:LINE:COLUMN: error[RULE]: MESSAGE` or `.. warning[RULE]: ..`, and those of its
+/// notes, each with the line of the source below that it is about, where that is known. A text is on one line, as
+/// `push_on_one_line` has it.
 pub fn push_full(
     alloc: Global,
     to: &mut String,
@@ -28,7 +28,7 @@ pub fn push_full(
     ensures same { (other : List ℕ) → source_of sources.new other ≡ source_of sources.old other }
 {
     let message = Message {
-        role: Role::Finding(finding.kind.severity()),
+        role: Role::Finding(finding.kind),
         file,
         span: &finding.span,
         text: finding.message.as_str(),
@@ -111,9 +111,10 @@ fn push_line(
         ++ message_line style message.now.role message.now.file.now message.now.span.now message.now.text.now) }
 {
     let place = place_text(alloc, message.file, Place::of(message.span))?;
+    let word = message.role.word(alloc)?;
     style.push(to, Part::Place, place.as_str())?;
     to.push(' ')?;
-    style.push(to, message.role.part(), message.role.word())?;
+    style.push(to, message.role.part(), word.as_str())?;
     to.push_str(": ")?;
     push_on_one_line(to, message.text)?;
     to.push('\n')

@@ -1,28 +1,29 @@
 //! What a message is.
 
-ghost use Rattle.std.specs.Prelude.{◌≡◌};
-ghost use Rattle.tera_report.specs.FullTexts.{word_of, part_of};
+ghost use Rattle.std.specs.Prelude.{◌≡◌, IfOk, string_bytes};
+ghost use Rattle.tera_report.specs.FullTexts.{colour_of, word_of, part_of};
 
-use tera_check::Severity;
+use std::alloc::{AllocError, Global};
+use tera_check::{Kind, Severity};
 use terminal_text::Part;
 
 /// A finding, or what explains one.
 #[derive(Clone, Copy)]
 pub(crate) enum Role {
-    /// A finding, so grave.
-    Finding(Severity),
+    /// A finding of this kind.
+    Finding(Kind),
     /// What explains a finding.
     Note,
 }
 
 impl Role {
-    /// The word for it.
-    pub(crate) fn word(self) -> &'static str
-        ensures { result.now ≡ word_of self }
+    /// The word for it, with the rule of a finding.
+    pub(crate) fn word(self, alloc: Global) -> Result<String, AllocError>
+        ensures { IfOk result (λ word. string_bytes word ≡ word_of self) }
     {
         match self {
-            Role::Finding(severity) => severity.name(),
-            Role::Note => "note",
+            Role::Finding(kind) => kind.label(alloc),
+            Role::Note => String::from_str(alloc, "note"),
         }
     }
 
@@ -31,9 +32,17 @@ impl Role {
         ensures { result ≡ part_of self }
     {
         match self {
-            Role::Finding(Severity::Error) => Part::Error,
-            Role::Finding(Severity::Warning) => Part::Warning,
+            Role::Finding(kind) => colour(kind.severity()),
             Role::Note => Part::Note,
         }
+    }
+}
+
+fn colour(severity: Severity) -> Part
+    ensures { result ≡ colour_of severity }
+{
+    match severity {
+        Severity::Error => Part::Error,
+        Severity::Warning => Part::Warning,
     }
 }

@@ -333,7 +333,7 @@ fn begin_object(out: &mut Writer, name: &str) -> Result<(), AllocError>
 }
 
 // A member that is an array.
-fn begin_array(out: &mut Writer, name: &str) -> Result<(), AllocError>
+pub(crate) fn begin_array(out: &mut Writer, name: &str) -> Result<(), AllocError>
     ensures tokens { OnOk result (out.new.tokens ≡ out.old.tokens ++ array_begin name.now) }
     ensures before { out.new.before ≡ out.old.before }
 {

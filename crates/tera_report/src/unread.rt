@@ -1,32 +1,16 @@
-//! A file that could not be read, in the forms that other programs read.
+//! A file that could not be read, in the forms of GitHub and of SARIF.
 
-ghost use Rattle.std.specs.Prelude.{◌≡◌, ◌++◌, ◌∷◌, [], string_bytes, IfOk, OnOk};
-ghost use Rattle.json.specs.Print.{print};
+ghost use Rattle.std.specs.Prelude.{◌≡◌, ◌++◌, string_bytes, OnOk};
 ghost use Rattle.tera_check.specs.Findings.{first_span};
 ghost use Rattle.tera_report.specs.Logs.{locations};
-ghost use Rattle.tera_report.specs.Unread.{unread_object, unread_annotation, unread_head, unread_result};
+ghost use Rattle.tera_report.specs.Unread.{unread_annotation, unread_head, unread_result};
 
 use crate::github::{command, push_message, push_property};
 use crate::sarif::{put_locations, put_message, put_text};
 use json::Writer;
 use std::alloc::{AllocError, Global};
 use tera_base::Span;
-use tera_check::{Finding, Kind, Severity, object_of};
-
-/// An object of JSON on a line, with the members of a finding. Its place is the start of the file.
-#[tactic(auto, unfolding(crate::specs::Unread::unread_object))]
-pub fn unread_object_of(alloc: Global, file: &str, why: &str) -> Result<Vec<u8>, AllocError>
-    ensures { IfOk result (λ v. v.items ≡ print (unread_object file.now why.now) ++ 10 ∷ []) }
-{
-    // The object of a finding has no word for its kind.
-    let finding = Finding {
-        kind: Kind::Fault,
-        span: first_span(),
-        message: String::from_str(alloc, why)?,
-        notes: Vec::new(alloc),
-    };
-    object_of(alloc, file, &finding)
-}
+use tera_check::Severity;
 
 /// Adds the line `::error file=..,title=unread::WHY`.
 pub fn push_unread_annotation(

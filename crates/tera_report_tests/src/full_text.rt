@@ -52,7 +52,7 @@ fn finding_with_a_note(rt: HostRuntime) -> Result<(), Fail> {
     )?;
     assert_eq!(&rt;
         text.as_str(),
-        "page.html:2:12: error: Unknown\\nargument\n    2 | {{<button labl=1/>}}\n      |            ^^^^\nui.html:1:4: note: `button` is defined here\n    1 | {% component button() %}\n      |    ^^^^^^^^^^^^^^^^^^^^^\n"
+        "page.html:2:12: error[unknown-argument]: Unknown\\nargument\n    2 | {{<button labl=1/>}}\n      |            ^^^^\nui.html:1:4: note: `button` is defined here\n    1 | {% component button() %}\n      |    ^^^^^^^^^^^^^^^^^^^^^\n"
     );
     Ok(())
 }
@@ -73,7 +73,7 @@ fn without_sources(rt: HostRuntime) -> Result<(), Fail> {
     )?;
     assert_eq!(&rt;
         text.as_str(),
-        "\u{1b}[1mpage.html:2:12:\u{1b}[0m \u{1b}[1;31merror\u{1b}[0m: Unknown\\nargument\n\u{1b}[1mui.html:1:4:\u{1b}[0m \u{1b}[1;36mnote\u{1b}[0m: `button` is defined here\n"
+        "\u{1b}[1mpage.html:2:12:\u{1b}[0m \u{1b}[1;31merror[unknown-argument]\u{1b}[0m: Unknown\\nargument\n\u{1b}[1mui.html:1:4:\u{1b}[0m \u{1b}[1;36mnote\u{1b}[0m: `button` is defined here\n"
     );
     Ok(())
 }
@@ -99,7 +99,7 @@ fn warning_without_sources(rt: HostRuntime) -> Result<(), Fail> {
     )?;
     assert_eq!(&rt;
         text.as_str(),
-        "\u{1b}[1mpage.html:1:3:\u{1b}[0m \u{1b}[1;33mwarning\u{1b}[0m: Given again\n"
+        "\u{1b}[1mpage.html:1:3:\u{1b}[0m \u{1b}[1;33mwarning[repeated-argument]\u{1b}[0m: Given again\n"
     );
     Ok(())
 }

@@ -9,6 +9,7 @@ pub mod KnownLemmas
 pub mod LayoutLemmas
 pub mod NameLemmas
 pub mod NearestLemmas
+pub mod NeedLemmas
 pub mod NestingLemmas
 pub mod PublishLemmas
 pub mod ReferenceLemmas

@@ -1,5 +1,5 @@
 -- What a server can do, as JSON.
-use Rattle.std.specs.Prelude.{codes, true}
+use Rattle.std.specs.Prelude.{ℕ, List, codes, true}
 use Rattle.json.specs.Json.{Json, Items, string, boolean, array, object, no_items, item, no_members, member}
 use Rattle.text_edits.specs.declared.positions.Encoding.{Encoding}
 use Rattle.protocol_values.specs.Writing.{number_json, encoding_name}
@@ -22,6 +22,13 @@ completion_json = object (member (codes "triggerCharacters") (array triggers) no
 abbrev pub semantic_json : Json
 semantic_json = object (member (codes "legend") legend_json (member (codes "full") (boolean true) no_members))
 
+-- folders may be opened and closed while it runs, and the client reports them
+abbrev pub folders_json : Json
+folders_json = object (member (codes "supported") (boolean true) (member (codes "changeNotifications") (boolean true) no_members))
+
+abbrev pub workspace_json : Json
+workspace_json = object (member (codes "workspaceFolders") folders_json no_members)
+
 abbrev pub capabilities_json : Encoding → Json
 capabilities_json e =
     object (member (codes "positionEncoding") (string (encoding_name e))
@@ -32,10 +39,15 @@ capabilities_json e =
     (member (codes "hoverProvider") (boolean true)
     (member (codes "referencesProvider") (boolean true)
     (member (codes "completionProvider") completion_json
-    (member (codes "semanticTokensProvider") semantic_json no_members)))))))))
+    (member (codes "semanticTokensProvider") semantic_json
+    (member (codes "workspace") workspace_json no_members))))))))))
+
+-- the version of the program and of its server
+abbrev pub version : List ℕ
+version = codes "0.1.0"
 
 abbrev pub server_json : Json
-server_json = object (member (codes "name") (string (codes "tera")) no_members)
+server_json = object (member (codes "name") (string (codes "tera")) (member (codes "version") (string version) no_members))
 
 -- the result of `initialize`
 abbrev pub abilities_json : Encoding → Json
@@ -46,8 +58,12 @@ abilities_json e =
 abbrev pub watcher_json : Json
 watcher_json = object (member (codes "globPattern") (string (codes "**/*.{html,htm,xml,tera}")) no_members)
 
+-- .. and what comes and goes of any name, since it may be a folder: what is created (1) and deleted (4) is reported
+abbrev pub folder_watcher_json : Json
+folder_watcher_json = object (member (codes "globPattern") (string (codes "**/*")) (member (codes "kind") (number_json 5) no_members))
+
 abbrev pub watchers_json : Json
-watchers_json = object (member (codes "watchers") (array (item watcher_json no_items)) no_members)
+watchers_json = object (member (codes "watchers") (array (item watcher_json (item folder_watcher_json no_items))) no_members)
 
 abbrev pub registration_json : Json
 registration_json =

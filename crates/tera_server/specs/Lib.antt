@@ -5,6 +5,7 @@ pub mod Definitions
 pub mod Editors
 pub mod Findings
 pub mod Hovers
+pub mod KnownFiles
 pub mod Layouts
 pub mod Notes
 pub mod Outlines

@@ -13,7 +13,7 @@ use Rattle.text_edits.specs.Stored.{document_of}
 use Rattle.text_edits.specs.declared.positions.Encoding.{Encoding}
 use Rattle.tera_server.specs.Abilities.{registrations_json}
 use Rattle.tera_server.specs.Editors.{state_of}
-use Rattle.tera_server.specs.States.{Known, IsKnownAt, IsMissed, opened_as, takes, with_lost, changed_as, closed_as, known_of, NeededVal, needed_of, needs, edited_of, with_name, StaysBut}
+use Rattle.tera_server.specs.States.{Known, IsKnownAt, IsMissed, opened_as, takes, with_lost, changed_as, closed_as, known_of, NeededVal, needed_of, needs, edited_of, with_name, names_without, StaysBut}
 use Rattle.tera_server.specs.declared.client.Client.{Client}
 use Rattle.tera_server.specs.declared.editor.DocumentState.{DocumentState}
 use Rattle.tera_server.specs.declared.editor.DocumentState.TheVariants.{Open}
@@ -21,7 +21,7 @@ use Rattle.tera_server.specs.declared.notes.DocumentNote.{DocumentNote}
 use Rattle.tera_server.specs.declared.notes.DocumentNote.TheVariants as of_document
 use Rattle.tera_server.specs.declared.notes.Noted.{Noted}
 use Rattle.tera_server.specs.declared.notes.Noted.TheVariants as notes
-use Rattle.tera_server.specs.declared.notes.NeededKind.TheVariants.{Folder, File}
+use Rattle.tera_server.specs.declared.notes.NeededKind.TheVariants.{Folder, File, Changed}
 use Rattle.tera_server.specs.declared.server.Phase.{Phase}
 use Rattle.tera_server.specs.declared.server.Phase.TheVariants.{Running}
 use Rattle.tera_server.specs.declared.server.Server.{Server}
@@ -34,7 +34,8 @@ noted_of m =
     else (if bytes_eq m (codes "textDocument/didChange") then notes.OfDocument of_document.Changed
     else (if bytes_eq m (codes "textDocument/didClose") then notes.OfDocument of_document.Closed
     else (if bytes_eq m (codes "workspace/didChangeWatchedFiles") then notes.FilesChanged
-    else (if bytes_eq m (codes "exit") then notes.Exit else notes.Other)))))
+    else (if bytes_eq m (codes "workspace/didChangeWorkspaceFolders") then notes.FoldersChanged
+    else (if bytes_eq m (codes "exit") then notes.Exit else notes.Other))))))
 
 -- the document that parameters speak of, and members of it
 abbrev pub document_in : Option Json → Option Json
@@ -111,13 +112,31 @@ pub record IsAsked (needed : List NeededVal) (s t : Server) : Type 0 where
   pub same : t ≡ record s { needed = t.needed }
   pub asked : needed_of t ≡ needed_of s ++ needed
 
+-- folders are open, and others are not any more; both are asked for
+pub record AreFoldersChanged (event : Option Json) (open_before : List (List ℕ)) (needed : List NeededVal) (open_now : List (List ℕ)) (needed_now : List NeededVal) : Type 0 where
+  pub added : List (List ℕ)
+  pub removed : List (List ℕ)
+  pub are_added : AreNames (map item_uri (items_in (member_of (codes "added") event))) added
+  pub are_removed : AreNames (map item_uri (items_in (member_of (codes "removed") event))) removed
+  pub folders : open_now ≡ names_without removed open_before ++ added
+  pub asked : needed_now ≡ (needed ++ flat_map (needs Folder) removed) ++ flat_map (needs Folder) added
+
+abbrev pub folders_of : Server → List (List ℕ)
+folders_of s = map string_bytes s.folders.items
+
+-- .. and nothing else changes
+pub record HasOtherFolders (event : Option Json) (s t : Server) : Type 0 where
+  pub changed : AreFoldersChanged event (folders_of s) (needed_of s) (folders_of t) (needed_of t)
+  pub same : t ≡ record s { folders = t.folders; needed = t.needed }
+
 -- what a notification does, once the exchange has begun
 abbrev pub IsNotedBy : Noted → Server → Option Json → Server → Type 0
 IsNotedBy notes.Initialized s params t = IsAsked (flat_map (needs Folder) (map string_bytes s.folders.items)) s t
 IsNotedBy (notes.OfDocument note) s params t = IsNotedOf note (uri_given (document_in params)) s params t
 IsNotedBy notes.FilesChanged s params t =
     (names : List (List ℕ)) × AreNames (map item_uri (items_in (member_of (codes "changes") params))) names
-    × IsAsked (flat_map (needs File) names) s t
+    × IsAsked (flat_map (needs Changed) names) s t
+IsNotedBy notes.FoldersChanged s params t = HasOtherFolders (member_of (codes "event") params) s t
 IsNotedBy notes.Exit s params t = t ≡ s
 IsNotedBy notes.Other s params t = t ≡ s
 

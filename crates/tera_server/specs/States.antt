@@ -1,5 +1,5 @@
 -- What is seen of a server: the documents by their names, and what it asks for.
-use Rattle.std.specs.Prelude.{◌≡◌, ◌⊎◌, ◌++◌, ◌&&◌, if◌then◌else◌, cond, ℕ, List, [], ◌∷◌, Bool, true, false, map, string_bytes, Option, None, Some}
+use Rattle.std.specs.Prelude.{◌≡◌, ◌⊎◌, ◌++◌, ◌&&◌, if◌then◌else◌, cond, ℕ, List, [], ◌∷◌, Bool, true, false, not, filter, map, string_bytes, Option, None, Some}
 use Rattle.std.specs.List.{list_any}
 use Rattle.std.specs.Option.{option_eq, option_map, is_some}
 use Rattle.std.specs.Str.{bytes_eq}
@@ -14,12 +14,13 @@ use Rattle.tera_server.specs.declared.editor.DocumentState.{DocumentState}
 use Rattle.tera_server.specs.declared.editor.DocumentState.TheVariants.{Open, Lost, Closed}
 use Rattle.tera_server.specs.declared.notes.NeededKind.{NeededKind}
 use Rattle.tera_server.specs.declared.notes.NeededKind.TheVariants as kinds
+use Rattle.tera_server.specs.KnownFiles.{is_known}
 use Rattle.tera_server.specs.UnreadFiles.{why_of, IsWhyAt}
 use Rattle.tera_server.specs.declared.server.OnDisk.{OnDisk}
 use Rattle.tera_server.specs.declared.server.OnDisk.TheVariants as on_disk
 use Rattle.tera_server.specs.declared.server.Server.{Server}
 use Rattle.tera_server.specs.declared.server.Needed.{Needed}
-use Rattle.tera_server.specs.declared.server.Needed.TheVariants.{Folder, File}
+use Rattle.tera_server.specs.declared.server.Needed.TheVariants.{Folder, File, Changed}
 
 -- a document: what the editor reported about it, and its texts
 pub record Known : Type 0 where
@@ -75,10 +76,12 @@ loaded_as None d = removed d
 pub data NeededVal : Type 0 where
   NeedsFolder : List ℕ → NeededVal
   NeedsFile : List ℕ → NeededVal
+  NeedsChanged : List ℕ → NeededVal
 
 abbrev pub needed_view : Needed → NeededVal
 needed_view (Folder path) = NeedsFolder (string_bytes path)
 needed_view (File path) = NeedsFile (string_bytes path)
+needed_view (Changed path) = NeedsChanged (string_bytes path)
 
 abbrev pub needed_of : Server → List NeededVal
 needed_of s = map needed_view s.needed.items
@@ -87,6 +90,7 @@ needed_of s = map needed_view s.needed.items
 abbrev pub needs_path : NeededKind → List ℕ → NeededVal
 needs_path kinds.Folder path = NeedsFolder path
 needs_path kinds.File path = NeedsFile path
+needs_path kinds.Changed path = NeedsChanged path
 
 abbrev pub needs : NeededKind → List ℕ → List NeededVal
 needs kind name = if is_rooted name then needs_path kind name ∷ [] else []
@@ -98,6 +102,10 @@ edited_of s = map string_bytes s.edited.items
 
 abbrev pub with_name : List ℕ → List (List ℕ) → List (List ℕ)
 with_name n ns = if list_any (λ m. bytes_eq m n) ns then ns else ns ++ n ∷ []
+
+-- names that are not among others
+abbrev pub names_without : List (List ℕ) → List (List ℕ) → List (List ℕ)
+names_without others ns = filter (λ n. not (list_any (λ m. bytes_eq m n) others)) ns
 
 -- ---- what is on disk
 
@@ -112,6 +120,11 @@ why_on (on_disk.Text text) = None
 why_on (on_disk.Unread why) = Some (string_bytes why)
 why_on on_disk.Nothing = None
 
+abbrev pub is_there : OnDisk → Bool
+is_there (on_disk.Text text) = true
+is_there (on_disk.Unread why) = true
+is_there on_disk.Nothing = false
+
 -- the names of those that are published anyhow, when this is why a file cannot be read: where it is something else than
 -- before, the file is among them
 abbrev pub edited_by : List ℕ → Option (List ℕ) → Server → List (List ℕ)
@@ -123,10 +136,11 @@ pub record IsLoadedAs (path : List ℕ) (text why : Option (List ℕ)) (s t : Se
   pub unread : IsWhyAt path why s.unread t.unread
   pub edited : edited_of t ≡ edited_by path why s
 
--- an allocation failed for that: the texts are what they were, and so is why each other file cannot be read
+-- an allocation failed for that: the texts are what they were, and so is what is known of the other files
 pub record IsNotLoaded (path : List ℕ) (s t : Server) : Type 0 where
   pub documents : AreSame s.workspace.documents t.workspace.documents
   pub unread : (n : List ℕ) → bytes_eq path n ≡ false → why_of t.unread n ≡ why_of s.unread n
+  pub known : (n : List ℕ) → bytes_eq path n ≡ false → is_known t.known n ≡ is_known s.known n
   pub edited : (edited_of t ≡ edited_of s) ⊎ (edited_of t ≡ with_name path (edited_of s))
 
 -- ---- what may have been a change
@@ -144,12 +158,24 @@ pub record KeepsReported (s t : Server) : Type 0 where
   pub reported : (n : List ℕ) → reported_of_name t.workspace n ≡ reported_of_name s.workspace n
   pub kept : IsKept s.workspace → IsKept t.workspace
 
+-- ---- what is still to be done
+
+-- more was added after these, and none of them is gone
+abbrev pub Grows : {A : Type 0} → List A → List A → Type 0
+Grows {A} old now = (more : List A) × (now ≡ old ++ more)
+
+-- what was asked for is still asked for, and what was to be published still is
+pub record KeepsDue (s t : Server) : Type 0 where
+  pub needed : Grows (needed_of s) (needed_of t)
+  pub edited : Grows (edited_of s) (edited_of t)
+
 -- ---- what no notification changes
 
 pub record StaysBut (s t : Server) : Type 0 where
   pub phase : t.phase ≡ s.phase
   pub client : t.client ≡ s.client
   pub folders : t.folders ≡ s.folders
+  pub known : t.known ≡ s.known
   pub unread : t.unread ≡ s.unread
   pub encoding : t.workspace.encoding ≡ s.workspace.encoding
   pub unpublished : t.unpublished ≡ s.unpublished

@@ -13,7 +13,7 @@ use Rattle.tera_server.specs.Editors.{state_of}
 use Rattle.tera_server.specs.Notes.{noted_of, IsNoted, sent_by, Texts, Edits, IsInStep}
 use Rattle.tera_server.specs.Requests.{asked_of, IsAnsweredBy}
 use Rattle.tera_server.specs.Sending.{with_all}
-use Rattle.tera_server.specs.States.{IsMissed, StaysBut}
+use Rattle.tera_server.specs.States.{IsMissed, KeepsDue, StaysBut}
 use Rattle.tera_server.specs.declared.editor.DocumentState.TheVariants.{Open}
 use Rattle.tera_server.specs.declared.notes.Noted.{Noted}
 use Rattle.tera_server.specs.declared.notes.Noted.TheVariants as notes
@@ -71,9 +71,10 @@ Step s NotJson old ended t now = (ended ≡ None) × IsRefused NullId codes_of.P
 
 -- ---- what fails to allocate
 
--- a message fails to allocate: what is to be answered is refused; of a notification nothing is sent
+-- an allocation fails for a message: what is to be answered is refused; of a notification nothing is sent, and what was still
+-- to be done is still to be done
 abbrev pub IsUntakenBy : Option IdVal → Server → Outgoing → Server → Outgoing → Type 0
-IsUntakenBy None s old t now = StaysBut s t × (now ≡ old)
+IsUntakenBy None s old t now = StaysBut s t × KeepsDue s t × (now ≡ old)
 IsUntakenBy (Some id) s old t now = IsRefused id codes_of.InternalError s old t now
 
 -- .. or it is missed, where not even its id was found, since there was no room for its bytes

@@ -3,6 +3,7 @@ use Rattle.std.specs.Prelude.{◌≡◌, ◌⊎◌, ◌≤◌, ℕ, nat_eq, nat_
 use Rattle.std.specs.List.{All, Contains, ends_with}
 use Rattle.std.specs.Option.{option_and_then, option_map_or, option_or}
 use Rattle.std.specs.Str.{bytes_eq}
+use Rattle.file_uris.specs.Names.{is_rooted}
 
 -- what comes after the front of a text
 abbrev pub following : List ℕ → List ℕ → Option (List ℕ)
@@ -22,6 +23,10 @@ name_in path = option_map (unwrap_or (after_first (codes "/templates/") path)) (
 
 abbrev pub name_below : List ℕ → List ℕ → Option (List ℕ)
 name_below folder file = option_and_then name_in (following folder file)
+
+-- whether a file is in a folder, at any depth
+abbrev pub is_inside : List ℕ → List ℕ → Bool
+is_inside folder file = option_map_or is_rooted (following folder file) false
 
 -- by the first of the folders in which its file is
 abbrev pub template_name : List (List ℕ) → List ℕ → Option (List ℕ)

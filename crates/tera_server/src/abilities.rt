@@ -9,6 +9,9 @@ use protocol_values::{encoding_name, put_number, put_tokens};
 use std::alloc::AllocError;
 use text_edits::Encoding;
 
+/// The version of the program and of its server.
+pub const VERSION: &str = "0.1.0";
+
 /// Writes the result of `initialize`.
 pub(crate) fn put_abilities(out: &mut Writer, encoding: Encoding) -> Result<(), AllocError>
     ensures tokens { OnOk result (out.new.tokens ≡ out.old.tokens ++ json_tokens (abilities_json encoding)) }
@@ -30,10 +33,10 @@ pub(crate) fn put_abilities(out: &mut Writer, encoding: Encoding) -> Result<(), 
         ],
     )?;
     put_number(out, "change", 2)?;
-    put_tokens(out, &BEHIND_THE_CHANGES)
+    put_tokens(out, &AFTER_THE_CHANGES)
 }
 
-const BEHIND_THE_CHANGES: [Token<'static>; 56] = [
+const AFTER_THE_CHANGES: [Token<'static>; 68] = [
     Token::EndObject,
     Token::Key("documentFormattingProvider"),
     Token::Bool(true),
@@ -85,24 +88,41 @@ const BEHIND_THE_CHANGES: [Token<'static>; 56] = [
     Token::Key("full"),
     Token::Bool(true),
     Token::EndObject,
+    // Folders may be opened and closed.
+    Token::Key("workspace"),
+    Token::BeginObject,
+    Token::Key("workspaceFolders"),
+    Token::BeginObject,
+    Token::Key("supported"),
+    Token::Bool(true),
+    Token::Key("changeNotifications"),
+    Token::Bool(true),
+    Token::EndObject,
+    Token::EndObject,
     Token::EndObject,
     Token::Key("serverInfo"),
     Token::BeginObject,
     Token::Key("name"),
     Token::String("tera"),
+    Token::Key("version"),
+    Token::String(VERSION),
     Token::EndObject,
     Token::EndObject,
 ];
 
-/// Writes the parameters by which a client is asked to watch the files of templates.
+/// Writes the parameters by which a client is asked to watch the files of templates and folders.
 pub(crate) fn put_registrations(out: &mut Writer) -> Result<(), AllocError>
     ensures tokens { OnOk result (out.new.tokens ≡ out.old.tokens ++ json_tokens registrations_json) }
     ensures before { out.new.before ≡ out.old.before }
 {
-    put_tokens(out, &REGISTRATIONS)
+    put_tokens(out, &WATCHERS)?;
+    // Created and deleted.
+    put_number(out, "kind", 5)?;
+    put_tokens(out, &AFTER_THE_WATCHERS)
 }
 
-const REGISTRATIONS: [Token<'static>; 21] = [
+// Of the files of templates, and of whatever may be a folder.
+const WATCHERS: [Token<'static>; 19] = [
     Token::BeginObject,
     Token::Key("registrations"),
     Token::BeginArray,
@@ -118,6 +138,13 @@ const REGISTRATIONS: [Token<'static>; 21] = [
     Token::BeginObject,
     Token::Key("globPattern"),
     Token::String("**/*.{html,htm,xml,tera}"),
+    Token::EndObject,
+    Token::BeginObject,
+    Token::Key("globPattern"),
+    Token::String("**/*"),
+];
+
+const AFTER_THE_WATCHERS: [Token<'static>; 6] = [
     Token::EndObject,
     Token::EndArray,
     Token::EndObject,

@@ -6,9 +6,10 @@
 //! them, on `tera_layout`, and on `tera_outline` for outlines, names, coloured tokens and what may be typed.
 //!
 //! In the order of reading: specs `States`, `Requests`, `Notes`, `Steps`, `Settling`; `server`, and `requests` and
-//! `notes`, which a message may be; `client` and `editor`, what is known of them; `unread`, files that cannot be read;
-//! `templates`, which files have which names; `abilities`, `layouts`, `symbols`, `definitions`, `hovers`, `references`,
-//! `completions` and `semantic_tokens`, which write results; `findings`, which publishes what is found; `laws`.
+//! `notes`, which a message may be; `client` and `editor`, what is known of them; `known` and `unread`, files that are
+//! there, or cannot be read; `templates`, which files have which names; `abilities`, `layouts`, `symbols`,
+//! `definitions`, `hovers`, `references`, `completions` and `semantic_tokens`, which write results; `findings`, which
+//! publishes what is found; `laws`.
 #![tactic(auto)]
 
 mod abilities;
@@ -18,6 +19,7 @@ mod definitions;
 mod editor;
 mod findings;
 mod hovers;
+mod known;
 pub mod laws;
 mod layouts;
 mod notes;
@@ -29,4 +31,5 @@ mod symbols;
 mod templates;
 mod unread;
 
+pub use abilities::VERSION;
 pub use server::{Ended, Needed, OnDisk, Server};

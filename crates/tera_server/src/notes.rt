@@ -12,12 +12,13 @@ ghost use Rattle.text_edits.specs.Edits.{change_view};
 ghost use Rattle.protocol_values.specs.Members.{seen, member_of, text_in, items_in};
 ghost use Rattle.protocol_values.specs.Reading.{changes_in};
 ghost use Rattle.tera_server.specs.Abilities.{registrations_json};
-ghost use Rattle.tera_server.specs.Notes.{noted_of, document_in, uri_given, item_uri, version_of, AreNames, AddsName, IsOpened, IsChanged, IsClosed, IsNotedBy, IsNoted, IsHeldAside, IsHeldBut, watch_requests, sent_by, Texts};
+ghost use Rattle.tera_workspace.specs.Workspaces.{IsKept};
+ghost use Rattle.tera_server.specs.Notes.{noted_of, document_in, uri_given, item_uri, version_of, AreNames, AddsName, IsOpened, IsChanged, IsClosed, IsNotedBy, IsNoted, AreFoldersChanged, IsHeldAside, IsHeldBut, watch_requests, sent_by, Texts};
 ghost use Rattle.tera_server.specs.Sending.{with_all};
-ghost use Rattle.tera_server.specs.States.{takes, is_whole, needed_view, needs, with_name, StaysBut};
+ghost use Rattle.tera_server.specs.States.{takes, is_whole, needed_view, needs, with_name, names_without, Grows, KeepsDue, StaysBut};
 ghost use Rattle.tera_server.specs.Steps.{EditsIn, Follows};
 ghost use Rattle.tera_server.specs.declared.notes.Noted.TheVariants.{OfDocument};
-ghost use Rattle.tera_server.specs.declared.notes.NeededKind.TheVariants.{Folder, File};
+ghost use Rattle.tera_server.specs.declared.notes.NeededKind.TheVariants.{Folder, File, Changed};
 
 use crate::abilities::put_registrations;
 use crate::client::Client;
@@ -36,6 +37,7 @@ pub(crate) enum Noted {
     Initialized,
     OfDocument(DocumentNote),
     FilesChanged,
+    FoldersChanged,
     Exit,
     Other,
 }
@@ -48,11 +50,12 @@ pub(crate) enum DocumentNote {
     Closed,
 }
 
-/// What is asked of the files on disk: the texts below a folder, or that of a file.
+/// What is asked of the files on disk: the texts below a folder, that of a file, or what is under a path.
 #[derive(Clone, Copy)]
 pub(crate) enum NeededKind {
     Folder,
     File,
+    Changed,
 }
 
 impl Noted {
@@ -66,6 +69,7 @@ impl Noted {
             "textDocument/didChange" => Noted::OfDocument(DocumentNote::Changed),
             "textDocument/didClose" => Noted::OfDocument(DocumentNote::Closed),
             "workspace/didChangeWatchedFiles" => Noted::FilesChanged,
+            "workspace/didChangeWorkspaceFolders" => Noted::FoldersChanged,
             "exit" => Noted::Exit,
             _ => Noted::Other,
         }
@@ -81,7 +85,10 @@ impl Server {
         params: Option<&Value<'_>>,
         out: &mut Outbox,
     ) -> Result<(), AllocError>
-        ensures stays { StaysBut self.old self.new }
+        ensures stays { OnErr result (StaysBut self.old self.new) }
+        ensures due { KeepsDue self.old self.new }
+        ensures phase { self.new.phase ≡ self.old.phase }
+        ensures kept { IsKept self.old.workspace → IsKept self.new.workspace }
         ensures noted { OnOk result (IsNoted noted self.old (seen params.entry) self.new) }
         ensures sent { OnOk result (out.new ≡ with_all out.old (sent_by noted self.old)) }
         ensures unsent { OnErr result (out.new ≡ out.old) }
@@ -101,6 +108,9 @@ impl Server {
             ),
             Noted::OfDocument(note) => self.note_document(alloc, note, params),
             Noted::FilesChanged => files_changed(alloc, params, &mut self.needed),
+            Noted::FoldersChanged => {
+                folders_changed(alloc, params, &mut self.folders, &mut self.needed)
+            }
             Noted::Exit | Noted::Other => Ok(()),
         }
     }
@@ -114,6 +124,7 @@ impl Server {
         params: Option<&Value<'_>>,
     ) -> Result<(), AllocError>
         ensures stays { StaysBut self.old self.new }
+        ensures due { KeepsDue self.old self.new }
         ensures noted { OnOk result (IsNotedBy (OfDocument note) self.old (seen params.entry) self.new) }
         ensures err { OnErr result (IsHeldBut (uri_given (document_in (seen params.entry))) self.old self.new) }
     {
@@ -145,6 +156,7 @@ impl Server {
         document: Option<&Value<'_>>,
     ) -> Result<(), AllocError>
         ensures stays { StaysBut self.old self.new }
+        ensures due { KeepsDue self.old self.new }
         ensures opened { OnOk result (IsOpened name.now uri.now (text_in (member_of (codes "text") (seen document.entry)))
             (version_of (seen document.entry)) self.old self.new) }
         ensures err { OnErr result (IsHeldAside name.now self.old self.new) }
@@ -170,6 +182,7 @@ impl Server {
         changes: Option<&Value<'_>>,
     ) -> Result<(), AllocError>
         ensures stays { StaysBut self.old self.new }
+        ensures due { KeepsDue self.old self.new }
         ensures changed { OnOk result (IsChanged name.now (version_of (seen document.entry)) (changes_in (seen changes.entry))
             self.old self.new) }
         ensures err { OnErr result (IsHeldAside name.now self.old self.new) }
@@ -198,6 +211,7 @@ impl Server {
     // since it may not have been while the text was lost.
     fn close(&mut self, alloc: Global, name: &str) -> Result<(), AllocError>
         ensures stays { StaysBut self.old self.new }
+        ensures due { KeepsDue self.old self.new }
         ensures closed { OnOk result (IsClosed name.now self.old self.new) }
         ensures err { OnErr result (IsHeldAside name.now self.old self.new) }
     {
@@ -263,6 +277,7 @@ fn begin(
 ) -> Result<(), AllocError>
     ensures needed { OnOk result (map needed_view needed.new.items ≡ map needed_view needed.old.items
         ++ flat_map (needs Folder) (map string_bytes folders.now)) }
+    ensures grows { Grows (map needed_view needed.old.items) (map needed_view needed.new.items) }
     ensures sent { OnOk result (out.new ≡ with_all out.old (watch_requests client)) }
     ensures unsent { OnErr result (out.new ≡ out.old) }
 {
@@ -274,21 +289,70 @@ fn begin(
     }
 }
 
-// Asks for the texts of the files that changed.
+// Asks for what is under the paths that changed.
 fn files_changed(
     alloc: Global,
     params: Option<&Value<'_>>,
     needed: &mut Vec<Needed>,
 ) -> Result<(), AllocError>
-    ensures { OnOk result ((names : List (List ℕ))
+    ensures needed { OnOk result ((names : List (List ℕ))
         × AreNames (map item_uri (items_in (member_of (codes "changes") (seen params.entry)))) names
-        × (map needed_view needed.new.items ≡ map needed_view needed.old.items ++ flat_map (needs File) names)) }
+        × (map needed_view needed.new.items ≡ map needed_view needed.old.items ++ flat_map (needs Changed) names)) }
+    ensures grows { Grows (map needed_view needed.old.items) (map needed_view needed.new.items) }
 {
     let Some(changes) = items_of(member(params, "changes")) else {
         return Ok(());
     };
     let names = names_in(alloc, changes)?;
-    need_all(alloc, NeededKind::File, names.as_slice(), needed)
+    need_all(alloc, NeededKind::Changed, names.as_slice(), needed)
+}
+
+// Folders are open from now on, and others are not. Both are asked for. After an allocation failure those are open that were.
+fn folders_changed(
+    alloc: Global,
+    params: Option<&Value<'_>>,
+    folders: &mut Vec<String>,
+    needed: &mut Vec<Needed>,
+) -> Result<(), AllocError>
+    ensures changed { OnOk result (AreFoldersChanged (member_of (codes "event") (seen params.entry))
+        (map string_bytes folders.old.items) (map needed_view needed.old.items)
+        (map string_bytes folders.new.items) (map needed_view needed.new.items)) }
+    ensures grows { Grows (map needed_view needed.old.items) (map needed_view needed.new.items) }
+    ensures err { OnErr result (folders.new ≡ folders.old) }
+{
+    let event = member(params, "event");
+    let removed = names_among(alloc, member(event, "removed"))?;
+    let mut added = names_among(alloc, member(event, "added"))?;
+    need_all(alloc, NeededKind::Folder, removed.as_slice(), needed)?;
+    need_all(alloc, NeededKind::Folder, added.as_slice(), needed)?;
+    let mut open = without(alloc, folders.as_slice(), removed.as_slice())?;
+    open.append(&mut added)?;
+    *folders = open;
+    Ok(())
+}
+
+// The names of the items of a list; of what is none there are none.
+fn names_among(alloc: Global, items: Option<&Value<'_>>) -> Result<Vec<String>, AllocError>
+    ensures { IfOk result (λ v. AreNames (map item_uri (items_in (seen items.entry))) (map string_bytes v.items)) }
+{
+    match items_of(items) {
+        Some(items) => names_in(alloc, items),
+        None => Ok(Vec::new(alloc)),
+    }
+}
+
+// The names that are not among the others.
+fn without(alloc: Global, names: &[String], others: &[String]) -> Result<Vec<String>, AllocError>
+    ensures { IfOk result (λ v. map string_bytes v.items
+        ≡ names_without (map string_bytes others.now) (map string_bytes names.now)) }
+{
+    let mut kept = Vec::new(alloc);
+    for name in names {
+        if !has_name(others, name.as_str()) {
+            kept.push(String::from_str(alloc, name.as_str())?)?;
+        }
+    }
+    Ok(kept)
 }
 
 /// The names of the items that have a URI, in order.
@@ -324,8 +388,9 @@ fn need_all(
     names: &[String],
     needed: &mut Vec<Needed>,
 ) -> Result<(), AllocError>
-    ensures { OnOk result (map needed_view needed.new.items ≡ map needed_view needed.old.items
+    ensures needed { OnOk result (map needed_view needed.new.items ≡ map needed_view needed.old.items
         ++ flat_map (needs kind) (map string_bytes names.now)) }
+    ensures grows { Grows (map needed_view needed.old.items) (map needed_view needed.new.items) }
 {
     for name in names {
         need(alloc, kind, name.as_str(), needed)?;
@@ -340,7 +405,9 @@ fn need(
     name: &str,
     needed: &mut Vec<Needed>,
 ) -> Result<(), AllocError>
-    ensures { OnOk result (map needed_view needed.new.items ≡ map needed_view needed.old.items ++ needs kind name.now) }
+    ensures needed { OnOk result
+        (map needed_view needed.new.items ≡ map needed_view needed.old.items ++ needs kind name.now) }
+    ensures err { OnErr result (needed.new.items ≡ needed.old.items) }
 {
     if !name.starts_with('/') {
         return Ok(());
@@ -349,6 +416,7 @@ fn need(
     match kind {
         NeededKind::Folder => Ok(needed.push(Needed::Folder(path))?),
         NeededKind::File => Ok(needed.push(Needed::File(path))?),
+        NeededKind::Changed => Ok(needed.push(Needed::Changed(path))?),
     }
 }
 

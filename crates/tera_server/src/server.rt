@@ -1,6 +1,6 @@
 //! The server.
 
-ghost use Rattle.std.specs.Prelude.{◌≡◌, ◌⊎◌, ◌++◌, ◌∷◌, [], ℕ, List, IsTrue, None, IfOk, OnOk, OnErr, string_bytes};
+ghost use Rattle.std.specs.Prelude.{◌≡◌, ◌⊎◌, ◌++◌, ◌∷◌, [], ℕ, List, IsTrue, None, false, IfOk, OnOk, OnErr, filter, map, string_bytes};
 ghost use Rattle.std.specs.Option.{option_map, option_to_list};
 ghost use Rattle.json_rpc.specs.Ids.{NullId};
 ghost use Rattle.json_rpc.specs.Messages.{message_of};
@@ -13,14 +13,17 @@ ghost use Rattle.tera_workspace.specs.Workspaces.{reported_of_name, IsKept};
 ghost use Rattle.text_edits.specs.Documents.{no_document};
 ghost use Rattle.tera_server.specs.Sending.{unpublished_of};
 ghost use Rattle.tera_server.specs.Settling.{IsSettling, ArePublishedInPart, OnlyReports};
-ghost use Rattle.tera_server.specs.States.{IsMissed, IsLoadedAs, IsNotLoaded, known_of, text_on, why_on, needed_of, needed_view, edited_of, edited_by, with_name, KeepsReported, StaysBut};
+ghost use Rattle.tera_server.specs.States.{IsMissed, IsLoadedAs, IsNotLoaded, known_of, text_on, why_on, is_there, needed_of, needed_view, edited_of, edited_by, with_name, KeepsReported, StaysBut};
 ghost use Rattle.tera_server.specs.Steps.{ended_at, Step, IsRefused, IsUntaken, IsUntakenBy, KeepsUp};
+ghost use Rattle.tera_server.specs.KnownFiles.{is_known, known_names, IsKnownAs};
+ghost use Rattle.tera_server.specs.Templates.{is_inside};
 ghost use Rattle.tera_server.specs.UnreadFiles.{why_of, IsWhyAt};
 ghost use Rattle.tera_server.specs.declared.server.Phase.TheVariants.{New};
 
 use crate::client::Client;
 use crate::editor::Editor;
 use crate::findings::{Publishing, publish_each};
+use crate::known::KnownFiles;
 use crate::notes::{Noted, add_name};
 use crate::requests::Asked;
 use crate::unread::UnreadFiles;
@@ -53,6 +56,8 @@ pub enum Needed {
     Folder(String),
     /// The text of this file, if there is one.
     File(String),
+    /// What is under this path: the text of a file, those of the templates below a folder, or nothing any more.
+    Changed(String),
 }
 
 /// What is on disk under a path.
@@ -74,7 +79,8 @@ pub struct Server {
     pub(crate) workspace: Workspace,
     pub(crate) editor: Editor,
     pub(crate) folders: Vec<String>,
-    // Of the files that were asked for.
+    // The files that were given, and those of them that cannot be read.
+    known: KnownFiles,
     unread: UnreadFiles,
     pub(crate) needed: Vec<Needed>,
     // The names of the documents whose findings are to be published, whatever they are: the editor opened, changed or closed
@@ -92,7 +98,7 @@ impl Server {
         ensures reported { (n : List ℕ) → reported_of_name result.workspace n ≡ [] }
         ensures kept { IsKept result.workspace }
         ensures none { (needed_of result ≡ []) × (edited_of result ≡ []) × (unpublished_of result ≡ [])
-            × ((n : List ℕ) → why_of result.unread n ≡ None) }
+            × ((n : List ℕ) → why_of result.unread n ≡ None) × ((n : List ℕ) → is_known result.known n ≡ false) }
     {
         Server {
             phase: Phase::New,
@@ -100,6 +106,7 @@ impl Server {
             workspace: Workspace::new(alloc, Client::UNKNOWN.encoding),
             editor: Editor::new(alloc),
             folders: Vec::new(alloc),
+            known: KnownFiles::new(alloc),
             unread: UnreadFiles::new(alloc),
             needed: Vec::new(alloc),
             edited: Vec::new(alloc),
@@ -263,19 +270,47 @@ impl Server {
     /// This is on disk under the path now. After an allocation failure the texts are what they were.
     pub fn load(&mut self, alloc: Global, path: &str, found: OnDisk) -> Result<(), AllocError>
         ensures stays { KeepsReported self.old self.new }
-        ensures same { self.new ≡ record self.old
-            { workspace = self.new.workspace; unread = self.new.unread; edited = self.new.edited } }
+        ensures same { self.new ≡ record self.old {
+          workspace = self.new.workspace;
+          known = self.new.known;
+          unread = self.new.unread;
+          edited = self.new.edited;
+        } }
         ensures loaded { OnOk result (IsLoadedAs path.now (text_on found) (why_on found) self.old self.new) }
+        ensures known { OnOk result (IsKnownAs path.now (is_there found) self.old.known self.new.known) }
         ensures err { OnErr result (IsNotLoaded path.now self.old self.new) }
     {
         match found {
             OnDisk::Text(text) => {
+                self.known.add(alloc, path)?;
                 self.set_why(alloc, path, None)?;
                 self.workspace.set_file(alloc, path, text.as_str())
             }
-            OnDisk::Unread(why) => self.unload(alloc, path, Some(why)),
-            OnDisk::Nothing => self.unload(alloc, path, None),
+            OnDisk::Unread(why) => {
+                self.known.add(alloc, path)?;
+                self.unload(alloc, path, Some(why))
+            }
+            OnDisk::Nothing => {
+                self.unload(alloc, path, None)?;
+                self.known.remove(path);
+                Ok(())
+            }
         }
+    }
+
+    /// Whether there was a file under this path when it was given last.
+    pub fn is_known(&self, path: &str) -> bool
+        ensures { result ≡ is_known self.now.known path.now }
+    {
+        self.known.has(path)
+    }
+
+    /// The paths of the files in this folder, at any depth, that there were when they were given last.
+    pub fn known_inside(&self, alloc: Global, folder: &str) -> Result<Vec<String>, AllocError>
+        ensures { IfOk result (λ v. map string_bytes v.items
+            ≡ filter (is_inside folder.now) (known_names self.now.known)) }
+    {
+        self.known.inside(alloc, folder)
     }
 
     // No text is on disk, where this is why the file cannot be read, or nothing is.

@@ -32,6 +32,16 @@ fn name_below<'f>(folder: &str, file: &'f str) -> Option<&'f str>
     }
 }
 
+/// Whether the file is in the folder, at any depth.
+pub(crate) fn is_inside(folder: &str, file: &str) -> bool
+    ensures { result ≡ specs.is_inside folder.now file.now }
+{
+    match file.strip_prefix(folder) {
+        Some(rest) => rest.starts_with('/'),
+        None => false,
+    }
+}
+
 /// The file of the template of this name: of these the one with the shortest path that has the name; or else that whose
 /// path ends in it, below whatever folder.
 pub(crate) fn template_in<'f>(

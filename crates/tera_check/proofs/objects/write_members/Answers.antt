@@ -1,15 +1,16 @@
 use Rattle.std.proofs.Common.{◌≡◌, ◌∙◌, List, ◌++◌, ap, append_assoc}
 use Rattle.json.specs.Token.{Token}
+use Rattle.tera_check.specs.Objects.{members}
 use Rattle.tera_check.proofs.objects.write_members.Goals as goal
 
-four : (start now next more last a b c d : List Token) → now ≡ start ++ a → next ≡ now ++ b → more ≡ next ++ c → last ≡ more ++ d → last ≡ start ++ (a ++ (b ++ (c ++ d)))
-four start now next more last a b c d first second third fourth =
-    fourth
-    ∙ ap (λ ts. ts ++ d) (third ∙ ap (λ ts. ts ++ c) (second ∙ ap (λ ts. ts ++ b) first))
-    ∙ append_assoc ((start ++ a) ++ b) c d
-    ∙ append_assoc (start ++ a) b (c ++ d)
-    ∙ append_assoc start a (b ++ (c ++ d))
+three : (start now next last a b c : List Token) → now ≡ start ++ a → next ≡ now ++ b → last ≡ next ++ c → last ≡ start ++ (a ++ (b ++ c))
+three start now next last a b c first second third =
+    third
+    ∙ ap (λ ts. ts ++ c) (second ∙ ap (λ ts. ts ++ b) first)
+    ∙ append_assoc (start ++ a) b c
+    ∙ append_assoc start a (b ++ c)
 
 pub returns-clause-tokens : goal.returns-clause-tokens
+unfolding members
 returns-clause-tokens c =
-    four _ _ _ _ _ _ _ _ _ c.in_ok-write_text.ensures.tokens c.in_ok-write_number.ensures.tokens c.in_ok-write_number-2.ensures.tokens c.in_ok-write_text-2.ensures.tokens
+    three _ _ _ _ _ _ _ c.in_ok-write_text.ensures.tokens c.in_ok-write_places.ensures.tokens c.in_ok-write_text-2.ensures.tokens

@@ -1,6 +1,6 @@
-use Rattle.std.proofs.Common.{◌≡◌, ◌∙◌, ℕ, List, IfOk, IfErr, MatchResult, subst, ap}
+use Rattle.std.proofs.Common.{◌≡◌, ℕ, List, IfOk, IfErr, MatchResult, subst, ap}
 use Rattle.tera_base.specs.Errors.{IsMemory}
-use Rattle.tera_lexer.specs.grammar.Marks.{Marks, default_marks}
+use Rattle.tera_lexer.specs.grammar.Marks.{Marks, marks_of}
 use Rattle.tera_grammar.specs.Limits.{Limits, usual}
 use Rattle.tera_grammar.specs.statements.Places.{Places}
 use Rattle.tera_grammar.specs.statements.Top.{DerivesNames}
@@ -13,24 +13,24 @@ use Rattle.tera_tree.specs.Tree.{Output}
 use Rattle.tera_check.proofs.templates.parsed.Goals as goal
 
 -- what holds of a parser's source, between its markers and within its limits, holds of those that it was made of
-job : (l : Limits) (name : List ℕ) (a b : Marks) (s : List ℕ) (j : Job) → (j ≡ record { filename = name; source = s; marks = a; limits = l }) → a ≡ b
-    → (P : Limits → Marks → List ℕ → Type 0) → P j.limits j.marks j.source → P l b s
-job l name a b s j is marks P p =
-    subst (λ i. P i b s) (ap (λ (k : Job). k.limits) is)
-    (subst (λ m. P j.limits m s) (ap (λ (k : Job). k.marks) is ∙ marks) (subst (λ x. P j.limits j.marks x) (ap (λ (k : Job). k.source) is) p))
+job : (l : Limits) (name : List ℕ) (m : Marks) (s : List ℕ) (j : Job) → (j ≡ record { filename = name; source = s; marks = m; limits = l })
+    → (P : Limits → Marks → List ℕ → Type 0) → P j.limits j.marks j.source → P l m s
+job l name m s j is P p =
+    subst (λ i. P i m s) (ap (λ (k : Job). k.limits) is)
+    (subst (λ i. P j.limits i s) (ap (λ (k : Job). k.marks) is) (subst (λ x. P j.limits j.marks x) (ap (λ (k : Job). k.source) is) p))
 
 pub returns-clause-sound : goal.returns-clause-sound
 returns-clause-sound c =
-    job usual _ _ default_marks c.args.source.now c.new-parser.result c.new-parser.ensures c.default.ensures.0
+    job usual _ (marks_of c.args.markers) c.args.source.now c.new-parser.result c.new-parser.ensures
     (λ l m s. IfOk c.parse_with_names.result (λ p. (names : Places) × DerivesNames l m s (output_view p.0) names × AreNames p.1 names)) c.parse_with_names.ensures.sound
 
 pub returns-clause-refusal : goal.returns-clause-refusal
 returns-clause-refusal c =
-    job usual _ _ default_marks c.args.source.now c.new-parser.result c.new-parser.ensures c.default.ensures.0 (λ l m s. IfErr c.parse_with_names.result (Refuses m s)) c.parse_with_names.ensures.refusal
+    job usual _ (marks_of c.args.markers) c.args.source.now c.new-parser.result c.new-parser.ensures (λ l m s. IfErr c.parse_with_names.result (Refuses m s)) c.parse_with_names.ensures.refusal
 
 pub returns-clause-complete : goal.returns-clause-complete
 returns-clause-complete c =
-    job usual _ _ default_marks c.args.source.now c.new-parser.result c.new-parser.ensures c.default.ensures.0
+    job usual _ (marks_of c.args.markers) c.args.source.now c.new-parser.result c.new-parser.ensures
     (λ l m s. (output : Output) (names : Places) → DerivesNames l m s output names → MatchResult c.parse_with_names.result (λ p. (output_view p.0 ≡ output) × AreNames p.1 names) IsMemory) c.parse_with_names.ensures.complete
 
 pub returns-clause-notes : goal.returns-clause-notes

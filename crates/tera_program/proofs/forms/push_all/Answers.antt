@@ -3,7 +3,7 @@ use Rattle.std.specs.List.{flat_map}
 use Rattle.tera_check.specs.Findings.{finding_view}
 use Rattle.terminal_text.specs.Files.{source_of}
 use Rattle.tera_program.specs.Forms.{finding_text, of_each}
-use Rattle.tera_program.specs.Found.{found_view}
+use Rattle.tera_check.specs.Found.{found_view}
 use Rattle.tera_program.proofs.Lists.{reported_more}
 use Rattle.tera_program.proofs.Same.{same_answers}
 use Rattle.tera_program.proofs.forms.push_all.Goals as goal

@@ -2,7 +2,7 @@ use Rattle.std.proofs.Common.{◌≡◌, ◌++◌, ℕ, List, drop, map}
 use Rattle.std.specs.List.{flat_map}
 use Rattle.terminal_text.specs.Files.{source_of}
 use Rattle.tera_program.specs.Forms.{finding_text, of_each}
-use Rattle.tera_program.specs.Found.{found_view}
+use Rattle.tera_check.specs.Found.{found_view}
 use Rattle.tera_program.proofs.forms.push_all.Given as goal
 
 abbrev pub invariant-loop-found : goal.invariant-loop-found

@@ -2,7 +2,7 @@ use Rattle.std.proofs.Common.{◌≡◌, ◌++◌, drop, map}
 use Rattle.std.specs.List.{flat_map}
 use Rattle.tera_report.specs.Logs.{result_object}
 use Rattle.tera_program.specs.Forms.{of_each}
-use Rattle.tera_program.specs.Found.{found_view}
+use Rattle.tera_check.specs.Found.{found_view}
 use Rattle.tera_program.proofs.forms.put_all.Given as goal
 
 abbrev pub invariant-loop-found : goal.invariant-loop-found

@@ -1,12 +1,13 @@
-use Rattle.tera_program.proofs.ServingLemmas.{is_loaded, some_found, unloaded}
+use Rattle.tera_program.proofs.SendLemmas.{on_any_err}
+use Rattle.tera_program.proofs.ServingLemmas.{is_loaded, is_unloaded, unloaded}
 use Rattle.tera_program.proofs.server.give_file.Goals as goal
 
-pub returns-in_err-found-clause-given : goal.returns-in_err-found-clause-given
-returns-in_err-found-clause-given g c = unloaded c.args.path.now c.args.server.now
-
-pub returns-clause-given : goal.returns-clause-given
-returns-clause-given g c =
-    is_loaded c.load.result c.args.path.now c.in_ok-found.found c.args.server.now c.load.new.self c.load.ensures.stays c.load.ensures.same c.load.ensures.loaded c.load.ensures.err
+pub returns-in_err-found-clause-unloaded : goal.returns-in_err-found-clause-unloaded
+returns-in_err-found-clause-unloaded g c = on_any_err c.from_residual.result (unloaded c.args.path.now c.args.server.now)
 
 pub returns-clause-loaded : goal.returns-clause-loaded
-returns-clause-loaded g c = some_found c.load.result c.args.path.now c.in_ok-found.found c.args.server.now c.load.new.self c.load.ensures.loaded
+returns-clause-loaded g c =
+    is_loaded c.load.result c.args.path.now c.in_ok-found.found c.args.server.now c.load.new.self c.load.ensures.stays c.load.ensures.same c.load.ensures.loaded c.load.ensures.known
+
+pub returns-clause-unloaded : goal.returns-clause-unloaded
+returns-clause-unloaded g c = is_unloaded c.load.result c.args.path.now c.args.server.now c.load.new.self c.load.ensures.stays c.load.ensures.same c.load.ensures.err

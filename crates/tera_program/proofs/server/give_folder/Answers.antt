@@ -1,36 +1,31 @@
-use Rattle.std.proofs.Common.{◌+◌, ◌∷◌, [], map, string_bytes, sym, subst, arith}
-use Rattle.tera_files.specs.Finding.{AreOfAll}
-use Rattle.tera_program.specs.Serving.{extensions, LoadedNone, IsLoaded}
-use Rattle.tera_program.proofs.ServingLemmas.{of_folder, loaded_next, folder_given, folder_unread}
+use Rattle.std.proofs.Common.{◌≡◌, true, map, string_bytes, inl, inr, refl, subst}
+use Rattle.std.specs.List.{list_any}
+use Rattle.std.specs.Str.{bytes_eq}
+use Rattle.tera_program.specs.Serving.{is_open}
+use Rattle.tera_program.proofs.SendLemmas.{on_any_err}
+use Rattle.tera_program.proofs.ServingLemmas.{on_ok, on_err, unopened}
 use Rattle.tera_program.proofs.server.give_folder.Goals as goal
 
-pub returns-in_err-found : goal.returns-in_err-found
-returns-in_err-found g c = folder_unread extensions c.args.folder.now c.args.server.now
+pub returns-in_err-give_known-clause-in_part : goal.returns-in_err-give_known-clause-in_part
+returns-in_err-give_known-clause-in_part g c = on_any_err c.from_residual.result (inl c.in_err-give_known.ensures.in_part)
 
-pub loop-file-init : goal.loop-file-init
-loop-file-init g c = LoadedNone
+pub returns-in_err-is_read-clause-in_part : goal.returns-in_err-is_read-clause-in_part
+returns-in_err-is_read-clause-in_part g c =
+    on_any_err c.from_residual-in_err-is_read.result (inr (c.give_known.new.server, c.in_ok-give_known.ensures.given, inl refl))
 
-pub loop-file-preserved : goal.loop-file-preserved
-loop-file-preserved g c =
-    loaded_next c.args.server.now c.loop-file.server c.give_file.new.server c.deref-file-items.result.now c.loop-file.file-index c.file-item.result
-    (omega arith) c.file-item.is c.loop-file.invariant
-    (subst (λ path. IsLoaded path c.loop-file.server c.give_file.new.server) c.as_str.ensures.value c.give_file.ensures.given)
+pub returns-then-branch-clause-given : goal.returns-then-branch-clause-given
+returns-then-branch-clause-given g c =
+    on_ok c.give_listed.result (λ listed. (c.give_known.new.server, c.in_ok-give_known.ensures.given, inr listed)) c.give_listed.ensures.given
 
-pub returns-in_err-give_file : goal.returns-in_err-give_file
-returns-in_err-give_file g c =
+pub returns-then-branch-clause-in_part : goal.returns-then-branch-clause-in_part
+returns-then-branch-clause-in_part g c =
+    on_err c.give_listed.result (λ listed. inr (c.give_known.new.server, c.in_ok-give_known.ensures.given, listed)) c.give_listed.ensures.in_part
+
+pub returns-else-branch-clause-given : goal.returns-else-branch-clause-given
+returns-else-branch-clause-given g c =
+    let u = c.give_known.new.server in
     let folder = c.args.folder.now in
-    let files = c.deref-file-items.result.now in
-    let all = subst (λ es. AreOfAll (map (λ e. e.now) es) (folder ∷ []) (map string_bytes c.in_ok-found.found.files.items)) c.as_slice.ensures c.in_ok-found.ensures.in_order in
-    let are = of_folder extensions folder (map string_bytes files) (subst (λ xs. AreOfAll extensions (folder ∷ []) (map string_bytes xs)) (sym c.deref-file-items.ensures.value) all) in
-    folder_given extensions folder c.args.server.now c.give_file.new.server files (c.loop-file.file-index + 1) are
-    (loaded_next c.args.server.now c.loop-file.server c.give_file.new.server files c.loop-file.file-index c.file-item.result
-    (omega arith) c.file-item.is c.loop-file.invariant
-    (subst (λ path. IsLoaded path c.loop-file.server c.give_file.new.server) c.as_str.ensures.value c.give_file.ensures.given))
-
-pub returns : goal.returns
-returns g c =
-    let folder = c.args.folder.now in
-    let files = c.deref-file-items.result.now in
-    let all = subst (λ es. AreOfAll (map (λ e. e.now) es) (folder ∷ []) (map string_bytes c.in_ok-found.found.files.items)) c.as_slice.ensures c.in_ok-found.ensures.in_order in
-    let are = of_folder extensions folder (map string_bytes files) (subst (λ xs. AreOfAll extensions (folder ∷ []) (map string_bytes xs)) (sym c.deref-file-items.ensures.value) all) in
-    folder_given extensions folder c.args.server.now c.loop-file.server files c.loop-file.file-index are c.loop-file.invariant
+    let read = c.in_ok-is_read.field-0 in
+    let listed : is_open folder u ≡ true → read ≡ true =
+    subst (λ fs. list_any (λ f. bytes_eq f folder) (map string_bytes fs) ≡ true → read ≡ true) c.folders.ensures c.in_ok-is_read.ensures in
+    (u, c.in_ok-give_known.ensures.given, inl (unopened (is_open folder u) read listed c.if-branch.false, refl))

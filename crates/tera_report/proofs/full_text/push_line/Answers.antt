@@ -17,6 +17,7 @@ returns c =
     let said : List ℕ = on_one_line m.text.now in
     let space : List ℕ = 32 ∷ [] in
     let colon : List ℕ = 58 ∷ 32 ∷ [] in
+    let called : c.as_str-2.result.now ≡ word_of m.role = c.as_str-2.ensures.value ∙ c.in_ok-word.ensures in
     let named : c.as_str.result.now ≡ place_text m.file.now (place_of m.span.now)
     = c.as_str.ensures.value ∙ c.in_ok-place.ensures ∙ ap (place_text m.file.now) c.of.ensures in
     let one : string_bytes c.push.new.to ≡ before ++ place
@@ -24,7 +25,7 @@ returns c =
     let two : string_bytes c.push-2.new.self ≡ (before ++ place) ++ space
     = c.in_ok-push-2.ensures.bytes ∙ (λ i. one i ++ c.in_ok-push-2.ensures.ascii (omega arith) i) in
     let three : string_bytes c.push-3.new.to ≡ ((before ++ place) ++ space) ++ word
-    = c.in_ok-push-3.ensures ∙ (λ i. two i ++ styled c.args.style (c.part.ensures i) (c.word.ensures i)) in
+    = c.in_ok-push-3.ensures ∙ (λ i. two i ++ styled c.args.style (c.part.ensures i) (called i)) in
     let four : string_bytes c.push_str.new.self ≡ (((before ++ place) ++ space) ++ word) ++ colon
     = c.in_ok-push_str.ensures.bytes ∙ ap (λ l. l ++ colon) three in
     let five : string_bytes c.push_on_one_line.new.to ≡ ((((before ++ place) ++ space) ++ word) ++ colon) ++ said

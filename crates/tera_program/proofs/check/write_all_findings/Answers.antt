@@ -1,0 +1,16 @@
+use Rattle.std.proofs.Common.{◌≡◌, IfOk, map, subst}
+use Rattle.terminal_text.specs.Files.{source_of}
+use Rattle.tera_program.specs.Sources.{nothing, unreadable_view, with_sources}
+use Rattle.tera_program.specs.Report.{IsReported}
+use Rattle.tera_program.specs.Rules.{is_reported}
+use Rattle.tera_program.proofs.Same.{same_answers}
+use Rattle.tera_program.proofs.check.write_all_findings.Goals as goal
+
+pub returns-clause-report : goal.returns-clause-report
+returns-clause-report g c =
+    let all = c.args.all.now in
+    let job = c.args.job.now in
+    let same : source_of c.in_ok-sources.sources ≡ with_sources nothing all.sources.items =
+    same_answers (source_of c.in_ok-sources.sources) (with_sources nothing all.sources.items) c.in_ok-sources.ensures in
+    subst (λ known. IfOk c.write_findings.result (IsReported job.form c.args.style known (map unreadable_view all.unread.items) all.templates.items all.checked
+    (is_reported job.rules) (g.W.Write.contents c.args.writer.now) (g.W.Write.contents c.write_findings.new.writer))) same c.write_findings.ensures.report

@@ -1,0 +1,139 @@
+//! What `tera explain` prints of each rule: the sections of docs/CHECKING.md.
+//!
+//! Written by `tools/explanations --write`.
+
+use tera_check::Kind;
+
+/// The names of the rules.
+pub(crate) static RULES: [&str; 9] = [
+    "fault",
+    "undefined-component",
+    "missing-argument",
+    "unknown-argument",
+    "wrong-type",
+    "repeated-argument",
+    "unused-parameter",
+    "defined-again",
+    "unread",
+];
+
+/// Those of which no findings may be asked for.
+pub(crate) static OPTIONAL_RULES: [&str; 7] = [
+    "undefined-component",
+    "missing-argument",
+    "unknown-argument",
+    "wrong-type",
+    "repeated-argument",
+    "unused-parameter",
+    "defined-again",
+];
+
+/// What the page has on findings of the kind.
+pub(crate) fn explanation(kind: Kind) -> &'static str {
+    match kind {
+        Kind::Fault => FAULT,
+        Kind::UndefinedComponent => UNDEFINED_COMPONENT,
+        Kind::MissingArgument => MISSING_ARGUMENT,
+        Kind::UnknownArgument => UNKNOWN_ARGUMENT,
+        Kind::WrongType => WRONG_TYPE,
+        Kind::RepeatedArgument => REPEATED_ARGUMENT,
+        Kind::UnusedParameter => UNUSED_PARAMETER,
+        Kind::DefinedAgain => DEFINED_AGAIN,
+    }
+}
+
+/// What the page has on files that could not be read.
+pub(crate) const UNREAD: &str = r##"
+A file or a folder could not be read, so nothing is known of what is in it. The forms of output for other programs have
+this as a finding, at the start of the file, so that no log looks clean if files were not read.
+"##;
+
+const FAULT: &str = r##"
+The template has a syntax error, so Tera refuses it. All syntax errors of a file are reported, up to the number of
+`--max-faults`, and what is found in the rest of it. A note says where the cause is, if it is at another place.
+
+    {% if user %}Hello {{ user.name {% endif %}
+
+An expression ends with `}}`:
+
+    {% if user %}Hello {{ user.name }}{% endif %}
+"##;
+
+const UNDEFINED_COMPONENT: &str = r##"
+A call is of a component that no template defines: neither those that are checked, nor those of `--library`.
+
+    {% component ui.button(label) %}<button>{{ label }}</button>{% endcomponent %}
+    {{<ui.buton label="Buy"/>}}
+
+Correct the name, define the component, or name the files that define it with `--library`:
+
+    {{<ui.button label="Buy"/>}}
+"##;
+
+const MISSING_ARGUMENT: &str = r##"
+A call does not pass an argument that its component requires: one that has no default and is not implicit. A spread may
+pass any argument, so nothing is missing from a call that has one.
+
+    {% component box(title: string, size: integer = 1) %}{{ title }} {{ size }}{% endcomponent %}
+    {{<box size={2}/>}}
+
+Pass the argument, or give it a default:
+
+    {{<box title="News" size={2}/>}}
+"##;
+
+const UNKNOWN_ARGUMENT: &str = r##"
+A call passes an argument that its component does not have, and the component has no rest parameter to take it.
+
+    {% component box(title: string) %}{{ title }}{% endcomponent %}
+    {{<box titel="News"/>}}
+
+Correct the name, or add the parameter to the component:
+
+    {{<box title="News"/>}}
+"##;
+
+const WRONG_TYPE: &str = r##"
+A call passes a constant whose type is not the one that the component declares. The type of what is not a constant is
+not known, and nothing is reported about it.
+
+    {% component box(size: integer) %}{{ size }}{% endcomponent %}
+    {{<box size="2"/>}}
+
+Pass a value of the type, here a number in braces and not a text in quotes:
+
+    {{<box size={2}/>}}
+"##;
+
+const REPEATED_ARGUMENT: &str = r##"
+A call passes the same argument more than once. The last value counts, so this one has no effect.
+
+    {{<box title="News" title="Sport"/>}}
+
+Remove the value that is not meant:
+
+    {{<box title="Sport"/>}}
+"##;
+
+const UNUSED_PARAMETER: &str = r##"
+Nothing in the body of a component names one of its parameters. So what calls pass for it has no effect.
+
+    {% component box(title: string, colour: string) %}{{ title }}{% endcomponent %}
+
+Use the parameter, or remove it:
+
+    {% component box(title: string) %}{{ title }}{% endcomponent %}
+"##;
+
+const DEFINED_AGAIN: &str = r##"
+A component has the name of one that a file before it defines, or the same file if it is given again. Tera refuses
+templates that define a component twice. A note says where the first one is.
+
+    {% component box(title: string) %}{{ title }}{% endcomponent %}
+
+This, in another file, is reported:
+
+    {% component box(text: string) %}{{ text }}{% endcomponent %}
+
+Remove one of the two, or give it another name.
+"##;
