@@ -1,14 +1,15 @@
-/* The tree of a Tera template as text or as JSON, or its fault, from the static library libtera_c.a.
+/* The tree of a Tera template as text or as JSON, or its fault, its layout, and what is found in several templates,
+ * from the library tera_parser.
  *
- * Each call parses a source and writes one text into a buffer of the caller's: no call keeps anything, and what it
- * takes from malloc it gives back. Calls may run at the same time in several threads, where their buffers differ.
+ * Each call parses its sources and writes one text into a buffer of the caller's. No call keeps anything, and what it
+ * takes from malloc it gives back. Calls may run at the same time in several threads, if their buffers differ.
  *
- * The text that is written has no zero after it. `needed` is its length, whether or not there was room for it; so a
- * call with no buffer asks only for the length. If the buffer is too short, nothing is written. Bytes of the buffer
- * after the text stay as they were.
+ * The text that is written has no zero after it. `needed` gets its length, also if there was no room for it; so a call
+ * with no buffer asks for the length alone. If the buffer is too short, nothing is written. Bytes of the buffer after
+ * the text stay as they were.
  *
- * Link with liblibc_c.a of the kit, which calls malloc, realloc and free. Call nothing here from a signal handler, nor
- * from the forked child of a process with threads.
+ * Link with the shared library by `pkg-config --cflags --libs tera_parser`, or with libtera_parser.a. Either needs the
+ * C library alone. Call nothing here from a signal handler, nor from the forked child of a process with threads.
  */
 #ifndef TERA_H
 #define TERA_H
@@ -25,7 +26,7 @@ extern "C" {
 enum tera_status {
     TERA_WRITTEN = 0,     /* the text is in the buffer */
     TERA_SHORT = 1,       /* the buffer is too short: nothing was written, and `needed` is what the text needs */
-    TERA_FAULTY = 2,      /* tera_tree, tera_json: the source has a fault, so it has no tree */
+    TERA_FAULTY = 2,      /* the source has a fault, so it has no tree, or for tera_format no layout */
     TERA_NOTHING = 3,     /* tera_fault, tera_note: the source has a tree, or its fault has no such note */
     TERA_NOT_UTF8 = 4,    /* the source is not UTF-8 */
     TERA_BAD_MARKERS = 5, /* not twelve bytes that are six texts of two bytes, of which the three starts differ */
@@ -42,19 +43,19 @@ struct tera_limits {
     size_t bodies;     /* bodies that are open one in another */
 };
 
-/* Where something is in the source: lines from 1, columns from 0 in characters, and the range in bytes. */
-struct tera_place {
+/* A place in the source: lines from 1, columns from 0 in characters, and the range in bytes. */
+struct tera_span {
     size_t start_line;
-    size_t start_column;
+    size_t start_col;
     size_t end_line;
-    size_t end_column;
+    size_t end_col;
     size_t start;
     size_t end;
 };
 
 /* Where a fault is, and how many notes on other places it has. */
 struct tera_fault {
-    struct tera_place place;
+    struct tera_span span;
     size_t notes;
 };
 
@@ -66,11 +67,22 @@ struct tera_source {
     const struct tera_limits *limits; /* null stands for TERA_USUAL_LIMITS */
 };
 
+/* A template and the name of its file, which is in what is written. Both are UTF-8. No pointer is null. */
+struct tera_file {
+    const void *name;
+    size_t name_length;
+    const void *bytes;
+    size_t length;
+};
+
 /* The six markers, of two bytes each: the start and the end of a statement, of an expression and of a comment. */
 #define TERA_USUAL_MARKERS "{%%}{{}}{##}"
 
 /* The limits that Tera has. */
 #define TERA_USUAL_LIMITS {40, 256, 4, 2, 40}
+
+/* How many faults of a file the program finds at most. */
+#define TERA_USUAL_FAULTS 100
 
 /* The functions of the library. No pointer may be null, also where its length is 0: other languages call these, and C
  * the ones below. What is written to may not overlap anything else that is passed, and holds some value before, as
@@ -84,7 +96,14 @@ uint32_t tera_c_fault(const uint8_t *source, size_t source_length, const uint8_t
                       struct tera_fault *fault);
 uint32_t tera_c_note(const uint8_t *source, size_t source_length, const uint8_t *markers, size_t markers_length,
                      const struct tera_limits *limits, size_t index, uint8_t *text, size_t text_length, size_t *needed,
-                     struct tera_place *place);
+                     struct tera_span *span);
+uint32_t tera_c_format(const uint8_t *source, size_t source_length, const uint8_t *markers, size_t markers_length,
+                       uint8_t *text, size_t text_length, size_t *needed);
+uint32_t tera_c_check(const struct tera_file *files, size_t count, size_t checked, size_t faults, uint8_t *text,
+                      size_t text_length, size_t *needed);
+uint32_t tera_c_components(const struct tera_file *files, size_t count, uint8_t *text, size_t text_length,
+                           size_t *needed);
+uint32_t tera_c_mend(const struct tera_file *file, size_t faults, uint8_t *text, size_t text_length, size_t *needed);
 
 /* A source without nulls. */
 static inline struct tera_source tera_source_given(const struct tera_source *source) {
@@ -136,15 +155,66 @@ static inline uint32_t tera_fault(const struct tera_source *source, void *text, 
 
 /* Writes the text of a note of the fault, counted from 0, and where it is, in the same way. */
 static inline uint32_t tera_note(const struct tera_source *source, size_t index, void *text, size_t length,
-                                 size_t *needed, struct tera_place *place) {
+                                 size_t *needed, struct tera_span *span) {
     struct tera_source given = tera_source_given(source);
     uint8_t none = 0;
     size_t untold = 0;
-    struct tera_place unwanted = {0, 0, 0, 0, 0, 0};
+    struct tera_span unwanted = {0, 0, 0, 0, 0, 0};
     return tera_c_note((const uint8_t *)given.bytes, given.length, (const uint8_t *)given.markers,
                        strlen(given.markers), given.limits, index, text == NULL ? &none : (uint8_t *)text,
                        text == NULL ? 0 : length, needed == NULL ? &untold : needed,
-                       place == NULL ? &unwanted : place);
+                       span == NULL ? &unwanted : span);
+}
+
+/* Writes the source in its layout, as the program does: TERA_WRITTEN, TERA_SHORT, TERA_FAULTY if a token of it is
+ * faulty or a tag has no end, or an error. The limits are not read. The start and the end of a statement, and the end of
+ * an expression, may not begin with a letter, a digit, an underscore, a dash or white space. The two ends have no white
+ * space. For other markers the answer is TERA_BAD_MARKERS. */
+static inline uint32_t tera_format(const struct tera_source *source, void *text, size_t length, size_t *needed) {
+    struct tera_source given = tera_source_given(source);
+    uint8_t none = 0;
+    size_t untold = 0;
+    return tera_c_format((const uint8_t *)given.bytes, given.length, (const uint8_t *)given.markers,
+                         strlen(given.markers), text == NULL ? &none : (uint8_t *)text, text == NULL ? 0 : length,
+                         needed == NULL ? &untold : needed);
+}
+
+/* Writes what is found in the files, an object of JSON a line. The files after the first `checked` are a library: their
+ * components may be called, and only their faults are found. At most `faults` faults are found in each file, as
+ * TERA_USUAL_FAULTS. With 0 it is the first fault of a file, and nothing else in it. Markers and limits are the usual
+ * ones. */
+static inline uint32_t tera_check(const struct tera_file *files, size_t count, size_t checked, size_t faults,
+                                  void *text, size_t length, size_t *needed) {
+    static const struct tera_file no_file = {"", 0, "", 0};
+    uint8_t none = 0;
+    size_t untold = 0;
+    return tera_c_check(files == NULL ? &no_file : files, files == NULL ? 0 : count, checked, faults,
+                        text == NULL ? &none : (uint8_t *)text, text == NULL ? 0 : length,
+                        needed == NULL ? &untold : needed);
+}
+
+/* Writes the components that the files define, as an array of JSON, in the same way. */
+static inline uint32_t tera_components(const struct tera_file *files, size_t count, void *text, size_t length,
+                                       size_t *needed) {
+    static const struct tera_file no_file = {"", 0, "", 0};
+    uint8_t none = 0;
+    size_t untold = 0;
+    return tera_c_components(files == NULL ? &no_file : files, files == NULL ? 0 : count,
+                             text == NULL ? &none : (uint8_t *)text, text == NULL ? 0 : length,
+                             needed == NULL ? &untold : needed);
+}
+
+/* Writes the tree of the file, whatever faults it has, and these, as a line of JSON. Its `tree` is null if there is none.
+ * Its `faults` are objects as those of tera_check. Its `more` is true if there are more faults than these. At most
+ * `faults` faults are found, as TERA_USUAL_FAULTS. With 0 it is the first fault, and no tree beside it. Markers and
+ * limits are the usual ones. `file`, `text` and `needed` may be null. */
+static inline uint32_t tera_mend(const struct tera_file *file, size_t faults, void *text, size_t length,
+                                 size_t *needed) {
+    static const struct tera_file no_file = {"", 0, "", 0};
+    uint8_t none = 0;
+    size_t untold = 0;
+    return tera_c_mend(file == NULL ? &no_file : file, faults, text == NULL ? &none : (uint8_t *)text, text == NULL ? 0 : length,
+                       needed == NULL ? &untold : needed);
 }
 
 #ifdef __cplusplus

@@ -45,7 +45,7 @@ static enum tera_status ask(const struct tera_source *source, long what, struct 
     if (what == JSON) return tera_json(source, text->at, text->length, needed);
     if (what == TREE) return tera_tree(source, text->at, text->length, needed);
     if (what == FAULT) return tera_fault(source, text->at, text->length, needed, fault);
-    return tera_note(source, (size_t)what, text->at, text->length, needed, &fault->place);
+    return tera_note(source, (size_t)what, text->at, text->length, needed, &fault->span);
 }
 
 /* The same, into a buffer that is made as long as it has to be. */
@@ -65,18 +65,18 @@ static enum tera_status written(const struct tera_source *source, long what, str
 }
 
 static void print_fault(const struct tera_source *source, struct bytes *text, const struct tera_fault *fault) {
-    const struct tera_place *p = &fault->place;
-    printf("syntax error at %zu:%zu (%zu..%zu): ", p->start_line, p->start_column, p->start, p->end);
+    const struct tera_span *p = &fault->span;
+    printf("syntax error at %zu:%zu (%zu..%zu): ", p->start_line, p->start_col, p->start, p->end);
     fwrite(text->at, 1, text->length, stdout);
-    printf("\nends at %zu:%zu\n", p->end_line, p->end_column);
+    printf("\nends at %zu:%zu\n", p->end_line, p->end_col);
     for (size_t i = 0; i < fault->notes; i++) {
         struct bytes label = {NULL, 0};
         struct tera_fault note = {{0, 0, 0, 0, 0, 0}, 0};
         if (written(source, (long)i, &label, &note) == TERA_WRITTEN) {
-            p = &note.place;
+            p = &note.span;
             printf("note ");
             fwrite(label.at, 1, label.length, stdout);
-            printf(" at %zu:%zu-%zu:%zu %zu..%zu\n", p->start_line, p->start_column, p->end_line, p->end_column,
+            printf(" at %zu:%zu-%zu:%zu %zu..%zu\n", p->start_line, p->start_col, p->end_line, p->end_col,
                    p->start, p->end);
         }
         free(label.at);

@@ -97,8 +97,8 @@ static void buffers_of_faults(void) {
     HOLDS(tera_fault(&source, buffer, length - 1, &needed, &fault) == TERA_SHORT && fault.notes == 1);
     HOLDS(tera_fault(&source, buffer, length, &needed, &fault) == TERA_WRITTEN && needed == length);
     HOLDS(memcmp(buffer, TWICE_FAULT, length) == 0 && is_left(buffer, length, sizeof buffer));
-    HOLDS(fault.place.start_line == 1 && fault.place.start_column == 52 && fault.place.start == 52);
-    HOLDS(fault.place.end_line == 1 && fault.place.end_column == 53 && fault.place.end == 53);
+    HOLDS(fault.span.start_line == 1 && fault.span.start_col == 52 && fault.span.start == 52);
+    HOLDS(fault.span.end_line == 1 && fault.span.end_col == 53 && fault.span.end == 53);
     struct tera_source whole = source_of(GREETING);
     fault.notes = 9;
     HOLDS(tera_fault(&whole, buffer, sizeof buffer, &needed, &fault) == TERA_NOTHING && needed == 0);
@@ -110,7 +110,7 @@ static void notes(void) {
     static const char label[] = "first defined here";
     size_t length = strlen(label), needed = 0;
     char buffer[64];
-    struct tera_place place = {0, 0, 0, 0, 0, 9};
+    struct tera_span place = {0, 0, 0, 0, 0, 9};
     memset(buffer, '*', sizeof buffer);
     HOLDS(tera_note(&source, 0, NULL, 0, &needed, NULL) == TERA_SHORT && needed == length);
     HOLDS(tera_note(&source, 1, buffer, sizeof buffer, &needed, &place) == TERA_NOTHING && needed == 0);
@@ -118,7 +118,7 @@ static void notes(void) {
     HOLDS(place.end == 9 && is_left(buffer, 0, sizeof buffer));
     HOLDS(tera_note(&source, 0, buffer, length, &needed, &place) == TERA_WRITTEN && needed == length);
     HOLDS(memcmp(buffer, label, length) == 0 && is_left(buffer, length, sizeof buffer));
-    HOLDS(place.start_line == 1 && place.start_column == 13 && place.start == 13 && place.end == 14);
+    HOLDS(place.start_line == 1 && place.start_col == 13 && place.start == 13 && place.end == 14);
 }
 
 /* Each call answers this, and writes nothing. */
@@ -133,8 +133,8 @@ static void refused(const struct tera_source *source, enum tera_status status) {
     needed = 9;
     HOLDS(tera_fault(source, buffer, sizeof buffer, &needed, &fault) == status && needed == 0);
     needed = 9;
-    HOLDS(tera_note(source, 0, buffer, sizeof buffer, &needed, &fault.place) == status && needed == 0);
-    HOLDS(fault.notes == 9 && fault.place.end == 0 && is_left(buffer, 0, sizeof buffer));
+    HOLDS(tera_note(source, 0, buffer, sizeof buffer, &needed, &fault.span) == status && needed == 0);
+    HOLDS(fault.notes == 9 && fault.span.end == 0 && is_left(buffer, 0, sizeof buffer));
 }
 
 static void refusals(void) {
@@ -206,6 +206,93 @@ static void long_chain(void) {
     free(text);
 }
 
+static const char LAID_OUT[] = "hi {{ a | b }}";
+
+static void layouts(void) {
+    struct tera_source source = source_of("hi {{a|b}}"), open = source_of("{{ a"), text = source_of("{{ 'a }}");
+    size_t length = strlen(LAID_OUT), needed = 0;
+    char buffer[64];
+    memset(buffer, '*', sizeof buffer);
+    HOLDS(tera_format(&source, buffer, length - 1, &needed) == TERA_SHORT && needed == length);
+    HOLDS(tera_format(&open, buffer, sizeof buffer, &needed) == TERA_FAULTY && needed == 0);
+    HOLDS(tera_format(&text, buffer, sizeof buffer, &needed) == TERA_FAULTY && needed == 0);
+    HOLDS(is_left(buffer, 0, sizeof buffer));
+    HOLDS(tera_format(&source, buffer, length, &needed) == TERA_WRITTEN && needed == length);
+    HOLDS(memcmp(buffer, LAID_OUT, length) == 0 && is_left(buffer, length, sizeof buffer));
+    struct tera_source latin = source_of("\xff"), letters = source_of("a");
+    HOLDS(tera_format(&latin, buffer, sizeof buffer, &needed) == TERA_NOT_UTF8 && needed == 0);
+    letters.markers = "aabb{{}}{##}";
+    HOLDS(tera_tree(&letters, buffer, sizeof buffer, &needed) == TERA_WRITTEN);
+    HOLDS(tera_format(&letters, buffer, sizeof buffer, &needed) == TERA_BAD_MARKERS && needed == 0);
+}
+
+static struct tera_file file_of(const char *name, const char *text) {
+    struct tera_file file = {name, strlen(name), text, strlen(text)};
+    return file;
+}
+
+/* What a call writes of files. */
+typedef uint32_t telling(const struct tera_file *files, size_t count, void *text, size_t length, size_t *needed);
+
+static uint32_t check_first(const struct tera_file *files, size_t count, void *text, size_t length, size_t *needed) {
+    return tera_check(files, count, count > 0, TERA_USUAL_FAULTS, text, length, needed);
+}
+
+static void buffers_of_files(telling *call, const char *begin, const char *of_none) {
+    struct tera_file files[] = {file_of("page.html", "{{ <ui.button/> }}"),
+                                file_of("ui.html", "{% component ui.button(label: string) %}{% endcomponent %}")};
+    char text[2048];
+    size_t needed = 0, length;
+    HOLDS(call(files, 2, NULL, 0, &length) == TERA_SHORT && length > strlen(begin) && length < sizeof text);
+    memset(text, '*', sizeof text);
+    HOLDS(call(files, 2, text, length - 1, &needed) == TERA_SHORT && needed == length);
+    HOLDS(is_left(text, 0, sizeof text));
+    HOLDS(call(files, 2, text, length, &needed) == TERA_WRITTEN && needed == length);
+    HOLDS(memcmp(text, begin, strlen(begin)) == 0 && is_left(text, length, sizeof text));
+    HOLDS(call(NULL, 2, text, sizeof text, &needed) == TERA_WRITTEN && needed == strlen(of_none));
+    HOLDS(memcmp(text, of_none, needed) == 0);
+    files[1].name = "\xff";
+    files[1].name_length = 1;
+    memset(text, '*', sizeof text);
+    HOLDS(call(files, 2, text, sizeof text, &needed) == TERA_NOT_UTF8 && needed == 0);
+    files[1] = file_of("ui.html", "\xff");
+    HOLDS(call(files, 2, text, sizeof text, &needed) == TERA_NOT_UTF8 && is_left(text, 0, sizeof text));
+}
+
+static void files_together(void) {
+    buffers_of_files(check_first, "{\"file\":\"page.html\",\"line\":1,\"column\":4,", "");
+    buffers_of_files(tera_components, "[", "[]\n");
+    struct tera_file library = file_of("ui.html", "{{ a b }}");
+    size_t needed = 0;
+    HOLDS(tera_check(&library, 1, 0, TERA_USUAL_FAULTS, NULL, 0, &needed) == TERA_SHORT && needed > 0);
+    struct tera_file wrong = file_of("a.html", "{{ a b }}{{ c d }}");
+    size_t first = 0;
+    HOLDS(tera_check(&wrong, 1, 1, 0, NULL, 0, &first) == TERA_SHORT);
+    HOLDS(tera_check(&wrong, 1, 1, TERA_USUAL_FAULTS, NULL, 0, &needed) == TERA_SHORT && needed > first);
+}
+
+static int begins(const char *text, const char *front) { return memcmp(text, front, strlen(front)) == 0; }
+
+static void trees_with_faults(void) {
+    static const char empty[] = "{\"tree\":{\"parent\":null,\"component_definitions\":[],\"nodes\":[]},"
+                                "\"faults\":[],\"more\":false}\n";
+    struct tera_file page = file_of("page.html", "{{ a b }}{{ c }}"), latin = file_of("page.html", "\xff");
+    struct tera_file unnamed = {"\xff", 1, "a", 1};
+    char text[1024];
+    size_t needed = 0, length;
+    HOLDS(tera_mend(&page, TERA_USUAL_FAULTS, NULL, 0, &length) == TERA_SHORT && length < sizeof text);
+    memset(text, '*', sizeof text);
+    HOLDS(tera_mend(&page, TERA_USUAL_FAULTS, text, length - 1, &needed) == TERA_SHORT && needed == length);
+    HOLDS(tera_mend(&latin, TERA_USUAL_FAULTS, text, sizeof text, &needed) == TERA_NOT_UTF8 && needed == 0);
+    HOLDS(tera_mend(&unnamed, TERA_USUAL_FAULTS, text, sizeof text, &needed) == TERA_NOT_UTF8 && needed == 0);
+    HOLDS(is_left(text, 0, sizeof text));
+    HOLDS(tera_mend(&page, TERA_USUAL_FAULTS, text, length, &needed) == TERA_WRITTEN && needed == length);
+    HOLDS(begins(text, "{\"tree\":{\"parent\":null,") && is_left(text, length, sizeof text));
+    HOLDS(tera_mend(&page, 0, text, sizeof text, NULL) == TERA_WRITTEN && begins(text, "{\"tree\":null,\"faults\":[{"));
+    HOLDS(tera_mend(NULL, TERA_USUAL_FAULTS, text, sizeof text, &needed) == TERA_WRITTEN);
+    HOLDS(needed == strlen(empty) && begins(text, empty));
+}
+
 /* A call that writes a tree. */
 typedef uint32_t writing(const struct tera_source *source, void *text, size_t length, size_t *needed);
 
@@ -223,6 +310,22 @@ static long refusals_of(writing *call, const struct tera_source *source, char *t
     }
 }
 
+/* What is found in one file, and its components. */
+static uint32_t check_source(const struct tera_source *source, void *text, size_t length, size_t *needed) {
+    struct tera_file file = {"a.html", 6, source->bytes, source->length};
+    return tera_check(&file, 1, 1, TERA_USUAL_FAULTS, text, length, needed);
+}
+
+static uint32_t components_of_source(const struct tera_source *source, void *text, size_t length, size_t *needed) {
+    struct tera_file file = {"a.html", 6, source->bytes, source->length};
+    return tera_components(&file, 1, text, length, needed);
+}
+
+static uint32_t mend_source(const struct tera_source *source, void *text, size_t length, size_t *needed) {
+    struct tera_file file = {"a.html", 6, source->bytes, source->length};
+    return tera_mend(&file, TERA_USUAL_FAULTS, text, length, needed);
+}
+
 /* Each call that may find no memory is answered so, or as ever, where the memory that is refused is not needed. */
 static void scarce_memory(void) {
     struct tera_source source = source_of(TWICE), whole = source_of(GREETING);
@@ -233,6 +336,13 @@ static void scarce_memory(void) {
     HOLDS(needed == strlen(GREETING_TREE) && memcmp(buffer, GREETING_TREE, needed) == 0);
     HOLDS(refusals_of(tera_json, &whole, json, sizeof json, &needed) > 6);
     HOLDS(needed == strlen(GREETING_JSON) && memcmp(json, GREETING_JSON, needed) == 0);
+    struct tera_source loose = source_of("hi {{a|b}}");
+    HOLDS(refusals_of(tera_format, &loose, buffer, sizeof buffer, &needed) > 1);
+    HOLDS(needed == strlen(LAID_OUT) && memcmp(buffer, LAID_OUT, needed) == 0);
+    HOLDS(refusals_of(check_source, &source, json, sizeof json, &needed) > 6 && needed > 0);
+    HOLDS(refusals_of(components_of_source, &whole, json, sizeof json, &needed) > 1 && needed > 0);
+    struct tera_source faulty = source_of("{{ a b }}");
+    HOLDS(refusals_of(mend_source, &faulty, json, sizeof json, &needed) > 6 && needed > 0);
     for (long calls = 0;; calls++) {
         granted = calls;
         enum tera_status told = tera_fault(&source, buffer, sizeof buffer, &needed, &fault);
@@ -251,6 +361,9 @@ int main(void) {
     notes();
     refusals();
     others();
+    layouts();
+    files_together();
+    trees_with_faults();
     long_chain();
     scarce_memory();
     return 0;

@@ -1,21 +1,19 @@
 //! Prints the tree of each template, with --json as JSON, or its fault: answer [--json] [--markers TWELVE] FILE..
-mod tera;
-
 use std::io::Write;
 use std::process::ExitCode;
-use tera::{Fault, Refusal, Source};
+use tera_parser::{Error, Fault, Source};
 
 fn fault_text(fault: &Fault) -> String {
-    let p = &fault.place;
+    let p = &fault.span;
     let mut text = format!(
         "syntax error at {}:{} ({}..{}): {}\nends at {}:{}\n",
-        p.start_line, p.start_column, p.start, p.end, fault.text, p.end_line, p.end_column
+        p.start_line, p.start_col, p.start, p.end, fault.message, p.end_line, p.end_col
     );
     for note in &fault.notes {
-        let (label, p) = (&note.label, &note.place);
+        let (label, p) = (&note.label, &note.span);
         text += &format!(
             "note {label} at {}:{}-{}:{} {}..{}\n",
-            p.start_line, p.start_column, p.end_line, p.end_column, p.start, p.end
+            p.start_line, p.start_col, p.end_line, p.end_col, p.start, p.end
         );
     }
     text
@@ -32,9 +30,9 @@ fn answer(name: &str, markers: Option<&str>, as_json: bool) -> (u8, String) {
     let told = if as_json { source.json().map(|json| json + "\n") } else { source.tree() };
     match told {
         Ok(text) => (0, text),
-        Err(Refusal::Fault(fault)) => (1, fault_text(&fault)),
-        Err(refusal) => {
-            eprintln!("{name}: {refusal}");
+        Err(Error::Fault(fault)) => (1, fault_text(&fault)),
+        Err(error) => {
+            eprintln!("{name}: {error}");
             (2, String::new())
         }
     }

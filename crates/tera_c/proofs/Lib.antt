@@ -1,1 +1,2 @@
 pub mod WithoutTree
+pub mod FileLemmas

@@ -8,7 +8,13 @@ use crate::status::Status;
 pub(crate) fn put(text: &str, buffer: &mut [u8], needed: &mut usize) -> Status
     ensures { IsPut text.now result buffer.old buffer.new needed.new }
 {
-    let bytes = text.as_bytes();
+    put_bytes(text.as_bytes(), buffer, needed)
+}
+
+/// Puts the bytes of a text there, in the same way.
+pub(crate) fn put_bytes(bytes: &[u8], buffer: &mut [u8], needed: &mut usize) -> Status
+    ensures { IsPut bytes.now result buffer.old buffer.new needed.new }
+{
     *needed = bytes.len();
     if bytes.len() > buffer.len() {
         return Status::Short;

@@ -7,12 +7,19 @@
 //! which it depends.
 //!
 //! In the order of reading: `status` and `shapes`, the types; specs `Statuses`, what a buffer holds, `Asked`, what can
-//! be read, and `Results`. Then `buffer`; `markers`; `parsed`, with specs `WithoutTree`; `trees`; `faults`.
+//! be read, and `Results`. Then `buffer`; `markers`; `parsed`, with specs `WithoutTree`; `trees`; `faults`; `layouts`,
+//! with specs `Layouts`; `files`, with specs `Files`; `findings` and `components`, with specs `FilesTogether`; `mended`,
+//! with specs `TreesWithFaults`.
 #![tactic(auto)]
 
 mod buffer;
+mod components;
 mod faults;
+mod files;
+mod findings;
+mod layouts;
 mod markers;
+mod mended;
 mod parsed;
 mod shapes;
 mod status;
@@ -20,13 +27,20 @@ mod trees;
 
 ghost use Rattle.std.specs.Prelude.{◌≡◌};
 ghost use Rattle.tera_c.specs.Asked.{limits_at};
+ghost use Rattle.tera_c.specs.FilesTogether.{WritesFindings, WritesComponents};
+ghost use Rattle.tera_c.specs.Layouts.{WritesLayout};
 ghost use Rattle.tera_c.specs.Statuses.{number_of};
 ghost use Rattle.tera_c.specs.Results.{WritesTree, WritesJson, WritesFault, WritesNote};
+ghost use Rattle.tera_c.specs.TreesWithFaults.{WritesTreeLine};
 
-use buffer::put;
+use buffer::{put, put_bytes};
+use components::components_in;
 use faults::{put_fault, put_note};
+use findings::findings_in;
+use layouts::layout_of;
+use mended::tree_line_in;
 use parsed::{Refusal, parsed};
-pub use shapes::{AskedLimits, Fault, Place};
+pub use shapes::{AskedFile, AskedLimits, Fault, Place};
 pub use status::Status;
 use std::alloc::Global;
 use trees::{json_of, tree_of};
@@ -125,5 +139,90 @@ pub extern "C" fn tera_c_note(
         Ok(_) => Status::Nothing.number(),
         Err(Refusal::Fault(report)) => put_note(&report, index, text, needed, place).number(),
         Err(Refusal::NoResult(status)) => status.number(),
+    }
+}
+
+/// Writes the layout of the source.
+///
+/// What is needed is reported in any case, and 0 where nothing is to be written.
+#[unsafe(no_mangle)]
+pub extern "C" fn tera_c_format(
+    alloc: Global,
+    source: &[u8],
+    markers: &[u8],
+    text: &mut [u8],
+    needed: &mut usize,
+) -> u32
+    ensures { (status : Status) × (result ≡ number_of status)
+        × WritesLayout markers.now source.now status text.old text.new needed.new }
+{
+    *needed = 0;
+    match layout_of(alloc, source, markers) {
+        Ok(layout) => put(layout.as_str(), text, needed).number(),
+        Err(status) => status.number(),
+    }
+}
+
+/// Writes what is found in the files, an object of JSON a line: at most so many faults of each. The files after the first
+/// `checked` are a library: of them the faults alone are found, and their components may be called.
+///
+/// What is needed is reported in any case, and 0 where nothing is to be written.
+#[unsafe(no_mangle)]
+pub extern "C" fn tera_c_check(
+    alloc: Global,
+    files: &[AskedFile<'_>],
+    checked: usize,
+    faults: usize,
+    text: &mut [u8],
+    needed: &mut usize,
+) -> u32
+    ensures { (status : Status) × (result ≡ number_of status)
+        × WritesFindings checked faults files.now status text.old text.new needed.new }
+{
+    *needed = 0;
+    match findings_in(alloc, files, checked, faults) {
+        Ok(found) => put_bytes(found.as_slice(), text, needed).number(),
+        Err(status) => status.number(),
+    }
+}
+
+/// Writes the components that the files define, as an array of JSON.
+///
+/// What is needed is reported in any case, and 0 where nothing is to be written.
+#[unsafe(no_mangle)]
+pub extern "C" fn tera_c_components(
+    alloc: Global,
+    files: &[AskedFile<'_>],
+    text: &mut [u8],
+    needed: &mut usize,
+) -> u32
+    ensures { (status : Status) × (result ≡ number_of status)
+        × WritesComponents files.now status text.old text.new needed.new }
+{
+    *needed = 0;
+    match components_in(alloc, files) {
+        Ok(found) => put_bytes(found.as_slice(), text, needed).number(),
+        Err(status) => status.number(),
+    }
+}
+
+/// Writes the tree of the file, whatever faults it has, and at most so many of these, as a line of JSON.
+///
+/// What is needed is reported in any case, and 0 where nothing is to be written.
+#[unsafe(no_mangle)]
+pub extern "C" fn tera_c_mend(
+    alloc: Global,
+    file: &AskedFile<'_>,
+    faults: usize,
+    text: &mut [u8],
+    needed: &mut usize,
+) -> u32
+    ensures { (status : Status) × (result ≡ number_of status)
+        × WritesTreeLine faults file.now status text.old text.new needed.new }
+{
+    *needed = 0;
+    match tree_line_in(alloc, file, faults) {
+        Ok(line) => put_bytes(line.as_slice(), text, needed).number(),
+        Err(status) => status.number(),
     }
 }

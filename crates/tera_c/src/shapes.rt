@@ -30,3 +30,11 @@ pub struct Fault {
     pub place: Place,
     pub notes: usize,
 }
+
+/// A template and the name of its file, each as bytes of UTF-8.
+#[repr(C)]
+#[derive(Clone, Copy)]
+pub struct AskedFile<'a> {
+    pub name: &'a [u8],
+    pub source: &'a [u8],
+}

@@ -2,6 +2,9 @@
 
 ghost use Rattle.std.specs.Prelude.{◌≡◌};
 ghost use Rattle.tera_c.specs.Statuses.{number_of};
+ghost use Rattle.tera_c.specs.declared.status.Status.TheVariants.{Memory};
+
+use std::alloc::AllocError;
 
 /// What a call comes to.
 #[derive(Clone, Copy, Debug, PartialEq, Eq)]
@@ -22,6 +25,14 @@ pub enum Status {
     BadLimits,
     /// An allocation failed.
     Memory,
+}
+
+impl From<AllocError> for Status {
+    ghost from_gives = { λ _ status. status ≡ Memory };
+
+    fn from(_error: AllocError) -> Status {
+        Status::Memory
+    }
 }
 
 impl Status {

@@ -1,0 +1,10 @@
+# Versions with the same first number are compatible, and below 1 those with the same second number, unless older.
+set(PACKAGE_VERSION "@VERSION@")
+string(REGEX MATCH "^(0\\.)?[0-9]+" _tera_parser_kind "${PACKAGE_VERSION}")
+string(REGEX MATCH "^(0\\.)?[0-9]+" _tera_parser_asked "${PACKAGE_FIND_VERSION}")
+if(_tera_parser_kind STREQUAL _tera_parser_asked AND NOT PACKAGE_VERSION VERSION_LESS PACKAGE_FIND_VERSION)
+  set(PACKAGE_VERSION_COMPATIBLE TRUE)
+  if(PACKAGE_VERSION VERSION_EQUAL PACKAGE_FIND_VERSION)
+    set(PACKAGE_VERSION_EXACT TRUE)
+  endif()
+endif()
