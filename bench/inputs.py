@@ -56,7 +56,7 @@ def site():
 
 
 def tree(depth):
-    """A component with a body, in which stand components, down to one without a body."""
+    """A component with a body, with components inside, down to one without a body."""
     number = random.randrange(40)
     if depth == 0:
         return f'<b>{{{{ <ui.icon name="i{number}" size={{{number}}} label={{item.label}}/> }}}}</b>'

@@ -93,7 +93,7 @@ static const char *reason(enum tera_status status) {
     }
 }
 
-/* Prints the answer to one file: 0 for a tree, 1 for a fault, 2 where neither could be told. */
+/* Prints the answer to one file: 0 for a tree, 1 for a fault, 2 if there was no answer. */
 static int answer(const char *name, const char *markers, long what) {
     struct bytes file = read_file(name);
     if (file.at == NULL) {
