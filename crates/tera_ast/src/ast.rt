@@ -5,8 +5,9 @@
 
 ghost use Rattle.std.specs.Prelude.{◌≡◌, false, MatchResult};
 ghost use Rattle.tera_ast.specs.declared.ast.Node.TheVariants as nodes;
-ghost use Rattle.tera_ast.specs.Form.{constant_in, is_if};
+ghost use Rattle.tera_ast.specs.Form.{constant_in, expression_from, is_if, node_from};
 
+use crate::forms::{ExpressionForm, NodeForm};
 use std::collections::BTreeMap;
 use tera_base::{Key, Spanned, Value};
 
@@ -72,6 +73,29 @@ impl Expression {
             _other => None,
         }
     }
+
+    /// What it is, with its parts.
+    pub fn into_form(self) -> ExpressionForm
+        ensures { expression_from result ≡ self }
+    {
+        match self {
+            Expression::Const(it) => ExpressionForm::Const(it),
+            Expression::Array(it) => ExpressionForm::Array(it),
+            Expression::Map(it) => ExpressionForm::Map(it),
+            Expression::Var(it) => ExpressionForm::Var(it),
+            Expression::GetAttr(it) => ExpressionForm::GetAttr(it),
+            Expression::GetItem(it) => ExpressionForm::GetItem(it),
+            Expression::Slice(it) => ExpressionForm::Slice(it),
+            Expression::Filter(it) => ExpressionForm::Filter(it),
+            Expression::Test(it) => ExpressionForm::Test(it),
+            Expression::Ternary(it) => ExpressionForm::Ternary(it),
+            Expression::ListComprehension(it) => ExpressionForm::ListComprehension(it),
+            Expression::ComponentCall(it) => ExpressionForm::ComponentCall(it),
+            Expression::FunctionCall(it) => ExpressionForm::FunctionCall(it),
+            Expression::UnaryOperation(it) => ExpressionForm::UnaryOperation(it),
+            Expression::BinaryOperation(it) => ExpressionForm::BinaryOperation(it),
+        }
+    }
 }
 
 // What is dropped of a tree is dropped by these, so that a crate that owns one has no drops of its parts to prove.
@@ -123,6 +147,25 @@ impl Node {
         match self {
             Node::If(chosen) => Ok(chosen),
             other => Err(other),
+        }
+    }
+
+    /// What it is, with its parts.
+    pub fn into_form(self) -> NodeForm
+        ensures { node_from result ≡ self }
+    {
+        match self {
+            Node::Content(it) => NodeForm::Content(it),
+            Node::Expression(it) => NodeForm::Expression(it),
+            Node::Set(it) => NodeForm::Set(it),
+            Node::BlockSet(it) => NodeForm::BlockSet(it),
+            Node::Include(it) => NodeForm::Include(it),
+            Node::Block(it) => NodeForm::Block(it),
+            Node::ForLoop(it) => NodeForm::ForLoop(it),
+            Node::Break => NodeForm::Break,
+            Node::Continue => NodeForm::Continue,
+            Node::If(it) => NodeForm::If(it),
+            Node::FilterSection(it) => NodeForm::FilterSection(it),
         }
     }
 }

@@ -4,14 +4,15 @@
 //! and the text of an expression. `expression_view` and `node_view` are what they represent, wherever they are in
 //! memory. It depends on `tera_base`, and `tera_tree` re-exports its public names.
 //!
-//! In the order of reading: `ast`, the types; `build`, which makes them; `read`, what the form alone says; `show` and
-//! `parts`, their texts; specs `Tree`, `View` and `Text`. Then `comparison`, `copies` and `laws`.
+//! In the order of reading: `ast`, the types; `build`, which makes them; `read`, what the form alone says, and `forms`, to
+//! match them by value; `show` and `parts`, their texts; specs `Tree`, `View` and `Text`. Then `comparison`, `copies` and `laws`.
 #![tactic(auto)]
 
 mod ast;
 pub mod build;
 mod comparison;
 mod copies;
+mod forms;
 pub mod laws;
 mod parts;
 mod read;
@@ -25,4 +26,5 @@ pub use ast::{
     Slice, SliceOf, Ternary, TernaryOf, Test, TestOf, UnaryOperation, UnaryOperationOf,
     UnaryOperator, Var,
 };
+pub use forms::{ExpressionForm, NodeForm};
 pub use parts::{WithArguments, WithAttributes};

@@ -95,7 +95,8 @@ fn nodes_equal_with_their_places(rt: HostRuntime) -> Result<(), Fail> {
         range: 5..0,
         ..place()
     };
-    assert!(rt; a.into_parts() == (7, expanded));
+    *a.node_mut() = 8;
+    assert!(rt; a.into_parts() == (8, expanded));
     Ok(())
 }
 

@@ -39,10 +39,11 @@ pub mod ast {
         ArgType as Type, Array, ArrayEntry, ArrayEntryOf, ArrayOf, BinaryOperation,
         BinaryOperationOf, BinaryOperator, Block, BlockOf, BlockSet, ComponentArg,
         ComponentArgType, ComponentArgument, ComponentCall, ComponentDefinition, ComponentInfo,
-        Expression, Filter, FilterOf, FilterSection, ForLoop, FunctionCall, FunctionCallOf,
-        GetAttr, GetAttrOf, GetItem, GetItemOf, If, Include, ListComprehension,
-        ListComprehensionOf, Map, MapEntry, MapEntryOf, MapOf, Node, Set, SetOf, Slice, SliceOf,
-        Ternary, TernaryOf, Test, TestOf, UnaryOperation, UnaryOperationOf, UnaryOperator, Var,
+        Expression, ExpressionForm, Filter, FilterOf, FilterSection, ForLoop, FunctionCall,
+        FunctionCallOf, GetAttr, GetAttrOf, GetItem, GetItemOf, If, Include, ListComprehension,
+        ListComprehensionOf, Map, MapEntry, MapEntryOf, MapOf, Node, NodeForm, Set, SetOf, Slice,
+        SliceOf, Ternary, TernaryOf, Test, TestOf, UnaryOperation, UnaryOperationOf, UnaryOperator,
+        Var,
     };
 }
 

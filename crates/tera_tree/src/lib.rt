@@ -28,9 +28,9 @@ pub use infos::ComponentInfo;
 pub use outputs::ParserOutput;
 pub use tera_ast::{
     Array, ArrayEntry, ArrayEntryOf, ArrayOf, BinaryOperation, BinaryOperationOf, BinaryOperator,
-    Block, BlockOf, BlockSet, ComponentCall, Expression, Filter, FilterOf, FilterSection, ForLoop,
-    FunctionCall, FunctionCallOf, GetAttr, GetAttrOf, GetItem, GetItemOf, If, Include,
-    ListComprehension, ListComprehensionOf, Map, MapEntry, MapEntryOf, MapOf, Node, Set, SetOf,
-    Slice, SliceOf, Ternary, TernaryOf, Test, TestOf, UnaryOperation, UnaryOperationOf,
-    UnaryOperator, Var, WithArguments, WithAttributes, build,
+    Block, BlockOf, BlockSet, ComponentCall, Expression, ExpressionForm, Filter, FilterOf,
+    FilterSection, ForLoop, FunctionCall, FunctionCallOf, GetAttr, GetAttrOf, GetItem, GetItemOf,
+    If, Include, ListComprehension, ListComprehensionOf, Map, MapEntry, MapEntryOf, MapOf, Node,
+    NodeForm, Set, SetOf, Slice, SliceOf, Ternary, TernaryOf, Test, TestOf, UnaryOperation,
+    UnaryOperationOf, UnaryOperator, Var, WithArguments, WithAttributes, build,
 };

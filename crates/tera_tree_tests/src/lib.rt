@@ -1,6 +1,8 @@
-//! Tests of trees and definitions that are made by hand: printed texts, JSON, long chains, types, contexts, and parts.
+//! Tests of trees and definitions that are made by hand: printed texts, JSON, long chains, types, contexts, parts, and matches by value.
 #![tactic(auto)]
 
+#[cfg(test)]
+mod by_value;
 #[cfg(test)]
 mod chains;
 #[cfg(test)]
