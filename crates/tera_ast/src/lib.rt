@@ -4,8 +4,9 @@
 //! and the text of an expression. `expression_view` and `node_view` are what they represent, wherever they are in
 //! memory. It depends on `tera_base`, and `tera_tree` re-exports its public names.
 //!
-//! In the order of reading: `ast`, the types; `build`, which makes them; `read`, what the form alone says, and `forms`, to
-//! match them by value; `show` and `parts`, their texts; specs `Tree`, `View` and `Text`. Then `comparison`, `copies` and `laws`.
+//! In the order of reading: `ast`, the types; `forms`, to match them by value; `build`, which makes them; `read`, what
+//! the form alone says; `show` and `parts`, their texts; specs `Tree`, `View` and `Text`. Then `comparison`, `copies`
+//! and `laws`.
 #![tactic(auto)]
 
 mod ast;

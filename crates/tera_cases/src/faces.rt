@@ -19,7 +19,7 @@ pub(crate) fn broken(
             break;
         };
         if !has_one_face(alloc, part)? {
-            return Ok(Some("an expression with another text than what stands in it"));
+            return Ok(Some("an expression with another text than what is in it"));
         }
         part.push_inside(&mut left)?;
     }

@@ -24,6 +24,7 @@ mod spans;
 mod subject;
 mod tokens;
 mod trees;
+mod words;
 mod written;
 
 use crate::subject::{Count, Stop, compare_all};

@@ -5,6 +5,7 @@ use crate::beginnings::{Beginning, beginning_of};
 use crate::refusals::wrong_refusals;
 use crate::settings::{Setting, setting_of, source_of_case};
 use crate::soundness::{Soundness, soundness_of};
+use crate::words::are_listed;
 use case_files::{Case, Options, Section, Shown};
 use std::alloc::AllocError;
 
@@ -80,7 +81,7 @@ fn compare_cases(
     Ok(())
 }
 
-// Whether the answer is the one that is wanted, and what else is asked of the case holds.
+// Whether the answer is the one that is expected, and what else is asked of the case holds.
 fn compare(
     rt: &HostRuntime,
     setting: &Setting<'_>,
@@ -108,7 +109,8 @@ fn compare(
     compare_tree(rt, setting, case, source, count)
 }
 
-// Whether the tree of the source, if it has one, is sound, and each beginning of the source has an answer.
+// Whether the tree of the source, if it has one, is sound, the words of its tags are listed, and each beginning of the
+// source has an answer.
 fn compare_tree(
     rt: &HostRuntime,
     setting: &Setting<'_>,
@@ -119,6 +121,10 @@ fn compare_tree(
     match soundness_of(rt.alloc(), setting, source)? {
         Soundness::NoTree => Ok(true),
         Soundness::Broken(what) => fails(rt, setting.file, case, what),
+        Soundness::Sound if !are_listed(rt.alloc(), setting, source)? => {
+            let what = "a tag whose word is not among those of statements";
+            fails(rt, setting.file, case, what)
+        }
         Soundness::Sound => cut(rt, setting, case, source, count),
     }
 }
@@ -160,7 +166,7 @@ fn differs(
 ) -> Result<bool, Stop> {
     let line = case.line;
     let expected = case.expected.as_str();
-    match println!(rt; "{file}:{line}: {source:?}\n  wanted {expected:?}\n  found  {found:?}") {
+    match println!(rt; "{file}:{line}: {source:?}\n  expected {expected:?}\n  found    {found:?}") {
         Ok(()) => Ok(false),
         Err(_) => Err(Stop::Write),
     }
@@ -176,8 +182,8 @@ fn fails(rt: &HostRuntime, file: &str, case: &Case, what: &str) -> Result<bool, 
 
 fn badly_cut(rt: &HostRuntime, file: &str, case: &Case, at: usize) -> Result<bool, Stop> {
     let line = case.line;
-    let what = "neither a tree nor a fault that stands in it";
-    match println!(rt; "{file}:{line}: cut off behind {at} bytes it has {what}") {
+    let what = "neither a tree nor a fault that is in it";
+    match println!(rt; "{file}:{line}: cut off after {at} bytes it has {what}") {
         Ok(()) => Ok(false),
         Err(_) => Err(Stop::Write),
     }

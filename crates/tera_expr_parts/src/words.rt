@@ -3,12 +3,14 @@
 ghost use Rattle.std.specs.Prelude.{◌≡◌};
 ghost use Rattle.tera_grammar.specs.Words.{is_none, is_not, is_reserved};
 
+use tera_lexer::words;
+
 /// Whether the name is a word for no value.
 #[tactic(auto, unfolding(crate::specs::Unfold::is_none))]
 pub fn is_none(name: &str) -> bool
     ensures { result ≡ is_none name.now }
 {
-    matches!(name.as_bytes(), b"none" | b"None" | b"null")
+    words::is_none(name)
 }
 
 /// Whether the name is the negation.
@@ -23,19 +25,7 @@ pub fn is_not(name: &str) -> bool
 pub(crate) fn is_reserved(name: &str) -> bool
     ensures { result ≡ is_reserved name.now }
 {
-    matches!(
-        name,
-        "loop"
-            | "self"
-            | "and"
-            | "or"
-            | "not"
-            | "is"
-            | "in"
-            | "continue"
-            | "break"
-            | "none"
-            | "None"
-            | "null"
-    )
+    matches!(name, "loop" | "self" | "continue" | "break")
+        || words::is_operator(name)
+        || words::is_none(name)
 }

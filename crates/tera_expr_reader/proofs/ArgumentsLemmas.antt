@@ -8,7 +8,8 @@ use Rattle.std.proofs.lemmas.List.Folds.{list_any-append}
 use Rattle.std.proofs.lemmas.Slice.Eq.{bytes_eq-Decides}
 use Rattle.tera_base.specs.declared.utils.Span.{Span}
 use Rattle.tera_ast.specs.Tree.{Expr, Args, NoArgs, Arg}
-use Rattle.tera_grammar.specs.Words.{is_one_of, are_distinct}
+use Rattle.tera_lexer.specs.grammar.Words.{is_one_of}
+use Rattle.tera_grammar.specs.Words.{are_distinct}
 use Rattle.tera_grammar.specs.expressions.Concrete.{Name, Tree, Row, ended, only, then, argument}
 use Rattle.tera_grammar.specs.expressions.Conditions.{argument_names}
 use Rattle.tera_grammar.specs.expressions.Output.{output, arguments_output, put_arg}

@@ -10,7 +10,8 @@ use Rattle.tera_ast.specs.Tree.{Expr}
 use Rattle.tera_ast.specs.View.{expression_view}
 use Rattle.tera_ast.specs.declared.ast.Expression.{Expression}
 use Rattle.tera_grammar.specs.Options.{◌>>=◌}
-use Rattle.tera_grammar.specs.Words.{is_none, is_not, is_one_of}
+use Rattle.tera_lexer.specs.grammar.Words.{is_one_of}
+use Rattle.tera_grammar.specs.Words.{is_none, is_not}
 use Rattle.tera_grammar.specs.expressions.Reading.Front.{Takes}
 use Rattle.tera_expect.specs.Taking.{Took}
 

@@ -1,7 +1,8 @@
 -- Lists of names with no two equal, and the test for them.
 use Rattle.std.proofs.Common.{◌≡◌, ◌≢◌, ℕ, true, false, List, [], ◌∷◌, refl}
 use Rattle.std.specs.List.{AllByRecursion}
-use Rattle.tera_grammar.specs.Words.{is_one_of, are_distinct, AreDistinct}
+use Rattle.tera_lexer.specs.grammar.Words.{is_one_of}
+use Rattle.tera_grammar.specs.Words.{are_distinct, AreDistinct}
 use Rattle.tera_grammar.proofs.Options.{not_ok, or_false, and_ok, bytes_apart, bytes_differ}
 
 apart_ok : (n : List ℕ) (ns : List (List ℕ)) → is_one_of ns n ≡ false → AllByRecursion (λ m. n ≢ m) ns

@@ -1,14 +1,12 @@
 -- The names that mean something.
-use Rattle.std.specs.Prelude.{◌≢◌, ℕ, Bool, true, not, ◌&&◌, List, [], ◌∷◌, codes}
+use Rattle.std.specs.Prelude.{◌≢◌, ℕ, Bool, true, not, ◌&&◌, ◌||◌, List, [], ◌∷◌, codes}
 use Rattle.std.specs.Str.{bytes_eq}
-use Rattle.std.specs.List.{list_any, AllByRecursion}
-
-abbrev pub is_one_of : List (List ℕ) → List ℕ → Bool
-is_one_of names name = list_any (λ n. bytes_eq name n) names
+use Rattle.std.specs.List.{AllByRecursion}
+use Rattle.tera_lexer.specs.grammar.Words.{is_one_of, none_words, operator_words}
 
 -- the words for no value, and the negation, which name no variable
 unfoldable pub is_none : List ℕ → Bool
-is_none name = is_one_of (codes "none" ∷ codes "None" ∷ codes "null" ∷ []) name
+is_none name = is_one_of none_words name
 
 abbrev pub is_not : List ℕ → Bool
 is_not name = bytes_eq name (codes "not")
@@ -16,8 +14,7 @@ is_not name = bytes_eq name (codes "not")
 -- the names that no variable of a loop or of a comprehension has
 unfoldable pub is_reserved : List ℕ → Bool
 is_reserved name =
-    is_one_of (codes "loop" ∷ codes "self" ∷ codes "and" ∷ codes "or" ∷ codes "not" ∷ codes "is" ∷ codes "in" ∷ codes "continue"
-    ∷ codes "break" ∷ codes "none" ∷ codes "None" ∷ codes "null" ∷ []) name
+    is_one_of (codes "loop" ∷ codes "self" ∷ codes "continue" ∷ codes "break" ∷ operator_words) name || is_one_of none_words name
 
 -- what a loop reports itself
 abbrev pub is_loop : List ℕ → Bool

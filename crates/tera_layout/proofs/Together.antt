@@ -20,7 +20,8 @@ use Rattle.tera_layout.specs.declared.sides.Owner.TheVariants.{Argument, Target,
 use Rattle.tera_layout.specs.declared.sides.Left.{Left}
 use Rattle.tera_layout.specs.Apart.{in_operator, in_end, last_from, first_from, may_touch, may_touch_first, meet_in_end}
 use Rattle.tera_layout.proofs.Likeness.{not_true, loose_last}
-use Rattle.tera_layout.specs.Sides.{operators, side_among, words, is_among, word_side, side_of, ends_a_value, has_no_slice, equals_of, are_together, placed}
+use Rattle.tera_lexer.specs.grammar.Words.{is_one_of}
+use Rattle.tera_layout.specs.Sides.{operators, side_among, words, word_side, side_of, ends_a_value, has_no_slice, equals_of, are_together, placed}
 
 -- what follows for one of two sides follows for the one that is taken
 either_side : (P : Side → Type 0) (b : Bool) (x y : Side) → P x → P y → P (if b then x else y)
@@ -55,7 +56,7 @@ side_any : (P : Lexeme → Side → Type 0) → ((b : ℕ) (bs : List ℕ) → P
     (l : Lexeme) → P l (side_of (token_of l))
 side_any P name word number string rows other (lexeme.Name b bs) =
     name_any (λ t. P (lexeme.Name b bs) (side_of t)) (b ∷ bs) (name b bs) (name b bs)
-    (either_side (P (lexeme.Name b bs)) (is_among words (b ∷ bs)) Word Name (word b bs) (name b bs))
+    (either_side (P (lexeme.Name b bs)) (is_one_of words (b ∷ bs)) Word Name (word b bs) (name b bs))
 side_any P name word number string rows other (lexeme.Number b bs) = number b bs
 side_any P name word number string rows other (lexeme.Quoted quote is) =
     ⊎_elim (λ escape. rw escape (string quote is)) (λ plain. rw plain (string quote is)) (cases_Bool (has_escape is))

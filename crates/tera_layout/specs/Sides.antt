@@ -1,9 +1,9 @@
 -- What the tokens of a tag are to those beside them, and which of them are together.
 use Rattle.std.specs.Prelude.{◌≡◌, ℕ, Bool, true, false, not, ◌&&◌, ◌||◌, if◌then◌else◌, List, [], ◌∷◌, codes}
 use Rattle.std.specs.Str.{bytes_eq}
-use Rattle.std.specs.List.{list_any}
 use Rattle.tera_lexer.specs.grammar.Tokens as toks
 use Rattle.tera_lexer.specs.grammar.Tokens.{Tok}
+use Rattle.tera_lexer.specs.grammar.Words.{is_one_of, operator_words}
 use Rattle.tera_layout.specs.declared.sides.Side.{Side}
 use Rattle.tera_layout.specs.declared.sides.Side.TheVariants.{Start, Outside, Word, Name, Number, Quoted, Paren, Bracket, Brace, Closing, ClosingBrace, Comma, Colon, Dot, Prefix, Equals, Minus, Less, Operator, Other}
 use Rattle.tera_layout.specs.declared.sides.Owner.{Owner}
@@ -28,14 +28,10 @@ side_among ((other, side) ∷ more) op = if bytes_eq op other then side else sid
 
 -- the words after which an expression begins; another name
 abbrev pub words : List (List ℕ)
-words =
-    codes "if" ∷ codes "elif" ∷ codes "else" ∷ codes "and" ∷ codes "or" ∷ codes "not" ∷ codes "in" ∷ codes "is" ∷ []
-
-abbrev pub is_among : List (List ℕ) → List ℕ → Bool
-is_among names name = list_any (λ n. bytes_eq name n) names
+words = codes "if" ∷ codes "elif" ∷ codes "else" ∷ operator_words
 
 abbrev pub word_side : List ℕ → Side
-word_side name = if is_among words name then Word else Name
+word_side name = if is_one_of words name then Word else Name
 
 -- what a token is to those beside it, wherever it is
 abbrev pub side_of : Tok → Side
@@ -174,7 +170,7 @@ placed l s = s
 -- whose the next `=` is after the first token of a tag: that of a name that is set, a parameter's, or an argument's
 abbrev pub owner_of : List ℕ → Owner
 owner_of name =
-    if is_among (codes "set" ∷ codes "set_global" ∷ []) name then Target
+    if is_one_of (codes "set" ∷ codes "set_global" ∷ []) name then Target
     else (if bytes_eq name (codes "component") then Parameter else Argument)
 
 abbrev pub owner_named : Tok → Owner

@@ -5,7 +5,7 @@ ghost use Rattle.tera_lexer.specs.code.Seen.{seen};
 ghost use Rattle.tera_layout.specs.Sides as sides;
 ghost use Rattle.tera_layout.specs.WrittenLayout.{is_finish, join_of};
 
-use tera_lexer::Token;
+use tera_lexer::{Token, words};
 
 /// What a token is to those beside it.
 #[derive(Clone, Copy)]
@@ -189,7 +189,8 @@ fn word_side(name: &str) -> Side
     ensures { result ≡ sides.word_side name.now }
 {
     match name {
-        "if" | "elif" | "else" | "and" | "or" | "not" | "in" | "is" => Side::Word,
+        "if" | "elif" | "else" => Side::Word,
+        _ if words::is_operator(name) => Side::Word,
         _ => Side::Name,
     }
 }

@@ -3,6 +3,7 @@ pub mod Place
 pub mod Marks
 pub mod Lexeme
 pub mod Raw
+pub mod Words
 pub mod Division
 pub mod Trimming
 pub mod Tokens

@@ -6,11 +6,13 @@
 //!
 //! In the order of reading, in the folder `lexer`: `tokens`, the types; `delimiters`, the markers; `stream`, the tokens
 //! of a source; `cursor`; specs `grammar`, what tokens a source has, `reading`, how they are found, and `code`, what
-//! the values of the code mean. Then what finds them: `scanner`, by `markers`, `lexeme` and `place`. Then `laws`.
+//! the values of the code mean. Then what finds them: `scanner`, by `markers`, `lexeme` and `place`. Then `words`, the
+//! words of the language, and `laws`.
 #![tactic(auto)]
 
 pub mod laws;
 mod lexer;
+pub mod words;
 
 pub use lexer::cursor::Cursor;
 pub use lexer::delimiters::Delimiters;

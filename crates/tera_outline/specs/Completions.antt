@@ -16,7 +16,8 @@ use Rattle.tera_outline.specs.declared.completions.Role.{Role}
 use Rattle.tera_outline.specs.declared.completions.Role.TheVariants.{Word, Equals, Opening, Closing, Ending, Outer, Value}
 use Rattle.tera_outline.specs.Pieces.{Part}
 use Rattle.tera_outline.specs.Dotted.{is_operator, dotted, end_of}
-use Rattle.tera_outline.specs.Names.{is_among, is_operand, is_string, after_token}
+use Rattle.tera_lexer.specs.grammar.Words.{is_one_of}
+use Rattle.tera_outline.specs.Names.{is_operand, is_string, after_token}
 
 -- the start of the first of these parts, or the end of the text
 abbrev pub gap_end : ℕ → List Part → ℕ
@@ -48,7 +49,7 @@ string_slot (p ∷ ps) =
     else None
 
 abbrev pub word_slot : List ℕ → List Part → Option Slot
-word_slot word ps = if is_among (codes "extends" ∷ codes "include" ∷ []) word then string_slot ps else None
+word_slot word ps = if is_one_of (codes "extends" ∷ codes "include" ∷ []) word then string_slot ps else None
 
 abbrev pub first_slot : Before → List ℕ → List Part → Option Slot
 first_slot Tag word ps = word_slot word ps
@@ -82,9 +83,9 @@ holds byte s = not (nat_lt byte s.from) && not (nat_lt s.end byte)
 abbrev pub role_of_operator : List ℕ → Role
 role_of_operator op =
     if bytes_eq op (codes "=") then Equals
-    else (if is_among (codes "{" ∷ codes "(" ∷ codes "[" ∷ []) op then Opening
-    else (if is_among (codes "}" ∷ codes ")" ∷ codes "]" ∷ []) op then Closing
-    else (if is_among (codes ">" ∷ codes "/" ∷ []) op then Ending
+    else (if is_one_of (codes "{" ∷ codes "(" ∷ codes "[" ∷ []) op then Opening
+    else (if is_one_of (codes "}" ∷ codes ")" ∷ codes "]" ∷ []) op then Closing
+    else (if is_one_of (codes ">" ∷ codes "/" ∷ []) op then Ending
     else Value)))
 
 abbrev pub role_of : Tok → Role

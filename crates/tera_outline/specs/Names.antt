@@ -2,8 +2,8 @@
 use Rattle.std.specs.Prelude.{ℕ, Bool, true, false, not, ◌&&◌, if◌then◌else◌, Option, Some, None, List, [], ◌∷◌, ◌++◌, codes, nat_lt, string_bytes, map}
 use Rattle.std.specs.Str.{bytes_eq}
 use Rattle.std.specs.Option.{option_to_list}
-use Rattle.std.specs.List.{list_any}
 use Rattle.tera_lexer.specs.grammar.Tokens.{Tok, Start, Ident, Str, Escaped, Integer, Truth, Symbol}
+use Rattle.tera_lexer.specs.grammar.Words.{is_one_of, operator_words}
 use Rattle.tera_lexer.specs.declared.lexer.delimiters.Kind.TheVariants.{Block}
 use Rattle.tera_outline.specs.declared.names.NameKind.{NameKind}
 use Rattle.tera_outline.specs.declared.names.NameKind.TheVariants.{Called, Closed, Defined, Extended, Included}
@@ -35,17 +35,12 @@ abbrev pub named : NameKind → List Part → Option Named
 named kind [] = None
 named kind (p ∷ ps) = Some (of_parts kind (p ∷ ps))
 
-abbrev pub is_among : List (List ℕ) → List ℕ → Bool
-is_among words name = list_any (λ w. bytes_eq name w) words
-
 -- the words with which no operand ends
 abbrev pub no_operands : List (List ℕ)
-no_operands =
-    codes "and" ∷ codes "or" ∷ codes "not" ∷ codes "in" ∷ codes "is" ∷ codes "if" ∷ codes "else" ∷ codes "elif"
-    ∷ codes "filter" ∷ []
+no_operands = codes "if" ∷ codes "else" ∷ codes "elif" ∷ codes "filter" ∷ operator_words
 
 abbrev pub after_word : List ℕ → Before
-after_word word = if is_among no_operands word then Other else Operand
+after_word word = if is_one_of no_operands word then Other else Operand
 
 -- after a slash a `>` ends the call of a component
 abbrev pub after_greater : Before → Before
@@ -54,7 +49,7 @@ after_greater before = Other
 
 abbrev pub after_operator : Before → List ℕ → Before
 after_operator before op =
-    if is_among (codes ")" ∷ codes "]" ∷ codes "}" ∷ []) op then Operand
+    if is_one_of (codes ")" ∷ codes "]" ∷ codes "}" ∷ []) op then Operand
     else (if bytes_eq op (codes "/") then Slash
     else (if bytes_eq op (codes ">") then after_greater before
     else Other))
@@ -88,7 +83,7 @@ is_operand before = false
 -- the name that the first word of a tag makes of what comes after it
 abbrev pub word_name : List ℕ → List Part → Option Named
 word_name word ps =
-    if is_among (codes "component" ∷ codes "endcomponent" ∷ []) word then named Defined (dotted ps)
+    if is_one_of (codes "component" ∷ codes "endcomponent" ∷ []) word then named Defined (dotted ps)
     else (if bytes_eq word (codes "extends") then named Extended (string ps)
     else (if bytes_eq word (codes "include") then named Included (string ps)
     else None))

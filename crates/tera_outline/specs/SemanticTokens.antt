@@ -2,6 +2,7 @@
 use Rattle.std.specs.Prelude.{◌≡◌, ◌+◌, ◌<◌, ◌≤◌, ◌++◌, ◌∷◌, ◌&&◌, ◌||◌, ◌==◌, ℕ, Bool, false, Option, Some, None, if◌then◌else◌, nat_lt, List, [], codes, length, slice_index, slice_range}
 use Rattle.std.specs.Str.{bytes_eq}
 use Rattle.tera_lexer.specs.grammar.Tokens.{Tok, Content, Start, Ident, Str, Escaped, Integer, Truth, Symbol}
+use Rattle.tera_lexer.specs.grammar.Words.{is_one_of, none_words, operator_words}
 use Rattle.tera_lexer.specs.declared.lexer.delimiters.Kind.TheVariants.{Block as BlockTag}
 use Rattle.tera_outline.specs.declared.names.Before.TheVariants as befores
 use Rattle.tera_outline.specs.declared.semantic_tokens.Context.{Context}
@@ -11,19 +12,18 @@ use Rattle.tera_outline.specs.declared.semantic_tokens.SemanticKind.{SemanticKin
 use Rattle.tera_outline.specs.declared.semantic_tokens.SemanticKind.TheVariants as kinds
 use Rattle.tera_outline.specs.declared.semantic_tokens.SemanticToken.{SemanticToken}
 use Rattle.tera_outline.specs.Dotted.{is_operator}
-use Rattle.tera_outline.specs.Names.{is_among, is_operand, after_token}
+use Rattle.tera_outline.specs.Names.{is_operand, after_token}
 use Rattle.tera_outline.specs.Pieces.{Part}
 
 -- the words of expressions
 abbrev pub is_keyword : List ℕ → Bool
 is_keyword word =
-    is_among (codes "and" ∷ codes "or" ∷ codes "not" ∷ codes "in" ∷ codes "is" ∷ codes "if" ∷ codes "else" ∷ codes "for"
-    ∷ codes "none" ∷ codes "None" ∷ codes "null" ∷ []) word
+    is_one_of (codes "if" ∷ codes "else" ∷ codes "for" ∷ operator_words) word || is_one_of none_words word
 
 -- the operators, and the marks of the call of a component
 abbrev pub is_coloured : List ℕ → Bool
 is_coloured op =
-    is_among (codes "+" ∷ codes "-" ∷ codes "*" ∷ codes "/" ∷ codes "//" ∷ codes "%" ∷ codes "**" ∷ codes "<" ∷ codes "<="
+    is_one_of (codes "+" ∷ codes "-" ∷ codes "*" ∷ codes "/" ∷ codes "//" ∷ codes "%" ∷ codes "**" ∷ codes "<" ∷ codes "<="
     ∷ codes ">" ∷ codes ">=" ∷ codes "==" ∷ codes "!=" ∷ codes "=" ∷ codes "~" ∷ codes "|" ∷ codes "</" ∷ []) op
 
 -- what a name is before an equals sign, and before a colon
@@ -81,8 +81,8 @@ kind_of lead t bytes ps = None
 -- what a name is led by after the word of a statement; and after another word
 abbrev pub statement_lead : List ℕ → Lead
 statement_lead word =
-    if is_among (codes "component" ∷ codes "endcomponent" ∷ []) word then Component
-    else (if is_among (codes "block" ∷ codes "endblock" ∷ []) word then Block
+    if is_one_of (codes "component" ∷ codes "endcomponent" ∷ []) word then Component
+    else (if is_one_of (codes "block" ∷ codes "endblock" ∷ []) word then Block
     else (if bytes_eq word (codes "filter") then Bar
     else Statement))
 
@@ -112,7 +112,7 @@ operator_lead c op =
     else (if bytes_eq op (codes ".") then dot_lead c.lead
     else (if bytes_eq op (codes "?.") then Dot
     else (if bytes_eq op (codes "|") then Bar
-    else (if is_among (codes "(" ∷ codes "," ∷ codes "@" ∷ []) op then Comma
+    else (if is_one_of (codes "(" ∷ codes "," ∷ codes "@" ∷ []) op then Comma
     else (if bytes_eq op (codes ":") then colon_lead c.lead
     else Other))))))
 

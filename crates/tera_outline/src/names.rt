@@ -10,7 +10,7 @@ ghost use Rattle.tera_outline.specs.Names.{name_view, found_view, names_of};
 use crate::dotted::{dotted, end_of, start_of, text_of};
 use crate::pieces::Piece;
 use std::alloc::{AllocError, Global};
-use tera_lexer::Token;
+use tera_lexer::{Token, words};
 
 /// What is there by its name.
 #[derive(Clone, Copy, Debug, PartialEq, Eq)]
@@ -108,7 +108,8 @@ fn after_word(word: &str) -> Before
     ensures { result ≡ specs.after_word word.now }
 {
     match word {
-        "and" | "or" | "not" | "in" | "is" | "if" | "else" | "elif" | "filter" => Before::Other,
+        "if" | "else" | "elif" | "filter" => Before::Other,
+        _ if words::is_operator(word) => Before::Other,
         _ => Before::Operand,
     }
 }

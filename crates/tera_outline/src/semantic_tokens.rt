@@ -9,7 +9,7 @@ ghost use Rattle.tera_outline.specs.SemanticTokens.{semantic_tokens_of};
 use crate::names::{Before, after_token};
 use crate::pieces::{Piece, pieces_of};
 use std::alloc::{AllocError, Global};
-use tera_lexer::Token;
+use tera_lexer::{Token, words};
 
 /// What a token is.
 #[derive(Clone, Copy, Debug, PartialEq, Eq)]
@@ -206,10 +206,7 @@ fn word_kind(lead: Lead, word: &str, rest: &[Piece<'_>]) -> SemanticKind
 fn is_keyword(word: &str) -> bool
     ensures { result ≡ specs.is_keyword word.now }
 {
-    matches!(
-        word,
-        "and" | "or" | "not" | "in" | "is" | "if" | "else" | "for" | "none" | "None" | "null"
-    )
+    matches!(word, "if" | "else" | "for") || words::is_operator(word) || words::is_none(word)
 }
 
 // What a name is by what comes after it.

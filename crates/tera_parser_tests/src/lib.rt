@@ -1,7 +1,7 @@
 //! Tests of what no case can show: tokens and expressions that are made by hand, outputs with their copies, equality and
 //! `Debug`, and the names that templates define.
 //!
-//! `tokens`, and what comes after a fault; `made`, the source text of expressions; `outputs`; `names`.
+//! `tokens`, and what comes after a fault; `made`, the source text of expressions; `outputs`; `names`; `words`.
 #![tactic(auto)]
 
 #[cfg(test)]
@@ -12,3 +12,5 @@ mod names;
 mod outputs;
 #[cfg(test)]
 mod tokens;
+#[cfg(test)]
+mod words;

@@ -3,6 +3,7 @@
 use std::alloc::{AllocError, Global};
 use std::test::Fail;
 use tera_base::{Error, Key, Span, Value};
+use tera_lexer::words;
 use tera_source::source_of;
 use tera_tree::{BinaryOperator, Expression, MapEntry, Node, UnaryOperator, build};
 
@@ -98,5 +99,45 @@ fn what_is_no_expression_of_a_source_has_some_text(rt: HostRuntime) -> Result<()
     text_of(alloc, operation(alloc, BinaryOperator::Is))?;
     text_of(alloc, operation(alloc, BinaryOperator::Pipe))?;
     constants_have_texts(alloc)?;
+    Ok(())
+}
+
+// All operators between operands.
+const OPERATORS: [BinaryOperator; 17] = [
+    BinaryOperator::Mul,
+    BinaryOperator::Div,
+    BinaryOperator::Mod,
+    BinaryOperator::Plus,
+    BinaryOperator::Minus,
+    BinaryOperator::FloorDiv,
+    BinaryOperator::Power,
+    BinaryOperator::LessThan,
+    BinaryOperator::GreaterThan,
+    BinaryOperator::LessThanOrEqual,
+    BinaryOperator::GreaterThanOrEqual,
+    BinaryOperator::Equal,
+    BinaryOperator::NotEqual,
+    BinaryOperator::And,
+    BinaryOperator::Or,
+    BinaryOperator::StrConcat,
+    BinaryOperator::In,
+];
+
+// Whether the operator is a sign, or a word that the lists of the language have.
+fn is_listed(alloc: Global, operator: BinaryOperator) -> Result<bool, Error> {
+    let text = text_of(alloc, operation(alloc, operator))?;
+    let inside = text
+        .as_str()
+        .strip_prefix("a")
+        .and_then(|it| it.strip_suffix("b"));
+    let word = inside.unwrap_or("").trim();
+    Ok(!word.starts_with(|it: char| it.is_ascii_alphabetic()) || words::is_operator(word))
+}
+
+#[test]
+fn each_operator_that_is_a_word_is_listed(rt: HostRuntime) -> Result<(), Fail> {
+    for operator in &OPERATORS {
+        assert!(rt; is_listed(rt.alloc(), *operator)?, "{operator:?}");
+    }
     Ok(())
 }

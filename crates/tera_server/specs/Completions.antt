@@ -7,6 +7,7 @@ use Rattle.json.specs.Token.{Token}
 use Rattle.json.specs.Tree.{json_tokens}
 use Rattle.json.specs.Value.{items_of}
 use Rattle.protocol_values.specs.Writing.{edit_json, number_json}
+use Rattle.tera_lexer.specs.grammar.Words.{statement_words}
 use Rattle.tera_outline.specs.Completions.{completion_at, slot_of}
 use Rattle.tera_outline.specs.Names.{Named, names_of, holds}
 use Rattle.tera_outline.specs.Pieces.{Part, ArePartsOf}
@@ -25,14 +26,6 @@ use Rattle.text_edits.specs.declared.positions.Position.{Position}
 use Rattle.tera_server.specs.Positions.{position_at}
 use Rattle.tera_server.specs.Templates.{template_name}
 
--- the words with which the tags of statements begin
-abbrev pub statements : List (List ℕ)
-statements =
-    codes "block" ∷ codes "break" ∷ codes "component" ∷ codes "continue" ∷ codes "elif" ∷ codes "else"
-    ∷ codes "endblock" ∷ codes "endcomponent" ∷ codes "endfilter" ∷ codes "endfor" ∷ codes "endif" ∷ codes "endset"
-    ∷ codes "extends" ∷ codes "filter" ∷ codes "for" ∷ codes "if" ∷ codes "include" ∷ codes "raw" ∷ codes "set"
-    ∷ codes "set_global" ∷ []
-
 -- those of names in a text that stand for what is defined there
 abbrev pub is_defined : NameKind → Bool
 is_defined Defined = true
@@ -43,7 +36,7 @@ defined_names named = map (λ n. n.text) (filter (λ n. is_defined n.kind) named
 
 -- what may be typed of a kind, beside these names that are in the text
 abbrev pub offered : Workspace → List (List ℕ) → List Named → CompletionKind → List (List ℕ)
-offered w folders named Statement = statements
+offered w folders named Statement = statement_words
 offered w folders named Component = components_of w ++ defined_names named
 offered w folders named Template = filter_map (template_name folders) (files_of w)
 offered w folders named (Argument call) = option_map_or (λ n. parameters_of_name w n.text) (find (holds call) named) []

@@ -18,33 +18,10 @@ use json::{Token, Writer};
 use protocol_values::{put_edit, put_number, put_tokens};
 use std::alloc::{AllocError, Global};
 use std::collections::BTreeSet;
+use tera_lexer::words::STATEMENTS;
 use tera_outline::{CompletionKind, Name, NameKind, Piece, completion_for, names_of, pieces_of};
 use tera_workspace::Workspace;
 use text_edits::{Encoding, Lines, Position, byte_at, position_at};
-
-/// The words with which the tags of statements begin.
-const STATEMENTS: [&str; 20] = [
-    "block",
-    "break",
-    "component",
-    "continue",
-    "elif",
-    "else",
-    "endblock",
-    "endcomponent",
-    "endfilter",
-    "endfor",
-    "endif",
-    "endset",
-    "extends",
-    "filter",
-    "for",
-    "if",
-    "include",
-    "raw",
-    "set",
-    "set_global",
-];
 
 /// Where names are taken from.
 #[derive(Clone, Copy)]

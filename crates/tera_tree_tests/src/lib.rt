@@ -1,4 +1,5 @@
-//! Tests of trees and definitions that are made by hand: printed texts, JSON, long chains, types, contexts, parts, and matches by value.
+//! Tests of trees and definitions that are made by hand: printed texts, JSON, long chains, types, contexts, parts, and
+//! matches by value.
 #![tactic(auto)]
 
 #[cfg(test)]

@@ -2,7 +2,8 @@
 use Rattle.std.proofs.Common.{◌≡◌, ℕ, zero, suc, Bool, true, false, cond, List, [], ◌∷◌, ◌++◌, append-nil, append_assoc, Option, Some, None, refl, sym, ap, ◌∙◌}
 use Rattle.tera_base.specs.declared.utils.Span.{Span}
 use Rattle.tera_lexer.specs.code.Cursors.{size}
-use Rattle.tera_grammar.specs.Words.{is_one_of, are_distinct}
+use Rattle.tera_lexer.specs.grammar.Words.{is_one_of}
+use Rattle.tera_grammar.specs.Words.{are_distinct}
 use Rattle.tera_grammar.specs.expressions.Marks.{RightParen, Comma, Assign}
 use Rattle.tera_grammar.specs.expressions.Concrete.{Name, Tree, Row, of_arguments, ended, only, then, argument, Element}
 use Rattle.tera_grammar.specs.expressions.Conditions.{argument_names}

@@ -2,7 +2,8 @@
 use Rattle.std.proofs.Common.{◌≡◌, ◌⊎◌, inl, inr, ⊎_elim, ℕ, Bool, true, false, not, ◌&&◌, ◌||◌, List, [], ◌∷◌, ◌++◌, bytes_eq, refl, sym, ap, ◌∙◌}
 use Rattle.std.proofs.lemmas.Slice.Eq.{bytes_eq-Decides}
 use Rattle.std.proofs.lemmas.List.Folds.{list_any-append}
-use Rattle.tera_grammar.specs.Words.{is_one_of, are_distinct}
+use Rattle.tera_lexer.specs.grammar.Words.{is_one_of}
+use Rattle.tera_grammar.specs.Words.{are_distinct}
 use Rattle.tera_grammar.proofs.Options.{not_ok, or_false, and_ok}
 
 and_false : (b : Bool) → (b && false) ≡ false

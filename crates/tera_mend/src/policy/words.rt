@@ -3,6 +3,7 @@
 use std::alloc::{AllocError, Global};
 use std::str;
 use strsim::osa_distance;
+use tera_lexer::words::STATEMENTS;
 
 /// What has a body, from its head to its end.
 #[derive(Clone, Copy, PartialEq, Eq)]
@@ -33,10 +34,6 @@ pub(crate) enum Role {
     /// A tag whose word is none.
     Unknown,
 }
-
-// All words, in the order in which they are tried.
-const WORDS: &str = "if for block filter component set set_global endif endfor endblock endfilter \
-    endcomponent endset else elif include extends break continue";
 
 /// What a tag of this word is for. `rest` is what is after the word: a `set` without a value has a body.
 pub(crate) fn role_of(word: &[u8], rest: &[u8]) -> Role {
@@ -96,7 +93,12 @@ pub(crate) fn near_words(alloc: Global, word: &[u8]) -> Result<Vec<&'static str>
     let Ok(text) = str::from_utf8(word) else {
         return Ok(found);
     };
-    for other in WORDS.split_ascii_whitespace() {
+    for other in &STATEMENTS {
+        let other = *other;
+        // A raw piece has a reading of its own.
+        if other == "raw" {
+            continue;
+        }
         let mut far = usize::MAX;
         if text.len() <= other.len().saturating_add(2) {
             far = osa_distance(alloc, text, other)?;

@@ -4,7 +4,7 @@ use Rattle.tera_base.specs.declared.utils.Span.{Span}
 use Rattle.tera_lexer.specs.code.Cursors.{size}
 use Rattle.tera_grammar.specs.expressions.Marks.{Mark, LeftParen, RightParen, RightBracket, LeftBrace, RightBrace, Comma, Colon, Dot, Spread, Assign}
 use Rattle.tera_grammar.specs.expressions.Concrete.{Name, Quote, Kind, of_arguments, of_items, of_entries, closing, Tree, Links, no_links, field, item, Sub, index, slice, Part, absent, present, Extra, no_extra, extra, Row, ended, only, then, Element, plain, spread, pair, argument, Args, no_args, args, Dotted, no_dots, dots, Attributes, no_attributes, bare, quoted, valued, spreading}
-use Rattle.tera_grammar.specs.Words.{is_one_of}
+use Rattle.tera_lexer.specs.grammar.Words.{is_one_of}
 use Rattle.tera_grammar.specs.expressions.Conditions.{is_field_of}
 use Rattle.tera_grammar.specs.Options.{◌>>=◌}
 use Rattle.tera_grammar.specs.expressions.Reading.Front.{Place, at, Reads, skip, lowered, bump, name_of, literal_at, quote_at, Link, no_link, jointed, bracketed, called, link_of}
