@@ -58,7 +58,7 @@ fn components_in<'a>(
     alloc: Global,
     known: &Vec<Known<'a>>,
 ) -> Result<Vec<Component<'a>>, AllocError>
-    ensures components_in { IfOk result (λ v. map listed_view v.items
+    ensures as_listed { IfOk result (λ v. map listed_view v.items
         ≡ map listed (map known_view known.now.items)) }
     ensures offered { IfOk result (λ v. All IsOffered v.items) }
 {
@@ -70,7 +70,7 @@ fn components_in<'a>(
 }
 
 fn component_of<'a>(alloc: Global, known: &Known<'a>) -> Result<Component<'a>, AllocError>
-    ensures components_in { IfOk result (λ c. listed_view c ≡ listed (known_view known.now)) }
+    ensures as_listed { IfOk result (λ c. listed_view c ≡ listed (known_view known.now)) }
     ensures offered { IfOk result IsOffered }
 {
     let info = info_of(alloc, known.definition)?;

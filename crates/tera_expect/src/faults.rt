@@ -10,7 +10,7 @@ use std::alloc::{AllocError, Global};
 use tera_base::{Error, ErrorKind, Span};
 use tera_lexer::{Cursor, Token};
 
-/// A fault at the token taken last; `Memory` where its text finds none.
+/// A fault at the token taken last; `Memory` if its text cannot be allocated.
 #[tactic(auto, using(crate::proofs::TakingLemmas::last_refused))]
 pub fn fault(cursor: &Cursor<'_>, text: &str) -> Error
     ensures reports { Reports text.now cursor.now.span result }

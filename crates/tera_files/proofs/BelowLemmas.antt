@@ -28,16 +28,16 @@ use Rattle.tera_files.specs.Paths.{IsKnown, IsPathIn, IsTemplate, IsWithin, at_t
 -- what is known by the names below the top is within the folder at the top
 pub within_of : (top itself path known : List ℕ) → IsKnown top itself path known → IsWithin top path
 within_of top itself _ _ top_is_known = at_top
-within_of top itself _ _ (known_inside {folder} {known} name path is kept path_of_name) =
-    inside name path (within_of top itself folder known is) kept path_of_name
+within_of top itself _ _ (known_inside {folder} {known} name path is kept reported) =
+    inside name path (within_of top itself folder known is) kept reported
 
 -- an entry of a folder that is known by its name there
 pub known_entry : (top itself folder known name path : List ℕ) (entry : Option (String Global)) → IsKnown top itself folder known
     → ¬ (IsLeftOut name) → IsPathIn folder name path → IfSome entry (λ text. string_bytes text ≡ path_join known name)
     → IfSome entry (λ text. IsKnown top itself path (string_bytes text))
-known_entry top itself folder known name path None is kept path_of_name same = tt
-known_entry top itself folder known name path (Some text) is kept path_of_name same =
-    subst (IsKnown top itself path) (sym same) (known_inside name path is kept path_of_name)
+known_entry top itself folder known name path None is kept reported same = tt
+known_entry top itself folder known name path (Some text) is kept reported same =
+    subst (IsKnown top itself path) (sym same) (known_inside name path is kept reported)
 
 abbrev pub goes_before : Template → Template → Bool
 goes_before one other = is_lt (slice_cmp nat_cmp (path_of one) (path_of other))

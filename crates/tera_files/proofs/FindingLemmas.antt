@@ -92,7 +92,7 @@ reported_more paths i path old new below is before reports =
     let earlier : All Is old = All-weaker (λ one. Any (λ top. IsUnlisted top one) (take i paths)) Is
     (λ one any. Any-append_left (λ top. IsUnlisted top one) (take i paths) (path ∷ []) any) old before in
     let here : All Is reports.more = All-weaker (IsUnlisted path) Is
-    (λ one path_of_name. Any-push (λ top. IsUnlisted top one) (take i paths) path path_of_name) reports.more reports.unlisted in
+    (λ one reported. Any-push (λ top. IsUnlisted top one) (take i paths) path reported) reports.more reports.unlisted in
     subst (λ l. All (λ one. Any (λ top. IsUnlisted top one) l) new) (sym grown)
     (All-same Is new (old ++ reports.more) reports.following (All-append Is old reports.more earlier here))
 

@@ -35,6 +35,6 @@ pub record IsTemplate (extensions : List (List ℕ)) (top path : List ℕ) : Typ
   pub folder : List ℕ
   pub name : List ℕ
   pub within : IsWithin top folder
-  pub path_of_name : IsPathIn folder name path
+  pub reported : IsPathIn folder name path
   pub kept : ¬ (IsLeftOut name)
   pub ends : EndsIn name extensions

@@ -36,7 +36,7 @@ struct Folder {
 impl Folder {
     // The path by which what has this name in the folder is reported.
     fn path_of_name(&self, alloc: Global, name: &str) -> Result<String, AllocError>
-        ensures { IfOk result (λ path_of_name. IsPathIn (string_bytes self.now.path) name.now (string_bytes path_of_name)) }
+        ensures { IfOk result (λ path. IsPathIn (string_bytes self.now.path) name.now (string_bytes path)) }
     {
         path_in(alloc, self.path.as_str(), name)
     }
@@ -71,7 +71,7 @@ pub(crate) fn templates_below<R: Files + AllocGlobal>(
     ensures templates { IfOk result (λ below. AreTemplates (texts extensions.now) top.now
         (map path_of below.items)) }
     ensures known { IfOk result (λ below. (itself : List ℕ) × All (IsKnownTemplate top.now itself) below.items) }
-    ensures path_of_name { IfOk result (λ below. (0 < vec_len below) ⊎ (vec_len unlisted.old < vec_len unlisted.new)) }
+    ensures reported { IfOk result (λ below. (0 < vec_len below) ⊎ (vec_len unlisted.old < vec_len unlisted.new)) }
     ensures unlisted { OnOk result (Reports top.now unlisted.old.items unlisted.new.items) }
 {
     let mut below = walked(rt, extensions, top)?;

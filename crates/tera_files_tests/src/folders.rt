@@ -176,7 +176,7 @@ fn fails(rt: &HostRuntime, top: &str, call: u32) -> Result<bool, Fail> {
     let has_failed = runtime.has_failed();
     expect(
         !has_failed || is_reported(&found, top),
-        "a call that fails is not told",
+        "a call that fails is not reported",
     )?;
     Ok(has_failed)
 }

@@ -83,7 +83,7 @@ fn fails(rt: &HostRuntime, room: &Room<'_>, call: u32) -> Result<bool, Fail> {
     } else {
         read.is_ok()
     };
-    expect(is_reported, "a call that fails is not told")?;
+    expect(is_reported, "a call that fails is not reported")?;
     Ok(has_failed)
 }
 

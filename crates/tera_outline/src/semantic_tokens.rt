@@ -239,7 +239,7 @@ fn bytes_of<'t>(text: &'t str, piece: &Piece<'_>) -> &'t [u8]
     }
 }
 
-// Adds what of a token of these bytes, the first of which is reported, is on each line.
+// Adds the part on each line of a token of these bytes, the first of which is at `start`.
 fn push_lines(
     tokens: &mut Vec<SemanticToken>,
     kind: SemanticKind,

@@ -1,4 +1,4 @@
-//! What a client reports itself.
+//! What a client says about itself.
 
 ghost use Rattle.std.specs.Prelude.{◌≡◌};
 ghost use Rattle.protocol_values.specs.Members.{seen};

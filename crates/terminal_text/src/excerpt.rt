@@ -23,7 +23,7 @@ const BEFORE: usize = 60;
 // The number of the line takes so many columns at least.
 const DIGITS: usize = 5;
 
-/// What a mark is below, the characters of a line.
+/// The characters of a line that have a mark below them.
 #[derive(Clone, Copy, Debug)]
 pub struct Marked {
     /// The line, from 1.

@@ -23,7 +23,7 @@ pub enum Part {
     Note,
     /// A file, with the line and the column.
     Place,
-    /// What is about a text and is not of it: numbers of lines, bars, heads of hunks.
+    /// What is written about a text and is not a part of it: numbers of lines, bars, heads of hunks.
     Frame,
     /// A line that is only in the old text.
     Gone,

@@ -168,7 +168,8 @@ impl<'a> Cursor<'a> {
         self.alloc
     }
 
-    /// The end of the input, after the token taken last: a syntax error, or `Memory` where its text finds none.
+    /// The end of the input, after the token taken last: a syntax error, or `Memory` if its text cannot be
+    /// allocated.
     pub fn eoi(&self) -> Error
         ensures reports { Reports (codes "Unexpected end of input") (end_of self.now.span) result }
         ensures within { IsWithin self.now.source (end_of self.now.span) }

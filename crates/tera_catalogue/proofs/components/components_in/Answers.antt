@@ -13,6 +13,6 @@ loop-one-preserved c =
     let one = c.in_ok-component_of.field-0 in
     let offered : All IsOffered (before ++ one ∷ []) = All-push IsOffered before one c.loop-one.invariant.offered c.in_ok-component_of.ensures.offered in
     record {
-      components_in = reported_next listed known_view listed_view c.deref-one-items.result.now c.loop-one.one-index c.one-item.result before one c.push.new.self.items (search rules) c.one-item.is c.loop-one.invariant.components_in c.in_ok-component_of.ensures.components_in c.in_ok-push.ensures.items;
+      as_listed = reported_next listed known_view listed_view c.deref-one-items.result.now c.loop-one.one-index c.one-item.result before one c.push.new.self.items (search rules) c.one-item.is c.loop-one.invariant.as_listed c.in_ok-component_of.ensures.as_listed c.in_ok-push.ensures.items;
       offered = subst (All IsOffered) (sym c.in_ok-push.ensures.items) offered;
     }

@@ -7,6 +7,6 @@ use Rattle.tera_catalogue.proofs.components.components_in.Given as goal
 
 abbrev pub invariant-loop-one : goal.invariant-loop-one
 invariant-loop-one l = record {
-  components_in : map listed (map known_view l.one-items) ≡ map listed_view l.components.items ++ map listed (map known_view (drop l.one-index l.one-items));
+  as_listed : map listed (map known_view l.one-items) ≡ map listed_view l.components.items ++ map listed (map known_view (drop l.one-index l.one-items));
   offered : All IsOffered l.components.items;
 }

@@ -39,7 +39,7 @@ returns-in_ok-push-in-Templates-clause-kept c = λ top itself is are.
       folder = string_bytes c.args.folder.now.path;
       name = name;
       within = within_of top itself (string_bytes c.args.folder.now.path) (string_bytes c.args.folder.now.itself) is;
-      path_of_name = c.in_ok-path-in-Templates.ensures;
+      reported = c.in_ok-path-in-Templates.ensures;
       kept = kept;
       ends = ends;
     } in

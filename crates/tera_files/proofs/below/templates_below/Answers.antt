@@ -24,8 +24,8 @@ returns-clause-known g c =
           c.in_ok-templates.ensures.same all.known,
     )
 
-pub returns-clause-path_of_name : goal.returns-clause-path_of_name
-returns-clause-path_of_name g c =
+pub returns-clause-reported : goal.returns-clause-reported
+returns-clause-reported g c =
     let many = length_permutation c.add_top_if_empty.new.below.templates.items c.in_ok-templates.templates.items c.in_ok-templates.ensures.same in
     ⊎_elim
     (λ some. inl (omega (arith, some, many, c.in_ok-templates.templates.ok.0, c.add_top_if_empty.new.below.templates.ok.0)))

@@ -26,7 +26,7 @@ loop-path-preserved g c =
       unlisted = reported_more paths i path c.loop-path.unlisted.items c.add.new.unlisted.items below is held.unlisted said.unlisted;
       input_read = input_more extensions paths old new i path below is held.input_read said.added said.input_read;
       started = λ begun. (said.answered (held.started begun)).0;
-      answered = λ begun some. ⊎_elim (λ listed. inl listed) (λ path_of_name. inr (omega (arith, path_of_name))) (said.answered (held.started begun)).1;
+      answered = λ begun some. ⊎_elim (λ listed. inl listed) (λ reported. inr (omega (arith, reported))) (said.answered (held.started begun)).1;
     }
 
 pub returns : goal.returns
@@ -47,7 +47,7 @@ returns g c =
       unlisted = subst (λ l. All (λ one. Any (λ path. IsUnlisted path one) l) c.loop-path.unlisted.items) all held.unlisted;
       input_read = read;
       answered = λ some. ⊎_elim
-          (λ begun. ⊎_elim (λ listed. inl (omega (arith, listed, ap length same, length-map files.items string_bytes, files.ok.0))) (λ path_of_name. inr path_of_name)
+          (λ begun. ⊎_elim (λ listed. inl (omega (arith, listed, ap length same, length-map files.items string_bytes, files.ok.0))) (λ reported. inr reported)
           (held.answered begun (omega (arith, some, past))))
           (λ at. let has = read at in inl (omega (arith, has.1, length-map files.items string_bytes, files.ok.0)))
           c.in_ok-listing.ensures.started;
