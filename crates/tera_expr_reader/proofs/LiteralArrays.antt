@@ -19,6 +19,7 @@ use Rattle.tera_grammar.specs.expressions.Reading.Bracketed.{Room, Reader, insid
 use Rattle.tera_grammar.specs.expressions.Reading.Atoms.{variables_of, comprehension_of, items_from, for_at, array_from, array_at, array_of}
 use Rattle.tera_grammar.specs.expressions.Reading.Whole.{widest, outermost, left_over, with_array, literal_array_of}
 use Rattle.tera_grammar.proofs.expressions.Fronts.{skip_ok, none_skip}
+use Rattle.tera_grammar.proofs.expressions.Literals.{literal_arrays_are}
 use Rattle.tera_expr_parts.specs.Folding.{constant_of}
 use Rattle.tera_expect.specs.Taking.{Fails}
 use Rattle.tera_expr_reader.proofs.ComprehensionsLemmas.{after_end, after_condition, after_target, after_in, after_variables, by_variables}
@@ -131,14 +132,13 @@ module _ (limits : Limits) where
   array_in o = left_over (o >>= λ s. inside_array (widest limits false) >>= λ u. row_of (outermost limits) u of_items s.1 >>= λ r. array_row s.0 r)
 
   pub no_bracket : (old : Items) (e : Error) → Fails (takes LeftBracket old) e → Fails (literal_array_of limits old) e
-  unfolding literal_array_of
-  no_bracket old e h = fails_by (literal_array_of limits old) (takes LeftBracket old) e (λ none. ap array_in (none_skip LeftBracket 0 old none)) h
+  no_bracket old e h = fails_by (literal_array_of limits old) (takes LeftBracket old) e (λ none. literal_arrays_are limits old ∙ ap array_in (none_skip LeftBracket 0 old none)) h
 
   module _ (old mid : Items) (s : Span) (h : takes LeftBracket old ≡ Some (s, mid)) where
     after_bracket : (o : Reads Row) → rows mid ≡ o → literal_array_of limits old ≡ left_over (o >>= array_row s)
-    unfolding literal_array_of
     after_bracket o read =
-        ap array_in (skip_taken LeftBracket 0 old mid s h)
+        literal_arrays_are limits old
+        ∙ ap array_in (skip_taken LeftBracket 0 old mid s h)
         ∙ ap left_over (sym (bind_assoc (inside_array (widest limits false)) (λ u. row_of (outermost limits) u of_items (at 0 mid)) (array_row s)))
         ∙ ap (λ o. left_over (o >>= array_row s)) read
 

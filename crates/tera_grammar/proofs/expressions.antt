@@ -14,6 +14,7 @@ pub mod ReadParts
 pub mod Complete
 pub mod Outermost
 pub mod Wholes
+pub mod Literals
 pub mod Only
 mod Examples
 pub mod Steps

@@ -12,7 +12,7 @@ use Rattle.tera_grammar.specs.expressions.Measures.{deep, row_deep, element_deep
 use Rattle.tera_grammar.specs.expressions.Companions.{Opened, kwargs_yield, AreKwargs, Filtering, filter_yield, EachArgs, Path, path_yield, array_yield, array_value, IsArray, ArrayWithin, map_yield, map_value, IsMap}
 use Rattle.tera_grammar.specs.Options.{◌>>=◌}
 use Rattle.tera_grammar.specs.expressions.Reading.Front.{Place, at, Reads, takes, skip, link_of}
-use Rattle.tera_grammar.specs.expressions.Reading.Bracketed.{room, inside_array, row_of, arguments_of, args_at, args_of, attributes_of}
+use Rattle.tera_grammar.specs.expressions.Reading.Bracketed.{Room, room, inside_array, row_of, arguments_of, args_at, args_of, attributes_of}
 use Rattle.tera_grammar.specs.expressions.Reading.Loop.{expr, fresh}
 use Rattle.tera_grammar.specs.expressions.Reading.Whole.{widest, outermost, left_over, expression_of, kwargs_of, filter_of, all_attributes, path_of, with_array, with_map, literal_array_of, literal_map_of}
 use Rattle.tera_grammar.proofs.Options.{bound}
@@ -23,6 +23,7 @@ use Rattle.tera_grammar.proofs.expressions.FoundLoop.{expr_sound}
 use Rattle.tera_grammar.proofs.expressions.ReadRows.{Bars, NoAttribute, dotted_read, row_read, arguments_read, attributes_read}
 use Rattle.tera_grammar.proofs.expressions.ReadParts.{within, inside_array_read, no_args_read, args_read}
 use Rattle.tera_grammar.proofs.expressions.Complete.{expr_bars}
+use Rattle.tera_grammar.proofs.expressions.Literals.{row_array, literal_arrays_are}
 use Rattle.tera_grammar.proofs.expressions.Outermost.{no_toll, Fitting, fresh_sound, fresh_bars, ends_read, row_map, row_whole, attributes_whole, row_free_toll, attributes_free_toll}
 
 pub left_over_ok : {A : Type 0} (o : Reads A) (x : A × Items) → left_over o ≡ Some x → (y : A × Place) × (o ≡ Some y)
@@ -233,29 +234,34 @@ array_fits limits a low items x p q found = (
       }) found.each,
 )
 
-pub literal_array_found : (limits : Limits) (items rest : Items) (x : Opened) (vs : values.Vals)
-    → literal_array_of limits items ≡ Some ((x, vs), rest)
+-- of the row that is read
+array_taken : (limits : Limits) (items rest : Items) (x : Opened) (vs us : values.Vals) (s : Span × Place) (v : Room) (r : Row × Place)
+    → skip LeftBracket (at 0 items) ≡ Some s → inside_array (widest limits false) ≡ Some v → row_of (outermost limits) v of_items s.1 ≡ Some r
+    → array_value (record { mark = s.0; row = r.0 }) ≡ Some us → ◌≡◌ {A = (Opened × values.Vals) × Items} ((record { mark = s.0; row = r.0 }, us), r.1.tokens) ((x, vs), rest)
     → (items ≡ array_yield x rest) × IsArray x vs × ArrayWithin limits x
-unfolding literal_array_of
-literal_array_found limits items rest x vs h =
-    let (y, read, is) = left_over_ok _ ((x, vs), rest) h in
-    bound _ _ _ read (λ s begun one. bound _ _ _ one (λ v inside two. bound _ _ _ two (λ r row three.
-    let (us, value, made) = with_array_ok (record { mark = s.0; row = r.0 }) r.1 (array_value (record { mark = s.0; row = r.0 })) y
-    three in
+array_taken limits items rest x vs us s v r begun inside row value same =
     let at_open = skip_ok LeftBracket (at 0 items) s begun in
     let (a, low, room_is) = inside_array_ok (widest limits false) v inside in
     let found = row_found no_toll (Fitting limits.bodies limits.depth limits.links) limits.depth (outermost limits) (outer_sound limits)
     (room false limits.subscripts a) of_items s.1 r
     (subst (λ u. row_of (outermost limits) u of_items s.1 ≡ Some r) (sym room_is) row) in
-    let same : ((record { mark = s.0; row = r.0 }, us), r.1.tokens) ≡ ((x, vs), rest) = ap
-    (λ (z : (Opened × values.Vals) × Place). (z.0, z.1.tokens)) made ∙ is in
     subst (λ (z : (Opened × values.Vals) × Items). (items ≡ array_yield z.0.0 z.1) × IsArray z.0.0 z.0.1 × ArrayWithin limits z.0.0)
     same (
       at_open.0 ∙ ap (mark LeftBracket s.0) found.spelled,
       (found.is, value),
       array_fits limits a low items
           (record { mark = s.0; row = r.0 }) s.1 r.1 found,
-    ))))
+    )
+
+pub literal_array_found : (limits : Limits) (items rest : Items) (x : Opened) (vs : values.Vals)
+    → literal_array_of limits items ≡ Some ((x, vs), rest)
+    → (items ≡ array_yield x rest) × IsArray x vs × ArrayWithin limits x
+literal_array_found limits items rest x vs h =
+    let (y, read, is) = left_over_ok (row_array limits items) ((x, vs), rest) (sym (literal_arrays_are limits items) ∙ h) in
+    bound _ _ _ read (λ s begun one. bound _ _ _ one (λ v inside two. bound _ _ _ two (λ r row three.
+    let (us, value, made) = with_array_ok (record { mark = s.0; row = r.0 }) r.1 (array_value (record { mark = s.0; row = r.0 })) y
+    three in
+    array_taken limits items rest x vs us s v r begun inside row value (ap (λ (z : (Opened × values.Vals) × Place). (z.0, z.1.tokens)) made ∙ is))))
 
 -- each item fits into the room inside of the array
 element_inside : (x : Element) (limits : Limits) (a : ℕ) → element_deep arrays x ≤ a → EachElement (Within limits) x
@@ -315,9 +321,9 @@ bind_in (Some x) f g y h = ap (λ z. z >>= g) h
 
 pub literal_array_read : (limits : Limits) (x : Opened) (vs : values.Vals) (r : Items) → IsArray x vs → ArrayWithin limits x
     → literal_array_of limits (array_yield x r) ≡ Some ((x, vs), r)
-unfolding literal_array_of
 literal_array_read limits x vs r is fits =
-    ap left_over (ap (λ o. o >>= λ s. inside_array (widest limits false) >>= λ v. row_of (outermost limits) v of_items s.1 >>= λ r.
+    literal_arrays_are limits (array_yield x r)
+    ∙ ap left_over (ap (λ o. o >>= λ s. inside_array (widest limits false) >>= λ v. row_of (outermost limits) v of_items s.1 >>= λ r.
     with_array (record { mark = s.0; row = r.0 }) r.1 (array_value (record { mark = s.0; row = r.0 })))
     (skip_mark LeftBracket refl 0 x.mark (row_yield of_items x.row r))
     ∙ bind_in (inside_array (widest limits false)) (λ v. row_of (outermost limits) v of_items (at 0 (row_yield of_items x.row r)))

@@ -3,12 +3,13 @@ use Rattle.std.specs.Prelude.{Bool, false, Option, Some, None}
 use Rattle.tera_lexer.specs.grammar.Tokens.{Items}
 use Rattle.tera_base.specs.Values as values
 use Rattle.tera_grammar.specs.expressions.Marks.{LeftParen, LeftBracket, LeftBrace}
-use Rattle.tera_grammar.specs.expressions.Concrete.{Tree, Attributes, of_items, of_entries}
+use Rattle.tera_grammar.specs.expressions.Concrete.{Tree, Atomic, Array, Row, Attributes, of_entries}
 use Rattle.tera_grammar.specs.Limits.{Limits}
 use Rattle.tera_grammar.specs.expressions.Companions.{Opened, Filtering, Path, array_value, map_value}
 use Rattle.tera_grammar.specs.Options.{◌>>=◌}
 use Rattle.tera_grammar.specs.expressions.Reading.Front.{Place, at, Reads, skip, name_of}
-use Rattle.tera_grammar.specs.expressions.Reading.Bracketed.{Room, room, Reader, inside_array, row_of, arguments_of, args_of, attributes_of, dotted_of}
+use Rattle.tera_grammar.specs.expressions.Reading.Bracketed.{Room, room, Reader, row_of, arguments_of, args_of, attributes_of, dotted_of}
+use Rattle.tera_grammar.specs.expressions.Reading.Atoms.{array_of}
 use Rattle.tera_grammar.specs.expressions.Reading.Loop.{expr, fresh}
 
 -- the room of an outermost expression
@@ -52,11 +53,17 @@ abbrev pub with_map : Opened → Place → Option values.Pairs → Reads (Opened
 with_map x q None = None
 with_map x q (Some ps) = Some ((x, ps), q)
 
+-- the row of an array; a comprehension has none
+abbrev pub row_if_array : Tree → Option Row
+row_if_array (Atomic (Array s row)) = Some row
+row_if_array e = None
+
+-- A comprehension is read too, and refused after it.
 unfoldable pub literal_array_of : Limits → Items → Option ((Opened × values.Vals) × Items)
 literal_array_of limits items =
-    left_over (skip LeftBracket (at 0 items) >>= λ s. inside_array (widest limits false) >>= λ v. row_of (outermost limits) v
-    of_items s.1 >>= λ r.
-    with_array (record { mark = s.0; row = r.0 }) r.1 (array_value (record { mark = s.0; row = r.0 })))
+    left_over (skip LeftBracket (at 0 items) >>= λ s. array_of (outermost limits) (widest limits false) s.0 s.1 >>= λ e.
+    row_if_array e.0 >>= λ r.
+    with_array (record { mark = s.0; row = r }) e.1 (array_value (record { mark = s.0; row = r })))
 
 unfoldable pub literal_map_of : Limits → Items → Option ((Opened × values.Pairs) × Items)
 literal_map_of limits items =
