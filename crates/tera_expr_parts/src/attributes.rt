@@ -41,5 +41,8 @@ pub fn close_component(cursor: &mut Cursor<'_>) -> Result<(), Error>
     if eat(cursor, Fixed::GreaterThan) {
         return Err(component_with_body(cursor));
     }
-    Err(unclosed_component(cursor))
+    match cursor.first() {
+        Some(token) => Err(unclosed_component(cursor, token)),
+        None => expect(cursor, Fixed::Slash),
+    }
 }

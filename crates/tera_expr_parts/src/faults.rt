@@ -147,20 +147,12 @@ pub(crate) fn no_attribute_value(cursor: &Cursor<'_>, token: &Token<'_>) -> Erro
     reported(cursor, message)
 }
 
-/// That the next token does not end a component; it is reported at the token before.
-#[tactic(auto, unfolding(tera_expect::specs::Taking::Refuses), using(tera_expect::proofs::TakingLemmas::last_refused))]
-pub(crate) fn unclosed_component(cursor: &mut Cursor<'_>) -> Error
-    ensures { Refuses cursor.old result }
+/// That a token, which comes next, does not end a component; it is reported at the token before.
+pub(crate) fn unclosed_component(cursor: &Cursor<'_>, token: &Token<'_>) -> Error
+    ensures { Refuses cursor.now result }
 {
-    let alloc = cursor.alloc();
-    let last = cursor.current_span().copied();
-    match cursor.next_or_eoi() {
-        Ok((token, _)) => {
-            let message = format!(in alloc; "Found {token} but expected `/` or `>`");
-            Error::reported(alloc, message, &last)
-        }
-        Err(error) => error,
-    }
+    let message = format!(in cursor.alloc(); "Found {token} but expected `/` or `>`");
+    reported(cursor, message)
 }
 
 /// That a component in an expression has a body; its `>` was taken last.
