@@ -10,7 +10,7 @@ use Rattle.tera_lexer.specs.grammar.Place.{IsWithin}
 use Rattle.tera_lexer.specs.grammar.Lexed.{EachNumber, IsCount}
 use Rattle.tera_lexer.specs.grammar.Tokens as toks
 use Rattle.tera_lexer.specs.grammar.Tokens.{Tok, Items, Token}
-use Rattle.tera_lexer.specs.code.Cursors.{FirstIsAt, Position, ReportsAt, FaultsFrom, IsLater, RefusesFrom, size}
+use Rattle.tera_lexer.specs.code.Cursors.{Position, ReportsAt, FaultsFrom, IsLater, RefusesFrom, size}
 use Rattle.tera_lexer.proofs.FaultsOfTokens as refusals
 use Rattle.tera_expect.specs.Taking.{Eats, GoesOn, IsCounted, Took, Refuses, Reported, no_memory, says, reports, kind_reported, ReportsAs}
 
@@ -128,10 +128,3 @@ pub eats_size : (b : Bool) (old new : Position) (read : Option (Span × Items)) 
 unfolding Took
 eats_size true old new read (taken, took) = omega (arith, took.1)
 eats_size false old new read (none, same) = subst (λ (q : Position). size q.left ≤ size old.left) (sym same) (omega arith)
-
--- a fault at the next token
-pub next_refused : (old : Position) (here : Span) (e : Error) → FirstIsAt old.left here → IsWithin old.source here → ReportsAt here e → Refuses old e
-unfolding Refuses
-next_refused old here e (t, following, is) within reported =
-    reports_weaker (λ text span. span ≡ here) (λ text span. IsWithin old.source span × FaultsFrom old.span old.left text span) e
-    (λ text span at. rw at (within, inr (inr (rw is (inr (inr (inl ((refl, refl, refl), inl (refl, refl, refl))))))))) reported

@@ -67,11 +67,15 @@ pub fn too_complex(cursor: &Cursor<'_>) -> Error
     fault(cursor, TOO_COMPLEX)
 }
 
-/// The same at a word, which comes next.
-pub(crate) fn too_complex_at(cursor: &Cursor<'_>, word: &Span) -> Error
-    ensures { ReportsAt word.now result }
+/// That the `not` of a `not in` is where no link may come; it is taken.
+#[tactic(auto, using(tera_expect::proofs::TakingLemmas::refused_after))]
+pub(crate) fn uncounted_not(cursor: &mut Cursor<'_>) -> Error
+    ensures { Refuses cursor.old result }
 {
-    Error::syntax_error(cursor.alloc(), TOO_COMPLEX, word)
+    match expect(cursor, Fixed::Not) {
+        Ok(()) => too_complex(cursor),
+        Err(error) => error,
+    }
 }
 
 /// That more subscripts are open than may be, which are so many.

@@ -7,7 +7,7 @@ ghost use Rattle.tera_grammar.specs.expressions.Reading.Whole.{widest};
 ghost use Rattle.tera_expr_parts.specs.Rooms.{Decides, limits_of, lowered, room_of};
 ghost use Rattle.tera_expect.specs.Taking.{Refuses};
 
-use crate::faults::{too_complex, too_complex_at, too_many_arrays, too_many_subscripts};
+use crate::faults::{too_complex, too_many_arrays, too_many_subscripts, uncounted_not};
 use tera_base::Error;
 use tera_lexer::Cursor;
 
@@ -150,16 +150,20 @@ pub fn count_link(cursor: &Cursor<'_>, links: &mut usize) -> Result<(), Error>
     Ok(())
 }
 
-/// Counts the link of a binary operator, which comes next, where one may still come. In front of a `not in` the `not`
-/// is reported for.
-#[tactic(auto, using(tera_expect::proofs::TakingLemmas::next_refused))]
-pub fn count_operator(cursor: &Cursor<'_>, links: &mut usize, negated: bool) -> Result<(), Error>
+/// Counts the link of a binary operator, which comes next, where one may still come. Where none may, the `not` of a
+/// `not in` is taken and reported about.
+pub fn count_operator(
+    cursor: &mut Cursor<'_>,
+    links: &mut usize,
+    negated: bool,
+) -> Result<(), Error>
     ensures counts { IfOk result (λ _. lowered links.old ≡ Some links.new) }
     ensures fails { IfErr result (λ e. IsMemory e ⊎ (lowered links.old ≡ None)) }
-    ensures refusal { IfErr result (Refuses cursor.now) }
+    ensures refusal { IfErr result (Refuses cursor.old) }
+    ensures stays { IfOk result (λ _. cursor.new ≡ cursor.old) }
 {
-    match cursor.first_span() {
-        Some(word) if negated && *links == 0 => Err(too_complex_at(cursor, word)),
-        _ => count_link(cursor, links),
+    if negated && *links == 0 {
+        return Err(uncounted_not(cursor));
     }
+    count_link(cursor, links)
 }

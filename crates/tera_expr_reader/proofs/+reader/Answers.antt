@@ -1,4 +1,5 @@
 use Rattle.std.proofs.Common.{ap, ◌∙◌, inr, arith}
+use Rattle.tera_lexer.specs.code.Cursors.{Position, size}
 use Rattle.tera_grammar.proofs.expressions.Stack.{unwind_none, none_opens}
 use Rattle.tera_grammar.specs.expressions.Stack.{unwind}
 use Rattle.tera_expr_reader.specs.Frames.{frame_view}
@@ -67,7 +68,12 @@ stack::turn-returns-in_ok-push-in-Joins-clause-keeps t c = turns.stack::turn-ret
 
 pub stack::turn-returns-in_ok-push-in-Joins-clause-falls : goal.stack::turn-returns-in_ok-push-in-Joins-clause-falls
 stack::turn-returns-in_ok-push-in-Joins-clause-falls t c =
-    omega (arith, one_more _ _ _ c.in_ok-push-in-Joins.ensures.items, took_size _ _ c.take_operator.ensures.later)
+    omega (
+      arith,
+      one_more _ _ _ c.in_ok-push-in-Joins.ensures.items,
+      took_size _ _ c.take_operator.ensures.later,
+      ap (λ (p : Position). size p.left) c.in_ok-count_operator-in-Joins.ensures.stays,
+    )
 
 pub stack::turn-returns-in_ok-push-in-Chooses-clause-keeps : goal.stack::turn-returns-in_ok-push-in-Chooses-clause-keeps
 stack::turn-returns-in_ok-push-in-Chooses-clause-keeps t c = turns.stack::turn-returns-in_ok-push-in-Chooses-clause-keeps t c

@@ -4,10 +4,10 @@ use Rattle.std.proofs.lemmas.Result.{err_from_is_err_and}
 use Rattle.tera_lexer.specs.code.Cursors.{Position}
 use Rattle.tera_ast.specs.View.{expression_view}
 use Rattle.tera_grammar.proofs.expressions.Stack.{unframed, pushed, unwind_none, keeps_as, refuses_all}
-use Rattle.tera_grammar.specs.expressions.Reading.Front.{at}
+use Rattle.tera_grammar.specs.expressions.Reading.Front.{at, front}
 use Rattle.tera_grammar.specs.expressions.Stack.{comes_to, coming, unwind}
 use Rattle.tera_expr_reader.specs.Frames.{frame_view, state_view, Went, level_view, operand_view, HoldsNegatable}
-use Rattle.tera_expr_parts.specs.Fronts.{front_kind, keeps_off, operator_of}
+use Rattle.tera_expr_parts.specs.Fronts.{front_kind, keeps_off, operator_of, IsOperatorBefore}
 use Rattle.tera_expr_parts.specs.Rooms.{room_of}
 use Rattle.tera_expect.specs.Taking.{GoesOn}
 use Rattle.tera_expect.proofs.TakingLemmas.{stays, goes_took, took_further, refused_further, goes_size}
@@ -98,7 +98,9 @@ pub stack::turn-returns-in_ok-push-in-Joins-clause-keeps : goal.stack::turn-retu
 stack::turn-returns-in_ok-push-in-Joins-clause-keeps t c =
     rw c.right_power.ensures (pushed frame_view _ _ _ _ _ c.in_ok-push-in-Joins.ensures.items ∙ ap (unwind frame_view _ _)
     (joins_more (room_of c.args.room) (level_view c.args.level) (operand_view c.args.left) (at c.args.links.now c.args.cursor.now.left) (operator_of c.in-Joins.operator) c.in-Joins.negated _ _
-    c.take_operator.ensures.past (sym c.if-stops.false ∙ c.stops.ensures ∙ ap (keeps_off c.args.level.least) c.at-front.ensures)
+    (subst (λ (p : Position). IsOperatorBefore (front p.left) (operator_of c.in-Joins.operator) c.in-Joins.negated c.take_operator.new.cursor.left)
+    c.in_ok-count_operator-in-Joins.ensures.stays c.take_operator.ensures.past)
+    (sym c.if-stops.false ∙ c.stops.ensures ∙ ap (keeps_off c.args.level.least) c.at-front.ensures)
     c.in_ok-count_operator-in-Joins.ensures.counts))
 
 pub stack::turn-returns-in_ok-push-in-Chooses-clause-keeps : goal.stack::turn-returns-in_ok-push-in-Chooses-clause-keeps
