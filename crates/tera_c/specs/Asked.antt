@@ -2,7 +2,7 @@
 use Rattle.std.specs.Prelude.{◌≡◌, ℕ, List, length, take, drop, IsUtf8}
 use Rattle.tera_lexer.specs.grammar.Marks.{Marks, AreTexts, IsValid}
 use Rattle.tera_grammar.specs.Limits.{Limits}
-use Rattle.tera_expr_parts.specs.Rooms.{AreValid}
+use Rattle.tera_expr_parts.specs.Allowed.{AreValid}
 use Rattle.tera_c.specs.declared.shapes.AskedLimits.{AskedLimits}
 
 -- six markers, of two bytes each, one after the other

@@ -9,7 +9,7 @@ use Rattle.tera_lexer.specs.grammar.Faults.{Faults}
 use Rattle.tera_tree.specs.Tree.{Output}
 use Rattle.tera_grammar.specs.Limits.{Limits}
 use Rattle.tera_grammar.specs.statements.Top.{Derives}
-use Rattle.tera_expr_parts.specs.Rooms.{AreValid}
+use Rattle.tera_expr_parts.specs.Allowed.{AreValid}
 use Rattle.tera_tree_json.specs.TreeJson.{json_text}
 use Rattle.tera_tree_text.specs.TreeText.{text_of}
 use Rattle.tera_c.specs.Asked.{marks_at, AreMarkers, IsReadable}

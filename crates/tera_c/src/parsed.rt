@@ -3,7 +3,7 @@
 ghost use Rattle.std.specs.Prelude.{◌≡◌, IfOk, IfErr};
 ghost use Rattle.tera_lexer.specs.grammar.Marks.{marks_of, IsValid};
 ghost use Rattle.tera_grammar.specs.statements.Top.{Derives};
-ghost use Rattle.tera_expr_parts.specs.Rooms.{AreValid, limits_of};
+ghost use Rattle.tera_expr_parts.specs.Allowed.{AreValid, limits_of};
 ghost use Rattle.tera_tree.specs.Outputs.{output_view};
 ghost use Rattle.tera_c.specs.Asked.{limits_at};
 ghost use Rattle.tera_c.specs.WithoutTree.{RefusesText, RefusesAsked};

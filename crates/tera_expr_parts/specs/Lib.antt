@@ -1,3 +1,4 @@
+pub mod Allowed
 pub mod Rooms
 pub mod Paths
 pub mod Fronts

@@ -4,7 +4,8 @@ ghost use Rattle.std.specs.Prelude.{◌≡◌, ◌⊎◌, ◌≤◌, IfErr, IfOk
 ghost use Rattle.tera_base.specs.Errors.{IsMemory};
 ghost use Rattle.tera_grammar.specs.expressions.Reading.Bracketed.{inside_array, inside_subscript};
 ghost use Rattle.tera_grammar.specs.expressions.Reading.Whole.{widest};
-ghost use Rattle.tera_expr_parts.specs.Rooms.{Decides, limits_of, lowered, room_of};
+ghost use Rattle.tera_expr_parts.specs.Allowed.{limits_of};
+ghost use Rattle.tera_expr_parts.specs.Rooms.{Decides, lowered, room_of};
 ghost use Rattle.tera_expect.specs.Taking.{Refuses};
 
 use crate::faults::{too_complex, too_many_arrays, too_many_subscripts, uncounted_not};
@@ -31,7 +32,7 @@ pub struct Limits {
 impl Default for Limits {
     ghost use Rattle.std.specs.Prelude.{◌≡◌};
     ghost use Rattle.tera_grammar.specs.Limits.{usual};
-    ghost use Rattle.tera_expr_parts.specs.Rooms.{AreValid, limits_of};
+    ghost use Rattle.tera_expr_parts.specs.Allowed.{AreValid, limits_of};
 
     ghost is_default = { λ l. (limits_of l ≡ usual) × AreValid (limits_of l) };
 
@@ -47,7 +48,7 @@ impl Default for Limits {
 }
 
 impl Limits {
-    ghost use Rattle.tera_expr_parts.specs.Rooms.{AreValid};
+    ghost use Rattle.tera_expr_parts.specs.Allowed.{AreValid};
 
     /// Whether templates are read within these limits: each is at least 1, and they are at most 100, 4096, 16, 8
     /// and 100.

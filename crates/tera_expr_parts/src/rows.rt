@@ -24,7 +24,7 @@ pub struct Values {
 impl Values {
     ghost use Rattle.std.specs.Prelude.{◌≡◌};
     ghost use Rattle.tera_grammar.specs.expressions.Reading.Whole.{outermost, widest};
-    ghost use Rattle.tera_expr_parts.specs.Rooms.{limits_of};
+    ghost use Rattle.tera_expr_parts.specs.Allowed.{limits_of};
 
     /// The values of an outermost row, each with all that may come.
     pub fn outermost(scope: Scope) -> Values

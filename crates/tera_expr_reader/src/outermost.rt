@@ -3,7 +3,7 @@
 ghost use Rattle.std.specs.Prelude.{IfErr, IfOk};
 ghost use Rattle.tera_grammar.specs.expressions.Reading.Whole.{kwargs_of};
 ghost use Rattle.tera_grammar.specs.statements.Reading.Expressions.{array_of, attributes_of, component_of, expression_of, filter_of, map_of};
-ghost use Rattle.tera_expr_parts.specs.Rooms.{limits_of};
+ghost use Rattle.tera_expr_parts.specs.Allowed.{limits_of};
 ghost use Rattle.tera_expr_reader.specs.Outermost.{AreAttributes, AreKwargs, IsArray, IsComponent, IsExpression, IsFilter, IsMap};
 ghost use Rattle.tera_expect.specs.Taking.{GivesBy, GoesOn, Refuses, Took};
 

@@ -1,6 +1,6 @@
 -- From the fields of a `Parser` to what it is given.
 use Rattle.tera_lexer.specs.grammar.Marks.{marks_of, IsValid}
-use Rattle.tera_expr_parts.specs.Rooms.{AreValid, limits_of}
+use Rattle.tera_expr_parts.specs.Allowed.{AreValid, limits_of}
 use Rattle.tera_parser.specs.Job.{Job}
 use Rattle.tera_parser.specs.declared.parsing.Parser.TheInside.{Inside}
 

@@ -29,7 +29,7 @@ ghost use Rattle.tera_grammar.specs.expressions.Ends.{EndsAttributes, EndsFilter
 ghost use Rattle.tera_grammar.specs.expressions.Measures.{EachAttribute, EachRow, Within};
 ghost use Rattle.tera_grammar.specs.expressions.Output.{attributes_output};
 ghost use Rattle.tera_parser.specs.Promises.{TakesOnly, TookArray, TookAttributes, TookFilter, TookKwargs, TookMap};
-ghost use Rattle.tera_expr_parts.specs.Rooms.{AreValid, limits_of};
+ghost use Rattle.tera_expr_parts.specs.Allowed.{AreValid, limits_of};
 
 use std::collections::BTreeMap;
 use tera_base::{Error, Value};

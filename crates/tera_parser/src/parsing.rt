@@ -3,7 +3,7 @@
 ghost use Rattle.std.specs.Prelude.{◌≡◌, IfOk, IfErr, IsOk, MatchResult};
 ghost use Rattle.tera_lexer.specs.grammar.Marks.{marks_of, IsValid};
 ghost use Rattle.tera_base.specs.Errors.{IsMemory};
-ghost use Rattle.tera_expr_parts.specs.Rooms.{AreValid, limits_of};
+ghost use Rattle.tera_expr_parts.specs.Allowed.{AreValid, limits_of};
 ghost use Rattle.tera_grammar.specs.statements.Top.{Derives, DerivesNames};
 ghost use Rattle.tera_parser.specs.Comments.{IsCommentsAlone};
 ghost use Rattle.tera_parser.specs.Notes.{NotesName};

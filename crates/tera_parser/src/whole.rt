@@ -10,7 +10,7 @@ ghost use Rattle.tera_grammar.specs.expressions.Ends.{IsStop};
 ghost use Rattle.tera_grammar.specs.expressions.Measures.{Within};
 ghost use Rattle.tera_grammar.specs.expressions.Output.{output};
 ghost use Rattle.tera_parser.specs.Promises.{TakesOnly, TookExpression};
-ghost use Rattle.tera_expr_parts.specs.Rooms.{AreValid, limits_of};
+ghost use Rattle.tera_expr_parts.specs.Allowed.{AreValid, limits_of};
 
 use tera_base::Error;
 use tera_expr_parts::Scope;

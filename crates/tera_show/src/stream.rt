@@ -3,7 +3,7 @@
 ghost use Rattle.std.specs.Prelude.{◌≡◌, ◌≢◌, ◌<◌, ℕ, length, take, string_bytes, IfOk, OnOk, IfErr, IfSome};
 ghost use Rattle.std.specs.Io.KnownBytes.{Appends};
 ghost use Rattle.tera_grammar.specs.Limits.{usual};
-ghost use Rattle.tera_expr_parts.specs.Rooms.{AreValid, limits_of};
+ghost use Rattle.tera_expr_parts.specs.Allowed.{AreValid, limits_of};
 ghost use Rattle.tera_tree_text.specs.TreeText.{text_of};
 ghost use Rattle.tera_show.specs.Shown.{IsShown, IsAnswer, fault_line, status_of};
 

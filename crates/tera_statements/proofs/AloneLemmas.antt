@@ -14,7 +14,7 @@ use Rattle.tera_grammar.specs.expressions.Reading.Atoms.{chain_of, word_head}
 use Rattle.tera_grammar.specs.expressions.Reading.Loop.{expr, loop_by, step}
 use Rattle.tera_grammar.specs.statements.Expressions.{expression_output}
 use Rattle.tera_grammar.specs.statements.Reading.Expressions.{expression_of}
-use Rattle.tera_expr_parts.specs.Rooms.{AreValid}
+use Rattle.tera_expr_parts.specs.Allowed.{AreValid}
 use Rattle.tera_statements.specs.Reading.{EndsAfter, NamesVariable}
 
 abbrev pub alone : List ℕ → Span → Tree

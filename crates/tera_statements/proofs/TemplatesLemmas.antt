@@ -26,7 +26,7 @@ use Rattle.tera_grammar.specs.statements.Top.{is_blank, is_empty}
 use Rattle.tera_grammar.specs.statements.Reading.Meeting.{Seen}
 use Rattle.tera_statements.specs.Items.{AreEmptyTexts, GoesByItem}
 use Rattle.tera_statements.specs.Kinds.{kind_of}
-use Rattle.tera_expr_parts.specs.Rooms.{AreValid}
+use Rattle.tera_expr_parts.specs.Allowed.{AreValid}
 use Rattle.tera_expect.specs.Taking.{Fails, RefusesIn, Took}
 use Rattle.tera_statements.specs.Templates.{Excludes, GivesPhase, GivesTemplate, GivesTextPhase, ReadsTemplate, ComesNext, TopOf, top_depth, phase_if_any, phase_of}
 use Rattle.tera_statements.specs.declared.fronts.Front.TheVariants as fronts

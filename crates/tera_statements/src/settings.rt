@@ -1,6 +1,6 @@
 //! What a template is read with.
 
-ghost use Rattle.tera_expr_parts.specs.Rooms.{AreValid, limits_of};
+ghost use Rattle.tera_expr_parts.specs.Allowed.{AreValid, limits_of};
 
 use tera_expr_parts::{Limits, Scope};
 

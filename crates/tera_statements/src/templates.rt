@@ -12,7 +12,7 @@ ghost use Rattle.tera_statements.specs.Adding.{added_view, here};
 ghost use Rattle.tera_tree.specs.Outputs.{output_view};
 ghost use Rattle.tera_statements.specs.Items.{AreEmptyTexts, GivesStep, GoesByItem};
 ghost use Rattle.tera_statements.specs.Kinds.{kind_of};
-ghost use Rattle.tera_expr_parts.specs.Rooms.{AreValid, limits_of};
+ghost use Rattle.tera_expr_parts.specs.Allowed.{AreValid, limits_of};
 ghost use Rattle.tera_expect.specs.Taking.{RefusesIn, Took};
 ghost use Rattle.tera_statements.specs.Settings.{bodies_under, limits_under};
 ghost use Rattle.tera_statements.specs.Templates.{Excludes, GivesPhase, GivesTemplate, GivesTextPhase, GivesTop, ReadsTemplate, ComesNext, top_depth, phase_if_any, phase_of, weight_of};

@@ -6,7 +6,7 @@ use Rattle.tera_grammar.specs.statements.Reading.{body, branches}
 use Rattle.tera_grammar.specs.statements.Reading.Loops.{Going, Branching}
 use Rattle.tera_statements.specs.Adding.{here}
 use Rattle.tera_statements.specs.Around.{Represents, context_of}
-use Rattle.tera_expr_parts.specs.Rooms.{limits_of}
+use Rattle.tera_expr_parts.specs.Allowed.{limits_of}
 use Rattle.tera_expect.specs.Taking.{GoesOn}
 use Rattle.tera_statements.specs.Conditions.{branch_view}
 use Rattle.tera_statements.proofs.+bodies.Given as goal

@@ -4,7 +4,7 @@ use Rattle.tera_base.specs.ErrorView.{report_view}
 use Rattle.tera_grammar.specs.Limits.{Limits}
 use Rattle.tera_grammar.specs.statements.Top.{Derives}
 use Rattle.tera_lexer.specs.grammar.Marks.{Marks, marks_of}
-use Rattle.tera_expr_parts.specs.Rooms.{limits_of}
+use Rattle.tera_expr_parts.specs.Allowed.{limits_of}
 use Rattle.tera_parser.specs.Job.{Job}
 use Rattle.tera_parser.specs.Refusal.{Refuses}
 use Rattle.tera_tree.specs.Tree.{Output}

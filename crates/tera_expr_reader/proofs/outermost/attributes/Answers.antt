@@ -1,4 +1,4 @@
-use Rattle.tera_expr_parts.specs.Rooms.{limits_of}
+use Rattle.tera_expr_parts.specs.Allowed.{limits_of}
 use Rattle.tera_expr_reader.proofs.OutermostLemmas.{attributes_alone}
 use Rattle.tera_expr_reader.proofs.outermost.attributes.Goals as goal
 

@@ -1,4 +1,4 @@
-use Rattle.tera_expr_parts.specs.Rooms.{limits_of}
+use Rattle.tera_expr_parts.specs.Allowed.{limits_of}
 use Rattle.tera_expr_reader.proofs.OutermostLemmas.{expression_alone}
 use Rattle.tera_expr_reader.proofs.outermost.expression.Goals as goal
 

@@ -2,7 +2,7 @@ use Rattle.std.proofs.Common.{ap, ◌∙◌}
 use Rattle.tera_base.specs.Values as values
 use Rattle.tera_ast.specs.Tree as tree
 use Rattle.tera_ast.specs.View.{expression_view}
-use Rattle.tera_expr_parts.specs.Rooms.{limits_of}
+use Rattle.tera_expr_parts.specs.Allowed.{limits_of}
 use Rattle.tera_expr_reader.proofs.OutermostLemmas.{filter_alone}
 use Rattle.tera_expr_reader.proofs.outermost.filter.Goals as goal
 

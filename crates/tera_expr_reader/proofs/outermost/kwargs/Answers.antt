@@ -1,5 +1,5 @@
 use Rattle.std.proofs.lemmas.Result.{err_from_is_err_and}
-use Rattle.tera_expr_parts.specs.Rooms.{limits_of}
+use Rattle.tera_expr_parts.specs.Allowed.{limits_of}
 use Rattle.tera_expr_reader.proofs.OutermostLemmas.{kwargs_alone, no_paren}
 use Rattle.tera_expr_reader.proofs.outermost.kwargs.Goals as goal
 

@@ -8,7 +8,7 @@ use Rattle.tera_grammar.specs.expressions.Marks.{LeftBracket}
 use Rattle.tera_grammar.specs.expressions.Reading.Front.{at}
 use Rattle.tera_expr_parts.specs.Folding.{constant_of}
 use Rattle.tera_expr_parts.specs.Ranges.{RunsFrom}
-use Rattle.tera_expr_parts.specs.Rooms.{limits_of}
+use Rattle.tera_expr_parts.specs.Allowed.{limits_of}
 use Rattle.tera_expr_reader.proofs.LiteralArrays.{no_bracket, array_fails, array_comes, no_array_comes}
 use Rattle.tera_expr_reader.proofs.OutermostLemmas.{array_given}
 use Rattle.tera_expr_reader.proofs.Ranges.{still_within, refused_from}

@@ -8,7 +8,7 @@ use Rattle.tera_grammar.specs.expressions.Marks.{LeftBrace}
 use Rattle.tera_grammar.specs.expressions.Reading.Front.{at}
 use Rattle.tera_expr_parts.specs.Folding.{constant_of}
 use Rattle.tera_expr_parts.specs.Ranges.{RunsFrom}
-use Rattle.tera_expr_parts.specs.Rooms.{limits_of}
+use Rattle.tera_expr_parts.specs.Allowed.{limits_of}
 use Rattle.tera_expr_reader.proofs.LiteralMaps.{no_brace, map_fails, map_comes, no_map_comes}
 use Rattle.tera_expr_reader.proofs.OutermostLemmas.{map_given}
 use Rattle.tera_expr_reader.proofs.Ranges.{still_within, refused_from}

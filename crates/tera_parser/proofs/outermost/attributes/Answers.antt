@@ -1,4 +1,4 @@
-use Rattle.tera_expr_parts.specs.Rooms.{limits_of}
+use Rattle.tera_expr_parts.specs.Allowed.{limits_of}
 use Rattle.tera_parser.proofs.PromisesLemmas.{attributes_found, attributes_complete}
 use Rattle.tera_parser.proofs.outermost.attributes.Goals as goal
 

@@ -1,4 +1,4 @@
-use Rattle.tera_expr_parts.specs.Rooms.{limits_of}
+use Rattle.tera_expr_parts.specs.Allowed.{limits_of}
 use Rattle.tera_parser.proofs.PromisesLemmas.{kwargs_were_found, kwargs_complete}
 use Rattle.tera_parser.proofs.outermost.kwargs.Goals as goal
 

@@ -1,7 +1,7 @@
 use Rattle.std.proofs.Common.{◌≡◌, ◌∙◌, sym, subst, ap, List, ℕ, string_bytes}
 use Rattle.tera_lexer.specs.grammar.Marks.{Marks, default_marks}
 use Rattle.tera_grammar.specs.Limits.{Limits}
-use Rattle.tera_expr_parts.specs.Rooms.{limits_of}
+use Rattle.tera_expr_parts.specs.Allowed.{limits_of}
 use Rattle.tera_parser.specs.Job.{Job}
 use Rattle.tera_grammar.specs.statements.Top.{Derives}
 use Rattle.tera_tree.specs.Outputs.{output_view}

@@ -10,7 +10,7 @@ use Rattle.tera_grammar.specs.statements.Reading.TagParts.{front}
 use Rattle.tera_grammar.proofs.statements.Loops.{going_ends, going_on, going_refused, going_starts}
 use Rattle.tera_statements.specs.Adding.{here, seen_of}
 use Rattle.tera_statements.specs.Around.{context_of}
-use Rattle.tera_expr_parts.specs.Rooms.{limits_of}
+use Rattle.tera_expr_parts.specs.Allowed.{limits_of}
 use Rattle.tera_expect.specs.Taking.{GoesOn}
 use Rattle.tera_statements.proofs.BodiesLemmas.{no_depth}
 use Rattle.tera_statements.proofs.ItemsLemmas.{step_holds}

@@ -9,7 +9,7 @@ use Rattle.tera_grammar.specs.statements.Reading.TagParts.{tag}
 use Rattle.tera_statements.specs.Adding.{seen_of, here}
 use Rattle.tera_statements.proofs.ConditionsLemmas.{no_first, no_branches, if_unclosed, if_given, no_condition, condition_empty, condition_given, elif_branch, ends_by, no_elif_branch, no_elif_there}
 use Rattle.tera_expect.proofs.Steps.{failed_as}
-use Rattle.tera_expr_parts.specs.Rooms.{limits_of}
+use Rattle.tera_expr_parts.specs.Allowed.{limits_of}
 use Rattle.std.proofs.lemmas.List.{map-append}
 use Rattle.tera_grammar.specs.statements.Reading.Loops.{nest}
 use Rattle.tera_grammar.proofs.statements.Loops.{branching_starts, branching_on, branching_ends, branching_refused, branching_end_refused}

@@ -5,7 +5,7 @@ use Rattle.tera_grammar.specs.statements.Reading.{body}
 use Rattle.tera_grammar.specs.statements.Reading.TagParts.{front}
 use Rattle.tera_statements.specs.Adding.{seen_of}
 use Rattle.tera_statements.specs.Kinds.{opener_of}
-use Rattle.tera_expr_parts.specs.Rooms.{limits_of}
+use Rattle.tera_expr_parts.specs.Allowed.{limits_of}
 use Rattle.tera_statements.proofs.ItemsLemmas.{opens_item, opens_nothing, step_closed, step_ended, step_wrong}
 use Rattle.tera_statements.proofs.RefusalLemmas.{quiet, wrong_left}
 use Rattle.tera_expect.proofs.Steps.{failed_as}

@@ -10,7 +10,7 @@ use Rattle.tera_statements.specs.Adding.{seen_of, here}
 use Rattle.tera_statements.proofs.ConditionsLemmas.{loop_unended, loop_empty, no_else, loop_unclosed, loop_given, without_else, else_unfinished, otherwise_given}
 use Rattle.tera_expect.proofs.Steps.{failed_as}
 use Rattle.tera_statements.specs.Around.{context_of}
-use Rattle.tera_expr_parts.specs.Rooms.{limits_of}
+use Rattle.tera_expr_parts.specs.Allowed.{limits_of}
 use Rattle.tera_grammar.specs.statements.Reading.{body}
 use Rattle.tera_statements.specs.declared.fronts.Closer.TheVariants as closers
 use Rattle.tera_expect.proofs.TakingLemmas.{goes_all_ok, took_all}

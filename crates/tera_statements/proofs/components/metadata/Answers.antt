@@ -4,7 +4,7 @@ use Rattle.tera_base.specs.ValueView.{pairs_view, value_view}
 use Rattle.tera_grammar.specs.statements.Components.{put_pairs}
 use Rattle.tera_grammar.specs.statements.Expressions.{map_output}
 use Rattle.tera_tree.specs.Definitions.{named_value}
-use Rattle.tera_expr_parts.specs.Rooms.{limits_of}
+use Rattle.tera_expr_parts.specs.Allowed.{limits_of}
 use Rattle.tera_statements.proofs.ComponentsLemmas.{metadata_given, metadata_refused, no_metadata_there}
 use Rattle.tera_statements.proofs.PairsLemmas.{same_pairs}
 use Rattle.tera_expect.proofs.Steps.{failed_as}

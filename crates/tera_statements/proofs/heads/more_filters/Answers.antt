@@ -1,6 +1,6 @@
 use Rattle.std.proofs.Common.{rules, ◌≡◌, [], ◌∷◌, ◌++◌}
 use Rattle.std.proofs.lemmas.Result.{err_from_is_err_and}
-use Rattle.tera_expr_parts.specs.Rooms.{limits_of}
+use Rattle.tera_expr_parts.specs.Allowed.{limits_of}
 use Rattle.tera_expect.proofs.TakingLemmas.{stays, goes_further, took_goes, took_all, took_size}
 use Rattle.tera_statements.proofs.FiltersLemmas.{pipes_end, pipes_fail, pipes_on, pipes_start}
 use Rattle.tera_statements.proofs.heads.more_filters.Goals as goal

@@ -1,5 +1,5 @@
 use Rattle.tera_lexer.specs.code.Cursors.{size}
-use Rattle.tera_expr_parts.specs.Rooms.{limits_of}
+use Rattle.tera_expr_parts.specs.Allowed.{limits_of}
 use Rattle.tera_expect.specs.Taking.{GoesOn}
 use Rattle.tera_statements.proofs.FiltersLemmas.{Pipes}
 use Rattle.tera_statements.proofs.heads.more_filters.Given as goal

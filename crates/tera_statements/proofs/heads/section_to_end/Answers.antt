@@ -1,6 +1,6 @@
 use Rattle.std.proofs.Common.{rules, ◌≡◌, [], ◌∷◌}
 use Rattle.std.proofs.lemmas.Result.{err_from_is_err_and}
-use Rattle.tera_expr_parts.specs.Rooms.{limits_of}
+use Rattle.tera_expr_parts.specs.Allowed.{limits_of}
 use Rattle.tera_statements.proofs.HeadsLemmas.{no_filter, with_others}
 use Rattle.tera_expect.proofs.TakingLemmas.{goes_took_ok, refused_further_err, took_goes}
 use Rattle.tera_expect.proofs.Steps.{failed_as}

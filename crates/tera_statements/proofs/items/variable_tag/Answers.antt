@@ -4,7 +4,7 @@ use Rattle.tera_ast.specs.Tree as tree
 use Rattle.tera_grammar.specs.statements.Grammar.{Shown, Single}
 use Rattle.tera_grammar.specs.statements.Output.{AddsNode}
 use Rattle.tera_grammar.specs.statements.Reading.TagParts.{front}
-use Rattle.tera_expr_parts.specs.Rooms.{limits_of}
+use Rattle.tera_expr_parts.specs.Allowed.{limits_of}
 use Rattle.tera_statements.proofs.ItemsLemmas.{shown_taken, shows_given, shows_nothing, shows_tag, shows_unended}
 use Rattle.tera_expect.proofs.Steps.{failed_as}
 use Rattle.tera_statements.proofs.items.variable_tag.Goals as goal

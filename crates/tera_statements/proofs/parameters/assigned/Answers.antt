@@ -1,7 +1,7 @@
 use Rattle.std.proofs.Common.{None, Some, refl, ap}
 use Rattle.std.proofs.lemmas.Result.{err_from_is_err_and}
 use Rattle.tera_grammar.specs.statements.Reading.Components.{assigned_in}
-use Rattle.tera_expr_parts.specs.Rooms.{limits_of}
+use Rattle.tera_expr_parts.specs.Allowed.{limits_of}
 use Rattle.tera_statements.proofs.ParametersLemmas.{no_default, default_given}
 use Rattle.tera_expect.proofs.Steps.{failed_as}
 use Rattle.tera_statements.proofs.parameters.assigned.Goals as goal

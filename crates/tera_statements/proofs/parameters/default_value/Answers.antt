@@ -11,7 +11,7 @@ use Rattle.tera_grammar.specs.expressions.Reading.Front.{literal_of, same_token}
 use Rattle.tera_grammar.specs.statements.Components.{LiteralDefault}
 use Rattle.tera_grammar.specs.statements.Reading.Components.{default_of, minus_of}
 use Rattle.tera_statements.specs.Parameters.{IsDefault}
-use Rattle.tera_expr_parts.specs.Rooms.{limits_of}
+use Rattle.tera_expr_parts.specs.Allowed.{limits_of}
 use Rattle.tera_expect.specs.Taking.{GivesBy, IsCounted}
 use Rattle.tera_statements.proofs.ParametersLemmas.{array_default, counted_fits, literal_default, map_default, minus_default, none_word, other_default, untaken, view_number, view_text, view_truth, word_default}
 use Rattle.tera_statements.proofs.parameters.default_value.Goals as goal

@@ -3,7 +3,7 @@ use Rattle.std.proofs.lemmas.Result.{err_from_is_err_and}
 use Rattle.tera_grammar.specs.statements.Reading.Components as reading
 use Rattle.tera_statements.specs.Known.{located_of, met_of}
 use Rattle.tera_statements.specs.Parameters.{has_default}
-use Rattle.tera_expr_parts.specs.Rooms.{limits_of}
+use Rattle.tera_expr_parts.specs.Allowed.{limits_of}
 use Rattle.tera_expect.specs.Taking.{name_at}
 use Rattle.tera_statements.proofs.ParametersLemmas.{annotation_known, argument_is, at_after, at_read, mistyped, no_annotation, no_assigned, no_fresh_name, parameter_given}
 use Rattle.tera_expect.proofs.Steps.{failed_as, fails_by}

@@ -10,7 +10,7 @@ use Rattle.tera_grammar.specs.statements.Reading.Meeting.{met}
 use Rattle.tera_statements.specs.Known.{located_of}
 use Rattle.tera_statements.proofs.KnownLemmas.{none_located}
 use Rattle.tera_statements.specs.Parameters.{arguments_view}
-use Rattle.tera_expr_parts.specs.Rooms.{limits_of}
+use Rattle.tera_expr_parts.specs.Allowed.{limits_of}
 use Rattle.tera_expect.proofs.TakingLemmas.{goes_further, goes_took, refused_after, refused_further, stays, took_all, took_further, took_goes, took_size}
 use Rattle.tera_statements.proofs.ParametersLemmas.{closed_there, eaten_goes, last_given, listing_more, no_comma, no_parameter, no_rest, rest_given, same_place}
 use Rattle.tera_expect.proofs.Steps.{failed_as}

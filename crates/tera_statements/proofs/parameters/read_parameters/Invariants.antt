@@ -2,7 +2,7 @@ use Rattle.tera_lexer.specs.code.Cursors.{size}
 use Rattle.tera_grammar.specs.statements.Reading.Loops.{Listing}
 use Rattle.tera_statements.specs.Known.{located_of}
 use Rattle.tera_statements.specs.Parameters.{arguments_view}
-use Rattle.tera_expr_parts.specs.Rooms.{limits_of}
+use Rattle.tera_expr_parts.specs.Allowed.{limits_of}
 use Rattle.tera_expect.specs.Taking.{GoesOn}
 use Rattle.tera_statements.proofs.parameters.read_parameters.Given as goal
 

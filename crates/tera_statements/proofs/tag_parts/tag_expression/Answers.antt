@@ -1,6 +1,6 @@
 use Rattle.std.proofs.Common.{◌∙◌, ap}
 use Rattle.tera_ast.specs.Tree as tree
-use Rattle.tera_expr_parts.specs.Rooms.{limits_of}
+use Rattle.tera_expr_parts.specs.Allowed.{limits_of}
 use Rattle.tera_statements.proofs.AloneLemmas.{alone, alone_read, alone_shown}
 use Rattle.tera_statements.proofs.tag_parts.tag_expression.Goals as goal
 

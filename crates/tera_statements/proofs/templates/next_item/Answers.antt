@@ -3,7 +3,7 @@ use Rattle.std.proofs.lemmas.Result.{err_from_is_err_and}
 use Rattle.tera_grammar.specs.statements.Reading.{body}
 use Rattle.tera_grammar.specs.statements.Reading.Loops.{turn, weight}
 use Rattle.tera_statements.specs.Adding.{here, seen_of}
-use Rattle.tera_expr_parts.specs.Rooms.{limits_of}
+use Rattle.tera_expr_parts.specs.Allowed.{limits_of}
 use Rattle.tera_statements.specs.Templates.{top_depth, phase_if_any, phase_of}
 use Rattle.tera_statements.proofs.RefusalLemmas.{empty_adds, silent_turns}
 use Rattle.tera_statements.proofs.TemplatesLemmas.{fails_excluded, turn_excluded}

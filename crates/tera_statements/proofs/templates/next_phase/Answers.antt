@@ -1,4 +1,4 @@
-use Rattle.tera_expr_parts.specs.Rooms.{limits_of}
+use Rattle.tera_expr_parts.specs.Allowed.{limits_of}
 use Rattle.tera_statements.specs.Adding.{seen_of}
 use Rattle.tera_tree.specs.Outputs.{output_view}
 use Rattle.tera_statements.proofs.TemplatesLemmas.{text_empty, text_gives, text_goes}

@@ -1,4 +1,4 @@
-use Rattle.tera_expr_parts.specs.Rooms.{limits_of}
+use Rattle.tera_expr_parts.specs.Allowed.{limits_of}
 use Rattle.tera_statements.proofs.TemplatesLemmas.{template_given}
 use Rattle.tera_statements.proofs.templates.read_output.Goals as goal
 

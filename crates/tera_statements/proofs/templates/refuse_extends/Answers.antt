@@ -1,6 +1,6 @@
 use Rattle.std.proofs.Common.{◌∙◌, sym}
 use Rattle.tera_grammar.specs.statements.Reading.{at}
-use Rattle.tera_expr_parts.specs.Rooms.{limits_of}
+use Rattle.tera_expr_parts.specs.Allowed.{limits_of}
 use Rattle.tera_statements.specs.Templates.{phase_of}
 use Rattle.tera_statements.proofs.RefusalLemmas.{quiet}
 use Rattle.tera_statements.proofs.TemplatesLemmas.{late_excluded, no_phase}

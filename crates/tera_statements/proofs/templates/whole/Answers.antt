@@ -4,7 +4,7 @@ use Rattle.tera_lexer.specs.code.Cursors.{Position, is_end}
 use Rattle.tera_grammar.specs.statements.Reading.{Place, Starting, at, body}
 use Rattle.tera_grammar.proofs.statements.Loops.{topping_ends, topping_left, topping_on, topping_starts}
 use Rattle.tera_statements.specs.Adding.{here, seen_of}
-use Rattle.tera_expr_parts.specs.Rooms.{limits_of}
+use Rattle.tera_expr_parts.specs.Allowed.{limits_of}
 use Rattle.tera_expect.specs.Taking.{GoesOn}
 use Rattle.tera_statements.specs.Templates.{top_depth, phase_of}
 use Rattle.tera_tree.specs.Outputs.{output_view}

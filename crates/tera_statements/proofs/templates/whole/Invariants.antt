@@ -1,6 +1,6 @@
 use Rattle.tera_lexer.specs.code.Cursors.{size}
 use Rattle.tera_statements.specs.Adding.{here}
-use Rattle.tera_expr_parts.specs.Rooms.{limits_of}
+use Rattle.tera_expr_parts.specs.Allowed.{limits_of}
 use Rattle.tera_expect.specs.Taking.{GoesOn}
 use Rattle.tera_statements.specs.Templates.{TopOf, phase_of}
 use Rattle.tera_tree.specs.Outputs.{output_view}
