@@ -16,6 +16,7 @@ mod fronts;
 mod kept;
 mod layouts;
 mod parameters;
+mod places;
 mod refusals;
 mod settings;
 mod shown;

@@ -2,6 +2,7 @@
 
 use crate::answers::answer;
 use crate::beginnings::{Beginning, beginning_of};
+use crate::places::wrong_place;
 use crate::refusals::wrong_refusals;
 use crate::settings::{Setting, setting_of, source_of_case};
 use crate::soundness::{Soundness, soundness_of};
@@ -119,13 +120,26 @@ fn compare_tree(
     count: &mut Count,
 ) -> Result<bool, Stop> {
     match soundness_of(rt.alloc(), setting, source)? {
-        Soundness::NoTree => Ok(true),
+        Soundness::NoTree => placed(rt, setting, case, source),
         Soundness::Broken(what) => fails(rt, setting.file, case, what),
         Soundness::Sound if !are_listed(rt.alloc(), setting, source)? => {
             let what = "a tag whose word is not among those of statements";
             fails(rt, setting.file, case, what)
         }
         Soundness::Sound => cut(rt, setting, case, source, count),
+    }
+}
+
+// Whether the fault of the source is where it may be.
+fn placed(
+    rt: &HostRuntime,
+    setting: &Setting<'_>,
+    case: &Case,
+    source: &str,
+) -> Result<bool, Stop> {
+    match wrong_place(rt.alloc(), setting, source)? {
+        Some(what) => fails(rt, setting.file, case, what),
+        None => Ok(true),
     }
 }
 
