@@ -13,7 +13,7 @@ use Rattle.tera_check.specs.Lost.{are_open}
 use Rattle.tera_check.specs.Named.{definitions_of}
 use Rattle.tera_workspace.specs.Diagnostics.{DiagnosticVal}
 use Rattle.tera_workspace.specs.Heads.{definition_named, HaveOneHeadIfAny}
-use Rattle.tera_workspace.specs.Kept.{source_of, sources_of, templates_of, reported_of, reported_named, has_name, NoneBefore, IsNumbered, IsPlaceOf, IsWhole, IsAnew, AllWhole, AreCurrent, StayKept, IsTextAt, marked}
+use Rattle.tera_workspace.specs.Kept.{source_of, sources_of, templates_of, reported_of, reported_named, has_name, IsNumbered, IsNewPlace, IsWhole, IsAnew, AllWhole, AreCurrent, StayKept, IsTextAt, marked}
 use Rattle.tera_workspace.specs.Names.{is_among}
 use Rattle.tera_workspace.specs.Sources.{Source, AreInOrder, AreAscending, text_named}
 use Rattle.tera_workspace.specs.declared.diagnostics.Diagnostic.{Diagnostic}
@@ -200,8 +200,8 @@ module _ (name : List ℕ) (j : Judged) (named : string_bytes j.template.file �
     insert_ordered js i (omega arith) (λ m h. before (suc m) (omega arith)) (λ h. following (omega arith)) (λ m h. none (suc m) (omega arith)) o.1,
   )
 
-  insert_sorted : (js : List Judged) (i : ℕ) → IsPlaceOf name js i → ((m : ℕ) → m < length js → has_name name (get_or js m j) ≡ false) → AreAscending (sources_of js) → AreAscending (sources_of (insert js i j))
-  insert_sorted js i place none o = insert_ordered js i place.within (λ m h. place.before m j h) (λ h. place.following j h) none o
+  insert_sorted : (js : List Judged) (i : ℕ) → IsNewPlace name js i → AreAscending (sources_of js) → AreAscending (sources_of (insert js i j))
+  insert_sorted js i place o = insert_ordered js i place.within (λ m h. place.before m j h) (λ h. place.following j h) (λ m h. place.none m j h) o
 
 -- ---- another text of one that is among them
 
@@ -268,10 +268,10 @@ text_stays name text js i d number same n =
 
 -- ---- one more
 
-module _ (name : List ℕ) (touched : List (List ℕ)) (js : List Judged) (i : ℕ) (j : Judged) (place : IsPlaceOf name js i) (none : NoneBefore name js (length js)) (anew : IsAnew name j.text j)
+module _ (name : List ℕ) (touched : List (List ℕ)) (js : List Judged) (i : ℕ) (j : Judged) (place : IsNewPlace name js i) (anew : IsAnew name j.text j)
     (heads : (n : List ℕ) → is_among n touched ≡ false → HaveOneHeadIfAny None (definition_named n (definitions_of j.template))) where
   text_more : (n : List ℕ) → text_named n (sources_of (insert js i j)) ≡ cond (bytes_eq name n) j.text (text_named n (sources_of js))
-  text_more n = text_insert name j anew.named js i place.within (λ m h. none m j h) n
+  text_more n = text_insert name j anew.named js i place.within (λ m h. place.none m j h) n
 
   abbrev pub inserted : List Judged
   inserted = map (marked touched name) (insert js i j)
@@ -282,8 +282,8 @@ module _ (name : List ℕ) (touched : List (List ℕ)) (js : List Judged) (i : �
     current = λ e w opened current.
         inserted_current e name touched js i j place.within anew.stale w heads
         (λ n other. text_more n ∙ ap (λ b. cond b j.text (text_named n (sources_of js))) (differ name n (λ same. other (sym same)))) opened current;
-    ordered = λ o. subst AreAscending (sym (marked_sources touched name (insert js i j))) (insert_sorted name j anew.named js i place (λ m h. none m j h) o);
-    reported = λ n. marked_reported n touched name (insert js i j) ∙ reported_insert name j anew.named js i place.within anew.unreported (λ m h. none m j h) n;
+    ordered = λ o. subst AreAscending (sym (marked_sources touched name (insert js i j))) (insert_sorted name j anew.named js i place o);
+    reported = λ n. marked_reported n touched name (insert js i j) ∙ reported_insert name j anew.named js i place.within anew.unreported (λ m h. place.none m j h) n;
   }
 
   insert_text : IsTextAt name j.text js inserted

@@ -40,6 +40,10 @@ reported_sources [] news = refl
 reported_sources (j ∷ js) [] = refl
 reported_sources (j ∷ js) (v ∷ news) = λ i. one_source j v i ∷ reported_sources js news i
 
+-- so they are in the same order
+pub still_ordered : (js now : List Judged) (news : List News) → now ≡ reported_each js news → AreAscending (sources_of js) → AreAscending (sources_of now)
+still_ordered js now news is ordered = subst (λ (xs : List Judged). AreAscending (sources_of xs)) (sym is) (subst AreAscending (sym (reported_sources js news)) ordered)
+
 pub reported_templates : (js : List Judged) (news : List News) → templates_of (reported_each js news) ≡ templates_of js
 reported_templates [] news = refl
 reported_templates (j ∷ js) [] = refl
@@ -88,7 +92,7 @@ module _ (e : Encoding) (js : List Judged) (news : List News) (current : AreCurr
 pub not_equal : (a b : List ℕ) → slice_cmp nat_cmp a b ≡ Less → bytes_eq a b ≡ false
 not_equal a b h = sym (is_eq-slice_cmp a b) ∙ ap is_eq h
 
-names_at : (js : List Judged) (k : ℕ) (d : Judged) (P : List ℕ → Type 0) → k < length js → AllByRecursion P (map (λ (s : Source). s.name) (sources_of js)) → P (string_bytes (get_or js k d).template.file)
+pub names_at : (js : List Judged) (k : ℕ) (d : Judged) (P : List ℕ → Type 0) → k < length js → AllByRecursion P (map (λ (s : Source). s.name) (sources_of js)) → P (string_bytes (get_or js k d).template.file)
 names_at [] k d P h all = absurd (omega arith)
 names_at (j ∷ js) zero d P h all = all.0
 names_at (j ∷ js) (suc k) d P h all = names_at js k d P (omega arith) all.1

@@ -21,12 +21,12 @@ use Rattle.tera_workspace.specs.declared.workspace.Workspace.{Workspace}
 use Rattle.tera_workspace.proofs.NameSets.{among_append}
 use Rattle.tera_workspace.specs.Diagnostics.{DiagnosticVal}
 use Rattle.tera_workspace.proofs.PlaceLemmas.{first_false, second_false, false_true}
-use Rattle.tera_workspace.proofs.SettleLemmas.{News, reported_sources, reported_whole, all_reported, now_current, all_read, all_fresh}
+use Rattle.tera_workspace.proofs.SettleLemmas.{News, reported_sources, reported_whole, still_ordered, all_reported, now_current, all_read, all_fresh}
 
 -- those that are not among the names that changed are what they were
-kept_by : (w : Workspace) (ds : Documents) (changed : Vec (String Global) Global) → IsKept w
+kept_by : (w : Workspace) (ds : Documents) (changed : Vec (String Global) Global) {ordered : AreAscending (sources_of w.judged.items)} → IsKept w
     → ((n : List ℕ) → is_among n (map string_bytes changed.items) ≡ false → (is_among n (map string_bytes w.changed.items) ≡ false) × (document_of ds n ≡ document_of w.documents n))
-    → IsKept (record w { documents = ds; changed = changed })
+    → IsKept (record w { documents = ds; changed = changed; ordered = ordered })
 kept_by w ds changed k h = record {
   whole = k.whole;
   ordered = k.ordered;
@@ -49,15 +49,16 @@ one_more changed now key name n is same free =
     )
 
 -- a document that changed, and all that are what they were
-pub kept_changed : (w : Workspace) (ds : Documents) (changed : Vec (String Global) Global) (key : String Global) (name : List ℕ) (change : DocumentVal → DocumentVal)
-    → changed.items ≡ w.changed.items ++ key ∷ [] → string_bytes key ≡ name → IsChangedAt name change w.documents ds → IsKept w → IsKept (record w { documents = ds; changed = changed })
+pub kept_changed : (w : Workspace) (ds : Documents) (changed : Vec (String Global) Global) (key : String Global) (name : List ℕ) (change : DocumentVal → DocumentVal) {ordered : AreAscending (sources_of w.judged.items)}
+    → changed.items ≡ w.changed.items ++ key ∷ [] → string_bytes key ≡ name → IsChangedAt name change w.documents ds → IsKept w
+    → IsKept (record w { documents = ds; changed = changed; ordered = ordered })
 kept_changed w ds changed key name change is same h k =
     kept_by w ds changed k (λ n free.
     let (was, other) = one_more w.changed.items changed.items key name n is same free in
     (was, h n ∙ ap (λ (b : Bool). cond b (change (document_of w.documents n)) (document_of w.documents n)) other))
 
-pub kept_same : (w : Workspace) (ds : Documents) (changed : Vec (String Global) Global) (key : String Global) (name : List ℕ)
-    → changed.items ≡ w.changed.items ++ key ∷ [] → string_bytes key ≡ name → AreSame w.documents ds → IsKept w → IsKept (record w { documents = ds; changed = changed })
+pub kept_same : (w : Workspace) (ds : Documents) (changed : Vec (String Global) Global) (key : String Global) (name : List ℕ) {ordered : AreAscending (sources_of w.judged.items)}
+    → changed.items ≡ w.changed.items ++ key ∷ [] → string_bytes key ≡ name → AreSame w.documents ds → IsKept w → IsKept (record w { documents = ds; changed = changed; ordered = ordered })
 kept_same w ds changed key name is same h k =
     kept_by w ds changed k (λ n free. let (was, other) = one_more w.changed.items changed.items key name n is same free in (was, h n))
 
@@ -86,14 +87,14 @@ each_text changed text before now kept stays read n = by_test (is_among n change
 -- where no more than the documents was read
 module _ (w : Workspace) (now : Vec Judged Global) (k : IsKept w) (stay : StayKept w.judged.items now.items)
     (others : (n : List ℕ) → is_among n (map string_bytes w.changed.items) ≡ false → text_named n (sources_of now.items) ≡ text_named n (sources_of w.judged.items)) where
-  pub kept_so_far : IsKept (record w { judged = now })
-  kept_so_far = kept_read w (record w { judged = now }) k refl stay (λ n free. others n free ∙ k.texts n free)
+  pub kept_so_far : {ordered : AreAscending (sources_of now.items)} → IsKept (record w { judged = now; ordered = ordered })
+  kept_so_far {ordered} = kept_read w (record w { judged = now; ordered = ordered }) k refl stay (λ n free. others n free ∙ k.texts n free)
 
-  pub kept_after : (changed : Vec (String Global) Global)
+  pub kept_after : {ordered : AreAscending (sources_of now.items)} (changed : Vec (String Global) Global)
       → ((n : List ℕ) → is_among n (map string_bytes w.changed.items) ≡ true → text_named n (sources_of now.items) ≡ unwrap_or (text_of (document_of w.documents n)) [])
-      → IsKept (record w { changed = changed; judged = now })
-  kept_after changed read =
-      kept_read w (record w { changed = changed; judged = now }) k refl stay
+      → IsKept (record w { changed = changed; judged = now; ordered = ordered })
+  kept_after {ordered} changed read =
+      kept_read w (record w { changed = changed; judged = now; ordered = ordered }) k refl stay
       (λ n free. each_text (map string_bytes w.changed.items) (λ m. unwrap_or (text_of (document_of w.documents m)) []) (λ m. text_named m (sources_of w.judged.items)) (λ m. text_named m (sources_of now.items))
       k.texts others read n)
 
@@ -154,23 +155,24 @@ pub kept_settled : (w : Workspace) (js : List Judged) (news : List News) → w.j
     → ((n : List ℕ) → text_named n (sources_of js) ≡ unwrap_or (text_of (document_of w.documents n)) []) → IsKept w
 kept_settled w js news is whole ordered current are texts = record {
   whole = subst AllWhole (sym is) (reported_whole js news whole);
-  ordered = subst (λ (xs : List Judged). AreAscending (sources_of xs)) (sym is) (subst AreAscending (sym (reported_sources js news)) ordered);
+  ordered = still_ordered js w.judged.items news is ordered;
   current = subst (AreCurrent w.encoding) (sym is) (now_current w.encoding js news current are);
   texts = λ n free. ap (λ (xs : List Judged). text_named n (sources_of xs)) is ∙ ap (text_named n) (reported_sources js news) ∙ texts n;
 }
 
 -- as a call answered that changes a document, or leaves all after an allocation failure
-pub kept_either : {X E : Type 0} (r : Result X E) (w : Workspace) (ds : Documents) (changed : Vec (String Global) Global) (key : String Global) (name : List ℕ) (change : DocumentVal → DocumentVal)
-    → changed.items ≡ w.changed.items ++ key ∷ [] → string_bytes key ≡ name → OnOk r (IsChangedAt name change w.documents ds) → OnErr r (AreSame w.documents ds) → IsKept w → IsKept (record w { documents = ds; changed = changed })
+pub kept_either : {X E : Type 0} (r : Result X E) (w : Workspace) (ds : Documents) (changed : Vec (String Global) Global) (key : String Global) (name : List ℕ) (change : DocumentVal → DocumentVal) {ordered : AreAscending (sources_of w.judged.items)}
+    → changed.items ≡ w.changed.items ++ key ∷ [] → string_bytes key ≡ name → OnOk r (IsChangedAt name change w.documents ds) → OnErr r (AreSame w.documents ds) → IsKept w
+    → IsKept (record w { documents = ds; changed = changed; ordered = ordered })
 kept_either (Ok x) w ds changed key name change is same ok err k = kept_changed w ds changed key name change is same ok k
 kept_either (Err e) w ds changed key name change is same ok err k = kept_same w ds changed key name is same err k
 
 -- ---- documents that were read, and reported about
 
 module _ (w : Workspace) (now : Vec Judged Global) (news : List News) (k : IsKept w) (read : AreRead w)
-    (are : AllWhole w.judged.items → AreNews w.encoding w.judged.items news) (is : now.items ≡ reported_each w.judged.items news) where
+    (are : AllWhole w.judged.items → AreNews w.encoding w.judged.items news) (is : now.items ≡ reported_each w.judged.items news) (ordered : AreAscending (sources_of now.items)) where
   abbrev settled : Workspace
-  settled = record w { judged = now }
+  settled = record w { judged = now; ordered = ordered }
 
   texts : (n : List ℕ) → text_named n (sources_of w.judged.items) ≡ unwrap_or (text_of (document_of w.documents n)) []
   texts n = ap (text_named n) read.texts ∙ read.are.texts n

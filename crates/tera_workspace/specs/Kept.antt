@@ -51,8 +51,9 @@ pub record IsNumbered (n : List ℕ) (js : List Judged) (k : ℕ) : Type 0 where
   pub is : (d : Judged) → has_name n (slice_index_or js k d) ≡ true
   pub first : NoneBefore n js k
 
--- where one of a name would be in the order of the names
-pub record IsPlaceOf (n : List ℕ) (js : List Judged) (k : ℕ) : Type 0 where
+-- where one of a name that none of them has would be in the order of the names
+pub record IsNewPlace (n : List ℕ) (js : List Judged) (k : ℕ) : Type 0 where
+  pub none : NoneBefore n js (length js)
   pub within : k ≤ length js
   pub before : (m : ℕ) (d : Judged) → m < k → is_gt (slice_cmp nat_cmp (string_bytes (slice_index_or js m d).template.file) n) ≡ false
   pub following : (d : Judged) → k < length js → is_gt (slice_cmp nat_cmp (string_bytes (slice_index_or js k d).template.file) n) ≡ true

@@ -4,9 +4,9 @@ ghost use Rattle.std.specs.Prelude.{◌≡◌, IfOk, map};
 ghost use Rattle.tera_check.specs.Findings.{finding_view, note_view};
 ghost use Rattle.tera_workspace.specs.Diagnostics.{diagnostic_view, related_view, diagnostic_of, related_of as reported_of_note, position_in};
 ghost use Rattle.tera_workspace.specs.Kept.{sources_of};
-ghost use Rattle.tera_workspace.specs.Sources.{text_named};
+ghost use Rattle.tera_workspace.specs.Sources.{AreAscending, text_named};
 
-use crate::judged::{Judged, number_of};
+use crate::judged::{Judged, place_of};
 use std::alloc::{AllocError, Global};
 use tera_check::{Finding, Kind, Note};
 use tera_parser::value::Span;
@@ -39,6 +39,7 @@ pub(crate) fn diagnostics_of(
     judged: &Judged,
     findings: Vec<Finding>,
 ) -> Result<Vec<Diagnostic>, AllocError>
+    requires { AreAscending (sources_of all.now.items) }
     ensures { IfOk result (λ v. map diagnostic_view v.items
         ≡ map (diagnostic_of encoding (sources_of all.now.items) judged.now.text)
         (map finding_view findings.items)) }
@@ -64,6 +65,7 @@ fn related_of(
     all: &Vec<Judged>,
     notes: Vec<Note>,
 ) -> Result<Vec<Related>, AllocError>
+    requires { AreAscending (sources_of all.now.items) }
     ensures { IfOk result (λ v. map related_view v.items
         ≡ map (reported_of_note encoding (sources_of all.now.items)) (map note_view notes.items)) }
 {
@@ -87,12 +89,13 @@ pub(crate) fn ends_in(
     name: &str,
     span: &Span,
 ) -> (Position, Position)
+    requires { AreAscending (sources_of all.now.items) }
     ensures { let text = text_named name.now (sources_of all.now.items) in
         result ≡ (position_in encoding text span.now.range.start, position_in encoding text span.now.range.end) }
 {
-    match number_of(all, name) {
-        Some(number) => all[number].text.ends_of(encoding, span),
-        None => {
+    match place_of(all, name) {
+        Ok(number) => all[number].text.ends_of(encoding, span),
+        Err(_) => {
             let first = Position {
                 line: 0,
                 character: 0,

@@ -1,13 +1,14 @@
 //! Documents as they were judged.
 
-ghost use Rattle.std.specs.Prelude.{◌≡◌, ◌++◌, IfOk, OnOk, map, length, string_bytes, MatchOption};
+ghost use Rattle.std.specs.Prelude.{◌≡◌, ◌++◌, IfOk, OnOk, map, string_bytes, MatchResult};
 ghost use Rattle.std.specs.List.{flat_map};
 ghost use Rattle.tera_tree.specs.View.{definition_view};
 ghost use Rattle.tera_check.specs.Alike.{name_called};
 ghost use Rattle.tera_check.specs.Lost.{are_open};
 ghost use Rattle.tera_check.specs.Named.{definitions_of};
 ghost use Rattle.tera_check.specs.Pending.{seen};
-ghost use Rattle.tera_workspace.specs.Kept.{HasNames, IsAnew, NoneBefore, IsNumbered, templates_of};
+ghost use Rattle.tera_workspace.specs.Kept.{HasNames, IsAnew, IsNumbered, IsNewPlace, sources_of, templates_of};
+ghost use Rattle.tera_workspace.specs.Sources.{AreAscending};
 
 use crate::diagnostics::Diagnostic;
 use crate::lined_text::LinedText;
@@ -106,15 +107,10 @@ fn push_called(
     Ok(())
 }
 
-/// Where the document of this name is.
-pub(crate) fn number_of(all: &Vec<Judged>, name: &str) -> Option<usize>
-    ensures { MatchOption result (NoneBefore name.now all.now.items (length all.now.items))
-        (IsNumbered name.now all.now.items) }
+/// Where the document of this name is, or else where it would be in the order of the names.
+pub(crate) fn place_of(all: &Vec<Judged>, name: &str) -> Result<usize, usize>
+    requires { AreAscending (sources_of all.now.items) }
+    ensures { MatchResult result (IsNumbered name.now all.now.items) (IsNewPlace name.now all.now.items) }
 {
-    for (at, judged) in all.iter().enumerate() {
-        if judged.template.file.as_str() == name {
-            return Some(at);
-        }
-    }
-    None
+    all.binary_search_by(|judged| judged.template.file.as_str().cmp(name))
 }

@@ -4,8 +4,9 @@ ghost use Rattle.std.specs.Prelude.{◌≡◌, ℕ, List, true, IfOk, length, ma
 ghost use Rattle.std.specs.Bool.{Decides};
 ghost use Rattle.tera_check.specs.Lost.{are_open};
 ghost use Rattle.tera_check.specs.Named.{known_in, first_named, defined_by};
-ghost use Rattle.tera_workspace.specs.Kept.{IsWhole, AllWhole, NeedsAll, templates_of, reported_of};
+ghost use Rattle.tera_workspace.specs.Kept.{IsWhole, AllWhole, NeedsAll, sources_of, templates_of, reported_of};
 ghost use Rattle.tera_workspace.specs.Names.{is_among};
+ghost use Rattle.tera_workspace.specs.Sources.{AreAscending};
 ghost use Rattle.tera_workspace.specs.Reported.{IsNews, AreNews, AreOfOthers, reported_one, reported_each};
 
 use crate::catalogue::catalogue_for;
@@ -22,6 +23,7 @@ pub(crate) fn news_of(
     encoding: Encoding,
     all: &Vec<Judged>,
 ) -> Result<Vec<Option<Vec<Diagnostic>>>, AllocError>
+    requires { AreAscending (sources_of all.now.items) }
     ensures as_many { IfOk result (λ v. length v.items ≡ length all.now.items) }
     ensures news { AllWhole all.now.items → IfOk result (λ v. AreNews encoding all.now.items v.items) }
 {
@@ -44,6 +46,7 @@ fn news_of_one(
     number: usize,
     judged: &Judged,
 ) -> Result<Option<Vec<Diagnostic>>, AllocError>
+    requires ordered { AreAscending (sources_of all.now.items) }
     requires is_open { is_open ≡ are_open (templates_of all.now.items) }
     requires known { judged.now.stale ≡ true → (n : List ℕ) →
         is_among n (map string_bytes judged.now.names.items) ≡ true →

@@ -1,13 +1,13 @@
 //! Reading documents that changed.
 
-ghost use Rattle.std.specs.Prelude.{◌≡◌, ℕ, List, [], true, false, map, string_bytes, length, unwrap_or, OnOk, OnErr};
+ghost use Rattle.std.specs.Prelude.{◌≡◌, ℕ, List, [], true, false, map, string_bytes, unwrap_or, OnOk, OnErr};
 ghost use Rattle.text_edits.specs.Documents.{text_of};
 ghost use Rattle.text_edits.specs.Stored.{document_of};
-ghost use Rattle.tera_workspace.specs.Kept.{sources_of, IsAnew, NoneBefore, IsNumbered, StayKept, IsTextAt, IsPlaceOf};
+ghost use Rattle.tera_workspace.specs.Kept.{sources_of, IsAnew, IsNumbered, IsNewPlace, StayKept, IsTextAt};
 ghost use Rattle.tera_workspace.specs.Names.{is_among};
-ghost use Rattle.tera_workspace.specs.Sources.{text_named};
+ghost use Rattle.tera_workspace.specs.Sources.{AreAscending, text_named};
 
-use crate::judged::{Judged, are_open, definitions_of, number_of, push_defined};
+use crate::judged::{Judged, are_open, definitions_of, place_of, push_defined};
 use crate::touched::{mark, mark_if_opened, touched_names};
 use std::alloc::{AllocError, Global};
 use std::mem;
@@ -20,6 +20,7 @@ pub(crate) fn read_changed(
     changed: &Vec<String>,
     all: &mut Vec<Judged>,
 ) -> Result<(), AllocError>
+    requires { AreAscending (sources_of all.old.items) }
     ensures kept { StayKept all.old.items all.new.items }
     ensures texts { (n : List ℕ) → is_among n (map string_bytes changed.now.items) ≡ false →
         text_named n (sources_of all.new.items) ≡ text_named n (sources_of all.old.items) }
@@ -36,14 +37,15 @@ pub(crate) fn read_changed(
 // Judges the document of this name by this text from now on, and marks those whose findings may be others by that. By the
 // text by which it was judged it is not read again.
 fn put(alloc: Global, all: &mut Vec<Judged>, name: &str, text: &str) -> Result<(), AllocError>
+    requires { AreAscending (sources_of all.old.items) }
     ensures kept { StayKept all.old.items all.new.items }
     ensures read { OnOk result (IsTextAt name.now text.now all.old.items all.new.items) }
     ensures err { OnErr result (all.new.items ≡ all.old.items) }
 {
-    match number_of(all, name) {
-        Some(number) if all[number].text.as_str() == text => Ok(()),
-        Some(number) => replace(alloc, all, number, Judged::read(alloc, name, text)?, name),
-        None => insert(alloc, all, Judged::read(alloc, name, text)?, name),
+    match place_of(all, name) {
+        Ok(number) if all[number].text.as_str() == text => Ok(()),
+        Ok(number) => replace(alloc, all, number, Judged::read(alloc, name, text)?, name),
+        Err(place) => insert(alloc, all, place, Judged::read(alloc, name, text)?, name),
     }
 }
 
@@ -75,10 +77,11 @@ fn replace(
 fn insert(
     alloc: Global,
     all: &mut Vec<Judged>,
+    place: usize,
     judged: Judged,
     name: &str,
 ) -> Result<(), AllocError>
-    requires none { NoneBefore name.now all.old.items (length all.old.items) }
+    requires place { IsNewPlace name.now all.old.items place }
     requires anew { IsAnew name.now judged.text judged }
     ensures kept { StayKept all.old.items all.new.items }
     ensures read { OnOk result (IsTextAt name.now judged.text all.old.items all.new.items) }
@@ -87,21 +90,8 @@ fn insert(
     let mut touched = Vec::new(alloc);
     push_defined(&mut touched, definitions_of(&judged.template))?;
     let was_open = are_open(all);
-    let place = place_of(all, name);
     all.insert(place, judged)?;
     mark(all, &touched, name);
     mark_if_opened(all, was_open);
     Ok(())
-}
-
-// How many names are before this one.
-fn place_of(all: &Vec<Judged>, name: &str) -> usize
-    ensures { IsPlaceOf name.now all.now.items result }
-{
-    for (at, judged) in all.iter().enumerate() {
-        if judged.template.file.as_str().cmp(name).is_gt() {
-            return at;
-        }
-    }
-    all.len()
 }

@@ -1,16 +1,10 @@
 //! The documents, and what was reported for them.
 
-ghost use Rattle.std.specs.Prelude.{◌≡◌, ℕ, List, [], IfOk, OnOk, OnErr, map, string_bytes};
-ghost use Rattle.std.specs.Option.{option_map, is_some};
-ghost use Rattle.text_edits.specs.Documents.{no_document, text_of, opened, changed, closed, written, removed};
-ghost use Rattle.text_edits.specs.Edits.{change_view};
-ghost use Rattle.text_edits.specs.Stored.{document_of, IsChangedAt, AreSame};
-ghost use Rattle.tera_workspace.specs.Definitions.{AreRead};
-ghost use Rattle.tera_workspace.specs.Diagnostics.{diagnostic_view};
-ghost use Rattle.tera_workspace.specs.Workspaces.{reported_of_name, IsKept, IsSettled, AreOthers};
+ghost use Rattle.tera_workspace.specs.Kept.{sources_of};
+ghost use Rattle.tera_workspace.specs.Sources.{AreAscending, AreAscending-prop};
 
 use crate::diagnostics::Diagnostic;
-use crate::judged::{Judged, number_of};
+use crate::judged::{Judged, place_of};
 use crate::news::{names_of, news_of, report};
 use crate::reading::read_changed;
 use std::alloc::{AllocError, Global};
@@ -27,9 +21,19 @@ pub struct Workspace {
     changed: Vec<String>,
     // In the order of the names.
     pub(crate) judged: Vec<Judged>,
+    ghost ordered: { AreAscending (sources_of judged.items) } by { AreAscending-prop (sources_of judged.items) },
 }
 
 impl Workspace {
+    ghost use Rattle.std.specs.Prelude.{◌≡◌, ℕ, List, [], IfOk, OnOk, OnErr, map, string_bytes};
+    ghost use Rattle.std.specs.Option.{option_map, is_some};
+    ghost use Rattle.text_edits.specs.Documents.{no_document, text_of, opened, changed, closed, written, removed};
+    ghost use Rattle.text_edits.specs.Edits.{change_view};
+    ghost use Rattle.text_edits.specs.Stored.{document_of, IsChangedAt, AreSame};
+    ghost use Rattle.tera_workspace.specs.Definitions.{AreRead};
+    ghost use Rattle.tera_workspace.specs.Diagnostics.{diagnostic_view};
+    ghost use Rattle.tera_workspace.specs.Workspaces.{reported_of_name, IsKept, IsSettled, AreOthers};
+
     /// No documents. Positions are counted in units of the encoding.
     pub fn new(alloc: Global, encoding: Encoding) -> Workspace
         ensures encoding { result.encoding ≡ encoding }
@@ -127,9 +131,9 @@ impl Workspace {
     pub fn reported(&self, name: &str) -> &[Diagnostic]
         ensures { map diagnostic_view result.now ≡ reported_of_name self.now name.now }
     {
-        match number_of(&self.judged, name) {
-            Some(number) => self.judged[number].reported.as_slice(),
-            None => &[],
+        match place_of(&self.judged, name) {
+            Ok(number) => self.judged[number].reported.as_slice(),
+            Err(_) => &[],
         }
     }
 

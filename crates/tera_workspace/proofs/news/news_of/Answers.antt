@@ -29,6 +29,7 @@ returns-clause-news c = λ whole.
 
 pub news_of_one-requires : goal.news_of_one-requires
 news_of_one-requires c = record {
+  ordered = c.requires;
   known = λ stale n among.
       let js = c.args.all.now.items in
       let at = c.loop-number.number in

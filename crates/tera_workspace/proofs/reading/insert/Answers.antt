@@ -16,7 +16,7 @@ returns-clause-kept c =
     let name = c.args.name.now in
     let js = c.args.all.now.items in
     let j = c.args.judged in
-    let place = c.place_of-place.result in
+    let place = c.args.place in
     let touched = map string_bytes c.push_defined.new.names.items in
     let pushed : touched ≡ [] ++ map (λ d. d.name) (definitions_of j.template) =
     c.in_ok-push_defined.ensures ∙ ap (λ (ns : List (List ℕ)). ns ++ map (λ d. d.name) (map definition_view c.definitions_of.result.now)) (ap (map string_bytes) c.new-touched.ensures.items)
@@ -26,14 +26,14 @@ returns-clause-kept c =
     let put : c.mark.new.all.items ≡ map (marked touched name) (insert js place j) = c.mark.ensures ∙ ap (map (marked touched name)) c.in_ok-insert.ensures.items in
     let is : c.mark_if_opened.new.all.items ≡ now_marked js (map (marked touched name) (insert js place j)) =
     c.mark_if_opened.ensures ∙ (λ i. marked_if (c.are_open-was_open.ensures i) (are_open (templates_of (put i))) (put i)) in
-    subst (StayKept js) (sym is) (insert_kept name touched js place j c.place_of-place.ensures c.requires.none c.requires.anew heads)
+    subst (StayKept js) (sym is) (insert_kept name touched js place j c.requires.place c.requires.anew heads)
 
 pub returns-clause-read : goal.returns-clause-read
 returns-clause-read c =
     let name = c.args.name.now in
     let js = c.args.all.now.items in
     let j = c.args.judged in
-    let place = c.place_of-place.result in
+    let place = c.args.place in
     let touched = map string_bytes c.push_defined.new.names.items in
     let pushed : touched ≡ [] ++ map (λ d. d.name) (definitions_of j.template) =
     c.in_ok-push_defined.ensures ∙ ap (λ (ns : List (List ℕ)). ns ++ map (λ d. d.name) (map definition_view c.definitions_of.result.now)) (ap (map string_bytes) c.new-touched.ensures.items)
@@ -43,7 +43,7 @@ returns-clause-read c =
     let put : c.mark.new.all.items ≡ map (marked touched name) (insert js place j) = c.mark.ensures ∙ ap (map (marked touched name)) c.in_ok-insert.ensures.items in
     let is : c.mark_if_opened.new.all.items ≡ now_marked js (map (marked touched name) (insert js place j)) =
     c.mark_if_opened.ensures ∙ (λ i. marked_if (c.are_open-was_open.ensures i) (are_open (templates_of (put i))) (put i)) in
-    subst (IsTextAt name j.text js) (sym is) (insert_read name touched js place j c.place_of-place.ensures c.requires.none c.requires.anew heads)
+    subst (IsTextAt name j.text js) (sym is) (insert_read name touched js place j c.requires.place c.requires.anew heads)
 
 pub returns-in_err-insert-clause-kept : goal.returns-in_err-insert-clause-kept
 returns-in_err-insert-clause-kept c = subst (StayKept c.args.all.now.items) (sym c.in_err-insert.ensures.items) (stay_same c.args.all.now.items)

@@ -10,6 +10,6 @@ returns-clause-kept c = λ kept.
 
 pub returns-clause-read : goal.returns-clause-read
 returns-clause-read c = λ kept.
-    are_read (record c.args.self.now { changed = c.clear.new.self; judged = c.read_changed.new.all })
+    are_read _
     (kept_after c.args.self.now c.read_changed.new.all kept c.read_changed.ensures.kept c.read_changed.ensures.texts c.clear.new.self c.in_ok-read_changed.ensures.read)
     c.clear.ensures.items

@@ -4,16 +4,22 @@ use Rattle.tera_workspace.specs.Kept.{reported_named}
 use Rattle.tera_workspace.specs.Workspaces.{AreOthers}
 use Rattle.tera_workspace.specs.declared.judged.Judged.{Judged}
 use Rattle.tera_workspace.proofs.NewsLemmas.{others_are}
+use Rattle.tera_workspace.proofs.SettleLemmas.{still_ordered}
 use Rattle.tera_workspace.proofs.WorkspaceLemmas.{read_settled, read_kept}
 use Rattle.tera_workspace.proofs.workspace.Workspace.settle.Goals as goal
 
+pub invariant_of-self : goal.invariant_of-self
+invariant_of-self c = record {
+  ordered = still_ordered c.read.new.self.judged.items c.report.new.all.items c.in_ok-news.news.items c.report.ensures c.read.new.self.ordered;
+}
+
 pub returns-clause-settled : goal.returns-clause-settled
 returns-clause-settled c = λ kept.
-    read_settled c.read.new.self c.report.new.all c.in_ok-news.news.items (c.read.ensures.kept kept) (c.in_ok-read.ensures.read kept) c.in_ok-news.ensures.news c.report.ensures
+    read_settled c.read.new.self c.report.new.all c.in_ok-news.news.items (c.read.ensures.kept kept) (c.in_ok-read.ensures.read kept) c.in_ok-news.ensures.news c.report.ensures _
 
 pub returns-clause-kept : goal.returns-clause-kept
 returns-clause-kept c = λ kept.
-    read_kept c.read.new.self c.report.new.all c.in_ok-news.news.items (c.read.ensures.kept kept) (c.in_ok-read.ensures.read kept) c.in_ok-news.ensures.news c.report.ensures
+    read_kept c.read.new.self c.report.new.all c.in_ok-news.news.items (c.read.ensures.kept kept) (c.in_ok-read.ensures.read kept) c.in_ok-news.ensures.news c.report.ensures _
 
 pub returns-clause-names : goal.returns-clause-names
 returns-clause-names c = λ kept.
