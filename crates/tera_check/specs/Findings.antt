@@ -1,9 +1,6 @@
--- Findings, and the lines that are written of them.
+-- Findings.
 use Rattle.std.specs.Prelude.{Option, None, Some, if◌then◌else◌, ◌≡◌, ◌+◌, ◌-◌, ◌^◌, ℕ, List, [], ◌∷◌, ◌++◌, map, codes, string_bytes, min}
-use Rattle.std.specs.Fmt.{decimal}
-use Rattle.std.specs.List.{flat_map}
 use Rattle.std.specs.Str.{bytes_eq}
-use Rattle.line_text.specs.Line.{on_one_line}
 use Rattle.tera_base.specs.ErrorView.{ErrorVal, NoMemory, Saying, Reporting, ReportVal, ReportOf}
 use Rattle.tera_base.specs.ErrorView as errors
 use Rattle.tera_base.specs.declared.utils.Span.{Span}
@@ -102,15 +99,3 @@ abbrev pub IsOfError : List ℕ → ErrorVal → FindingVal → Type 0
 IsOfError file NoMemory f = ⊥
 IsOfError file (Saying text) f = f ≡ FindingOf kinds.Fault first_span text []
 IsOfError file (Reporting r) f = f ≡ finding_of file r
-
--- a line: where, what it is called, and what
-abbrev pub line_of : List ℕ → Place → List ℕ → List ℕ → List ℕ
-line_of file place label text =
-    on_one_line file ++ ((codes ":" ++ (decimal place.line ++ (codes ":" ++ (decimal place.column ++ (codes ": " ++ (label ++ codes ": ")))))) ++ (on_one_line text ++ 10 ∷ []))
-
-abbrev pub note_line : NoteVal → List ℕ
-note_line (NoteOf file span text) = line_of file (place_of span) (codes "note") text
-
--- the lines of a finding in a file: its own, and one for each of its notes
-abbrev pub lines_of : List ℕ → FindingVal → List ℕ
-lines_of file (FindingOf kind span text notes) = line_of file (place_of span) (label_of kind) text ++ flat_map note_line notes

@@ -1,16 +1,16 @@
 //! A checker of templates: the fault of each, and over all of them together how components are defined and called.
 //!
 //! It takes templates that were read. It finds the fault of each (`IsOfError`), or what is wrong in its tree
-//! (`tree_findings`), and writes findings as lines (`lines_of`) or objects of JSON (`object_of`). It depends on
-//! `tera_parser`, and its code names nothing below it; of the kit it uses `json`.
+//! (`tree_findings`), and writes findings as objects of JSON (`object_of`); `tera_report` writes them as text. It depends
+//! on `tera_parser`, and its code names nothing below it; of the kit it uses `json`.
 //!
 //! In the order of reading: specs `Findings`, `Calls`, `Passed`, `Judged`, `Parameters`, `Named`, `OrderAndStatus`,
 //! `Objects`, `Faults`, `Alike`; `templates`, which reads, and `spans`; `mended`, what a source with faults is read as
 //! (specs `Mended`), and `lost`, its words (specs `Lost`); `catalogue`; `calls`, over the parts of a tree (specs
 //! `Pending`); `passed`, `arguments` and `judged`, of one call; `parameters`, of one component (specs `Scopes`); `due`,
-//! what of that is reported beside faults (specs `Due`); `checked`, of a template, and `found`, of all; `messages`, texts; `finding`,
-//! `faults`; `fault_findings`, with `causes`, `tags`, `hints` and `walk` (specs `FaultFindings`, `Hints`); `lines` and
-//! `objects`; `laws`.
+//! what of that is reported beside faults (specs `Due`); `checked`, of a template, and `found`, of all; `messages`,
+//! texts; `finding`, `faults`; `fault_findings`, with `causes`, `tags`, `hints` and `walk` (specs `FaultFindings`,
+//! `Hints`); `objects`; `laws`.
 #![tactic(auto)]
 
 mod arguments;
@@ -26,7 +26,6 @@ mod found;
 mod hints;
 mod judged;
 pub mod laws;
-mod lines;
 mod lost;
 mod mended;
 mod messages;
@@ -44,7 +43,6 @@ pub use checked::{faults_of, findings_of, status};
 pub use faults::finding_of_fault;
 pub use finding::{Finding, KINDS, Kind, Note, Place, Severity};
 pub use found::{Found, all_found};
-pub use lines::lines_of;
 pub use mended::Mended;
 pub use objects::{object_of, put_object, unread_object_of};
 pub use templates::{Template, is_open, read_template, read_template_between, tree_of};

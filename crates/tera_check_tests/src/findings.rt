@@ -2,9 +2,7 @@
 
 use std::alloc::{AllocError, Global};
 use std::test::Fail;
-use tera_check::{
-    Finding, KINDS, Kind, Note, Place, Severity, finding_of_fault, lines_of, object_of,
-};
+use tera_check::{Finding, KINDS, Kind, Note, Place, Severity, finding_of_fault, object_of};
 use tera_parser::value::{Error, Span};
 
 const OBJECT: &str =
@@ -40,17 +38,6 @@ fn finding(alloc: Global, kind: Kind) -> Result<Finding, AllocError> {
 fn a_finding_is_an_object(rt: HostRuntime) -> Result<(), Fail> {
     let object = object_of(rt.alloc(), "a", &finding(rt.alloc(), Kind::WrongType)?)?;
     assert!(rt; object.as_slice() == OBJECT.as_bytes());
-    Ok(())
-}
-
-#[test]
-fn a_line_says_how_grave_it_is(rt: HostRuntime) -> Result<(), Fail> {
-    for kind in &KINDS {
-        let lines = lines_of(rt.alloc(), "a", &finding(rt.alloc(), *kind)?)?;
-        let (word, rule) = (kind.severity().name(), kind.name());
-        let line = format!(in rt.alloc(); "a:3:4: {word}[{rule}]: \"x\"\\n\nb:1:2: note: h\n")?;
-        assert!(rt; lines.as_slice() == line.as_bytes(), "{kind:?}");
-    }
     Ok(())
 }
 

@@ -3,11 +3,11 @@ use Rattle.std.specs.Prelude.{ℕ, List, [], ◌∷◌, ◌++◌, codes}
 use Rattle.std.specs.List.{flat_map}
 use Rattle.json.specs.Token.{Token}
 use Rattle.json.specs.Print.{print}
-use Rattle.tera_check.specs.Findings.{FindingVal, lines_of}
+use Rattle.tera_check.specs.Findings.{FindingVal}
 use Rattle.tera_check.specs.Objects.{object_of, unread_object}
 use Rattle.tera_report.specs.Annotations.{annotation}
 use Rattle.tera_report.specs.Logs.{log_begin, log_end, result_object}
-use Rattle.tera_report.specs.FullTexts.{full_text}
+use Rattle.tera_report.specs.FullTexts.{full_text, lines_of}
 use Rattle.tera_report.specs.Unread.{unread_annotation, unread_result}
 use Rattle.tera_server.specs.Abilities.{version}
 use Rattle.terminal_text.specs.declared.style.Style.{Style}

@@ -15,9 +15,10 @@ use crate::job::Form;
 use crate::reading::Unreadable;
 use json::Writer;
 use std::alloc::{AllocError, Global};
-use tera_check::{Finding, Found, lines_of, object_of, unread_object_of};
+use tera_check::{Finding, Found, object_of, unread_object_of};
 use tera_report::{
-    begin_log, end_log, push_annotation, push_full, push_unread_annotation, put_result, put_unread,
+    begin_log, end_log, push_annotation, push_full, push_lines, push_unread_annotation, put_result,
+    put_unread,
 };
 use tera_server::VERSION;
 use terminal_text::{Sources, Style};
@@ -137,7 +138,11 @@ fn push_finding(
             push_full(alloc, &mut text, style, file, sources, finding)?;
             to.extend_from_slice(text.as_bytes())
         }
-        Form::Concise => to.extend_from_slice(lines_of(alloc, file, finding)?.as_slice()),
+        Form::Concise => {
+            let mut text = String::with_capacity(alloc, ROOM)?;
+            push_lines(alloc, &mut text, file, finding)?;
+            to.extend_from_slice(text.as_bytes())
+        }
         Form::Json => to.extend_from_slice(object_of(alloc, file, finding)?.as_slice()),
         Form::Github => {
             let mut text = String::with_capacity(alloc, ROOM)?;

@@ -1,10 +1,10 @@
 -- A finding without colours and sources.
-use Rattle.std.proofs.Common.{◌≡◌, ℕ, List, [], ◌∷◌, ◌++◌, codes, decimal, None, refl, ◌∙◌, append_assoc, append-nil}
+use Rattle.std.proofs.Common.{◌≡◌, ℕ, List, [], ◌∷◌, ◌++◌, codes, decimal, Option, None, refl, ap, ◌∙◌, append_assoc, append-nil}
 use Rattle.std.specs.List.{flat_map}
 use Rattle.line_text.specs.Line.{on_one_line}
 use Rattle.tera_base.specs.declared.utils.Span.{Span}
-use Rattle.tera_check.specs.Findings.{NoteVal, NoteOf, FindingVal, FindingOf, place_of, line_of, note_line, lines_of}
-use Rattle.tera_report.specs.FullTexts.{word_of, message, message_line, note_text, full_text}
+use Rattle.tera_check.specs.Findings.{NoteVal, NoteOf, FindingVal, FindingOf, place_of}
+use Rattle.tera_report.specs.FullTexts.{word_of, message, message_line, note_text, full_text, line_of, note_line, lines_of}
 use Rattle.tera_report.specs.declared.role.Role.{Role}
 use Rattle.tera_report.specs.declared.role.Role.TheVariants.{Finding, Note}
 use Rattle.terminal_text.specs.declared.style.Style.TheVariants.{Plain}
@@ -28,3 +28,7 @@ pub plain_is : (file : List ℕ) (finding : FindingVal) → full_text Plain (λ 
 unfolding full_text
 plain_is file (FindingOf kind span text notes) =
     λ i. plain_message (Finding kind) file span text i ++ plain_notes notes i
+
+pub plain_without : (known : List ℕ → Option (List ℕ)) (file : List ℕ) (finding : FindingVal)
+    → ((other : List ℕ) → known other ≡ None) → full_text Plain known file finding ≡ lines_of file finding
+plain_without known file finding none = ap (λ k. full_text Plain k file finding) (λ i other. none other i) ∙ plain_is file finding

@@ -54,3 +54,15 @@ note_text style known (NoteOf file span text) = message style known Note file sp
 unfoldable pub full_text : Style → (List ℕ → Option (List ℕ)) → List ℕ → FindingVal → List ℕ
 full_text style known file (FindingOf kind span text notes) =
     message style known (Finding kind) file span text ++ flat_map (note_text style known) notes
+
+-- without colours and sources: a line says where, what it is called, and what
+abbrev pub line_of : List ℕ → Place → List ℕ → List ℕ → List ℕ
+line_of file place label text =
+    on_one_line file ++ ((codes ":" ++ (decimal place.line ++ (codes ":" ++ (decimal place.column ++ (codes ": " ++ (label ++ codes ": ")))))) ++ (on_one_line text ++ 10 ∷ []))
+
+abbrev pub note_line : NoteVal → List ℕ
+note_line (NoteOf file span text) = line_of file (place_of span) (codes "note") text
+
+-- the lines of a finding in a file: its own, and one for each of its notes
+abbrev pub lines_of : List ℕ → FindingVal → List ℕ
+lines_of file (FindingOf kind span text notes) = line_of file (place_of span) (label_of kind) text ++ flat_map note_line notes

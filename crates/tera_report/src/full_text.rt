@@ -2,7 +2,7 @@
 
 ghost use Rattle.std.specs.Prelude.{◌≡◌, ◌++◌, ℕ, List, map, flat_map, string_bytes, IfOk, OnOk};
 ghost use Rattle.tera_check.specs.Findings.{finding_view, note_view};
-ghost use Rattle.tera_report.specs.FullTexts.{place_text as text_of_place, marked_of, message_line, message as message_text, note_text, full_text};
+ghost use Rattle.tera_report.specs.FullTexts.{place_text as text_of_place, marked_of, message_line, message as message_text, note_text, full_text, lines_of};
 ghost use Rattle.terminal_text.specs.Files.{source_of};
 
 use crate::role::Role;
@@ -35,6 +35,21 @@ pub fn push_full(
     };
     push_message(alloc, to, style, sources, &message)?;
     push_notes(alloc, to, style, sources, &finding.notes)
+}
+
+/// Adds the lines of the finding and of its notes alone, without colours.
+#[tactic(auto, using(crate::proofs::Plain::plain_without))]
+pub fn push_lines(
+    alloc: Global,
+    to: &mut String,
+    file: &str,
+    finding: &Finding,
+) -> Result<(), AllocError>
+    ensures { OnOk result (string_bytes to.new
+        ≡ string_bytes to.old ++ lines_of file.now (finding_view finding.now)) }
+{
+    let mut sources = Sources::new(alloc);
+    push_full(alloc, to, Style::Plain, file, &mut sources, finding)
 }
 
 fn push_notes(

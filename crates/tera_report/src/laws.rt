@@ -2,13 +2,13 @@
 
 ghost use Rattle.std.specs.Prelude.{◌≡◌, ◌<◌, ◌^◌, ℕ, List, None};
 ghost use Rattle.tera_base.specs.declared.utils.Span.{Span};
-ghost use Rattle.tera_check.specs.Findings.{FindingVal, NoteVal, FindingOf, lines_of};
+ghost use Rattle.tera_check.specs.Findings.{FindingVal, NoteVal, FindingOf};
 ghost use Rattle.tera_check.specs.declared.finding.Kind.{Kind};
 ghost use Rattle.tera_report.specs.Annotations.{annotation as annotation_text, IsOneLine};
-ghost use Rattle.tera_report.specs.FullTexts.{full_text};
+ghost use Rattle.tera_report.specs.FullTexts.{full_text, lines_of};
 ghost use Rattle.terminal_text.specs.declared.style.Style.TheVariants.{Plain};
 
-/// Without colours and without sources a finding is printed as its lines, `lines_of` of `tera_check`.
+/// Without colours and without sources a finding is printed as its lines (`lines_of`).
 pub fn plain()
     ensures { (file : List ℕ) (finding : FindingVal) →
         full_text Plain (λ _. None) file finding ≡ lines_of file finding }

@@ -3,8 +3,8 @@
 use std::alloc::{AllocError, Global};
 use std::test::Fail;
 use tera_base::Span;
-use tera_check::{Finding, Kind, Note};
-use tera_report::push_full;
+use tera_check::{Finding, KINDS, Kind, Note};
+use tera_report::{push_full, push_lines};
 use terminal_text::{Sources, Style};
 
 fn span(line: usize, start: usize, end_line: usize, end: usize) -> Span {
@@ -101,5 +101,24 @@ fn warning_without_sources(rt: HostRuntime) -> Result<(), Fail> {
         text.as_str(),
         "\u{1b}[1mpage.html:1:3:\u{1b}[0m \u{1b}[1;33mwarning[repeated-argument]\u{1b}[0m: Given again\n"
     );
+    Ok(())
+}
+
+#[test]
+fn a_line_says_how_grave_it_is(rt: HostRuntime) -> Result<(), Fail> {
+    let alloc = rt.alloc();
+    for kind in &KINDS {
+        let finding = Finding {
+            kind: *kind,
+            ..finding(alloc)?
+        };
+        let mut text = String::new(alloc);
+        push_lines(alloc, &mut text, "a", &finding)?;
+        let (word, rule) = (kind.severity().name(), kind.name());
+        let lines = format!(in alloc;
+            "a:2:12: {word}[{rule}]: Unknown\\nargument\nui.html:1:4: note: `button` is defined here\n"
+        )?;
+        assert_eq!(&rt; text.as_str(), lines.as_str());
+    }
     Ok(())
 }

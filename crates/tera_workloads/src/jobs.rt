@@ -8,13 +8,14 @@ use crate::outputs::{put_error, put_output};
 use crate::pages::{Kind, site_source, source};
 use std::alloc::{AllocError, Global};
 use tera_catalogue::{components_of, html_of, json_of};
-use tera_check::{Template, catalogue_of, findings_of, lines_of, object_of, read_template};
+use tera_check::{Template, catalogue_of, findings_of, object_of, read_template};
 use tera_layout::format;
 use tera_parser::ast::Node;
 use tera_parser::expr::source_of;
 use tera_parser::lexer::Delimiters;
 use tera_parser::value::Error;
 use tera_parser::{Parser, ParserOutput};
+use tera_report::push_lines;
 use tera_tree_json::tree_json;
 use tera_tree_text::tree_text;
 
@@ -212,12 +213,14 @@ fn checked(
     for (at, template) in templates.iter().enumerate() {
         let findings = findings_of(alloc, &catalogue, false, at, template)?;
         for finding in &findings {
-            let reported = if number % 3 == 2 {
-                object_of(alloc, template.file.as_str(), finding)?
+            let file = template.file.as_str();
+            if number % 3 == 2 {
+                digest.put_bytes(object_of(alloc, file, finding)?.as_slice());
             } else {
-                lines_of(alloc, template.file.as_str(), finding)?
-            };
-            digest.put_bytes(reported.as_slice());
+                let mut lines = String::new(alloc);
+                push_lines(alloc, &mut lines, file, finding)?;
+                digest.put_bytes(lines.as_bytes());
+            }
         }
     }
     Ok(())
