@@ -4,7 +4,7 @@ ghost use Rattle.std.specs.Prelude.{◌≡◌, ◌++◌, map, IfOk, OnOk};
 ghost use Rattle.std.specs.List.{All};
 ghost use Rattle.std.specs.List.Sorted.{IsPermutation};
 ghost use Rattle.tera_check.specs.Judged.{known_view};
-ghost use Rattle.tera_check.specs.Named.{defined_from, defined_in, defined_by};
+ghost use Rattle.tera_check.specs.Named.{defined_in, defined_by};
 ghost use Rattle.tera_tree.specs.Infos.{info_of, info_view};
 ghost use Rattle.tera_tree.specs.View.{definition_view};
 ghost use Rattle.tera_catalogue.specs.Listed.{listed, listed_view, rank_of, rank_cmp, IsInOrder};
@@ -14,8 +14,7 @@ use crate::offers::offered;
 use std::alloc::{AllocError, Global};
 use std::cmp::Ordering;
 use std::collections::BTreeMap;
-use tera_check::{Known, Place, Template, known_at, tree_of};
-use tera_parser::ParserOutput;
+use tera_check::{Known, Place, Template, definitions_of, known_at};
 use tera_parser::ast::{ComponentDefinition, ComponentInfo};
 use tera_parser::value::Span;
 
@@ -140,23 +139,7 @@ fn push_defined<'a>(
     ensures { OnOk result (map known_view known.new.items
         ≡ map known_view known.old.items ++ defined_in number template.now) }
 {
-    match tree_of(template) {
-        Some(output) => push_all(known, number, template, output),
-        None => Ok(()),
-    }
-}
-
-fn push_all<'a>(
-    known: &mut Vec<Known<'a>>,
-    number: usize,
-    template: &'a Template,
-    output: &'a ParserOutput,
-) -> Result<(), AllocError>
-    ensures { OnOk result (map known_view known.new.items
-        ≡ map known_view known.old.items ++ defined_from number template.now 0
-        (map definition_view output.now.component_definitions.items)) }
-{
-    for (at, definition) in output.component_definitions.iter().enumerate() {
+    for (at, definition) in definitions_of(template).iter().enumerate() {
         known.push(known_at(number, template, at, definition))?;
     }
     Ok(())

@@ -1,17 +1,15 @@
 -- The first component of each name, one by one.
-use Rattle.std.proofs.Common.{◌≡◌, ◌∙◌, ◌<◌, ◌+◌, ℕ, suc, List, [], ◌∷◌, ◌++◌, length, drop, get_or, Bool, true, false, cond, Option, None, Some, is_some, refl, sym, ap, arith, drop-cons, map}
+use Rattle.std.proofs.Common.{◌≡◌, ◌∙◌, ◌<◌, ◌+◌, ℕ, suc, List, [], ◌∷◌, ◌++◌, length, drop, get_or, Bool, true, false, cond, Option, None, Some, is_some, refl, sym, ap, arith, drop-cons}
 use Rattle.std.proofs.Common.{Bor, Global, String}
 use Rattle.std.specs.BTreeMap.{BTreeMap}
 use Rattle.std.specs.Option.{option_map, option_copied}
 use Rattle.tera_base.specs.declared.utils.Span.{Span}
 use Rattle.tera_statements.specs.Known.{located_of}
-use Rattle.tera_tree.specs.View.{definition_view}
-use Rattle.tera_tree.specs.declared.outputs.ParserOutput.{ParserOutput}
 use Rattle.tera_check.specs.declared.catalogue.Known.{Known}
 use Rattle.std.specs.Str.{bytes_eq}
 use Rattle.std.proofs.lemmas.Slice.Eq.{bytes_eq-Decides}
 use Rattle.tera_check.specs.Judged.{KnownVal, known_view}
-use Rattle.tera_check.specs.Named.{defined_from, defined_in, defined_by, definitions_in, first_named, or_else, tree_of}
+use Rattle.tera_check.specs.Named.{defined_in, defined_by, first_named, or_else}
 use Rattle.tera_check.specs.declared.templates.Template.{Template}
 
 pub parameters_after : (o : Option (Bor (BTreeMap (String Global) Span))) → option_map (λ names. located_of names.now) o ≡ option_map located_of (option_copied o)
@@ -90,11 +88,3 @@ template_next n ts i t before now all h is held step =
     let next : i + 1 ≡ suc i = omega arith in
     let here : all ≡ or_else before (first_named n (defined_by i (t ∷ drop (suc i) ts))) = held ∙ ap (λ us. or_else before (first_named n (defined_by i us))) (drop_next ts i t h is) in
     rw next (more_known n before now all (defined_in i t) (defined_by (suc i) (drop (suc i) ts)) here step)
-
--- ---- the definitions of the tree that a template has
-
-pub defined_of : (number : ℕ) (t : Template) (o : ParserOutput) → Some o ≡ tree_of t → defined_from number t 0 (map definition_view o.component_definitions.items) ≡ defined_in number t
-defined_of number t o is = ap (λ r. defined_from number t 0 (definitions_in r)) is
-
-pub defined_none : (number : ℕ) (t : Template) → None ≡ tree_of t → [] ≡ defined_in number t
-defined_none number t is = ap (λ r. defined_from number t 0 (definitions_in r)) is

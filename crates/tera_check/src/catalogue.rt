@@ -1,15 +1,14 @@
 //! The components that templates define.
 
-ghost use Rattle.std.specs.Prelude.{◌≡◌, ◌∷◌, [], ℕ, List, map, IfOk, OnOk};
+ghost use Rattle.std.specs.Prelude.{◌≡◌, ◌∷◌, [], ℕ, List, IfOk, OnOk};
 ghost use Rattle.tera_tree.specs.View.{definition_view};
 ghost use Rattle.tera_check.specs.Judged.{known_view};
-ghost use Rattle.tera_check.specs.Named.{known_in, span_at, known_at, defined_from, defined_in, defined_by, first_named, or_else};
+ghost use Rattle.tera_check.specs.Named.{known_in, span_at, known_at, defined_in, defined_by, first_named, or_else};
 
 use crate::spans::first_span;
-use crate::templates::{Template, tree_of};
+use crate::templates::{Template, definitions_of};
 use std::alloc::{AllocError, Global};
 use std::collections::BTreeMap;
-use tera_parser::ParserOutput;
 use tera_parser::ast::ComponentDefinition;
 use tera_parser::value::Span;
 
@@ -53,25 +52,7 @@ fn add_template<'a>(
     ensures { OnOk result ((n : List ℕ) → known_in catalogue.new n
         ≡ or_else (known_in catalogue.old n) (first_named n (defined_in number template.now))) }
 {
-    match tree_of(template) {
-        Some(output) => add_all(alloc, catalogue, number, template, output),
-        None => Ok(()),
-    }
-}
-
-fn add_all<'a>(
-    alloc: Global,
-    catalogue: &mut Catalogue<'a>,
-    number: usize,
-    template: &'a Template,
-    output: &'a ParserOutput,
-) -> Result<(), AllocError>
-    ensures { OnOk result ((n : List ℕ) → known_in catalogue.new n
-        ≡ or_else (known_in catalogue.old n) (first_named n
-        (defined_from number template.now 0 (map definition_view
-        output.now.component_definitions.items)))) }
-{
-    for (at, definition) in output.component_definitions.iter().enumerate() {
+    for (at, definition) in definitions_of(template).iter().enumerate() {
         let known = known_at(number, template, at, definition);
         add(alloc, catalogue, known)?;
     }

@@ -45,4 +45,6 @@ pub use finding::{Finding, KINDS, Kind, Note, Place, Severity};
 pub use found::{Found, all_found};
 pub use mended::Mended;
 pub use objects::{object_of, put_object, unread_object_of};
-pub use templates::{Template, is_open, read_template, read_template_between, tree_of};
+pub use templates::{
+    Template, definitions_of, is_open, read_template, read_template_between, tree_of,
+};

@@ -12,15 +12,17 @@ ghost use Rattle.tera_grammar.specs.statements.Reading.Meeting.{group_all, nothi
 ghost use Rattle.tera_statements.specs.Known.{AreNames, grouped_of};
 ghost use Rattle.tera_tree.specs.Outputs.{output_view};
 ghost use Rattle.tera_tree.specs.Tree.{Output};
+ghost use Rattle.tera_tree.specs.View.{definition_view};
 ghost use Rattle.tera_check.specs.Faults.{IsSyntaxError, is_memory};
 ghost use Rattle.tera_check.specs.Mended.{IsMended, text_of};
-ghost use Rattle.tera_check.specs.Named.{tree_of};
+ghost use Rattle.tera_check.specs.Named.{definitions_of, tree_of};
 ghost use Rattle.tera_check.specs.Lost.{is_open};
 
 use crate::mended::{Mended, read_mended};
 use crate::spans::spans_of;
 use std::alloc::{AllocError, Global};
 use std::collections::BTreeMap;
+use tera_parser::ast::ComponentDefinition;
 use tera_parser::lexer::Delimiters;
 use tera_parser::value::{Error, ErrorKind, Span};
 use tera_parser::{Names, Parser, ParserOutput};
@@ -185,6 +187,16 @@ pub fn tree_of(template: &Template) -> Option<&ParserOutput>
         (Ok(output), _) => Some(output),
         (Err(_), Some(mended)) => Some(&mended.output),
         (Err(_), None) => None,
+    }
+}
+
+/// The components that the template defines, by its tree.
+pub fn definitions_of(template: &Template) -> &[ComponentDefinition]
+    ensures { map definition_view result.now ≡ definitions_of template.now }
+{
+    match tree_of(template) {
+        Some(output) => output.component_definitions.as_slice(),
+        None => &[],
     }
 }
 

@@ -7,10 +7,10 @@ ghost use Rattle.tera_check.specs.Named.{known_in, defined_in, defined_by, first
 ghost use Rattle.tera_workspace.specs.Kept.{templates_of};
 ghost use Rattle.tera_workspace.specs.Names.{contains_name};
 
-use crate::judged::{Judged, definitions_of};
+use crate::judged::Judged;
 use std::alloc::{AllocError, Global};
 use std::collections::{BTreeMap, BTreeSet};
-use tera_check::{Catalogue, Known, Template, known_at};
+use tera_check::{Catalogue, Known, Template, definitions_of, known_at};
 
 /// The component of this name, of the first document that defines one.
 pub(crate) fn first_known<'a>(all: &'a Vec<Judged>, name: &str) -> Option<Known<'a>>

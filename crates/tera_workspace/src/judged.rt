@@ -5,7 +5,6 @@ ghost use Rattle.std.specs.List.{flat_map};
 ghost use Rattle.tera_tree.specs.View.{definition_view};
 ghost use Rattle.tera_check.specs.Alike.{name_called};
 ghost use Rattle.tera_check.specs.Lost.{are_open};
-ghost use Rattle.tera_check.specs.Named.{definitions_of};
 ghost use Rattle.tera_check.specs.Pending.{seen};
 ghost use Rattle.tera_workspace.specs.Kept.{HasNames, IsAnew, IsNumbered, IsNewPlace, sources_of, templates_of};
 ghost use Rattle.tera_workspace.specs.Sources.{AreAscending};
@@ -47,16 +46,6 @@ impl Judged {
             stale: true,
             reported: Vec::new(alloc),
         })
-    }
-}
-
-/// The components that the template defines.
-pub(crate) fn definitions_of(template: &Template) -> &[ComponentDefinition]
-    ensures { map definition_view result.now ≡ definitions_of template.now }
-{
-    match tree_of(template) {
-        Some(output) => output.component_definitions.as_slice(),
-        None => &[],
     }
 }
 

@@ -7,9 +7,9 @@ ghost use Rattle.tera_workspace.specs.Definitions.{definition_view, definition_o
 
 use crate::catalogue::first_known;
 use crate::diagnostics::ends_in;
-use crate::judged::definitions_of;
 use crate::workspace::Workspace;
 use std::alloc::{AllocError, Global};
+use tera_check::definitions_of;
 use text_edits::Position;
 
 /// Where a component is defined: a file, and the part of its text in which its name is, of `ui.button` the `button`.

@@ -7,10 +7,11 @@ ghost use Rattle.tera_workspace.specs.Kept.{sources_of, IsAnew, IsNumbered, IsNe
 ghost use Rattle.tera_workspace.specs.Names.{is_among};
 ghost use Rattle.tera_workspace.specs.Sources.{AreAscending, text_named};
 
-use crate::judged::{Judged, are_open, definitions_of, place_of, push_defined};
+use crate::judged::{Judged, are_open, place_of, push_defined};
 use crate::touched::{mark, mark_if_opened, touched_names};
 use std::alloc::{AllocError, Global};
 use std::mem;
+use tera_check::definitions_of;
 use text_edits::Documents;
 
 /// Reads the documents of these names, and marks those whose findings may be others by that.

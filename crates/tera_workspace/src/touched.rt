@@ -9,9 +9,9 @@ ghost use Rattle.tera_workspace.specs.Heads.{definition_named, HaveOneHead, Have
 ghost use Rattle.tera_workspace.specs.Kept.{is_reported_in, made_stale, marked, marked_if, templates_of};
 ghost use Rattle.tera_workspace.specs.Names.{is_among};
 
-use crate::judged::{Judged, are_open, definitions_of, push_defined};
+use crate::judged::{Judged, are_open, push_defined};
 use std::alloc::{AllocError, Global};
-use tera_check::Template;
+use tera_check::{Template, definitions_of};
 use tera_parser::ast::ComponentDefinition;
 
 /// The names of at least those components that are others in the second template than in the first: that come, go, or
