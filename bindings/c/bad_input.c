@@ -184,7 +184,7 @@ static char *append(char *at, const char *text) {
 /* A chain of more `elif`s than a stack has room for calls. */
 static void long_chain(void) {
     static const char first[] = "{% if a %}", more[] = "{% elif a %}", last[] = "{% endif %}";
-    static const char kind[] = "\"kind\":\"If\"";
+    static const char branch[] = "{\"expr\":{\"kind\":\"Var\"";
     const size_t elifs = 100000;
     char *text = malloc(sizeof first + elifs * strlen(more) + sizeof last), *at = text;
     HOLDS(text != NULL);
@@ -192,16 +192,14 @@ static void long_chain(void) {
     for (size_t i = 0; i < elifs; i++) at = append(at, more);
     append(at, last);
     struct tera_source source = source_of(text);
-    size_t needed = 0, ifs = 0;
+    size_t needed = 0, branches = 0;
     HOLDS(tera_json(&source, NULL, 0, &needed) == TERA_SHORT);
     char *json = calloc(needed + 1, 1);
     HOLDS(json != NULL && tera_json(&source, json, needed, &needed) == TERA_WRITTEN && strlen(json) == needed);
-    for (const char *found = json; (found = strstr(found, kind)) != NULL; found++) ifs++;
-    HOLDS(ifs == elifs + 1);
-    const char *end = json + needed - 2 * elifs - strlen("[]}]}");
-    HOLDS(memcmp(end, "[]}", 3) == 0);
-    for (size_t i = 0; i < elifs; i++) HOLDS(memcmp(end + 3 + 2 * i, "]}", 2) == 0);
-    HOLDS(strcmp(end + 3 + 2 * elifs, "]}") == 0);
+    for (const char *found = json; (found = strstr(found, branch)) != NULL; found++) branches++;
+    HOLDS(branches == elifs + 1);
+    static const char end[] = ",\"body\":[]}],\"false_body\":[]}]}";
+    HOLDS(strcmp(json + needed - strlen(end), end) == 0);
     free(json);
     free(text);
 }

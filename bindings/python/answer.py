@@ -49,7 +49,7 @@ def markers_of(word):
 
 
 def main(words):
-    # A tree is as deep as a chain of `elif`s is long.
+    # A tree may be deeper than what Python's writer of JSON accepts.
     sys.setrecursionlimit(100000)
     markers = tera_parser.DEFAULT_MARKERS
     as_json = words[:1] == ["--json"]

@@ -56,8 +56,17 @@ class Trees(unittest.TestCase):
 
     def test_a_long_chain(self):
         source = "{% if a %}x" + "{% elif a %}y" * 10000 + '{% else %}"z\\{% endif %}'
-        kinds = [it["kind"] for it in tera_parser.walk(tera_parser.parse(source))]
-        self.assertEqual((kinds.count("If"), kinds.count("Content")), (10001, 10002))
+        tree = tera_parser.parse(source)
+        self.assertEqual([len(it["branches"]) for it in tera_parser.walk(tree) if it["kind"] == "If"], [10001])
+        self.assertEqual(tree["nodes"][0]["false_body"], [{"kind": "Content", "text": '"z\\'}])
+        self.assertEqual(json.loads(json.dumps(tree)), tree)
+
+    def test_a_deep_tree(self):
+        """It is deeper than what Python's reader of JSON accepts."""
+        source = "{% if a %}" * 99 + "{{ a" + ".b" * 4000 + " }}" + "{% endif %}" * 99
+        tree = tera_parser.parse(source, limits=Limits(links=4096, bodies=100))
+        kinds = [it["kind"] for it in tera_parser.walk(tree)]
+        self.assertEqual((kinds.count("If"), kinds.count("GetAttr")), (99, 4000))
 
     def test_the_reader_of_deep_trees_reads_as_the_other(self):
         source = "{% set a = {'k': [1, true, none, '\\n\"{[,:é'], 'm': {}} %}{{ <ui.b x='y' {...c}/> }}{{ a[1] }}"

@@ -1,4 +1,4 @@
--- What two nodes stand for.
+-- What some nodes stand for.
 use Rattle.std.proofs.Common.{◌≡◌, String, Global, string_bytes, rules}
 use Rattle.tera_base.specs.Spanned.{node_of, span_of}
 use Rattle.tera_ast.specs.Tree as tree
@@ -12,3 +12,6 @@ view_content s = search (rules, the_lemmas)
 
 pub view_include : (i : Include) → node_view (nodes.Include i) ≡ tree.Include (string_bytes (node_of i.name)) (span_of i.name)
 view_include i = search (rules, the_lemmas)
+
+pub view_continue : node_view nodes.Continue ≡ tree.Continue
+view_continue = search (rules, the_lemmas)

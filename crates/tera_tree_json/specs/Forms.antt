@@ -150,9 +150,14 @@ for_json key value target body else_body = node (codes "ForLoop") (member (codes
     (member (codes "value") (string value) (member (codes "target") target
     (member (codes "body") (array body) (member (codes "else_body") (array else_body) no_members)))))
 
-abbrev pub if_json : Json → Items → Items → Json
-if_json expr body false_body = node (codes "If") (member (codes "expr") expr
-    (member (codes "body") (array body) (member (codes "false_body") (array false_body) no_members)))
+-- a branch of an `if`: its condition, and its body
+abbrev pub branch_json : Json → Items → Json
+branch_json expr body = object (member (codes "expr") expr (member (codes "body") (array body) no_members))
+
+-- the branches of an `if` and of its `elif`s, and the body of the `else`
+abbrev pub if_json : Items → Items → Json
+if_json branches false_body = node (codes "If") (member (codes "branches") (array branches)
+    (member (codes "false_body") (array false_body) no_members))
 
 abbrev pub section_json : Items → Items → Json
 section_json filters body = node (codes "FilterSection")

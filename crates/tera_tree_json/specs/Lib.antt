@@ -1,5 +1,4 @@
 pub mod WrittenJson
 pub mod Constants
-pub mod Elifs
 pub mod Forms
 pub mod TreeJson

@@ -15,7 +15,7 @@ use Rattle.tera_tree.specs.Tree.{Argument, Definition, Output}
 use Rattle.tera_tree.specs.Types.{type_name}
 use Rattle.tera_tree.specs.declared.ast.ArgType.{ArgType}
 use Rattle.tera_tree_json.specs.Constants.{key_json, value_json}
-use Rattle.tera_tree_json.specs.Forms.{node, name_json, const_json, array_json, map_json, var_json, get_attr_json, get_item_json, slice_json, call_json, ternary_json, comprehension_json, component_call_json, function_call_json, unary_json, binary_json, part_json, pair_json, content_json, shown_json, set_json, block_set_json, include_json, block_json, for_json, if_json, section_json}
+use Rattle.tera_tree_json.specs.Forms.{node, name_json, const_json, array_json, map_json, var_json, get_attr_json, get_item_json, slice_json, call_json, ternary_json, comprehension_json, component_call_json, function_call_json, unary_json, binary_json, part_json, pair_json, content_json, shown_json, set_json, block_set_json, include_json, block_json, for_json, branch_json, if_json, section_json}
 
 abbrev mutual
   pub expr_json : Expr → Json
@@ -73,12 +73,35 @@ abbrev mutual
       for_json (name_json key) value (expr_json target) (nodes_json body) (nodes_json other)
   node_json Break = node (codes "Break") no_members
   node_json Continue = node (codes "Continue") no_members
-  node_json (If e body other) = if_json (expr_json e) (nodes_json body) (nodes_json other)
+  node_json (If e body other) =
+      if_json (item (branch_json (expr_json e) (nodes_json body)) (chain_json other).0) (chain_json other).1
   node_json (FilterSection filters body) = section_json (filters_json filters) (nodes_json body)
 
   pub nodes_json : Nodes → JsonItems
   nodes_json NoNodes = no_items
   nodes_json (OneNode n ns) = item (node_json n) (nodes_json ns)
+
+  -- of the body for where an `if` does not hold: the branches of the `elif`s with which it begins, and what is after
+  -- them. An `elif` is an `If` that is alone in such a body, so a chain of them does not nest.
+  pub chain_json : Nodes → JsonItems × JsonItems
+  chain_json NoNodes = (no_items, no_items)
+  chain_json (OneNode n NoNodes) = alone_json n (node_json n)
+  chain_json (OneNode n (OneNode m ns)) = (no_items, item (node_json n) (nodes_json (OneNode m ns)))
+
+  -- of a node that is alone in it, with the JSON of that node
+  pub alone_json : Stmt → Json → JsonItems × JsonItems
+  alone_json (Content _) j = (no_items, item j no_items)
+  alone_json (Shown _) j = (no_items, item j no_items)
+  alone_json (Set _ _ _) j = (no_items, item j no_items)
+  alone_json (BlockSet _ _ _ _) j = (no_items, item j no_items)
+  alone_json (Include _ _) j = (no_items, item j no_items)
+  alone_json (Block _ _ _) j = (no_items, item j no_items)
+  alone_json (ForLoop _ _ _ _ _) j = (no_items, item j no_items)
+  alone_json Break j = (no_items, item j no_items)
+  alone_json Continue j = (no_items, item j no_items)
+  alone_json (If e body other) j =
+      (item (branch_json (expr_json e) (nodes_json body)) (chain_json other).0, (chain_json other).1)
+  alone_json (FilterSection _ _) j = (no_items, item j no_items)
 
 -- an item, and an entry, by itself
 abbrev pub item_json : ArrayEntryOf Expr → Json

@@ -1,8 +1,8 @@
 //! Nodes.
 
 ghost use Rattle.std.specs.Prelude.{◌≡◌, ◌∷◌, [], ◌++◌, codes, string_bytes, IfSome, IfNone};
-ghost use Rattle.json.specs.Json.{array, no_members};
-ghost use Rattle.json.specs.Token.{begin_object, key, string};
+ghost use Rattle.json.specs.Json.{array, item, no_items, no_members};
+ghost use Rattle.json.specs.Token.{key};
 ghost use Rattle.json.specs.Tree.{json_tokens};
 ghost use Rattle.tera_base.specs.Spanned.{node_of, span_of};
 ghost use Rattle.tera_ast.specs.View.{expression_view, name_view, filters_view, node_view, nodes_view};
@@ -10,9 +10,8 @@ ghost use Rattle.tera_ast.specs.declared.ast.BlockSet.{out-BlockSet};
 ghost use Rattle.tera_ast.specs.declared.ast.FilterSection.{out-FilterSection};
 ghost use Rattle.tera_ast.specs.declared.ast.ForLoop.{out-ForLoop};
 ghost use Rattle.tera_ast.specs.declared.ast.If.{out-If};
-ghost use Rattle.tera_tree_json.specs.Elifs.{elifs, ends};
-ghost use Rattle.tera_tree_json.specs.Forms.{node, name_json, content_json, shown_json, set_json, block_set_json, include_json, block_json, for_json, if_json, section_json};
-ghost use Rattle.tera_tree_json.specs.TreeJson.{expr_json, filters_json, node_json, nodes_json};
+ghost use Rattle.tera_tree_json.specs.Forms.{node, name_json, content_json, shown_json, set_json, block_set_json, include_json, block_json, for_json, branch_json, if_json, section_json};
+ghost use Rattle.tera_tree_json.specs.TreeJson.{expr_json, filters_json, node_json, nodes_json, chain_json};
 ghost use Rattle.tera_tree_json.specs.WrittenJson.{Puts, PutsJson};
 
 use crate::expressions::{put_expression, put_part};
@@ -140,59 +139,48 @@ fn put_for(out: &mut Writer, parts: &ForLoop) -> Result<(), AllocError>
     out.end_object()
 }
 
-// An `If`, and the `elif`s after it: each is alone in the body of the one before.
+// An `If` with the branches of its `elif`s: each of these is an `If` that is alone in the body of the one before.
 #[cycle(tree)]
 fn put_if(out: &mut Writer, parts: &If) -> Result<(), AllocError>
     ensures { let p = out-If parts.now in
-        PutsJson result out.old out.new (if_json (expr_json (expression_view p.expr))
-        (nodes_json (nodes_view p.body.items)) (nodes_json (nodes_view p.false_body.items))) }
+        let chain = chain_json (nodes_view p.false_body.items) in
+        PutsJson result out.old out.new (if_json (item (branch_json
+        (expr_json (expression_view p.expr)) (nodes_json (nodes_view p.body.items))) chain.0)
+        chain.1) }
 {
+    begin(out, "If")?;
+    out.key("branches")?;
+    out.begin_array()?;
     let mut last = parts;
     put_branch(out, last)?;
     while let Some(next) = elif_of(&last.false_body) {
-        out.begin_array()?;
         put_branch(out, next)?;
         last = next;
     }
-    put_nodes(out, &last.false_body)?;
-    out.end_object()?;
-    put_ends(out, parts)
+    out.end_array()?;
+    put_body(out, "false_body", &last.false_body)?;
+    out.end_object()
 }
 
-// An `If` up to the body that is for where it is false.
+// A branch: its condition and its body.
 #[cycle(tree)]
 fn put_branch(out: &mut Writer, parts: &If) -> Result<(), AllocError>
     ensures { let p = out-If parts.now in
-        Puts result out.old out.new (begin_object ∷ key (codes "kind") ∷ string (codes "If")
-        ∷ key (codes "expr") ∷ (json_tokens (expr_json (expression_view p.expr))
-        ++ (key (codes "body") ∷ (json_tokens (array (nodes_json (nodes_view p.body.items)))
-        ++ key (codes "false_body") ∷ [])))) }
+        PutsJson result out.old out.new (branch_json (expr_json (expression_view p.expr))
+        (nodes_json (nodes_view p.body.items))) }
 {
-    begin(out, "If")?;
+    out.begin_object()?;
     put_part(out, "expr", &parts.expr)?;
     put_body(out, "body", &parts.body)?;
-    out.key("false_body")
-}
-
-// The ends of the `If`s of which the `elif`s after this one are parts.
-fn put_ends(out: &mut Writer, parts: &If) -> Result<(), AllocError>
-    ensures { Puts result out.old out.new
-        (ends (elifs (nodes_view (out-If parts.now).false_body.items))) }
-{
-    let mut parts = parts;
-    while let Some(next) = elif_of(&parts.false_body) {
-        out.end_array()?;
-        out.end_object()?;
-        parts = next;
-    }
-    Ok(())
+    out.end_object()
 }
 
 // The `If` that is alone in a body.
-#[tactic(auto, using(crate::proofs::Elifs::not_lone, crate::proofs::Elifs::one))]
+#[tactic(auto, using(crate::proofs::Elifs::not_lone, crate::proofs::Elifs::lone))]
 fn elif_of(nodes: &Vec<Node>) -> Option<&If>
     ensures some { IfSome result (λ next. nodes.now.items ≡ Node.If next.now ∷ []) }
-    ensures none { IfNone result (elifs (nodes_view nodes.now.items) ≡ 0) }
+    ensures none { IfNone result (chain_json (nodes_view nodes.now.items)
+        ≡ (no_items, nodes_json (nodes_view nodes.now.items))) }
 {
     match nodes.as_slice() {
         [only] => match only {

@@ -2,9 +2,9 @@ use Rattle.std.proofs.Common.{rules, ◌≤◌, refl, ◌∙◌, arith}
 use Rattle.tera_ast.specs.declared.ast.Expression.{the_lemmas}
 use Rattle.tera_ast.specs.declared.ast.If.{size-If}
 use Rattle.tera_ast.proofs.Views.{view_const, view_array, view_map, view_var, view_get_attr, view_get_item, view_slice, view_filter, view_test, view_ternary, view_comprehension, view_call, view_function_call, view_unary, view_binary, view_shown, view_set, view_block, view_block_set, view_for, view_if, view_section, block_set_out, for_out, if_out, section_out}
-use Rattle.tera_tree_json.proofs.Elifs.{whole, opened, opened_more, closed}
+use Rattle.tera_tree_json.proofs.Elifs.{whole, opened_more, closed}
 use Rattle.tera_tree_json.proofs.FromFirst.{items_row, one_item, entries_row, one_entry, row_more}
-use Rattle.tera_tree_json.proofs.Views.{view_content, view_include}
+use Rattle.tera_tree_json.proofs.Views.{view_content, view_continue, view_include}
 use Rattle.tera_tree_json.proofs.Writing.{token, then_token, then_all, from_later, as_well}
 use Rattle.tera_tree_json.proofs.+tree.Goals as goal
 
@@ -112,24 +112,28 @@ expressions::put_entries-loop-entry-preserved t c =
       rw c.in_ok-put_entry.ensures.ok (row_more entries_row _ _ _ _ l.entry-index x l.invariant.1 (search rules) c.entry-item.is (one_entry x _)),
     )
 
+pub nodes::put_node-returns-in-Continue : goal.nodes::put_node-returns-in-Continue
+nodes::put_node-returns-in-Continue t c = rw (c.in-Continue.is, view_continue) c.put_word-in-Continue.ensures
+
 pub nodes::put_if-loop-next-init : goal.nodes::put_if-loop-next-init
-nodes::put_if-loop-next-init t c = (refl, omega arith, opened _ c.args.parts.now)
+nodes::put_if-loop-next-init t c = (refl, omega arith, refl)
 
 pub nodes::put_if-loop-next-preserved : goal.nodes::put_if-loop-next-preserved
 nodes::put_if-loop-next-preserved t c =
     let held = c.loop-next.invariant in
     let less : size-If c.in-Some.next.now ≤ size-If c.loop-next.last.now = search (rules, the_lemmas) in (
-      c.in_ok-put_branch-2.ensures.before ∙ c.in_ok-begin_array.ensures.room.0 ∙ held.0,
+      c.in_ok-put_branch-2.ensures.before ∙ held.0,
       omega (arith, less, held.1),
-      rw (c.in_ok-put_branch-2.ensures.ok, c.in_ok-begin_array.ensures.ok) (opened_more _ _ c.args.parts.now c.loop-next.last.now c.in-Some.next.now c.in-Some.ensures.some held.2),
+      rw c.in_ok-put_branch-2.ensures.ok (opened_more _ _ c.args.parts.now c.loop-next.last.now c.in-Some.next.now c.in-Some.ensures.some held.2),
     )
 
 pub nodes::put_if-returns : goal.nodes::put_if-returns
 nodes::put_if-returns t c =
     let held = c.loop-next.invariant in
-    as_well _ (whole c.args.parts.now) (then_all _ c.in_ok-put_branch.ensures
+    as_well _ (whole c.args.parts.now) (then_all _ c.in_ok-begin.ensures (then_token _ c.in_ok-key.ensures
+    (then_token _ c.in_ok-begin_array.ensures (then_all _ c.in_ok-put_branch.ensures
     (from_later _ held.0 (closed _ _ c.args.parts.now c.loop-next.last.now c.in_default.ensures.none held.2)
-    (then_all _ c.in_ok-put_nodes.ensures (then_token _ c.in_ok-end_object.ensures c.put_ends.ensures))))
+    (then_token _ c.in_ok-end_array.ensures (then_all _ c.in_ok-put_body.ensures (token _ c.end_object.ensures))))))))
 
 pub expressions::put_array-returns : goal.expressions::put_array-returns
 expressions::put_array-returns t c =
@@ -234,8 +238,8 @@ nodes::put_for-returns t c =
 
 pub nodes::put_branch-returns : goal.nodes::put_branch-returns
 nodes::put_branch-returns t c =
-    then_all _ c.in_ok-begin.ensures (then_all _ c.in_ok-put_part.ensures (then_all _ c.in_ok-put_body.ensures
-    (token _ c.key.ensures)))
+    then_token _ c.in_ok-begin_object.ensures (then_all _ c.in_ok-put_part.ensures (then_all _ c.in_ok-put_body.ensures
+    (token _ c.end_object.ensures)))
 
 pub nodes::put_section-returns : goal.nodes::put_section-returns
 nodes::put_section-returns t c =

@@ -135,7 +135,8 @@ decreases-nodes::put_branch l = 10 * goal.size-nodes::put_branch l + 5
 
 abbrev pub invariant-nodes::put_if-loop-next : goal.invariant-nodes::put_if-loop-next
 invariant-nodes::put_if-loop-next l =
-    (l.out.before ≡ l.initial.out.before) × (size-If l.last ≤ size-If l.initial.last) × IsOpen l.initial.out.tokens l.initial.last l.out.tokens l.last
+    (l.out.before ≡ l.initial.out.before) × (size-If l.last ≤ size-If l.initial.last)
+    × IsOpen l.initial.out.tokens l.initial.last l.out.tokens l.last
 
 abbrev pub decreases-nodes::put_section : goal.decreases-nodes::put_section
 decreases-nodes::put_section l = 10 * goal.size-nodes::put_section l + 6
