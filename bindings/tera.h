@@ -167,9 +167,9 @@ static inline uint32_t tera_note(const struct tera_source *source, size_t index,
 }
 
 /* Writes the source in its layout, as the program does: TERA_WRITTEN, TERA_SHORT, TERA_FAULTY if a token of it is
- * faulty or a tag has no end, or an error. The limits are not read. The start and the end of a statement, and the end of
- * an expression, may not begin with a letter, a digit, an underscore, a dash or white space. The two ends have no white
- * space. For other markers the answer is TERA_BAD_MARKERS. */
+ * faulty or a tag has no end, or an error. The limits are not read. The start and the end of a statement, and the end
+ * of an expression, may not begin with a letter, a digit, an underscore, a dash or white space. The two ends have no
+ * white space. For other markers the answer is TERA_BAD_MARKERS. */
 static inline uint32_t tera_format(const struct tera_source *source, void *text, size_t length, size_t *needed) {
     struct tera_source given = tera_source_given(source);
     uint8_t none = 0;
@@ -204,17 +204,17 @@ static inline uint32_t tera_components(const struct tera_file *files, size_t cou
                              needed == NULL ? &untold : needed);
 }
 
-/* Writes the tree of the file, whatever faults it has, and these, as a line of JSON. Its `tree` is null if there is none.
- * Its `faults` are objects as those of tera_check. Its `more` is true if there are more faults than these. At most
- * `faults` faults are found, as TERA_USUAL_FAULTS. With 0 it is the first fault, and no tree beside it. Markers and
- * limits are the usual ones. `file`, `text` and `needed` may be null. */
+/* Writes the tree of the file, whatever faults it has, and these, as a line of JSON. Its `tree` is null if there is
+ * none. Its `faults` are objects as those of tera_check. Its `more` is true if there are more faults than these. At
+ * most `faults` faults are found, as TERA_USUAL_FAULTS. With 0 it is the first fault, and no tree beside it. Markers
+ * and limits are the usual ones. `file`, `text` and `needed` may be null. */
 static inline uint32_t tera_mend(const struct tera_file *file, size_t faults, void *text, size_t length,
                                  size_t *needed) {
     static const struct tera_file no_file = {"", 0, "", 0};
     uint8_t none = 0;
     size_t untold = 0;
-    return tera_c_mend(file == NULL ? &no_file : file, faults, text == NULL ? &none : (uint8_t *)text, text == NULL ? 0 : length,
-                       needed == NULL ? &untold : needed);
+    return tera_c_mend(file == NULL ? &no_file : file, faults, text == NULL ? &none : (uint8_t *)text,
+                       text == NULL ? 0 : length, needed == NULL ? &untold : needed);
 }
 
 #ifdef __cplusplus

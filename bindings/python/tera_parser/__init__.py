@@ -24,9 +24,9 @@ from collections.abc import Iterator, Mapping
 from pathlib import Path
 from typing import Any, NamedTuple, Optional, TypedDict, Union
 
-__all__ = ["DEFAULT_LIMITS", "DEFAULT_MARKERS", "Fault", "Finding", "FindingNote", "Limits", "Markers", "Mended", "Node",
-           "Note", "Source", "Span", "Tree", "check", "components", "fault", "format", "mend", "parse", "tree_text",
-           "walk"]
+__all__ = ["DEFAULT_LIMITS", "DEFAULT_MARKERS", "Fault", "Finding", "FindingNote", "Limits", "Markers", "Mended",
+           "Node", "Note", "Source", "Span", "Tree", "check", "components", "fault", "format", "mend", "parse",
+           "tree_text", "walk"]
 
 Source = Union[str, bytes]
 Node = dict[str, Any]
@@ -123,8 +123,8 @@ class FindingNote(NamedTuple):
 
 
 class Finding(NamedTuple):
-    """What is wrong in a template. `severity` is `error` or `warning`, and `kind` a word that stays the same from version
-    to version, such as `missing-argument`. Places are as in a FindingNote."""
+    """What is wrong in a template. `severity` is `error` or `warning`, and `kind` a word that stays the same from
+    version to version, such as `missing-argument`. Places are as in a FindingNote."""
 
     file: str
     line: int
@@ -187,14 +187,15 @@ def check(templates: Mapping[str, Source], library: Mapping[str, Source] | None 
     is the first fault, and nothing else of that template.
     """
     files = _files(templates, library or {})
-    _, text = _written(_library.tera_c_check, (files, len(files), len(templates), _count(max_faults)), 4096)
+    asked = files, len(files), len(templates), _count(max_faults)
+    _, text = _written(_library.tera_c_check, asked, 4096 + 512 * len(files) + _length(files))
     return [_finding(json.loads(line)) for line in text.splitlines()]
 
 
 def components(templates: Mapping[str, Source]) -> list[dict[str, Any]]:
     """Returns the components that templates define, with their parameters and a call to copy, as `tera components`."""
     files = _files(templates, {})
-    _, text = _written(_library.tera_c_components, (files, len(files)), 4096)
+    _, text = _written(_library.tera_c_components, (files, len(files)), 4096 + 12 * _length(files))
     listed: list[dict[str, Any]] = json.loads(text)
     return listed
 
@@ -205,7 +206,7 @@ def mend(source: Source, *, name: str = "", max_faults: int = 100) -> Mended:
     `name` is the file of the faults. At most `max_faults` are found; with 0 it is the first fault, and no tree.
     """
     file = _files({name: source}, {})
-    _, text = _written(_library.tera_c_mend, (file, _count(max_faults)), 512 + 12 * file[0].length)
+    _, text = _written(_library.tera_c_mend, (file, _count(max_faults)), 4096 + 12 * _length(file))
     found = _value(text.rstrip())
     return Mended(found["tree"], [_finding(it) for it in found["faults"]], found["more"])
 
@@ -216,11 +217,18 @@ def walk(tree: Any) -> Iterator[Node]:
     while waiting:
         it = waiting.pop()
         if isinstance(it, dict):
-            if "kind" in it:
+            # An argument may have the name `kind`, and is no word.
+            if isinstance(it.get("kind"), str):
                 yield it
-            waiting.extend(reversed(it.values()))
+            waiting.extend(reversed(_parts(it)))
         elif isinstance(it, list):
             waiting.extend(reversed(it))
+
+
+def _parts(it: dict[str, Any]) -> list[Any]:
+    """The parts of an object that may have a `kind`. The metadata of a definition are constants by any names."""
+    is_definition = "rest_param_name" in it and not isinstance(it["rest_param_name"], dict)
+    return [part for name, part in it.items() if not (is_definition and name == "metadata")]
 
 
 # The calls of the library, with the numbers and the types of tera.h.
@@ -328,6 +336,11 @@ def _files(templates: Mapping[str, Source], library: Mapping[str, Source]) -> An
     return (_File * len(pairs))(*(_File(name, len(name), text, len(text)) for name, text in pairs))
 
 
+def _length(files: Any) -> int:
+    """The length of these templates together."""
+    return sum(it.length for it in files)
+
+
 def _written(call: Any, asked: tuple[Any, ...], room: int, more: tuple[Any, ...] = ()) -> tuple[int, str]:
     """The status of a call and the text that it writes. It is made again if the text does not fit the room."""
     needed = ctypes.c_size_t()
@@ -374,7 +387,7 @@ _TOKEN = re.compile(r'"(?:[^"\\]+|\\.)*"|[][{}:,]|[^][{}:,"]+')
 
 
 def _value(text: str) -> Any:
-    """The value of a JSON text. A tree may be deeper than what Python's reader accepts, as for a chain of `elif`s."""
+    """The value of a JSON text. A tree may be deeper than what Python's reader accepts."""
     try:
         return json.loads(text)
     except RecursionError:

@@ -40,13 +40,27 @@ class Trees(unittest.TestCase):
         source = "{{a}}" * 2000
         self.assertEqual(len(tera_parser.parse(source)["nodes"]), 2000)
 
+    def test_the_names_of_arguments_and_of_metadata_are_no_kinds(self):
+        source = "{% component a() {'kind': 'x'} %}{{ b }}{% endcomponent %}"
+        source += "{{ f(kind=c, metadata=d, rest_param_name=e) }}"
+        kinds = [it["kind"] for it in tera_parser.walk(tera_parser.parse(source))]
+        self.assertEqual(kinds, ["Expression", "Var", "Expression", "FunctionCall", "Var", "Var", "Var"])
+
     def test_a_source_is_parsed_once(self):
-        source = "{% for a in b %}{{ a.name | upper }}{% endfor %}"
-        for name, call in (("json", tera_parser.parse), ("tree", tera_parser.tree_text)):
+        source = "{% for a in b %}{{ a.name | upper }}{{ <ui.button/> }}{% endfor %}"
+        site = {f"page{number}.html": source for number in range(100)}
+        for name, call, what in (
+            ("json", tera_parser.parse, source),
+            ("tree", tera_parser.tree_text, source),
+            ("format", tera_parser.format, source),
+            ("mend", tera_parser.mend, source + "{{ a b }}"),
+            ("check", tera_parser.check, site),
+            ("components", tera_parser.components, {**site, "ui.html": UI}),
+        ):
             made = getattr(tera_parser._library, f"tera_c_{name}")
             with mock.patch.object(tera_parser._library, f"tera_c_{name}", wraps=made) as counted:
-                call(source)
-            self.assertEqual(counted.call_count, 1)
+                call(what)
+            self.assertEqual((name, counted.call_count), (name, 1))
 
     def test_other_markers_and_limits(self):
         markers = Markers("[%", "%]", "[[", "]]", "[#", "#]")

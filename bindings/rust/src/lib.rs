@@ -1,5 +1,5 @@
-//! The tree of a Tera template as text or as JSON, or its fault or layout, and what is found in several templates, by the
-//! proved static library in this crate.
+//! The tree of a Tera template as text or as JSON, or its fault or layout, and what is found in several templates, by
+//! the proved static library in this crate.
 //!
 //! ```
 //! use tera_parser::{Error, Source};
@@ -247,12 +247,12 @@ pub struct File<'a> {
 /// How many faults of a file the program finds at most.
 pub const USUAL_FAULTS: usize = 100;
 
-/// What is found in the files, an object of JSON a line. Components of the library may be called, and only its faults are
-/// found. At most so many faults are found in each file, as [`USUAL_FAULTS`]; with 0 it is the first fault of a file, and
-/// nothing else in it.
+/// What is found in the files, an object of JSON a line. Components of the library may be called, and only its faults
+/// are found. At most so many faults are found in each file, as [`USUAL_FAULTS`]; with 0 it is the first fault of a
+/// file, and nothing else in it.
 pub fn check(files: &[File<'_>], library: &[File<'_>], faults: usize) -> Result<String, Error> {
     let raw: Vec<RawFile> = files.iter().chain(library).map(RawFile::of).collect();
-    text_of(written(4096, |text, needed| unsafe {
+    text_of(written(4096 + 512 * raw.len() + length_of(&raw), |text, needed| unsafe {
         tera_c_check(raw.as_ptr(), raw.len(), files.len(), faults, text.as_mut_ptr(), text.len(), needed)
     }))
 }
@@ -260,17 +260,17 @@ pub fn check(files: &[File<'_>], library: &[File<'_>], faults: usize) -> Result<
 /// The components that the files define, as an array of JSON.
 pub fn components(files: &[File<'_>]) -> Result<String, Error> {
     let raw: Vec<RawFile> = files.iter().map(RawFile::of).collect();
-    text_of(written(4096, |text, needed| unsafe {
+    text_of(written(4096 + 12 * length_of(&raw), |text, needed| unsafe {
         tera_c_components(raw.as_ptr(), raw.len(), text.as_mut_ptr(), text.len(), needed)
     }))
 }
 
-/// The tree of the file, whatever faults it has, and these, as an object of JSON: `tree`, which is null if there is none;
-/// `faults`, which are objects as those of [`check`]; and `more`, which is true if there are more faults. At most so many
-/// are found, as [`USUAL_FAULTS`]; with 0 it is the first fault, and no tree beside it.
+/// The tree of the file, whatever faults it has, and these, as an object of JSON: `tree`, which is null if there is
+/// none; `faults`, which are objects as those of [`check`]; and `more`, which is true if there are more faults. At most
+/// so many are found, as [`USUAL_FAULTS`]; with 0 it is the first fault, and no tree beside it.
 pub fn mend(file: &File<'_>, faults: usize) -> Result<String, Error> {
     let raw = RawFile::of(file);
-    text_of(written(512 + 12 * file.bytes.len(), |text, needed| unsafe {
+    text_of(written(4096 + 12 * file.bytes.len(), |text, needed| unsafe {
         tera_c_mend(&raw, faults, text.as_mut_ptr(), text.len(), needed)
     }))
 }
@@ -284,6 +284,11 @@ impl RawFile {
             length: file.bytes.len(),
         }
     }
+}
+
+// The length of these templates together.
+fn length_of(files: &[RawFile]) -> usize {
+    files.iter().map(|it| it.length).sum()
 }
 
 fn text_of((status, text): (u32, String)) -> Result<String, Error> {
