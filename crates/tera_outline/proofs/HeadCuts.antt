@@ -1,24 +1,24 @@
 -- Where the head of a definition is cut out of its text.
-use Rattle.std.proofs.Common.{◌≡◌, ◌<◌, ◌≤◌, ◌++◌, ◌||◌, ℕ, Bool, Some, List, [], ◌∷◌, length, nat_lt, inl, inr, refl, subst, arith}
+use Rattle.std.proofs.Common.{◌≡◌, ◌≤◌, ◌++◌, ◌||◌, ℕ, zero, suc, Bool, Option, Some, None, List, [], ◌∷◌, length, drop, map, min, nat_lt, inl, inr, refl, subst, arith}
 use Rattle.std.specs.List.{AllByRecursion, find}
 use Rattle.std.specs.Option.{option_to_list}
 use Rattle.std.specs.Str.{IsCharBoundary, IsUtf8}
-use Rattle.std.proofs.lemmas.Str.Ascii.{IsAscii-cons}
 use Rattle.std.proofs.lemmas.Bool.{cases_Bool}
-use Rattle.std.proofs.lemmas.Bool.Decides.{nat_tests}
-use Rattle.std.proofs.lemmas.Str.{IsUtf8-from_ascii}
-use Rattle.tera_lexer.specs.grammar.Marks.{AreTexts, default_marks}
+use Rattle.std.proofs.lemmas.Bool.Decides.{leb_tells, nat_tests}
+use Rattle.std.proofs.lemmas.Str.{IsCharBoundary-from_rest, IsUtf8-drop}
+use Rattle.tera_lexer.specs.grammar.Marks.{default_marks}
 use Rattle.tera_lexer.specs.grammar.Tokens.{Items, Ended, Failed, Token}
 use Rattle.tera_lexer.specs.code.Steps.{EachIsAt}
 use Rattle.tera_lexer.proofs.TokensInLemmas.{each_sound}
 use Rattle.tera_layout.proofs.Defaults.{default_valid}
 use Rattle.tera_outline.specs.declared.symbols.SymbolKind.{SymbolKind}
-use Rattle.tera_outline.specs.Pieces.{Part, parts_in, ArePartsOf}
+use Rattle.tera_outline.specs.Pieces.{Part, parts_in, failed_after, next_of, before, moved, AreWithRest, AreReadBy, ArePartsOf}
 use Rattle.tera_outline.specs.Dotted.{is_name, begins_link, links, dotted, start_of, end_of}
 use Rattle.tera_outline.specs.Symbols.{Outlined, Mark, Opens, Closes, begins_tag, ends_tag, opening, marks, is_open, after_last, outline, outline_of}
 use Rattle.tera_outline.specs.Heads.{head_end}
 use Rattle.tera_outline.proofs.Nesting.{Ascend}
 use Rattle.tera_outline.proofs.Rising.{a_word, marks_ascend}
+use Rattle.tera_outline.proofs.Starts.{default_texts, next_cut}
 use Rattle.tera_outline.proofs.Stopping.{parts_sound}
 
 -- the part between two bytes can be cut out
@@ -32,28 +32,59 @@ AreCut text ps = AllByRecursion (λ (p : Part). IsCut text p.start p.end) ps
 
 -- ---- tokens
 
-two_ascii : (a b : ℕ) → a < 128 → b < 128 → IsUtf8 (a ∷ b ∷ [])
-two_ascii a b h k = IsUtf8-from_ascii (a ∷ b ∷ []) (IsAscii-cons a (b ∷ []) h (IsAscii-cons b [] k (λ i. omega arith)))
-
-default_texts : AreTexts default_marks
-default_texts = record {
-  block_start = two_ascii 123 37 (omega arith) (omega arith);
-  block_end = two_ascii 37 125 (omega arith) (omega arith);
-  variable_start = two_ascii 123 123 (omega arith) (omega arith);
-  variable_end = two_ascii 125 125 (omega arith) (omega arith);
-  comment_start = two_ascii 123 35 (omega arith) (omega arith);
-  comment_end = two_ascii 35 125 (omega arith) (omega arith);
-}
-
 items_cut : (text : List ℕ) (items : Items) → EachIsAt text items → AreCut text (parts_in items)
 items_cut text Ended h = tt
 items_cut text (Failed t span) h = tt
 items_cut text (Token t span items) (sound, rest) =
     (record { order = sound.0.0; begins = sound.0.1; ends = sound.0.2 }, items_cut text items rest)
 
+before_cut : (text : List ℕ) (stop : ℕ) (ps : List Part) → IsCharBoundary text stop → AreCut text ps → AreCut text (before stop ps)
+before_cut text stop [] h cut = tt
+before_cut text stop (p ∷ ps) h (a, rest) = elim (leb_tells (suc p.start) stop) [
+  | inl starts ↦ elim (leb_tells p.end stop) [
+    | inl within ↦
+        let same : min p.end stop ≡ p.end = omega (arith, within.1) in
+        rw (starts.0, same) (record { order = a.order; begins = a.begins; ends = a.ends }, before_cut text stop ps h rest)
+    | inr over ↦
+        let same : min p.end stop ≡ stop = omega (arith, over.1) in
+        rw (starts.0, same) (record { order = omega (arith, starts.1); begins = a.begins; ends = h }, before_cut text stop ps h rest)
+  ]
+  | inr none ↦ rw none.0 tt
+]
+
+moved_cut : (text : List ℕ) (n : ℕ) (ps : List Part) → n ≤ length text → AreCut (drop n text) ps → AreCut text (map (moved n) ps)
+moved_cut text n [] h cut = tt
+moved_cut text n (p ∷ ps) h (a, rest) = (
+  record {
+    order = omega (arith, a.order);
+    begins = IsCharBoundary-from_rest text n p.start h a.begins;
+    ends = IsCharBoundary-from_rest text n p.end h a.ends;
+  },
+  moved_cut text n ps h rest,
+)
+
+both_cut : (text : List ℕ) (ps qs : List Part) → AreCut text ps → AreCut text qs → AreCut text (ps ++ qs)
+both_cut text [] qs h cut = cut
+both_cut text (p ∷ ps) qs (a, rest) cut = (a, both_cut text ps qs rest cut)
+
+rest_cut : (P : List ℕ → List Part → Type 0) (text : List ℕ) (read : List Part) (next : Option ℕ) (parts : List Part) → IsUtf8 text
+    → ((t : List ℕ) (ps : List Part) → IsUtf8 t → P t ps → AreCut t ps) → AreCut text read → ((k : ℕ) → next ≡ Some k → IsCharBoundary text k)
+    → AreWithRest P text read next parts → AreCut text parts
+rest_cut P text read None parts utf8 each cut fits same = rw same cut
+rest_cut P text read (Some k) parts utf8 each cut fits (rest, are, same) =
+    let at : IsCharBoundary text k = fits k refl in
+    let following : AreCut (drop k text) rest = each (drop k text) rest (IsUtf8-drop text k utf8 at) are in
+    rw same (both_cut text (before k read) (map (moved k) rest) (before_cut text k read at cut) (moved_cut text k rest at.0 following))
+
+cut_by : (n : ℕ) (text : List ℕ) (parts : List Part) → IsUtf8 text → AreReadBy n text parts → AreCut text parts
+unfolding AreReadBy
+cut_by zero text parts utf8 none = rw none tt
+cut_by (suc n) text parts utf8 (items, tokens, whole) =
+    rest_cut (AreReadBy n) text (parts_in items) (next_of text items) parts utf8 (λ t ps u are. cut_by n t ps u are)
+    (items_cut text items (each_sound default_marks default_valid default_texts text utf8 items tokens)) (λ k is. next_cut text (failed_after None items) k is) whole
+
 parts_cut : (text : List ℕ) (parts : List Part) → IsUtf8 text → ArePartsOf text parts → AreCut text parts
-parts_cut text parts utf8 (items, tokens, same) =
-    rw same (items_cut text items (each_sound default_marks default_valid default_texts text utf8 items tokens))
+parts_cut text parts utf8 are = cut_by 100 text parts utf8 are
 
 -- ---- names
 

@@ -7,7 +7,9 @@ mod Nesting
 mod OutlineSteps
 mod Outlines
 mod PieceSteps
+mod Readings
 mod Rising
 pub mod SemanticLemmas
 mod Sides
+mod Starts
 mod Stopping

@@ -9,7 +9,7 @@ use Rattle.tera_outline.specs.declared.semantic_tokens.SemanticKind.{SemanticKin
 use Rattle.tera_outline.specs.declared.semantic_tokens.SemanticToken.{SemanticToken}
 use Rattle.tera_outline.specs.Pieces.{Part, ArePartsOf, AreBetween}
 use Rattle.tera_outline.specs.SemanticTokens.{ends_line, token, on_lines, bytes_of, kind_of, kinded, tokens_in, semantic_tokens_of, following, AreOnLines}
-use Rattle.tera_outline.proofs.Stopping.{parts_sound}
+use Rattle.tera_outline.proofs.Stopping.{ordered, parts_sound}
 
 -- from an earlier byte on too
 earlier : (text : List ℕ) (from other : ℕ) (ts : List SemanticToken) → from ≤ other → AreOnLines other text ts → AreOnLines from text ts
@@ -61,10 +61,6 @@ kinded_sound text from start end (Some kind) rest h some within stand =
     let long : length (slice_range text start end) ≡ end - start = length-take-le (end - start) (drop start text) (rw length-drop (omega (arith, within))) in
     lines_sound text kind from start start (slice_range text start end) (drop (end - start) (drop start text)) rest h (omega arith) (λ k low high. absurd (omega (arith, low, high)))
     (omega (arith, some, within)) (sym (take-append-drop (end - start) (drop start text))) (subst (λ n. AreOnLines n text rest) (omega (arith, long, some)) stand)
-
-ordered : (from to : ℕ) (ps : List Part) → AreBetween from to ps → from ≤ to
-ordered from to [] stand = stand
-ordered from to (p ∷ ps) stand = omega (arith, stand.0, stand.1, ordered p.end to ps stand.2)
 
 all_sound : (text : List ℕ) (c : Context) (from : ℕ) (ps : List Part) → AreBetween from (length text) ps → AreOnLines from text (tokens_in c text ps)
 all_sound text c from [] stand = tt

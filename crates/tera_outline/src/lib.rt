@@ -1,6 +1,6 @@
-//! What the bytes and the tokens of a template say by themselves, for an editor: a layout as edits, the tokens up to a
-//! fault, the outline, the names of components and templates, what may be typed at a place, and the kind of each token
-//! for its colour.
+//! What the bytes and the tokens of a template say by themselves, for an editor: a layout as edits, the tokens, the
+//! outline, the names of components and templates, what may be typed at a place, and the kind of each token for its
+//! colour.
 //!
 //! It takes a text, with a fault or without one, and needs no tree. It depends on `tera_lexer`, and for the layout on
 //! `tera_layout`.
