@@ -11,10 +11,13 @@ use Rattle.tera_tree.specs.Tree.{Argument, Definition, Output}
 use Rattle.tera_check.specs.Alike.{name_called, names_in, AreAlike, AreAlikeIfAny, AgreeOn}
 use Rattle.tera_check.specs.Calls.{calls_in_definition, calls_in_nodes, calls_of}
 use Rattle.tera_check.specs.Findings.{FindingVal}
-use Rattle.tera_check.specs.Judged.{KnownVal, RemarkVal, taken_by, about, remarked, refused_for, unless_rest, unknown, refusal, counted, refused, refused_one, is_again, refused_findings, missed, missing_findings, missing_in, judged, repeated_findings, call_findings, again, defined_again, again_findings}
+use Rattle.tera_check.specs.Judged.{KnownVal, RemarkVal, taken_by, about, remarked, refused_for, unless_rest, unknown, refusal, counted, refused, refused_one, is_again, refused_findings, missed, missing_findings, missing_in, judged, call_findings, again, defined_again, again_findings}
 use Rattle.tera_check.specs.Named.{span_at, taken_in, tree_findings}
 use Rattle.tera_check.specs.Parameters.{parameter_at}
+use Rattle.tera_check.specs.Repeated.{repeated_findings}
+use Rattle.tera_check.specs.Rules.{small_findings}
 use Rattle.tera_check.specs.Passed.{NamedVal, PassedVal, OneNamed, Whatever, has_whatever, is_passed, passed_by}
+use Rattle.tera_check.specs.declared.repeated.Holder.TheVariants as holders
 use Rattle.tera_check.specs.declared.templates.Template.{Template}
 use Rattle.tera_check.proofs.TakenLemmas.{all_append, agree_both, unused_alike, taken_by_arguments}
 
@@ -85,7 +88,7 @@ module _ (number other : ℕ) where
 module _ (number other : ℕ) (known others : List ℕ → Option KnownVal) where
   call_alike : (file : List ℕ) (e : Expr) → AgreeOn (name_called e) number other known others → call_findings file known e ≡ call_findings file others e
   call_alike file (ComponentCall name es body closed span) h =
-      ap (λ fs. repeated_findings file es ++ fs) (judged_alike number other (known name) (others name) h.0 name span (passed_by es))
+      ap (λ fs. repeated_findings holders.Call file es ++ fs) (judged_alike number other (known name) (others name) h.0 name span (passed_by es))
   call_alike file (Const v span) h = refl
   call_alike file (Array es span) h = refl
   call_alike file (Map es span) h = refl
@@ -122,4 +125,4 @@ module _ (number other : ℕ) (known others : List ℕ → Option KnownVal) wher
       let (defined, called) = all_append (λ n. AreAlikeIfAny number other (known n) (others n)) (map (λ d. d.name) o.definitions) (flat_map name_called (calls_of o)) h in
       let (bodies, nodes) = agree_both known others (λ n. AreAlikeIfAny number other (known n) (others n)) takes_alike (flat_map calls_in_definition o.definitions) (calls_in_nodes (nodes_of o.nodes)) called in
       λ i. definitions_alike (span_at t) 0 o.definitions defined i
-      ++ (unused_alike known others (λ n. AreAlikeIfAny number other (known n) (others n)) takes_alike (parameter_at t) o.definitions bodies i ++ calls_alike (string_bytes t.file) (calls_of o) called i)
+      ++ (unused_alike known others (λ n. AreAlikeIfAny number other (known n) (others n)) takes_alike (parameter_at t) o.definitions bodies i ++ (calls_alike (string_bytes t.file) (calls_of o) called i ++ small_findings (string_bytes t.file) o))

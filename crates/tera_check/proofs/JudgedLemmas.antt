@@ -1,5 +1,5 @@
 -- What is found of calls, one by one.
-use Rattle.std.proofs.Common.{◌≡◌, ◌∙◌, ℕ, List, [], ◌∷◌, ◌++◌, Bool, true, false, cond, Option, None, Some, String, string_bytes, Global, Bor, map, refl, sym, ap, append_assoc, append-nil, nat_cmp}
+use Rattle.std.proofs.Common.{◌≡◌, ◌∙◌, ℕ, List, [], ◌∷◌, ◌++◌, Bool, true, false, cond, Option, None, Some, String, string_bytes, Global, Bor, map, refl, sym, ap, append_assoc, nat_cmp}
 use Rattle.std.specs.BTreeMap.{is_at}
 use Rattle.std.specs.BTreeSet.{contains_text}
 use Rattle.std.specs.Cmp.Lexicographic.{slice_cmp}
@@ -13,21 +13,20 @@ use Rattle.tera_base.specs.Contexts.{found}
 use Rattle.tera_base.specs.Spanned.{node_of, span_of}
 use Rattle.tera_base.specs.declared.utils.Span.{Span}
 use Rattle.tera_base.specs.declared.utils.Spanned.{Spanned}
-use Rattle.tera_ast.specs.Tree.{Expr}
-use Rattle.tera_ast.specs.View.{call_view, entries_of, entries_view}
+use Rattle.tera_ast.specs.View.{call_view, entries_view}
 use Rattle.tera_ast.specs.declared.ast.ComponentCall.{ComponentCall, out-ComponentCall}
-use Rattle.tera_ast.specs.declared.ast.MapEntryOf.{MapEntryOf}
-use Rattle.tera_ast.specs.declared.ast.MapEntryOf.TheVariants as entries
 use Rattle.tera_ast.proofs.Views.{call_out}
 use Rattle.tera_tree.specs.View.{argument_view}
 use Rattle.tera_tree.specs.declared.ast.ComponentArgument.{ComponentArgument}
 use Rattle.tera_check.specs.Findings.{FindingVal, finding_view}
-use Rattle.tera_check.specs.Judged.{KnownVal, known_view, judged, call_findings, next_in, next_by_one, repeated_findings, repeated_by_one, refused_one, refused_findings, is_again, missing_findings, missing_in}
+use Rattle.tera_check.specs.Judged.{KnownVal, known_view, judged, call_findings, refused_one, refused_findings, is_again, missing_findings, missing_in}
 use Rattle.tera_check.specs.Passed.{PassedVal, OneNamed, Whatever, passed_view, passed_by, is_under, is_whatever, has_whatever, is_in, AreNamesOf}
+use Rattle.tera_check.specs.Repeated.{repeated_findings}
 use Rattle.tera_check.specs.declared.catalogue.Known.{Known}
 use Rattle.tera_check.specs.declared.finding.Finding.{Finding}
 use Rattle.tera_check.specs.declared.passed.Names.{Names}
 use Rattle.tera_check.specs.declared.passed.Passed.{Passed}
+use Rattle.tera_check.specs.declared.repeated.Holder.TheVariants as holders
 use Rattle.tera_check.proofs.PassedLemmas.{passed_more}
 
 pub finding_more : (fs : List Finding) (f : Finding) → map finding_view (fs ++ f ∷ []) ≡ map finding_view fs ++ (finding_view f ∷ [])
@@ -87,36 +86,6 @@ refused_next k ps rest p done all later after start before now held split is nam
       names_more later after done v names under more,
     )
 
--- ---- values that do not count, from the last to the first
-
-repeated_more : (file : List ℕ) (a : MapEntryOf Expr) (es : List (MapEntryOf Expr))
-    → repeated_findings file (entries_of (a ∷ es)) ≡ repeated_findings file (entries_of es) ++ repeated_by_one file a (λ n. next_in n (entries_of es))
-repeated_more file (entries.KeyValue k e) es = refl
-repeated_more file (entries.Spread e) es = sym (append-nil (repeated_findings file (entries_of es)))
-
-next_more : (n : List ℕ) (a : MapEntryOf Expr) (es : List (MapEntryOf Expr)) → next_in n (entries_of (a ∷ es)) ≡ next_by_one n a (next_in n (entries_of es))
-next_more n (entries.KeyValue k e) es = refl
-next_more n (entries.Spread e) es = refl
-
--- one more span under a name
-pub span_by : (b : Bool) (span : Bor Span) (o : Option (Bor Span)) → option_map (λ s. s.now) (cond b (Some span) o) ≡ cond b (Some span.now) (option_map (λ s. s.now) o)
-span_by true span o = refl
-span_by false span o = refl
-
-pub repeated_next : (file : List ℕ) (left rest done all : List (MapEntryOf Expr)) (a : MapEntryOf Expr) (before after : List ℕ → Option Span) (start old now : List FindingVal)
-    → left ++ done ≡ all → left ≡ rest ++ a ∷ []
-    → old ≡ start ++ repeated_findings file (entries_of done) → ((n : List ℕ) → before n ≡ next_in n (entries_of done))
-    → now ≡ old ++ repeated_by_one file a before → ((n : List ℕ) → after n ≡ next_by_one n a (before n))
-    → (rest ++ (a ∷ done) ≡ all) × (now ≡ start ++ repeated_findings file (entries_of (a ∷ done))) × ((n : List ℕ) → after n ≡ next_in n (entries_of (a ∷ done)))
-repeated_next file left rest done all a before after start old now held split is following step more = (
-  sym (append_assoc rest (a ∷ []) done) ∙ ap (λ es. es ++ done) (sym split) ∙ held,
-  step
-      ∙ (λ i. is i ++ repeated_by_one file a (λ n. following n i))
-      ∙ append_assoc start (repeated_findings file (entries_of done)) (repeated_by_one file a (λ n. next_in n (entries_of done)))
-      ∙ ap (λ fs. start ++ fs) (sym (repeated_more file a done)),
-  λ n. more n ∙ ap (next_by_one n a) (following n) ∙ sym (next_more n a done),
-)
-
 -- ---- a call
 
 missing_same : (k : KnownVal) (names : Names) (ps : List PassedVal) (span : Span) → AreNamesOf names ps
@@ -133,15 +102,21 @@ judged_known k span ps qs names old mid new same refused are missing =
 
 pub judged_call : (file : List ℕ) (known : List ℕ → Option KnownVal) (s : Spanned ComponentCall)
     → call_findings file known (call_view (node_of s) (span_of s))
-    ≡ repeated_findings file (entries_view (out-ComponentCall (node_of s)).kwargs.items)
+    ≡ repeated_findings holders.Call file (entries_view (out-ComponentCall (node_of s)).kwargs.items)
     ++ judged (known (string_bytes (out-ComponentCall (node_of s)).name)) (string_bytes (out-ComponentCall (node_of s)).name) (span_of s) (passed_by (entries_view (out-ComponentCall (node_of s)).kwargs.items))
 judged_call file known s = rw (call_out (node_of s) (span_of s)) refl
 
 -- ---- a template
 
-pub all_found_in : (start mid more end : List Finding) (before between calls : List FindingVal)
+in_turn : (start one two three four a b c d : List FindingVal) → start ≡ [] → one ≡ start ++ a → two ≡ one ++ b → three ≡ two ++ c → four ≡ three ++ d
+    → four ≡ a ++ (b ++ (c ++ d))
+in_turn start one two three four a b c d none first second third fourth =
+    fourth ∙ ap (λ fs. fs ++ d) (third ∙ ap (λ fs. fs ++ c) (second ∙ ap (λ fs. fs ++ b) (first ∙ ap (λ fs. fs ++ a) none)))
+    ∙ append_assoc (a ++ b) c d ∙ append_assoc a b (c ++ d)
+
+pub all_found_in : (start mid more most end : List Finding) (before between calls parts : List FindingVal)
     → start ≡ [] → map finding_view mid ≡ map finding_view start ++ before → map finding_view more ≡ map finding_view mid ++ between
-    → map finding_view end ≡ map finding_view more ++ calls → map finding_view end ≡ before ++ (between ++ calls)
-all_found_in start mid more end before between calls none first second third =
-    third ∙ ap (λ fs. fs ++ calls) (second ∙ ap (λ fs. fs ++ between) (first ∙ ap (λ fs. map finding_view fs ++ before) none))
-    ∙ append_assoc before between calls
+    → map finding_view most ≡ map finding_view more ++ calls → map finding_view end ≡ map finding_view most ++ parts
+    → map finding_view end ≡ before ++ (between ++ (calls ++ parts))
+all_found_in start mid more most end before between calls parts none =
+    in_turn (map finding_view start) (map finding_view mid) (map finding_view more) (map finding_view most) (map finding_view end) before between calls parts (ap (map finding_view) none)

@@ -14,6 +14,8 @@ pub mod ObjectsLemmas
 pub mod Pending
 pub mod PlaceLemmas
 pub mod ReadLemmas
+pub mod RepeatedLemmas
+pub mod RulesLemmas
 pub mod SpansLemmas
 pub mod TakenLemmas
 pub mod WalkLemmas

@@ -39,16 +39,18 @@ kind_name kinds.WrongType = codes "wrong-type"
 kind_name kinds.RepeatedArgument = codes "repeated-argument"
 kind_name kinds.UnusedParameter = codes "unused-parameter"
 kind_name kinds.DefinedAgain = codes "defined-again"
+kind_name kinds.RepeatedKey = codes "repeated-key"
 
 -- all kinds
 abbrev pub all_kinds : List Kind
 all_kinds =
-    kinds.Fault ∷ kinds.UndefinedComponent ∷ kinds.MissingArgument ∷ kinds.UnknownArgument ∷ kinds.WrongType ∷ kinds.RepeatedArgument ∷ kinds.UnusedParameter ∷ kinds.DefinedAgain ∷ []
+    kinds.Fault ∷ kinds.UndefinedComponent ∷ kinds.MissingArgument ∷ kinds.UnknownArgument ∷ kinds.WrongType ∷ kinds.RepeatedArgument ∷ kinds.UnusedParameter ∷ kinds.DefinedAgain ∷ kinds.RepeatedKey ∷ []
 
--- how grave a kind is: what a call, or a body, does not use is a warning, all else an error
+-- how grave a kind is: what a call, a body or a map does not use is a warning, all else an error
 abbrev pub severity_of : Kind → Severity
 severity_of kinds.RepeatedArgument = severities.Warning
 severity_of kinds.UnusedParameter = severities.Warning
+severity_of kinds.RepeatedKey = severities.Warning
 severity_of _ = severities.Error
 
 -- the word for that

@@ -1,21 +1,13 @@
 -- What is found of a call of a component.
-use Rattle.std.specs.Prelude.{ℕ, List, [], ◌∷◌, ◌++◌, Bool, true, false, not, ◌&&◌, cond, if◌then◌else◌, nat_eq, Option, None, Some, codes, suc, string_bytes}
-use Rattle.std.specs.BTreeMap.{BTreeMap, get_by}
-use Rattle.std.specs.Borrow.{Bor}
-use Rattle.std.specs.Cmp.Lexicographic.{slice_cmp}
+use Rattle.std.specs.Prelude.{ℕ, List, [], ◌∷◌, ◌++◌, Bool, true, false, not, ◌&&◌, if◌then◌else◌, nat_eq, Option, None, Some, codes, suc, string_bytes}
 use Rattle.std.specs.List.{flat_map, list_any}
 use Rattle.std.specs.Option.{is_some, option_map}
-use Rattle.std.specs.Ordering.{nat_cmp}
 use Rattle.std.specs.Str.{bytes_eq}
 use Rattle.tera_base.specs.Contexts.{found}
 use Rattle.tera_base.specs.Kinds.{kind_of}
-use Rattle.tera_base.specs.Values.{KeyVal, TextKey, Val}
-use Rattle.tera_base.specs.ValueView.{key_view}
+use Rattle.tera_base.specs.Values.{Val}
 use Rattle.tera_base.specs.declared.utils.Span.{Span}
-use Rattle.tera_ast.specs.Spans.{expr_span}
-use Rattle.tera_ast.specs.Tree.{Expr, ComponentCall, Entries, NoEntries, Entry, SpreadEntry}
-use Rattle.tera_ast.specs.declared.ast.MapEntryOf.{MapEntryOf}
-use Rattle.tera_ast.specs.declared.ast.MapEntryOf.TheVariants as entries
+use Rattle.tera_ast.specs.Tree.{Expr, ComponentCall}
 use Rattle.tera_tree.specs.Calls.{wrong_type_text, missing_text, unknown_text}
 use Rattle.tera_tree.specs.Tree.{Argument, Definition}
 use Rattle.tera_tree.specs.Types.{is_of_type}
@@ -26,10 +18,12 @@ use Rattle.tera_grammar.specs.statements.Reading.Meeting.{Located}
 use Rattle.tera_statements.specs.Known.{located_of}
 use Rattle.tera_check.specs.Parameters.{located_if_any}
 use Rattle.tera_check.specs.Passed.{NamedVal, PassedVal, OneNamed, Whatever, is_passed, has_whatever, passed_by}
+use Rattle.tera_check.specs.Repeated.{repeated_findings}
 use Rattle.tera_check.specs.declared.arguments.Remark.{Remark}
 use Rattle.tera_check.specs.declared.catalogue.Known.{Known}
 use Rattle.tera_check.specs.declared.finding.Kind.{Kind}
 use Rattle.tera_check.specs.declared.finding.Kind.TheVariants as kinds
+use Rattle.tera_check.specs.declared.repeated.Holder.TheVariants as holders
 
 -- a component that is known: its definition, the number and the file of its template, and where its name and its
 -- parameters are there
@@ -147,56 +141,6 @@ missing_findings k passed span = flat_map (λ a. remarked k span (missed passed 
 abbrev pub missing_in : KnownVal → Span → List PassedVal → List FindingVal
 missing_in k span ps = if has_whatever ps then [] else missing_findings k (λ n. is_passed n ps) span
 
--- ---- a value that does not count, since its argument is written again after it, with a note where that is next:
--- whatever the component, and whatever is spread between
-
-abbrev pub repeated_text : List ℕ → List ℕ
-repeated_text name =
-    codes "Argument `" ++ (name ++ codes "` is given more than once in component call. This value does not count.")
-
-abbrev pub next_text : List ℕ
-next_text = codes "given again here"
-
-abbrev pub repeated : List ℕ → List ℕ → Span → Span → FindingVal
-repeated file name span next = FindingOf kinds.RepeatedArgument span (repeated_text name) (NoteOf file next next_text ∷ [])
-
-abbrev pub repeated_if : List ℕ → List ℕ → Span → Option Span → List FindingVal
-repeated_if file name span None = []
-repeated_if file name span (Some next) = repeated file name span next ∷ []
-
--- by where the next value is under each name
-abbrev pub repeated_under : List ℕ → KeyVal → Span → (List ℕ → Option Span) → List FindingVal
-repeated_under file (TextKey n) span next = repeated_if file n span (next n)
-repeated_under file _ span next = []
-
-abbrev pub next_under_key : List ℕ → KeyVal → Span → Option Span → Option Span
-next_under_key n (TextKey m) span following = cond (bytes_eq m n) (Some span) following
-next_under_key n _ span following = following
-
--- where the first value is that is written under a name
-abbrev pub next_in : List ℕ → Entries → Option Span
-next_in n NoEntries = None
-next_in n (Entry k e es) = next_under_key n k (expr_span e) (next_in n es)
-next_in n (SpreadEntry e es) = next_in n es
-
-abbrev pub repeated_findings : List ℕ → Entries → List FindingVal
-repeated_findings file NoEntries = []
-repeated_findings file (Entry k e es) = repeated_findings file es ++ repeated_under file k (expr_span e) (λ n. next_in n es)
-repeated_findings file (SpreadEntry e es) = repeated_findings file es
-
--- the same of one attribute, before others
-abbrev pub next_by_one : List ℕ → MapEntryOf Expr → Option Span → Option Span
-next_by_one n (entries.KeyValue k e) following = next_under_key n (key_view k) (expr_span e) following
-next_by_one n (entries.Spread e) following = following
-
-abbrev pub repeated_by_one : List ℕ → MapEntryOf Expr → (List ℕ → Option Span) → List FindingVal
-repeated_by_one file (entries.KeyValue k e) next = repeated_under file (key_view k) (expr_span e) next
-repeated_by_one file (entries.Spread e) next = []
-
--- what is in a map of spans
-abbrev pub span_under : BTreeMap (Bor (List ℕ)) (Bor Span) → List ℕ → Option Span
-span_under spans n = option_map (λ s. s.now) (get_by (λ k. slice_cmp nat_cmp n k.now) spans)
-
 -- ---- a call at a span, with what it passes: of a component that is known, or not
 
 abbrev pub undefined_text : List ℕ → List ℕ
@@ -212,7 +156,7 @@ judged (Some k) name span ps = refused_findings k ps ++ missing_in k span ps
 -- .. in a file
 abbrev pub call_findings : List ℕ → (List ℕ → Option KnownVal) → Expr → List FindingVal
 call_findings file known (ComponentCall name es body closed span) =
-    repeated_findings file es ++ judged (known name) name span (passed_by es)
+    repeated_findings holders.Call file es ++ judged (known name) name span (passed_by es)
 call_findings file known _ = []
 
 -- ---- a definition whose name is at a span, of a component that another template defines first

@@ -15,4 +15,8 @@ pub mod Pending
 pub mod Passed
 pub mod OrderAndStatus
 pub mod Parameters
+pub mod Repeated
+pub mod RepeatedKeys
+pub mod Rules
 pub mod Scopes
+pub mod Within

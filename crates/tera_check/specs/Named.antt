@@ -14,6 +14,7 @@ use Rattle.tera_check.specs.Calls.{calls_of}
 use Rattle.tera_check.specs.Findings.{FindingVal, first_span}
 use Rattle.tera_check.specs.Judged.{KnownVal, known_view, taken_by, call_findings, again_findings}
 use Rattle.tera_check.specs.Parameters.{Taking, parameter_at, unused_in}
+use Rattle.tera_check.specs.Rules.{small_findings}
 use Rattle.tera_check.specs.declared.catalogue.Known.{Known}
 use Rattle.tera_check.specs.declared.mended.Mended.{Mended}
 use Rattle.tera_check.specs.declared.templates.Template.{Template}
@@ -79,8 +80,9 @@ abbrev pub taken_in : (List ℕ → Option KnownVal) → Taking
 taken_in known name = taken_by (known name)
 
 -- what is found in a template of a number, by what is known under each name: components that are defined before,
--- parameters that are never used, and calls
+-- parameters that are never used, calls; and what is found in its parts by themselves
 abbrev pub tree_findings : (List ℕ → Option KnownVal) → ℕ → Template → Output → List FindingVal
 tree_findings known number t o =
     again_findings known number (span_at t) 0 o.definitions
-    ++ (flat_map (unused_in (taken_in known) (parameter_at t)) o.definitions ++ flat_map (call_findings (string_bytes t.file) known) (calls_of o))
+    ++ (flat_map (unused_in (taken_in known) (parameter_at t)) o.definitions
+    ++ (flat_map (call_findings (string_bytes t.file) known) (calls_of o) ++ small_findings (string_bytes t.file) o))

@@ -1,6 +1,6 @@
 -- The parameters of components that nothing in their bodies names.
-use Rattle.std.specs.Prelude.{ℕ, List, [], ◌∷◌, ◌++◌, Bool, true, false, not, ◌&&◌, ◌||◌, if◌then◌else◌, Option, None, Some, codes}
-use Rattle.std.specs.List.{flat_map}
+use Rattle.std.specs.Prelude.{ℕ, List, [], ◌∷◌, ◌++◌, Bool, true, false, not, ◌&&◌, ◌||◌, if◌then◌else◌, Option, None, Some, codes, nat_eq}
+use Rattle.std.specs.List.{flat_map, starts_with}
 use Rattle.std.specs.Str.{bytes_eq}
 use Rattle.tera_base.specs.declared.utils.Span.{Span}
 use Rattle.tera_ast.specs.View.{nodes_of}
@@ -104,6 +104,10 @@ located_if_any (Some names) = names
 abbrev pub parameter_at : Template → List ℕ → Located
 parameter_at t component = located_if_any (grouped_of t.parameters_at component)
 
+-- a name that begins with `_` says that its parameter may be unused
+abbrev pub may_be_unused : List ℕ → Bool
+may_be_unused name = starts_with nat_eq name (codes "_")
+
 -- a parameter that is at this place, and is not named
 abbrev pub unused_text : List ℕ → List ℕ → List ℕ
 unused_text component name =
@@ -113,7 +117,7 @@ abbrev pub unused : List ℕ → List ℕ → Span → FindingVal
 unused component name span = FindingOf kinds.UnusedParameter span (unused_text component name) []
 
 abbrev pub unused_if : Definition → (List ℕ → Bool) → Located → List ℕ → List FindingVal
-unused_if d named at name = if named name then [] else unused d.name name (span_if_any (at name)) ∷ []
+unused_if d named at name = if may_be_unused name || named name then [] else unused d.name name (span_if_any (at name)) ∷ []
 
 -- the arguments of a component, in the order of their names, and its rest parameter
 abbrev pub unused_rest : Definition → (List ℕ → Bool) → Located → Option (List ℕ) → List FindingVal

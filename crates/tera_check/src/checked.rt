@@ -30,6 +30,7 @@ use crate::judged::push_call;
 use crate::messages;
 use crate::messages::defined_again;
 use crate::parameters::push_all_unused;
+use crate::rules::push_all_small;
 use crate::templates::{Template, tree_of};
 use std::alloc::{AllocError, Global};
 use tera_parser::ParserOutput;
@@ -124,13 +125,9 @@ fn findings_of_tree(
     let mut findings = Vec::new(alloc);
     push_all_again(alloc, &mut findings, catalogue, number, template, output)?;
     push_all_unused(alloc, &mut findings, catalogue, template, output)?;
-    push_calls(
-        alloc,
-        &mut findings,
-        catalogue,
-        template.file.as_str(),
-        output,
-    )?;
+    let file = template.file.as_str();
+    push_calls(alloc, &mut findings, catalogue, file, output)?;
+    push_all_small(alloc, &mut findings, file, output)?;
     Ok(findings)
 }
 

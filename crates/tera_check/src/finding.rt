@@ -32,10 +32,12 @@ pub enum Kind {
     UnusedParameter,
     /// A component that another template defines first.
     DefinedAgain,
+    /// A value whose key is given again in the same map, so that it does not count.
+    RepeatedKey,
 }
 
 /// All kinds of findings.
-pub const KINDS: [Kind; 8] = [
+pub const KINDS: [Kind; 9] = [
     Kind::Fault,
     Kind::UndefinedComponent,
     Kind::MissingArgument,
@@ -44,6 +46,7 @@ pub const KINDS: [Kind; 8] = [
     Kind::RepeatedArgument,
     Kind::UnusedParameter,
     Kind::DefinedAgain,
+    Kind::RepeatedKey,
 ];
 
 /// How grave a finding is.
@@ -121,6 +124,7 @@ impl Kind {
             Kind::RepeatedArgument => "repeated-argument",
             Kind::UnusedParameter => "unused-parameter",
             Kind::DefinedAgain => "defined-again",
+            Kind::RepeatedKey => "repeated-key",
         }
     }
 
@@ -135,7 +139,9 @@ impl Kind {
             | Kind::UnknownArgument
             | Kind::WrongType
             | Kind::DefinedAgain => Severity::Error,
-            Kind::RepeatedArgument | Kind::UnusedParameter => Severity::Warning,
+            Kind::RepeatedArgument | Kind::UnusedParameter | Kind::RepeatedKey => {
+                Severity::Warning
+            }
         }
     }
 

@@ -4,10 +4,11 @@
 //! (`tree_findings`), and writes findings as objects of JSON (`object_of`); `tera_report` writes them as text. It depends
 //! on `tera_parser`, and its code names nothing below it; of the kit it uses `json`.
 //!
-//! In the order of reading: specs `Findings`, `Calls`, `Passed`, `Judged`, `Parameters`, `Named`, `OrderAndStatus`,
-//! `Objects`, `Faults`, `Alike`; `templates`, which reads, and `spans`; `mended`, what a source with faults is read as
-//! (specs `Mended`), and `lost`, its words (specs `Lost`); `catalogue`; `calls`, over the parts of a tree (specs
-//! `Pending`); `passed`, `arguments` and `judged`, of one call; `parameters`, of one component (specs `Scopes`); `due`,
+//! In the order of reading: specs `Findings`, `Calls`, `Passed`, `Repeated`, `Judged`, `Parameters`, `Within`, `Rules`,
+//! `Named`, `OrderAndStatus`, `Objects`, `Faults`, `Alike`; `templates`, which reads, and `spans`; `mended`, what a
+//! source with faults is read as (specs `Mended`), and `lost`, its words (specs `Lost`); `catalogue`; `calls`, over the
+//! parts of a tree (specs `Pending`); `repeated`, `passed`, `arguments` and `judged`, of one call; `parameters`, of one
+//! component (specs `Scopes`); `rules`, of each part by itself, with `repeated_keys` (specs `RepeatedKeys`); `due`,
 //! what of that is reported beside faults (specs `Due`); `checked`, of a template, and `found`, of all; `messages`,
 //! texts; `finding`, `faults`; `fault_findings`, with `causes`, `tags`, `hints` and `walk` (specs `FaultFindings`,
 //! `Hints`); `objects`; `laws`.
@@ -32,6 +33,9 @@ mod messages;
 mod objects;
 mod parameters;
 mod passed;
+mod repeated;
+mod repeated_keys;
+mod rules;
 mod spans;
 mod tags;
 mod templates;

@@ -2,11 +2,16 @@
 //! the parser and the tree say them.
 
 ghost use Rattle.std.specs.Prelude.{◌≡◌, IfOk, string_bytes};
+ghost use Rattle.tera_base.specs.Text.{key_text};
+ghost use Rattle.tera_base.specs.ValueView.{key_view};
 ghost use Rattle.tera_check.specs.FaultFindings.{not_closed_text, closes_nothing_text, belongs_to_nothing_text, met_text};
-ghost use Rattle.tera_check.specs.Judged.{undefined_text, repeated_text, next_text, here_text, again_text, first_text};
+ghost use Rattle.tera_check.specs.Judged.{undefined_text, here_text, again_text, first_text};
 ghost use Rattle.tera_check.specs.Parameters.{unused_text};
+ghost use Rattle.tera_check.specs.Repeated.{repeated_text, next_text};
+ghost use Rattle.tera_check.specs.declared.repeated.Holder.TheVariants as holders;
 
 use std::alloc::{AllocError, Global};
+use tera_parser::value::Key;
 
 /// That there is no component of this name.
 pub(crate) fn undefined_component(alloc: Global, name: &str) -> Result<String, AllocError>
@@ -16,15 +21,24 @@ pub(crate) fn undefined_component(alloc: Global, name: &str) -> Result<String, A
 }
 
 /// That the value does not count, since the argument is given again.
-pub(crate) fn repeated_argument(alloc: Global, name: &str) -> Result<String, AllocError>
-    ensures { IfOk result (λ m. string_bytes m ≡ repeated_text name.now) }
+pub(crate) fn repeated_argument(alloc: Global, key: &Key) -> Result<String, AllocError>
+    ensures { IfOk result (λ m. string_bytes m
+        ≡ repeated_text holders.Call (key_text (key_view key.now))) }
 {
     format!(in alloc;
-        "Argument `{name}` is given more than once in component call. This value does not count."
+        "Argument `{key}` is given more than once in component call. This value does not count."
     )
 }
 
-/// Where the argument is given again.
+/// That the value does not count, since its key is given again in the map.
+pub(crate) fn repeated_key(alloc: Global, key: &Key) -> Result<String, AllocError>
+    ensures { IfOk result (λ m. string_bytes m
+        ≡ repeated_text holders.Map (key_text (key_view key.now))) }
+{
+    format!(in alloc; "Key `{key}` is given more than once in the map. This value does not count.")
+}
+
+/// Where the argument or the key is given again.
 pub(crate) fn given_again(alloc: Global) -> Result<String, AllocError>
     ensures { IfOk result (λ m. string_bytes m ≡ next_text) }
 {

@@ -12,13 +12,13 @@ ghost use Rattle.tera_tree.specs.View.{definition_view};
 ghost use Rattle.tera_check.specs.Findings.{finding_view, span_if_any};
 ghost use Rattle.tera_check.specs.Judged.{known_view, taken_by};
 ghost use Rattle.tera_check.specs.Named.{known_in, taken_in};
-ghost use Rattle.tera_check.specs.Parameters.{Taking, binds, variable_names, named_in, named_in_node, named_in_nodes, named_in_maybe, parameter_at, unused, unused_if, unused_of, unused_rest, unused_in};
+ghost use Rattle.tera_check.specs.Parameters.{Taking, binds, variable_names, named_in, named_in_node, named_in_nodes, named_in_maybe, may_be_unused, parameter_at, unused, unused_if, unused_of, unused_rest, unused_in};
 ghost use Rattle.tera_check.specs.Scopes.{is_hidden, named_in_part, named_in_parts, named_in_scope, is_to_come, is_named, AreTaken};
 
 use crate::catalogue::{Catalogue, Known};
 use crate::finding::{Finding, Kind, push_finding};
-use crate::judged::{Spans, put_span};
 use crate::messages::unused_parameter;
+use crate::repeated::{Spans, put_span};
 use crate::spans::first_span;
 use crate::templates::Template;
 use std::alloc::{AllocError, Global};
@@ -112,12 +112,19 @@ fn push_if_unused(
         OnOk result (map finding_view findings.new.items ≡ map finding_view findings.old.items
         ++ unused_if d (is_named naming.now) (parameter_at template.now d.name) name.now) }
 {
-    if naming.has(name) {
+    if may_be_unused(name) || naming.has(name) {
         return Ok(());
     }
     let component = definition.name.as_str();
     let span = place_of(template, component, name);
     push_finding(findings, unused(alloc, component, name, span)?)
+}
+
+// Whether the name says that its parameter may be unused.
+fn may_be_unused(name: &str) -> bool
+    ensures { result ≡ may_be_unused name.now }
+{
+    name.as_bytes().starts_with(b"_")
 }
 
 // Where the parameter of the component is; where the template has none, its beginning.

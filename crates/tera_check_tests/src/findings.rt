@@ -44,7 +44,10 @@ fn a_finding_is_an_object(rt: HostRuntime) -> Result<(), Fail> {
 #[test]
 fn what_is_not_used_is_a_warning(rt: HostRuntime) {
     for kind in &KINDS {
-        let unused = matches!(kind, Kind::RepeatedArgument | Kind::UnusedParameter);
+        let unused = matches!(
+            kind,
+            Kind::RepeatedArgument | Kind::UnusedParameter | Kind::RepeatedKey
+        );
         assert!(rt;
             (kind.severity() == Severity::Warning) == unused,
             "{kind:?}"

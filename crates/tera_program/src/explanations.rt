@@ -5,7 +5,7 @@
 use tera_check::Kind;
 
 /// The names of the rules.
-pub(crate) static RULES: [&str; 9] = [
+pub(crate) static RULES: [&str; 10] = [
     "fault",
     "undefined-component",
     "missing-argument",
@@ -14,11 +14,12 @@ pub(crate) static RULES: [&str; 9] = [
     "repeated-argument",
     "unused-parameter",
     "defined-again",
+    "repeated-key",
     "unread",
 ];
 
 /// Those of which no findings may be asked for.
-pub(crate) static OPTIONAL_RULES: [&str; 7] = [
+pub(crate) static OPTIONAL_RULES: [&str; 8] = [
     "undefined-component",
     "missing-argument",
     "unknown-argument",
@@ -26,6 +27,7 @@ pub(crate) static OPTIONAL_RULES: [&str; 7] = [
     "repeated-argument",
     "unused-parameter",
     "defined-again",
+    "repeated-key",
 ];
 
 /// What the page has on findings of the kind.
@@ -39,6 +41,7 @@ pub(crate) fn explanation(kind: Kind) -> &'static str {
         Kind::RepeatedArgument => REPEATED_ARGUMENT,
         Kind::UnusedParameter => UNUSED_PARAMETER,
         Kind::DefinedAgain => DEFINED_AGAIN,
+        Kind::RepeatedKey => REPEATED_KEY,
     }
 }
 
@@ -120,7 +123,7 @@ Nothing in the body of a component names one of its parameters. So what calls pa
 
     {% component box(title: string, colour: string) %}{{ title }}{% endcomponent %}
 
-Use the parameter, or remove it:
+Use the parameter, or remove it. If callers have to pass it, let its name begin with `_`:
 
     {% component box(title: string) %}{{ title }}{% endcomponent %}
 "##;
@@ -136,4 +139,15 @@ This, in another file, is reported:
     {% component box(text: string) %}{{ text }}{% endcomponent %}
 
 Remove one of the two, or give it another name.
+"##;
+
+const REPEATED_KEY: &str = r##"
+A map has the same key more than once. The last value counts, so this one has no effect. A map of only constants is not
+checked, as the parser keeps only the last value of each of its keys.
+
+    {{ table(style={"width": width, "color": color, "width": 100}) }}
+
+Remove the value that is not meant:
+
+    {{ table(style={"color": color, "width": 100}) }}
 "##;

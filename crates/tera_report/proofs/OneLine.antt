@@ -79,6 +79,7 @@ named kinds.WrongType = literal (kind_name kinds.WrongType) refl
 named kinds.RepeatedArgument = literal (kind_name kinds.RepeatedArgument) refl
 named kinds.UnusedParameter = literal (kind_name kinds.UnusedParameter) refl
 named kinds.DefinedAgain = literal (kind_name kinds.DefinedAgain) refl
+named kinds.RepeatedKey = literal (kind_name kinds.RepeatedKey) refl
 
 commanded : (severity : Severity) → Lacks (command_of severity)
 commanded Error = literal (command_of Error) refl

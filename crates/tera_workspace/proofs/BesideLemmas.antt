@@ -13,9 +13,10 @@ use Rattle.tera_check.specs.Alike.{name_called, names_in}
 use Rattle.tera_check.specs.Calls.{calls_in_definition, calls_in_nodes, calls_of}
 use Rattle.tera_check.specs.Due.{is_due, is_due_in, is_undefined_kind}
 use Rattle.tera_check.specs.Findings.{NoteVal, FindingVal, FindingOf}
-use Rattle.tera_check.specs.Judged.{KnownVal, RemarkVal, taken_by, about, remarked, refused_for, unless_rest, unknown, refusal, counted, refused, refused_one, is_again, refused_findings, missed, missing_findings, missing_in, repeated_findings, judged, call_findings, again, defined_again, again_findings}
+use Rattle.tera_check.specs.Judged.{KnownVal, RemarkVal, taken_by, about, remarked, refused_for, unless_rest, unknown, refusal, counted, refused, refused_one, is_again, refused_findings, missed, missing_findings, missing_in, judged, call_findings, again, defined_again, again_findings}
 use Rattle.tera_check.specs.Named.{span_at, taken_in, tree_findings}
 use Rattle.tera_check.specs.Parameters.{parameter_at, unused_in}
+use Rattle.tera_check.specs.Rules.{small_findings}
 use Rattle.tera_check.specs.Passed.{NamedVal, PassedVal, OneNamed, Whatever, has_whatever, is_passed, passed_by}
 use Rattle.tera_check.specs.declared.finding.Kind.{Kind}
 use Rattle.tera_check.specs.declared.mended.Mended.{Mended}
@@ -202,8 +203,8 @@ due_by open_text t kind span text other notes others =
 module _ (file : List ℕ) (number : ℕ) (known others : List ℕ → Option KnownVal) where
   call_but : (own : List ℕ) (e : Expr) → AgreeBut (name_called e) file number known others → AreEachSameBut file (call_findings own known e) (call_findings own others e)
   call_but own (ComponentCall name es body closed span) h =
-      each_append file (repeated_findings own es) (repeated_findings own es) (judged (known name) name span (passed_by es)) (judged (others name) name span (passed_by es))
-      (each_itself file (repeated_findings own es)) (judged_any file number (known name) (others name) h.0 name span (passed_by es))
+      each_append file _ _ (judged (known name) name span (passed_by es)) (judged (others name) name span (passed_by es))
+      (each_itself file _) (judged_any file number (known name) (others name) h.0 name span (passed_by es))
   call_but own (Const v span) h = tt
   call_but own (Array es span) h = tt
   call_but own (Map es span) h = tt
@@ -246,11 +247,12 @@ module _ (file : List ℕ) (number : ℕ) (known others : List ℕ → Option Kn
       let unused_now = flat_map (unused_in (taken_in others) (parameter_at t)) o.definitions in
       let calls = flat_map (call_findings (string_bytes t.file) known) (calls_of o) in
       let calls_now = flat_map (call_findings (string_bytes t.file) others) (calls_of o) in
-      each_append file (again_findings known number (span_at t) 0 o.definitions) (again_findings others number (span_at t) 0 o.definitions) (unused ++ calls) (unused_now ++ calls_now)
+      let small = small_findings (string_bytes t.file) o in
+      each_append file (again_findings known number (span_at t) 0 o.definitions) (again_findings others number (span_at t) 0 o.definitions) (unused ++ (calls ++ small)) (unused_now ++ (calls_now ++ small))
       (definitions_but (span_at t) 0 o.definitions defined)
-      (each_append file unused unused_now calls calls_now
+      (each_append file unused unused_now (calls ++ small) (calls_now ++ small)
       (each_equal file unused unused_now (unused_alike known others (λ n. AreAlikeButIfAny file number (known n) (others n)) takes_but (parameter_at t) o.definitions bodies))
-      (calls_but (string_bytes t.file) (calls_of o) called))
+      (each_append file calls calls_now small small (calls_but (string_bytes t.file) (calls_of o) called) (each_itself file small)))
 
   -- so where nothing that is found says a place in the file, it is the same; and where nothing that is due does, that
   -- is

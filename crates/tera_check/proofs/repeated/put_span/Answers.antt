@@ -1,8 +1,8 @@
 use Rattle.std.proofs.Common.{◌∙◌, ap, Some}
 use Rattle.std.specs.Option.{option_map}
 use Rattle.std.proofs.lemmas.Map.Text.{btree_map_updates_str}
-use Rattle.tera_check.proofs.JudgedLemmas.{span_by}
-use Rattle.tera_check.proofs.judged.put_span.Goals as goal
+use Rattle.tera_check.proofs.RepeatedLemmas.{span_by}
+use Rattle.tera_check.proofs.repeated.put_span.Goals as goal
 
 pub returns-clause-following : goal.returns-clause-following
 returns-clause-following c = λ n.
