@@ -217,7 +217,7 @@ def walk(tree: Any) -> Iterator[Node]:
     while waiting:
         it = waiting.pop()
         if isinstance(it, dict):
-            # An argument may have the name `kind`, and is no word.
+            # An argument may be named `kind`. It is an object, and not a word.
             if isinstance(it.get("kind"), str):
                 yield it
             waiting.extend(reversed(_parts(it)))
