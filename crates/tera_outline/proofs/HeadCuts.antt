@@ -1,5 +1,5 @@
 -- Where the head of a definition is cut out of its text.
-use Rattle.std.proofs.Common.{◌≡◌, ◌≤◌, ◌++◌, ◌||◌, ℕ, zero, suc, Bool, Option, Some, None, List, [], ◌∷◌, length, drop, map, min, nat_lt, inl, inr, refl, subst, arith}
+use Rattle.std.proofs.Common.{◌≡◌, ◌≤◌, ◌++◌, ◌||◌, ℕ, zero, suc, Bool, true, false, Option, Some, None, List, [], ◌∷◌, length, drop, map, min, nat_lt, inl, inr, refl, subst, arith}
 use Rattle.std.specs.List.{AllByRecursion, find}
 use Rattle.std.specs.Option.{option_to_list}
 use Rattle.std.specs.Str.{IsCharBoundary, IsUtf8}
@@ -12,7 +12,7 @@ use Rattle.tera_lexer.specs.code.Steps.{EachIsAt}
 use Rattle.tera_lexer.proofs.TokensInLemmas.{each_sound}
 use Rattle.tera_layout.proofs.Defaults.{default_valid}
 use Rattle.tera_outline.specs.declared.symbols.SymbolKind.{SymbolKind}
-use Rattle.tera_outline.specs.Pieces.{Part, parts_in, failed_after, next_of, before, moved, AreWithRest, AreReadBy, ArePartsOf}
+use Rattle.tera_outline.specs.Pieces.{Part, opened_after, goes_over, read_in, stopped_after, next_of, before, moved, AreWithRest, AreReadBy, ArePartsOf}
 use Rattle.tera_outline.specs.Dotted.{is_name, begins_link, links, dotted, start_of, end_of}
 use Rattle.tera_outline.specs.Symbols.{Outlined, Mark, Opens, Closes, begins_tag, ends_tag, opening, marks, is_open, after_last, outline, outline_of}
 use Rattle.tera_outline.specs.Heads.{head_end}
@@ -31,12 +31,6 @@ abbrev AreCut : List ℕ → List Part → Type 0
 AreCut text ps = AllByRecursion (λ (p : Part). IsCut text p.start p.end) ps
 
 -- ---- tokens
-
-items_cut : (text : List ℕ) (items : Items) → EachIsAt text items → AreCut text (parts_in items)
-items_cut text Ended h = tt
-items_cut text (Failed t span) h = tt
-items_cut text (Token t span items) (sound, rest) =
-    (record { order = sound.0.0; begins = sound.0.1; ends = sound.0.2 }, items_cut text items rest)
 
 before_cut : (text : List ℕ) (stop : ℕ) (ps : List Part) → IsCharBoundary text stop → AreCut text ps → AreCut text (before stop ps)
 before_cut text stop [] h cut = tt
@@ -76,15 +70,26 @@ rest_cut P text read (Some k) parts utf8 each cut fits (rest, are, same) =
     let following : AreCut (drop k text) rest = each (drop k text) rest (IsUtf8-drop text k utf8 at) are in
     rw same (both_cut text (before k read) (map (moved k) rest) (before_cut text k read at cut) (moved_cut text k rest at.0 following))
 
-cut_by : (n : ℕ) (text : List ℕ) (parts : List Part) → IsUtf8 text → AreReadBy n text parts → AreCut text parts
+read_cut : (again : Bool) (text source : List ℕ) (opened : Option ℕ) (items : Items) → EachIsAt text items → AreCut text (read_in again source opened items)
+read_cut again text source opened Ended h = tt
+read_cut again text source opened (Failed message span) h = tt
+read_cut again text source opened (Token t span items) (sound, rest) =
+    let cut : IsCut text span.range.start span.range.end = record { order = sound.0.0; begins = sound.0.1; ends = sound.0.2 } in
+    elim (cases_Bool (goes_over again source opened span.range.end)) [
+      | inl over ↦ rw over (cut, tt)
+      | inr within ↦ rw within (cut, read_cut again text source (opened_after opened t span.range.end) items rest)
+    ]
+
+cut_by : (n : ℕ) (again : Bool) (text : List ℕ) (parts : List Part) → IsUtf8 text → AreReadBy n again text parts → AreCut text parts
 unfolding AreReadBy
-cut_by zero text parts utf8 none = rw none tt
-cut_by (suc n) text parts utf8 (items, tokens, whole) =
-    rest_cut (AreReadBy n) text (parts_in items) (next_of text items) parts utf8 (λ t ps u are. cut_by n t ps u are)
-    (items_cut text items (each_sound default_marks default_valid default_texts text utf8 items tokens)) (λ k is. next_cut text (failed_after None items) k is) whole
+cut_by zero again text parts utf8 none = rw none tt
+cut_by (suc n) again text parts utf8 (items, tokens, whole) =
+    rest_cut (AreReadBy n true) text (read_in again text None items) (next_of again text items) parts utf8 (λ t ps u are. cut_by n true t ps u are)
+    (read_cut again text text None items (each_sound default_marks default_valid default_texts text utf8 items tokens))
+    (λ k is. next_cut text (stopped_after again text None items) k is) whole
 
 parts_cut : (text : List ℕ) (parts : List Part) → IsUtf8 text → ArePartsOf text parts → AreCut text parts
-parts_cut text parts utf8 are = cut_by 100 text parts utf8 are
+parts_cut text parts utf8 are = cut_by 100 false text parts utf8 are
 
 -- ---- names
 

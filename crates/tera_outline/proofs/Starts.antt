@@ -83,16 +83,3 @@ start_passed text at inside passed =
     let none : is_at_start default_marks (b ∷ bs) ≡ false = subst (λ xs. is_at_start default_marks xs ≡ false) (take_rest text at ∙ split) passed in
     let here : start_in (b ∷ bs) ≡ option_map suc (start_in bs) = rw none refl in
     sym (ap (λ xs. option_map (λ n. at + n) (start_in xs)) split ∙ (ap (option_map (λ n. at + n)) here ∙ one_more at (start_in bs)))
-
-pub start_met : (text : List ℕ) (at : ℕ) → at < length text → is_at_start default_marks (take (length text - at) (drop at text)) ≡ true → Some at ≡ start_from at text
-start_met text at inside met =
-    let b = get_or text at 0 in
-    let bs = drop (at + 1) text in
-    let split : drop at text ≡ b ∷ bs = drop_more text at 0 inside in
-    let starts : is_at_start default_marks (b ∷ bs) ≡ true = subst (λ xs. is_at_start default_marks xs ≡ true) (take_rest text at ∙ split) met in
-    let here : start_in (b ∷ bs) ≡ Some 0 = rw starts refl in
-    let same : Some at ≡ option_map (λ n. at + n) (Some 0) = ap Some (omega arith) in
-    same ∙ sym (ap (λ xs. option_map (λ n. at + n) (start_in xs)) split ∙ ap (option_map (λ n. at + n)) here)
-
-pub start_missed : (text : List ℕ) (at : ℕ) → length text ≤ at → None ≡ start_from at text
-start_missed text at beyond = sym (ap (λ xs. option_map (λ n. at + n) (start_in xs)) (drop_all at text beyond))

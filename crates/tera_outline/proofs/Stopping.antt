@@ -1,5 +1,6 @@
 -- Where the tokens of a text stop.
-use Rattle.std.proofs.Common.{◌≡◌, ◌≢◌, ◌+◌, ◌-◌, ◌<◌, ◌≤◌, ◌++◌, ℕ, zero, suc, Bool, false, Option, Some, None, List, [], ◌∷◌, length, length-append, drop, map, min, inl, inr, refl, sym, ap, subst, ◌∙◌, arith}
+use Rattle.std.proofs.Common.{◌≡◌, ◌≢◌, ◌+◌, ◌-◌, ◌<◌, ◌≤◌, ◌++◌, ℕ, zero, suc, Bool, true, false, Option, Some, None, List, [], ◌∷◌, length, length-append, drop, map, min, inl, inr, refl, sym, ap, subst, ◌∙◌, arith}
+use Rattle.std.proofs.lemmas.Bool.{cases_Bool}
 use Rattle.std.proofs.lemmas.Bool.Decides.{leb_tells}
 use Rattle.std.proofs.lemmas.List.{length-drop}
 use Rattle.tera_lexer.specs.grammar.Marks.{default_marks}
@@ -9,7 +10,7 @@ use Rattle.tera_lexer.specs.grammar.Tiling.{Tile, in_tag_after}
 use Rattle.tera_base.specs.declared.utils.Span.{Span}
 use Rattle.tera_lexer.proofs.Tilings.{tokens_tile}
 use Rattle.tera_layout.proofs.Defaults.{default_valid}
-use Rattle.tera_outline.specs.Pieces.{Part, parts_in, failed_after, next_of, before, moved, AreWithRest, AreReadBy, ArePartsOf, AreBetween}
+use Rattle.tera_outline.specs.Pieces.{Part, parts_in, opened_after, goes_over, read_in, stopped_after, next_of, before, moved, AreWithRest, AreReadBy, ArePartsOf, AreBetween}
 use Rattle.tera_outline.proofs.Starts.{next_cut}
 
 -- the tokens of a text are in it one after the other
@@ -88,8 +89,17 @@ before_all from to (p ∷ ps) are =
 
 -- ---- all
 
-pub items_sound : (text : List ℕ) (items : Items) → AreTokensOf default_marks text items → AreBetween 0 (length text) (parts_in items)
-items_sound text items tokens = tile_sound items false [] text (length text) (omega arith) (tokens_tile default_marks default_valid text items tokens)
+up_to_over : (again : Bool) (text : List ℕ) (opened : Option ℕ) (from to : ℕ) (items : Items) → AreBetween from to (parts_in items) → AreBetween from to (read_in again text opened items)
+up_to_over again text opened from to Ended are = are
+up_to_over again text opened from to (Failed message span) are = are
+up_to_over again text opened from to (Token t span items) are = elim (cases_Bool (goes_over again text opened span.range.end)) [
+  | inl over ↦ rw over (are.0, are.1, ordered span.range.end to (parts_in items) are.2)
+  | inr within ↦ rw within (are.0, are.1, up_to_over again text (opened_after opened t span.range.end) span.range.end to items are.2)
+]
+
+pub read_sound : (again : Bool) (text : List ℕ) (items : Items) → AreTokensOf default_marks text items → AreBetween 0 (length text) (read_in again text None items)
+read_sound again text items tokens =
+    up_to_over again text None 0 (length text) items (tile_sound items false [] text (length text) (omega arith) (tokens_tile default_marks default_valid text items tokens))
 
 rest_sound : (P : List ℕ → List Part → Type 0) (text : List ℕ) (read : List Part) (next : Option ℕ) (parts : List Part)
     → ((t : List ℕ) (ps : List Part) → P t ps → AreBetween 0 (length t) ps) → AreBetween 0 (length text) read → ((k : ℕ) → next ≡ Some k → k ≤ length text)
@@ -105,12 +115,12 @@ rest_sound P text read (Some k) parts each sound fits (rest, are, same) =
     (joined 0 k (length text) (before k read) (map (moved k) rest) (before_between 0 (length text) k read (omega arith) sound)
     (subst (λ n. AreBetween k n (map (moved k) rest)) end (subst (λ n. AreBetween n (k + length (drop k text)) (map (moved k) rest)) start following)))
 
-sound_by : (n : ℕ) (text : List ℕ) (parts : List Part) → AreReadBy n text parts → AreBetween 0 (length text) parts
+sound_by : (n : ℕ) (again : Bool) (text : List ℕ) (parts : List Part) → AreReadBy n again text parts → AreBetween 0 (length text) parts
 unfolding AreReadBy
-sound_by zero text parts none = rw none (omega arith)
-sound_by (suc n) text parts (items, tokens, whole) =
-    rest_sound (AreReadBy n) text (parts_in items) (next_of text items) parts (λ t ps are. sound_by n t ps are) (items_sound text items tokens)
-    (λ k is. (next_cut text (failed_after None items) k is).0) whole
+sound_by zero again text parts none = rw none (omega arith)
+sound_by (suc n) again text parts (items, tokens, whole) =
+    rest_sound (AreReadBy n true) text (read_in again text None items) (next_of again text items) parts (λ t ps are. sound_by n true t ps are) (read_sound again text items tokens)
+    (λ k is. (next_cut text (stopped_after again text None items) k is).0) whole
 
 pub parts_sound : (text : List ℕ) (parts : List Part) → ArePartsOf text parts → AreBetween 0 (length text) parts
-parts_sound text parts are = sound_by 100 text parts are
+parts_sound text parts are = sound_by 100 false text parts are

@@ -1,3 +1,4 @@
+pub mod Added
 pub mod Completions
 pub mod Dotted
 pub mod Edits

@@ -1,5 +1,6 @@
--- The tokens of a text, each with its bytes. After a lexical fault they go on with the next tag.
-use Rattle.std.specs.Prelude.{◌≡◌, ◌<◌, ◌≤◌, ◌+◌, ◌++◌, ℕ, zero, suc, Option, Some, None, if◌then◌else◌, List, [], ◌∷◌, drop, map, min, nat_lt, option_map, unwrap_or}
+-- The tokens of a text, each with its bytes. After a lexical fault they go on with the next tag, and from there on each
+-- tag ends where the next one begins at the latest.
+use Rattle.std.specs.Prelude.{◌≡◌, ◌<◌, ◌≤◌, ◌+◌, ◌++◌, ℕ, zero, suc, Bool, true, false, Option, Some, None, if◌then◌else◌, List, [], ◌∷◌, drop, map, min, nat_lt, option_map, unwrap_or}
 use Rattle.tera_lexer.specs.grammar.Division.{is_at_start}
 use Rattle.tera_lexer.specs.grammar.Marks.{default_marks}
 use Rattle.tera_lexer.specs.grammar.Tokens.{Tok, Start, Finish, Items, Ended, Failed, Token, AreTokensOf}
@@ -15,7 +16,7 @@ pub record Part : Type 0 where
 abbrev pub part_of : Piece → Part
 part_of p = record { token = seen p.token; start = p.start; end = p.end }
 
--- those before the end or the fault
+-- the tokens before the end or the fault
 abbrev pub parts_in : Items → List Part
 parts_in Ended = []
 parts_in (Failed text span) = []
@@ -28,13 +29,6 @@ abbrev pub opened_after : Option ℕ → Tok → ℕ → Option ℕ
 opened_after opened (Start kind dash) end = Some end
 opened_after opened (Finish kind dash) end = None
 opened_after opened t end = opened
-
--- the byte after the start of the tag in which the tokens fail, or of the comment or the raw piece that has no end;
--- before them the tag is open that `opened` says
-abbrev pub failed_after : Option ℕ → Items → Option ℕ
-failed_after opened Ended = None
-failed_after opened (Failed text span) = Some (unwrap_or opened span.range.end)
-failed_after opened (Token t span items) = failed_after (opened_after opened t span.range.end) items
 
 -- how many bytes are before the first start of a tag, if there is one
 abbrev pub start_in : List ℕ → Option ℕ
@@ -49,10 +43,39 @@ abbrev pub start_after : List ℕ → Option ℕ → Option ℕ
 start_after text None = None
 start_after text (Some opened) = start_from opened text
 
--- the byte at which the tokens of the text go on after their fault: with the first tag that begins after the start of
--- the one in which the fault is
-abbrev pub next_of : List ℕ → Items → Option ℕ
-next_of text items = start_after text (failed_after None items)
+-- where a tag ends at the latest that is open after a byte, in what is read after a fault
+abbrev pub stop_of : Bool → List ℕ → Option ℕ → Option ℕ
+stop_of again text opened = if again then start_after text opened else None
+
+abbrev pub is_over : Option ℕ → ℕ → Bool
+is_over None end = false
+is_over (Some stop) end = nat_lt stop end
+
+-- a token that ends with this byte goes over the end of its tag
+abbrev pub goes_over : Bool → List ℕ → Option ℕ → ℕ → Bool
+goes_over again text opened end = is_over (stop_of again text opened) end
+
+-- those before the end, before the fault, or up to the first that goes over the end of its tag; before them the tag is
+-- open that `opened` says
+abbrev pub read_in : Bool → List ℕ → Option ℕ → Items → List Part
+read_in again text opened Ended = []
+read_in again text opened (Failed message span) = []
+read_in again text opened (Token t span items) =
+    record { token = t; start = span.range.start; end = span.range.end }
+    ∷ (if goes_over again text opened span.range.end then [] else read_in again text (opened_after opened t span.range.end) items)
+
+-- the byte after the start of the tag in which they stop, or of the comment or the raw piece that has no end
+abbrev pub stopped_after : Bool → List ℕ → Option ℕ → Items → Option ℕ
+stopped_after again text opened Ended = None
+stopped_after again text opened (Failed message span) = Some (unwrap_or opened span.range.end)
+stopped_after again text opened (Token t span items) =
+    if goes_over again text opened span.range.end then opened
+    else stopped_after again text (opened_after opened t span.range.end) items
+
+-- the byte at which the tokens of the text go on: with the first tag that begins after the start of the one in which
+-- they stop
+abbrev pub next_of : Bool → List ℕ → Items → Option ℕ
+next_of again text items = start_after text (stopped_after again text None items)
 
 -- ---- all of them
 
@@ -75,15 +98,16 @@ AreWithRest AreOfRest text read None parts = parts ≡ read
 AreWithRest AreOfRest text read (Some next) parts =
     (rest : List Part) × AreOfRest (drop next text) rest × (parts ≡ kept (Some next) read ++ map (moved next) rest)
 
--- those of a text of which reading begins at most at so many places
-unfoldable pub AreReadBy : ℕ → List ℕ → List Part → Type 0
-AreReadBy zero text parts = parts ≡ []
-AreReadBy (suc n) text parts =
-    (items : Items) × AreTokensOf default_marks text items × AreWithRest (AreReadBy n) text (parts_in items) (next_of text items) parts
+-- those of a text, in which reading begins at most at so many places; `again` where that is after a fault
+unfoldable pub AreReadBy : ℕ → Bool → List ℕ → List Part → Type 0
+AreReadBy zero again text parts = parts ≡ []
+AreReadBy (suc n) again text parts =
+    (items : Items) × AreTokensOf default_marks text items
+    × AreWithRest (AreReadBy n true) text (read_in again text None items) (next_of again text items) parts
 
 -- those of the text between the default markers
 abbrev pub ArePartsOf : List ℕ → List Part → Type 0
-ArePartsOf text parts = AreReadBy 100 text parts
+ArePartsOf text parts = AreReadBy 100 false text parts
 
 -- they are between these bytes, one after the other, and none is empty
 abbrev pub AreBetween : ℕ → ℕ → List Part → Type 0

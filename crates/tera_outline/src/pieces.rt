@@ -1,13 +1,14 @@
 //! The tokens of a text, which go on with the next tag after a lexical fault.
 
-ghost use Rattle.std.specs.Prelude.{◌≡◌, ◌+◌, ◌++◌, ◌^◌, ◌<◌, drop, map, option_map, IfOk, IfSome, OnOk};
+ghost use Rattle.std.specs.Prelude.{◌≡◌, ◌+◌, ◌++◌, ◌^◌, ◌<◌, map, None, Some, IfOk, IfSome, OnOk};
 ghost use Rattle.std.specs.Str.{IsCharBoundary};
 ghost use Rattle.tera_lexer.specs.code.Seen.{seen};
 ghost use Rattle.tera_lexer.specs.grammar.Division.{is_at_start};
 ghost use Rattle.tera_lexer.specs.grammar.Marks.{default_marks};
 ghost use Rattle.tera_lexer.specs.grammar.Tokens.{Items, AreTokensOf};
 ghost use Rattle.tera_outline.specs.Pieces as specs;
-ghost use Rattle.tera_outline.specs.Pieces.{part_of, parts_in, failed_after, kept, moved, before, ArePartsOf};
+ghost use Rattle.tera_outline.specs.Added.{Adds};
+ghost use Rattle.tera_outline.specs.Pieces.{part_of, read_in, stopped_after, moved, before, ArePartsOf};
 
 use std::alloc::{AllocError, Global};
 use tera_base::ErrorKind;
@@ -30,38 +31,39 @@ const READINGS: usize = 100;
 ///
 /// After a fault they go on with the first tag, comment or raw piece that begins after the start of the one in which
 /// the fault is. What was read from there on is left out: a string may go over it that is not closed where it should
-/// be. After 100 faults none follow: the text is read at most 100 times.
+/// be. From there on each tag ends at the latest where the next start of a tag is, and the tokens go on there in the
+/// same way, so that a tag without an end is read once. They go on 99 times at most.
 pub fn pieces_of(alloc: Global, text: &str) -> Result<Vec<Piece<'_>>, AllocError>
     ensures { IfOk result (λ pieces. ArePartsOf text.now (map part_of pieces.items)) }
 {
     let mut pieces = Vec::new(alloc);
     let mut from = 0;
+    let mut again = false;
     'readings: for _reading in 0..READINGS {
-        match push_reading(alloc, &mut pieces, text, from)? {
+        match push_reading(alloc, &mut pieces, again, text, from)? {
             Some(next) => from = next,
             None => return Ok(pieces),
         }
+        again = true;
     }
     Ok(pieces)
 }
 
-// Adds the pieces of the text from the byte on, up to where they go on after a fault. That is the answer.
+// Adds the pieces of the text from the byte on, up to where they go on. That is the answer.
 fn push_reading<'a>(
     alloc: Global,
     pieces: &mut Vec<Piece<'a>>,
+    again: bool,
     text: &'a str,
     from: usize,
 ) -> Result<Option<usize>, AllocError>
     requires { IsCharBoundary text.now from }
     ensures cut { IfOk result (λ next. IfSome next (IsCharBoundary text.now)) }
-    ensures read { IfOk result (λ next. (items : Items)
-        × AreTokensOf default_marks (drop from text.now) items
-        × (next ≡ option_map (λ n. from + n) (specs.next_of (drop from text.now) items))
-        × (map part_of pieces.new.items ≡ map part_of pieces.old.items
-        ++ map (moved from) (kept (specs.next_of (drop from text.now) items) (parts_in items)))) }
+    ensures read { IfOk result (λ next. Adds again text.now from
+        (map part_of pieces.old.items) next (map part_of pieces.new.items)) }
 {
     let (_, rest) = text.split_at(from);
-    let reading = reading_of(alloc, rest)?;
+    let reading = reading_of(alloc, again, rest)?;
     let next = next_after(rest, reading.opened);
     push_before(pieces, from, next.unwrap_or(rest.len()), reading.pieces)?;
     match next {
@@ -70,42 +72,67 @@ fn push_reading<'a>(
     }
 }
 
-// What is read of a text up to its end or its fault.
+// What is read of a text.
 #[derive(Drop)]
 struct Reading<'a> {
     pieces: Vec<Piece<'a>>,
-    // The byte after the start of the tag, the comment or the raw piece in which the fault is, if there is one.
+    // The byte after the start of the tag in which it stops, or of the comment or the raw piece that has no end.
     opened: Option<usize>,
 }
 
-fn reading_of(alloc: Global, text: &str) -> Result<Reading<'_>, AllocError>
+fn reading_of(alloc: Global, again: bool, text: &str) -> Result<Reading<'_>, AllocError>
     ensures { IfOk result (λ r. (items : Items) × AreTokensOf default_marks text.now items
-        × (map part_of r.pieces.items ≡ parts_in items) × (r.opened ≡ failed_after None items)) }
+        × (map part_of r.pieces.items ≡ read_in again text.now None items)
+        × (r.opened ≡ stopped_after again text.now None items)) }
 {
-    read(alloc, &mut tokenize(alloc, text, Delimiters::default()))
+    read(
+        alloc,
+        again,
+        text,
+        &mut tokenize(alloc, text, Delimiters::default()),
+    )
 }
 
-fn read<'a>(alloc: Global, tokens: &mut Tokens<'a>) -> Result<Reading<'a>, AllocError>
-    ensures pieces { IfOk result (λ r. map part_of r.pieces.items ≡ parts_in tokens.old.left) }
-    ensures opened { IfOk result (λ r. r.opened ≡ failed_after None tokens.old.left) }
+fn read<'a>(
+    alloc: Global,
+    again: bool,
+    text: &str,
+    tokens: &mut Tokens<'a>,
+) -> Result<Reading<'a>, AllocError>
+    ensures pieces { IfOk result (λ r. map part_of r.pieces.items
+        ≡ read_in again text.now None tokens.old.left) }
+    ensures opened { IfOk result (λ r. r.opened
+        ≡ stopped_after again text.now None tokens.old.left) }
 {
     let mut pieces = Vec::new(alloc);
-    let mut opened = None;
+    let mut tag = Open {
+        opened: None,
+        stop: None,
+    };
     'tokens: while let Some(item) = tokens.next() {
         match item {
             Ok((token, span)) => {
-                opened = opened_after(opened, &token, span.range.end);
+                let end = span.range.end;
+                let ends = is_over(tag.stop, end);
+                let next = tag.after(again, text, &token, end);
                 pieces.push(Piece {
                     token,
                     start: span.range.start,
-                    end: span.range.end,
+                    end,
                 })?;
+                if ends {
+                    return Ok(Reading {
+                        pieces,
+                        opened: tag.opened,
+                    });
+                }
+                tag = next;
             }
             Err(error) => {
                 return match &error.kind {
                     ErrorKind::SyntaxError(fault) => Ok(Reading {
                         pieces,
-                        opened: Some(opened.unwrap_or(fault.span.range.end)),
+                        opened: Some(tag.opened.unwrap_or(fault.span.range.end)),
                     }),
                     _ => Err(AllocError),
                 };
@@ -118,18 +145,57 @@ fn read<'a>(alloc: Global, tokens: &mut Tokens<'a>) -> Result<Reading<'a>, Alloc
     })
 }
 
-// The byte after the start of the tag that is open after the token, which ends with the byte.
-fn opened_after(opened: Option<usize>, token: &Token<'_>, end: usize) -> Option<usize>
-    ensures { result ≡ specs.opened_after opened (seen token.now) end }
-{
-    match token {
-        Token::VariableStart(_) | Token::TagStart(_) => Some(end),
-        Token::VariableEnd(_) | Token::TagEnd(_) => None,
-        _ => opened,
+// The tag that is open.
+#[derive(Clone, Copy)]
+struct Open {
+    // The byte after its start; none if no tag is open.
+    opened: Option<usize>,
+    // Where it ends at the latest, if that is known.
+    stop: Option<usize>,
+}
+
+impl Open {
+    // The one after the token, which ends with the byte.
+    fn after(self, again: bool, text: &str, token: &Token<'_>, end: usize) -> Open
+        requires { self.stop ≡ specs.stop_of again text.now self.opened }
+        ensures opened { result.opened ≡ specs.opened_after self.opened (seen token.now) end }
+        ensures stop { result.stop ≡ specs.stop_of again text.now result.opened }
+    {
+        match token {
+            Token::VariableStart(_) | Token::TagStart(_) => Open {
+                opened: Some(end),
+                stop: stop_of(again, text, end),
+            },
+            Token::VariableEnd(_) | Token::TagEnd(_) => Open {
+                opened: None,
+                stop: None,
+            },
+            _ => self,
+        }
     }
 }
 
-// Where the pieces of the text go on, if it has a fault in what is opened before the byte.
+fn stop_of(again: bool, text: &str, opened: usize) -> Option<usize>
+    ensures { result ≡ specs.stop_of again text.now (Some opened) }
+{
+    if again {
+        next_start(text, opened)
+    } else {
+        None
+    }
+}
+
+// Whether a token that ends with the byte goes over the end of its tag.
+fn is_over(stop: Option<usize>, end: usize) -> bool
+    ensures { result ≡ specs.is_over stop end }
+{
+    match stop {
+        Some(stop) => stop < end,
+        None => false,
+    }
+}
+
+// Where the pieces of the text go on that stop in what is opened before the byte.
 fn next_after(text: &str, opened: Option<usize>) -> Option<usize>
     ensures next { result ≡ specs.start_after text.now opened }
     ensures cut { IfSome result (IsCharBoundary text.now) }

@@ -1,4 +1,4 @@
-use Rattle.std.proofs.Common.{◌-◌, map}
+use Rattle.std.proofs.Common.{◌-◌, false, map}
 use Rattle.std.specs.Str.{IsCharBoundary}
 use Rattle.tera_outline.specs.Pieces.{part_of}
 use Rattle.tera_outline.proofs.Readings.{Awaits}
@@ -7,5 +7,5 @@ use Rattle.tera_outline.proofs.pieces.pieces_of.Given as goal
 abbrev pub invariant-readings : goal.invariant-readings
 invariant-readings l = record {
   cut : IsCharBoundary l.text l.from;
-  read : Awaits 100 (100 - l._reading) l.text l.from (map part_of l.pieces.items);
+  read : Awaits 100 false (100 - l._reading) l.again l.text l.from (map part_of l.pieces.items);
 }
