@@ -22,7 +22,8 @@ use Rattle.tera_grammar.specs.statements.Components.{Default, LiteralDefault, Mi
 use Rattle.tera_grammar.specs.statements.Heads.{Loop, FitsLoop, Filters, NoFilters, Piped, filters_yield, AreFilters, Capture, SetBody, Section, CallBody, capture_end, FitsCapture}
 use Rattle.tera_grammar.specs.statements.Grammar.{Plain, Text, Shown, Set, Include, Extends, Break, Continue, Body, Done, Then, Item, Single, Block, Define, Capturing, For, If, Branches, Elif, Last, Else, NoElse, Otherwise, yield, branches_yield, else_yield, Path, InFor, InForElse, InBlock, InIf, InComponent, InCapture, in_loop, text_if_any, FitsPlain, Fits, FitsItem, FitsBranches, FitsElse, names, item_names, branch_names, else_names, inner, item_height, branch_height, else_height}
 use Rattle.tera_grammar.specs.statements.Top.{is_kept, TopLevel, IsTemplate}
-use Rattle.tera_grammar.specs.statements.Reading.{Phase, Starting, Standalone, Extending, next_phase, phases}
+use Rattle.tera_grammar.specs.statements.Reading.Phases.{Phase, Starting, Standalone, Extending, next_phase}
+use Rattle.tera_grammar.proofs.plain.statements.Reading.{phases}
 use Rattle.tera_grammar.proofs.Options.{bind_both}
 use Rattle.tera_grammar.proofs.statements.Tops.{top_found, top_read}
 use Rattle.tera_source.proofs.Places.{tree_at, row_at, element_at, args_at, attributes_at, tokens_at}

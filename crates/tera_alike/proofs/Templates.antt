@@ -7,7 +7,7 @@ use Rattle.tera_spelling.specs.Sources.{AreReadAs}
 use Rattle.tera_source.proofs.Places.{placed}
 use Rattle.tera_grammar.specs.Limits.{Limits}
 use Rattle.tera_grammar.specs.statements.Grammar.{Body}
-use Rattle.tera_grammar.specs.statements.Reading.{template}
+use Rattle.tera_grammar.proofs.plain.statements.Reading.{template}
 use Rattle.tera_grammar.specs.statements.Top.{IsTemplate}
 use Rattle.tera_grammar.proofs.statements.Closed.{body_closed}
 use Rattle.tera_grammar.proofs.statements.Tops.{template_sound, template_complete}

@@ -9,11 +9,13 @@ use Rattle.tera_base.specs.declared.errors.ErrorKind.{ErrorKind}
 use Rattle.tera_base.specs.declared.errors.ErrorKind.TheVariants.{Memory, Message, SyntaxError}
 use Rattle.tera_base.specs.declared.utils.Span.{Span}
 use Rattle.tera_lexer.specs.code.Cursors.{Position, IsLater, RefusesFrom, size}
-use Rattle.tera_lexer.specs.grammar.Faults.{Faults}
+use Rattle.tera_lexer.specs.grammar.Faults.{Faults, IsFaultOf}
 use Rattle.tera_lexer.specs.grammar.Lexed.{IsCount}
 use Rattle.tera_lexer.specs.grammar.Place.{IsWithin}
 use Rattle.tera_lexer.specs.grammar.Tokens as toks
 use Rattle.tera_lexer.specs.grammar.Tokens.{Tok, Items}
+use Rattle.tera_grammar.specs.Reads.{Read, found, stopped, Takes, Fails}
+use Rattle.tera_grammar.specs.expressions.Reading.Front.{Place}
 use Rattle.tera_grammar.specs.expressions.Concrete.{Name}
 use Rattle.tera_grammar.specs.expressions.Operators as operators
 use Rattle.tera_grammar.specs.expressions.Marks as marks
@@ -28,42 +30,55 @@ GoesOn old new = IsLater old new × (size new.left ≤ size old.left)
 unfoldable pub Took : Position → Position → Type 0
 Took old new = IsLater old new × (size new.left < size old.left)
 
--- a refusal of what a cursor has left
-unfoldable pub Refuses : Position → Error → Type 0
-Refuses old e = RefusesFrom old e
+-- The range of an error goes up to the end of the token that a cursor took last, or further; or it is that of the fault in
+-- which the tokens end.
+abbrev pub Reaches : Position → Position → Error → Type 0
+Reaches old new e =
+    (IsLater old new × ReportsBy (λ text span. new.span.range.end ≤ span.range.end) e) ⊎ ReportsBy (λ text span. IsFaultOf old.left text span) e
 
--- a refusal in the tokens that a cursor has left, or of the fault in which they end
-unfoldable pub RefusesIn : Position → Error → Type 0
-RefusesIn old e = ReportsBy (λ text span. IsWithin old.source span × Faults old.left text span) e
+-- a refusal of what a cursor had left, where it is now
+unfoldable pub Refuses : Position → Position → Error → Type 0
+Refuses old new e = RefusesFrom old e × Reaches old new e
+
+-- a refusal in the tokens that a cursor had left, or of the fault in which they end
+unfoldable pub RefusesIn : Position → Position → Error → Type 0
+RefusesIn old new e = ReportsBy (λ text span. IsWithin old.source span × Faults old.left text span) e × Reaches old new e
 
 -- a number of a source is not negative, and is one of 64 bits
 abbrev pub IsCounted : Tok → Type 0
 IsCounted (toks.Integer n) = IsCount n
 IsCounted _ = Unit {0}
 
--- An allocation failed, or nothing is read.
-abbrev pub Fails : {A : Type 0} → Option A → Error → Type 0
-Fails read e = IsMemory e ⊎ (read ≡ None)
+-- What is read is of a kind that the value stands for; `left` are the tokens that are left.
+abbrev pub GivesIn : {E T Q : Type 0} → (E → T → Type 0) → Result E Error → Q → Items → Read (T × Q) → Type 0
+GivesIn {T = T} Is (Ok e) q left read = (t : T) × (read ≡ found (t, q)) × Is e t
+GivesIn Is (Err e) q left read = Fails read left e
 
--- what is read is of a kind that the value stands for
-abbrev pub GivesBy : {E T Q : Type 0} → (E → T → Type 0) → Result E Error → Q → Option (T × Q) → Type 0
-GivesBy {T = T} Is (Ok e) q read = (t : T) × (read ≡ Some (t, q)) × Is e t
-GivesBy Is (Err e) q read = Fails read e
+-- the same where what is read comes with the tokens left, and with a place
+abbrev pub GivesBy : {E T : Type 0} → (E → T → Type 0) → Result E Error → Items → Read (T × Items) → Type 0
+GivesBy Is r left read = GivesIn Is r left left read
+
+abbrev pub GivesAt : {E T : Type 0} → (E → T → Type 0) → Result E Error → Place → Read (T × Place) → Type 0
+GivesAt Is r q read = GivesIn Is r q q.tokens read
 
 -- the value is made of what is read
-abbrev pub GivesAs : {E T X : Type 0} → (E → T) → Result E Error → X → Option (T × X) → Type 0
-GivesAs part (Ok e) x read = read ≡ Some (part e, x)
-GivesAs part (Err e) x read = Fails read e
+abbrev pub GivesAs : {E T : Type 0} → (E → T) → Result E Error → Items → Read (T × Items) → Type 0
+GivesAs part (Ok e) left read = read ≡ found (part e, left)
+GivesAs part (Err e) left read = Fails read left e
 
 -- something is read, of which no value is wanted
-abbrev pub Passes : {E T Q : Type 0} → Result E Error → Q → Option (T × Q) → Type 0
-Passes {T = T} (Ok e) q read = (t : T) × (read ≡ Some (t, q))
-Passes (Err e) q read = Fails read e
+abbrev pub Passes : {E T : Type 0} → Result E Error → Items → Read (T × Items) → Type 0
+Passes {T = T} (Ok e) left read = (t : T) × (read ≡ found (t, left))
+Passes (Err e) left read = Fails read left e
+
+-- the first of these tokens was taken, and those are left
+abbrev pub TookFirst : Items → Items → Type 0
+TookFirst old new = (t : Tok) × (s : Span) × (old ≡ toks.Token t s new)
 
 -- a token was taken that was there, or none was
-abbrev pub Eats : Bool → Position → Position → Option (Span × Items) → Type 0
-Eats true old new read = (read ≡ Some (new.span, new.left)) × Took old new
-Eats false old new read = (read ≡ None) × (new ≡ old)
+abbrev pub Eats : Bool → Position → Position → Takes Span → Type 0
+Eats true old new read = (read ≡ found (new.span, new.left)) × Took old new
+Eats false old new read = (read ≡ stopped old.left) × (new ≡ old)
 
 -- a name that was read, and a place
 abbrev pub name_at : Span → Bor (List ℕ) → Name
@@ -75,9 +90,9 @@ name_in text span = record { text = text; span = span }
 abbrev pub place_at : Span → Unit {0} → Span
 place_at span u = span
 
-abbrev pub EatsName : Option (Bor (List ℕ)) → Position → Position → Option (Name × Items) → Type 0
-EatsName (Some s) old new read = (read ≡ Some (name_at new.span s, new.left)) × Took old new
-EatsName None old new read = (read ≡ None) × (new ≡ old)
+abbrev pub EatsName : Option (Bor (List ℕ)) → Position → Position → Takes Name → Type 0
+EatsName (Some s) old new read = (read ≡ found (name_at new.span s, new.left)) × Took old new
+EatsName None old new read = (read ≡ stopped old.left) × (new ≡ old)
 
 -- the source text of a fixed token, and the token
 abbrev pub fixed_text : Fixed → List ℕ

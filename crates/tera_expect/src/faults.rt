@@ -14,7 +14,7 @@ use tera_lexer::{Cursor, Token};
 #[tactic(auto, using(crate::proofs::TakingLemmas::last_refused))]
 pub fn fault(cursor: &Cursor<'_>, text: &str) -> Error
     ensures reports { Reports text.now cursor.now.span result }
-    ensures refusal { Refuses cursor.now result }
+    ensures refusal { Refuses cursor.now cursor.now result }
 {
     Error::syntax_error(cursor.alloc(), text, cursor.current_span())
 }
@@ -24,7 +24,7 @@ pub fn fault(cursor: &Cursor<'_>, text: &str) -> Error
 pub fn reported(cursor: &Cursor<'_>, message: Result<String, AllocError>) -> Error
     ensures reports { MatchResult message (λ text. Reports (string_bytes text) cursor.now.span result)
         (λ _. IsMemory result) }
-    ensures refusal { Refuses cursor.now result }
+    ensures refusal { Refuses cursor.now cursor.now result }
 {
     Error::reported(cursor.alloc(), message, cursor.current_span())
 }

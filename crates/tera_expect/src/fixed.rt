@@ -121,7 +121,7 @@ pub fn begins(cursor: &Cursor<'_>, expected: Fixed) -> bool
 }
 
 /// Takes the next token where it is this one.
-#[tactic(auto, unfolding(crate::specs::Taking::Took, crate::specs::Taking::Refuses))]
+#[tactic(auto, unfolding(crate::specs::Taking::Took))]
 pub fn eat(cursor: &mut Cursor<'_>, expected: Fixed) -> bool
     ensures { Eats result cursor.old cursor.new (takes (mark_of expected) cursor.old.left) }
 {
@@ -132,7 +132,7 @@ pub fn eat(cursor: &mut Cursor<'_>, expected: Fixed) -> bool
 }
 
 /// Takes the next token where it is a name.
-#[tactic(auto, unfolding(crate::specs::Taking::Took, crate::specs::Taking::Refuses))]
+#[tactic(auto, unfolding(crate::specs::Taking::Took))]
 pub fn eat_name<'a>(cursor: &mut Cursor<'a>) -> Option<&'a str>
     ensures { EatsName result cursor.old cursor.new (taken_name cursor.old.left) }
 {
@@ -145,22 +145,22 @@ pub fn eat_name<'a>(cursor: &mut Cursor<'a>) -> Option<&'a str>
 
 /// Takes the next token, where one has to come: at the end of the input, or at a lexical fault, that is
 /// the answer.
-#[tactic(auto, unfolding(crate::specs::Taking::Took, crate::specs::Taking::Refuses), using(crate::proofs::TakingLemmas::counted))]
+#[tactic(auto, unfolding(crate::specs::Taking::Took), using(crate::proofs::TakingLemmas::counted, crate::proofs::TakingLemmas::untaken_refused_err))]
 pub fn take<'a>(cursor: &mut Cursor<'a>) -> Result<(Token<'a>, Span), Error>
     ensures takes { TakesOne cursor.old result cursor.new }
     ensures number { IfOk result (λ p. IsCounted (seen p.0)) }
-    ensures refusal { IfErr result (Refuses cursor.old) }
+    ensures refusal { IfErr result (Refuses cursor.old cursor.new) }
     ensures later { IfOk result (λ _. Took cursor.old cursor.new) }
 {
     cursor.next_or_eoi()
 }
 
 /// Takes the next token, which has to be this one: another is a fault at that token.
-#[tactic(auto, unfolding(crate::specs::Taking::Took, crate::specs::Taking::Refuses))]
+#[tactic(auto, unfolding(crate::specs::Taking::Took), using(crate::proofs::TakingLemmas::untaken_refused, crate::proofs::TakingLemmas::token_refused))]
 pub fn expect(cursor: &mut Cursor<'_>, expected: Fixed) -> Result<(), Error>
     ensures gives { GivesAs (place_at cursor.new.span) result cursor.new.left
         (takes (mark_of expected) cursor.old.left) }
-    ensures refusal { IfErr result (Refuses cursor.old) }
+    ensures refusal { IfErr result (Refuses cursor.old cursor.new) }
     ensures later { IfOk result (λ _. Took cursor.old cursor.new) }
 {
     if eat(cursor, expected) {
@@ -171,11 +171,11 @@ pub fn expect(cursor: &mut Cursor<'_>, expected: Fixed) -> Result<(), Error>
 }
 
 /// Takes the next token, which has to be a name: another is a fault at that token.
-#[tactic(auto, unfolding(crate::specs::Taking::Took, crate::specs::Taking::Refuses))]
+#[tactic(auto, unfolding(crate::specs::Taking::Took), using(crate::proofs::TakingLemmas::untaken_refused, crate::proofs::TakingLemmas::token_refused))]
 pub fn name<'a>(cursor: &mut Cursor<'a>) -> Result<&'a str, Error>
     ensures gives { GivesAs (name_at cursor.new.span) result cursor.new.left
         (taken_name cursor.old.left) }
-    ensures refusal { IfErr result (Refuses cursor.old) }
+    ensures refusal { IfErr result (Refuses cursor.old cursor.new) }
     ensures later { IfOk result (λ _. Took cursor.old cursor.new) }
 {
     if let Some(name) = eat_name(cursor) {

@@ -1,5 +1,5 @@
 -- What comes after an operand, looked at and then taken.
-use Rattle.std.proofs.Common.{◌≡◌, ◌≢◌, ℕ, ◌+◌, Bool, true, false, is_some, List, Option, Some, None, Ok, refl, sym, ap, subst, ◌∙◌, codes, arith}
+use Rattle.std.proofs.Common.{◌≡◌, ◌≢◌, ℕ, ◌+◌, Bool, true, false, is_some, List, Some, Ok, refl, sym, ap, subst, ◌∙◌, codes, arith}
 use Rattle.std.specs.Str.{bytes_eq}
 use Rattle.std.specs.Prelude.{cond}
 use Rattle.tera_base.specs.declared.utils.Span.{Span}
@@ -14,9 +14,11 @@ use Rattle.tera_grammar.specs.expressions.Stack.{stops}
 use Rattle.tera_grammar.specs.expressions.Marks.{Mark, mark_token, Not, Is, If, Bar, LeftBracket}
 use Rattle.tera_grammar.specs.expressions.Concrete.{Single, NotIn}
 use Rattle.tera_grammar.specs.expressions.Reading.Front.{among, front_marks, front_not, marked_front, begins, begins_sign, same_token}
-use Rattle.tera_grammar.proofs.expressions.Fronts.{takes_ok}
+use Rattle.tera_grammar.specs.Reads.{found, stopped, Takes, forget}
+use Rattle.tera_grammar.proofs.stops.Fronts.{takes_ok}
+use Rattle.tera_lexer.specs.code.Cursors as cursors
 use Rattle.tera_lexer.specs.code.Seen.{seen}
-use Rattle.tera_lexer.specs.code.Cursors.{Position, Takes, Skips, Sight, SeesTwo, size}
+use Rattle.tera_lexer.specs.code.Cursors.{Position, Skips, Sight, SeesTwo, size}
 use Rattle.tera_lexer.proofs.FaultsOfTokens.{token_later}
 use Rattle.tera_expect.specs.Taking.{Took}
 use Rattle.tera_lexer.specs.declared.lexer.tokens.Token.{Token as Lexed}
@@ -32,20 +34,20 @@ stops_alike m (reading.joins (reading.leads_condition s) ts) = refl
 stops_alike m (reading.closes (reading.ends_test s) ts) = refl
 stops_alike m (reading.closes (reading.ends_filter s) ts) = refl
 stops_alike m (reading.closes (reading.ends_subscript s) ts) = refl
-stops_alike m reading.misplaced = refl
+stops_alike m (reading.misplaced us) = refl
 
-pub word_front_kind : (w : List ℕ) (s : Span) (us : Items) → kind_of (front_of_token (Ident w) s us) ≡ word_kind w (is_some (takes (Operation operators.In) us))
+pub word_front_kind : (w : List ℕ) (s : Span) (us : Items) → kind_of (front_of_token (Ident w) s us) ≡ word_kind w (is_some (forget (takes (Operation operators.In) us)))
 unfolding front_of_token
 word_front_kind w s us = by (bytes_eq w (codes "or")) (bytes_eq w (codes "and")) (bytes_eq w (codes "in")) (bytes_eq w (codes "not")) (bytes_eq w (codes "is")) (bytes_eq w (codes "if")) (takes (Operation operators.In) us) refl refl refl refl refl refl refl
   where
-    by : (a b c d e f : Bool) (o : Option (Span × Items)) → bytes_eq w (codes "or") ≡ a → bytes_eq w (codes "and") ≡ b → bytes_eq w (codes "in") ≡ c → bytes_eq w (codes "not") ≡ d
+    by : (a b c d e f : Bool) (o : Takes Span) → bytes_eq w (codes "or") ≡ a → bytes_eq w (codes "and") ≡ b → bytes_eq w (codes "in") ≡ c → bytes_eq w (codes "not") ≡ d
         → bytes_eq w (codes "is") ≡ e → bytes_eq w (codes "if") ≡ f → takes (Operation operators.In) us ≡ o
-        → kind_of (front_of_token (Ident w) s us) ≡ word_kind w (is_some (takes (Operation operators.In) us))
+        → kind_of (front_of_token (Ident w) s us) ≡ word_kind w (is_some (forget (takes (Operation operators.In) us)))
     by true b c d e f o ha hb hc hd he hf ho = rw ha refl
     by false true c d e f o ha hb hc hd he hf ho = rw (ha, hb) refl
     by false false true d e f o ha hb hc hd he hf ho = rw (ha, hb, hc) refl
-    by false false false true e f None ha hb hc hd he hf ho = rw (ha, hb, hc, hd, ho) refl
-    by false false false true e f (Some x) ha hb hc hd he hf ho = rw (ha, hb, hc, hd, ho) refl
+    by false false false true e f (stopped z) ha hb hc hd he hf ho = rw (ha, hb, hc, hd, ho) refl
+    by false false false true e f (found x) ha hb hc hd he hf ho = rw (ha, hb, hc, hd, ho) refl
     by false false false false true f o ha hb hc hd he hf ho = rw (ha, hb, hc, hd, he) refl
     by false false false false false true o ha hb hc hd he hf ho = rw (ha, hb, hc, hd, he, hf) refl
     by false false false false false false o ha hb hc hd he hf ho = rw (ha, hb, hc, hd, he, hf) refl
@@ -68,7 +70,7 @@ front_taken old new false h sees some = absurd (some (sym (unseen_front old.left
 front_taken old new true (p, h) sees some = (seen p.0, h.1 ∙ ap (λ s. Token (seen p.0) s new.left) (sym h.5))
 
 -- a token was taken
-pub took_token : (old new : Position) (p : Lexed × Span) → Takes old (Ok (Some p)) new → Took old new
+pub took_token : (old new : Position) (p : Lexed × Span) → cursors.Takes old (Ok (Some p)) new → Took old new
 unfolding Took
 took_token old new p h =
     let fewer : size old.left ≡ size new.left + 1 = ap size h.1 in
@@ -88,9 +90,9 @@ chosen_there If s us h = refl
 chosen_there (Operation o) s us h = cc
 chosen_there Not s us h = by (takes (Operation operators.In) us) h
   where
-    by : (o : Option (Span × Items)) → chosen ≡ kind_of (front_not s o) → front_not s o ≡ reading.joins (reading.leads_condition s) us
-    by None h = cc
-    by (Some x) h = cc
+    by : (o : Takes Span) → chosen ≡ kind_of (front_not s o) → front_not s o ≡ reading.joins (reading.leads_condition s) us
+    by (stopped z) h = cc
+    by (found x) h = cc
 chosen_there _ s us h = cc
 
 pub condition_taken : (old new : Position) (b : Bool) → Skips old b new → SeesTwo new → chosen ≡ kind_of (reading.front old.left)
@@ -107,13 +109,13 @@ ending_there Filter Bar s us h = refl
 ending_there Subscript LeftBracket s us h = refl
 ending_there e Not s us h = by e (takes (Operation operators.In) us) h
   where
-    by : (e : Ending) (o : Option (Span × Items)) → ending_kind e ≡ kind_of (front_not s o) → front_not s o ≡ reading.closes (ending_of e s) us
-    by Test None h = cc
-    by Test (Some x) h = cc
-    by Filter None h = cc
-    by Filter (Some x) h = cc
-    by Subscript None h = cc
-    by Subscript (Some x) h = cc
+    by : (e : Ending) (o : Takes Span) → ending_kind e ≡ kind_of (front_not s o) → front_not s o ≡ reading.closes (ending_of e s) us
+    by Test (stopped z) h = cc
+    by Test (found x) h = cc
+    by Filter (stopped z) h = cc
+    by Filter (found x) h = cc
+    by Subscript (stopped z) h = cc
+    by Subscript (found x) h = cc
 ending_there Test _ s us h = cc
 ending_there Filter _ s us h = cc
 ending_there Subscript _ s us h = cc
@@ -133,17 +135,17 @@ ending_taken old new b h sees e is =
 -- an operator of one token, and `not in`
 abbrev pub OneOrTwo : BinaryOperator → Bool → reading.Front → Items → Type 0
 OneOrTwo o false fr us = IsOperatorBefore fr o false us
-OneOrTwo o true fr us = (x : Span × Items) × (takes (Operation operators.In) us ≡ Some x) × IsOperatorBefore fr o true x.1
+OneOrTwo o true fr us = (x : Span × Items) × (takes (Operation operators.In) us ≡ found x) × IsOperatorBefore fr o true x.1
 
 joined_there : (o : BinaryOperator) (n : Bool) (m : Mark) (s : Span) (us : Items) → joined_by o n ≡ kind_of (marked_front m s us) → OneOrTwo o n (marked_front m s us) us
 joined_there o false (Operation p) s us h = (Single p s, refl, (let e : o ≡ p = cc in sym e), refl)
 joined_there o true (Operation p) s us h = cc
 joined_there o n Not s us h = by n (takes (Operation operators.In) us) refl h
   where
-    by : (n : Bool) (r : Option (Span × Items)) → takes (Operation operators.In) us ≡ r → joined_by o n ≡ kind_of (front_not s r) → OneOrTwo o n (front_not s (takes (Operation operators.In) us)) us
-    by n None is h = cc
-    by false (Some x) is h = cc
-    by true (Some x) is h = (x, is, (NotIn s x.0, ap (front_not s) is, (let e : o ≡ operators.In = cc in sym e), refl))
+    by : (n : Bool) (r : Takes Span) → takes (Operation operators.In) us ≡ r → joined_by o n ≡ kind_of (front_not s r) → OneOrTwo o n (front_not s (takes (Operation operators.In) us)) us
+    by n (stopped z) is h = cc
+    by false (found x) is h = cc
+    by true (found x) is h = (x, is, (NotIn s x.0, ap (front_not s) is, (let e : o ≡ operators.In = cc in sym e), refl))
 joined_there o n _ s us h = cc
 
 pub operator_taken : (old new : Position) (b : Bool) → Skips old b new → SeesTwo new → (o : BinaryOperator) (n : Bool) → joined_by o n ≡ kind_of (reading.front old.left)
@@ -157,7 +159,7 @@ following : Items → Items
 following (Token t s us) = us
 following r = r
 
-not_in_unseen : (x : Span × Items) (items : Items) → takes (Operation operators.In) items ≡ Some x → Sight 2 items 0 → ⊥
+not_in_unseen : (x : Span × Items) (items : Items) → takes (Operation operators.In) items ≡ found x → Sight 2 items 0 → ⊥
 not_in_unseen x items is h = subst (λ us. Sight 2 us 0) (takes_ok (Operation operators.In) items x is) h
 
 pub not_in_taken : (fr : reading.Front) (o : BinaryOperator) (mid new : Position) (b : Bool) → OneOrTwo o true fr mid.left → Skips mid b new → SeesTwo new → IsOperatorBefore fr o true new.left

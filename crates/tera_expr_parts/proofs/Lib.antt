@@ -7,3 +7,4 @@ pub mod Constants
 pub mod ConstantMaps
 pub mod AttributesLemmas
 pub mod NamesLemmas
+pub mod RefusedLemmas

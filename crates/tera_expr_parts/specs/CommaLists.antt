@@ -9,8 +9,8 @@ use Rattle.tera_lexer.specs.grammar.Tokens.{Items}
 use Rattle.tera_ast.specs.Tree as tree
 use Rattle.tera_grammar.specs.expressions.Concrete.{Name}
 use Rattle.tera_grammar.specs.expressions.Marks.{Mark, Comma}
-use Rattle.tera_grammar.specs.Options.{◌>>=◌}
-use Rattle.tera_grammar.specs.expressions.Reading.Front.{Takes, takes, taken_name}
+use Rattle.tera_grammar.specs.Reads.{found, stopped, ◌>>=◌, Takes, StopsAt}
+use Rattle.tera_grammar.specs.expressions.Reading.Front.{takes, taken_name}
 use Rattle.tera_grammar.specs.expressions.Reading.Bracketed.{Reader}
 use Rattle.tera_grammar.specs.expressions.Reading.Loop.{expr, fresh}
 use Rattle.tera_expr_parts.specs.declared.rows.Values.{Values}
@@ -25,13 +25,13 @@ reader_of v = reader_by v.depth v.own
 
 -- After an element the row ends, at once or after a comma; or another element comes after a comma.
 abbrev pub EndsAt : Mark → Items → Position → Type 0
-EndsAt end old new = takes end old ≡ Some (new.span, new.left)
+EndsAt end old new = takes end old ≡ found (new.span, new.left)
 
 abbrev pub Continues : Mark → Items → Position → Result Bool Error → Type 0
-Continues end old new (Ok true) = (s : Span) × (takes Comma old ≡ Some (s, new.left)) × (takes end new.left ≡ None)
+Continues end old new (Ok true) = (s : Span) × (takes Comma old ≡ found (s, new.left)) × (takes end new.left ≡ stopped new.left)
 Continues end old new (Ok false) =
-    EndsAt end old new ⊎ ((s : Span) × (us : Items) × (takes Comma old ≡ Some (s, us)) × EndsAt end us new)
-Continues end old new (Err e) = IsMemory e ⊎ ((takes end old ≡ None) × (takes Comma old ≡ None))
+    EndsAt end old new ⊎ ((s : Span) × (us : Items) × (takes Comma old ≡ found (s, us)) × EndsAt end us new)
+Continues end old new (Err e) = IsMemory e ⊎ ((takes Comma old ≡ stopped old) × StopsAt (takes end old) new.left)
 
 -- whether an argument has this name, and a name that none of them has
 abbrev pub has_argument : List ℕ → tree.Args → Bool
@@ -39,4 +39,4 @@ has_argument n tree.NoArgs = false
 has_argument n (tree.Arg m e rest) = bytes_eq n m || has_argument n rest
 
 abbrev pub new_name_at : tree.Args → Items → Takes Name
-new_name_at args items = taken_name items >>= λ n. cond (has_argument n.0.text args) None (Some n)
+new_name_at args items = taken_name items >>= λ n. cond (has_argument n.0.text args) (stopped n.1) (found n)

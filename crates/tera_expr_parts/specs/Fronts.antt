@@ -11,6 +11,7 @@ use Rattle.tera_grammar.specs.expressions.Operators.{BinaryOperator}
 use Rattle.tera_grammar.specs.expressions.Marks.{Operation}
 use Rattle.tera_grammar.specs.expressions.Concrete.{Sign, Negative, Negates, Op}
 use Rattle.tera_grammar.specs.expressions.Powers.{left_of, test_power, filter_power}
+use Rattle.tera_grammar.specs.Reads.{forget}
 use Rattle.tera_grammar.specs.expressions.Reading.Front as reading
 use Rattle.tera_grammar.specs.expressions.Reading.Front.{takes}
 use Rattle.tera_grammar.specs.expressions.Stack.{operator_in, is_negated}
@@ -59,7 +60,7 @@ kind_of (reading.joins (reading.leads_condition s) ts) = chosen
 kind_of (reading.closes (reading.ends_test s) ts) = tested
 kind_of (reading.closes (reading.ends_filter s) ts) = filtered
 kind_of (reading.closes (reading.ends_subscript s) ts) = subscripted
-kind_of reading.misplaced = misplaced
+kind_of (reading.misplaced ts) = misplaced
 
 abbrev pub ending_kind : Ending → Kind
 ending_kind Test = tested
@@ -99,7 +100,7 @@ IsOperatorBefore front o n following =
     (op : Op) × (front ≡ reading.joins (reading.leads_binary op) following) × (operator_in op ≡ o) × (is_negated op ≡ n)
 
 abbrev pub second_is_in : Items → Bool
-second_is_in (Token u s ts) = is_some (takes (Operation operators.In) ts)
+second_is_in (Token u s ts) = is_some (forget (takes (Operation operators.In) ts))
 second_is_in _ = false
 
 -- what a word is, where `in` comes after it or not

@@ -1,5 +1,5 @@
 -- Constants, and what a minus before them comes to.
-use Rattle.std.specs.Prelude.{◌≡◌, ℤ, neg_ℤ, Option, Some, None, FitsSigned, Result, Ok, Err}
+use Rattle.std.specs.Prelude.{◌≡◌, ◌⊎◌, ℤ, neg_ℤ, Option, Some, None, FitsSigned, Result, Ok, Err}
 use Rattle.std.specs.Int.{w64}
 use Rattle.tera_base.specs.declared.errors.Error.{Error}
 use Rattle.tera_base.specs.Values as values
@@ -12,7 +12,7 @@ use Rattle.tera_grammar.specs.expressions.Concrete.{Lit}
 use Rattle.tera_grammar.specs.expressions.Output.{literal_value}
 use Rattle.tera_grammar.specs.expressions.Constants.{HoldsOf}
 use Rattle.tera_grammar.specs.expressions.Reading.Front.{literal_of}
-use Rattle.tera_expect.specs.Taking.{Fails}
+use Rattle.tera_base.specs.Errors.{IsMemory}
 
 -- a whole number that has a negation among the numbers of 64 bits
 abbrev pub IsNegatable : ℤ → Type 0
@@ -30,4 +30,4 @@ number_of _ = None
 -- a token that is a constant is read as it
 abbrev pub GivesLiteral : Tok → Span → Result Expression Error → Type 0
 GivesLiteral t span (Ok e) = (x : Lit) × (literal_of t ≡ Some x) × (expression_view e ≡ tree.Const (literal_value x) span)
-GivesLiteral t span (Err e) = Fails (literal_of t) e
+GivesLiteral t span (Err e) = IsMemory e ⊎ (literal_of t ≡ None)

@@ -1,7 +1,7 @@
 -- What may still open inside of an expression.
 use Rattle.std.specs.Prelude.{ℕ, Bool, true, false, Option}
 use Rattle.tera_grammar.specs.expressions.Reading.Front as front
-use Rattle.tera_grammar.specs.expressions.Reading.Bracketed as parts
+use Rattle.tera_grammar.specs.expressions.Reading.Rooms as parts
 use Rattle.tera_expr_parts.specs.declared.limits.Room.{Room}
 
 -- a test says whether something holds

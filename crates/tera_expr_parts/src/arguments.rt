@@ -24,7 +24,7 @@ pub fn argument_name<'a>(
 ) -> Result<&'a str, Error>
     ensures gives { GivesAs (name_at cursor.new.span) result cursor.new.left
         (new_name_at (args_view arguments.now.entries) cursor.old.left) }
-    ensures refusal { IfErr result (Refuses cursor.old) }
+    ensures refusal { IfErr result (Refuses cursor.old cursor.new) }
     ensures later { IfOk result (λ _. Took cursor.old cursor.new) }
 {
     let name = name(cursor)?;

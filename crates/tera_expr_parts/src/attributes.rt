@@ -16,7 +16,7 @@ use tera_tree::Expression;
 #[tactic(auto, using(tera_expect::proofs::TakingLemmas::after_tokens))]
 pub fn quote(cursor: &mut Cursor<'_>) -> Result<Expression, Error>
     ensures gives { GivesQuote result cursor.new (taken_quote cursor.old.left) }
-    ensures refusal { IfErr result (Refuses cursor.old) }
+    ensures refusal { IfErr result (Refuses cursor.old cursor.new) }
     ensures later { IfOk result (λ _. Took cursor.old cursor.new) }
 {
     let alloc = cursor.alloc();
@@ -32,7 +32,7 @@ pub fn quote(cursor: &mut Cursor<'_>) -> Result<Expression, Error>
 #[tactic(auto, using(tera_expect::proofs::TakingLemmas::after_tokens))]
 pub fn close_component(cursor: &mut Cursor<'_>) -> Result<(), Error>
     ensures gives { ClosesAt result cursor.new (closed_at cursor.old.left) }
-    ensures refusal { IfErr result (Refuses cursor.old) }
+    ensures refusal { IfErr result (Refuses cursor.old cursor.new) }
     ensures later { IfOk result (λ _. Took cursor.old cursor.new) }
 {
     if eat(cursor, Fixed::Slash) {

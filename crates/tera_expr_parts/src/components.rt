@@ -12,7 +12,7 @@ use tera_lexer::Cursor;
 #[tactic(auto, using(tera_expect::proofs::TakingLemmas::after_tokens))]
 pub fn dotted_name(cursor: &mut Cursor<'_>) -> Result<String, Error>
     ensures gives { GivesPath cursor.old.left result cursor.new.left }
-    ensures refusal { IfErr result (Refuses cursor.old) }
+    ensures refusal { IfErr result (Refuses cursor.old cursor.new) }
     ensures later { IfOk result (λ _. Took cursor.old cursor.new) }
 {
     let first = name(cursor)?;

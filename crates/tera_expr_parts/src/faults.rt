@@ -1,12 +1,14 @@
 //! The faults of expressions, in the order in which the language's document lists them.
 
-ghost use Rattle.std.specs.Prelude.{◌⊎◌};
-ghost use Rattle.tera_base.specs.Errors.{ReportsBy};
+ghost use Rattle.std.specs.Prelude.{◌≡◌, ◌⊎◌, ◌≤◌, true};
+ghost use Rattle.tera_base.specs.Errors.{IsMemory, ReportsBy};
 ghost use Rattle.tera_lexer.specs.code.Cursors.{ReportsAt};
 ghost use Rattle.tera_lexer.specs.grammar.Faults.{BeginsWith, EndsWith};
 ghost use Rattle.tera_lexer.specs.grammar.Place.{IsWithin};
+ghost use Rattle.tera_grammar.specs.expressions.Marks.{Not};
+ghost use Rattle.tera_grammar.specs.expressions.Reading.Front.{begins, begins_sign};
 ghost use Rattle.tera_expr_parts.specs.Ranges.{RunsFrom};
-ghost use Rattle.tera_expect.specs.Taking.{Refuses};
+ghost use Rattle.tera_expect.specs.Taking.{Refuses, TookFirst};
 
 use std::alloc::{AllocError, Global};
 use tera_base::{Error, Span};
@@ -16,7 +18,7 @@ use tera_tree::UnaryOperator;
 
 /// That a token begins no expression, which was taken.
 pub(crate) fn no_expression(cursor: &Cursor<'_>, token: &Token<'_>) -> Error
-    ensures { Refuses cursor.now result }
+    ensures { Refuses cursor.now cursor.now result }
 {
     let message = format!(in cursor.alloc();
         "Found {token} but expected one of: integer, string, bool, ident, `-`, `not`, `<`, `{{`, `[` or `(`"
@@ -25,9 +27,11 @@ pub(crate) fn no_expression(cursor: &Cursor<'_>, token: &Token<'_>) -> Error
 }
 
 /// That a prefix comes after a prefix; it is taken.
-#[tactic(auto, unfolding(tera_expect::specs::Taking::Refuses, tera_expect::specs::Taking::Took), using(tera_expect::proofs::TakingLemmas::refused_after))]
+#[tactic(auto, using(tera_expect::proofs::TakingLemmas::untaken_refused, tera_expect::proofs::TakingLemmas::token_refused))]
 pub fn consecutive(cursor: &mut Cursor<'_>) -> Error
-    ensures { Refuses cursor.old result }
+    ensures refusal { Refuses cursor.old cursor.new result }
+    ensures takes { begins_sign cursor.old.left ≡ true →
+        IsMemory result ⊎ TookFirst cursor.old.left cursor.new.left }
 {
     match cursor.next_or_eoi() {
         Ok((_, span)) => Error::syntax_error(
@@ -42,7 +46,9 @@ pub fn consecutive(cursor: &mut Cursor<'_>) -> Error
 /// That a `not` comes after an operand without `in`; it is taken.
 #[tactic(auto, using(tera_expect::proofs::TakingLemmas::refused_after))]
 pub fn misplaced_not(cursor: &mut Cursor<'_>) -> Error
-    ensures { Refuses cursor.old result }
+    ensures refusal { Refuses cursor.old cursor.new result }
+    ensures takes { begins Not cursor.old.left ≡ true →
+        IsMemory result ⊎ TookFirst cursor.old.left cursor.new.left }
 {
     match expect(cursor, Fixed::Not) {
         Ok(()) => fault(cursor, "`not` is only valid here as part of `not in`"),
@@ -52,7 +58,7 @@ pub fn misplaced_not(cursor: &mut Cursor<'_>) -> Error
 
 /// That a prefix comes after `~`.
 pub(crate) fn prefix_after_tilde(cursor: &Cursor<'_>, prefix: UnaryOperator) -> Error
-    ensures { Refuses cursor.now result }
+    ensures { Refuses cursor.now cursor.now result }
 {
     let message = format!(in cursor.alloc(); "`{prefix}` is not allowed after `~`");
     reported(cursor, message)
@@ -62,7 +68,7 @@ const TOO_COMPLEX: &str = "The expression is too complex";
 
 /// That more expressions or links are open than may be.
 pub fn too_complex(cursor: &Cursor<'_>) -> Error
-    ensures { Refuses cursor.now result }
+    ensures { Refuses cursor.now cursor.now result }
 {
     fault(cursor, TOO_COMPLEX)
 }
@@ -70,7 +76,9 @@ pub fn too_complex(cursor: &Cursor<'_>) -> Error
 /// That the `not` of a `not in` is where no link may come; it is taken.
 #[tactic(auto, using(tera_expect::proofs::TakingLemmas::refused_after))]
 pub(crate) fn uncounted_not(cursor: &mut Cursor<'_>) -> Error
-    ensures { Refuses cursor.old result }
+    ensures refusal { Refuses cursor.old cursor.new result }
+    ensures takes { begins Not cursor.old.left ≡ true →
+        IsMemory result ⊎ TookFirst cursor.old.left cursor.new.left }
 {
     match expect(cursor, Fixed::Not) {
         Ok(()) => too_complex(cursor),
@@ -80,7 +88,7 @@ pub(crate) fn uncounted_not(cursor: &mut Cursor<'_>) -> Error
 
 /// That more subscripts are open than may be, which are so many.
 pub(crate) fn too_many_subscripts(cursor: &Cursor<'_>, most: usize) -> Error
-    ensures { Refuses cursor.now result }
+    ensures { Refuses cursor.now cursor.now result }
 {
     let message = format!(in cursor.alloc();
         "Identifiers can only have up to {most} nested brackets."
@@ -90,7 +98,7 @@ pub(crate) fn too_many_subscripts(cursor: &Cursor<'_>, most: usize) -> Error
 
 /// That more arrays are open than may be, which are so many.
 pub(crate) fn too_many_arrays(cursor: &Cursor<'_>, most: usize) -> Error
-    ensures { Refuses cursor.now result }
+    ensures { Refuses cursor.now cursor.now result }
 {
     let message = format!(in cursor.alloc(); "Arrays can have a maximum of {most} dimensions.");
     reported(cursor, message)
@@ -99,7 +107,7 @@ pub(crate) fn too_many_arrays(cursor: &Cursor<'_>, most: usize) -> Error
 /// That an argument of this name was defined before, where the names say.
 #[tactic(auto, using(tera_expect::proofs::TakingLemmas::same_refused))]
 pub(crate) fn repeated_argument(cursor: &Cursor<'_>, name: &str, names: &[(&str, Span)]) -> Error
-    ensures { Refuses cursor.now result }
+    ensures { Refuses cursor.now cursor.now result }
 {
     let message = format!(in cursor.alloc(); "Keyword argument `{name}` is defined more than once");
     let error = reported(cursor, message);
@@ -123,7 +131,7 @@ pub(crate) fn no_key(alloc: Global, token: &Token<'_>, span: &Span) -> Error
 
 /// That a name, which was taken last, is reserved; `purpose` ends the sentence.
 pub(crate) fn reserved(cursor: &Cursor<'_>, name: &str, purpose: &str) -> Error
-    ensures { Refuses cursor.now result }
+    ensures { Refuses cursor.now cursor.now result }
 {
     let message = format!(in cursor.alloc();
         "{name} is a reserved keyword of Tera, it cannot be {purpose}"
@@ -133,7 +141,7 @@ pub(crate) fn reserved(cursor: &Cursor<'_>, name: &str, purpose: &str) -> Error
 
 /// That no name comes after the `<` of a component, which was taken last.
 pub fn no_component_name(cursor: &Cursor<'_>) -> Error
-    ensures { Refuses cursor.now result }
+    ensures { Refuses cursor.now cursor.now result }
 {
     fault(
         cursor,
@@ -143,7 +151,7 @@ pub fn no_component_name(cursor: &Cursor<'_>) -> Error
 
 /// That a token, which was taken, is not a value of an attribute.
 pub(crate) fn no_attribute_value(cursor: &Cursor<'_>, token: &Token<'_>) -> Error
-    ensures { Refuses cursor.now result }
+    ensures { Refuses cursor.now cursor.now result }
 {
     let message = format!(in cursor.alloc();
         "Expected \"string\" or {{expression}} but found {token}"
@@ -153,7 +161,7 @@ pub(crate) fn no_attribute_value(cursor: &Cursor<'_>, token: &Token<'_>) -> Erro
 
 /// That a token, which comes next, does not end a component; it is reported at the token before.
 pub(crate) fn unclosed_component(cursor: &Cursor<'_>, token: &Token<'_>) -> Error
-    ensures { Refuses cursor.now result }
+    ensures { Refuses cursor.now cursor.now result }
 {
     let message = format!(in cursor.alloc(); "Found {token} but expected `/` or `>`");
     reported(cursor, message)
@@ -161,7 +169,7 @@ pub(crate) fn unclosed_component(cursor: &Cursor<'_>, token: &Token<'_>) -> Erro
 
 /// That a component in an expression has a body; its `>` was taken last.
 pub(crate) fn component_with_body(cursor: &Cursor<'_>) -> Error
-    ensures { Refuses cursor.now result }
+    ensures { Refuses cursor.now cursor.now result }
 {
     fault(
         cursor,
@@ -186,6 +194,7 @@ pub fn up_to_last(cursor: &Cursor<'_>, first: &Span) -> Span
     ensures within { IsWithin cursor.now.source first.now → IsWithin cursor.now.source result }
     ensures starts { BeginsWith first.now result }
     ensures ends { EndsWith first.now result ⊎ EndsWith cursor.now.span result }
+    ensures reaches { cursor.now.span.range.end ≤ result.range.end }
 {
     let last = cursor.current_span();
     let mut span = first.copied();

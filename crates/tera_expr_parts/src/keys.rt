@@ -9,11 +9,11 @@ use tera_base::{Error, Key};
 use tera_lexer::{Cursor, Token};
 
 /// The key of a pair.
-#[tactic(auto, unfolding(tera_expect::specs::Taking::Took, tera_expect::specs::Taking::Refuses))]
+#[tactic(auto, unfolding(tera_expect::specs::Taking::Took), using(tera_expect::proofs::TakingLemmas::untaken_refused, tera_expect::proofs::TakingLemmas::token_refused, tera_expect::proofs::TakingLemmas::memory_refused))]
 pub fn key(cursor: &mut Cursor<'_>) -> Result<Key, Error>
     ensures gives { GivesKey result cursor.new.span cursor.new.left
         (taken_literal cursor.old.left) }
-    ensures refusal { IfErr result (Refuses cursor.old) }
+    ensures refusal { IfErr result (Refuses cursor.old cursor.new) }
     ensures later { IfOk result (λ _. Took cursor.old cursor.new) }
 {
     let alloc = cursor.alloc();

@@ -1,12 +1,14 @@
 //! How far expressions may go.
 
-ghost use Rattle.std.specs.Prelude.{◌≡◌, ◌⊎◌, ◌≤◌, IfErr, IfOk, Some, None};
+ghost use Rattle.std.specs.Prelude.{◌≡◌, ◌⊎◌, ◌≤◌, true, false, IfErr, IfOk, Some, None};
 ghost use Rattle.tera_base.specs.Errors.{IsMemory};
-ghost use Rattle.tera_grammar.specs.expressions.Reading.Bracketed.{inside_array, inside_subscript};
+ghost use Rattle.tera_grammar.specs.expressions.Marks.{Not};
+ghost use Rattle.tera_grammar.specs.expressions.Reading.Front.{begins};
+ghost use Rattle.tera_grammar.specs.expressions.Reading.Rooms.{inside_array, inside_subscript};
 ghost use Rattle.tera_grammar.specs.expressions.Reading.Whole.{widest};
 ghost use Rattle.tera_expr_parts.specs.Allowed.{limits_of};
 ghost use Rattle.tera_expr_parts.specs.Rooms.{Decides, lowered, room_of};
-ghost use Rattle.tera_expect.specs.Taking.{Refuses};
+ghost use Rattle.tera_expect.specs.Taking.{Refuses, TookFirst};
 
 use crate::faults::{too_complex, too_many_arrays, too_many_subscripts, uncounted_not};
 use tera_base::Error;
@@ -109,7 +111,7 @@ impl Room {
         ensures opens { IfOk result (λ r.
             (inside_subscript (room_of self) ≡ Some (room_of r)) × (r.scope ≡ self.scope)) }
         ensures fails { IfErr result (λ e. IsMemory e ⊎ (inside_subscript (room_of self) ≡ None)) }
-        ensures refusal { IfErr result (Refuses cursor.now) }
+        ensures refusal { IfErr result (Refuses cursor.now cursor.now) }
     {
         if self.subscripts == 0 {
             return Err(too_many_subscripts(cursor, self.scope.limits.subscripts));
@@ -126,7 +128,7 @@ impl Room {
         ensures opens { IfOk result (λ r.
             (inside_array (room_of self) ≡ Some (room_of r)) × (r.scope ≡ self.scope)) }
         ensures fails { IfErr result (λ e. IsMemory e ⊎ (inside_array (room_of self) ≡ None)) }
-        ensures refusal { IfErr result (Refuses cursor.now) }
+        ensures refusal { IfErr result (Refuses cursor.now cursor.now) }
     {
         if self.arrays == 0 {
             return Err(too_many_arrays(cursor, self.scope.limits.arrays));
@@ -142,7 +144,7 @@ impl Room {
 pub fn count_link(cursor: &Cursor<'_>, links: &mut usize) -> Result<(), Error>
     ensures counts { IfOk result (λ _. lowered links.old ≡ Some links.new) }
     ensures fails { IfErr result (λ e. IsMemory e ⊎ (lowered links.old ≡ None)) }
-    ensures refusal { IfErr result (Refuses cursor.now) }
+    ensures refusal { IfErr result (Refuses cursor.now cursor.now) }
 {
     if *links == 0 {
         return Err(too_complex(cursor));
@@ -160,8 +162,11 @@ pub fn count_operator(
 ) -> Result<(), Error>
     ensures counts { IfOk result (λ _. lowered links.old ≡ Some links.new) }
     ensures fails { IfErr result (λ e. IsMemory e ⊎ (lowered links.old ≡ None)) }
-    ensures refusal { IfErr result (Refuses cursor.old) }
+    ensures refusal { IfErr result (Refuses cursor.old cursor.new) }
     ensures stays { IfOk result (λ _. cursor.new ≡ cursor.old) }
+    ensures single { IfErr result (λ _. negated ≡ false → cursor.new ≡ cursor.old) }
+    ensures takes { IfErr result (λ e. negated ≡ true → begins Not cursor.old.left ≡ true →
+        IsMemory e ⊎ TookFirst cursor.old.left cursor.new.left) }
 {
     if negated && *links == 0 {
         return Err(uncounted_not(cursor));

@@ -5,7 +5,7 @@ ghost use Rattle.tera_grammar.specs.expressions.Reading.Atoms.{variables_of};
 ghost use Rattle.tera_grammar.specs.expressions.Reading.Front.{at};
 ghost use Rattle.tera_grammar.specs.statements.Reading.Heads.{free_name};
 ghost use Rattle.tera_expr_parts.specs.Names.{AreVariables};
-ghost use Rattle.tera_expect.specs.Taking.{GivesAs, GivesBy, Refuses, Took, name_at};
+ghost use Rattle.tera_expect.specs.Taking.{GivesAs, GivesAt, Refuses, Took, name_at};
 
 use crate::faults::reserved;
 use crate::words::is_reserved;
@@ -18,7 +18,7 @@ use tera_lexer::Cursor;
 pub fn free_name<'a>(cursor: &mut Cursor<'a>, purpose: &str) -> Result<&'a str, Error>
     ensures gives { GivesAs (name_at cursor.new.span) result cursor.new.left
         (free_name cursor.old.left) }
-    ensures refusal { IfErr result (Refuses cursor.old) }
+    ensures refusal { IfErr result (Refuses cursor.old cursor.new) }
     ensures later { IfOk result (λ _. Took cursor.old cursor.new) }
 {
     let name = name(cursor)?;
@@ -33,8 +33,8 @@ pub fn free_name<'a>(cursor: &mut Cursor<'a>, purpose: &str) -> Result<&'a str, 
 #[tactic(auto, using(tera_expect::proofs::TakingLemmas::after_tokens))]
 pub fn variables(cursor: &mut Cursor<'_>, purpose: &str) -> Result<(Option<String>, String), Error>
     ensures gives { (i : ℕ) →
-        GivesBy AreVariables result (at i cursor.new.left) (variables_of (at i cursor.old.left)) }
-    ensures refusal { IfErr result (Refuses cursor.old) }
+        GivesAt AreVariables result (at i cursor.new.left) (variables_of (at i cursor.old.left)) }
+    ensures refusal { IfErr result (Refuses cursor.old cursor.new) }
     ensures later { IfOk result (λ _. Took cursor.old cursor.new) }
 {
     let alloc = cursor.alloc();

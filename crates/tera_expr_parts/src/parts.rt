@@ -37,7 +37,7 @@ pub fn literal(cursor: &Cursor<'_>, token: Token<'_>, span: &Span) -> Result<Exp
     requires { IsCounted (seen token) }
     ensures gives { GivesLiteral (seen token.entry) span.now result }
     ensures negatable { IfOk result (λ e. MayBeNegated (expression_view e)) }
-    ensures refusal { IfErr result (Refuses cursor.now) }
+    ensures refusal { IfErr result (Refuses cursor.now cursor.now) }
 {
     let alloc = cursor.alloc();
     match token {
@@ -124,7 +124,7 @@ pub fn refuse_prefix(
         refuses (operator_of operator) (expression_view right.now) ≡ false) }
     ensures fails { IfErr result (λ e.
         IsMemory e ⊎ (refuses (operator_of operator) (expression_view right.now) ≡ true)) }
-    ensures refusal { IfErr result (Refuses cursor.now) }
+    ensures refusal { IfErr result (Refuses cursor.now cursor.now) }
 {
     match (operator, right) {
         (Operator::StrConcat, Expression::UnaryOperation(operation)) => {

@@ -44,7 +44,7 @@ impl Values {
 #[tactic(auto, using(tera_expect::proofs::TakingLemmas::on_the_way))]
 pub fn more(cursor: &mut Cursor<'_>, end: Fixed) -> Result<bool, Error>
     ensures gives { Continues (mark_of end) cursor.old.left cursor.new result }
-    ensures refusal { IfErr result (Refuses cursor.old) }
+    ensures refusal { IfErr result (Refuses cursor.old cursor.new) }
     ensures later { IfOk result (λ _. Took cursor.old cursor.new) }
 {
     if eat(cursor, end) {

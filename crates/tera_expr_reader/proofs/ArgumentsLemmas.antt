@@ -62,22 +62,22 @@ pub record Argued (l : Bool) (done : Args) (here : Span) (r : Row) : Type 0 wher
   pub ends : here ≡ row_end r
   pub distinct : are_distinct (argument_names r) ≡ true
 
-pub none_yet : (l : Bool) → Arguing l NoArgs (λ r. r)
+abbrev pub none_yet : (l : Bool) → Arguing l NoArgs (λ r. r)
 none_yet l = record { names = []; shows = λ r. refl; ends = λ r. refl; named = λ r. refl; known = λ m. refl; distinct = refl }
 
 pub none_at_all : (l : Bool) (s : Span) → Argued l NoArgs s (ended s)
 none_at_all l s = record { shows = refl; ends = refl; distinct = refl }
 
 module _ (l : Bool) (done : Args) (put : Row → Row) (a : Arguing l done put) (n : Name) (s : Span) (t : Tree) (e : Expr) (shown : e ≡ output l t) (new : has_argument n.text done ≡ false) where
-  names_with : are_distinct (a.names ++ n.text ∷ []) ≡ true
+  pub names_with : are_distinct (a.names ++ n.text ∷ []) ≡ true
   names_with = once a.names n.text a.distinct (sym (a.known n.text) ∙ new)
 
-  known_with : (m : List ℕ) → has_argument m (put_arg n.text e done) ≡ is_one_of (a.names ++ n.text ∷ []) m
+  pub known_with : (m : List ℕ) → has_argument m (put_arg n.text e done) ≡ is_one_of (a.names ++ n.text ∷ []) m
   known_with m =
       has_put m n.text e done ∙ ap (λ b. bytes_eq m n.text || b) (a.known m) ∙ or_last (is_one_of a.names m) (bytes_eq m n.text)
       ∙ sym (list_any-append (λ k. bytes_eq m k) a.names (n.text ∷ []))
 
-  pub one_more : (c : Span) → Arguing l (put_arg n.text e done) (λ r. put (then (argument n s t) c r))
+  abbrev pub one_more : (c : Span) → Arguing l (put_arg n.text e done) (λ r. put (then (argument n s t) c r))
   one_more c = record {
     names = a.names ++ n.text ∷ [];
     shows = λ r. a.shows (then (argument n s t) c r) ∙ ap (λ x. arguments_output l r (put_arg n.text x done)) (sym shown);

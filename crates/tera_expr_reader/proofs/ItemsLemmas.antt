@@ -1,5 +1,5 @@
 -- Items of an array that are read one after another.
-use Rattle.std.proofs.Common.{◌≡◌, ℕ, Bool, List, [], ◌∷◌, ◌++◌, map, Some, None, Ok, Err, refl, sym, ap, ap₂, subst, ◌∙◌}
+use Rattle.std.proofs.Common.{◌≡◌, ℕ, Bool, List, [], ◌∷◌, ◌++◌, map, Ok, Err, refl, sym, ap, ap₂, subst, ◌∙◌}
 use Rattle.tera_base.specs.declared.utils.Span.{Span}
 use Rattle.tera_base.specs.declared.errors.Error.{Error}
 use Rattle.tera_lexer.specs.code.Cursors.{Position}
@@ -14,16 +14,16 @@ use Rattle.tera_grammar.specs.expressions.Marks as marks
 use Rattle.tera_grammar.specs.expressions.Concrete.{Tree, Atomic, Array, of_items, Row, ended, only, then, Element, plain, spread, pair, argument}
 use Rattle.tera_grammar.specs.expressions.Output.{array_of, items_output, item_output, output}
 use Rattle.tera_grammar.specs.expressions.Spans.{spanning, row_end}
-use Rattle.tera_grammar.specs.Options.{◌>>=◌}
+use Rattle.tera_grammar.specs.Reads.{found, stopped, ◌>>=◌, Fails}
 use Rattle.tera_grammar.specs.expressions.Reading.Front.{Place, at, Reads, takes}
-use Rattle.tera_grammar.specs.expressions.Reading.Bracketed.{Room, Reader, item_at, element_of, after_element, row_of}
+use Rattle.tera_grammar.specs.expressions.Reading.Rooms.{Room}
+use Rattle.tera_grammar.specs.expressions.Reading.Bracketed.{Reader, item_at, element_of, after_element, row_of}
 use Rattle.tera_grammar.specs.expressions.Reading.Atoms.{items_from}
-use Rattle.tera_grammar.proofs.expressions.Fronts.{none_skip}
+use Rattle.tera_grammar.proofs.stops.Fronts.{none_skip, skip_taken}
 use Rattle.tera_expr_reader.specs.Elements.{IsItem}
 use Rattle.tera_expr_parts.specs.declared.rows.Values.{Values}
 use Rattle.tera_expr_parts.specs.CommaLists.{Continues, reader_of}
-use Rattle.tera_expect.specs.Taking.{Fails}
-use Rattle.tera_expr_reader.proofs.RowsLemmas.{Opening, Rowing, skip_taken, bind_some, element_read, element_fails, following, after_fails, fails_by}
+use Rattle.tera_expr_reader.proofs.RowsLemmas.{Opening, Rowing, bind_some, element_read, element_fails, following, after_fails, fails_by}
 
 -- an item in front of others
 abbrev pub onto_item : ArrayEntryOf Expr → Items → Items
@@ -87,26 +87,26 @@ all_of l done put a c = record { shows = onto_none done ∙ sym (a.shows (ended 
 -- an item
 module _ (f : Reader) (w : Room) (i : ℕ) (r : Left) where
   abbrev spread_made : Span → Reads Tree → Reads Element
-  spread_made s o = o >>= λ e. Some (spread s e.0, e.1)
+  spread_made s o = o >>= λ e. found (spread s e.0, e.1)
 
   abbrev plain_made : Reads Tree → Reads Element
-  plain_made o = o >>= λ e. Some (plain e.0, e.1)
+  plain_made o = o >>= λ e. found (plain e.0, e.1)
 
-  pub spread_read : (s : Span) (us : Left) (o : Reads Tree) → takes marks.Spread r ≡ Some (s, us) → f w 0 (at i us) ≡ o → element_of f w of_items (at i r) ≡ spread_made s o
+  pub spread_read : (s : Span) (us : Left) (o : Reads Tree) → takes marks.Spread r ≡ found (s, us) → f w 0 (at i us) ≡ o → element_of f w of_items (at i r) ≡ spread_made s o
   unfolding element_of
   spread_read s us o h read = ap (item_at f w (at i r)) (skip_taken marks.Spread i r us s h) ∙ ap (spread_made s) read
 
-  pub plain_read : (o : Reads Tree) → takes marks.Spread r ≡ None → f w 0 (at i r) ≡ o → element_of f w of_items (at i r) ≡ plain_made o
+  pub plain_read : (o : Reads Tree) → takes marks.Spread r ≡ stopped r → f w 0 (at i r) ≡ o → element_of f w of_items (at i r) ≡ plain_made o
   unfolding element_of
-  plain_read o h read = ap (item_at f w (at i r)) (none_skip marks.Spread i r h) ∙ ap plain_made read
+  plain_read o h read = ap (item_at f w (at i r)) (none_skip marks.Spread i r r h) ∙ ap plain_made read
 
 -- one turn of the loop, and its end
 module _ (l : Bool) (done : List (ArrayEntryOf Expression)) (v : Values) (w : Room) (whole : Reads Row) (i : ℕ) (old : Left) (o : Opening (reader_of v) w of_items whole (at i old) (Listing l done)) where
-  pub lacks_item : (e : Error) → Fails (element_of (reader_of v) w of_items (at i old)) e → Fails whole e
-  lacks_item e h = fails_by whole (element_of (reader_of v) w of_items (at i old)) e (element_fails (reader_of v) w of_items whole (at i old) (Listing l done) o) h
+  pub lacks_item : (left : Left) (e : Error) → Fails (element_of (reader_of v) w of_items (at i old)) left e → Fails whole left e
+  lacks_item left e h = fails_by whole (element_of (reader_of v) w of_items (at i old)) left e (element_fails (reader_of v) w of_items whole (at i old) (Listing l done) o) h
 
-  module _ (x : Element) (j : ℕ) (ts : Left) (read : element_of (reader_of v) w of_items (at i old) ≡ Some (x, at j ts)) where
-    pub lacks_bracket : (new : Position) (e : Error) → Continues marks.RightBracket ts new (Err e) → Fails whole e
+  module _ (x : Element) (j : ℕ) (ts : Left) (read : element_of (reader_of v) w of_items (at i old) ≡ found (x, at j ts)) where
+    pub lacks_bracket : (new : Position) (e : Error) → Continues marks.RightBracket ts new (Err e) → Fails whole new.left e
     lacks_bracket new e h = after_fails v w of_items whole o.put x j ts new e (element_read (reader_of v) w of_items whole (at i old) (Listing l done) o x (at j ts) read) h
 
     pub one_item : (new : Position) (b : Bool) → Continues marks.RightBracket ts new (Ok b) → (e : ArrayEntryOf Expression) → IsItem l e x → (with : List (ArrayEntryOf Expression)) → with ≡ done ++ e ∷ []
@@ -131,17 +131,17 @@ module _ (l : Bool) (v : Values) (w : Room) (i : ℕ) (old : Left) (x : Element)
       (λ c. one_more l [] (λ r. r) (no_items l) e x is c) (last_one l [] (λ r. r) (no_items l) e x is new.span)
       (λ c. all_of l (e ∷ []) (λ r. then x c r) (one_more l [] (λ r. r) (no_items l) e x is c) new.span))
 
-  pub first_lacks_end : (new : Position) (e : Error) → Continues marks.RightBracket old new (Err e) → Fails first_whole e
+  pub first_lacks_end : (new : Position) (e : Error) → Continues marks.RightBracket old new (Err e) → Fails first_whole new.left e
   first_lacks_end new e h = after_fails v w of_items first_whole (λ r. r) x i old new e (sym (bind_some first_whole)) h
 
 -- the array of a row
-pub array_read : (f : Reader) (w : Room) (s : Span) (x : Element) (p q : Place) (r : Row) → after_element (row_of f w of_items) of_items x p ≡ Some (r, q) → items_from f w s x p ≡ Some (Atomic (Array s r), q)
+pub array_read : (f : Reader) (w : Room) (s : Span) (x : Element) (p q : Place) (r : Row) → after_element (row_of f w of_items) of_items x p ≡ found (r, q) → items_from f w s x p ≡ found (Atomic (Array s r), q)
 unfolding items_from
-array_read f w s x p q r h = ap (λ o. o >>= λ r. Some (Atomic (Array s r.0), r.1)) h
+array_read f w s x p q r h = ap (λ o. o >>= λ r. found (Atomic (Array s r.0), r.1)) h
 
-pub array_missed : (f : Reader) (w : Room) (s : Span) (x : Element) (p : Place) (e : Error) → Fails (after_element (row_of f w of_items) of_items x p) e → Fails (items_from f w s x p) e
+pub array_missed : (f : Reader) (w : Room) (s : Span) (x : Element) (p : Place) (left : Left) (e : Error) → Fails (after_element (row_of f w of_items) of_items x p) left e → Fails (items_from f w s x p) left e
 unfolding items_from
-array_missed f w s x p e h = fails_by (items_from f w s x p) (after_element (row_of f w of_items) of_items x p) e (λ none. ap (λ o. o >>= λ r. Some (Atomic (Array s r.0), r.1)) none) h
+array_missed f w s x p left e h = fails_by (items_from f w s x p) (after_element (row_of f w of_items) of_items x p) left e (λ z none. ap (λ o. o >>= λ r. found (Atomic (Array s r.0), r.1)) none) h
 
 -- what an array of items that were read comes to
 pub array_shown : (l : Bool) (done : List (ArrayEntryOf Expression)) (first here : Span) (r : Row) → Listed l done here r → (span : Span) → span ≡ spanning first here

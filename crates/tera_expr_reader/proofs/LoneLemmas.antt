@@ -16,10 +16,16 @@ use Rattle.tera_grammar.specs.Options.{◌>>=◌}
 use Rattle.tera_grammar.specs.expressions.Marks.{RightParen, RightBracket, RightBrace, Comma, Colon}
 use Rattle.tera_grammar.specs.expressions.Concrete.{Lit, Number, Quoted, Simple, Escaped, Truth, Tree, Atomic, Chain, Literal, no_links, literal_token}
 use Rattle.tera_grammar.specs.expressions.Output.{output}
-use Rattle.tera_grammar.specs.expressions.Reading.Front.{at, skip}
-use Rattle.tera_grammar.specs.expressions.Reading.Bracketed.{Room, links_by, links_of}
-use Rattle.tera_grammar.specs.expressions.Reading.Atoms.{chain_of, word_head}
-use Rattle.tera_grammar.specs.expressions.Reading.Loop.{expr, loop_by, step}
+use Rattle.tera_grammar.specs.expressions.Reading.Front.{at}
+use Rattle.tera_grammar.proofs.plain.expressions.Reading.Front.{skip}
+use Rattle.tera_grammar.specs.expressions.Reading.Rooms.{Room}
+use Rattle.tera_grammar.proofs.plain.expressions.Reading.Bracketed.{links_by, links_of}
+use Rattle.tera_grammar.proofs.plain.expressions.Reading.Atoms.{chain_of, word_head}
+use Rattle.tera_grammar.proofs.plain.expressions.Reading.Loop.{expr, loop_by, step}
+use Rattle.tera_grammar.specs.Reads.{found}
+use Rattle.tera_grammar.specs.expressions.Reading.Loop.{expr as read_expr}
+use Rattle.tera_grammar.proofs.stops.Forget.{expr_forget}
+use Rattle.tera_grammar.proofs.Readings.{found_of}
 use Rattle.tera_grammar.proofs.Options.{bound, bytes_same, or_false}
 use Rattle.tera_grammar.proofs.expressions.Fronts.{Ends, ends_mark, ends_stop, fails_ok, holds_ok}
 use Rattle.tera_expr_parts.proofs.FrontsLemmas.{took_token}
@@ -73,17 +79,23 @@ module _ (d : ℕ) (w : Room) (m k : ℕ) (s : Span) (us : Items) (ends : Ends u
   leaf_read _ e h = cc
 
 -- what is read where an expression of one token is
-pub lone_read : (d : ℕ) (w : Room) (m k : ℕ) (ts us : Items) (e : Expr) → lone_of d ts ≡ Some (e, us)
+lone_plainly : (d : ℕ) (w : Room) (m k : ℕ) (ts us : Items) (e : Expr) → lone_of d ts ≡ Some (e, us)
     → (r : Tree) × (expr d w m (at k ts) ≡ Some (r, at k us)) × (e ≡ output w.in_loop r)
-lone_read zero w m k ts us e h = cc
-lone_read (suc d) w m k Ended us e h = cc
-lone_read (suc d) w m k (Failed text span) us e h = cc
-lone_read (suc d) w m k (Token t s vs) us e h =
+lone_plainly zero w m k ts us e h = cc
+lone_plainly (suc d) w m k Ended us e h = cc
+lone_plainly (suc d) w m k (Failed text span) us e h = cc
+lone_plainly (suc d) w m k (Token t s vs) us e h =
     let (stop, leaf) = holds_ok (begins_stop vs) (leaf_at (Token t s vs)) (e, us) h in
     bound (leaf_of t s) (λ x. Some (x, vs)) (e, us) leaf (λ x is made.
     let same : (x, vs) ≡ (e, us) = same_Some _ _ made in
     subst (λ (y : Expr × Items). (r : Tree) × (expr (suc d) w m (at k (Token t s vs)) ≡ Some (r, at k y.1)) × (y.0 ≡ output w.in_loop r)) same
     (leaf_read d w m k s vs (stop_ends vs stop) t x is))
+
+pub lone_read : (d : ℕ) (w : Room) (m k : ℕ) (ts us : Items) (e : Expr) → lone_of d ts ≡ Some (e, us)
+    → (r : Tree) × (read_expr d w m (at k ts) ≡ found (r, at k us)) × (e ≡ output w.in_loop r)
+lone_read d w m k ts us e h =
+    let (r, read, shows) = lone_plainly d w m k ts us e h in
+    (r, found_of _ _ (expr_forget d w m (at k ts) ∙ read), shows)
 
 -- one token, seen and then taken
 one_token : (ts us vs ws : Items) (t u v : Tok) (s q r : Span) → ts ≡ Token t q vs → ts ≡ Token u s ws → ts ≡ Token v r us → ts ≡ Token t s us

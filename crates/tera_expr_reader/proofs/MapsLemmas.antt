@@ -1,5 +1,5 @@
 -- Entries of a map that are read one after another.
-use Rattle.std.proofs.Common.{◌≡◌, ℕ, Bool, List, [], ◌∷◌, ◌++◌, map, inl, Some, None, Result, Ok, Err, refl, sym, ap, ap₂, subst, ◌∙◌}
+use Rattle.std.proofs.Common.{◌≡◌, ℕ, Bool, List, [], ◌∷◌, ◌++◌, map, inl, Result, Ok, Err, refl, sym, ap, ap₂, subst, ◌∙◌}
 use Rattle.std.specs.Prelude.{IfOk, IfErr}
 use Rattle.tera_base.specs.Errors.{IsMemory}
 use Rattle.tera_base.specs.ValueView.{key_view}
@@ -18,18 +18,18 @@ use Rattle.tera_grammar.specs.expressions.Marks.{Colon}
 use Rattle.tera_grammar.specs.expressions.Concrete.{Lit, Tree, Atomic, Map, of_entries, Row, ended, only, then, Element, plain, spread, pair, argument}
 use Rattle.tera_grammar.specs.expressions.Output.{map_of, entries_output, entry_output, output}
 use Rattle.tera_grammar.specs.expressions.Spans.{spanning, row_end}
-use Rattle.tera_grammar.specs.Options.{◌>>=◌}
+use Rattle.tera_grammar.specs.Reads.{found, stopped, ◌>>=◌, Fails}
 use Rattle.tera_grammar.specs.expressions.Reading.Front.{Place, at, Reads, takes, moved, skip, literal_at}
-use Rattle.tera_grammar.specs.expressions.Reading.Bracketed.{Room, Reader, entry_at, element_of, row_of}
+use Rattle.tera_grammar.specs.expressions.Reading.Rooms.{Room}
+use Rattle.tera_grammar.specs.expressions.Reading.Bracketed.{Reader, entry_at, element_of, row_of}
 use Rattle.tera_grammar.specs.expressions.Reading.Atoms as atoms
 use Rattle.tera_grammar.specs.expressions.Stack.{HeadGives}
-use Rattle.tera_grammar.proofs.expressions.Fronts.{none_skip}
+use Rattle.tera_grammar.proofs.stops.Fronts.{none_skip, skip_taken}
 use Rattle.tera_expr_reader.specs.Elements.{IsEntry}
 use Rattle.tera_expr_parts.specs.Keys.{taken_literal}
 use Rattle.tera_expr_parts.specs.declared.rows.Values.{Values}
 use Rattle.tera_expr_parts.specs.CommaLists.{Continues, reader_of}
-use Rattle.tera_expect.specs.Taking.{Fails}
-use Rattle.tera_expr_reader.proofs.RowsLemmas.{Opening, Rowing, skip_taken, element_read, element_fails, following, after_fails, fails_by}
+use Rattle.tera_expr_reader.proofs.RowsLemmas.{Opening, Rowing, element_read, element_fails, following, after_fails, fails_by}
 
 -- an entry in front of others
 abbrev pub onto_entry : MapEntryOf Expr → Entries → Entries
@@ -96,46 +96,46 @@ all_of l done put a c = record { shows = onto_none done ∙ sym (a.shows (ended 
 -- an entry
 module _ (f : Reader) (w : Room) (i : ℕ) (r : Left) where
   abbrev spread_made : Span → Reads Tree → Reads Element
-  spread_made s o = o >>= λ e. Some (spread s e.0, e.1)
+  spread_made s o = o >>= λ e. found (spread s e.0, e.1)
 
-  pub spread_read : (s : Span) (us : Left) (o : Reads Tree) → takes marks.Spread r ≡ Some (s, us) → f w 0 (at i us) ≡ o → element_of f w of_entries (at i r) ≡ spread_made s o
+  pub spread_read : (s : Span) (us : Left) (o : Reads Tree) → takes marks.Spread r ≡ found (s, us) → f w 0 (at i us) ≡ o → element_of f w of_entries (at i r) ≡ spread_made s o
   unfolding element_of
   spread_read s us o h read = ap (entry_at f w (at i r)) (skip_taken marks.Spread i r us s h) ∙ ap (spread_made s) read
 
-  module _ (mark : takes marks.Spread r ≡ None) where
+  module _ (mark : takes marks.Spread r ≡ stopped r) where
     abbrev keyed : Reads (Lit × Span) → Reads Element
-    keyed o = o >>= λ l. skip Colon l.1 >>= λ s. f w 0 s.1 >>= λ e. Some (pair l.0.0 l.0.1 s.0 e.0, e.1)
+    keyed o = o >>= λ l. skip Colon l.1 >>= λ s. f w 0 s.1 >>= λ e. found (pair l.0.0 l.0.1 s.0 e.0, e.1)
 
     by_key : element_of f w of_entries (at i r) ≡ keyed (moved i (taken_literal r))
     unfolding element_of literal_at
-    by_key = ap (entry_at f w (at i r)) (none_skip marks.Spread i r mark)
+    by_key = ap (entry_at f w (at i r)) (none_skip marks.Spread i r r mark)
 
-    pub no_key : taken_literal r ≡ None → element_of f w of_entries (at i r) ≡ None
-    no_key h = by_key ∙ ap (λ o. keyed (moved i o)) h
+    pub no_key : (z : Left) → taken_literal r ≡ stopped z → element_of f w of_entries (at i r) ≡ stopped z
+    no_key z h = by_key ∙ ap (λ o. keyed (moved i o)) h
 
-    module _ (x : Lit × Span) (us : Left) (key : taken_literal r ≡ Some (x, us)) where
+    module _ (x : Lit × Span) (us : Left) (key : taken_literal r ≡ found (x, us)) where
       abbrev parted : Reads Span → Reads Element
-      parted o = o >>= λ s. f w 0 s.1 >>= λ e. Some (pair x.0 x.1 s.0 e.0, e.1)
+      parted o = o >>= λ s. f w 0 s.1 >>= λ e. found (pair x.0 x.1 s.0 e.0, e.1)
 
       abbrev valued : Span → Reads Tree → Reads Element
-      valued s o = o >>= λ e. Some (pair x.0 x.1 s e.0, e.1)
+      valued s o = o >>= λ e. found (pair x.0 x.1 s e.0, e.1)
 
       after_key : element_of f w of_entries (at i r) ≡ parted (skip Colon (at i us))
       after_key = by_key ∙ ap (λ o. keyed (moved i o)) key
 
-      pub no_colon : takes Colon us ≡ None → element_of f w of_entries (at i r) ≡ None
-      no_colon h = after_key ∙ ap parted (none_skip Colon i us h)
+      pub no_colon : (z : Left) → takes Colon us ≡ stopped z → element_of f w of_entries (at i r) ≡ stopped z
+      no_colon z h = after_key ∙ ap parted (none_skip Colon i us z h)
 
-      pub pair_read : (s : Span) (vs : Left) (o : Reads Tree) → takes Colon us ≡ Some (s, vs) → f w 0 (at i vs) ≡ o → element_of f w of_entries (at i r) ≡ valued s o
+      pub pair_read : (s : Span) (vs : Left) (o : Reads Tree) → takes Colon us ≡ found (s, vs) → f w 0 (at i vs) ≡ o → element_of f w of_entries (at i r) ≡ valued s o
       pair_read s vs o colon read = after_key ∙ ap parted (skip_taken Colon i us vs s colon) ∙ ap (valued s) read
 
 -- one turn of the loop, and its end
 module _ (l : Bool) (done : List (MapEntryOf Expression)) (v : Values) (w : Room) (whole : Reads Row) (i : ℕ) (old : Left) (o : Opening (reader_of v) w of_entries whole (at i old) (Pairing l done)) where
-  pub lacks_entry : (e : Error) → Fails (element_of (reader_of v) w of_entries (at i old)) e → Fails whole e
-  lacks_entry e h = fails_by whole (element_of (reader_of v) w of_entries (at i old)) e (element_fails (reader_of v) w of_entries whole (at i old) (Pairing l done) o) h
+  pub lacks_entry : (left : Left) (e : Error) → Fails (element_of (reader_of v) w of_entries (at i old)) left e → Fails whole left e
+  lacks_entry left e h = fails_by whole (element_of (reader_of v) w of_entries (at i old)) left e (element_fails (reader_of v) w of_entries whole (at i old) (Pairing l done) o) h
 
-  module _ (x : Element) (j : ℕ) (ts : Left) (read : element_of (reader_of v) w of_entries (at i old) ≡ Some (x, at j ts)) where
-    pub lacks_end : (new : Position) (e : Error) → Continues marks.RightBrace ts new (Err e) → Fails whole e
+  module _ (x : Element) (j : ℕ) (ts : Left) (read : element_of (reader_of v) w of_entries (at i old) ≡ found (x, at j ts)) where
+    pub lacks_end : (new : Position) (e : Error) → Continues marks.RightBrace ts new (Err e) → Fails whole new.left e
     lacks_end new e h = after_fails v w of_entries whole o.put x j ts new e (element_read (reader_of v) w of_entries whole (at i old) (Pairing l done) o x (at j ts) read) h
 
     pub one_entry : (new : Position) (b : Bool) → Continues marks.RightBrace ts new (Ok b) → (e : MapEntryOf Expression) → IsEntry l e x → (with : List (MapEntryOf Expression)) → with ≡ done ++ e ∷ []
@@ -148,13 +148,13 @@ module _ (l : Bool) (done : List (MapEntryOf Expression)) (v : Values) (w : Room
         (λ c. all_of l (done ++ e ∷ []) (λ r. o.put (then x c r)) (one_more l done o.put o.keeps e x is c) new.span))
 
 -- the map of a row
-map_read : (f : Reader) (w : Room) (s : Span) (p q : Place) (r : Row) → row_of f w of_entries p ≡ Some (r, q) → atoms.map_of f w s p ≡ Some (Atomic (Map s r), q)
+map_read : (f : Reader) (w : Room) (s : Span) (p q : Place) (r : Row) → row_of f w of_entries p ≡ found (r, q) → atoms.map_of f w s p ≡ found (Atomic (Map s r), q)
 unfolding atoms.map_of
-map_read f w s p q r h = ap (λ o. o >>= λ r. Some (Atomic (Map s r.0), r.1)) h
+map_read f w s p q r h = ap (λ o. o >>= λ r. found (Atomic (Map s r.0), r.1)) h
 
-pub map_missed : (f : Reader) (w : Room) (s : Span) (p : Place) (e : Error) → Fails (row_of f w of_entries p) e → Fails (atoms.map_of f w s p) e
+pub map_missed : (f : Reader) (w : Room) (s : Span) (p : Place) (left : Left) (e : Error) → Fails (row_of f w of_entries p) left e → Fails (atoms.map_of f w s p) left e
 unfolding atoms.map_of
-map_missed f w s p e h = fails_by (atoms.map_of f w s p) (row_of f w of_entries p) e (λ none. ap (λ o. o >>= λ r. Some (Atomic (Map s r.0), r.1)) none) h
+map_missed f w s p left e h = fails_by (atoms.map_of f w s p) (row_of f w of_entries p) left e (λ z none. ap (λ o. o >>= λ r. found (Atomic (Map s r.0), r.1)) none) h
 
 -- what a map of entries that were read comes to
 map_shown : (l : Bool) (done : List (MapEntryOf Expression)) (first here : Span) (r : Row) → Paired l done here r → (span : Span) → span ≡ spanning first here
@@ -162,7 +162,7 @@ map_shown : (l : Bool) (done : List (MapEntryOf Expression)) (first here : Span)
 map_shown l done first here r h span same = ap₂ map_of h.shows (same ∙ ap (spanning first) h.ends)
 
 pub map_given : (l : Bool) (f : Reader) (w : Room) (first here : Span) (p q : Place) (done : List (MapEntryOf Expression)) (r : Row) (span : Span) (result : Result Expression Error)
-    → row_of f w of_entries p ≡ Some (r, q) → Paired l done here r → span ≡ spanning first here
+    → row_of f w of_entries p ≡ found (r, q) → Paired l done here r → span ≡ spanning first here
     → IfOk result (λ e. expression_view e ≡ map_of (entries_view done) span) → IfErr result IsMemory → HeadGives expression_view l result here q (atoms.map_of f w first p)
 map_given l f w first here p q done r span (Ok e) read paired same gives memory =
     (Atomic (Map first r), map_read f w first p q r read, gives ∙ map_shown l done first here r paired span same, paired.ends)

@@ -1,5 +1,5 @@
 -- What outermost calls read with links, as it is read of tokens alone.
-use Rattle.std.proofs.Common.{◌≡◌, inl, inr, ℕ, Bool, Some, Result, Ok, Err, refl, ap, ◌∙◌}
+use Rattle.std.proofs.Common.{◌≡◌, ℕ, Bool, Result, Ok, Err, refl, ap, ◌∙◌}
 use Rattle.std.specs.Prelude.{String, Vec}
 use Rattle.std.specs.declared.alloc.Global.{Global}
 use Rattle.std.specs.BTreeMap.{BTreeMap}
@@ -15,7 +15,7 @@ use Rattle.tera_ast.specs.View.{expression_view}
 use Rattle.tera_ast.specs.declared.ast.Expression.{Expression}
 use Rattle.tera_ast.specs.declared.ast.MapEntryOf.{MapEntryOf}
 use Rattle.tera_grammar.specs.Limits.{Limits}
-use Rattle.tera_grammar.specs.Options.{◌>>=◌}
+use Rattle.tera_grammar.specs.Reads.{found, ◌>>=◌, Fails}
 use Rattle.tera_grammar.specs.expressions.Marks.{LeftParen}
 use Rattle.tera_grammar.specs.expressions.Companions.{Filtering, Opened}
 use Rattle.tera_grammar.specs.expressions.Output.{args_output}
@@ -25,11 +25,12 @@ use Rattle.tera_grammar.specs.expressions.Reading.Bracketed.{arguments_of, attri
 use Rattle.tera_grammar.specs.expressions.Reading.Loop.{expr}
 use Rattle.tera_grammar.specs.expressions.Reading.Whole.{kwargs_of, left_over, outermost, widest}
 use Rattle.tera_grammar.specs.expressions.Stack.{Gives}
+use Rattle.tera_grammar.proofs.Readings.{fails_as}
 use Rattle.tera_grammar.specs.statements.Expressions as parts
 use Rattle.tera_grammar.specs.statements.Expressions.{LiteralArray, LiteralMap}
 use Rattle.tera_grammar.specs.statements.Reading.Expressions as readings
 use Rattle.tera_grammar.specs.statements.Reading.Expressions.{array_of, map_of}
-use Rattle.tera_expect.specs.Taking.{Fails, GivesBy}
+use Rattle.tera_expect.specs.Taking.{GivesAt, GivesBy}
 use Rattle.tera_expr_parts.specs.Paths.{GivesPath}
 use Rattle.tera_expr_reader.specs.Attributes.{ListsAttributes}
 use Rattle.tera_expr_reader.specs.Calls as calls
@@ -38,10 +39,9 @@ use Rattle.tera_expr_reader.specs.Outermost.{AreAttributes, AreKwargs, IsArray, 
 use Rattle.tera_expect.proofs.Steps.{failed, failed_as, skipped, unskipped}
 
 -- the links that are left are forgotten
-alone : {E T : Type 0} (Is : E → T → Type 0) (r : Result E Error) (k : ℕ) (new : Items) (read : Reads T) → GivesBy Is r (at k new) read → GivesBy Is r new (left_over read)
+alone : {E T : Type 0} (Is : E → T → Type 0) (r : Result E Error) (k : ℕ) (new : Items) (read : Reads T) → GivesAt Is r (at k new) read → GivesBy Is r new (left_over read)
 alone Is (Ok e) k new read (t, is, shows) = (t, ap left_over is, shows)
-alone Is (Err e) k new read (inl memory) = inl memory
-alone Is (Err e) k new read (inr none) = inr (ap left_over none)
+alone Is (Err e) k new read h = fails_as read (left_over read) new e (λ z none. ap left_over none) h
 
 module _ (limits : Limits) (l : Bool) (old new : Items) (k : ℕ) where
   -- an expression
@@ -55,7 +55,7 @@ module _ (limits : Limits) (l : Bool) (old new : Items) (k : ℕ) where
 
   -- attributes
   pub attributes_alone : (r : Result (Vec (MapEntryOf Expression) Global) Error)
-      → GivesBy (ListsAttributes l) r (at k new) (attributes_of (outermost limits) (widest limits l) (at 0 old))
+      → GivesAt (ListsAttributes l) r (at k new) (attributes_of (outermost limits) (widest limits l) (at 0 old))
       → GivesBy (λ (es : Vec (MapEntryOf Expression) Global) a. AreAttributes l es.items a) r new (readings.attributes_of limits l old)
   unfolding readings.attributes_of parts.attributes_output
   attributes_alone r gives = alone (ListsAttributes l) r k new (attributes_of (outermost limits) (widest limits l) (at 0 old)) gives
@@ -65,26 +65,26 @@ module _ (limits : Limits) (l : Bool) (old new : Items) (k : ℕ) where
   ShowArguments m x = AreKwargs l m.entries x
 
   abbrev after_paren : Reads Span → Reads Opened
-  after_paren o = o >>= λ s. arguments_of (outermost limits) (widest limits l) s.1 >>= λ r. Some (record { mark = s.0; row = r.0 }, r.1)
+  after_paren o = o >>= λ s. arguments_of (outermost limits) (widest limits l) s.1 >>= λ r. found (record { mark = s.0; row = r.0 }, r.1)
 
   abbrev kwargs_read : Reads Opened
   kwargs_read = after_paren (skip LeftParen (at 0 old))
 
-  pub no_paren : (e : Error) → Fails (takes LeftParen old) e → Fails (kwargs_of limits l old) e
+  pub no_paren : (e : Error) → Fails (takes LeftParen old) new e → Fails (kwargs_of limits l old) new e
   unfolding kwargs_of
   no_paren e h =
       alone ShowArguments (Err e) k new kwargs_read
-      (failed (skip LeftParen (at 0 old)) _ e (failed_as (takes LeftParen old) (skip LeftParen (at 0 old)) e (unskipped LeftParen 0 old) h))
+      (failed (skip LeftParen (at 0 old)) _ new e (failed_as (takes LeftParen old) (skip LeftParen (at 0 old)) new e (unskipped LeftParen 0 old) h))
 
-  kwargs_by : (mid : Items) (span here : Span) (r : Result (BTreeMap (String Global) Expression) Error) → takes LeftParen old ≡ Some (span, mid)
-      → GivesBy (AreArguments l here) r (at k new) (arguments_of (outermost limits) (widest limits l) (at 0 mid)) → GivesBy ShowArguments r (at k new) kwargs_read
+  kwargs_by : (mid : Items) (span here : Span) (r : Result (BTreeMap (String Global) Expression) Error) → takes LeftParen old ≡ found (span, mid)
+      → GivesAt (AreArguments l here) r (at k new) (arguments_of (outermost limits) (widest limits l) (at 0 mid)) → GivesAt ShowArguments r (at k new) kwargs_read
   kwargs_by mid span here (Ok m) paren (row, read, shows) =
       (record { mark = span; row = row }, rw (skipped LeftParen 0 old mid span paren, read) refl, shows.0)
-  kwargs_by mid span here (Err e) paren (inl memory) = inl memory
-  kwargs_by mid span here (Err e) paren (inr none) = inr (rw (skipped LeftParen 0 old mid span paren, none) refl)
+  kwargs_by mid span here (Err e) paren h =
+      failed_as (arguments_of (outermost limits) (widest limits l) (at 0 mid)) kwargs_read new e (λ z none. rw (skipped LeftParen 0 old mid span paren, none) refl) h
 
-  pub kwargs_alone : (mid : Items) (span here : Span) (r : Result (BTreeMap (String Global) Expression) Error) → takes LeftParen old ≡ Some (span, mid)
-      → GivesBy (AreArguments l here) r (at k new) (arguments_of (outermost limits) (widest limits l) (at 0 mid)) → GivesBy ShowArguments r new (kwargs_of limits l old)
+  pub kwargs_alone : (mid : Items) (span here : Span) (r : Result (BTreeMap (String Global) Expression) Error) → takes LeftParen old ≡ found (span, mid)
+      → GivesAt (AreArguments l here) r (at k new) (arguments_of (outermost limits) (widest limits l) (at 0 mid)) → GivesBy ShowArguments r new (kwargs_of limits l old)
   unfolding kwargs_of
   kwargs_alone mid span here r paren gives = alone ShowArguments r k new kwargs_read (kwargs_by mid span here r paren gives)
 
@@ -93,14 +93,14 @@ module _ (limits : Limits) (l : Bool) (old new : Items) (k : ℕ) where
   filter_read = call_of (outermost limits) (widest limits l) (at 0 old)
 
   filter_by : (span : Span) (input : Expr) (here : Span) (r : Result Expression Error) → input ≡ tree.Const values.Nothing span
-      → GivesBy (calls.IsFilter l input here) r (at k new) filter_read → GivesBy (IsFilter l span) r (at k new) filter_read
+      → GivesAt (calls.IsFilter l input here) r (at k new) filter_read → GivesAt (IsFilter l span) r (at k new) filter_read
   unfolding parts.filter_output
   filter_by span input here (Ok e) is (x, read, shows) =
       (x, read, shows.0 ∙ ap (λ i. tree.Filter i x.name.text (args_output l x.args) (spanning x.name.span (args_end x.name x.args))) is)
   filter_by span input here (Err e) is h = h
 
   pub filter_alone : (span : Span) (input : Expr) (here : Span) (r : Result Expression Error) → input ≡ tree.Const values.Nothing span
-      → GivesBy (calls.IsFilter l input here) r (at k new) filter_read → GivesBy (IsFilter l span) r new (readings.filter_of limits l old)
+      → GivesAt (calls.IsFilter l input here) r (at k new) filter_read → GivesBy (IsFilter l span) r new (readings.filter_of limits l old)
   unfolding readings.filter_of
   filter_alone span input here r is gives = alone (IsFilter l span) r k new filter_read (filter_by span input here r is gives)
 
@@ -111,12 +111,12 @@ component_alone old new (Ok s) gives = gives
 component_alone old new (Err e) gives = gives
 
 -- a constant array, and a constant map
-pub array_given : (limits : Limits) (old new : Items) (v : Value) → (x : LiteralArray) × (array_of limits old ≡ Some (x, new)) × (value_view v ≡ values.Array x.1)
+pub array_given : (limits : Limits) (old new : Items) (v : Value) → (x : LiteralArray) × (array_of limits old ≡ found (x, new)) × (value_view v ≡ values.Array x.1)
     → GivesBy IsArray (Ok v) new (array_of limits old)
 unfolding parts.array_output
 array_given limits old new v given = given
 
-pub map_given : (limits : Limits) (old new : Items) (v : Value) → (x : LiteralMap) × (map_of limits old ≡ Some (x, new)) × (value_view v ≡ values.Map x.1)
+pub map_given : (limits : Limits) (old new : Items) (v : Value) → (x : LiteralMap) × (map_of limits old ≡ found (x, new)) × (value_view v ≡ values.Map x.1)
     → GivesBy IsMap (Ok v) new (map_of limits old)
 unfolding parts.map_output
 map_given limits old new v given = given

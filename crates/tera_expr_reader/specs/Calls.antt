@@ -1,5 +1,5 @@
 -- Names with arguments, of tests and filters.
-use Rattle.std.specs.Prelude.{◌≡◌, Bool, Some, String, string_bytes}
+use Rattle.std.specs.Prelude.{◌≡◌, Bool, String, string_bytes}
 use Rattle.std.specs.declared.alloc.Global.{Global}
 use Rattle.std.specs.BTreeMap.{BTreeMap}
 use Rattle.tera_base.specs.declared.utils.Span.{Span}
@@ -7,13 +7,14 @@ use Rattle.tera_ast.specs.Tree as tree
 use Rattle.tera_ast.specs.Tree.{Expr}
 use Rattle.tera_ast.specs.View.{args_view, expression_view}
 use Rattle.tera_ast.specs.declared.ast.Expression.{Expression}
-use Rattle.tera_grammar.specs.Options.{◌>>=◌}
+use Rattle.tera_grammar.specs.Reads.{found, ◌>>=◌}
 use Rattle.tera_grammar.specs.expressions.Concrete.{Name, Args, Row}
 use Rattle.tera_grammar.specs.expressions.Companions.{Filtering}
 use Rattle.tera_grammar.specs.expressions.Spans.{spanning, args_end, row_end}
 use Rattle.tera_grammar.specs.expressions.Output.{args_output, arguments_output}
 use Rattle.tera_grammar.specs.expressions.Reading.Front.{Place, Reads, name_of}
-use Rattle.tera_grammar.specs.expressions.Reading.Bracketed.{Room, Reader, args_of}
+use Rattle.tera_grammar.specs.expressions.Reading.Rooms.{Room}
+use Rattle.tera_grammar.specs.expressions.Reading.Bracketed.{Reader, args_of}
 use Rattle.tera_expr_reader.specs.declared.calls.Call.{Call}
 
 -- a name with its arguments
@@ -21,7 +22,7 @@ abbrev pub filtering : Name → Args → Filtering
 filtering n g = record { name = n; args = g }
 
 abbrev pub call_of : Reader → Room → Place → Reads Filtering
-call_of f w p = name_of p >>= λ n. args_of f w n.1 >>= λ g. Some (filtering n.0 g.0, g.1)
+call_of f w p = name_of p >>= λ n. args_of f w n.1 >>= λ g. found (filtering n.0 g.0, g.1)
 
 -- its last token
 abbrev pub call_end : Filtering → Span

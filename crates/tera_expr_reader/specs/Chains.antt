@@ -1,5 +1,5 @@
 -- Subscripts, and the links of chains.
-use Rattle.std.specs.Prelude.{◌≡◌, ◌⊎◌, Bool, true, false, cond, Option, Some, None, Result, Ok, Err}
+use Rattle.std.specs.Prelude.{◌≡◌, ◌⊎◌, Bool, true, false, cond, Option, Result, Ok, Err}
 use Rattle.tera_base.specs.Errors.{IsMemory}
 use Rattle.tera_base.specs.declared.errors.Error.{Error}
 use Rattle.tera_base.specs.declared.utils.Span.{Span}
@@ -9,14 +9,13 @@ use Rattle.tera_ast.specs.Tree as tree
 use Rattle.tera_ast.specs.Tree.{Expr}
 use Rattle.tera_ast.specs.View.{expression_view, maybe_view}
 use Rattle.tera_ast.specs.declared.ast.Expression.{Expression}
-use Rattle.tera_grammar.specs.Options.{◌>>=◌}
+use Rattle.tera_grammar.specs.Reads.{found, stopped, ◌>>=◌, Takes, StopsAt, Fails}
 use Rattle.tera_grammar.specs.expressions.Concrete.{Name, Joint, plain_dot, optional_dot, plain_bracket, optional_bracket, Sub, Part, Links, no_links, Row}
 use Rattle.tera_grammar.specs.expressions.Conditions.{is_field_of}
 use Rattle.tera_grammar.specs.expressions.Spans.{spanning, sub_end, links_end, row_end}
 use Rattle.tera_grammar.specs.expressions.Output.{place_of, of_loop, is_optional_joint, field_output, sub_output, part_output, links_output, arguments_output}
 use Rattle.tera_grammar.specs.expressions.Reading.Front as reading
-use Rattle.tera_grammar.specs.expressions.Reading.Front.{Place, Reads, Takes, taken_name}
-use Rattle.tera_expect.specs.Taking.{Fails}
+use Rattle.tera_grammar.specs.expressions.Reading.Front.{Place, Reads, taken_name}
 use Rattle.tera_expr_reader.specs.declared.subscripts.Subscript.{Subscript}
 use Rattle.tera_expr_reader.specs.declared.subscripts.Subscript.TheVariants.{Index, Slice}
 use Rattle.tera_expr_reader.specs.declared.chains.Link.{Link}
@@ -55,27 +54,28 @@ LinkAt (reading.bracketed (optional_bracket s) us) here left = (s ≡ here) × (
 
 -- the name of a field; of a loop it is one of five
 abbrev pub taken_field : Bool → Items → Takes Name
-taken_field c ts = taken_name ts >>= λ n. cond (is_field_of c n.0.text) (Some n) None
+taken_field c ts = taken_name ts >>= λ n. cond (is_field_of c n.0.text) (found n) (stopped n.1)
 
 abbrev pub FieldGives : Bool → Bool → Expr → Result Expression Error → Position → Takes Name → Type 0
 FieldGives c o x (Ok e) new read =
-    (n : Name) × (read ≡ Some (n, new.left)) × (new.span ≡ n.span) × ((d : Joint) → is_optional_joint d ≡ o → expression_view e ≡ field_output c x d n)
-FieldGives c o x (Err e) new read = Fails read e
+    (n : Name) × (read ≡ found (n, new.left)) × (new.span ≡ n.span) × ((d : Joint) → is_optional_joint d ≡ o → expression_view e ≡ field_output c x d n)
+FieldGives c o x (Err e) new read = Fails read new.left e
 
--- One element of a list is read, whatever is read of the others after it; or no list is read, whatever they are.
+-- One element of a list is read, whatever is read of the others after it; or reading stops where these tokens are left,
+-- whatever they are.
 abbrev pub Adds : {R : Type 0} → ((Place → Reads R) → Reads R) → (R → R) → Place → Type 0
-Adds {R = R} whole put q = (more : Place → Reads R) → whole more ≡ (more q >>= λ r. Some (put r.0, r.1))
+Adds {R = R} whole put q = (more : Place → Reads R) → whole more ≡ (more q >>= λ r. found (put r.0, r.1))
 
-abbrev pub Lacks : {R : Type 0} → ((Place → Reads R) → Reads R) → Error → Type 0
-Lacks {R = R} whole e = IsMemory e ⊎ ((more : Place → Reads R) → whole more ≡ None)
+abbrev pub Lacks : {R : Type 0} → ((Place → Reads R) → Reads R) → Items → Error → Type 0
+Lacks {R = R} whole left e = IsMemory e ⊎ ((more : Place → Reads R) → StopsAt (whole more) left)
 
 -- a chain is all, or has one link more
 abbrev pub LinkedGives : Bool → Bool → Expression → Result Linked Error → Position → Place → Place → ((Place → Reads Links) → Reads Links) → Type 0
-LinkedGives l c x (Ok (Whole e)) new p q whole = (e ≡ x) × ((more : Place → Reads Links) → whole more ≡ Some (no_links, q)) × (q ≡ p)
+LinkedGives l c x (Ok (Whole e)) new p q whole = (e ≡ x) × ((more : Place → Reads Links) → whole more ≡ found (no_links, q)) × (q ≡ p)
 LinkedGives l c x (Ok (Longer e)) new p q whole =
     (put : Links → Links) × Adds whole put q × ((ls : Links) → links_output l c (expression_view x) (put ls) ≡ links_output l c (expression_view e) ls)
     × ((n m : Name) (ls : Links) → m.span ≡ new.span → links_end n (put ls) ≡ links_end m ls)
-LinkedGives l c x (Err e) new p q whole = Lacks whole e
+LinkedGives l c x (Err e) new p q whole = Lacks whole new.left e
 
 -- nothing was taken, or a link
 abbrev pub LinkedGoes : (Position → Position → Type 0) → Position → Position → Linked → Type 0

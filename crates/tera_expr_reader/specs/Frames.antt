@@ -1,5 +1,5 @@
 -- What the values of the reading over a stack stand for.
-use Rattle.std.specs.Prelude.{cond, ℕ, List, None, Result}
+use Rattle.std.specs.Prelude.{cond, ℕ, List, Result}
 use Rattle.tera_base.specs.declared.errors.Error.{Error}
 use Rattle.tera_base.specs.declared.utils.Span.{Span}
 use Rattle.tera_ast.specs.declared.ast.Expression.{Expression}
@@ -9,7 +9,7 @@ use Rattle.tera_ast.specs.View.{expression_view}
 use Rattle.tera_grammar.specs.expressions.Reading.Front.{Place, begins_sign}
 use Rattle.tera_grammar.specs.expressions.Reading.Atoms.{word_head}
 use Rattle.tera_grammar.specs.expressions.Reading.Loop.{expr}
-use Rattle.tera_grammar.specs.Options.{◌>>=◌}
+use Rattle.tera_grammar.specs.Reads.{stopped, ◌>>=◌}
 use Rattle.tera_grammar.specs.expressions.Stack as stack
 use Rattle.tera_expr_reader.specs.declared.frames.Operand.{Operand}
 use Rattle.tera_expr_reader.specs.declared.frames.Level.{Level}
@@ -64,7 +64,7 @@ Went (states.Done a) old new = Took old new
 
 -- what an open expression comes to after a prefix
 abbrev pub after_sign : Room → Level → Sign → Place → stack.Shows
-after_sign r v s p = cond (begins_sign p.tokens) None (stack.prefixing (room_of r) (level_view v) s p)
+after_sign r v s p = cond (begins_sign p.tokens) (stopped p.tokens) (stack.prefixing (room_of r) (level_view v) s p)
 
 -- what an open expression comes to after a word
 abbrev pub after_word : Room → Level → Name → Place → stack.Shows

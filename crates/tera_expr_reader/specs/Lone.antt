@@ -12,7 +12,6 @@ use Rattle.tera_ast.specs.declared.ast.Expression.{Expression}
 use Rattle.tera_grammar.specs.Options.{◌>>=◌}
 use Rattle.tera_lexer.specs.grammar.Words.{is_one_of}
 use Rattle.tera_grammar.specs.Words.{is_none, is_not}
-use Rattle.tera_grammar.specs.expressions.Reading.Front.{Takes}
 use Rattle.tera_expect.specs.Taking.{Took}
 
 -- the tokens, except words, before which every expression ends
@@ -37,12 +36,12 @@ leaf_of (toks.Str text) s = Some (tree.Const (values.Text text) s)
 leaf_of (toks.Truth b) s = Some (tree.Const (values.Truth b) s)
 leaf_of _ s = None
 
-abbrev pub leaf_at : Items → Takes Expr
+abbrev pub leaf_at : Items → Option (Expr × Items)
 leaf_at (Token t s us) = leaf_of t s >>= λ e. Some (e, us)
 leaf_at _ = None
 
 -- an expression of one token, where so many may open
-abbrev pub lone_of : ℕ → Items → Takes Expr
+abbrev pub lone_of : ℕ → Items → Option (Expr × Items)
 lone_of zero ts = None
 lone_of (suc depth) ts = cond (second_is_stop ts) (leaf_at ts) None
 

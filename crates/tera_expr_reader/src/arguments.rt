@@ -6,7 +6,7 @@ ghost use Rattle.tera_grammar.specs.expressions.Reading.Bracketed.{arguments_of}
 ghost use Rattle.tera_expr_parts.specs.Rooms.{room_of};
 ghost use Rattle.tera_expr_reader.specs.Calls.{AreArguments};
 ghost use Rattle.tera_expr_parts.specs.CommaLists.{reader_of};
-ghost use Rattle.tera_expect.specs.Taking.{GivesBy, Refuses, Took};
+ghost use Rattle.tera_expect.specs.Taking.{GivesAt, Refuses, Took};
 
 use crate::rows::value;
 use std::collections::BTreeMap;
@@ -24,10 +24,10 @@ pub(crate) fn arguments(
     links: &mut usize,
     values: Values,
 ) -> Result<BTreeMap<String, Expression>, Error>
-    ensures gives { GivesBy (AreArguments values.room.scope.in_loop cursor.new.span) result
+    ensures gives { GivesAt (AreArguments values.room.scope.in_loop cursor.new.span) result
         (at links.new cursor.new.left)
         (arguments_of (reader_of values) (room_of values.room) (at links.old cursor.old.left)) }
-    ensures refusal { IfErr result (Refuses cursor.old) }
+    ensures refusal { IfErr result (Refuses cursor.old cursor.new) }
     ensures later { IfOk result (λ _. Took cursor.old cursor.new) }
 {
     let alloc = cursor.alloc();

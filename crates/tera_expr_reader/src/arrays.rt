@@ -13,7 +13,7 @@ ghost use Rattle.tera_expr_reader.specs.Elements.{IsExtra, IsItem};
 ghost use Rattle.tera_expr_parts.specs.Literals.{MayBeNegated};
 ghost use Rattle.tera_expr_parts.specs.Rooms.{room_of};
 ghost use Rattle.tera_expr_parts.specs.CommaLists.{reader_of};
-ghost use Rattle.tera_expect.specs.Taking.{GivesAs, GivesBy, GoesOn, Refuses, Took, mark_of, place_at};
+ghost use Rattle.tera_expect.specs.Taking.{GivesAs, GivesAt, GoesOn, Refuses, Took, mark_of, place_at};
 
 use crate::faults::second_for;
 use crate::rows::value;
@@ -37,7 +37,7 @@ pub(crate) fn array(
         (array_of (reader_of values) (room_of values.room) first.now
         (at links.old cursor.old.left)) }
     ensures negatable { IfOk result (λ e. MayBeNegated (expression_view e)) }
-    ensures refusal { IfErr result (Refuses cursor.old) }
+    ensures refusal { IfErr result (Refuses cursor.old cursor.new) }
     ensures later { IfOk result (λ _. Took cursor.old cursor.new) }
 {
     let alloc = cursor.alloc();
@@ -75,7 +75,7 @@ fn items(
         (at links.new cursor.new.left) (items_from (reader_of values)
         (room_of values.room) first.now x (at links.old cursor.old.left)) }
     ensures negatable { IfOk result (λ e. MayBeNegated (expression_view e)) }
-    ensures refusal { IfErr result (Refuses cursor.old) }
+    ensures refusal { IfErr result (Refuses cursor.old cursor.new) }
     ensures later { IfOk result (λ _. Took cursor.old cursor.new) }
 {
     let alloc = cursor.alloc();
@@ -95,10 +95,10 @@ fn items(
 #[cycle(reader)]
 #[tactic(auto, using(tera_expect::proofs::TakingLemmas::after_tokens))]
 fn item(cursor: &mut Cursor<'_>, links: &mut usize, values: Values) -> Result<ArrayEntry, Error>
-    ensures gives { GivesBy (IsItem values.room.scope.in_loop) result (at links.new cursor.new.left)
+    ensures gives { GivesAt (IsItem values.room.scope.in_loop) result (at links.new cursor.new.left)
         (element_of (reader_of values)
         (room_of values.room) of_items (at links.old cursor.old.left)) }
-    ensures refusal { IfErr result (Refuses cursor.old) }
+    ensures refusal { IfErr result (Refuses cursor.old cursor.new) }
     ensures later { IfOk result (λ _. Took cursor.old cursor.new) }
 {
     if eat(cursor, Fixed::Spread) {
@@ -124,7 +124,7 @@ fn comprehension(
         (at links.new cursor.new.left) (comprehension_of (reader_of values)
         (room_of values.room) first.now t cursor.old.span (at links.old cursor.old.left)) }
     ensures negatable { IfOk result (λ e. MayBeNegated (expression_view e)) }
-    ensures refusal { IfErr result (Refuses cursor.old) }
+    ensures refusal { IfErr result (Refuses cursor.old cursor.new) }
     ensures later { IfOk result (λ _. Took cursor.old cursor.new) }
 {
     let named = variables(cursor, "used as a list comprehension variable.")?;
@@ -155,11 +155,11 @@ pub(crate) fn extra(
     before: Fixed,
     least: u8,
 ) -> Result<Option<Expression>, Error>
-    ensures gives { GivesBy
+    ensures gives { GivesAt
         (IsExtra values.room.scope.in_loop) result (at links.new cursor.new.left)
         (extra_of (reader_of values) (room_of values.room)
         (mark_of before) least (at links.old cursor.old.left)) }
-    ensures refusal { IfErr result (Refuses cursor.old) }
+    ensures refusal { IfErr result (Refuses cursor.old cursor.new) }
     ensures later { IfOk result (λ _. GoesOn cursor.old cursor.new) }
 {
     if eat(cursor, before) {
@@ -174,7 +174,7 @@ pub(crate) fn extra(
 fn close_comprehension(cursor: &mut Cursor<'_>) -> Result<(), Error>
     ensures gives { GivesAs (place_at cursor.new.span) result cursor.new.left
         (takes RightBracket cursor.old.left) }
-    ensures refusal { IfErr result (Refuses cursor.old) }
+    ensures refusal { IfErr result (Refuses cursor.old cursor.new) }
     ensures later { IfOk result (λ _. Took cursor.old cursor.new) }
 {
     if eat(cursor, Fixed::For) {

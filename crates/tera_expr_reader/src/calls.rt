@@ -10,7 +10,7 @@ ghost use Rattle.tera_expr_reader.specs.Calls.{AreArgs, IsCall, IsFilter, call_o
 ghost use Rattle.tera_expr_parts.specs.Fronts.{ending_of};
 ghost use Rattle.tera_expr_parts.specs.Rooms.{room_of};
 ghost use Rattle.tera_expr_parts.specs.CommaLists.{reader_of};
-ghost use Rattle.tera_expect.specs.Taking.{GivesBy, GoesOn, Refuses, Took};
+ghost use Rattle.tera_expect.specs.Taking.{GivesAt, GoesOn, Refuses, Took};
 
 use crate::arguments::arguments;
 use crate::subscripts::{read_subscript, with_subscript};
@@ -46,7 +46,7 @@ pub(crate) fn suffix(
         (expression_view left, start.now) result cursor.new.span (at links.new cursor.new.left)
         (suffix_in (expr depth) (room_of room) (ending_of ending cursor.old.span)
         (at links.old cursor.old.left)) }
-    ensures refusal { IfErr result (Refuses cursor.old) }
+    ensures refusal { IfErr result (Refuses cursor.old cursor.new) }
     ensures later { IfOk result (λ _. Took cursor.old cursor.new) }
 {
     let values = Values {
@@ -79,7 +79,7 @@ fn test(
         (expression_view left, start.now) result cursor.new.span (at links.new cursor.new.left)
         (suffix_in (reader_of values) (room_of values.room)
         (ends_test cursor.old.span) (at links.old cursor.old.left)) }
-    ensures refusal { IfErr result (Refuses cursor.old) }
+    ensures refusal { IfErr result (Refuses cursor.old cursor.new) }
     ensures later { IfOk result (λ _. Took cursor.old cursor.new) }
 {
     let alloc = cursor.alloc();
@@ -101,11 +101,11 @@ pub(crate) fn filter_with(
     values: Values,
     left: Expression,
 ) -> Result<Expression, Error>
-    ensures gives { GivesBy
+    ensures gives { GivesAt
         (IsFilter values.room.scope.in_loop (expression_view left) cursor.new.span) result
         (at links.new cursor.new.left)
         (call_of (reader_of values) (room_of values.room) (at links.old cursor.old.left)) }
-    ensures refusal { IfErr result (Refuses cursor.old) }
+    ensures refusal { IfErr result (Refuses cursor.old cursor.new) }
     ensures later { IfOk result (λ _. Took cursor.old cursor.new) }
 {
     let call = read_call(cursor, links, values)?;
@@ -116,10 +116,10 @@ pub(crate) fn filter_with(
 #[cycle(reader)]
 #[tactic(auto, using(tera_expect::proofs::TakingLemmas::on_the_way))]
 fn read_call(cursor: &mut Cursor<'_>, links: &mut usize, values: Values) -> Result<Call, Error>
-    ensures gives { GivesBy
+    ensures gives { GivesAt
         (IsCall values.room.scope.in_loop cursor.new.span) result (at links.new cursor.new.left)
         (call_of (reader_of values) (room_of values.room) (at links.old cursor.old.left)) }
-    ensures refusal { IfErr result (Refuses cursor.old) }
+    ensures refusal { IfErr result (Refuses cursor.old cursor.new) }
     ensures later { IfOk result (λ _. Took cursor.old cursor.new) }
 {
     let name = name(cursor)?;
@@ -138,10 +138,10 @@ fn maybe_arguments(
     links: &mut usize,
     values: Values,
 ) -> Result<BTreeMap<String, Expression>, Error>
-    ensures gives { GivesBy (AreArgs values.room.scope.in_loop cursor.old.span cursor.new.span)
+    ensures gives { GivesAt (AreArgs values.room.scope.in_loop cursor.old.span cursor.new.span)
         result (at links.new cursor.new.left)
         (args_of (reader_of values) (room_of values.room) (at links.old cursor.old.left)) }
-    ensures refusal { IfErr result (Refuses cursor.old) }
+    ensures refusal { IfErr result (Refuses cursor.old cursor.new) }
     ensures later { IfOk result (λ _. GoesOn cursor.old cursor.new) }
 {
     if !eat(cursor, Fixed::LeftParen) {

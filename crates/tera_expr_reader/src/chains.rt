@@ -13,7 +13,7 @@ ghost use Rattle.tera_grammar.specs.expressions.Stack.{HeadGives};
 ghost use Rattle.tera_expr_reader.specs.Chains.{FieldGives, IsCallOf, IsChain, LinkAt, LinkedGives, LinkedGoes, link_kind, taken_field};
 ghost use Rattle.tera_expr_parts.specs.Literals.{MayBeNegated};
 ghost use Rattle.tera_expr_parts.specs.Rooms.{room_of};
-ghost use Rattle.tera_expect.specs.Taking.{GivesBy, GoesOn, Refuses, Took, name_in};
+ghost use Rattle.tera_expect.specs.Taking.{GivesAt, GoesOn, Refuses, Took, name_in};
 ghost use Rattle.tera_expr_reader.specs.declared.chains.Link.TheVariants as variants;
 
 use crate::arguments::arguments;
@@ -79,7 +79,7 @@ pub(crate) fn chain(
         (chain_of (expr depth) (room_of room) (name_in name.now first.now)
         (at links.old cursor.old.left)) }
     ensures negatable { IfOk result (λ e. MayBeNegated (expression_view e)) }
-    ensures refusal { IfErr result (Refuses cursor.old) }
+    ensures refusal { IfErr result (Refuses cursor.old cursor.new) }
     ensures later { IfOk result (λ _. GoesOn cursor.old cursor.new) }
 {
     if eat(cursor, Fixed::LeftParen) {
@@ -100,11 +100,11 @@ fn function_call(
     name: &str,
     first: &Span,
 ) -> Result<Expression, Error>
-    ensures gives { GivesBy
+    ensures gives { GivesAt
         (IsCallOf room.scope.in_loop (name_in name.now first.now) cursor.new.span) result
         (at links.new cursor.new.left)
         (arguments_of (expr depth) (room_of room) (at links.old cursor.old.left)) }
-    ensures refusal { IfErr result (Refuses cursor.old) }
+    ensures refusal { IfErr result (Refuses cursor.old cursor.new) }
     ensures later { IfOk result (λ _. Took cursor.old cursor.new) }
 {
     let alloc = cursor.alloc();
@@ -132,12 +132,12 @@ fn with_links(
     first: &Span,
 ) -> Result<Expression, Error>
     requires { cursor.old.span ≡ first.now }
-    ensures gives { GivesBy
+    ensures gives { GivesAt
         (IsChain room.scope.in_loop (name_in name.now first.now) cursor.new.span) result
         (at links.new cursor.new.left)
         (links_of (expr depth) (room_of room)
         (of_loop room.scope.in_loop (name_in name.now first.now)) (at links.old cursor.old.left)) }
-    ensures refusal { IfErr result (Refuses cursor.old) }
+    ensures refusal { IfErr result (Refuses cursor.old cursor.new) }
     ensures later { IfOk result (λ _. GoesOn cursor.old cursor.new) }
 {
     let fields_of_loop = is_loop(room.scope.in_loop, name);
@@ -172,7 +172,7 @@ fn with_link(
         (at links.old cursor.old.left) (at links.new cursor.new.left) (λ more.
         links_at more (expr depth) (room_of room) fields_of_loop (at links.old cursor.old.left)
         (reading.link_of cursor.old.left)) }
-    ensures refusal { IfErr result (Refuses cursor.old) }
+    ensures refusal { IfErr result (Refuses cursor.old cursor.new) }
     ensures later { IfOk result (LinkedGoes Took cursor.old cursor.new) }
 {
     match Link::at(cursor) {
@@ -213,7 +213,7 @@ fn field(
 ) -> Result<Expression, Error>
     ensures gives { FieldGives of_loop optional (expression_view chain) result cursor.new
         (taken_field of_loop cursor.old.left) }
-    ensures refusal { IfErr result (Refuses cursor.old) }
+    ensures refusal { IfErr result (Refuses cursor.old cursor.new) }
     ensures later { IfOk result (λ _. Took cursor.old cursor.new) }
 {
     let alloc = cursor.alloc();

@@ -12,7 +12,7 @@ ghost use Rattle.tera_expr_reader.specs.Attributes.{AttributeGives, IsBraced, Li
 ghost use Rattle.tera_expr_parts.specs.Literals.{MayBeNegated};
 ghost use Rattle.tera_expr_parts.specs.Rooms.{room_of};
 ghost use Rattle.tera_expr_parts.specs.CommaLists.{reader_of};
-ghost use Rattle.tera_expect.specs.Taking.{GivesBy, GoesOn, Refuses, Took, name_in};
+ghost use Rattle.tera_expect.specs.Taking.{GivesAt, GoesOn, Refuses, Took, name_in};
 
 use crate::rows::value;
 use tera_base::{Error, Key, Span};
@@ -37,7 +37,7 @@ pub(crate) fn component(
         (at links.new cursor.new.left)
         (component_of (expr depth) (room_of room) first.now (at links.old cursor.old.left)) }
     ensures negatable { IfOk result (λ e. MayBeNegated (expression_view e)) }
-    ensures refusal { IfErr result (Refuses cursor.old) }
+    ensures refusal { IfErr result (Refuses cursor.old cursor.new) }
     ensures later { IfOk result (λ _. Took cursor.old cursor.new) }
 {
     let alloc = cursor.alloc();
@@ -65,10 +65,10 @@ pub(crate) fn attributes(
     links: &mut usize,
     values: Values,
 ) -> Result<Vec<MapEntry>, Error>
-    ensures gives { GivesBy
+    ensures gives { GivesAt
         (ListsAttributes values.room.scope.in_loop) result (at links.new cursor.new.left)
         (attributes_of (reader_of values) (room_of values.room) (at links.old cursor.old.left)) }
-    ensures refusal { IfErr result (Refuses cursor.old) }
+    ensures refusal { IfErr result (Refuses cursor.old cursor.new) }
     ensures later { IfOk result (λ _. GoesOn cursor.old cursor.new) }
 {
     let mut attributes = Vec::new(cursor.alloc());
@@ -90,7 +90,7 @@ fn attribute(
         (at links.new cursor.new.left) (λ more.
         attribute_at more (reader_of values) (room_of values.room) (at links.old cursor.old.left)
         (name_of (at links.old cursor.old.left)) (skip LeftBrace (at links.old cursor.old.left))) }
-    ensures refusal { IfErr result (Refuses cursor.old) }
+    ensures refusal { IfErr result (Refuses cursor.old cursor.new) }
     ensures later { IfOk result (MaybeTook cursor.old cursor.new) }
 {
     if let Some(name) = eat_name(cursor) {
@@ -118,7 +118,7 @@ fn named_attribute(
         (at links.new cursor.new.left) (λ more.
         named_at more (reader_of values) (room_of values.room) (name_in name.now cursor.old.span)
         (at links.old cursor.old.left) (skip Assign (at links.old cursor.old.left))) }
-    ensures refusal { IfErr result (Refuses cursor.old) }
+    ensures refusal { IfErr result (Refuses cursor.old cursor.new) }
     ensures later { IfOk result (λ _. GoesOn cursor.old cursor.new) }
 {
     let alloc = cursor.alloc();
@@ -144,7 +144,7 @@ fn attribute_value(
 ) -> Result<Expression, Error>
     ensures gives { ValueGives values.room.scope.in_loop result (at links.new cursor.new.left)
         (reader_of values) (room_of values.room) (at links.old cursor.old.left) }
-    ensures refusal { IfErr result (Refuses cursor.old) }
+    ensures refusal { IfErr result (Refuses cursor.old cursor.new) }
     ensures later { IfOk result (λ _. Took cursor.old cursor.new) }
 {
     if eat(cursor, Fixed::LeftBrace) {
@@ -157,10 +157,10 @@ fn attribute_value(
 #[cycle(reader)]
 #[tactic(auto, using(tera_expect::proofs::TakingLemmas::after_tokens))]
 fn braced(cursor: &mut Cursor<'_>, links: &mut usize, values: Values) -> Result<Expression, Error>
-    ensures gives { GivesBy
+    ensures gives { GivesAt
         (IsBraced values.room.scope.in_loop) result (at links.new cursor.new.left)
         (braced_of (reader_of values) (room_of values.room) (at links.old cursor.old.left)) }
-    ensures refusal { IfErr result (Refuses cursor.old) }
+    ensures refusal { IfErr result (Refuses cursor.old cursor.new) }
     ensures later { IfOk result (λ _. Took cursor.old cursor.new) }
 {
     let inside = value(cursor, links, values, 0)?;

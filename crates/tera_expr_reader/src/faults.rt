@@ -13,7 +13,7 @@ use tera_lexer::Cursor;
 
 /// That a call hangs on a chain with links, the last of which was taken last.
 pub(crate) fn call_after_link(cursor: &Cursor<'_>) -> Error
-    ensures { Refuses cursor.now result }
+    ensures { Refuses cursor.now cursor.now result }
 {
     fault(
         cursor,
@@ -23,7 +23,7 @@ pub(crate) fn call_after_link(cursor: &Cursor<'_>) -> Error
 
 /// That `loop` has no field of this name, which was taken last.
 pub(crate) fn no_loop_field(cursor: &Cursor<'_>, name: &str) -> Error
-    ensures { Refuses cursor.now result }
+    ensures { Refuses cursor.now cursor.now result }
 {
     let message = format!(in cursor.alloc();
         "Found invalid field of `loop`: {name}. Only `index`, `index0`, `first`, `last` and `length` exist."
@@ -33,7 +33,7 @@ pub(crate) fn no_loop_field(cursor: &Cursor<'_>, name: &str) -> Error
 
 /// That a comprehension has a second `for`, which was taken last.
 pub(crate) fn second_for(cursor: &Cursor<'_>) -> Error
-    ensures { Refuses cursor.now result }
+    ensures { Refuses cursor.now cursor.now result }
 {
     fault(
         cursor,

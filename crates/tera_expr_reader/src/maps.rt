@@ -11,7 +11,7 @@ ghost use Rattle.tera_expr_reader.specs.Elements.{IsEntry};
 ghost use Rattle.tera_expr_parts.specs.Literals.{MayBeNegated};
 ghost use Rattle.tera_expr_parts.specs.Rooms.{room_of};
 ghost use Rattle.tera_expr_parts.specs.CommaLists.{reader_of};
-ghost use Rattle.tera_expect.specs.Taking.{GivesBy, Refuses, Took};
+ghost use Rattle.tera_expect.specs.Taking.{GivesAt, Refuses, Took};
 
 use crate::rows::value;
 use tera_base::{Error, Span};
@@ -33,7 +33,7 @@ pub(crate) fn map(
         (at links.new cursor.new.left)
         (map_of (reader_of values) (room_of values.room) first.now (at links.old cursor.old.left)) }
     ensures negatable { IfOk result (λ e. MayBeNegated (expression_view e)) }
-    ensures refusal { IfErr result (Refuses cursor.old) }
+    ensures refusal { IfErr result (Refuses cursor.old cursor.new) }
     ensures later { IfOk result (λ _. Took cursor.old cursor.new) }
 {
     let alloc = cursor.alloc();
@@ -52,11 +52,11 @@ pub(crate) fn map(
 #[cycle(reader)]
 #[tactic(auto, using(tera_expect::proofs::TakingLemmas::after_tokens))]
 fn entry(cursor: &mut Cursor<'_>, links: &mut usize, values: Values) -> Result<MapEntry, Error>
-    ensures gives { GivesBy
+    ensures gives { GivesAt
         (IsEntry values.room.scope.in_loop) result (at links.new cursor.new.left)
         (element_of (reader_of values) (room_of values.room) of_entries
         (at links.old cursor.old.left)) }
-    ensures refusal { IfErr result (Refuses cursor.old) }
+    ensures refusal { IfErr result (Refuses cursor.old cursor.new) }
     ensures later { IfOk result (λ _. Took cursor.old cursor.new) }
 {
     if eat(cursor, Fixed::Spread) {

@@ -23,7 +23,7 @@ use tera_tree::{Expression, MapEntry};
 pub fn expression(cursor: &mut Cursor<'_>, scope: Scope) -> Result<Expression, Error>
     ensures gives { GivesBy (IsExpression scope.in_loop) result cursor.new.left
         (expression_of (limits_of scope.limits) scope.in_loop cursor.old.left) }
-    ensures refusal { IfErr result (Refuses cursor.old) }
+    ensures refusal { IfErr result (Refuses cursor.old cursor.new) }
     ensures later { IfOk result (λ _. Took cursor.old cursor.new) }
 {
     let mut links = scope.limits.links;
@@ -35,7 +35,7 @@ pub fn expression(cursor: &mut Cursor<'_>, scope: Scope) -> Result<Expression, E
 pub fn attributes(cursor: &mut Cursor<'_>, scope: Scope) -> Result<Vec<MapEntry>, Error>
     ensures gives { GivesBy (λ es a. AreAttributes scope.in_loop es.items a) result cursor.new.left
         (attributes_of (limits_of scope.limits) scope.in_loop cursor.old.left) }
-    ensures refusal { IfErr result (Refuses cursor.old) }
+    ensures refusal { IfErr result (Refuses cursor.old cursor.new) }
     ensures later { IfOk result (λ _. GoesOn cursor.old cursor.new) }
 {
     let mut links = 0;
@@ -47,7 +47,7 @@ pub fn attributes(cursor: &mut Cursor<'_>, scope: Scope) -> Result<Vec<MapEntry>
 pub fn kwargs(cursor: &mut Cursor<'_>, scope: Scope) -> Result<BTreeMap<String, Expression>, Error>
     ensures gives { GivesBy (λ m x. AreKwargs scope.in_loop m.entries x) result cursor.new.left
         (kwargs_of (limits_of scope.limits) scope.in_loop cursor.old.left) }
-    ensures refusal { IfErr result (Refuses cursor.old) }
+    ensures refusal { IfErr result (Refuses cursor.old cursor.new) }
     ensures later { IfOk result (λ _. Took cursor.old cursor.new) }
 {
     expect(cursor, Fixed::LeftParen)?;
@@ -60,7 +60,7 @@ pub fn kwargs(cursor: &mut Cursor<'_>, scope: Scope) -> Result<BTreeMap<String, 
 pub fn filter(cursor: &mut Cursor<'_>, scope: Scope) -> Result<Expression, Error>
     ensures gives { GivesBy (IsFilter scope.in_loop cursor.old.span) result cursor.new.left
         (filter_of (limits_of scope.limits) scope.in_loop cursor.old.left) }
-    ensures refusal { IfErr result (Refuses cursor.old) }
+    ensures refusal { IfErr result (Refuses cursor.old cursor.new) }
     ensures later { IfOk result (λ _. Took cursor.old cursor.new) }
 {
     let input = leaves::none(cursor.alloc(), cursor.current_span().copied())?;
@@ -71,7 +71,7 @@ pub fn filter(cursor: &mut Cursor<'_>, scope: Scope) -> Result<Expression, Error
 /// Reads names joined by dots.
 pub fn component_name(cursor: &mut Cursor<'_>) -> Result<String, Error>
     ensures gives { GivesBy IsComponent result cursor.new.left (component_of cursor.old.left) }
-    ensures refusal { IfErr result (Refuses cursor.old) }
+    ensures refusal { IfErr result (Refuses cursor.old cursor.new) }
     ensures later { IfOk result (λ _. Took cursor.old cursor.new) }
 {
     dotted_name(cursor)
@@ -82,7 +82,7 @@ pub fn component_name(cursor: &mut Cursor<'_>) -> Result<String, Error>
 pub fn literal_array(cursor: &mut Cursor<'_>, limits: Limits) -> Result<Value, Error>
     ensures gives { GivesBy IsArray result cursor.new.left
         (array_of (limits_of limits) cursor.old.left) }
-    ensures refusal { IfErr result (Refuses cursor.old) }
+    ensures refusal { IfErr result (Refuses cursor.old cursor.new) }
     ensures later { IfOk result (λ _. Took cursor.old cursor.new) }
 {
     expect(cursor, Fixed::LeftBracket)?;
@@ -104,7 +104,7 @@ pub fn literal_array(cursor: &mut Cursor<'_>, limits: Limits) -> Result<Value, E
 pub fn literal_map(cursor: &mut Cursor<'_>, context: &str, limits: Limits) -> Result<Value, Error>
     ensures gives { GivesBy IsMap result cursor.new.left
         (map_of (limits_of limits) cursor.old.left) }
-    ensures refusal { IfErr result (Refuses cursor.old) }
+    ensures refusal { IfErr result (Refuses cursor.old cursor.new) }
     ensures later { IfOk result (λ _. Took cursor.old cursor.new) }
 {
     expect(cursor, Fixed::LeftBrace)?;

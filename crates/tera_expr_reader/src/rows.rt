@@ -25,7 +25,7 @@ pub(crate) fn value(
     ensures gives { Gives expression_view values.room.scope.in_loop result
         (at links.new cursor.new.left)
         (reader_of values (room_of values.room) least (at links.old cursor.old.left)) }
-    ensures refusal { IfErr result (Refuses cursor.old) }
+    ensures refusal { IfErr result (Refuses cursor.old cursor.new) }
     ensures later { IfOk result (λ _. Took cursor.old cursor.new) }
 {
     match values.own {

@@ -1,7 +1,8 @@
 //! Reads expressions over a stack of those that are open.
 
-ghost use Rattle.std.specs.Prelude.{◌≡◌, ◌+◌, ℕ, IfErr, IfOk, Some};
+ghost use Rattle.std.specs.Prelude.{◌≡◌, ◌+◌, ℕ, IfErr, IfOk};
 ghost use Rattle.tera_ast.specs.View.{expression_view};
+ghost use Rattle.tera_grammar.specs.Reads.{found};
 ghost use Rattle.tera_grammar.specs.expressions.Spans.{spanning};
 ghost use Rattle.tera_grammar.specs.expressions.Reading.Front.{at};
 ghost use Rattle.tera_grammar.specs.expressions.Reading.Loop.{expr};
@@ -44,7 +45,7 @@ pub(crate) fn expression(
     ensures gives { stack.Gives expression_view room.scope.in_loop result
         (at links.new cursor.new.left)
         (expr depth (room_of room) least (at links.old cursor.old.left)) }
-    ensures refusal { IfErr result (Refuses cursor.old) }
+    ensures refusal { IfErr result (Refuses cursor.old cursor.new) }
     ensures later { IfOk result (λ _. Took cursor.old cursor.new) }
 {
     if let Some(expr) = lone(cursor, depth)? {
@@ -81,7 +82,7 @@ fn operand(
     ensures falls { Falls result frames.new.items (at links.new cursor.new.left)
         (work frames.old.items (at links.old cursor.old.left)) }
     ensures negatable { IfOk result HoldsNegatable }
-    ensures refusal { IfErr result (Refuses cursor.old) }
+    ensures refusal { IfErr result (Refuses cursor.old cursor.new) }
     ensures later { IfOk result (λ _. Took cursor.old cursor.new) }
 {
     if depth == 0 {
@@ -111,7 +112,7 @@ fn head(
     ensures falls { Falls result frames.new.items
         (at links.new cursor.new.left) (work frames.old.items (at links.old cursor.old.left)) }
     ensures negatable { IfOk result HoldsNegatable }
-    ensures refusal { IfErr result (Refuses cursor.old) }
+    ensures refusal { IfErr result (Refuses cursor.old cursor.new) }
     ensures later { IfOk result (λ _. Took cursor.old cursor.new) }
 {
     let (token, span) = take(cursor)?;
@@ -175,7 +176,7 @@ fn word(
     ensures falls { Falls result frames.new.items (at links.new cursor.new.left)
         (work frames.old.items (at links.old cursor.old.left) + 2) }
     ensures negatable { IfOk result HoldsNegatable }
-    ensures refusal { IfErr result (Refuses cursor.old) }
+    ensures refusal { IfErr result (Refuses cursor.old cursor.new) }
     ensures later { IfOk result (λ _. GoesOn cursor.old cursor.new) }
 {
     if is_none(name) {
@@ -205,7 +206,7 @@ fn prefix(
     ensures falls { (links : ℕ) → Falls result frames.new.items (at links cursor.new.left)
         (work frames.old.items (at links cursor.old.left) + 2) }
     ensures negatable { IfOk result HoldsNegatable }
-    ensures refusal { IfErr result (Refuses cursor.old) }
+    ensures refusal { IfErr result (Refuses cursor.old cursor.new) }
     ensures later { IfOk result (λ _. GoesOn cursor.old cursor.new) }
 {
     if begins_prefix(cursor) {
@@ -234,7 +235,7 @@ fn turn(
     ensures falls { Falls result frames.new.items (at links.new cursor.new.left)
         (work frames.old.items (at links.old cursor.old.left) + 1) }
     ensures negatable { IfOk result HoldsNegatable }
-    ensures refusal { IfErr result (Refuses cursor.old) }
+    ensures refusal { IfErr result (Refuses cursor.old cursor.new) }
     ensures later { IfOk result (λ _. GoesOn cursor.old cursor.new) }
 {
     let front = Front::at(cursor);
@@ -277,11 +278,11 @@ fn close(cursor: &mut Cursor<'_>, frames: &mut Vec<Frame>, inside: Operand) -> R
     requires { MayBeNegated (expression_view inside.expr) }
     ensures keeps { (room : Room) (links : ℕ) →
         Keeps room result frames.new.items (at links cursor.new.left)
-        (unwind room frames.old.items (Some (operand_view inside, at links cursor.old.left))) }
+        (unwind room frames.old.items (found (operand_view inside, at links cursor.old.left))) }
     ensures falls { (links : ℕ) → Falls result frames.new.items (at links cursor.new.left)
         (work frames.old.items (at links cursor.old.left) + 1) }
     ensures negatable { IfOk result HoldsNegatable }
-    ensures refusal { IfErr result (Refuses cursor.old) }
+    ensures refusal { IfErr result (Refuses cursor.old cursor.new) }
     ensures later { IfOk result (λ _. GoesOn cursor.old cursor.new) }
 {
     match frames.pop() {
@@ -307,7 +308,7 @@ fn resume(
     ensures falls { (links : ℕ) → Falls result frames.new.items
         (at links cursor.new.left) (work frames.old.items (at links cursor.old.left) + 2) }
     ensures negatable { IfOk result HoldsNegatable }
-    ensures refusal { IfErr result (Refuses cursor.old) }
+    ensures refusal { IfErr result (Refuses cursor.old cursor.new) }
     ensures later { IfOk result (λ _. GoesOn cursor.old cursor.new) }
 {
     let alloc = cursor.alloc();

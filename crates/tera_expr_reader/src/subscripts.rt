@@ -11,7 +11,7 @@ ghost use Rattle.tera_grammar.specs.expressions.Reading.Loop.{expr};
 ghost use Rattle.tera_expr_reader.specs.Chains.{IsPart, IsSubscript, subscripted};
 ghost use Rattle.tera_expr_reader.specs.Elements.{IsExtra};
 ghost use Rattle.tera_expr_parts.specs.Rooms.{room_of};
-ghost use Rattle.tera_expect.specs.Taking.{GivesBy, GoesOn, Refuses, Took};
+ghost use Rattle.tera_expect.specs.Taking.{GivesAt, GoesOn, Refuses, Took};
 
 use crate::stack::expression;
 use std::alloc::{AllocError, Global};
@@ -41,10 +41,10 @@ pub(crate) fn read_subscript(
     room: Room,
     depth: usize,
 ) -> Result<Subscript, Error>
-    ensures gives { GivesBy (IsSubscript room.scope.in_loop cursor.new.span) result
+    ensures gives { GivesAt (IsSubscript room.scope.in_loop cursor.new.span) result
         (at links.new cursor.new.left)
         (sub_of (expr depth) (room_of room) (at links.old cursor.old.left)) }
-    ensures refusal { IfErr result (Refuses cursor.old) }
+    ensures refusal { IfErr result (Refuses cursor.old cursor.new) }
     ensures later { IfOk result (λ _. Took cursor.old cursor.new) }
 {
     let inside = room.in_subscript(cursor)?;
@@ -70,9 +70,9 @@ fn slice(
     start: Option<Expression>,
 ) -> Result<Subscript, Error>
     ensures gives { (a : Part) (s : Span) → IsPart room.scope.in_loop start a →
-        GivesBy (IsSubscript room.scope.in_loop cursor.new.span) result (at links.new
+        GivesAt (IsSubscript room.scope.in_loop cursor.new.span) result (at links.new
         cursor.new.left) (slice_of (expr depth) (room_of room) a s (at links.old cursor.old.left)) }
-    ensures refusal { IfErr result (Refuses cursor.old) }
+    ensures refusal { IfErr result (Refuses cursor.old cursor.new) }
     ensures later { IfOk result (λ _. Took cursor.old cursor.new) }
 {
     let end = end(cursor, links, room, depth)?;
@@ -90,9 +90,9 @@ fn end(
     room: Room,
     depth: usize,
 ) -> Result<Option<Expression>, Error>
-    ensures gives { GivesBy (IsPart room.scope.in_loop) result (at links.new cursor.new.left)
+    ensures gives { GivesAt (IsPart room.scope.in_loop) result (at links.new cursor.new.left)
         (part_of (expr depth) (room_of room) (at links.old cursor.old.left)) }
-    ensures refusal { IfErr result (Refuses cursor.old) }
+    ensures refusal { IfErr result (Refuses cursor.old cursor.new) }
     ensures later { IfOk result (λ _. GoesOn cursor.old cursor.new) }
 {
     if begins(cursor, Fixed::Colon) || begins(cursor, Fixed::RightBracket) {
@@ -110,9 +110,9 @@ fn step(
     room: Room,
     depth: usize,
 ) -> Result<Option<Expression>, Error>
-    ensures gives { GivesBy (IsExtra room.scope.in_loop) result (at links.new cursor.new.left)
+    ensures gives { GivesAt (IsExtra room.scope.in_loop) result (at links.new cursor.new.left)
         (extra_of (expr depth) (room_of room) Colon 0 (at links.old cursor.old.left)) }
-    ensures refusal { IfErr result (Refuses cursor.old) }
+    ensures refusal { IfErr result (Refuses cursor.old cursor.new) }
     ensures later { IfOk result (λ _. GoesOn cursor.old cursor.new) }
 {
     if !eat(cursor, Fixed::Colon) {

@@ -8,7 +8,6 @@ pub mod FoundParts
 pub mod FoundAtoms
 pub mod FoundLoop
 pub mod Unrolled
-pub mod Stack
 pub mod ReadRows
 pub mod ReadParts
 pub mod Complete
@@ -22,3 +21,4 @@ pub mod Later
 pub mod Numbers
 pub mod Bodiless
 pub mod InFront
+pub mod Stack

@@ -11,8 +11,10 @@ pub mod Walks
 pub mod Tops
 pub mod Closed
 pub mod Wholes
-pub mod Loops
+pub mod Joins
 pub mod Trees
 pub mod Parameters
 mod Examples
 pub mod Numbers
+pub mod Phases
+pub mod Loops

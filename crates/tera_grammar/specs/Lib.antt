@@ -3,3 +3,4 @@ pub mod Options
 pub mod Words
 pub mod expressions
 pub mod statements
+pub mod Reads

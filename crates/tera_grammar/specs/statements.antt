@@ -11,3 +11,4 @@ pub mod Top
 pub mod Reading
 pub mod Trees
 pub mod Constants
+pub mod Lost

@@ -1,9 +1,14 @@
 //! Laws of the grammar: each function has the law as its promise and does nothing.
 
-ghost use Rattle.std.specs.Prelude.{◌≡◌, ◌↔◌, ℕ, List, Bool, Some, map};
+ghost use Rattle.std.specs.Prelude.{◌≡◌, ◌↔◌, ℕ, List, [], Bool, false, map};
 ghost use Rattle.tera_lexer.specs.grammar.Marks.{Marks, IsValid};
-ghost use Rattle.tera_lexer.specs.grammar.Tokens.{Items, Ended};
+ghost use Rattle.tera_lexer.specs.code.Cursors.{Passes};
+ghost use Rattle.tera_lexer.specs.grammar.Faults.{IsFaultOf};
+ghost use Rattle.tera_lexer.specs.grammar.Tiling.{Tile};
+ghost use Rattle.tera_lexer.specs.grammar.Tokens.{Tok, Items, Ended, Token};
+ghost use Rattle.tera_base.specs.declared.utils.Span.{Span};
 ghost use Rattle.tera_base.specs.Values.{Vals, Pairs};
+ghost use Rattle.tera_grammar.specs.Reads.{found, stopped};
 ghost use Rattle.tera_grammar.specs.expressions.Concrete.{Tree, Attributes, yield, attributes_yield};
 ghost use Rattle.tera_grammar.specs.expressions.Conditions.{IsExpression, AreArgs, AreAttributes};
 ghost use Rattle.tera_grammar.specs.expressions.Ends.{IsStop, EndsAttributes, EndsFilter, EndsPath};
@@ -39,6 +44,7 @@ ghost use Rattle.tera_ast.specs.View.{nodes_of};
 ghost use Rattle.tera_tree.specs.Tree.{Output};
 ghost use Rattle.tera_grammar.specs.statements.Constants.{EachOfOutput};
 ghost use Rattle.tera_grammar.specs.statements.Grammar.{Body};
+ghost use Rattle.tera_grammar.specs.statements.Lost.{AreLost};
 ghost use Rattle.tera_grammar.specs.statements.Output.{output_of};
 ghost use Rattle.tera_grammar.specs.statements.Places.{Places, texts};
 ghost use Rattle.tera_grammar.specs.statements.Reading.{template};
@@ -49,11 +55,11 @@ ghost use Rattle.tera_grammar.specs.statements.Trees.{IsRight, blocks, definitio
 /// expression within the limits is read before a token that ends it. So no other has the same tokens.
 pub fn expressions()
     ensures sound { (limits : Limits) (in_loop : Bool) (items rest : Items) (e : Tree) →
-        expression_of limits in_loop items ≡ Some (e, rest) →
+        expression_of limits in_loop items ≡ found (e, rest) →
         (items ≡ yield e rest) × IsExpression in_loop e × Within limits e }
     ensures complete { (limits : Limits) (in_loop : Bool) (e : Tree) (rest : Items) →
         IsExpression in_loop e → Within limits e → IsStop rest →
-        expression_of limits in_loop (yield e rest) ≡ Some (e, rest) }
+        expression_of limits in_loop (yield e rest) ≡ found (e, rest) }
     ensures unique { (in_loop : Bool) (one other : Tree) (rest last : Items) →
         IsExpression in_loop one → IsExpression in_loop other → IsStop rest → IsStop last →
         yield one rest ≡ yield other last → (one ≡ other) × (rest ≡ last) }
@@ -64,11 +70,11 @@ pub fn expressions()
 /// The same of the arguments of a call, whatever follows.
 pub fn arguments()
     ensures sound { (limits : Limits) (in_loop : Bool) (items rest : Items) (x : Opened) →
-        kwargs_of limits in_loop items ≡ Some (x, rest) →
+        kwargs_of limits in_loop items ≡ found (x, rest) →
         (items ≡ kwargs_yield x rest) × AreKwargs in_loop x × EachRow (Within limits) x.row }
     ensures complete { (limits : Limits) (in_loop : Bool) (x : Opened) (rest : Items) →
         AreKwargs in_loop x → EachRow (Within limits) x.row →
-        kwargs_of limits in_loop (kwargs_yield x rest) ≡ Some (x, rest) }
+        kwargs_of limits in_loop (kwargs_yield x rest) ≡ found (x, rest) }
     ensures unique { (in_loop : Bool) (one other : Opened) (rest last : Items) →
         AreKwargs in_loop one → AreKwargs in_loop other →
         kwargs_yield one rest ≡ kwargs_yield other last → (one ≡ other) × (rest ≡ last) }
@@ -77,11 +83,11 @@ pub fn arguments()
 /// The same of a filter, before a further one or the end of its tag.
 pub fn filters()
     ensures sound { (limits : Limits) (in_loop : Bool) (items rest : Items) (x : Filtering) →
-        filter_of limits in_loop items ≡ Some (x, rest) →
+        filter_of limits in_loop items ≡ found (x, rest) →
         (items ≡ filter_yield x rest) × AreArgs in_loop x.args × EachArgs (Within limits) x.args }
     ensures complete { (limits : Limits) (in_loop : Bool) (x : Filtering) (rest : Items) →
         AreArgs in_loop x.args → EachArgs (Within limits) x.args → EndsFilter rest →
-        filter_of limits in_loop (filter_yield x rest) ≡ Some (x, rest) }
+        filter_of limits in_loop (filter_yield x rest) ≡ found (x, rest) }
     ensures unique { (in_loop : Bool) (one other : Filtering) (rest last : Items) →
         AreArgs in_loop one.args → AreArgs in_loop other.args → EndsFilter rest → EndsFilter last →
         filter_yield one rest ≡ filter_yield other last → (one ≡ other) × (rest ≡ last) }
@@ -90,11 +96,11 @@ pub fn filters()
 /// The same of the attributes of a component, before `/` or `>`.
 pub fn attributes()
     ensures sound { (limits : Limits) (in_loop : Bool) (items rest : Items) (x : Attributes) →
-        all_attributes limits in_loop items ≡ Some (x, rest) → (items ≡ attributes_yield x rest)
+        all_attributes limits in_loop items ≡ found (x, rest) → (items ≡ attributes_yield x rest)
         × AreAttributes in_loop x × EachAttribute (Within limits) x }
     ensures complete { (limits : Limits) (in_loop : Bool) (x : Attributes) (rest : Items) →
         AreAttributes in_loop x → EachAttribute (Within limits) x → EndsAttributes rest →
-        all_attributes limits in_loop (attributes_yield x rest) ≡ Some (x, rest) }
+        all_attributes limits in_loop (attributes_yield x rest) ≡ found (x, rest) }
     ensures unique { (in_loop : Bool) (one other : Attributes) (rest last : Items) →
         AreAttributes in_loop one → AreAttributes in_loop other → EndsAttributes rest →
         EndsAttributes last → attributes_yield one rest ≡ attributes_yield other last →
@@ -103,10 +109,10 @@ pub fn attributes()
 
 /// The same of the name of a component, before all but a dot.
 pub fn component_names()
-    ensures sound { (items rest : Items) (x : Path) → path_of items ≡ Some (x, rest) →
+    ensures sound { (items rest : Items) (x : Path) → path_of items ≡ found (x, rest) →
         items ≡ path_yield x rest }
     ensures complete { (x : Path) (rest : Items) → EndsPath rest →
-        path_of (path_yield x rest) ≡ Some (x, rest) }
+        path_of (path_yield x rest) ≡ found (x, rest) }
     ensures unique { (one other : Path) (rest last : Items) → EndsPath rest → EndsPath last →
         path_yield one rest ≡ path_yield other last → (one ≡ other) × (rest ≡ last) }
 {}
@@ -114,11 +120,11 @@ pub fn component_names()
 /// The same of an array of constants, whatever follows.
 pub fn literal_arrays()
     ensures sound { (limits : Limits) (items rest : Items) (x : Opened) (values : Vals) →
-        literal_array_of limits items ≡ Some ((x, values), rest) →
+        literal_array_of limits items ≡ found ((x, values), rest) →
         (items ≡ array_yield x rest) × IsArray x values × ArrayWithin limits x }
     ensures complete { (limits : Limits) (x : Opened) (values : Vals) (rest : Items) →
         IsArray x values → ArrayWithin limits x →
-        literal_array_of limits (array_yield x rest) ≡ Some ((x, values), rest) }
+        literal_array_of limits (array_yield x rest) ≡ found ((x, values), rest) }
     ensures unique { (one other : Opened) (values others : Vals) (rest last : Items) →
         IsArray one values → IsArray other others → array_yield one rest ≡ array_yield other last →
         (one ≡ other) × (values ≡ others) × (rest ≡ last) }
@@ -127,11 +133,11 @@ pub fn literal_arrays()
 /// The same of a map of constants, whatever follows.
 pub fn literal_maps()
     ensures sound { (limits : Limits) (items rest : Items) (x : Opened) (pairs : Pairs) →
-        literal_map_of limits items ≡ Some ((x, pairs), rest) →
+        literal_map_of limits items ≡ found ((x, pairs), rest) →
         (items ≡ map_yield x rest) × IsMap x pairs × EachRow (Within limits) x.row }
     ensures complete { (limits : Limits) (x : Opened) (pairs : Pairs) (rest : Items) →
         IsMap x pairs → EachRow (Within limits) x.row →
-        literal_map_of limits (map_yield x rest) ≡ Some ((x, pairs), rest) }
+        literal_map_of limits (map_yield x rest) ≡ found ((x, pairs), rest) }
     ensures unique { (one other : Opened) (pairs others : Pairs) (rest last : Items) →
         IsMap one pairs → IsMap other others → map_yield one rest ≡ map_yield other last →
         (one ≡ other) × (pairs ≡ others) × (rest ≡ last) }
@@ -154,7 +160,7 @@ pub fn constants()
 /// A template is read from its tokens, and what is read from tokens is a template of them.
 pub fn each_is_read()
     ensures { (l : Limits) (items : Items) (b : Body) →
-        IsTemplate l items b ↔ (template l items ≡ Some b) }
+        IsTemplate l items b ↔ (template l items ≡ found b) }
 {}
 
 /// No list of tokens is that of two templates.
@@ -192,4 +198,21 @@ pub fn placed_names()
 pub fn right_trees()
     ensures { (l : Limits) (m : Marks) (source : List ℕ) (output : Output) →
         Derives l m source output → IsRight output }
+{}
+
+/// Where the reading of a template stops, the source is lost: of no template are tokens that agree with its own up to the
+/// end of the token taken last and one step further. The token that reading refuses was not taken, or is the one that
+/// was taken last. Where its tokens end in a fault, it is lost there.
+pub fn lost_sources()
+    ensures before { (limits : Limits) (source : List ℕ) (items left : Items) →
+        Tile false [] source items → template limits items ≡ stopped left →
+        (n : ℕ) (first last : Span) → Passes n items first left last →
+        AreLost limits last.range.end items }
+    ensures after { (limits : Limits) (source : List ℕ) (items left : Items) (t : Tok) (s : Span) →
+        Tile false [] source items → template limits items ≡ stopped (Token t s left) →
+        (n : ℕ) (first last : Span) → Passes n items first left last →
+        AreLost limits last.range.end items }
+    ensures lexical { (limits : Limits) (source : List ℕ) (items left : Items) (text : List ℕ) (span : Span) →
+        Tile false [] source items → template limits items ≡ stopped left →
+        IsFaultOf items text span → AreLost limits span.range.start items }
 {}

@@ -12,12 +12,17 @@ use Rattle.tera_grammar.specs.expressions.Companions.{Path}
 use Rattle.tera_grammar.specs.expressions.Concrete.{Dotted, Name, dots, no_dots}
 use Rattle.tera_grammar.specs.expressions.Ends.{EndsPath}
 use Rattle.tera_grammar.specs.expressions.Marks.{Dot}
-use Rattle.tera_grammar.specs.expressions.Reading.Front.{Place, Reads, at, name_of, skip, takes}
-use Rattle.tera_grammar.specs.expressions.Reading.Bracketed.{dotted_at, dotted_by, dotted_of}
-use Rattle.tera_grammar.specs.expressions.Reading.Whole.{path_of}
+use Rattle.tera_grammar.specs.Reads.{found}
+use Rattle.tera_grammar.specs.expressions.Reading.Whole as reading
+use Rattle.tera_grammar.specs.expressions.Reading.Front.{Place, at}
+use Rattle.tera_grammar.proofs.plain.expressions.Reading.Front.{Reads, name_of, skip, takes}
+use Rattle.tera_grammar.proofs.plain.expressions.Reading.Bracketed.{dotted_at, dotted_by, dotted_of}
+use Rattle.tera_grammar.proofs.plain.expressions.Reading.Whole.{path_of}
 use Rattle.tera_grammar.proofs.Options.{bound}
 use Rattle.tera_grammar.proofs.expressions.Fronts.{skip_none}
 use Rattle.tera_grammar.proofs.expressions.Wholes.{left_over_ok}
+use Rattle.tera_grammar.proofs.Readings.{some_of}
+use Rattle.tera_grammar.proofs.stops.ForgetParts.{path_forget}
 use Rattle.tera_expect.specs.Taking.{GivesBy}
 use Rattle.tera_expr_reader.specs.Outermost.{IsComponent}
 
@@ -56,9 +61,9 @@ not_taken : (items : Items) → takes Dot items ≡ None → EndsPath items
 not_taken items none = λ there. let (span, following, is) = there in none-some _ (sym none ∙ ap (takes Dot) is)
 
 -- what is left after a name that is read
-pub path_ends : (items : Items) (x : Path × Items) → path_of items ≡ Some x → EndsPath x.1
-path_ends items x h = not_taken x.1 (no_dot_after items x h)
+pub path_ends : (items : Items) (x : Path × Items) → reading.path_of items ≡ found x → EndsPath x.1
+path_ends items x h = not_taken x.1 (no_dot_after items x (some_of _ _ (path_forget items) x h))
 
-pub path_ended : (old new : Items) (r : Result (String Global) Error) → GivesBy IsComponent r new (path_of old) → IfOk r (λ _. EndsPath new)
+pub path_ended : (old new : Items) (r : Result (String Global) Error) → GivesBy IsComponent r new (reading.path_of old) → IfOk r (λ _. EndsPath new)
 path_ended old new (Ok s) (x, read, shows) = path_ends old (x, new) read
 path_ended old new (Err e) gives = tt

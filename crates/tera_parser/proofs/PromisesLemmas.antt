@@ -1,9 +1,8 @@
 -- From what is read to the grammar.
-use Rattle.std.proofs.Common.{◌≡◌, inl, inr, Bool, Some, Result, Ok, Err, sym, ap, subst, ◌∙◌}
+use Rattle.std.proofs.Common.{◌≡◌, inl, inr, Bool, Result, Ok, Err, sym, ap, subst, ◌∙◌}
 use Rattle.std.specs.Prelude.{IfOk, String, Vec, string_bytes}
 use Rattle.std.specs.declared.alloc.Global.{Global}
 use Rattle.std.specs.BTreeMap.{BTreeMap}
-use Rattle.std.proofs.lemmas.Option.{none-some, same_Some}
 use Rattle.tera_base.specs.Values as values
 use Rattle.tera_base.specs.Values.{Pairs, Vals}
 use Rattle.tera_base.specs.ValueView.{value_view}
@@ -21,13 +20,16 @@ use Rattle.tera_grammar.specs.expressions.Conditions.{AreArgs, AreAttributes, Is
 use Rattle.tera_grammar.specs.expressions.Ends.{EndsAttributes, EndsFilter, EndsPath, IsStop}
 use Rattle.tera_grammar.specs.expressions.Measures.{EachAttribute, EachRow, Within}
 use Rattle.tera_grammar.specs.expressions.Output.{attributes_output, output}
-use Rattle.tera_grammar.specs.expressions.Reading.Front.{Takes}
+use Rattle.tera_grammar.specs.Reads as reads
+use Rattle.tera_grammar.specs.Reads.{Takes}
 use Rattle.tera_grammar.specs.expressions.Reading.Whole.{all_attributes, expression_of, filter_of, kwargs_of, literal_array_of, literal_map_of, path_of}
 use Rattle.tera_grammar.specs.statements.Expressions as parts
 use Rattle.tera_grammar.proofs.expressions.Fronts.{ends_stop}
 use Rattle.tera_grammar.proofs.expressions.InFront.{array_puts, attributes_puts, filter_puts, kwargs_puts, map_puts, path_puts, yield_puts}
 use Rattle.tera_grammar.proofs.expressions.Only.{attributes_end, filter_end, path_end}
-use Rattle.tera_grammar.proofs.expressions.Wholes.{attributes_found_whole, attributes_read_whole, expression_found, expression_read, filter_found, filter_read_whole, kwargs_found, kwargs_read, literal_array_found, literal_array_read, literal_map_found, literal_map_read, path_found, path_read}
+use Rattle.tera_grammar.proofs.stops.Fronts.{found_same}
+use Rattle.tera_grammar.proofs.Readings.{attributes_found_whole, attributes_read_whole, expression_found, expression_read, filter_found, filter_read_whole, kwargs_found, kwargs_read, literal_array_found, literal_array_read, literal_map_found, literal_map_read, path_found, path_read}
+use Rattle.tera_expr_parts.proofs.RefusedLemmas.{found_stops}
 use Rattle.tera_expr_reader.specs.Outermost as outermost
 use Rattle.tera_parser.specs.Promises.{TakesOnly, TookArray, TookAttributes, TookExpression, TookFilter, TookKwargs, TookMap, TookPath}
 use Rattle.tera_expect.specs.Taking.{GivesBy, GoesOn, Took}
@@ -36,12 +38,12 @@ use Rattle.tera_parser.proofs.YieldLemmas.{later_on, took_tokens}
 
 -- What is read of tokens is all that can be read of them.
 only_by : {E T : Type 0} (Is : E → T → Type 0) (r : Result E Error) (new : Position) (t : T) (rest : Items) (read : Takes T)
-    → GivesBy Is r new.left read → read ≡ Some (t, rest) → TakesOnly (λ e. Is e t) rest r new
+    → GivesBy Is r new.left read → read ≡ reads.found (t, rest) → TakesOnly (λ e. Is e t) rest r new
 only_by {T = T} Is (Ok e) new t rest read (u, is, shows) whole =
-    let same : (u, new.left) ≡ (t, rest) = same_Some _ _ (sym is ∙ whole) in
+    let same : (u, new.left) ≡ (t, rest) = found_same _ _ (sym is ∙ whole) in
     (ap (λ (x : T × Items). x.1) same, subst (λ (x : T × Items). Is e x.0) same shows)
 only_by Is (Err e) new t rest read (inl memory) whole = memory
-only_by Is (Err e) new t rest read (inr none) whole = absurd (none-some _ (sym none ∙ whole))
+only_by Is (Err e) new t rest read (inr stops) whole = absurd (found_stops read (t, rest) new.left whole stops)
 
 module _ (limits : Limits) (l : Bool) (old new : Position) where
   -- expressions

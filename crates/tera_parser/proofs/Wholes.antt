@@ -1,19 +1,23 @@
 -- From the tokens of a whole source to what `parse` promises.
-use Rattle.std.proofs.Common.{◌≡◌, ℕ, List, [], ◌∷◌, ◌++◌, ⊎_elim, subst, sym, refl}
+use Rattle.std.proofs.Common.{◌≡◌, ℕ, ◌≤◌, false, List, [], ◌∷◌, ◌++◌, ⊎_elim, subst, sym, refl}
 use Rattle.std.specs.Prelude.{◌⊎◌}
 use Rattle.std.specs.List.{AllByRecursion}
 use Rattle.tera_base.specs.ErrorView.{error_view}
-use Rattle.tera_base.specs.Errors.{IsMemory}
+use Rattle.tera_base.specs.Errors.{IsMemory, ReportsBy}
 use Rattle.tera_base.specs.declared.errors.Error.{Error}
 use Rattle.tera_base.proofs.Tellings.{reports_weaker}
 use Rattle.tera_lexer.specs.code.Cursors.{Position}
 use Rattle.tera_lexer.specs.grammar.Faults.{Faults}
 use Rattle.tera_lexer.specs.grammar.Place.{IsWithin}
-use Rattle.tera_parser.specs.Refusal.{Refuses}
+use Rattle.tera_parser.specs.Refusal.{LosesSource, Refuses}
+use Rattle.tera_parser.proofs.Lost.{reading_lost}
 use Rattle.tera_lexer.specs.grammar.Marks.{Marks, IsValid}
 use Rattle.tera_lexer.specs.grammar.Division.{Piece, Text, Comment, Raw, Tag, Complete}
 use Rattle.tera_lexer.specs.grammar.Tokens.{Items, comment_bytes, tokens_of, AreTokensOf}
 use Rattle.tera_lexer.proofs.Lefts.{tokens_one}
+use Rattle.tera_lexer.specs.grammar.Tiling.{Tile}
+use Rattle.tera_lexer.proofs.Tilings.{tokens_tile}
+use Rattle.tera_grammar.specs.statements.Lost.{AreLost}
 use Rattle.tera_grammar.specs.Limits.{Limits}
 use Rattle.tera_grammar.specs.statements.Grammar.{Body}
 use Rattle.tera_grammar.specs.statements.Output.{output_of}
@@ -23,6 +27,7 @@ use Rattle.tera_grammar.proofs.statements.Tops.{template_complete, template_soun
 use Rattle.tera_grammar.proofs.statements.Wholes.{derives_read, read_names}
 use Rattle.tera_statements.specs.Items.{AreEmptyTexts}
 use Rattle.tera_expect.specs.Taking.{RefusesIn}
+use Rattle.tera_statements.specs.Templates.{RefusesTemplate}
 use Rattle.tera_tree.specs.Tree.{Output}
 use Rattle.tera_parser.specs.Notes.{error_about}
 use Rattle.tera_parser.proofs.About.{reports_about}
@@ -41,12 +46,22 @@ module _ (m : Marks) (valid : IsValid m) (source : List ℕ) (items : Items) (ar
       ⊎_elim (λ memory. memory) (λ none. absurd (none b (template_sound l items b read))) why
 
   -- the faults of these tokens are those of the source
-  pub refuses : (now : Position) → now.left ≡ items → now.source ≡ source → (e : Error) → RefusesIn now e → Refuses m source e
+  pub refuses : (l : Limits) (now : Position) → now.left ≡ items → now.source ≡ source → (e : Error) → RefusesTemplate l now e → Refuses m source e
   unfolding RefusesIn
-  refuses now left whole e reported =
+  refuses l now left whole e (new, fails, refusal) =
       reports_weaker (λ text span. IsWithin now.source span × Faults now.left text span)
       (λ text span. IsWithin source span × ((items : Items) × AreTokensOf m source items × Faults items text span)) e
-      (λ text span f. (subst (λ s. IsWithin s span) whole f.0, (items, are, subst (λ ts. Faults ts text span) left f.1))) reported
+      (λ text span f. (subst (λ s. IsWithin s span) whole f.0, (items, are, subst (λ ts. Faults ts text span) left f.1))) refusal.0
+
+  -- where the reading of these tokens stops, and so far as its error reaches, the source is lost
+  pub loses : (l : Limits) (now : Position) → now.left ≡ items → (e : Error) → RefusesTemplate l now e → LosesSource l m source e
+  unfolding RefusesIn
+  loses l now left e (new, fails, refusal) =
+      reports_weaker (λ text span. AreLost l span.range.end items) (λ text span. (others : Items) → AreTokensOf m source others → AreLost l span.range.end others) e
+      (λ text span lost others these. subst (λ ts. AreLost l span.range.end ts) (tokens_one m valid source items others are these) lost)
+      (subst (λ ts. ReportsBy (λ text span. AreLost l span.range.end ts) e) left
+      (reading_lost l source now new e (subst (Tile false [] source) (sym left) (tokens_tile m valid source items are)) fails
+      (reports_weaker (λ text span. IsWithin now.source span × Faults now.left text span) (λ text span. span.range.start ≤ span.range.end) e (λ text span f. f.0.0) refusal.0) refusal.1))
 
   -- the tokens of comments alone are empty texts
   pub comments_tokens : IsCommentsAlone m source → AreEmptyTexts items
@@ -65,3 +80,8 @@ pub refuses_about : (m : Marks) (source file : List ℕ) (error result : Error) 
     → Refuses m source error → Refuses m source result
 refuses_about m source file error result named reported =
     reports_about (λ text span. IsWithin source span × ((items : Items) × AreTokensOf m source items × Faults items text span)) file error result named reported
+
+pub loses_about : (l : Limits) (m : Marks) (source file : List ℕ) (error result : Error) → IsMemory result ⊎ (error_view result ≡ error_about file (error_view error))
+    → LosesSource l m source error → LosesSource l m source result
+loses_about l m source file error result named lost =
+    reports_about (λ text span. (items : Items) → AreTokensOf m source items → AreLost l span.range.end items) file error result named lost

@@ -7,7 +7,7 @@ ghost use Rattle.tera_expr_parts.specs.Allowed.{AreValid, limits_of};
 ghost use Rattle.tera_grammar.specs.statements.Top.{Derives, DerivesNames};
 ghost use Rattle.tera_parser.specs.Comments.{IsCommentsAlone};
 ghost use Rattle.tera_parser.specs.Notes.{NotesName};
-ghost use Rattle.tera_parser.specs.Refusal.{Refuses};
+ghost use Rattle.tera_parser.specs.Refusal.{LosesSource, Refuses};
 
 use crate::notes::in_file;
 use std::alloc::Global;
@@ -102,6 +102,8 @@ impl<'a> Parser<'a> {
             Derives self.entry.limits self.entry.marks self.entry.source output →
             MatchResult result (λ o. output_view o ≡ output) IsMemory }
         ensures refusal { IfErr result (Refuses self.entry.marks self.entry.source) }
+        ensures lost { IfErr result (LosesSource self.entry.limits
+            self.entry.marks self.entry.source) }
         ensures notes { IfErr result (NotesName self.entry.filename) }
         ensures empty { IsCommentsAlone self.entry.marks self.entry.source → IsOk result }
     {
@@ -118,6 +120,8 @@ impl<'a> Parser<'a> {
             self.entry.marks self.entry.source output names →
             MatchResult result (λ p. (output_view p.0 ≡ output) × AreNames p.1 names) IsMemory }
         ensures refusal { IfErr result (Refuses self.entry.marks self.entry.source) }
+        ensures lost { IfErr result (LosesSource self.entry.limits
+            self.entry.marks self.entry.source) }
         ensures notes { IfErr result (NotesName self.entry.filename) }
         ensures empty { IsCommentsAlone self.entry.marks self.entry.source → IsOk result }
     {

@@ -1,6 +1,6 @@
 -- What is written for an expression in a source is read, within the limits of the expression, as that expression,
 -- apart from places.
-use Rattle.std.proofs.Common.{◌≡◌, ℕ, List, Bool, false, Some, ap, ◌∙◌}
+use Rattle.std.proofs.Common.{◌≡◌, ℕ, List, Bool, false, ap, ◌∙◌}
 use Rattle.tera_lexer.specs.grammar.Marks.{Marks}
 use Rattle.tera_lexer.specs.grammar.Tokens.{Items, Ended}
 use Rattle.tera_grammar.specs.Limits.{Limits}
@@ -9,9 +9,10 @@ use Rattle.tera_grammar.specs.expressions.Conditions.{IsExpression}
 use Rattle.tera_grammar.specs.expressions.Measures.{Within}
 use Rattle.tera_grammar.specs.expressions.Output.{output}
 use Rattle.tera_grammar.specs.expressions.Ends.{IsStop}
+use Rattle.tera_grammar.specs.Reads.{found}
 use Rattle.tera_grammar.specs.expressions.Reading.Whole.{expression_of}
 use Rattle.tera_grammar.proofs.expressions.Fronts.{ends_stop}
-use Rattle.tera_grammar.proofs.expressions.Wholes.{expression_read}
+use Rattle.tera_grammar.proofs.Readings.{expression_read}
 use Rattle.tera_source.specs.Source.{source_tree}
 use Rattle.tera_source.specs.Placeless.{placeless}
 use Rattle.tera_spelling.specs.Sources.{AreReadAs}
@@ -50,7 +51,7 @@ module _ (m : Marks) (source : List ℕ) (limits : Limits) (l : Bool) (e : Tree)
 
   -- it is read from them, and is the same
   pub reads_back : (read rest : Items) → AreReadAs (yield (source_tree (output l e)) Ended) rest read → IsStop rest →
-      (t : Tree) × (expression_of limits false read ≡ Some (t, rest)) × Within limits t × (placeless (output false t) ≡ placeless (output l e))
+      (t : Tree) × (expression_of limits false read ≡ found (t, rest)) × Within limits t × (placeless (output false t) ≡ placeless (output l e))
   reads_back read rest h stop =
       let x = moved limits (source_tree (output l e)) read rest (source_bound l e is) stands_within h in (
         x.tree,

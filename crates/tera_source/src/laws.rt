@@ -1,6 +1,6 @@
 //! Laws of the source text of expressions: each function has the law as its promise and does nothing.
 
-ghost use Rattle.std.specs.Prelude.{◌≡◌, ◌≤◌, ℕ, List, Bool, false, Some};
+ghost use Rattle.std.specs.Prelude.{◌≡◌, ◌≤◌, ℕ, List, Bool, false};
 ghost use Rattle.tera_lexer.specs.grammar.Marks.{Marks};
 ghost use Rattle.tera_lexer.specs.grammar.Tokens.{Items, Ended};
 ghost use Rattle.tera_ast.specs.Tree.{Expr};
@@ -11,6 +11,7 @@ ghost use Rattle.tera_grammar.specs.expressions.Conditions.{IsExpression};
 ghost use Rattle.tera_grammar.specs.expressions.Ends.{IsStop};
 ghost use Rattle.tera_grammar.specs.expressions.Measures.{Within};
 ghost use Rattle.tera_grammar.specs.expressions.Output.{output};
+ghost use Rattle.tera_grammar.specs.Reads.{found};
 ghost use Rattle.tera_grammar.specs.expressions.Reading.Whole.{expression_of};
 ghost use Rattle.tera_grammar.specs.statements.Top.{Derives};
 ghost use Rattle.tera_spelling.specs.Sources.{AreReadAs};
@@ -45,7 +46,7 @@ pub fn read_back()
     ensures { (m : Marks) (source : List ℕ) (limits : Limits) (in_loop : Bool) (e : Tree) →
         IsInSource m source e → IsExpression in_loop e → Within limits e → (read rest : Items) →
         AreReadAs (yield (source_tree (output in_loop e)) Ended) rest read → IsStop rest →
-        (t : Tree) × (expression_of limits false read ≡ Some (t, rest)) × Within limits t
+        (t : Tree) × (expression_of limits false read ≡ found (t, rest)) × Within limits t
         × (placeless (output false t) ≡ placeless (output in_loop e)) }
 {}
 

@@ -1,8 +1,8 @@
 -- Reading blocks and the definitions of components.
-use Rattle.std.proofs.Common.{◌≡◌, ℕ, true, false, not, List, ◌∷◌, Option, Some, None, refl, ap, ◌∙◌}
+use Rattle.std.proofs.Common.{◌≡◌, ℕ, true, false, not, List, ◌∷◌, Option, refl, ap, ◌∙◌}
 use Rattle.tera_base.specs.declared.utils.Span.{Span}
 use Rattle.tera_lexer.specs.grammar.Tokens.{Items}
-use Rattle.tera_grammar.specs.Options.{◌>>=◌}
+use Rattle.tera_grammar.specs.Reads.{found, stopped, ◌>>=◌, Takes}
 use Rattle.tera_grammar.specs.expressions.Reading.Front.{taken_name}
 use Rattle.tera_grammar.specs.statements.Components.{Head}
 use Rattle.tera_grammar.specs.statements.Expressions.{Limits}
@@ -26,71 +26,71 @@ module _ (self : Reader) (path : Path) (start : Edge) (first : Span) (seen : See
   abbrev after_name : Name × Items → Reads Item
   after_name n =
       finish_of n.1 >>= λ f. self (InBlock ∷ path) (at (seen having block_placed n.0) f.1) >>= λ b. block_end n.0 b.1.tokens >>= λ e.
-      Some (Block (tag start first f.0) n.0 b.0 e.0.0 e.0.1, at b.1.seen e.1)
+      found (Block (tag start first f.0) n.0 b.0 e.0.0 e.0.1, at b.1.seen e.1)
 
-  pub barred : may_block path ≡ false → block_of self path start first seen ts ≡ None
+  pub barred : may_block path ≡ false → block_of self path start first seen ts ≡ stopped ts
   unfolding block_of
   barred h = rw h refl
 
   block_is : may_block path ≡ true → block_of self path start first seen ts ≡ (new_block_of (met seen.blocks) ts >>= after_name)
   unfolding block_of
-  block_is h = rw h (kept_by (taken_name ts) (λ n. not (met seen.blocks n.0.text)) after_name)
+  block_is h = rw h (kept_by (taken_name ts) (λ (n : Name × Items). n.1) (λ n. not (met seen.blocks n.0.text)) after_name)
 
   module _ (may : may_block path ≡ true) where
-    pub block_unnamed : new_block_of (met seen.blocks) ts ≡ None → block_of self path start first seen ts ≡ None
-    block_unnamed h = block_is may ∙ ap (λ o. o >>= after_name) h
+    pub block_unnamed : (z : Items) → new_block_of (met seen.blocks) ts ≡ stopped z → block_of self path start first seen ts ≡ stopped z
+    block_unnamed z h = block_is may ∙ ap (λ o. o >>= after_name) h
 
-    module _ (n : Name) (us : Items) (named : new_block_of (met seen.blocks) ts ≡ Some (n, us)) where
+    module _ (n : Name) (us : Items) (named : new_block_of (met seen.blocks) ts ≡ found (n, us)) where
       block_named_so : block_of self path start first seen ts ≡ after_name (n, us)
       block_named_so = block_is may ∙ ap (λ o. o >>= after_name) named
 
-      pub block_unfinished : finish_of us ≡ None → block_of self path start first seen ts ≡ None
-      block_unfinished h = block_named_so ∙ rw h refl
+      pub block_unfinished : (z : Items) → finish_of us ≡ stopped z → block_of self path start first seen ts ≡ stopped z
+      block_unfinished z h = block_named_so ∙ rw h refl
 
-      module _ (f : Edge) (vs : Items) (ended : finish_of us ≡ Some (f, vs)) where
-        pub block_empty : self (InBlock ∷ path) (at (seen having block_placed n) vs) ≡ None → block_of self path start first seen ts ≡ None
-        block_empty h = block_named_so ∙ rw (ended, h) refl
+      module _ (f : Edge) (vs : Items) (ended : finish_of us ≡ found (f, vs)) where
+        pub block_empty : (z : Items) → self (InBlock ∷ path) (at (seen having block_placed n) vs) ≡ stopped z → block_of self path start first seen ts ≡ stopped z
+        block_empty z h = block_named_so ∙ rw (ended, h) refl
 
-        module _ (b : Body) (p : Place) (inside : self (InBlock ∷ path) (at (seen having block_placed n) vs) ≡ Some (b, p)) where
-          pub block_unclosed : block_end n p.tokens ≡ None → block_of self path start first seen ts ≡ None
-          block_unclosed h = block_named_so ∙ rw (ended, inside, h) refl
+        module _ (b : Body) (p : Place) (inside : self (InBlock ∷ path) (at (seen having block_placed n) vs) ≡ found (b, p)) where
+          pub block_unclosed : (z : Items) → block_end n p.tokens ≡ stopped z → block_of self path start first seen ts ≡ stopped z
+          block_unclosed z h = block_named_so ∙ rw (ended, inside, h) refl
 
-          pub block_given : (e : Tag × Option Name) (ws : Items) → block_end n p.tokens ≡ Some (e, ws)
-              → block_of self path start first seen ts ≡ Some (Block (tag start first f) n b e.0 e.1, at p.seen ws)
+          pub block_given : (e : Tag × Option Name) (ws : Items) → block_end n p.tokens ≡ found (e, ws)
+              → block_of self path start first seen ts ≡ found (Block (tag start first f) n b e.0 e.1, at p.seen ws)
           block_given e ws h = block_named_so ∙ rw (ended, inside, h) refl
 
 module _ (l : Limits) (self : Reader) (path : Path) (start : Edge) (first : Span) (seen : Seen) (ts : Items) where
-  pub nested : is_outermost path ≡ false → component_def_of l self path start first seen ts ≡ None
+  pub nested : is_outermost path ≡ false → component_def_of l self path start first seen ts ≡ stopped ts
   unfolding component_def_of
   nested h = rw h refl
 
   module _ (may : is_outermost path ≡ true) where
-    pub unopened : opened_of l (met seen.components) ts ≡ None → component_def_of l self path start first seen ts ≡ None
+    pub unopened : (z : Items) → opened_of l (met seen.components) ts ≡ stopped z → component_def_of l self path start first seen ts ≡ stopped z
     unfolding component_def_of
-    unopened h = rw (may, h) refl
+    unopened z h = rw (may, h) refl
 
-    module _ (o : Opened) (us : Items) (open_tag : opened_of l (met seen.components) ts ≡ Some (o, us)) where
-      pub definition_empty : self (InComponent ∷ path) (at (seen having component_placed o.name o.parameters) us) ≡ None → component_def_of l self path start first seen ts ≡ None
+    module _ (o : Opened) (us : Items) (open_tag : opened_of l (met seen.components) ts ≡ found (o, us)) where
+      pub definition_empty : (z : Items) → self (InComponent ∷ path) (at (seen having component_placed o.name o.parameters) us) ≡ stopped z → component_def_of l self path start first seen ts ≡ stopped z
       unfolding component_def_of
-      definition_empty h = rw (may, open_tag, h) refl
+      definition_empty z h = rw (may, open_tag, h) refl
 
-      module _ (b : Body) (p : Place) (inside : self (InComponent ∷ path) (at (seen having component_placed o.name o.parameters) us) ≡ Some (b, p)) where
-        pub definition_unclosed : ending_of start first o p.tokens ≡ None → component_def_of l self path start first seen ts ≡ None
+      module _ (b : Body) (p : Place) (inside : self (InComponent ∷ path) (at (seen having component_placed o.name o.parameters) us) ≡ found (b, p)) where
+        pub definition_unclosed : (z : Items) → ending_of start first o p.tokens ≡ stopped z → component_def_of l self path start first seen ts ≡ stopped z
         unfolding component_def_of
-        definition_unclosed h = rw (may, open_tag, inside, h) refl
+        definition_unclosed z h = rw (may, open_tag, inside, h) refl
 
-        pub definition_given : (h : Head) (ws : Items) → ending_of start first o p.tokens ≡ Some (h, ws)
-            → component_def_of l self path start first seen ts ≡ Some (Define h b, at p.seen ws)
+        pub definition_given : (h : Head) (ws : Items) → ending_of start first o p.tokens ≡ found (h, ws)
+            → component_def_of l self path start first seen ts ≡ found (Define h b, at p.seen ws)
         unfolding component_def_of
         definition_given h ws read = rw (may, open_tag, inside, read) refl
 
 -- the closing tag of a block
-module _ (n : Name) (ts us : Items) (x : Edge × Span) (there : closed AtEndBlock ts ≡ Some (x, us)) where
-  module _ (end : Option Name) (vs : Items) (named : name_if_any us ≡ (end, vs)) where
-    abbrev last_step : Edge × Items → Option ((Tag × Option Name) × Items)
-    last_step f = Some ((tag x.0 x.1 f.0, end), f.1)
+module _ (n : Name) (ts us : Items) (x : Edge × Span) (there : closed AtEndBlock ts ≡ found (x, us)) where
+  module _ (end : Option Name) (vs : Items) (named : name_if_any us ≡ found (end, vs)) where
+    abbrev last_step : Edge × Items → Takes (Tag × Option Name)
+    last_step f = found ((tag x.0 x.1 f.0, end), f.1)
 
-    pub renamed : agrees n.text (text_if_any end) ≡ false → block_end n ts ≡ None
+    pub renamed : agrees n.text (text_if_any end) ≡ false → block_end n ts ≡ stopped vs
     unfolding block_end
     renamed h = rw (there, named, h) refl
 
@@ -98,6 +98,6 @@ module _ (n : Name) (ts us : Items) (x : Edge × Span) (there : closed AtEndBloc
     unfolding block_end
     ends_as h = rw (there, named, h) refl
 
-pub unclosed_block : (n : Name) (ts : Items) → closed AtEndBlock ts ≡ None → block_end n ts ≡ None
+pub unclosed_block : (n : Name) (ts z : Items) → closed AtEndBlock ts ≡ stopped z → block_end n ts ≡ stopped z
 unfolding block_end
-unclosed_block n ts h = rw h refl
+unclosed_block n ts z h = rw h refl

@@ -1,11 +1,12 @@
 -- Reading bodies.
-use Rattle.std.proofs.Common.{◌≡◌, ℕ, Bool, true, false, None, ap}
+use Rattle.std.proofs.Common.{◌≡◌, ℕ, Bool, true, false, ap}
+use Rattle.tera_grammar.specs.Reads.{stopped}
 use Rattle.tera_grammar.specs.statements.Expressions.{Limits}
 use Rattle.tera_grammar.specs.statements.Grammar.{Path}
 use Rattle.tera_grammar.specs.statements.Reading.{Place, body}
 
 -- no body may open
-pub no_depth : (n : ℕ) (l : Limits) (path : Path) (p : Place) → n ≡ 0 → body n l path p ≡ None
+pub no_depth : (n : ℕ) (l : Limits) (path : Path) (p : Place) → n ≡ 0 → body n l path p ≡ stopped p.tokens
 unfolding body
 no_depth n l path p h = ap (λ m. body m l path p) h
 

@@ -4,7 +4,7 @@ use Rattle.tera_base.specs.declared.utils.Span.{Span}
 use Rattle.tera_lexer.specs.grammar.Tokens as toks
 use Rattle.tera_lexer.specs.grammar.Tokens.{Tok, Items, Token}
 use Rattle.tera_lexer.specs.declared.lexer.delimiters.Kind.TheVariants as kind
-use Rattle.tera_grammar.specs.Options.{◌>>=◌}
+use Rattle.tera_grammar.specs.Reads.{found, stopped, ◌>>=◌}
 use Rattle.tera_grammar.specs.statements.Expressions.{Limits, Expression}
 use Rattle.tera_grammar.specs.statements.Reading.Expressions.{expression_of}
 use Rattle.tera_grammar.specs.statements.Grammar.{Item, Path, Shown, Single, Text, in_loop}
@@ -13,7 +13,7 @@ use Rattle.tera_grammar.specs.statements.TagParts as parts
 use Rattle.tera_grammar.specs.statements.TagParts.{Edge, opener_token, start_yield}
 use Rattle.tera_grammar.specs.statements.Reading.{Place, Reader, Reads, at, shown_of, step, tag_of}
 use Rattle.tera_grammar.specs.statements.Reading.TagParts as reading
-use Rattle.tera_grammar.specs.statements.Reading.TagParts.{front, variable_end_of}
+use Rattle.tera_grammar.specs.statements.Reading.TagParts.{front, variable_end_of, wrong_at}
 use Rattle.tera_grammar.proofs.statements.TagParts.{FrontOf, front_is}
 use Rattle.tera_statements.specs.Kinds.{kind_of, opener_kind, opener_of}
 use Rattle.tera_statements.specs.declared.fronts.Front.TheVariants as fronts
@@ -125,8 +125,8 @@ entered o ts us vs t u s r there one two =
     span_first t u s r us vs h = cc
 
 -- what the next step comes to
-module _ (l : Limits) (self : Reader) (path : Path) (seen : Seen) where
-  step_ended_by : (fr : reading.Front) → fronts.Ends ≡ kind_of fr → step l self path seen fr ≡ Some None
+module _ (l : Limits) (self : Reader) (path : Path) (seen : Seen) (ts : Items) where
+  step_ended_by : (fr : reading.Front) → fronts.Ends ≡ kind_of fr → step l self path seen ts fr ≡ found (None, at seen ts)
   unfolding step
   step_ended_by reading.Ends h = refl
   step_ended_by (reading.Closes c start first us) h = refl
@@ -135,10 +135,10 @@ module _ (l : Limits) (self : Reader) (path : Path) (seen : Seen) where
   step_ended_by (reading.Opens o start first us) h = cc
   step_ended_by reading.Wrong h = cc
 
-  pub step_ended : (ts : Items) → fronts.Ends ≡ kind_of (front ts) → step l self path seen (front ts) ≡ Some None
-  step_ended ts h = step_ended_by (front ts) h
+  pub step_ended : fronts.Ends ≡ kind_of (front ts) → step l self path seen ts (front ts) ≡ found (None, at seen ts)
+  step_ended h = step_ended_by (front ts) h
 
-  step_closed_by : (c : Closer) (fr : reading.Front) → fronts.Closes c ≡ kind_of fr → step l self path seen fr ≡ Some None
+  step_closed_by : (c : Closer) (fr : reading.Front) → fronts.Closes c ≡ kind_of fr → step l self path seen ts fr ≡ found (None, at seen ts)
   unfolding step
   step_closed_by c (reading.Closes d start first us) h = refl
   step_closed_by c reading.Ends h = refl
@@ -147,10 +147,10 @@ module _ (l : Limits) (self : Reader) (path : Path) (seen : Seen) where
   step_closed_by c (reading.Opens o start first us) h = cc
   step_closed_by c reading.Wrong h = cc
 
-  pub step_closed : (c : Closer) (ts : Items) → fronts.Closes c ≡ kind_of (front ts) → step l self path seen (front ts) ≡ Some None
-  step_closed c ts h = step_closed_by c (front ts) h
+  pub step_closed : (c : Closer) → fronts.Closes c ≡ kind_of (front ts) → step l self path seen ts (front ts) ≡ found (None, at seen ts)
+  step_closed c h = step_closed_by c (front ts) h
 
-  step_wrong_by : (fr : reading.Front) → fronts.Wrong ≡ kind_of fr → step l self path seen fr ≡ None
+  step_wrong_by : (fr : reading.Front) → fronts.Wrong ≡ kind_of fr → step l self path seen ts fr ≡ stopped (wrong_at ts)
   unfolding step
   step_wrong_by reading.Wrong h = refl
   step_wrong_by reading.Ends h = cc
@@ -159,42 +159,42 @@ module _ (l : Limits) (self : Reader) (path : Path) (seen : Seen) where
   step_wrong_by (reading.Shows start us) h = cc
   step_wrong_by (reading.Opens o start first us) h = cc
 
-  pub step_wrong : (ts : Items) → fronts.Wrong ≡ kind_of (front ts) → step l self path seen (front ts) ≡ None
-  step_wrong ts h = step_wrong_by (front ts) h
+  pub step_wrong : fronts.Wrong ≡ kind_of (front ts) → step l self path seen ts (front ts) ≡ stopped (wrong_at ts)
+  step_wrong h = step_wrong_by (front ts) h
 
-  pub step_holds : (fr : reading.Front) (text : List ℕ) (span : Span) (us : Items) → fr ≡ reading.Holds text span us → step l self path seen fr ≡ Some (Some (Single (Text text span), at seen us))
+  pub step_holds : (fr : reading.Front) (text : List ℕ) (span : Span) (us : Items) → fr ≡ reading.Holds text span us → step l self path seen ts fr ≡ found (Some (Single (Text text span)), at seen us)
   unfolding step
-  step_holds fr text span us h = ap (step l self path seen) h
+  step_holds fr text span us h = ap (step l self path seen ts) h
 
   module _ (fr : reading.Front) (start : Edge) (us : Items) (is : fr ≡ reading.Shows start us) where
-    abbrev shown : Reads Item → Option (Option (Item × Place))
-    shown r = r >>= λ x. Some (Some x)
+    abbrev shown : Reads Item → Reads (Option Item)
+    shown r = r >>= λ x. found (Some x.0, x.1)
 
-    shows_so : step l self path seen fr ≡ shown (shown_of l path start seen us)
+    shows_so : step l self path seen ts fr ≡ shown (shown_of l path start seen us)
     unfolding step
-    shows_so = ap (step l self path seen) is
+    shows_so = ap (step l self path seen ts) is
 
-    pub shows_nothing : expression_of l (in_loop path) us ≡ None → step l self path seen fr ≡ None
+    pub shows_nothing : (z : Items) → expression_of l (in_loop path) us ≡ stopped z → step l self path seen ts fr ≡ stopped z
     unfolding shown_of
-    shows_nothing h = shows_so ∙ rw h refl
+    shows_nothing z h = shows_so ∙ rw h refl
 
-    module _ (e : Expression) (vs : Items) (read : expression_of l (in_loop path) us ≡ Some (e, vs)) where
-      pub shows_unended : variable_end_of vs ≡ None → step l self path seen fr ≡ None
+    module _ (e : Expression) (vs : Items) (read : expression_of l (in_loop path) us ≡ found (e, vs)) where
+      pub shows_unended : (z : Items) → variable_end_of vs ≡ stopped z → step l self path seen ts fr ≡ stopped z
       unfolding shown_of
-      shows_unended h = shows_so ∙ rw (read, h) refl
+      shows_unended z h = shows_so ∙ rw (read, h) refl
 
-      pub shows_given : (f : Edge) (ws : Items) → variable_end_of vs ≡ Some (f, ws) → step l self path seen fr ≡ Some (Some (Single (Shown start e f), at seen ws))
+      pub shows_given : (f : Edge) (ws : Items) → variable_end_of vs ≡ found (f, ws) → step l self path seen ts fr ≡ found (Some (Single (Shown start e f)), at seen ws)
       unfolding shown_of
       shows_given f ws h = shows_so ∙ rw (read, h) refl
 
   module _ (fr : reading.Front) (o : parts.Opener) (start : Edge) (first : Span) (us : Items) (is : fr ≡ reading.Opens o start first us) where
-    pub opens_nothing : tag_of l self path o start first seen us ≡ None → step l self path seen fr ≡ None
+    pub opens_nothing : (z : Items) → tag_of l self path o start first seen us ≡ stopped z → step l self path seen ts fr ≡ stopped z
     unfolding step
-    opens_nothing h = ap (step l self path seen) is ∙ ap (λ (r : Reads Item). r >>= λ x. Some (Some x)) h
+    opens_nothing z h = ap (step l self path seen ts) is ∙ ap (λ (r : Reads Item). r >>= λ x. found (Some x.0, x.1)) h
 
-    pub opens_item : (i : Item) (p : Place) → tag_of l self path o start first seen us ≡ Some (i, p) → step l self path seen fr ≡ Some (Some (i, p))
+    pub opens_item : (i : Item) (p : Place) → tag_of l self path o start first seen us ≡ found (i, p) → step l self path seen ts fr ≡ found (Some i, p)
     unfolding step
-    opens_item i p h = ap (step l self path seen) is ∙ ap (λ (r : Reads Item). r >>= λ x. Some (Some x)) h
+    opens_item i p h = ap (step l self path seen ts) is ∙ ap (λ (r : Reads Item). r >>= λ x. found (Some x.0, x.1)) h
 
 -- the start of a variable tag was taken
 pub shown_taken : (ts us : Items) (t : Tok) (s : Span) → ShowsTag ts → ts ≡ Token t s us → (start : Edge) × (front ts ≡ reading.Shows start us)

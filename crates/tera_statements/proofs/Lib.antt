@@ -18,3 +18,4 @@ pub mod PairsLemmas
 pub mod ComponentsLemmas
 pub mod TemplatesLemmas
 pub mod BodiesLemmas
+pub mod WrongLemmas

@@ -1,7 +1,8 @@
 -- Refusals in the tokens that are left, and tokens of which none is refused: empty texts.
-use Rattle.std.proofs.Common.{◌≡◌, ℕ, zero, suc, ◌+◌, Bool, true, false, List, [], Some, None, Err, inl, inr, ⊎_elim, refl, sym, ap, subst, ◌∙◌, arith}
+use Rattle.std.proofs.Common.{◌≡◌, ℕ, zero, suc, ◌+◌, Bool, true, false, List, [], Option, Some, None, Err, inl, inr, ⊎_elim, refl, sym, ap, subst, ◌∙◌, arith}
+use Rattle.std.proofs.lemmas.Option.{none-some, same_Some}
 use Rattle.tera_base.proofs.Tellings.{reports_weaker, reports_memory}
-use Rattle.tera_base.specs.Errors.{IsMemory}
+use Rattle.tera_base.specs.Errors.{IsMemory, ReportsBy}
 use Rattle.tera_base.specs.declared.errors.Error.{Error}
 use Rattle.tera_base.specs.declared.utils.Span.{Span}
 use Rattle.tera_lexer.specs.code.Cursors.{FaultsFrom, IsLater, Passes, Position, TakesOne, is_end, size}
@@ -11,12 +12,14 @@ use Rattle.tera_lexer.specs.grammar.Place.{IsWithin}
 use Rattle.tera_lexer.specs.grammar.Tokens.{Ended, Failed, Items, Token}
 use Rattle.tera_lexer.proofs.FaultsOfTokens as refusals
 use Rattle.tera_lexer.proofs.FaultsOfTokens.{later_faults, lift_faults}
+use Rattle.tera_grammar.specs.Reads.{found, stopped}
 use Rattle.tera_grammar.specs.statements.Expressions.{Limits}
 use Rattle.tera_grammar.specs.statements.Grammar.{Item, Path, Single, Text}
 use Rattle.tera_grammar.specs.statements.Reading.Meeting.{Seen}
 use Rattle.tera_grammar.specs.statements.Output.{AddsNothing, added_by}
 use Rattle.tera_grammar.specs.statements.Reading as reading
-use Rattle.tera_grammar.specs.statements.Reading.{Place, Reader, step}
+use Rattle.tera_grammar.specs.statements.Reading.Phases as phases
+use Rattle.tera_grammar.specs.statements.Reading.{Place, Reader, Reads, step}
 use Rattle.tera_grammar.specs.statements.Reading.Loops.{Silent, turn}
 use Rattle.tera_grammar.specs.statements.Reading.TagParts.{front, front_at}
 use Rattle.tera_statements.specs.Items.{AreEmptyTexts}
@@ -25,28 +28,32 @@ use Rattle.tera_expect.specs.Taking.{GoesOn, Refuses, RefusesIn, Took}
 use Rattle.tera_statements.specs.declared.fronts.Front.{Front}
 use Rattle.tera_statements.specs.declared.fronts.Front.TheVariants as fronts
 use Rattle.tera_statements.specs.declared.fronts.Front.TheVariants.{Ends, Closes, Holds, Shows, Opens, Wrong}
-use Rattle.tera_expect.proofs.TakingLemmas.{refused_further}
+use Rattle.tera_expect.proofs.TakingLemmas.{reaches_later, reaches_memory, refused_further, untaken_reaches}
 
 -- what is refused in the tokens is refused
-pub inside_refused : (old : Position) (e : Error) → RefusesIn old e → Refuses old e
+pub inside_refused : (old new : Position) (e : Error) → RefusesIn old new e → Refuses old new e
 unfolding RefusesIn Refuses
-inside_refused old e reported =
-    reports_weaker (λ text span. IsWithin old.source span × Faults old.left text span) (λ text span. IsWithin old.source span × FaultsFrom old.span old.left text span) e
-    (λ text span f. (f.0, inr (inr f.1))) reported
+inside_refused old new e h = (
+  reports_weaker (λ text span. IsWithin old.source span × Faults old.left text span) (λ text span. IsWithin old.source span × FaultsFrom old.span old.left text span) e
+      (λ text span f. (f.0, inr (inr f.1))) h.0,
+  h.1,
+)
 
-pub memory_inside : (old : Position) (e : Error) → IsMemory e → RefusesIn old e
+pub memory_inside : (old new : Position) (e : Error) → IsMemory e → RefusesIn old new e
 unfolding RefusesIn
-memory_inside old e memory = reports_memory (λ text span. IsWithin old.source span × Faults old.left text span) e memory
+memory_inside old new e memory =
+    (reports_memory (λ text span. IsWithin old.source span × Faults old.left text span) e memory, reaches_memory old new e memory)
 
-pub inside_further : (old mid : Position) (e : Error) → GoesOn old mid → RefusesIn mid e → Refuses old e
-inside_further old mid e goes reported = refused_further old mid e goes (inside_refused mid e reported)
+pub inside_further : (old mid new : Position) (e : Error) → GoesOn old mid → RefusesIn mid new e → Refuses old new e
+inside_further old mid new e goes reported = refused_further old mid new e goes (inside_refused mid new e reported)
 
 -- what is refused at tokens that were taken, or after them
-pub took_inside : (old mid : Position) (e : Error) → Took old mid → Refuses mid e → RefusesIn old e
+pub took_inside : (old mid new : Position) (e : Error) → Took old mid → Refuses mid new e → RefusesIn old new e
 unfolding Took Refuses RefusesIn
-took_inside old mid e took reported = by took.0.count old.left refl took.0.taken took.0.passes
+took_inside old mid new e took h = (by took.0.count old.left refl took.0.taken took.0.passes, reaches_later old mid new e took.0 h.1)
   where
-    by : (n : ℕ) (items : Items) → old.left ≡ items → mid.taken ≡ old.taken + n → Passes n items old.span mid.left mid.span → RefusesIn old e
+    by : (n : ℕ) (items : Items) → old.left ≡ items → mid.taken ≡ old.taken + n → Passes n items old.span mid.left mid.span
+        → ReportsBy (λ text span. IsWithin old.source span × Faults old.left text span) e
     by zero items is taken (left_is, span_is) = let same : size mid.left ≡ size old.left = ap size (left_is ∙ sym is) in absurd (omega (arith, same, took.1))
     by (suc n) Ended is taken passes = absurd passes
     by (suc n) (Failed text at) is taken passes = absurd passes
@@ -54,7 +61,7 @@ took_inside old mid e took reported = by took.0.count old.left refl took.0.taken
         let following : Position = record { source = old.source; left = items; sight = 0; taken = old.taken + 1; span = here } in
         let later : IsLater following mid = record { count = n; source = took.0.source; taken = omega (arith, taken); passes = passes } in
         reports_weaker (λ text span. IsWithin old.source span × FaultsFrom here items text span) (λ text span. IsWithin old.source span × Faults old.left text span) e
-        (λ text span f. (f.0, subst (λ ts. Faults ts text span) (sym is) (lift_faults t here items text span f.1))) (refusals.refuses_later following mid e later reported)
+        (λ text span f. (f.0, subst (λ ts. Faults ts text span) (sym is) (lift_faults t here items text span f.1))) (refusals.refuses_later following mid e later h.0)
 
 passed_faults : (n : ℕ) (items : Items) (last : Span) (left : Items) (here : Span) → Passes n items last left here → (text : List ℕ) (span : Span) → Faults left text span → Faults items text span
 passed_faults zero items last left here (left_is, span_is) text span f = subst (λ ts. Faults ts text span) left_is f
@@ -62,29 +69,32 @@ passed_faults (suc n) Ended last left here passes text span f = absurd passes
 passed_faults (suc n) (Failed reported at) last left here passes text span f = absurd passes
 passed_faults (suc n) (Token t at items) last left here passes text span f = later_faults t at items text span (passed_faults n items at left here passes text span f)
 
-pub goes_inside : (old mid : Position) (e : Error) → GoesOn old mid → RefusesIn mid e → RefusesIn old e
+pub goes_inside : (old mid new : Position) (e : Error) → GoesOn old mid → RefusesIn mid new e → RefusesIn old new e
 unfolding GoesOn RefusesIn
-goes_inside old mid e goes reported =
-    reports_weaker (λ text span. IsWithin mid.source span × Faults mid.left text span) (λ text span. IsWithin old.source span × Faults old.left text span) e
-    (λ text span f. (
-      subst (λ s. IsWithin s span) goes.0.source f.0,
-      passed_faults goes.0.count old.left old.span mid.left mid.span goes.0.passes text span f.1,
-    )) reported
+goes_inside old mid new e goes h = (
+  reports_weaker (λ text span. IsWithin mid.source span × Faults mid.left text span) (λ text span. IsWithin old.source span × Faults old.left text span) e
+      (λ text span f. (
+        subst (λ s. IsWithin s span) goes.0.source f.0,
+        passed_faults goes.0.count old.left old.span mid.left mid.span goes.0.passes text span f.1,
+      )) h.0,
+  reaches_later old mid new e goes.0 h.1,
+)
 
 pub not_both : true ≡ false → ⊥
 not_both h = cc
 
 -- a token is not taken, where the tokens have not ended
-pub untaken_inside : (old new : Position) (e : Error) → is_end old.left ≡ false → TakesOne old (Err e) new → RefusesIn old e
+pub untaken_inside : (old new : Position) (e : Error) → is_end old.left ≡ false → TakesOne old (Err e) new → RefusesIn old new e
 unfolding RefusesIn
-untaken_inside old new e some reported = ⊎_elim (λ end. absurd (not_both (ap is_end (sym end.0) ∙ some))) (λ stops. by old.left refl stops.1) reported
+untaken_inside old new e some reported =
+    (⊎_elim (λ end. absurd (not_both (ap is_end (sym end.0) ∙ some))) (λ stops. by old.left refl stops.1) reported, untaken_reaches old new e reported)
   where
-    by : (items : Items) → old.left ≡ items → Stops old.source items e → RefusesIn old e
+    by : (items : Items) → old.left ≡ items → Stops old.source items e → ReportsBy (λ text span. IsWithin old.source span × Faults old.left text span) e
     by Ended is stops = absurd stops
     by (Failed reported here) is (within, reports) =
         reports_weaker (λ text span. (text ≡ reported) × (span ≡ here)) (λ text span. IsWithin old.source span × Faults old.left text span) e
         (λ text span at. rw at.1 (within, rw is (inl (at.0, refl)))) reports
-    by (Token t here items) is (takes, memory) = memory_inside old e memory
+    by (Token t here items) is (takes, memory) = reports_memory (λ text span. IsWithin old.source span × Faults old.left text span) e memory
 
 -- the tokens have not ended where something wrong comes next
 pub wrong_left : (ts : Items) → fronts.Wrong ≡ kind_of (front ts) → is_end ts ≡ false
@@ -113,34 +123,35 @@ pub goes_empty : (old new : Position) → GoesOn old new → AreEmptyTexts old.l
 unfolding GoesOn
 goes_empty old new goes empty = passed_empty goes.0.count old.left old.span new.left new.span goes.0.passes empty
 
-same_first : (x y : Item × Place) → Some (Some x) ≡ Some (Some y) → x.0 ≡ y.0
-same_first x y h = let same : x ≡ y = cc in ap (λ (z : Item × Place). z.0) same
+abbrev first_of : Reads (Option Item) → Option Item
+first_of (found x) = x.0
+first_of (stopped z) = None
 
 -- what the next step over empty texts comes to
 module _ (l : Limits) (self : Reader) (path : Path) (seen : Seen) where
-  holds_nothing : (text : List ℕ) (span : Span) (us : Items) → step l self path seen (reading.TagParts.Holds text span us) ≡ Some None → ⊥
+  holds_nothing : (ts : Items) (text : List ℕ) (span : Span) (us : Items) (q : Place) → step l self path seen ts (reading.TagParts.Holds text span us) ≡ found (None, q) → ⊥
   unfolding step
-  holds_nothing text span us h = cc
+  holds_nothing ts text span us q h = none-some _ (sym (ap first_of h))
 
-  holds_item : (in_loop : Bool) (text : List ℕ) (span : Span) (us : Items) (i : Item) (p : Place) → text ≡ [] → step l self path seen (reading.TagParts.Holds text span us) ≡ Some (Some (i, p)) → added_by in_loop i ≡ AddsNothing
+  holds_item : (in_loop : Bool) (ts : Items) (text : List ℕ) (span : Span) (us : Items) (i : Item) (p : Place) → text ≡ [] → step l self path seen ts (reading.TagParts.Holds text span us) ≡ found (Some i, p) → added_by in_loop i ≡ AddsNothing
   unfolding step
-  holds_item in_loop text span us i p none h =
-      ap (added_by in_loop) (sym (same_first (Single (Text text span), reading.at seen us) (i, p) h)) ∙ ap (λ t. added_by in_loop (Single (Text t span))) none
+  holds_item in_loop ts text span us i p none h =
+      ap (added_by in_loop) (sym (same_Some _ _ (ap first_of h))) ∙ ap (λ t. added_by in_loop (Single (Text t span))) none
 
-  pub empty_ends : (ts : Items) → AreEmptyTexts ts → step l self path seen (front ts) ≡ Some None → is_end ts ≡ true
-  empty_ends Ended empty h = refl
-  empty_ends (Failed text span) empty h = absurd empty
-  empty_ends (Token t span items) empty h = absurd (holds_nothing [] span items (subst (λ u. step l self path seen (front_at u span items) ≡ Some None) empty.0 h))
+  pub empty_ends : (ts : Items) (q : Place) → AreEmptyTexts ts → step l self path seen ts (front ts) ≡ found (None, q) → is_end ts ≡ true
+  empty_ends Ended q empty h = refl
+  empty_ends (Failed text span) q empty h = absurd empty
+  empty_ends (Token t span items) q empty h = absurd (holds_nothing (Token t span items) [] span items q (subst (λ u. step l self path seen (Token t span items) (front_at u span items) ≡ found (None, q)) empty.0 h))
 
-  pub empty_adds : (in_loop : Bool) (ts : Items) (i : Item) (p : Place) → AreEmptyTexts ts → step l self path seen (front ts) ≡ Some (Some (i, p)) → added_by in_loop i ≡ AddsNothing
+  pub empty_adds : (in_loop : Bool) (ts : Items) (i : Item) (p : Place) → AreEmptyTexts ts → step l self path seen ts (front ts) ≡ found (Some i, p) → added_by in_loop i ≡ AddsNothing
   unfolding step
-  empty_adds in_loop Ended i p empty h = cc
+  empty_adds in_loop Ended i p empty h = absurd (none-some _ (ap first_of h))
   empty_adds in_loop (Failed text span) i p empty h = absurd empty
   empty_adds in_loop (Token t span items) i p empty h =
-      holds_item in_loop [] span items i p refl (subst (λ u. step l self path seen (front_at u span items) ≡ Some (Some (i, p))) empty.0 h)
+      holds_item in_loop (Token t span items) [] span items i p refl (subst (λ u. step l self path seen (Token t span items) (front_at u span items) ≡ found (Some i, p)) empty.0 h)
 
 -- what is silent may be in each phase
-pub silent_turns : (phase : reading.Phase) → turn phase Silent ≡ None → ⊥
-silent_turns reading.Starting h = cc
-silent_turns reading.Standalone h = cc
-silent_turns reading.Extending h = cc
+pub silent_turns : (phase : phases.Phase) → turn phase Silent ≡ None → ⊥
+silent_turns phases.Starting h = cc
+silent_turns phases.Standalone h = cc
+silent_turns phases.Extending h = cc

@@ -15,43 +15,103 @@ use Rattle.tera_tree.specs.Tree.{Output}
 use Rattle.tera_grammar.specs.statements.Expressions.{Limits}
 use Rattle.tera_grammar.specs.statements.Grammar.{Body, Item, Single, Text}
 use Rattle.tera_grammar.specs.statements.Output.{added_by, added_nodes, text_adds}
-use Rattle.tera_grammar.specs.statements.Reading as reading
-use Rattle.tera_grammar.specs.statements.Reading.{Place, at, body, step, template}
+use Rattle.tera_grammar.specs.statements.Reading.Phases as reading
+use Rattle.tera_grammar.specs.statements.Reading.{Place, Reader, Reads, at, body, step, template, top_step}
 use Rattle.tera_grammar.specs.statements.Reading.Loops as loops
 use Rattle.tera_grammar.specs.statements.Reading.Loops.{text_weight, turn, weight, with_added}
-use Rattle.tera_grammar.specs.statements.Reading.TagParts.{Holds, front, front_at}
-use Rattle.tera_grammar.proofs.statements.Tops.{template_complete, template_sound}
-use Rattle.tera_grammar.proofs.statements.Loops.{topping_extends, topping_refused, topping_stops}
+use Rattle.tera_grammar.specs.statements.Reading.TagParts.{Front, Holds, Opens, front, front_at}
+use Rattle.tera_grammar.specs.statements.TagParts.{Edge, Opener, OpensExtends}
+use Rattle.tera_grammar.specs.expressions.Concrete.{Quote}
+use Rattle.tera_grammar.specs.expressions.Reading.Front.{taken_quote}
+use Rattle.tera_grammar.proofs.Readings.{stops_as, template_complete, template_sound}
+use Rattle.tera_grammar.proofs.statements.Loops.{begins_extends, first_step, other_step, topping_extends, topping_refused, topping_stops}
 use Rattle.tera_grammar.specs.statements.Top.{is_blank, is_empty}
 use Rattle.tera_grammar.specs.statements.Reading.Meeting.{Seen}
-use Rattle.tera_statements.specs.Items.{AreEmptyTexts, GoesByItem}
-use Rattle.tera_statements.specs.Kinds.{kind_of}
-use Rattle.tera_expr_parts.specs.Allowed.{AreValid}
-use Rattle.tera_expect.specs.Taking.{Fails, RefusesIn, Took}
-use Rattle.tera_statements.specs.Templates.{Excludes, GivesPhase, GivesTemplate, GivesTextPhase, ReadsTemplate, ComesNext, TopOf, top_depth, phase_if_any, phase_of}
-use Rattle.tera_statements.specs.declared.fronts.Front.TheVariants as fronts
+use Rattle.tera_statements.specs.Items.{AreEmptyTexts, Enters, GoesByItem}
+use Rattle.tera_statements.specs.Kinds.{kind_of, opens_extends}
+use Rattle.tera_statements.specs.declared.fronts.Front as fronts
+use Rattle.tera_statements.specs.declared.fronts.Front.TheVariants as kinds
 use Rattle.tera_statements.specs.declared.fronts.Opener.TheVariants as openers
+use Rattle.tera_expr_parts.specs.Allowed.{AreValid}
+use Rattle.tera_expect.specs.Taking.{RefusesIn, Took}
+use Rattle.tera_statements.specs.Templates.{Excludes, GivesPhase, GivesTemplate, GivesTextPhase, IsStep, ReadsTemplate, RefusesTemplate, ComesNext, StopsLate, TopOf, late, top_depth, phase_if_any, phase_of}
 use Rattle.tera_statements.specs.declared.templates.Phase.{Phase}
 use Rattle.tera_statements.specs.declared.names.Names.{Names}
 use Rattle.tera_tree.specs.declared.outputs.ParserOutput.{ParserOutput}
-use Rattle.tera_statements.proofs.ItemsLemmas.{opens_tag, step_holds}
+use Rattle.tera_grammar.specs.Reads.{Read, found, stopped, StopsAt, Fails}
+use Rattle.tera_statements.proofs.ItemsLemmas.{step_holds}
 
 -- a body may open
 pub opens : (l : Limits) → AreValid l → l.bodies ≡ suc (top_depth l)
 opens l valid = let some : 1 ≤ l.bodies = valid.bodies.0 in omega arith
 
+-- an `extends` that comes next
+pub extends_kind : (k : fronts.Front) → opens_extends k ≡ true → kinds.Opens openers.Extends ≡ k
+extends_kind (kinds.Opens openers.Extends) h = refl
+extends_kind k h = cc
+
+pub extends_front : (fr : Front) → opens_extends (kind_of fr) ≡ true → (start : Edge) × (first : Span) × (us : Items) × (fr ≡ Opens OpensExtends start first us)
+extends_front (Opens OpensExtends start first us) h = (start, first, us, refl)
+extends_front fr h = cc
+
+no_extends : (fr : Front) → opens_extends (kind_of fr) ≡ false → begins_extends fr ≡ false
+no_extends (Opens OpensExtends start first us) h = cc
+no_extends fr h = refl
+
+-- where none comes next, where one may be, and of empty texts the next item of the top level is read as that of a body
+pub other_steps : (l : Limits) (ph : reading.Phase) (p : Place) → opens_extends (kind_of (front p.tokens)) ≡ false → IsStep l ph p
+other_steps l ph p none = other_step l (body (top_depth l) l) ph p.seen p.tokens (front p.tokens) (no_extends (front p.tokens) none)
+
+starts_only : (o : Option Phase) (ph : reading.Phase) → phase_if_any o ≡ turn ph loops.Parent → is_some o ≡ true → ph ≡ reading.Starting
+starts_only o reading.Starting h some = refl
+starts_only None reading.Standalone h some = cc
+starts_only None reading.Extending h some = cc
+starts_only (Some q) reading.Standalone h some = cc
+starts_only (Some q) reading.Extending h some = cc
+
+pub first_steps : (l : Limits) (o : Option Phase) (ph : reading.Phase) (p : Place) → phase_if_any o ≡ turn ph loops.Parent → is_some o ≡ true → IsStep l ph p
+first_steps l o ph p h some =
+    subst (λ ph. IsStep l ph p) (sym (starts_only o ph h some)) (first_step l (body (top_depth l) l) p.seen p.tokens (front p.tokens))
+
+empty_front : (ts : Items) → AreEmptyTexts ts → begins_extends (front ts) ≡ false
+empty_front Ended empty = refl
+empty_front (Failed text here) empty = refl
+empty_front (Token t span items) empty = ap (λ u. begins_extends (front_at u span items)) empty.0
+
+pub empty_steps : (l : Limits) (ph : reading.Phase) (p : Place) → AreEmptyTexts p.tokens → IsStep l ph p
+empty_steps l ph p empty = other_step l (body (top_depth l) l) ph p.seen p.tokens (front p.tokens) (empty_front p.tokens empty)
+
+-- an `extends` is taken up to its string
+same_rest : (o : Opener) (start edge : Edge) (first span : Span) (us vs : Items) → Opens o start first us ≡ Opens o edge span vs → us ≡ vs
+same_rest o start edge first span us vs h = cc
+
+late_at : (old mid left : Items) (edge : Edge) (span : Span) → front old ≡ Opens OpensExtends edge span mid → StopsAt (late (taken_quote mid)) left → StopsLate old left
+late_at old mid left edge span entered stops = λ start first us is.
+    subst (λ ts. StopsAt (late (taken_quote ts)) left) (same_rest OpensExtends edge start span first mid us (sym entered ∙ is)) stops
+
+pub quoted_late : (old left : Items) (mid : Position) (q : Quote × Span) → Enters OpensExtends old mid → taken_quote mid.left ≡ found (q, left) → StopsLate old left
+quoted_late old left mid q (edge, entered) quoted = late_at old mid.left left edge mid.span entered (inl (ap late quoted))
+
+pub unquoted_late : (old left : Items) (mid : Position) (e : Error) → Enters OpensExtends old mid → Fails (taken_quote mid.left) left e → IsMemory e ⊎ StopsLate old left
+unquoted_late old left mid e entered (inl memory) = inl memory
+unquoted_late old left mid e (edge, entered) (inr stops) =
+    inr (late_at old mid.left left edge mid.span entered (stops_as (taken_quote mid.left) (late (taken_quote mid.left)) left (λ z none. ap late none) stops))
+
 -- what keeps tokens from being those of a template
 module _ (l : Limits) (valid : AreValid l) (here : Place) (ph : reading.Phase) where
-  pub late_excluded : turn ph loops.Parent ≡ None → fronts.Opens openers.Extends ≡ kind_of (front here.tokens) → Excludes l here ph
-  late_excluded none next = λ ts out g.
-      let there = opens_tag openers.Extends here.tokens next in
-      topping_extends l (top_depth l) (opens l valid) ts here out ph g none there.start there.first there.following there.is
+  abbrev Next : Reads (Option Item)
+  Next = top_step l (body (top_depth l) l) ph here.seen here.tokens (front here.tokens)
 
-  pub step_excluded : step l (body (top_depth l) l) [] here.seen (front here.tokens) ≡ None → Excludes l here ph
-  step_excluded h = λ ts out g. topping_refused l (top_depth l) (opens l valid) ts here out ph g h
+  pub late_excluded : turn ph loops.Parent ≡ None → (start : Edge) (first : Span) (us : Items) → front here.tokens ≡ Opens OpensExtends start first us
+      → (left : Items) → StopsAt (late (taken_quote us)) left → Excludes l here ph left
+  late_excluded none start first us is left h = λ ts out g.
+      stops_as (late (taken_quote us)) (template l ts) left (λ z there. topping_extends l (top_depth l) (opens l valid) ts here out ph g none start first us is z there) h
 
-  pub turn_excluded : (i : Item) (new : Place) → step l (body (top_depth l) l) [] here.seen (front here.tokens) ≡ Some (Some (i, new)) → turn ph (weight (added_by false i)) ≡ None → Excludes l here ph
-  turn_excluded i new read none = λ ts out g. topping_stops l (top_depth l) (opens l valid) ts here out ph i new (with_added out (added_by false i)) g read refl none
+  pub step_excluded : (left : Items) → StopsAt Next left → Excludes l here ph left
+  step_excluded left h = λ ts out g. stops_as Next (template l ts) left (λ z there. topping_refused l (top_depth l) (opens l valid) ts here out ph g z there) h
+
+  pub turn_excluded : (i : Item) (new : Place) → Next ≡ found (Some i, new) → turn ph (weight (added_by false i)) ≡ None → Excludes l here ph new.tokens
+  turn_excluded i new read none = λ ts out g. inl (topping_stops l (top_depth l) (opens l valid) ts here out ph i new (with_added out (added_by false i)) g read refl none)
 
 -- no phase is after
 pub no_phase : (p : Option Phase) (q : Option reading.Phase) → phase_if_any p ≡ q → is_some p ≡ false → q ≡ None
@@ -85,33 +145,54 @@ some_passed (suc n) t first items last left here passes fewer span ends = passed
 
 -- a fault from the next token on
 pub covered : (old new : Position) (first span : Span) (text : List ℕ) (e : Error) → Took old new → ComesNext (Some first) old
-    → (IsWithin new.source first → IsWithin new.source span) → BeginsWith first span → EndsWith first span ⊎ EndsWith new.span span → Reports text span e → RefusesIn old e
+    → (IsWithin new.source first → IsWithin new.source span) → BeginsWith first span → EndsWith first span ⊎ EndsWith new.span span → new.span.range.end ≤ span.range.end → Reports text span e
+    → RefusesIn old new e
 unfolding Took RefusesIn
-covered old new first span text e took ((t, following, is), there) within starts ends reported =
+covered old new first span text e took ((t, following, is), there) within starts ends reaches reported =
     let inside : IsWithin old.source span = subst (λ source. IsWithin source span) took.0.source (within (subst (λ source. IsWithin source first) (sym took.0.source) there)) in
     let passes = subst (λ ts. Passes took.0.count ts old.span new.left new.span) is took.0.passes in
     let fewer = subst (λ ts. size new.left < size ts) is took.1 in
-    let covers : Covers (Token t first following) span = inl (starts, ⊎_elim (λ here. inl here) (λ there. some_passed took.0.count t first following old.span new.left new.span passes fewer span there) ends) in
-    reports_weaker (λ words s. (words ≡ text) × (s ≡ span)) (λ words s. IsWithin old.source s × Faults old.left words s) e
-    (λ words s same. subst (λ v. IsWithin old.source v × Faults old.left words v) (sym same.1) (inside, inr (inr (subst (λ ts. Covers ts span) (sym is) covers)))) reported
+    let covers : Covers (Token t first following) span = inl (starts, ⊎_elim (λ here. inl here) (λ there. some_passed took.0.count t first following old.span new.left new.span passes fewer span there) ends) in (
+      reports_weaker (λ words s. (words ≡ text) × (s ≡ span)) (λ words s. IsWithin old.source s × Faults old.left words s) e
+          (λ words s same. subst (λ v. IsWithin old.source v × Faults old.left words v) (sym same.1) (inside, inr (inr (subst (λ ts. Covers ts span) (sym is) covers)))) reported,
+      inl (
+        took.0,
+        reports_weaker (λ words s. (words ≡ text) × (s ≡ span)) (λ words s. new.span.range.end ≤ s.range.end) e
+            (λ words s same. subst (λ (v : Span). new.span.range.end ≤ v.range.end) (sym same.1) reaches) reported,
+      ),
+    )
 
 -- what is refused of a template of which so much has been read
-pub excluded_fails : (l : Limits) (ts : Items) (here : Place) (out : Output) (ph : reading.Phase) (e : Error) → TopOf l ts here out ph → IsMemory e ⊎ Excludes l here ph → Fails (template l ts) e
-excluded_fails l ts here out ph e top (inl memory) = inl memory
-excluded_fails l ts here out ph e top (inr excludes) = inr (excludes ts out top)
+pub excluded_fails : (l : Limits) (ts left : Items) (here : Place) (out : Output) (ph : reading.Phase) (e : Error) → TopOf l ts here out ph → IsMemory e ⊎ Excludes l here ph left → Fails (template l ts) left e
+excluded_fails l ts left here out ph e top (inl memory) = inl memory
+excluded_fails l ts left here out ph e top (inr excludes) = inr (excludes ts out top)
 
-pub fails_excluded : (l : Limits) (here : Place) (ph : reading.Phase) (e : Error) → AreValid l → Fails (step l (body (top_depth l) l) [] here.seen (front here.tokens)) e → IsMemory e ⊎ Excludes l here ph
-fails_excluded l here ph e valid (inl memory) = inl memory
-fails_excluded l here ph e valid (inr h) = inr (step_excluded l valid here ph h)
+pub fails_excluded : (l : Limits) (here : Place) (ph : reading.Phase) (left : Items) (e : Error) → AreValid l
+    → Fails (top_step l (body (top_depth l) l) ph here.seen here.tokens (front here.tokens)) left e → IsMemory e ⊎ Excludes l here ph left
+fails_excluded l here ph left e valid (inl memory) = inl memory
+fails_excluded l here ph left e valid (inr h) = inr (step_excluded l valid here ph left h)
+
+-- what fails on the top level as in a body
+pub step_fails : (l : Limits) (ph : reading.Phase) (p : Place) (left : Items) (e : Error) → IsStep l ph p
+    → Fails (step l (body (top_depth l) l) [] p.seen p.tokens (front p.tokens)) left e → Fails (top_step l (body (top_depth l) l) ph p.seen p.tokens (front p.tokens)) left e
+step_fails l ph p left e same h = subst (λ (o : Reads (Option Item)). Fails o left e) (sym same) h
 
 -- what is read of the tokens is what they are
-pub template_given : (l : Limits) (r : Result (ParserOutput × Names) Error) (ts : Items) → ReadsTemplate l r ts → GivesTemplate l r ts
-template_given l (Ok t) ts (b, read, shows, named) = (b, template_sound l ts b read, shows, named)
-template_given l (Err e) ts (inl memory) = inl memory
-template_given l (Err e) ts (inr none) = inr (λ b is. not_read b (sym (template_complete l ts b is) ∙ none))
-  where
-    not_read : (b : Body) → Some b ≡ None → ⊥
-    not_read b h = cc
+apart : (b : Body) (z : Items) (o : Read Body) → o ≡ found b → o ≡ stopped z → ⊥
+apart b z (found c) is h = cc
+apart b z (stopped y) is h = cc
+
+pub template_refused : (l : Limits) (r : Result (ParserOutput × Names) Error) (old new : Position) → ReadsTemplate l r old.left new.left → IfErr r (RefusesIn old new)
+    → IfErr r (RefusesTemplate l old)
+template_refused l (Ok t) old new read refused = tt
+template_refused l (Err e) old new read refused = (new, read, refused)
+
+pub template_given : (l : Limits) (r : Result (ParserOutput × Names) Error) (ts left : Items) → ReadsTemplate l r ts left → GivesTemplate l r ts
+template_given l (Ok t) ts left (b, read, shows, named) = (b, template_sound l ts b read, shows, named)
+template_given l (Err e) ts left (inl memory) = inl memory
+template_given l (Err e) ts left (inr (inl h)) = inr (λ b is. apart b left (template l ts) (template_complete l ts b is) h)
+template_given l (Err e) ts left (inr (inr (inl (t, s, h)))) = inr (λ b is. apart b (Token t s left) (template l ts) (template_complete l ts b is) h)
+template_given l (Err e) ts left (inr (inr (inr (text, s, h, ended)))) = inr (λ b is. apart b (Failed text s) (template l ts) (template_complete l ts b is) h)
 
 -- what a text weighs
 pub weight_text : (text : List ℕ) → weight (text_adds text) ≡ text_weight (is_blank text)
@@ -131,14 +212,19 @@ with_text out [] nodes h = λ i. record { parent = out.parent; nodes = h i; defi
 with_text out (b ∷ bs) nodes h = λ i. record { parent = out.parent; nodes = h i; definitions = sym (append-nil out.definitions) i }
 
 -- a text that comes next is an item of the template
+top_holds : (l : Limits) (self : Reader) (ph : reading.Phase) (seen : Seen) (ts us : Items) (text : List ℕ) (span : Span) → front ts ≡ Holds text span us
+    → top_step l self ph seen ts (front ts) ≡ found (Some (Single (Text text span)), at seen us)
+unfolding top_step
+top_holds l self ph seen ts us text span is = ap (top_step l self ph seen ts) is ∙ step_holds l self [] seen ts (Holds text span us) text span us refl
+
 pub text_gives : (l : Limits) → AreValid l → (ph : Phase) (r : Result (Option Phase) Error) (out before : Output) (seen : Seen) (ts us : Items) (text : List ℕ) (span : Span)
     → front ts ≡ Holds text span us → GivesTextPhase text ph r out before → GivesPhase l ph r out before (at seen us) (at seen ts)
 text_gives l valid ph (Ok None) out before seen ts us text span is gives = absurd gives
 text_gives l valid ph (Ok (Some q)) out before seen ts us text span is (shows, turned) =
-    (Single (Text text span), step_holds l (body (top_depth l) l) [] seen (front ts) text span us is, shows, turned)
+    (Single (Text text span), top_holds l (body (top_depth l) l) (phase_of ph) seen ts us text span is, shows, turned)
 text_gives l valid ph (Err e) out before seen ts us text span is (inl memory) = inl memory
 text_gives l valid ph (Err e) out before seen ts us text span is (inr none) =
-    inr (turn_excluded l valid (at seen ts) (phase_of ph) (Single (Text text span)) (at seen us) (step_holds l (body (top_depth l) l) [] seen (front ts) text span us is) none)
+    inr (turn_excluded l valid (at seen ts) (phase_of ph) (Single (Text text span)) (at seen us) (top_holds l (body (top_depth l) l) (phase_of ph) seen ts us text span is) none)
 
 pub text_goes : (ph : Phase) (r : Result (Option Phase) Error) (out before : Output) (text : List ℕ) (old new : Position) → GivesTextPhase text ph r out before → Took old new → GoesByItem r old new
 text_goes ph (Ok None) out before text old new gives took = absurd gives

@@ -12,7 +12,8 @@ use Rattle.tera_grammar.specs.statements.Reading.{Place, at, Reads}
 use Rattle.tera_grammar.specs.statements.Reading.Meeting.{Seen}
 use Rattle.tera_statements.specs.Around.{Represents}
 pub use Rattle.tera_statements.specs.Known.{seen_of}
-use Rattle.tera_expect.specs.Taking.{Fails, GivesBy}
+use Rattle.tera_grammar.specs.Reads.{found, Fails}
+use Rattle.tera_expect.specs.Taking.{GivesIn}
 use Rattle.tera_statements.specs.declared.added.Added.{Added}
 use Rattle.tera_statements.specs.declared.added.Added.TheVariants as added
 use Rattle.tera_statements.specs.declared.names.Names.{Names}
@@ -41,15 +42,19 @@ IsElse in_loop ns o = map node_view ns ≡ else_output in_loop o
 abbrev pub here : Names → Position → Place
 here n p = at (seen_of n) p.left
 
+-- what is read comes with the place after it
+abbrev pub GivesHere : {E T : Type 0} → (E → T → Type 0) → Result E Error → Place → Reads T → Type 0
+GivesHere Is r q read = GivesIn Is r q q.tokens read
+
 -- an item is read by a reading that knows what is around and where its tag starts
 abbrev pub AddsBy : Around → Result Added Error → Place → (Path → Edge → Reads Item) → Type 0
-AddsBy around r q read = (path : Path) → Represents path around → (start : Edge) → GivesBy (IsAdded (in_loop path)) r q (read path start)
+AddsBy around r q read = (path : Path) → Represents path around → (start : Edge) → GivesHere (IsAdded (in_loop path)) r q (read path start)
 
 -- likewise one that reads tokens alone
 abbrev pub AddsAlone : Around → Result Added Error → Position → (Path → Edge → Seen → Reads Item) → Type 0
-AddsAlone around r new read = (path : Path) → Represents path around → (start : Edge) (seen : Seen) → GivesBy (IsAdded (in_loop path)) r (at seen new.left) (read path start seen)
+AddsAlone around r new read = (path : Path) → Represents path around → (start : Edge) (seen : Seen) → GivesHere (IsAdded (in_loop path)) r (at seen new.left) (read path start seen)
 
 -- the item that comes next in a body
-abbrev pub GivesItem : Bool → Result Added Error → Place → Option (Option (Item × Place)) → Type 0
-GivesItem in_loop (Ok a) q read = (i : Item) × (read ≡ Some (Some (i, q))) × IsAdded in_loop a i
-GivesItem in_loop (Err e) q read = Fails read e
+abbrev pub GivesItem : Bool → Result Added Error → Place → Reads (Option Item) → Type 0
+GivesItem in_loop (Ok a) q read = (i : Item) × (read ≡ found (Some i, q)) × IsAdded in_loop a i
+GivesItem in_loop (Err e) q read = Fails read q.tokens e

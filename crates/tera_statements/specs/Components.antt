@@ -1,8 +1,7 @@
 -- The tags of a component's definition, as they are read.
-use Rattle.std.specs.Prelude.{◌≡◌, ℕ, not, List, Option, Some}
+use Rattle.std.specs.Prelude.{◌≡◌, ℕ, not, List, Option}
 use Rattle.tera_lexer.specs.grammar.Tokens.{Items}
-use Rattle.tera_grammar.specs.Options.{◌>>=◌, guard}
-use Rattle.tera_grammar.specs.expressions.Reading.Front.{Takes}
+use Rattle.tera_grammar.specs.Reads.{found, ◌>>=◌, holds, Takes}
 use Rattle.tera_grammar.specs.statements.Components.{component_texts}
 use Rattle.tera_grammar.specs.statements.Expressions.{ComponentName, component_text}
 use Rattle.tera_grammar.specs.statements.Reading.Expressions.{component_of}
@@ -19,7 +18,7 @@ use Rattle.tera_statements.specs.declared.names.Names.{Names}
 
 -- the name of a component that was not met
 abbrev pub new_component_of : Met → Items → Takes ComponentName
-new_component_of seen items = component_of items >>= λ n. guard (not (seen (component_text n.0))) >>= λ u. Some n
+new_component_of seen items = component_of items >>= λ n. holds n.1 (not (seen (component_text n.0))) >>= λ u. found n
 
 -- the component is kept: its name, and the names of its parameters
 abbrev pub Defines : Names → Names → reading.Opened → Type 0
@@ -31,4 +30,4 @@ IsOpened o x = IsComponent o.name x.name × AreParameters o.parameters x.paramet
 
 -- the name at the end, if any, which has to be this one
 abbrev pub agreeing_name : List ℕ → Items → Takes (Option ComponentName)
-agreeing_name name items = end_name_in items (is_name items) >>= λ n. guard (agrees name (component_texts n.0)) >>= λ u. Some n
+agreeing_name name items = end_name_in items (is_name items) >>= λ n. holds n.1 (agrees name (component_texts n.0)) >>= λ u. found n

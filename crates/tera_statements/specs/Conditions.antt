@@ -1,18 +1,17 @@
 -- Conditions, as they are read.
-use Rattle.std.specs.Prelude.{ℕ, Bool, List, map, Some, Result}
+use Rattle.std.specs.Prelude.{ℕ, Bool, List, map, Result}
 use Rattle.tera_base.specs.declared.errors.Error.{Error}
 use Rattle.tera_ast.specs.Tree.{Expr, Stmt}
 use Rattle.tera_ast.specs.View.{expression_view, node_view}
-use Rattle.tera_grammar.specs.Options.{◌>>=◌}
+use Rattle.tera_grammar.specs.Reads.{found, ◌>>=◌}
 use Rattle.tera_grammar.specs.statements.Expressions as expressions
 use Rattle.tera_grammar.specs.statements.Expressions.{Limits}
 use Rattle.tera_grammar.specs.statements.Grammar.{Body, Path, in_loop}
 use Rattle.tera_grammar.specs.statements.TagParts.{Edge}
 use Rattle.tera_grammar.specs.statements.Reading.{Place, Reads, at, body}
-use Rattle.tera_statements.specs.Adding.{IsBody}
+use Rattle.tera_statements.specs.Adding.{GivesHere, IsBody}
 use Rattle.tera_statements.specs.Heads.{expression_to_end}
 use Rattle.tera_statements.specs.Reading.{IsExpression}
-use Rattle.tera_expect.specs.Taking.{GivesBy}
 use Rattle.tera_statements.specs.declared.conditions.Branch.{Branch}
 
 abbrev pub branch_view : Branch → Expr × List Stmt
@@ -24,10 +23,10 @@ Conditional = expressions.Expression × Edge × Body
 
 abbrev pub conditional_of : Limits → ℕ → Path → Place → Reads Conditional
 conditional_of l depth path p =
-    expression_to_end l (in_loop path) p.tokens >>= λ c. body depth l path (at p.seen c.1) >>= λ b. Some ((c.0.0, c.0.1, b.0), b.1)
+    expression_to_end l (in_loop path) p.tokens >>= λ c. body depth l path (at p.seen c.1) >>= λ b. found ((c.0.0, c.0.1, b.0), b.1)
 
 abbrev pub IsConditional : Bool → Branch → Conditional → Type 0
 IsConditional in_loop b c = IsExpression in_loop b.condition c.0 × IsBody in_loop b.body.items c.2
 
 abbrev pub GivesBranch : Limits → ℕ → Path → Result Branch Error → Place → Place → Type 0
-GivesBranch l depth path r new old = GivesBy (IsConditional (in_loop path)) r new (conditional_of l depth path old)
+GivesBranch l depth path r new old = GivesHere (IsConditional (in_loop path)) r new (conditional_of l depth path old)

@@ -1,5 +1,5 @@
 -- What the tokens of a body begin with, without the tokens themselves.
-use Rattle.std.specs.Prelude.{Bool, false}
+use Rattle.std.specs.Prelude.{Bool, false, true}
 use Rattle.tera_grammar.specs.expressions.Reading.Front.{same_token}
 use Rattle.tera_grammar.specs.statements.TagParts as parts
 use Rattle.tera_grammar.specs.statements.TagParts.{closer_token}
@@ -47,6 +47,11 @@ kind_of (reading.Holds text span items) = Holds
 kind_of (reading.Shows start items) = Shows
 kind_of (reading.Opens o start first items) = Opens (opener_kind o)
 kind_of reading.Wrong = Wrong
+
+-- whether it is an `extends`
+abbrev pub opens_extends : Front → Bool
+opens_extends (Opens openers.Extends) = true
+opens_extends k = false
 
 -- the closing token of its kind
 abbrev pub closer_of : Closer → parts.Closer

@@ -15,10 +15,10 @@ use Rattle.tera_tree.specs.declared.ast.ComponentArgument.{ComponentArgument}
 use Rattle.tera_grammar.specs.statements.Components as components
 use Rattle.tera_grammar.specs.statements.Components.{Default, default_output, Annotation, Assigned, Parameter, argument_of, default_has_type, metadata_output, put_arguments, rest_of}
 use Rattle.tera_grammar.specs.statements.Expressions.{LiteralMap}
-use Rattle.tera_grammar.specs.Options.{◌>>=◌}
+use Rattle.tera_grammar.specs.Reads.{found, ◌>>=◌, Takes}
 use Rattle.tera_grammar.specs.expressions.Concrete.{Name}
 use Rattle.tera_grammar.specs.expressions.Marks.{RightParen}
-use Rattle.tera_grammar.specs.expressions.Reading.Front.{Takes, takes}
+use Rattle.tera_grammar.specs.expressions.Reading.Front.{takes}
 use Rattle.tera_grammar.specs.statements.Reading.Components.{fresh_name}
 use Rattle.tera_grammar.specs.statements.Places.{parameters_placed}
 use Rattle.tera_grammar.specs.statements.Reading.Meeting.{Met, locate_all, nothing_located}
@@ -71,7 +71,7 @@ has_default a = default_has_type a.typ a.default
 
 -- the name of the rest parameter, and the closing parenthesis
 abbrev pub taken_rest : Met → Items → Takes Name
-taken_rest seen items = fresh_name seen items >>= λ n. takes RightParen n.1 >>= λ end. Some (n.0, end.1)
+taken_rest seen items = fresh_name seen items >>= λ n. takes RightParen n.1 >>= λ end. found (n.0, end.1)
 
 -- metadata
 abbrev pub IsMetadata : List (String Global × Value) → Option LiteralMap → Type 0

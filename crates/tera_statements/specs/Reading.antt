@@ -13,6 +13,8 @@ use Rattle.tera_grammar.specs.Words.{is_none, is_not}
 use Rattle.tera_grammar.specs.expressions.Concrete.{Quote}
 use Rattle.tera_grammar.specs.expressions.Output.{quote_text}
 use Rattle.tera_grammar.specs.statements.TagParts.{Edge}
+use Rattle.tera_grammar.specs.Reads as reads
+use Rattle.tera_grammar.specs.Reads.{found, stopped}
 use Rattle.tera_expect.specs.Taking.{Took}
 pub use Rattle.tera_expr_reader.specs.Outermost.{AreAttributes, IsArray, IsComponent, IsExpression, IsFilter, IsMap}
 
@@ -21,9 +23,9 @@ abbrev pub IsQuote : String Global × Span → Quote × Span → Type 0
 IsQuote s q = (string_bytes s.0 ≡ quote_text q.0) × (s.1 ≡ q.1)
 
 -- the end of a tag that came next was taken, or nothing
-abbrev pub EatsEnd : Bool → Position → Position → Option (Edge × Items) → Type 0
-EatsEnd true old new read = (dash : Bool) × (read ≡ Some (record { dash = dash; span = new.span }, new.left)) × Took old new
-EatsEnd false old new read = (read ≡ None) × (new ≡ old)
+abbrev pub EatsEnd : Bool → Position → Position → reads.Takes Edge → Type 0
+EatsEnd true old new read = (dash : Bool) × (read ≡ found (record { dash = dash; span = new.span }, new.left)) × Took old new
+EatsEnd false old new read = (read ≡ stopped old.left) × (new ≡ old)
 
 -- the next token was taken, or it was reported that there is none, or that reading stopped
 abbrev pub PassesOne : Position → Result (Unit {0}) Error → Position → Type 0

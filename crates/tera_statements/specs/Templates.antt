@@ -12,14 +12,18 @@ use Rattle.tera_grammar.specs.statements.Grammar.{Body, Item}
 use Rattle.tera_grammar.specs.statements.Reading.Meeting.{nothing_seen}
 use Rattle.tera_grammar.specs.statements.Places.{places}
 use Rattle.tera_grammar.specs.statements.Output.{added_by, output_of, text_adds}
-use Rattle.tera_grammar.specs.statements.Reading as reading
-use Rattle.tera_grammar.specs.statements.Reading.{Place, at, body, step, template}
+use Rattle.tera_grammar.specs.statements.Reading.Phases as reading
+use Rattle.tera_grammar.specs.statements.Reading.{Place, Reads, at, body, step, top_step, template}
 use Rattle.tera_grammar.specs.statements.Reading.Loops as loops
 use Rattle.tera_grammar.specs.statements.Reading.Loops.{Topping, turn, weight, with_added}
-use Rattle.tera_grammar.specs.statements.Reading.TagParts.{front}
+use Rattle.tera_grammar.specs.statements.TagParts.{Edge, OpensExtends}
+use Rattle.tera_grammar.specs.statements.Reading.TagParts.{Opens, front}
+use Rattle.tera_grammar.specs.expressions.Concrete.{Quote}
+use Rattle.tera_grammar.specs.expressions.Reading.Front.{taken_quote}
 use Rattle.tera_grammar.specs.statements.Top.{IsTemplate}
 use Rattle.tera_statements.specs.Adding.{IsAdded}
-use Rattle.tera_expect.specs.Taking.{Fails}
+use Rattle.tera_grammar.specs.Reads.{found, stopped, ◌>>=◌, Takes, StopsAt, Fails}
+use Rattle.tera_expect.specs.Taking.{RefusesIn}
 use Rattle.tera_statements.specs.Known.{AreNames}
 use Rattle.tera_statements.specs.declared.added.Added.{Added}
 use Rattle.tera_statements.specs.declared.names.Names.{Names}
@@ -54,25 +58,38 @@ top_depth l = l.bodies - 1
 abbrev pub TopOf : Limits → Items → Place → Output → reading.Phase → Type 0
 TopOf l ts here out ph = Topping l (top_depth l) (at nothing_seen ts) here out ph
 
--- no tokens of which so much has been read are those of a template
-abbrev pub Excludes : Limits → Place → reading.Phase → Type 0
-Excludes l here ph = (ts : Items) (out : Output) → TopOf l ts here out ph → template l ts ≡ None
+-- of tokens of which so much has been read, the reading of a template stops where these are left
+abbrev pub Excludes : Limits → Place → reading.Phase → Items → Type 0
+Excludes l here ph left = (ts : Items) (out : Output) → TopOf l ts here out ph → StopsAt (template l ts) left
+
+-- the next item of the top level is read as that of a body
+abbrev pub IsStep : Limits → reading.Phase → Place → Type 0
+IsStep l ph p =
+    top_step l (body (top_depth l) l) ph p.seen p.tokens (front p.tokens) ≡ step l (body (top_depth l) l) [] p.seen p.tokens (front p.tokens)
+
+-- no reading goes on after the string of an `extends`
+abbrev pub late : Takes (Quote × Span) → Reads Item
+late o = o >>= λ q. stopped q.1
+
+-- where an `extends` comes next, these are left where reading stops at its string
+abbrev pub StopsLate : Items → Items → Type 0
+StopsLate old left = (start : Edge) (first : Span) (us : Items) → front old ≡ Opens OpensExtends start first us → StopsAt (late (taken_quote us)) left
 
 -- the next item of the top level, and the phase after it; or none is left
 abbrev pub GivesTop : Limits → Phase → Result (Option (Added × Phase)) Error → Place → Place → Type 0
-GivesTop l ph (Ok None) new old = (step l (body (top_depth l) l) [] old.seen (front old.tokens) ≡ Some None) × (new ≡ old)
+GivesTop l ph (Ok None) new old = (top_step l (body (top_depth l) l) (phase_of ph) old.seen old.tokens (front old.tokens) ≡ found (None, old)) × (new ≡ old)
 GivesTop l ph (Ok (Some a)) new old =
-    (i : Item) × (step l (body (top_depth l) l) [] old.seen (front old.tokens) ≡ Some (Some (i, new))) × IsAdded false a.0 i
+    (i : Item) × (top_step l (body (top_depth l) l) (phase_of ph) old.seen old.tokens (front old.tokens) ≡ found (Some i, new)) × IsAdded false a.0 i
     × (turn (phase_of ph) (weight (added_by false i)) ≡ Some (phase_of a.1))
-GivesTop l ph (Err e) new old = IsMemory e ⊎ Excludes l old (phase_of ph)
+GivesTop l ph (Err e) new old = IsMemory e ⊎ Excludes l old (phase_of ph) new.tokens
 
 -- likewise, where what the item adds was taken
 abbrev pub GivesPhase : Limits → Phase → Result (Option Phase) Error → Output → Output → Place → Place → Type 0
-GivesPhase l ph (Ok None) out before new old = (step l (body (top_depth l) l) [] old.seen (front old.tokens) ≡ Some None) × (new ≡ old) × (out ≡ before)
+GivesPhase l ph (Ok None) out before new old = (top_step l (body (top_depth l) l) (phase_of ph) old.seen old.tokens (front old.tokens) ≡ found (None, old)) × (new ≡ old) × (out ≡ before)
 GivesPhase l ph (Ok (Some q)) out before new old =
-    (i : Item) × (step l (body (top_depth l) l) [] old.seen (front old.tokens) ≡ Some (Some (i, new))) × (out ≡ with_added before (added_by false i))
+    (i : Item) × (top_step l (body (top_depth l) l) (phase_of ph) old.seen old.tokens (front old.tokens) ≡ found (Some i, new)) × (out ≡ with_added before (added_by false i))
     × (turn (phase_of ph) (weight (added_by false i)) ≡ Some (phase_of q))
-GivesPhase l ph (Err e) out before new old = IsMemory e ⊎ Excludes l old (phase_of ph)
+GivesPhase l ph (Err e) out before new old = IsMemory e ⊎ Excludes l old (phase_of ph) new.tokens
 
 -- likewise of a text, which may not be where there is no phase after it
 abbrev pub GivesTextPhase : List ℕ → Phase → Result (Option Phase) Error → Output → Output → Type 0
@@ -82,14 +99,19 @@ GivesTextPhase text ph (Ok (Some q)) out before =
 GivesTextPhase text ph (Err e) out before = IsMemory e ⊎ (turn (phase_of ph) (weight (text_adds text)) ≡ None)
 
 -- the template that the tokens are read as, with its names
-abbrev pub ReadsTemplate : Limits → Result (ParserOutput × Names) Error → Items → Type 0
-ReadsTemplate l (Ok t) items = (b : Body) × (template l items ≡ Some b) × (output_view t.0 ≡ output_of b) × AreNames t.1 (places b)
-ReadsTemplate l (Err e) items = Fails (template l items) e
+abbrev pub ReadsTemplate : Limits → Result (ParserOutput × Names) Error → Items → Items → Type 0
+ReadsTemplate l (Ok t) items left = (b : Body) × (template l items ≡ found b) × (output_view t.0 ≡ output_of b) × AreNames t.1 (places b)
+ReadsTemplate l (Err e) items left = Fails (template l items) left e
 
 -- the template that the tokens are, within the limits, with its names; or an allocation failed, or they are none
 abbrev pub GivesTemplate : Limits → Result (ParserOutput × Names) Error → Items → Type 0
 GivesTemplate l (Ok t) items = (b : Body) × IsTemplate l items b × (output_view t.0 ≡ output_of b) × AreNames t.1 (places b)
 GivesTemplate l (Err e) items = IsMemory e ⊎ ((b : Body) → IsTemplate l items b → ⊥)
+
+-- A template is refused where reading stops, with the tokens that a cursor has left there, and in the tokens that it began
+-- with.
+abbrev pub RefusesTemplate : Limits → Position → Error → Type 0
+RefusesTemplate l old e = (new : Position) × Fails (template l old.left) new.left e × RefusesIn old new e
 
 -- where the next token is, if it is shown
 abbrev pub ComesNext : Option Span → Position → Type 0

@@ -40,7 +40,7 @@ pub(crate) fn block(
     ensures gives { AddsBy around.now result (here names.new cursor.new) (λ path start.
         block_of (bodies_under setting.now depth) path start cursor.old.span
         (seen_of names.old) cursor.old.left) }
-    ensures refusal { IfErr result (Refuses cursor.old) }
+    ensures refusal { IfErr result (Refuses cursor.old cursor.new) }
     ensures later { IfOk result (λ _. Took cursor.old cursor.new) }
 {
     let alloc = cursor.alloc();
@@ -65,7 +65,7 @@ fn new_block<'a>(cursor: &mut Cursor<'a>, blocks: &mut Known) -> Result<(&'a str
         (new_block_of (met_of blocks.old) cursor.old.left) }
     ensures kept { IfOk result (λ n.
         located_of blocks.new ≡ locate (name_in n.0.now n.1) (located_of blocks.old)) }
-    ensures refusal { IfErr result (Refuses cursor.old) }
+    ensures refusal { IfErr result (Refuses cursor.old cursor.new) }
     ensures later { IfOk result (λ _. Took cursor.old cursor.new) }
 {
     let name = name(cursor)?;
@@ -81,7 +81,7 @@ fn new_block<'a>(cursor: &mut Cursor<'a>, blocks: &mut Known) -> Result<(&'a str
 fn block_end(cursor: &mut Cursor<'_>, name: &str) -> Result<(), Error>
     ensures gives { (n : Name) → n.text ≡ name.now →
         Passes result cursor.new.left (block_end n cursor.old.left) }
-    ensures refusal { IfErr result (Refuses cursor.old) }
+    ensures refusal { IfErr result (Refuses cursor.old cursor.new) }
     ensures later { IfOk result (λ _. Took cursor.old cursor.new) }
 {
     closed(cursor, Closer::EndBlock)?;
@@ -98,7 +98,7 @@ fn block_end(cursor: &mut Cursor<'_>, name: &str) -> Result<(), Error>
 fn check_name(cursor: &Cursor<'_>, name: &str, end: &str) -> Result<(), Error>
     ensures same { IfOk result (λ _. bytes_eq end.now name.now ≡ true) }
     ensures fails { IfErr result (λ e. IsMemory e ⊎ (bytes_eq end.now name.now ≡ false)) }
-    ensures refusal { IfErr result (Refuses cursor.now) }
+    ensures refusal { IfErr result (Refuses cursor.now cursor.now) }
 {
     if end == name {
         Ok(())
@@ -120,7 +120,7 @@ pub(crate) fn definition(
     ensures gives { AddsBy around.now result (here names.new cursor.new) (λ path start.
         component_def_of (limits_under setting.now) (bodies_under setting.now depth) path start
         cursor.old.span (seen_of names.old) cursor.old.left) }
-    ensures refusal { IfErr result (Refuses cursor.old) }
+    ensures refusal { IfErr result (Refuses cursor.old cursor.new) }
     ensures later { IfOk result (λ _. Took cursor.old cursor.new) }
 {
     let opening = Opening {
@@ -144,7 +144,7 @@ pub(crate) fn definition(
 fn check_definition(cursor: &Cursor<'_>, around: &Around) -> Result<(), Error>
     ensures represents { IfOk result (λ _. is_none around.now.innermost ≡ true) }
     ensures fails { IfErr result (λ e. IsMemory e ⊎ (is_none around.now.innermost ≡ false)) }
-    ensures refusal { IfErr result (Refuses cursor.now) }
+    ensures refusal { IfErr result (Refuses cursor.now cursor.now) }
 {
     match &around.innermost {
         None => Ok(()),

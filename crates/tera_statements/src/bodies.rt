@@ -2,11 +2,11 @@
 
 ghost use Rattle.std.specs.Prelude.{◌≡◌, ◌∷◌, IfErr, IfOk, false, is_none, map};
 ghost use Rattle.tera_grammar.specs.statements.Grammar.{Path, in_loop};
-ghost use Rattle.tera_statements.specs.Adding.{IsBody, here};
+ghost use Rattle.tera_statements.specs.Adding.{GivesHere, IsBody, here};
 ghost use Rattle.tera_statements.specs.Items.{GivesNode, GoesByItem};
 ghost use Rattle.tera_statements.specs.Around.{Represents, context_of};
 ghost use Rattle.tera_statements.specs.Settings.{bodies_under, limits_under};
-ghost use Rattle.tera_expect.specs.Taking.{GivesBy, GoesOn, Refuses, RefusesIn};
+ghost use Rattle.tera_expect.specs.Taking.{GoesOn, Refuses, RefusesIn};
 ghost use Rattle.tera_ast.specs.View.{node_view};
 
 use crate::added::{push_node, push_text};
@@ -32,11 +32,11 @@ pub(crate) fn body(
     depth: usize,
 ) -> Result<Vec<Node>, Error>
     ensures gives { (path : Path) → Represents path around.now →
-        GivesBy (λ ns b. IsBody (in_loop (context_of opening.now.context ∷ path)) ns.items b) result
+        GivesHere (λ ns b. IsBody (in_loop (context_of opening.now.context ∷ path)) ns.items b) result
         (here names.new cursor.new)
         (bodies_under setting.now depth (context_of opening.now.context ∷ path)
         (here names.old cursor.old)) }
-    ensures refusal { IfErr result (Refuses cursor.old) }
+    ensures refusal { IfErr result (Refuses cursor.old cursor.new) }
     ensures later { IfOk result (λ _. GoesOn cursor.old cursor.new) }
 {
     if depth == 0 {
@@ -75,7 +75,7 @@ fn next_node<'p>(
     ensures gives { (path : Path) → Represents path around.now →
         GivesNode (limits_under setting.now) depth path result (map node_view nodes.new.items)
         (map node_view nodes.old.items) (here names.new cursor.new) (here names.old cursor.old) }
-    ensures refusal { IfErr result (RefusesIn cursor.old) }
+    ensures refusal { IfErr result (RefusesIn cursor.old cursor.new) }
     ensures later { GoesByItem result cursor.old cursor.new }
 {
     match eat_text(cursor) {
@@ -103,7 +103,7 @@ fn item_node<'p>(
     ensures gives { (path : Path) → Represents path around.now →
         GivesNode (limits_under setting.now) depth path result (map node_view nodes.new.items)
         (map node_view nodes.old.items) (here names.new cursor.new) (here names.old cursor.old) }
-    ensures refusal { IfErr result (RefusesIn cursor.old) }
+    ensures refusal { IfErr result (RefusesIn cursor.old cursor.new) }
     ensures later { GoesByItem result cursor.old cursor.new }
 {
     let Some(added) = item(setting, cursor, names, around, extension, depth)? else {

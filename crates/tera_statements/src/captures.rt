@@ -51,7 +51,7 @@ pub(crate) fn set(
     ensures gives { AddsBy around.now result (here names.new cursor.new) (λ path start.
         set_of (limits_under setting.now) (bodies_under setting.now depth) path global start
         cursor.old.span (seen_of names.old) cursor.old.left) }
-    ensures refusal { IfErr result (Refuses cursor.old) }
+    ensures refusal { IfErr result (Refuses cursor.old cursor.new) }
     ensures later { IfOk result (λ _. Took cursor.old cursor.new) }
 {
     let opening = Opening {
@@ -76,7 +76,7 @@ fn set_value(
 ) -> Result<Added, Error>
     ensures gives { GivesSetValue (limits_under setting.now) around.now
         variable.entry.name.now variable.entry.global result cursor.new cursor.old }
-    ensures refusal { IfErr result (Refuses cursor.old) }
+    ensures refusal { IfErr result (Refuses cursor.old cursor.new) }
     ensures later { IfOk result (λ _. Took cursor.old cursor.new) }
 {
     let value = expression_to_end(setting, cursor, around.in_loop)?;
@@ -99,7 +99,7 @@ fn set_body(
     ensures gives { GivesSetBody (limits_under setting.now) depth around.now opening.now.context
         variable.entry.name.now variable.entry.global result
         (here names.new cursor.new) (here names.old cursor.old) }
-    ensures refusal { IfErr result (Refuses cursor.old) }
+    ensures refusal { IfErr result (Refuses cursor.old cursor.new) }
     ensures later { IfOk result (λ _. Took cursor.old cursor.new) }
 {
     let alloc = cursor.alloc();
@@ -114,7 +114,7 @@ fn set_body(
 // Refuses what begins neither filters nor a body.
 fn check_set(cursor: &Cursor<'_>) -> Result<(), Error>
     ensures fails { IfErr result (IsNoBody cursor.now.left) }
-    ensures refusal { IfErr result (Refuses cursor.now) }
+    ensures refusal { IfErr result (Refuses cursor.now cursor.now) }
 {
     match cursor.first() {
         Some(Token::Pipe | Token::TagEnd(_)) => Ok(()),
@@ -135,7 +135,7 @@ pub(crate) fn section(
     ensures gives { AddsBy around.now result (here names.new cursor.new) (λ path start.
         section_of (limits_under setting.now) (bodies_under setting.now depth) path start
         cursor.old.span (seen_of names.old) cursor.old.left) }
-    ensures refusal { IfErr result (Refuses cursor.old) }
+    ensures refusal { IfErr result (Refuses cursor.old cursor.new) }
     ensures later { IfOk result (λ _. Took cursor.old cursor.new) }
 {
     let opening = Opening {
@@ -161,7 +161,7 @@ pub(crate) fn call(
     ensures gives { AddsBy around.now result (here names.new cursor.new) (λ path start.
         call_of (limits_under setting.now) (bodies_under setting.now depth) path start
         cursor.old.span (seen_of names.old) cursor.old.left) }
-    ensures refusal { IfErr result (Refuses cursor.old) }
+    ensures refusal { IfErr result (Refuses cursor.old cursor.new) }
     ensures later { IfOk result (λ _. Took cursor.old cursor.new) }
 {
     let opening = Opening {
@@ -187,7 +187,7 @@ pub(crate) fn shown_node(expr: Expression) -> Node
 // The name of a component after the `<` of a tag, which was taken last.
 fn called_name(cursor: &mut Cursor<'_>) -> Result<String, Error>
     ensures gives { GivesBy IsComponent result cursor.new.left (component_of cursor.old.left) }
-    ensures refusal { IfErr result (Refuses cursor.old) }
+    ensures refusal { IfErr result (Refuses cursor.old cursor.new) }
     ensures later { IfOk result (λ _. Took cursor.old cursor.new) }
 {
     if !begins_name(cursor) {
@@ -201,7 +201,7 @@ fn called_name(cursor: &mut Cursor<'_>) -> Result<String, Error>
 fn call_end(cursor: &mut Cursor<'_>, name: &str) -> Result<Span, Error>
     ensures gives { (n : ComponentName) → component_text n ≡ name.now →
         GivesBy IsCallEnd result cursor.new.left (call_end n cursor.old.left) }
-    ensures refusal { IfErr result (Refuses cursor.old) }
+    ensures refusal { IfErr result (Refuses cursor.old cursor.new) }
     ensures later { IfOk result (λ _. Took cursor.old cursor.new) }
 {
     if cursor.at_end() {
@@ -220,7 +220,7 @@ fn call_end(cursor: &mut Cursor<'_>, name: &str) -> Result<Span, Error>
 fn check_call_name(cursor: &Cursor<'_>, name: &str, end: &str) -> Result<(), Error>
     ensures same { IfOk result (λ _. bytes_eq end.now name.now ≡ true) }
     ensures fails { IfErr result (λ e. IsMemory e ⊎ (bytes_eq end.now name.now ≡ false)) }
-    ensures refusal { IfErr result (Refuses cursor.now) }
+    ensures refusal { IfErr result (Refuses cursor.now cursor.now) }
 {
     if end == name {
         return Ok(());

@@ -51,7 +51,7 @@ pub(crate) fn opening_tag(
     ensures gives { GivesBy (λ o x. IsOpened o x × Defines names.old names.new x)
         result cursor.new.left
         (opened_of (limits_under setting.now) (met_of names.old.components) cursor.old.left) }
-    ensures refusal { IfErr result (Refuses cursor.old) }
+    ensures refusal { IfErr result (Refuses cursor.old cursor.new) }
     ensures later { IfOk result (λ _. Took cursor.old cursor.new) }
 {
     let alloc = cursor.alloc();
@@ -73,7 +73,7 @@ pub(crate) fn opening_tag(
 fn new_component(cursor: &mut Cursor<'_>, seen: &mut Known) -> Result<String, Error>
     ensures gives { GivesBy (λ s n. IsComponent s n × Keeps seen.old seen.new (placed_name n))
         result cursor.new.left (new_component_of (met_of seen.old) cursor.old.left) }
-    ensures refusal { IfErr result (Refuses cursor.old) }
+    ensures refusal { IfErr result (Refuses cursor.old cursor.new) }
     ensures later { IfOk result (λ _. Took cursor.old cursor.new) }
 {
     let name = component_name(cursor)?;
@@ -93,7 +93,7 @@ fn metadata(
     ensures gives { GivesBy (λ m x. IsMetadata m.entries x) result cursor.new.left
         (metadata_in (limits_under setting.now) cursor.old.left
         (begins LeftBrace cursor.old.left)) }
-    ensures refusal { IfErr result (Refuses cursor.old) }
+    ensures refusal { IfErr result (Refuses cursor.old cursor.new) }
     ensures later { IfOk result (λ _. GoesOn cursor.old cursor.new) }
 {
     let alloc = cursor.alloc();
@@ -138,7 +138,7 @@ pub(crate) fn closing_tag(cursor: &mut Cursor<'_>, name: &str) -> Result<(), Err
     ensures gives { (start : Edge) (first : Span) (o : reading.Opened) →
         component_text o.name ≡ name.now →
         Passes result cursor.new.left (ending_of start first o cursor.old.left) }
-    ensures refusal { IfErr result (Refuses cursor.old) }
+    ensures refusal { IfErr result (Refuses cursor.old cursor.new) }
     ensures later { IfOk result (λ _. Took cursor.old cursor.new) }
 {
     closed(cursor, Closer::EndComponent)?;
@@ -150,7 +150,7 @@ pub(crate) fn closing_tag(cursor: &mut Cursor<'_>, name: &str) -> Result<(), Err
 #[tactic(auto, using(tera_expect::proofs::TakingLemmas::on_the_way))]
 fn end_name(cursor: &mut Cursor<'_>, name: &str) -> Result<(), Error>
     ensures gives { Passes result cursor.new.left (agreeing_name name.now cursor.old.left) }
-    ensures refusal { IfErr result (Refuses cursor.old) }
+    ensures refusal { IfErr result (Refuses cursor.old cursor.new) }
     ensures later { IfOk result (λ _. GoesOn cursor.old cursor.new) }
 {
     if !begins_name(cursor) {

@@ -5,11 +5,11 @@ ghost use Rattle.tera_base.specs.Errors.{IsMemory};
 ghost use Rattle.tera_grammar.specs.statements.Grammar.{InIf, Path, in_loop};
 ghost use Rattle.tera_grammar.specs.statements.Reading.{branches, if_of};
 ghost use Rattle.tera_grammar.specs.statements.Reading.Loops.{nest};
-ghost use Rattle.tera_statements.specs.Adding.{AddsBy, AreBranches, here, seen_of};
+ghost use Rattle.tera_statements.specs.Adding.{GivesHere, AddsBy, AreBranches, here, seen_of};
 ghost use Rattle.tera_statements.specs.Around.{Represents};
 ghost use Rattle.tera_statements.specs.Conditions.{GivesBranch, branch_view};
 ghost use Rattle.tera_statements.specs.Settings.{bodies_under, limits_under};
-ghost use Rattle.tera_expect.specs.Taking.{GivesBy, GoesOn, Refuses, Took};
+ghost use Rattle.tera_expect.specs.Taking.{GoesOn, Refuses, Took};
 ghost use Rattle.tera_ast.specs.View.{node_view};
 
 use crate::added::Added;
@@ -46,7 +46,7 @@ pub(crate) fn condition(
     ensures gives { AddsBy around.now result (here names.new cursor.new) (λ path start.
         if_of (limits_under setting.now) (bodies_under setting.now depth) path start
         cursor.old.span (seen_of names.old) cursor.old.left) }
-    ensures refusal { IfErr result (Refuses cursor.old) }
+    ensures refusal { IfErr result (Refuses cursor.old cursor.new) }
     ensures later { IfOk result (λ _. Took cursor.old cursor.new) }
 {
     let word = cursor.current_span().copied();
@@ -70,7 +70,7 @@ fn read_branch(
     ensures gives { (path : Path) → Represents path around.now →
         GivesBranch (limits_under setting.now) depth (InIf ∷ path) result
         (here names.new cursor.new) (here names.old cursor.old) }
-    ensures refusal { IfErr result (Refuses cursor.old) }
+    ensures refusal { IfErr result (Refuses cursor.old cursor.new) }
     ensures later { IfOk result (λ _. Took cursor.old cursor.new) }
 {
     let condition = expression_to_end(setting, cursor, around.in_loop)?;
@@ -94,10 +94,10 @@ fn other_branches(
     depth: usize,
 ) -> Result<Vec<Node>, Error>
     ensures gives { (path : Path) → Represents path around.now →
-        GivesBy (λ ns bs. AreBranches (in_loop path) ns.items bs) result (here names.new cursor.new)
+        GivesHere (λ ns bs. AreBranches (in_loop path) ns.items bs) result (here names.new cursor.new)
         (branches (limits_under setting.now) (bodies_under setting.now depth)
         (InIf ∷ path) (here names.old cursor.old)) }
-    ensures refusal { IfErr result (Refuses cursor.old) }
+    ensures refusal { IfErr result (Refuses cursor.old cursor.new) }
     ensures later { IfOk result (λ _. GoesOn cursor.old cursor.new) }
 {
     let alloc = cursor.alloc();

@@ -13,7 +13,7 @@ use tera_tree::ArgType;
 
 /// That no name comes after the `<` of a tag, which was taken last.
 pub(crate) fn no_called_name(cursor: &Cursor<'_>) -> Error
-    ensures { Refuses cursor.now result }
+    ensures { Refuses cursor.now cursor.now result }
 {
     fault(
         cursor,
@@ -23,7 +23,7 @@ pub(crate) fn no_called_name(cursor: &Cursor<'_>) -> Error
 
 /// That the input ends before the component of this name is closed.
 pub(crate) fn unclosed_call(cursor: &Cursor<'_>, name: &str) -> Error
-    ensures { Refuses cursor.now result }
+    ensures { Refuses cursor.now cursor.now result }
 {
     let message = format!(in cursor.alloc(); "Unclosed component '{name}'");
     reported(cursor, message)
@@ -31,7 +31,7 @@ pub(crate) fn unclosed_call(cursor: &Cursor<'_>, name: &str) -> Error
 
 /// That the name at the end of a component that is called, which was taken last, is another one.
 pub(crate) fn other_call(cursor: &Cursor<'_>, name: &str, end: &str) -> Error
-    ensures { Refuses cursor.now result }
+    ensures { Refuses cursor.now cursor.now result }
 {
     let message = format!(in cursor.alloc();
         "Closing tag '{end}' doesn't match opening tag '{name}'"
@@ -41,7 +41,7 @@ pub(crate) fn other_call(cursor: &Cursor<'_>, name: &str, end: &str) -> Error
 
 /// That the name at the end of what has a name, which was taken last, is another one.
 pub(crate) fn renamed(cursor: &Cursor<'_>, kind: &str, name: &str, end: &str) -> Error
-    ensures { Refuses cursor.now result }
+    ensures { Refuses cursor.now cursor.now result }
 {
     let message = format!(in cursor.alloc();
         "{kind} was named `{name}` in the opening tag, found `{end}` as name in the end tag"
@@ -51,7 +51,7 @@ pub(crate) fn renamed(cursor: &Cursor<'_>, kind: &str, name: &str, end: &str) ->
 
 /// That neither a value nor a body comes after the name that is set, which was taken last.
 pub(crate) fn nothing_to_set(cursor: &Cursor<'_>) -> Error
-    ensures { Refuses cursor.now result }
+    ensures { Refuses cursor.now cursor.now result }
 {
     fault(
         cursor,
@@ -61,21 +61,21 @@ pub(crate) fn nothing_to_set(cursor: &Cursor<'_>) -> Error
 
 /// That nothing begins with the token taken last.
 pub(crate) fn unknown(cursor: &Cursor<'_>) -> Error
-    ensures { Refuses cursor.now result }
+    ensures { Refuses cursor.now cursor.now result }
 {
     fault(cursor, "Unknown tag")
 }
 
 /// That more bodies are open than may be.
 pub(crate) fn too_deep(cursor: &Cursor<'_>) -> Error
-    ensures { Refuses cursor.now result }
+    ensures { Refuses cursor.now cursor.now result }
 {
     fault(cursor, "The template nesting is too deep")
 }
 
 /// That a template extends another, at the string taken last, and extends one already.
 pub(crate) fn again_extended(cursor: &Cursor<'_>, parent: &str) -> Error
-    ensures { Refuses cursor.now result }
+    ensures { Refuses cursor.now cursor.now result }
 {
     let message = format!(in cursor.alloc(); "Template is already extending `{parent}`");
     reported(cursor, message)
@@ -83,7 +83,7 @@ pub(crate) fn again_extended(cursor: &Cursor<'_>, parent: &str) -> Error
 
 /// That a template extends another, at the string taken last, after something else.
 pub(crate) fn late_extended(cursor: &Cursor<'_>) -> Error
-    ensures { Refuses cursor.now result }
+    ensures { Refuses cursor.now cursor.now result }
 {
     fault(
         cursor,
@@ -93,7 +93,7 @@ pub(crate) fn late_extended(cursor: &Cursor<'_>) -> Error
 
 /// That a template extends another, at the string taken last, in another tag.
 pub(crate) fn nested_extends(cursor: &Cursor<'_>, opening: &Opening) -> Error
-    ensures { Refuses cursor.now result }
+    ensures { Refuses cursor.now cursor.now result }
 {
     let error = fault(cursor, "`extends` cannot be nested in other tags.");
     inside_of(cursor, error, opening)
@@ -102,7 +102,7 @@ pub(crate) fn nested_extends(cursor: &Cursor<'_>, opening: &Opening) -> Error
 /// That an item is of no use in a template that extends another: from its first token, whose place is known if it was
 /// shown, to the one taken last.
 pub(crate) fn ignored(cursor: &Cursor<'_>, first: Option<Span>) -> Error
-    ensures { (old : Position) → Took old cursor.now → ComesNext first old → RefusesIn old result }
+    ensures { (old : Position) → Took old cursor.now → ComesNext first old → RefusesIn old cursor.now result }
 {
     let text =
         "This content would be ignored: only `extends`, `block` and `component` are allowed at the top level of a child template.";
@@ -114,7 +114,7 @@ pub(crate) fn ignored(cursor: &Cursor<'_>, first: Option<Span>) -> Error
 
 /// That a block, whose word was taken last, is where none may.
 pub(crate) fn barred_block(cursor: &Cursor<'_>, opening: &Opening) -> Error
-    ensures { Refuses cursor.now result }
+    ensures { Refuses cursor.now cursor.now result }
 {
     let name = opening.context.name();
     let message = format!(in cursor.alloc(); "Blocks cannot be written inside a {name}.");
@@ -124,7 +124,7 @@ pub(crate) fn barred_block(cursor: &Cursor<'_>, opening: &Opening) -> Error
 
 /// That a block of this name, which was taken last, was there before.
 pub(crate) fn repeated_block(cursor: &Cursor<'_>, name: &str) -> Error
-    ensures { Refuses cursor.now result }
+    ensures { Refuses cursor.now cursor.now result }
 {
     let message = format!(in cursor.alloc(); "Template already contains a block named `{name}`");
     reported(cursor, message)
@@ -132,7 +132,7 @@ pub(crate) fn repeated_block(cursor: &Cursor<'_>, name: &str) -> Error
 
 /// That this word, which was taken last, is in a body that is taken as a value.
 pub(crate) fn captured_jump(cursor: &Cursor<'_>, word: &str, opening: &Opening) -> Error
-    ensures { Refuses cursor.now result }
+    ensures { Refuses cursor.now cursor.now result }
 {
     let name = opening.context.name();
     let message = format!(in cursor.alloc(); "`{word}` cannot be used inside a {name}");
@@ -142,7 +142,7 @@ pub(crate) fn captured_jump(cursor: &Cursor<'_>, word: &str, opening: &Opening) 
 
 /// That this word, which was taken last, is in no loop.
 pub(crate) fn jump_in_no_loop(cursor: &Cursor<'_>, word: &str) -> Error
-    ensures { Refuses cursor.now result }
+    ensures { Refuses cursor.now cursor.now result }
 {
     let message = format!(in cursor.alloc(); "{word} can only be used in a for loop");
     reported(cursor, message)
@@ -150,7 +150,7 @@ pub(crate) fn jump_in_no_loop(cursor: &Cursor<'_>, word: &str) -> Error
 
 /// That the definition of a component, whose word was taken last, is in another tag.
 pub(crate) fn nested_definition(cursor: &Cursor<'_>, opening: &Opening) -> Error
-    ensures { Refuses cursor.now result }
+    ensures { Refuses cursor.now cursor.now result }
 {
     let error = fault(
         cursor,
@@ -161,7 +161,7 @@ pub(crate) fn nested_definition(cursor: &Cursor<'_>, opening: &Opening) -> Error
 
 /// That a component of the name, which was taken last, was defined before at the span.
 pub(crate) fn repeated_component(cursor: &Cursor<'_>, name: &str, first: &Span) -> Error
-    ensures { Refuses cursor.now result }
+    ensures { Refuses cursor.now cursor.now result }
 {
     let message = format!(in cursor.alloc();
         "Template already contains a component named `{name}`"
@@ -172,7 +172,7 @@ pub(crate) fn repeated_component(cursor: &Cursor<'_>, name: &str, first: &Span) 
 
 /// That a parameter, whose name was taken last, is called `body`.
 pub(crate) fn parameter_named_body(cursor: &Cursor<'_>) -> Error
-    ensures { Refuses cursor.now result }
+    ensures { Refuses cursor.now cursor.now result }
 {
     fault(
         cursor,
@@ -182,7 +182,7 @@ pub(crate) fn parameter_named_body(cursor: &Cursor<'_>) -> Error
 
 /// That the name, which was taken last, is that of the parameter whose name is at the span.
 pub(crate) fn repeated_parameter(cursor: &Cursor<'_>, name: &str, first: &Span) -> Error
-    ensures { Refuses cursor.now result }
+    ensures { Refuses cursor.now cursor.now result }
 {
     let message = format!(in cursor.alloc();
         "Component argument `{name}` is defined more than once"
@@ -193,7 +193,7 @@ pub(crate) fn repeated_parameter(cursor: &Cursor<'_>, name: &str, first: &Span) 
 
 /// That the name of the rest parameter, which was taken last, is that of another one.
 pub(crate) fn rest_is_parameter(cursor: &Cursor<'_>, name: &str) -> Error
-    ensures { Refuses cursor.now result }
+    ensures { Refuses cursor.now cursor.now result }
 {
     let message = format!(in cursor.alloc();
         "Rest parameter `{name}` conflicts with an existing parameter."
@@ -203,7 +203,7 @@ pub(crate) fn rest_is_parameter(cursor: &Cursor<'_>, name: &str) -> Error
 
 /// That the rest parameter, whose name was taken last, is not the last one.
 pub(crate) fn rest_is_not_last(cursor: &Cursor<'_>) -> Error
-    ensures { Refuses cursor.now result }
+    ensures { Refuses cursor.now cursor.now result }
 {
     fault(
         cursor,
@@ -214,7 +214,7 @@ pub(crate) fn rest_is_not_last(cursor: &Cursor<'_>) -> Error
 /// What the message says of the name taken last, which is that of no type.
 #[tactic(auto, using(tera_expect::proofs::TakingLemmas::memory_refused))]
 pub(crate) fn no_named_type(cursor: &Cursor<'_>, error: Error) -> Error
-    ensures { Refuses cursor.now result }
+    ensures { Refuses cursor.now cursor.now result }
 {
     match error.kind {
         ErrorKind::Message(message) => reported(cursor, Ok(message)),
@@ -226,7 +226,7 @@ pub(crate) fn no_named_type(cursor: &Cursor<'_>, error: Error) -> Error
 
 /// That a token, which was taken last, is not a type.
 pub(crate) fn no_type(cursor: &Cursor<'_>, token: &Token<'_>) -> Error
-    ensures { Refuses cursor.now result }
+    ensures { Refuses cursor.now cursor.now result }
 {
     let message = format!(in cursor.alloc();
         "Found {token} but the only types allowed are: string, bool, integer, number, bytes, array and map"
@@ -236,7 +236,7 @@ pub(crate) fn no_type(cursor: &Cursor<'_>, token: &Token<'_>) -> Error
 
 /// That a token, which was taken last, is not a number after a minus.
 pub(crate) fn no_number(cursor: &Cursor<'_>, token: &Token<'_>) -> Error
-    ensures { Refuses cursor.now result }
+    ensures { Refuses cursor.now cursor.now result }
 {
     let message = format!(in cursor.alloc();
         "Found {token} but `-` can only be followed by an integer"
@@ -246,7 +246,7 @@ pub(crate) fn no_number(cursor: &Cursor<'_>, token: &Token<'_>) -> Error
 
 /// That a token, which was taken last, is not a default.
 pub(crate) fn no_default(cursor: &Cursor<'_>, token: &Token<'_>) -> Error
-    ensures { Refuses cursor.now result }
+    ensures { Refuses cursor.now cursor.now result }
 {
     let message = format!(in cursor.alloc();
         "Found {token} but component default arguments can only be one of: string, bool, integer, array or map"
@@ -256,7 +256,7 @@ pub(crate) fn no_default(cursor: &Cursor<'_>, token: &Token<'_>) -> Error
 
 /// That a default has another type than its argument.
 pub(crate) fn mistyped(cursor: &Cursor<'_>, name: &str, typ: &ArgType, value: &Value) -> Error
-    ensures { Refuses cursor.now result }
+    ensures { Refuses cursor.now cursor.now result }
 {
     let expected = typ.as_str();
     let found = match ArgType::from_value(value) {
@@ -272,9 +272,9 @@ pub(crate) fn mistyped(cursor: &Cursor<'_>, name: &str, typ: &ArgType, value: &V
 // The error with a note on where what is around begins.
 #[tactic(auto, using(tera_expect::proofs::TakingLemmas::memory_refused))]
 fn inside_of(cursor: &Cursor<'_>, error: Error, opening: &Opening) -> Error
-    requires { Refuses cursor.now error }
+    requires { Refuses cursor.now cursor.now error }
     ensures reports { ReportsAs error result }
-    ensures refusal { Refuses cursor.now result }
+    ensures refusal { Refuses cursor.now cursor.now result }
 {
     let name = opening.context.name();
     match format!(in cursor.alloc(); "the {name} starts here") {
@@ -285,9 +285,9 @@ fn inside_of(cursor: &Cursor<'_>, error: Error, opening: &Opening) -> Error
 
 // The error with a note on where the first of two of a name is defined.
 fn first_defined(cursor: &Cursor<'_>, error: Error, first: &Span) -> Error
-    requires { Refuses cursor.now error }
+    requires { Refuses cursor.now cursor.now error }
     ensures reports { ReportsAs error result }
-    ensures refusal { Refuses cursor.now result }
+    ensures refusal { Refuses cursor.now cursor.now result }
 {
     noted(error, "first defined here", first)
 }

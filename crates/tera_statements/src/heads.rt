@@ -25,7 +25,7 @@ pub(crate) fn expression_to_end(
 ) -> Result<Expression, Error>
     ensures gives { GivesBy (λ e x. IsExpression in_loop e x.0) result cursor.new.left
         (expression_to_end (limits_under setting.now) in_loop cursor.old.left) }
-    ensures refusal { IfErr result (Refuses cursor.old) }
+    ensures refusal { IfErr result (Refuses cursor.old cursor.new) }
     ensures later { IfOk result (λ _. Took cursor.old cursor.new) }
 {
     let expr = tag_expression(setting, cursor, in_loop)?;
@@ -46,7 +46,7 @@ pub(crate) struct LoopHead {
 pub(crate) fn loop_to_end(setting: &Setting<'_>, cursor: &mut Cursor<'_>) -> Result<LoopHead, Error>
     ensures gives { GivesBy (λ h x. IsLoop h x.0) result cursor.new.left
         (loop_to_end (limits_under setting.now) cursor.old.left) }
-    ensures refusal { IfErr result (Refuses cursor.old) }
+    ensures refusal { IfErr result (Refuses cursor.old cursor.new) }
     ensures later { IfOk result (λ _. Took cursor.old cursor.new) }
 {
     let (key, value) = variables(cursor, "used as a loop variable.")?;
@@ -65,7 +65,7 @@ fn more_filters(
 ) -> Result<Vec<Expression>, Error>
     ensures gives { GivesBy (λ es fs. AreFilters in_loop before.items es.items fs)
         result cursor.new.left (filters_of (limits_under setting.now) in_loop cursor.old.left) }
-    ensures refusal { IfErr result (Refuses cursor.old) }
+    ensures refusal { IfErr result (Refuses cursor.old cursor.new) }
     ensures later { IfOk result (λ _. GoesOn cursor.old cursor.new) }
 {
     let mut filters = before;
@@ -86,7 +86,7 @@ pub(crate) fn filters_to_end(
 ) -> Result<Vec<Expression>, Error>
     ensures gives { GivesBy (λ es x. AreFilters in_loop before.items es.items x.0) result
         cursor.new.left (filters_to_end (limits_under setting.now) in_loop cursor.old.left) }
-    ensures refusal { IfErr result (Refuses cursor.old) }
+    ensures refusal { IfErr result (Refuses cursor.old cursor.new) }
     ensures later { IfOk result (λ _. Took cursor.old cursor.new) }
 {
     let filters = more_filters(setting, cursor, in_loop, before)?;
@@ -103,7 +103,7 @@ pub(crate) fn section_to_end(
 ) -> Result<Vec<Expression>, Error>
     ensures gives { GivesBy (λ es x. AreAllFilters in_loop cursor.old.span es.items x.0 x.1) result
         cursor.new.left (section_to_end (limits_under setting.now) in_loop cursor.old.left) }
-    ensures refusal { IfErr result (Refuses cursor.old) }
+    ensures refusal { IfErr result (Refuses cursor.old cursor.new) }
     ensures later { IfOk result (λ _. Took cursor.old cursor.new) }
 {
     let mut first = Vec::new(cursor.alloc());
@@ -121,7 +121,7 @@ pub(crate) fn attributes_to_end(
 ) -> Result<Vec<MapEntry>, Error>
     ensures gives { GivesBy (λ es x. AreAttributes in_loop es.items x.0) result cursor.new.left
         (attributes_to_end (limits_under setting.now) in_loop cursor.old.left) }
-    ensures refusal { IfErr result (Refuses cursor.old) }
+    ensures refusal { IfErr result (Refuses cursor.old cursor.new) }
     ensures later { IfOk result (λ _. Took cursor.old cursor.new) }
 {
     let entries = attributes(cursor, setting.scope(in_loop))?;

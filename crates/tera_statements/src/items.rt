@@ -45,7 +45,7 @@ pub(crate) fn item(
     requires { is_none around.now.innermost ≡ true → is_free extension ≡ true }
     ensures gives { GivesNext (limits_under setting.now) depth around.now result
         (here names.new cursor.new) (here names.old cursor.old) }
-    ensures refusal { IfErr result (RefusesIn cursor.old) }
+    ensures refusal { IfErr result (RefusesIn cursor.old cursor.new) }
     ensures empty { IfErr result (λ _. AreEmptyTexts cursor.old.left → ⊥) }
     ensures later { GoesByItem result cursor.old cursor.new }
 {
@@ -79,8 +79,8 @@ pub(crate) fn eat_text<'a>(cursor: &mut Cursor<'a>) -> Option<&'a str>
 #[tactic(auto, using(crate::proofs::RefusalLemmas::memory_inside))]
 fn text(cursor: &mut Cursor<'_>) -> Result<Added, Error>
     requires { fronts.Holds ≡ kind_of (front cursor.old.left) }
-    ensures gives { GivesText result cursor.new.left (front cursor.old.left) }
-    ensures refusal { IfErr result (RefusesIn cursor.old) }
+    ensures gives { GivesText result cursor.new.left cursor.old.left }
+    ensures refusal { IfErr result (RefusesIn cursor.old cursor.new) }
     ensures empty { IfErr result (λ _. AreEmptyTexts cursor.old.left → ⊥) }
     ensures later { IfOk result (λ _. Took cursor.old cursor.new) }
 {
@@ -119,8 +119,8 @@ pub(crate) fn variable_tag(
 ) -> Result<Added, Error>
     requires { fronts.Shows ≡ kind_of (front cursor.old.left) }
     ensures gives { GivesShown (limits_under setting.now) around.now result cursor.new.left
-        (front cursor.old.left) }
-    ensures refusal { IfErr result (RefusesIn cursor.old) }
+        cursor.old.left }
+    ensures refusal { IfErr result (RefusesIn cursor.old cursor.new) }
     ensures later { IfOk result (λ _. Took cursor.old cursor.new) }
 {
     pass(cursor)?;
@@ -135,7 +135,7 @@ pub(crate) fn enter(cursor: &mut Cursor<'_>, opener: Opener) -> Result<(), Error
     requires { fronts.Opens opener ≡ kind_of (front cursor.old.left) }
     ensures enters { IfOk result (λ _. Enters (opener_of opener) cursor.old.left cursor.new) }
     ensures memory { IfErr result IsMemory }
-    ensures refusal { IfErr result (Refuses cursor.old) }
+    ensures refusal { IfErr result (Refuses cursor.old cursor.new) }
     ensures later { IfOk result (λ _. Took cursor.old cursor.new) }
 {
     pass(cursor)?;
@@ -158,7 +158,7 @@ fn tag(
     ensures gives { AddsBy around.now result (here names.new cursor.new) (λ path start.
         tag_of (limits_under setting.now) (bodies_under setting.now depth) path (opener_of opener)
         start cursor.old.span (seen_of names.old) cursor.old.left) }
-    ensures refusal { IfErr result (Refuses cursor.old) }
+    ensures refusal { IfErr result (Refuses cursor.old cursor.new) }
     ensures later { IfOk result (λ _. Took cursor.old cursor.new) }
 {
     match opener {

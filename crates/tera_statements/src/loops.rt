@@ -3,10 +3,10 @@
 ghost use Rattle.std.specs.Prelude.{IfErr, IfOk, ◌∷◌};
 ghost use Rattle.tera_grammar.specs.statements.Grammar.{Path, in_loop};
 ghost use Rattle.tera_grammar.specs.statements.Reading.{else_of, for_of};
-ghost use Rattle.tera_statements.specs.Adding.{AddsBy, IsElse, here, seen_of};
+ghost use Rattle.tera_statements.specs.Adding.{GivesHere, AddsBy, IsElse, here, seen_of};
 ghost use Rattle.tera_statements.specs.Around.{Represents, context_of};
 ghost use Rattle.tera_statements.specs.Settings.{bodies_under, limits_under};
-ghost use Rattle.tera_expect.specs.Taking.{GivesBy, GoesOn, Refuses, Took};
+ghost use Rattle.tera_expect.specs.Taking.{GoesOn, Refuses, Took};
 
 use crate::added::Added;
 use crate::around::{Around, Context, Opening};
@@ -33,7 +33,7 @@ pub(crate) fn for_loop(
     ensures gives { AddsBy around.now result (here names.new cursor.new) (λ path start.
         for_of (limits_under setting.now) (bodies_under setting.now depth) path start
         cursor.old.span (seen_of names.old) cursor.old.left) }
-    ensures refusal { IfErr result (Refuses cursor.old) }
+    ensures refusal { IfErr result (Refuses cursor.old cursor.new) }
     ensures later { IfOk result (λ _. Took cursor.old cursor.new) }
 {
     let opening = Opening {
@@ -63,10 +63,10 @@ pub(crate) fn else_body(
     depth: usize,
 ) -> Result<Vec<Node>, Error>
     ensures gives { (path : Path) → Represents path around.now →
-        GivesBy (λ ns o. IsElse (in_loop (context_of opening.now.context ∷ path)) ns.items o) result
+        GivesHere (λ ns o. IsElse (in_loop (context_of opening.now.context ∷ path)) ns.items o) result
         (here names.new cursor.new) (else_of (bodies_under setting.now depth)
         (context_of opening.now.context ∷ path) (here names.old cursor.old)) }
-    ensures refusal { IfErr result (Refuses cursor.old) }
+    ensures refusal { IfErr result (Refuses cursor.old cursor.new) }
     ensures later { IfOk result (λ _. GoesOn cursor.old cursor.new) }
 {
     if !closes(cursor, Closer::Else) {

@@ -1,6 +1,6 @@
 //! The parameters of components.
 
-ghost use Rattle.std.specs.Prelude.{◌≡◌, ◌⊎◌, ◌||◌, IfErr, IfOk, OnOk, Some, false, string_bytes, true};
+ghost use Rattle.std.specs.Prelude.{◌≡◌, ◌⊎◌, ◌||◌, IfErr, IfOk, OnOk, None, Some, false, string_bytes, true};
 ghost use Rattle.tera_base.specs.Errors.{IsMemory};
 ghost use Rattle.tera_base.specs.ValueView.{value_view};
 ghost use Rattle.tera_base.specs.Values.{Nothing};
@@ -8,13 +8,14 @@ ghost use Rattle.tera_grammar.specs.Words.{is_none};
 ghost use Rattle.tera_grammar.specs.expressions.Marks.{Assign, Colon};
 ghost use Rattle.tera_grammar.specs.expressions.Reading.Front.{takes};
 ghost use Rattle.tera_grammar.specs.statements.Components.{is_nothing};
-ghost use Rattle.tera_grammar.specs.statements.Reading.Components.{annotation_in, assigned_in, default_of, fresh_name, minus_of, parameter_of, parameters_of};
+ghost use Rattle.tera_grammar.specs.Reads.{first_as};
+ghost use Rattle.tera_grammar.specs.statements.Reading.Components.{annotation_in, assigned_in, default_of, fresh_name, minus_kind, parameter_of, parameters_of};
 ghost use Rattle.tera_grammar.specs.statements.Types.{has_type, put_name, type_named};
 ghost use Rattle.tera_grammar.specs.statements.Reading.Meeting.{nothing_met};
 ghost use Rattle.tera_statements.specs.Known.{Keeps, met_of};
 ghost use Rattle.tera_statements.specs.Parameters.{ArePlaced, IsAssigned, IsDefault, IsParameter, IsType, argument_as, arguments_view, has_default, taken_rest};
 ghost use Rattle.tera_statements.specs.Settings.{limits_under};
-ghost use Rattle.tera_expect.specs.Taking.{Fails, GivesAs, GivesBy, GoesOn, Refuses, Took, name_at};
+ghost use Rattle.tera_expect.specs.Taking.{GivesAs, GivesBy, GoesOn, Refuses, Took, name_at};
 ghost use Rattle.tera_tree.specs.View.{argument_view, default_view};
 
 use crate::faults::{
@@ -46,7 +47,7 @@ pub(crate) fn read_parameters(
 ) -> Result<(Parameters, Known), Error>
     ensures gives { GivesBy ArePlaced result cursor.new.left
         (parameters_of (limits_under setting.now) nothing_met cursor.old.left) }
-    ensures refusal { IfErr result (Refuses cursor.old) }
+    ensures refusal { IfErr result (Refuses cursor.old cursor.new) }
     ensures later { IfOk result (λ _. Took cursor.old cursor.new) }
 {
     let alloc = cursor.alloc();
@@ -76,7 +77,7 @@ pub(crate) fn read_parameters(
 fn default_value(setting: &Setting<'_>, cursor: &mut Cursor<'_>) -> Result<Value, Error>
     ensures gives { GivesBy IsDefault result cursor.new.left
         (default_of (limits_under setting.now) cursor.old.left) }
-    ensures refusal { IfErr result (Refuses cursor.old) }
+    ensures refusal { IfErr result (Refuses cursor.old cursor.new) }
     ensures later { IfOk result (λ _. Took cursor.old cursor.new) }
 {
     if begins(cursor, Fixed::LeftBracket) {
@@ -101,8 +102,8 @@ fn default_value(setting: &Setting<'_>, cursor: &mut Cursor<'_>) -> Result<Value
 #[tactic(auto, using(tera_expect::proofs::TakingLemmas::after_tokens))]
 fn negative(cursor: &mut Cursor<'_>) -> Result<Value, Error>
     ensures gives { GivesBy IsDefault result cursor.new.left
-        (minus_of cursor.old.span cursor.old.left) }
-    ensures refusal { IfErr result (Refuses cursor.old) }
+        (first_as (minus_kind cursor.old.span) cursor.old.left) }
+    ensures refusal { IfErr result (Refuses cursor.old cursor.new) }
     ensures later { IfOk result (λ _. Took cursor.old cursor.new) }
 {
     let (token, _) = take(cursor)?;
@@ -116,7 +117,7 @@ fn negative(cursor: &mut Cursor<'_>) -> Result<Value, Error>
 fn no_value(cursor: &Cursor<'_>, name: &str) -> Result<Value, Error>
     ensures given { IfOk result (λ v. (is_none name.now ≡ true) × (value_view v ≡ Nothing)) }
     ensures fails { IfErr result (λ e. IsMemory e ⊎ (is_none name.now ≡ false)) }
-    ensures refusal { IfErr result (Refuses cursor.now) }
+    ensures refusal { IfErr result (Refuses cursor.now cursor.now) }
 {
     if is_none(name) {
         Ok(Value::None)
@@ -130,7 +131,7 @@ fn no_value(cursor: &Cursor<'_>, name: &str) -> Result<Value, Error>
 fn argument_type(cursor: &mut Cursor<'_>) -> Result<Option<ArgType>, Error>
     ensures gives { GivesBy IsType result cursor.new.left
         (annotation_in cursor.old.left (takes Colon cursor.old.left)) }
-    ensures refusal { IfErr result (Refuses cursor.old) }
+    ensures refusal { IfErr result (Refuses cursor.old cursor.new) }
     ensures later { IfOk result (λ _. GoesOn cursor.old cursor.new) }
 {
     if !eat(cursor, Fixed::Colon) {
@@ -146,8 +147,8 @@ fn argument_type(cursor: &mut Cursor<'_>) -> Result<Option<ArgType>, Error>
 // The type of this name, which was taken last.
 fn named_type(cursor: &Cursor<'_>, name: &str) -> Result<ArgType, Error>
     ensures named { IfOk result (λ t. type_named name.now ≡ Some t) }
-    ensures unnamed { IfErr result (Fails (type_named name.now)) }
-    ensures refusal { IfErr result (Refuses cursor.now) }
+    ensures unnamed { IfErr result (λ e. IsMemory e ⊎ (type_named name.now ≡ None)) }
+    ensures refusal { IfErr result (Refuses cursor.now cursor.now) }
 {
     match ArgType::from_str(cursor.alloc(), name) {
         Ok(typ) => Ok(typ),
@@ -160,7 +161,7 @@ fn named_type(cursor: &Cursor<'_>, name: &str) -> Result<ArgType, Error>
 fn assigned(setting: &Setting<'_>, cursor: &mut Cursor<'_>) -> Result<Option<Value>, Error>
     ensures gives { GivesBy IsAssigned result cursor.new.left
         (assigned_in (limits_under setting.now) cursor.old.left (takes Assign cursor.old.left)) }
-    ensures refusal { IfErr result (Refuses cursor.old) }
+    ensures refusal { IfErr result (Refuses cursor.old cursor.new) }
     ensures later { IfOk result (λ _. GoesOn cursor.old cursor.new) }
 {
     if !eat(cursor, Fixed::Assign) {
@@ -174,7 +175,7 @@ fn assigned(setting: &Setting<'_>, cursor: &mut Cursor<'_>) -> Result<Option<Val
 fn fresh_name<'a>(cursor: &mut Cursor<'a>, seen: &Known, rest: bool) -> Result<&'a str, Error>
     ensures gives { GivesAs (name_at cursor.new.span) result cursor.new.left
         (fresh_name (met_of seen.now) cursor.old.left) }
-    ensures refusal { IfErr result (Refuses cursor.old) }
+    ensures refusal { IfErr result (Refuses cursor.old cursor.new) }
     ensures later { IfOk result (λ _. Took cursor.old cursor.new) }
 {
     let name = name(cursor)?;
@@ -189,7 +190,7 @@ fn fresh_name<'a>(cursor: &mut Cursor<'a>, seen: &Known, rest: bool) -> Result<&
 
 // That the name, which was taken last, is that of the parameter whose name is at the span.
 fn repeated(cursor: &Cursor<'_>, name: &str, first: &Span, rest: bool) -> Error
-    ensures { Refuses cursor.now result }
+    ensures { Refuses cursor.now cursor.now result }
 {
     if rest {
         rest_is_parameter(cursor, name)
@@ -203,7 +204,7 @@ fn repeated(cursor: &Cursor<'_>, name: &str, first: &Span, rest: bool) -> Error
 fn rest_parameter(cursor: &mut Cursor<'_>, seen: &mut Known) -> Result<String, Error>
     ensures gives { GivesBy (λ s n. (string_bytes s ≡ n.text) × Keeps seen.old seen.new n)
         result cursor.new.left (taken_rest (met_of seen.old) cursor.old.left) }
-    ensures refusal { IfErr result (Refuses cursor.old) }
+    ensures refusal { IfErr result (Refuses cursor.old cursor.new) }
     ensures later { IfOk result (λ _. Took cursor.old cursor.new) }
 {
     let name = fresh_name(cursor, seen, true)?;
@@ -224,7 +225,7 @@ fn parameter(
     ensures gives { GivesBy (λ p q. IsParameter p q × Keeps seen.old seen.new q.name)
         result cursor.new.left
         (parameter_of (limits_under setting.now) (met_of seen.old) cursor.old.left) }
-    ensures refusal { IfErr result (Refuses cursor.old) }
+    ensures refusal { IfErr result (Refuses cursor.old cursor.new) }
     ensures later { IfOk result (λ _. Took cursor.old cursor.new) }
 {
     let alloc = cursor.alloc();
@@ -259,7 +260,7 @@ fn check_default(cursor: &Cursor<'_>, name: &str, argument: &ComponentArgument) 
     ensures fits { IfOk result (λ _. has_default (argument_view argument.now) ≡ true) }
     ensures fails { IfErr result (λ e.
         IsMemory e ⊎ (has_default (argument_view argument.now) ≡ false)) }
-    ensures refusal { IfErr result (Refuses cursor.now) }
+    ensures refusal { IfErr result (Refuses cursor.now cursor.now) }
 {
     match (&argument.typ, &argument.default) {
         (Some(typ), Some(value)) if !fits(typ, value) => { Err(mistyped(cursor, name, typ, value)) }

@@ -24,7 +24,7 @@ use tera_tree::{Node, build};
 pub(crate) fn include(cursor: &mut Cursor<'_>, around: &Around) -> Result<Added, Error>
     ensures gives { AddsAlone around.now result cursor.new (λ path start seen.
         include_of start cursor.old.span seen cursor.old.left) }
-    ensures refusal { IfErr result (Refuses cursor.old) }
+    ensures refusal { IfErr result (Refuses cursor.old cursor.new) }
     ensures later { IfOk result (λ _. Took cursor.old cursor.new) }
 {
     let (name, span) = quote(cursor)?;
@@ -69,7 +69,7 @@ pub(crate) fn read_jump(
 ) -> Result<Added, Error>
     ensures gives { AddsAlone around.now result cursor.new (λ path start seen.
         break_of path (jump_item jump) start cursor.old.span seen cursor.old.left) }
-    ensures refusal { IfErr result (Refuses cursor.old) }
+    ensures refusal { IfErr result (Refuses cursor.old cursor.new) }
     ensures later { IfOk result (λ _. Took cursor.old cursor.new) }
 {
     check_jump(cursor, around, jump)?;
@@ -81,7 +81,7 @@ pub(crate) fn read_jump(
 fn check_jump(cursor: &Cursor<'_>, around: &Around, jump: Jump) -> Result<(), Error>
     ensures represents { IfOk result (λ _. holds_breaks around.now.breaks ≡ true) }
     ensures fails { IfErr result (λ e. IsMemory e ⊎ (holds_breaks around.now.breaks ≡ false)) }
-    ensures refusal { IfErr result (Refuses cursor.now) }
+    ensures refusal { IfErr result (Refuses cursor.now cursor.now) }
 {
     let word = jump.word();
     match &around.breaks {
@@ -138,7 +138,7 @@ pub(crate) fn extends(
     requires { is_none around.now.innermost ≡ true → is_free extension ≡ true }
     ensures gives { AddsAlone around.now result cursor.new (λ path start seen.
         extends_of path start cursor.old.span seen cursor.old.left) }
-    ensures refusal { IfErr result (Refuses cursor.old) }
+    ensures refusal { IfErr result (Refuses cursor.old cursor.new) }
     ensures later { IfOk result (λ _. Took cursor.old cursor.new) }
 {
     let (parent, _) = quote(cursor)?;
@@ -156,7 +156,7 @@ fn check_extension(
     requires { is_none around.now.innermost ≡ true → is_free extension ≡ true }
     ensures represents { IfOk result (λ _. is_none around.now.innermost ≡ true) }
     ensures fails { IfErr result (λ e. IsMemory e ⊎ (is_none around.now.innermost ≡ false)) }
-    ensures refusal { IfErr result (Refuses cursor.now) }
+    ensures refusal { IfErr result (Refuses cursor.now cursor.now) }
 {
     match extension {
         Extension::Again(parent) => Err(again_extended(cursor, parent)),
@@ -172,7 +172,7 @@ fn check_extension(
 pub(crate) fn check_block(cursor: &Cursor<'_>, around: &Around) -> Result<(), Error>
     ensures represents { IfOk result (λ _. is_none around.now.barrier ≡ true) }
     ensures fails { IfErr result (λ e. IsMemory e ⊎ (is_none around.now.barrier ≡ false)) }
-    ensures refusal { IfErr result (Refuses cursor.now) }
+    ensures refusal { IfErr result (Refuses cursor.now cursor.now) }
 {
     match &around.barrier {
         None => Ok(()),

@@ -3,9 +3,10 @@
 ghost use Rattle.std.specs.Prelude.{◌≡◌, IfErr, IfOk, false, true};
 ghost use Rattle.std.specs.Bool.{OnTrue};
 ghost use Rattle.tera_lexer.specs.code.Cursors.{is_end};
+ghost use Rattle.tera_grammar.specs.Reads.{Fails, StopsAt, stopped};
 ghost use Rattle.tera_grammar.specs.expressions.Reading.Front.{taken_quote};
 ghost use Rattle.tera_grammar.specs.statements.Reading.Expressions.{expression_of};
-ghost use Rattle.tera_grammar.specs.statements.Reading.TagParts.{closed, closed_tag, finish_of, front, variable_end_of};
+ghost use Rattle.tera_grammar.specs.statements.Reading.TagParts.{closed, closed_tag, finish_of, front, variable_end_of, wrong_at};
 ghost use Rattle.tera_statements.specs.Kinds.{closer_of, closes};
 ghost use Rattle.tera_statements.specs.Reading.{EatsAlone, EatsEnd, EndsAfter, IsExpression, IsQuote, NamesVariable, PassesOne};
 ghost use Rattle.tera_statements.specs.Settings.{limits_under};
@@ -22,10 +23,10 @@ use tera_lexer::{Cursor, Token};
 use tera_tree::Expression;
 
 /// The end of a tag.
-#[tactic(auto, unfolding(tera_expect::specs::Taking::Took, tera_expect::specs::Taking::Refuses))]
+#[tactic(auto, unfolding(tera_expect::specs::Taking::Took), using(tera_expect::proofs::TakingLemmas::untaken_refused, tera_expect::proofs::TakingLemmas::token_refused))]
 pub(crate) fn finish(cursor: &mut Cursor<'_>) -> Result<(), Error>
     ensures gives { Passes result cursor.new.left (finish_of cursor.old.left) }
-    ensures refusal { IfErr result (Refuses cursor.old) }
+    ensures refusal { IfErr result (Refuses cursor.old cursor.new) }
     ensures later { IfOk result (λ _. Took cursor.old cursor.new) }
 {
     if eat_end(cursor) {
@@ -47,10 +48,10 @@ fn eat_end(cursor: &mut Cursor<'_>) -> bool
 }
 
 /// The end of a variable tag.
-#[tactic(auto, unfolding(tera_expect::specs::Taking::Took, tera_expect::specs::Taking::Refuses))]
+#[tactic(auto, unfolding(tera_expect::specs::Taking::Took), using(tera_expect::proofs::TakingLemmas::untaken_refused, tera_expect::proofs::TakingLemmas::token_refused))]
 pub(crate) fn variable_end(cursor: &mut Cursor<'_>) -> Result<(), Error>
     ensures gives { Passes result cursor.new.left (variable_end_of cursor.old.left) }
-    ensures refusal { IfErr result (Refuses cursor.old) }
+    ensures refusal { IfErr result (Refuses cursor.old cursor.new) }
     ensures later { IfOk result (λ _. Took cursor.old cursor.new) }
 {
     if eat_variable_end(cursor) {
@@ -72,10 +73,10 @@ fn eat_variable_end(cursor: &mut Cursor<'_>) -> bool
 }
 
 /// Takes the next token, where one has to come, and lets it go.
-#[tactic(auto, unfolding(tera_expect::specs::Taking::Took, tera_expect::specs::Taking::Refuses))]
+#[tactic(auto, unfolding(tera_expect::specs::Taking::Took), using(tera_expect::proofs::TakingLemmas::untaken_refused, tera_expect::proofs::TakingLemmas::token_refused))]
 pub(crate) fn pass(cursor: &mut Cursor<'_>) -> Result<(), Error>
     ensures passes { PassesOne cursor.old result cursor.new }
-    ensures refusal { IfErr result (Refuses cursor.old) }
+    ensures refusal { IfErr result (Refuses cursor.old cursor.new) }
     ensures later { IfOk result (λ _. Took cursor.old cursor.new) }
 {
     if cursor.skip() {
@@ -94,7 +95,7 @@ pub(crate) fn tag_expression(
 ) -> Result<Expression, Error>
     ensures gives { GivesBy (IsExpression in_loop) result cursor.new.left
         (expression_of (limits_under setting.now) in_loop cursor.old.left) }
-    ensures refusal { IfErr result (Refuses cursor.old) }
+    ensures refusal { IfErr result (Refuses cursor.old cursor.new) }
     ensures later { IfOk result (λ _. Took cursor.old cursor.new) }
 {
     match eat_alone(cursor) {
@@ -146,10 +147,10 @@ fn is_variable(word: &str) -> bool
 }
 
 /// A string, and where it is.
-#[tactic(auto, unfolding(tera_expect::specs::Taking::Took, tera_expect::specs::Taking::Refuses), using(tera_expect::proofs::TakingLemmas::memory_refused))]
+#[tactic(auto, unfolding(tera_expect::specs::Taking::Took), using(tera_expect::proofs::TakingLemmas::untaken_refused, tera_expect::proofs::TakingLemmas::token_refused, tera_expect::proofs::TakingLemmas::memory_refused))]
 pub(crate) fn quote(cursor: &mut Cursor<'_>) -> Result<(String, Span), Error>
     ensures gives { GivesBy IsQuote result cursor.new.left (taken_quote cursor.old.left) }
-    ensures refusal { IfErr result (Refuses cursor.old) }
+    ensures refusal { IfErr result (Refuses cursor.old cursor.new) }
     ensures later { IfOk result (λ _. Took cursor.old cursor.new) }
 {
     let alloc = cursor.alloc();
@@ -165,8 +166,9 @@ pub(crate) fn quote(cursor: &mut Cursor<'_>) -> Result<(String, Span), Error>
 /// its first token. What is there is taken.
 #[tactic(auto, using(tera_expect::proofs::TakingLemmas::refused_after, crate::proofs::RefusalLemmas::took_inside))]
 pub(crate) fn unknown_tag(cursor: &mut Cursor<'_>) -> Error
-    ensures refusal { Refuses cursor.old result }
-    ensures inside { is_end cursor.old.left ≡ false → RefusesIn cursor.old result }
+    ensures refusal { Refuses cursor.old cursor.new result }
+    ensures inside { is_end cursor.old.left ≡ false → RefusesIn cursor.old cursor.new result }
+    ensures stops { Fails {A = Unit {0}} (stopped (wrong_at cursor.old.left)) cursor.new.left result }
 {
     match begin_tag(cursor) {
         Ok(()) => unknown(cursor),
@@ -177,13 +179,15 @@ pub(crate) fn unknown_tag(cursor: &mut Cursor<'_>) -> Error
 // Takes the start of a tag and its first token, or a token that starts no tag.
 #[tactic(auto, using(tera_expect::proofs::TakingLemmas::after_tokens, crate::proofs::RefusalLemmas::took_inside, crate::proofs::RefusalLemmas::untaken_inside))]
 fn begin_tag(cursor: &mut Cursor<'_>) -> Result<(), Error>
-    ensures refusal { IfErr result (Refuses cursor.old) }
-    ensures inside { IfErr result (λ e. is_end cursor.old.left ≡ false → RefusesIn cursor.old e) }
+    ensures refusal { IfErr result (Refuses cursor.old cursor.new) }
+    ensures inside { IfErr result (λ e. is_end cursor.old.left ≡ false → RefusesIn cursor.old cursor.new e) }
+    ensures stops { IfErr result (Fails {A = Unit {0}} (stopped (wrong_at cursor.old.left)) cursor.new.left) }
+    ensures wrong { IfOk result (λ _. StopsAt {A = Unit {0}} (stopped (wrong_at cursor.old.left)) cursor.new.left) }
     ensures later { IfOk result (λ _. Took cursor.old cursor.new) }
 {
     let (token, _) = take(cursor)?;
     if let Token::TagStart(_) = token {
-        pass(cursor)?;
+        return pass(cursor);
     }
     Ok(())
 }
@@ -202,7 +206,7 @@ pub(crate) fn closes(cursor: &Cursor<'_>, closer: Closer) -> bool
 #[tactic(auto, using(tera_expect::proofs::TakingLemmas::after_tokens))]
 pub(crate) fn closed(cursor: &mut Cursor<'_>, closer: Closer) -> Result<(), Error>
     ensures gives { Passes result cursor.new.left (closed (closer_of closer) cursor.old.left) }
-    ensures refusal { IfErr result (Refuses cursor.old) }
+    ensures refusal { IfErr result (Refuses cursor.old cursor.new) }
     ensures later { IfOk result (λ _. Took cursor.old cursor.new) }
 {
     if !closes(cursor, closer) {
@@ -216,7 +220,7 @@ pub(crate) fn closed(cursor: &mut Cursor<'_>, closer: Closer) -> Result<(), Erro
 pub(crate) fn take_closer(cursor: &mut Cursor<'_>, closer: Closer) -> Result<(), Error>
     requires { closes closer (front cursor.old.left) ≡ true }
     ensures gives { Passes result cursor.new.left (closed (closer_of closer) cursor.old.left) }
-    ensures refusal { IfErr result (Refuses cursor.old) }
+    ensures refusal { IfErr result (Refuses cursor.old cursor.new) }
     ensures later { IfOk result (λ _. Took cursor.old cursor.new) }
 {
     pass(cursor)?;
@@ -228,7 +232,7 @@ pub(crate) fn take_closer(cursor: &mut Cursor<'_>, closer: Closer) -> Result<(),
 #[tactic(auto, using(tera_expect::proofs::TakingLemmas::after_tokens))]
 pub(crate) fn closed_tag(cursor: &mut Cursor<'_>, closer: Closer) -> Result<(), Error>
     ensures gives { Passes result cursor.new.left (closed_tag (closer_of closer) cursor.old.left) }
-    ensures refusal { IfErr result (Refuses cursor.old) }
+    ensures refusal { IfErr result (Refuses cursor.old cursor.new) }
     ensures later { IfOk result (λ _. Took cursor.old cursor.new) }
 {
     closed(cursor, closer)?;

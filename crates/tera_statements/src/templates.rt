@@ -1,6 +1,6 @@
 //! Whole templates.
 
-ghost use Rattle.std.specs.Prelude.{◌≡◌, IfErr, IfOk, None, OnOk, []};
+ghost use Rattle.std.specs.Prelude.{◌≡◌, ◌⊎◌, IfErr, IfOk, None, OnOk, []};
 ghost use Rattle.tera_base.specs.Errors.{IsMemory};
 ghost use Rattle.tera_lexer.specs.code.Cursors.{Position};
 ghost use Rattle.tera_grammar.specs.statements.Output.{AddsNothing, text_adds};
@@ -11,11 +11,11 @@ ghost use Rattle.tera_grammar.specs.statements.Reading.TagParts.{front};
 ghost use Rattle.tera_statements.specs.Adding.{added_view, here};
 ghost use Rattle.tera_tree.specs.Outputs.{output_view};
 ghost use Rattle.tera_statements.specs.Items.{AreEmptyTexts, GivesStep, GoesByItem};
-ghost use Rattle.tera_statements.specs.Kinds.{kind_of};
+ghost use Rattle.tera_statements.specs.Kinds.{kind_of, opens_extends};
 ghost use Rattle.tera_expr_parts.specs.Allowed.{AreValid, limits_of};
 ghost use Rattle.tera_expect.specs.Taking.{RefusesIn, Took};
 ghost use Rattle.tera_statements.specs.Settings.{bodies_under, limits_under};
-ghost use Rattle.tera_statements.specs.Templates.{Excludes, GivesPhase, GivesTemplate, GivesTextPhase, GivesTop, ReadsTemplate, ComesNext, top_depth, phase_if_any, phase_of, weight_of};
+ghost use Rattle.tera_statements.specs.Templates.{Excludes, GivesPhase, GivesTemplate, GivesTextPhase, GivesTop, IsStep, ReadsTemplate, RefusesTemplate, ComesNext, StopsLate, top_depth, phase_if_any, phase_of, weight_of};
 ghost use Rattle.tera_statements.specs.declared.fronts.Front.TheVariants as fronts;
 ghost use Rattle.tera_statements.specs.declared.fronts.Opener.TheVariants as openers;
 ghost use Rattle.tera_ast.specs.View.{node_view};
@@ -169,7 +169,7 @@ fn text_weight(text: &str) -> Weight
 pub fn read_output(mut cursor: Cursor<'_>, limits: Limits) -> Result<(ParserOutput, Names), Error>
     requires { AreValid (limits_of limits) }
     ensures gives { GivesTemplate (limits_of limits) result cursor.entry.left }
-    ensures refusal { IfErr result (RefusesIn cursor.entry) }
+    ensures refusal { IfErr result (RefusesTemplate (limits_of limits) cursor.entry) }
     ensures empty { IfErr result (λ _. AreEmptyTexts cursor.entry.left → ⊥) }
 {
     let setting = Setting {
@@ -182,8 +182,8 @@ pub fn read_output(mut cursor: Cursor<'_>, limits: Limits) -> Result<(ParserOutp
 // Reads a whole template.
 #[tactic(auto, using(crate::proofs::RefusalLemmas::goes_inside, crate::proofs::RefusalLemmas::memory_inside))]
 fn whole(setting: &Setting<'_>, cursor: &mut Cursor<'_>) -> Result<(ParserOutput, Names), Error>
-    ensures gives { ReadsTemplate (limits_under setting.now) result cursor.old.left }
-    ensures refusal { IfErr result (RefusesIn cursor.old) }
+    ensures gives { ReadsTemplate (limits_under setting.now) result cursor.old.left cursor.new.left }
+    ensures refusal { IfErr result (RefusesIn cursor.old cursor.new) }
     ensures empty { IfErr result (λ _. AreEmptyTexts cursor.old.left → ⊥) }
 {
     let alloc = cursor.alloc();
@@ -209,7 +209,7 @@ fn next_phase(
 ) -> Result<Option<Phase>, Error>
     ensures gives { GivesPhase (limits_under setting.now) phase result (output_view output.new)
         (output_view output.old) (here names.new cursor.new) (here names.old cursor.old) }
-    ensures refusal { IfErr result (RefusesIn cursor.old) }
+    ensures refusal { IfErr result (RefusesIn cursor.old cursor.new) }
     ensures empty { IfErr result (λ _. AreEmptyTexts cursor.old.left → ⊥) }
     ensures later { GoesByItem result cursor.old cursor.new }
 {
@@ -229,7 +229,7 @@ fn text_phase(
 ) -> Result<Option<Phase>, Error>
     ensures gives { GivesTextPhase text.now phase result (output_view output.new)
         (output_view output.old) }
-    ensures refusal { (old : Position) → Took old cursor.now → IfErr result (RefusesIn old) }
+    ensures refusal { (old : Position) → Took old cursor.now → IfErr result (RefusesIn old cursor.now) }
     ensures empty { IfErr result (λ _. text.now ≡ [] → ⊥) }
 {
     let Some(next) = phase.after_text(text) else {
@@ -250,7 +250,7 @@ fn item_phase(
 ) -> Result<Option<Phase>, Error>
     ensures gives { GivesPhase (limits_under setting.now) phase result (output_view output.new)
         (output_view output.old) (here names.new cursor.new) (here names.old cursor.old) }
-    ensures refusal { IfErr result (RefusesIn cursor.old) }
+    ensures refusal { IfErr result (RefusesIn cursor.old cursor.new) }
     ensures empty { IfErr result (λ _. AreEmptyTexts cursor.old.left → ⊥) }
     ensures later { GoesByItem result cursor.old cursor.new }
 {
@@ -272,7 +272,7 @@ fn next_item(
 ) -> Result<Option<(Added, Phase)>, Error>
     ensures gives { GivesTop (limits_under setting.now) phase result (here names.new cursor.new)
         (here names.old cursor.old) }
-    ensures refusal { IfErr result (RefusesIn cursor.old) }
+    ensures refusal { IfErr result (RefusesIn cursor.old cursor.new) }
     ensures empty { IfErr result (λ _. AreEmptyTexts cursor.old.left → ⊥) }
     ensures later { GoesByItem result cursor.old cursor.new }
 {
@@ -295,25 +295,35 @@ fn refuse_extends(
     phase: Phase,
 ) -> Result<(), Error>
     ensures stays { IfOk result (λ _. cursor.new ≡ cursor.old) }
-    ensures excludes { IfErr result (λ _. (seen : Seen) →
-        Excludes (limits_under setting.now) (at seen cursor.old.left) (phase_of phase)) }
-    ensures refusal { IfErr result (RefusesIn cursor.old) }
+    ensures step { IfOk result (λ _. (seen : Seen) →
+        IsStep (limits_under setting.now) (phase_of phase) (at seen cursor.old.left)) }
+    ensures excludes { IfErr result (λ e. IsMemory e ⊎ ((seen : Seen) →
+        Excludes (limits_under setting.now) (at seen cursor.old.left) (phase_of phase) cursor.new.left)) }
+    ensures refusal { IfErr result (RefusesIn cursor.old cursor.new) }
     ensures empty { IfErr result (λ _. AreEmptyTexts cursor.old.left → ⊥) }
 {
     if phase.following(Weight::Parent).is_some() {
         return Ok(());
     }
-    match Front::at(cursor) {
-        Front::Opens(Opener::Extends) => Err(late_extends(cursor, parent)),
-        _ => Ok(()),
+    if extends_next(cursor) {
+        return Err(late_extends(cursor, parent));
     }
+    Ok(())
+}
+
+// Whether an `extends` comes next.
+fn extends_next(cursor: &Cursor<'_>) -> bool
+    ensures { result ≡ opens_extends (kind_of (front cursor.now.left)) }
+{
+    matches!(Front::at(cursor), Front::Opens(Opener::Extends))
 }
 
 // That an `extends`, which comes next, is where none may. It is taken up to its string, at which that is reported.
 #[tactic(auto, using(crate::proofs::RefusalLemmas::took_inside))]
 fn late_extends(cursor: &mut Cursor<'_>, parent: Option<&str>) -> Error
     requires { fronts.Opens openers.Extends ≡ kind_of (front cursor.old.left) }
-    ensures { RefusesIn cursor.old result }
+    ensures refusal { RefusesIn cursor.old cursor.new result }
+    ensures late { IsMemory result ⊎ StopsLate cursor.old.left cursor.new.left }
 {
     match take_extends(cursor) {
         Ok(()) => match parent {
@@ -328,7 +338,10 @@ fn late_extends(cursor: &mut Cursor<'_>, parent: Option<&str>) -> Error
 #[tactic(auto, using(tera_expect::proofs::TakingLemmas::took_all, crate::proofs::RefusalLemmas::took_inside, crate::proofs::RefusalLemmas::memory_inside))]
 fn take_extends(cursor: &mut Cursor<'_>) -> Result<(), Error>
     requires { fronts.Opens openers.Extends ≡ kind_of (front cursor.old.left) }
-    ensures refusal { IfErr result (RefusesIn cursor.old) }
+    ensures late { IfOk result (λ _. StopsLate cursor.old.left cursor.new.left) }
+    ensures fails { IfErr result (λ e.
+        IsMemory e ⊎ StopsLate cursor.old.left cursor.new.left) }
+    ensures refusal { IfErr result (RefusesIn cursor.old cursor.new) }
     ensures later { IfOk result (λ _. Took cursor.old cursor.new) }
 {
     enter(cursor, Opener::Extends)?;
@@ -356,8 +369,8 @@ fn top_item(
     ensures gives { GivesStep [] result (here names.new cursor.new) (here names.old cursor.old)
         (step (limits_under setting.now)
         (bodies_under setting.now (top_depth (limits_under setting.now))) []
-        (here names.old cursor.old).seen (front cursor.old.left)) }
-    ensures refusal { IfErr result (RefusesIn cursor.old) }
+        (here names.old cursor.old).seen cursor.old.left (front cursor.old.left)) }
+    ensures refusal { IfErr result (RefusesIn cursor.old cursor.new) }
     ensures empty { IfErr result (λ _. AreEmptyTexts cursor.old.left → ⊥) }
     ensures later { GoesByItem result cursor.old cursor.new }
 {

@@ -1,4 +1,4 @@
-use Rattle.std.proofs.Common.{ap, ◌∙◌, inr, arith}
+use Rattle.std.proofs.Common.{ap, ◌∙◌, inr, arith, inl}
 use Rattle.tera_lexer.specs.code.Cursors.{Position, size}
 use Rattle.tera_grammar.proofs.expressions.Stack.{unwind_none, none_opens}
 use Rattle.tera_grammar.specs.expressions.Stack.{unwind}
@@ -94,7 +94,7 @@ stack::turn-returns-in-Nothing-clause-keeps t c = turns.stack::turn-returns-in-N
 
 pub stack::operand-returns-then-depth-eq0-clause-keeps : goal.stack::operand-returns-then-depth-eq0-clause-keeps
 stack::operand-returns-then-depth-eq0-clause-keeps t c =
-    inr (ap (unwind frame_view _ _) (none_opens _ _ _ _ c.if-depth-eq0.true) ∙ unwind_none frame_view _ _)
+    inr (inl (ap (unwind frame_view _ _) (none_opens _ _ _ _ c.if-depth-eq0.true) ∙ unwind_none frame_view _ _ _))
 
 pub stack::operand-returns-clause-keeps : goal.stack::operand-returns-clause-keeps
 stack::operand-returns-clause-keeps t c = heads.stack::operand-returns-clause-keeps t c
@@ -335,6 +335,9 @@ chains::chain-function_call-requires t c = omega (arith, eats_size _ _ _ _ c.eat
 
 pub chains::chain-with_links-requires : goal.chains::chain-with_links-requires
 chains::chain-with_links-requires t c = chains.chains::chain-with_links-requires t c
+
+pub chains::chain-returns-else-eat-clause-negatable : goal.chains::chain-returns-else-eat-clause-negatable
+chains::chain-returns-else-eat-clause-negatable t c = chains.chains::chain-returns-else-eat-clause-negatable t c
 
 pub arrays::array-value-requires : goal.arrays::array-value-requires
 arrays::array-value-requires t c = omega (arith, eats_size _ _ _ _ c.eat.ensures, eats_size _ _ _ _ c.eat-2.ensures)

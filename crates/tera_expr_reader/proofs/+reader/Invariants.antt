@@ -1,18 +1,18 @@
 use Rattle.std.proofs.Common.{◌≡◌, ◌+◌, ◌*◌}
 use Rattle.tera_lexer.specs.code.Cursors.{size}
 use Rattle.tera_ast.specs.View.{args_view, expression_view}
-use Rattle.tera_grammar.specs.expressions.Concrete.{of_arguments, Element, of_items, of_entries}
+use Rattle.tera_grammar.specs.expressions.Concrete.{Element, of_items, of_entries}
 use Rattle.tera_grammar.specs.expressions.Output.{of_loop}
 use Rattle.tera_grammar.specs.expressions.Reading.Front.{at}
 use Rattle.tera_grammar.specs.expressions.Reading.Loop.{expr}
-use Rattle.tera_grammar.specs.expressions.Reading.Bracketed.{row_of, links_of, after_element, attributes_of}
+use Rattle.tera_grammar.specs.expressions.Reading.Bracketed.{row_of, links_of, after_element, attributes_of, arguments_of}
 use Rattle.tera_grammar.specs.expressions.Stack.{coming, comes_to, left_to_do}
 use Rattle.tera_expr_reader.specs.Elements.{IsItem}
 use Rattle.tera_expr_reader.specs.Frames.{frame_view, state_view, HoldsNegatable, Went}
 use Rattle.tera_expr_parts.specs.Rooms.{room_of}
 use Rattle.tera_expr_parts.specs.CommaLists.{reader_of}
 use Rattle.tera_expect.specs.Taking.{GoesOn, name_in, Took}
-use Rattle.tera_expr_reader.proofs.ArgumentsLemmas.{Arguing, Argued}
+use Rattle.tera_expr_reader.proofs.ArgumentRows.{Asks}
 use Rattle.tera_expr_reader.proofs.ChainsLemmas.{Chaining}
 use Rattle.tera_expr_reader.proofs.ItemsLemmas.{Listing, Listed}
 use Rattle.tera_expr_reader.proofs.RowsLemmas.{Rowing, Gone}
@@ -33,10 +33,8 @@ decreases-stack::expression-steps l = left_to_do (state_view l.state) l.frames.i
 
 abbrev pub invariant-arguments::arguments-elements : goal.invariant-arguments::arguments-elements
 invariant-arguments::arguments-elements l = record {
-  rows : Rowing l.open (reader_of l.fn.values) (room_of l.fn.values.room) of_arguments
-      (row_of (reader_of l.fn.values) (room_of l.fn.values.room) of_arguments (at l.fn.links l.fn.cursor.left)) (at l.links l.cursor.left)
-      (Arguing l.fn.values.room.scope.in_loop (args_view l.arguments.entries))
-      (Argued l.fn.values.room.scope.in_loop (args_view l.arguments.entries) l.cursor.span);
+  rows : Asks l.open l.fn.values.room.scope.in_loop (args_view l.arguments.entries) l.cursor.span (reader_of l.fn.values) (room_of l.fn.values.room)
+      (arguments_of (reader_of l.fn.values) (room_of l.fn.values.room) (at l.fn.links l.fn.cursor.left)) (at l.links l.cursor.left);
   gone : Gone l.open l.fn.cursor l.cursor;
 }
 

@@ -1,15 +1,17 @@
 -- Arguments are a row whose names are distinct: that a name comes again is seen at it, and the row as a whole is none.
-use Rattle.std.proofs.Common.{◌≡◌, ℕ, zero, suc, Bool, true, false, cond, List, [], ◌∷◌, ◌++◌, append-nil, append_assoc, Option, Some, None, refl, sym, ap, ◌∙◌}
+use Rattle.std.proofs.Common.{◌≡◌, ℕ, zero, suc, Bool, true, false, cond, List, [], ◌∷◌, ◌++◌, append-nil, append_assoc, Some, None, refl, sym, ap, ◌∙◌}
 use Rattle.tera_base.specs.declared.utils.Span.{Span}
 use Rattle.tera_lexer.specs.code.Cursors.{size}
 use Rattle.tera_lexer.specs.grammar.Words.{is_one_of}
 use Rattle.tera_grammar.specs.Words.{are_distinct}
 use Rattle.tera_grammar.specs.expressions.Marks.{RightParen, Comma, Assign}
-use Rattle.tera_grammar.specs.expressions.Concrete.{Name, Tree, Row, of_arguments, ended, only, then, argument, Element}
+use Rattle.tera_grammar.specs.expressions.Concrete.{Name, Tree, Row, of_arguments, only, then, argument, Element}
 use Rattle.tera_grammar.specs.expressions.Conditions.{argument_names}
 use Rattle.tera_grammar.specs.Options.{◌>>=◌}
-use Rattle.tera_grammar.specs.expressions.Reading.Front.{Place, Reads, skip, name_of}
-use Rattle.tera_grammar.specs.expressions.Reading.Bracketed.{Room, Reader, argument_at, element_of, comma_at, after_element, row_at, row_by, row_of, arguments_at, arguments_by, arguments_of}
+use Rattle.tera_grammar.specs.expressions.Reading.Front.{Place}
+use Rattle.tera_grammar.proofs.plain.expressions.Reading.Front.{Reads, skip, name_of}
+use Rattle.tera_grammar.specs.expressions.Reading.Rooms.{Room}
+use Rattle.tera_grammar.proofs.plain.expressions.Reading.Bracketed.{Reader, argument_at, element_of, comma_at, after_element, row_at, row_by, row_of, arguments_at, arguments_by, arguments_of}
 use Rattle.tera_grammar.proofs.expressions.Repeated.{twice, once}
 
 -- a row whose names are distinct, and none is among those before

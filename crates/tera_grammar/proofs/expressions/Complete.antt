@@ -13,10 +13,13 @@ use Rattle.tera_grammar.specs.expressions.Conditions.{AreVariables, argument_nam
 use Rattle.tera_grammar.specs.expressions.Measures.{deep, atom_deep, links_deep, sub_deep, part_deep, extra_deep, row_deep, element_deep, attributes_deep, suffix_deep, args_deep, operator_deep, openings, subscripts, arrays, links, atom_links, links_links, sub_links, part_links, extra_links, row_links, attributes_links, suffix_links, args_links, operator_links, EachElement, EachRow, EachAttribute}
 use Rattle.tera_grammar.specs.expressions.Output.{of_loop}
 use Rattle.tera_grammar.specs.Options.{◌>>=◌}
-use Rattle.tera_grammar.specs.expressions.Reading.Front.{Place, at, Reads, same_token, takes, skip, no_link, link_of, Lead, leads_binary, leads_condition, ends_test, ends_filter, ends_subscript, Front, nothing, joins, closes, misplaced, lead_power, keeps_out, front, head_mark}
-use Rattle.tera_grammar.specs.expressions.Reading.Bracketed.{Room, room, extra_of, part_of, slice_of, sub_at, sub_of, row_of, arguments_of, args_of, links_by, links_of, attributes_of}
-use Rattle.tera_grammar.specs.expressions.Reading.Atoms.{array_at, head_of}
-use Rattle.tera_grammar.specs.expressions.Reading.Loop.{operator_of, test_at, suffix_in, by_operator, by_suffix, grow, join_of, close_of, step, go_on, expr, loop_with, loop}
+use Rattle.tera_grammar.specs.expressions.Reading.Front.{Place, at, same_token, no_link, link_of, Lead, leads_binary, leads_condition, ends_test, ends_filter, ends_subscript, lead_power, keeps_out, head_mark}
+use Rattle.tera_grammar.proofs.plain.expressions.Reading.Front.{Reads, takes, skip, Front, nothing, joins, closes, misplaced, front}
+use Rattle.tera_grammar.specs.expressions.Reading.Rooms.{Room, room}
+use Rattle.tera_grammar.proofs.plain.expressions.Reading.Bracketed.{extra_of, part_of, slice_of, sub_at, sub_of, row_of, arguments_of, args_of, links_by, links_of, attributes_of}
+use Rattle.tera_grammar.proofs.plain.expressions.Reading.Atoms.{array_at, head_of}
+use Rattle.tera_grammar.specs.expressions.Reading.Loop.{by_operator, by_suffix, grow}
+use Rattle.tera_grammar.proofs.plain.expressions.Reading.Loop.{operator_of, test_at, suffix_in, join_of, close_of, step, go_on, expr, loop_with, loop}
 use Rattle.tera_grammar.proofs.expressions.Fronts.{skip_mark, skip_past, bump_read, name_read, lead_tokens, front_lead, front_ending, apart_lead, apart_test, apart_filter, ends_mark}
 use Rattle.tera_grammar.proofs.expressions.Quiet.{StopsAt, Stops, QuietAtom, QuietArgs, QuietSuffix, Quiet, Quiet-above, Quiet-ends, ends_stops, Quiet-closed}
 use Rattle.tera_grammar.proofs.expressions.Longer.{longer_joint, longer_bracket, longer_sub}

@@ -18,11 +18,13 @@ use Rattle.tera_grammar.specs.expressions.Concrete.{Tree}
 use Rattle.tera_grammar.specs.Limits.{Limits, usual}
 use Rattle.tera_grammar.specs.Words.{is_none, is_reserved, is_loop_field}
 use Rattle.tera_grammar.specs.expressions.Output.{output}
-use Rattle.tera_grammar.specs.expressions.Reading.Front.{skip, bump, name_of, literal_at, quote_at, link_of, front_of_token, head_mark, begins_sign}
-use Rattle.tera_grammar.specs.expressions.Reading.Bracketed.{inside_subscript, inside_array, extra_of, part_of, slice_of, sub_of, element_of, after_element, row_by, row_of, arguments_by, arguments_of, args_of, links_by, links_of, dotted_by, dotted_of, attributes_by, attributes_of}
-use Rattle.tera_grammar.specs.expressions.Reading.Atoms.{prefix_of, paren_of, variables_of, comprehension_of, items_from, array_of, map_of, component_of, chain_of, word_head}
-use Rattle.tera_grammar.specs.expressions.Reading.Loop.{operator_of, suffix_in, join_of, close_of, step, loop_by, expr}
-use Rattle.tera_grammar.specs.expressions.Reading.Whole.{expression_of}
+use Rattle.tera_grammar.specs.expressions.Reading.Front.{link_of, head_mark, begins_sign}
+use Rattle.tera_grammar.proofs.plain.expressions.Reading.Front.{skip, bump, name_of, literal_at, quote_at, front_of_token}
+use Rattle.tera_grammar.specs.expressions.Reading.Rooms.{inside_subscript, inside_array}
+use Rattle.tera_grammar.proofs.plain.expressions.Reading.Bracketed.{extra_of, part_of, slice_of, sub_of, element_of, after_element, row_by, row_of, arguments_by, arguments_of, args_of, links_by, links_of, dotted_by, dotted_of, attributes_by, attributes_of}
+use Rattle.tera_grammar.proofs.plain.expressions.Reading.Atoms.{prefix_of, paren_of, variables_of, comprehension_of, items_from, array_of, map_of, component_of, chain_of, word_head}
+use Rattle.tera_grammar.proofs.plain.expressions.Reading.Loop.{operator_of, suffix_in, join_of, close_of, step, loop_by, expr}
+use Rattle.tera_grammar.proofs.plain.expressions.Reading.Whole.{expression_of}
 
 -- a token with no place of its own
 abbrev op : List ℕ → Items → Items

@@ -14,9 +14,11 @@ use Rattle.tera_grammar.specs.expressions.Conditions.{IsFirst, AreVariables, IsE
 use Rattle.tera_grammar.specs.expressions.Measures.{deep, subscripts, arrays, height, links}
 use Rattle.tera_grammar.specs.expressions.Output.{of_loop}
 use Rattle.tera_grammar.specs.Options.{◌>>=◌}
-use Rattle.tera_grammar.specs.expressions.Reading.Front.{Place, at, Reads, among, skip, head_marks, head_mark, begins_sign}
-use Rattle.tera_grammar.specs.expressions.Reading.Bracketed.{Room, room, Reader, row_of}
-use Rattle.tera_grammar.specs.expressions.Reading.Atoms.{prefix_of, paren_of, second_at, variables_of, comprehension_of, items_from, for_at, array_from, array_at, array_of, map_of, component_of, called_at, chain_of, word_head, mark_head, head_token, head_in, head_of}
+use Rattle.tera_grammar.specs.expressions.Reading.Front.{Place, at, among, head_marks, head_mark, begins_sign}
+use Rattle.tera_grammar.proofs.plain.expressions.Reading.Front.{Reads, skip}
+use Rattle.tera_grammar.specs.expressions.Reading.Rooms.{Room, room}
+use Rattle.tera_grammar.proofs.plain.expressions.Reading.Bracketed.{Reader, row_of}
+use Rattle.tera_grammar.proofs.plain.expressions.Reading.Atoms.{prefix_of, paren_of, second_at, variables_of, comprehension_of, items_from, for_at, array_from, array_at, array_of, map_of, component_of, called_at, chain_of, word_head, mark_head, head_token, head_in, head_of}
 use Rattle.tera_grammar.proofs.Options.{bound}
 use Rattle.tera_grammar.proofs.expressions.Fronts.{cond_ok, fails_ok, among_is, skip_ok, name_of_ok}
 use Rattle.tera_grammar.proofs.expressions.Quiet.{Quiet}

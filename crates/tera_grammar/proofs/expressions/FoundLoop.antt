@@ -11,9 +11,12 @@ use Rattle.tera_grammar.specs.expressions.Powers.{left_power, right_power, AtLea
 use Rattle.tera_grammar.specs.Words.{is_not}
 use Rattle.tera_grammar.specs.expressions.Conditions.{NamesTest, argument_names, is_refused, IsExpression, IsSuffix, IsOperator}
 use Rattle.tera_grammar.specs.expressions.Measures.{deep, suffix_deep, operator_deep, openings, subscripts, arrays, height, links, suffix_links, operator_links}
-use Rattle.tera_grammar.specs.expressions.Reading.Front.{Place, at, Reads, takes, skip, Lead, leads_binary, leads_condition, Ending, ends_test, ends_filter, ends_subscript, Front, nothing, joins, closes, misplaced, lead_power, keeps_out, front}
-use Rattle.tera_grammar.specs.expressions.Reading.Bracketed.{Room, Reader}
-use Rattle.tera_grammar.specs.expressions.Reading.Loop.{operator_of, test_named, test_at, suffix_in, Growth, by_operator, by_suffix, grow, join_of, close_of, grown, step, go_on, loop_by, expr}
+use Rattle.tera_grammar.specs.expressions.Reading.Front.{Place, at, Lead, leads_binary, leads_condition, Ending, ends_test, ends_filter, ends_subscript, lead_power, keeps_out}
+use Rattle.tera_grammar.proofs.plain.expressions.Reading.Front.{Reads, takes, skip, Front, nothing, joins, closes, misplaced, front}
+use Rattle.tera_grammar.specs.expressions.Reading.Rooms.{Room}
+use Rattle.tera_grammar.proofs.plain.expressions.Reading.Bracketed.{Reader}
+use Rattle.tera_grammar.specs.expressions.Reading.Loop.{Growth, by_operator, by_suffix, grow}
+use Rattle.tera_grammar.proofs.plain.expressions.Reading.Loop.{operator_of, test_named, test_at, suffix_in, join_of, close_of, grown, step, go_on, loop_by, expr}
 use Rattle.tera_grammar.proofs.Options.{bound}
 use Rattle.tera_grammar.proofs.expressions.Fronts.{cond_ok, fails_ok, skip_ok, skip_none, bump_ok, name_of_ok, lead_tokens, ending_tokens, FrontOf, FrontOf-front}
 use Rattle.tera_grammar.proofs.expressions.Quiet.{StopsAt, Stops, QuietSuffix, Quiet, Above-quiet, closed-quiet, bare-quiet}

@@ -8,8 +8,10 @@ use Rattle.tera_grammar.specs.expressions.Concrete.{Dotted, no_dots, dots, Tree,
 use Rattle.tera_grammar.specs.expressions.Conditions.{is_field_of, AreLinks, IsSub, IsPart, IsExtra, AreArgs}
 use Rattle.tera_grammar.specs.expressions.Measures.{links_deep, sub_deep, part_deep, extra_deep, args_deep, openings, subscripts, arrays, links, links_links, sub_links, part_links, extra_links, args_links}
 use Rattle.tera_grammar.specs.Options.{◌>>=◌}
-use Rattle.tera_grammar.specs.expressions.Reading.Front.{Place, at, Reads, skip, lowered, Link, no_link, jointed, bracketed, called, link_of}
-use Rattle.tera_grammar.specs.expressions.Reading.Bracketed.{Room, room, Reader, inside_subscript, inside_array, extra_at, extra_of, part_at, part_of, slice_of, index_at, sub_at, sub_of, args_at, args_of, links_at, links_by, links_of, dotted_at, dotted_by, dotted_of}
+use Rattle.tera_grammar.specs.expressions.Reading.Front.{Place, at, lowered, Link, no_link, jointed, bracketed, called, link_of}
+use Rattle.tera_grammar.proofs.plain.expressions.Reading.Front.{Reads, skip}
+use Rattle.tera_grammar.specs.expressions.Reading.Rooms.{Room, room, inside_subscript, inside_array}
+use Rattle.tera_grammar.proofs.plain.expressions.Reading.Bracketed.{Reader, extra_at, extra_of, part_at, part_of, slice_of, index_at, sub_at, sub_of, args_at, args_of, links_at, links_by, links_of, dotted_at, dotted_by, dotted_of}
 use Rattle.tera_grammar.proofs.Options.{bound}
 use Rattle.tera_grammar.proofs.expressions.Fronts.{holds_ok, skip_ok, skip_none, lowered_ok, bump_ok, name_of_ok, LinkOf, LinkOf-link_of}
 use Rattle.tera_grammar.proofs.expressions.Quiet.{QuietArgs}

@@ -11,8 +11,10 @@ use Rattle.tera_grammar.specs.expressions.Powers.{AtLeast}
 use Rattle.tera_grammar.specs.Words.{are_distinct, AreDistinct}
 use Rattle.tera_grammar.specs.expressions.Conditions.{is_element_of, argument_names, IsExpression, IsRow, IsElement, AreAttributes}
 use Rattle.tera_grammar.specs.expressions.Measures.{deep, row_deep, element_deep, attributes_deep, openings, subscripts, arrays, height, links, row_links, element_links, attributes_links, EachElement, EachRow, EachAttribute}
-use Rattle.tera_grammar.specs.expressions.Reading.Front.{Place, Reads, skip, name_of, quote_at}
-use Rattle.tera_grammar.specs.expressions.Reading.Bracketed.{Room, Reader, spread_at, item_at, entry_at, element_of, comma_at, after_element, row_at, row_by, row_of, arguments_of, value_at, named_at, attribute_at, attributes_by, attributes_of}
+use Rattle.tera_grammar.specs.expressions.Reading.Front.{Place}
+use Rattle.tera_grammar.proofs.plain.expressions.Reading.Front.{Reads, skip, name_of, quote_at}
+use Rattle.tera_grammar.specs.expressions.Reading.Rooms.{Room}
+use Rattle.tera_grammar.proofs.plain.expressions.Reading.Bracketed.{Reader, spread_at, item_at, entry_at, element_of, comma_at, after_element, row_at, row_by, row_of, arguments_of, value_at, named_at, attribute_at, attributes_by, attributes_of}
 use Rattle.tera_grammar.proofs.Words.{distinct_ok}
 use Rattle.tera_grammar.proofs.Options.{bound}
 use Rattle.tera_grammar.proofs.expressions.Fronts.{holds_ok, skip_ok, name_of_ok, literal_at_ok, quote_at_ok}

@@ -9,7 +9,8 @@ use Rattle.tera_grammar.specs.expressions.Operators.{BinaryOperator, Mul, Div, M
 use Rattle.tera_grammar.specs.expressions.Marks.{Mark, LeftParen, RightParen, LeftBracket, RightBracket, QuestionBracket, RightBrace, Comma, Colon, Dot, QuestionDot, Bar, Not, Is, If, Else, For, Operation, Other, mark_token, mark}
 use Rattle.tera_grammar.specs.expressions.Concrete.{Name, Quote, Lit, Single, NotIn, quote_token, literal_token, name_yield, joint_yield, bracket_yield, op_yield}
 use Rattle.tera_grammar.specs.Options.{◌>>=◌}
-use Rattle.tera_grammar.specs.expressions.Reading.Front.{Place, at, same_token, among, takes, moved, skip, lowered, bump, taken_name, name_of, literal_of, quote_of, taken_as, taken_quote, literal_at, quote_at, Link, no_link, jointed, bracketed, called, link_marks, marked_link, link_of, Lead, leads_binary, leads_condition, Ending, ends_test, ends_filter, ends_subscript, Front, nothing, joins, closes, misplaced, front_marks, front_not, marked_front, front_of_token, front}
+use Rattle.tera_grammar.specs.expressions.Reading.Front.{Place, at, same_token, among, lowered, literal_of, quote_of, Link, no_link, jointed, bracketed, called, link_marks, marked_link, link_of, Lead, leads_binary, leads_condition, Ending, ends_test, ends_filter, ends_subscript, front_marks}
+use Rattle.tera_grammar.proofs.plain.expressions.Reading.Front.{takes, moved, skip, bump, taken_name, name_of, taken_as, taken_quote, literal_at, quote_at, Front, nothing, joins, closes, misplaced, front_not, marked_front, front_of_token, front}
 use Rattle.tera_grammar.specs.expressions.Ends.{IsStopMark, IsStopToken, IsStop}
 
 -- the parts of a reading that succeeds

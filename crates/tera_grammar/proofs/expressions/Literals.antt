@@ -9,11 +9,14 @@ use Rattle.tera_grammar.specs.expressions.Companions.{Opened, array_value}
 use Rattle.tera_grammar.specs.expressions.Concrete.{Name, Second, Extra, Tree, Atomic, Array, Comprehension, Row, of_items, Element, plain, spread, pair, argument}
 use Rattle.tera_grammar.specs.expressions.Marks.{LeftBracket, RightBracket, Comma, For, If, Operation}
 use Rattle.tera_grammar.specs.expressions.Operators.{In}
-use Rattle.tera_grammar.specs.expressions.Reading.Front.{Place, at, Reads, skip}
-use Rattle.tera_grammar.specs.expressions.Reading.Bracketed.{Room, Reader, inside_array, extra_of, element_of, comma_at, after_element, row_at, row_of}
-use Rattle.tera_grammar.specs.expressions.Reading.Atoms.{variables_of, comprehension_of, items_from, for_at, array_from, array_at, array_of}
-use Rattle.tera_grammar.specs.expressions.Reading.Loop.{expr}
-use Rattle.tera_grammar.specs.expressions.Reading.Whole.{widest, outermost, left_over, with_array, row_if_array, literal_array_of}
+use Rattle.tera_grammar.specs.expressions.Reading.Front.{Place, at}
+use Rattle.tera_grammar.proofs.plain.expressions.Reading.Front.{Reads, skip}
+use Rattle.tera_grammar.specs.expressions.Reading.Rooms.{Room, inside_array}
+use Rattle.tera_grammar.proofs.plain.expressions.Reading.Bracketed.{Reader, extra_of, element_of, comma_at, after_element, row_at, row_of}
+use Rattle.tera_grammar.proofs.plain.expressions.Reading.Atoms.{variables_of, comprehension_of, items_from, for_at, array_from, array_at, array_of}
+use Rattle.tera_grammar.proofs.plain.expressions.Reading.Loop.{expr}
+use Rattle.tera_grammar.specs.expressions.Reading.Whole.{widest}
+use Rattle.tera_grammar.proofs.plain.expressions.Reading.Whole.{outermost, left_over, with_array, row_if_array, literal_array_of}
 use Rattle.tera_grammar.proofs.Options.{bind_both}
 use Rattle.tera_grammar.proofs.expressions.Fronts.{skip_ok}
 use Rattle.tera_grammar.proofs.expressions.FoundRows.{Sound}

@@ -11,8 +11,8 @@ use Rattle.tera_grammar.specs.expressions.Conditions.{AreAttributes, AreArgs}
 use Rattle.tera_grammar.specs.Limits.{Limits}
 use Rattle.tera_grammar.specs.expressions.Measures.{row_deep, attributes_deep, openings, subscripts, arrays, row_links, attributes_links, Within, EachRow}
 use Rattle.tera_grammar.specs.expressions.Companions.{Opened, kwargs_yield, AreKwargs, Filtering, filter_yield, EachArgs, Path, path_yield, array_yield, IsArray, ArrayWithin, map_yield, IsMap}
-use Rattle.tera_grammar.specs.expressions.Reading.Front.{takes}
-use Rattle.tera_grammar.specs.expressions.Reading.Whole.{kwargs_of, filter_of, all_attributes, path_of, literal_array_of, literal_map_of}
+use Rattle.tera_grammar.proofs.plain.expressions.Reading.Front.{takes}
+use Rattle.tera_grammar.proofs.plain.expressions.Reading.Whole.{kwargs_of, filter_of, all_attributes, path_of, literal_array_of, literal_map_of}
 use Rattle.tera_grammar.specs.expressions.Ends.{EndsAttributes, EndsFilter, EndsPath}
 use Rattle.tera_grammar.proofs.expressions.Fronts.{takes_ok}
 use Rattle.tera_grammar.proofs.expressions.ReadRows.{NoAttribute}

@@ -8,8 +8,9 @@ use Rattle.tera_grammar.specs.expressions.Conditions.{IsExpression, IsRow, IsEle
 use Rattle.tera_grammar.specs.Limits.{Limits}
 use Rattle.tera_grammar.specs.expressions.Measures.{row_deep, element_deep, attributes_deep, openings, subscripts, arrays, links, row_links, element_links, attributes_links, Within, EachElement, EachRow, EachAttribute}
 use Rattle.tera_grammar.specs.expressions.Reading.Front.{Place, at}
-use Rattle.tera_grammar.specs.expressions.Reading.Bracketed.{Room, Reader}
-use Rattle.tera_grammar.specs.expressions.Reading.Loop.{expr, fresh}
+use Rattle.tera_grammar.specs.expressions.Reading.Rooms.{Room}
+use Rattle.tera_grammar.proofs.plain.expressions.Reading.Bracketed.{Reader}
+use Rattle.tera_grammar.proofs.plain.expressions.Reading.Loop.{expr, fresh}
 use Rattle.tera_grammar.specs.expressions.Reading.Whole.{widest}
 use Rattle.tera_grammar.proofs.Options.{bound}
 use Rattle.tera_grammar.proofs.expressions.Fronts.{Ends, ends_mark}

@@ -5,7 +5,8 @@ use Rattle.tera_lexer.specs.grammar.Tokens.{Items}
 use Rattle.tera_grammar.specs.expressions.Marks.{LeftParen, LeftBracket, mark}
 use Rattle.tera_grammar.specs.expressions.Concrete.{plain_bracket, Tree, Atomic, Prefix, Suffixed, Infix, Atom, Chain, Suffix, Test, Filter, Subscript, Args, no_args, args}
 use Rattle.tera_grammar.specs.expressions.Powers.{right_power, sign_power, right_spine, Above, NoChain}
-use Rattle.tera_grammar.specs.expressions.Reading.Front.{takes, no_link, bracketed, link_of, ends_test, ends_filter, ends_subscript, Front, nothing, joins, closes, misplaced, lead_power, front}
+use Rattle.tera_grammar.specs.expressions.Reading.Front.{no_link, bracketed, link_of, ends_test, ends_filter, ends_subscript, lead_power}
+use Rattle.tera_grammar.proofs.plain.expressions.Reading.Front.{takes, Front, nothing, joins, closes, misplaced, front}
 use Rattle.tera_grammar.proofs.expressions.Fronts.{Apart, Ends}
 
 -- The tokens after an operand begin with nothing that the power m lets in.

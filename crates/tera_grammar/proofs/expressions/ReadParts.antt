@@ -12,9 +12,11 @@ use Rattle.tera_grammar.specs.Words.{is_none, is_not}
 use Rattle.tera_grammar.specs.expressions.Conditions.{IsFirst, is_field_of, AreVariables, IsExpression, IsAtom, IsRow}
 use Rattle.tera_grammar.specs.expressions.Measures.{links, part_links, extra_links, EachRow}
 use Rattle.tera_grammar.specs.expressions.Output.{of_loop}
-use Rattle.tera_grammar.specs.expressions.Reading.Front.{Place, at, Reads, same_token, takes, moved, skip, name_of, no_link, jointed, bracketed, link_of, head_mark, begins_sign}
-use Rattle.tera_grammar.specs.expressions.Reading.Bracketed.{Room, room, Reader, inside_subscript, inside_array, extra_at, extra_of, part_at, part_of, slice_of, sub_at, sub_of, element_of, after_element, row_of, arguments_of, args_at, args_of, links_at, links_by, links_of, dotted_of, attributes_of}
-use Rattle.tera_grammar.specs.expressions.Reading.Atoms.{prefix_of, paren_of, variables_of, comprehension_of, items_from, for_at, array_from, array_at, array_of, map_of, component_of, called_at, chain_of, word_head, head_of}
+use Rattle.tera_grammar.specs.expressions.Reading.Front.{Place, at, same_token, no_link, jointed, bracketed, link_of, head_mark, begins_sign}
+use Rattle.tera_grammar.proofs.plain.expressions.Reading.Front.{Reads, takes, moved, skip, name_of}
+use Rattle.tera_grammar.specs.expressions.Reading.Rooms.{Room, room, inside_subscript, inside_array}
+use Rattle.tera_grammar.proofs.plain.expressions.Reading.Bracketed.{Reader, extra_at, extra_of, part_at, part_of, slice_of, sub_at, sub_of, element_of, after_element, row_of, arguments_of, args_at, args_of, links_at, links_by, links_of, dotted_of, attributes_of}
+use Rattle.tera_grammar.proofs.plain.expressions.Reading.Atoms.{prefix_of, paren_of, variables_of, comprehension_of, items_from, for_at, array_from, array_at, array_of, map_of, component_of, called_at, chain_of, word_head, head_of}
 use Rattle.tera_grammar.specs.expressions.Ends.{IsStopMark}
 use Rattle.tera_grammar.proofs.expressions.Fronts.{none_skip, skip_mark, skip_past, bump_read, name_read, unlinked_apart}
 use Rattle.tera_grammar.proofs.expressions.FoundRows.{row_toll}

@@ -9,8 +9,10 @@ use Rattle.tera_grammar.specs.expressions.Concrete.{Name, Quote, Simple, Escaped
 use Rattle.tera_grammar.specs.Words.{are_distinct, AreDistinct}
 use Rattle.tera_grammar.specs.expressions.Conditions.{is_element_of, argument_names, IsRow, IsElement, AreAttributes}
 use Rattle.tera_grammar.specs.expressions.Measures.{EachElement, EachRow, EachAttribute}
-use Rattle.tera_grammar.specs.expressions.Reading.Front.{Place, at, Reads, same_token, takes, skip, taken_name, name_of, literal_at, quote_at}
-use Rattle.tera_grammar.specs.expressions.Reading.Bracketed.{Room, Reader, item_at, entry_at, element_of, after_element, row_at, row_by, row_of, arguments_of, dotted_by, dotted_of, attributes_by, attributes_of}
+use Rattle.tera_grammar.specs.expressions.Reading.Front.{Place, at, same_token}
+use Rattle.tera_grammar.proofs.plain.expressions.Reading.Front.{Reads, takes, skip, taken_name, name_of, literal_at, quote_at}
+use Rattle.tera_grammar.specs.expressions.Reading.Rooms.{Room}
+use Rattle.tera_grammar.proofs.plain.expressions.Reading.Bracketed.{Reader, item_at, entry_at, element_of, after_element, row_at, row_by, row_of, arguments_of, dotted_by, dotted_of, attributes_by, attributes_of}
 use Rattle.tera_grammar.specs.expressions.Ends.{IsStopMark}
 use Rattle.tera_grammar.proofs.Words.{distinct_true}
 use Rattle.tera_grammar.proofs.expressions.Fronts.{takes_ok, none_skip, skip_mark, name_read}

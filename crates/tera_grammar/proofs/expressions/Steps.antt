@@ -7,8 +7,10 @@ use Rattle.tera_grammar.specs.expressions.Marks.{LeftBrace, RightBrace, Comma, D
 use Rattle.tera_grammar.specs.expressions.Concrete.{Name, Quote, Dotted, dots, Kind, Tree, Links, field, item, Row, then, Element, Attributes, bare, quoted, valued, spreading, name_yield, joint_yield, bracket_yield, closing, yield, sub_yield}
 use Rattle.tera_grammar.specs.expressions.Conditions.{is_field_of}
 use Rattle.tera_grammar.specs.Options.{◌>>=◌}
-use Rattle.tera_grammar.specs.expressions.Reading.Front.{Place, at, Reads, skip, bump, name_of, quote_at, Link, no_link, jointed, bracketed, called, link_of}
-use Rattle.tera_grammar.specs.expressions.Reading.Bracketed.{Room, Reader, sub_of, element_of, comma_at, after_element, row_at, row_by, row_of, links_at, links_by, links_of, dotted_at, dotted_by, dotted_of, value_at, named_at, attribute_at, attributes_by, attributes_of}
+use Rattle.tera_grammar.specs.expressions.Reading.Front.{Place, at, Link, no_link, jointed, bracketed, called, link_of}
+use Rattle.tera_grammar.proofs.plain.expressions.Reading.Front.{Reads, skip, bump, name_of, quote_at}
+use Rattle.tera_grammar.specs.expressions.Reading.Rooms.{Room}
+use Rattle.tera_grammar.proofs.plain.expressions.Reading.Bracketed.{Reader, sub_of, element_of, comma_at, after_element, row_at, row_by, row_of, links_at, links_by, links_of, dotted_at, dotted_by, dotted_of, value_at, named_at, attribute_at, attributes_by, attributes_of}
 use Rattle.tera_grammar.proofs.expressions.Fronts.{skip_ok, bump_ok, name_of_ok, quote_at_ok, LinkOf, LinkOf-link_of}
 use Rattle.tera_grammar.proofs.expressions.Longer.{longer_joint, longer_bracket, longer, longer_sub, longer_element}
 use Rattle.tera_grammar.proofs.expressions.FoundRows.{Sound, element_found}

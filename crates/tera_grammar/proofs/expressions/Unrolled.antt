@@ -3,9 +3,12 @@ use Rattle.std.proofs.Common.{◌≡◌, ℕ, zero, suc, ◌<◌, Option, Some, 
 use Rattle.tera_lexer.specs.code.Cursors.{size}
 use Rattle.tera_grammar.specs.expressions.Concrete.{Tree}
 use Rattle.tera_grammar.specs.Options.{◌>>=◌}
-use Rattle.tera_grammar.specs.expressions.Reading.Front.{Place, Reads, front}
-use Rattle.tera_grammar.specs.expressions.Reading.Bracketed.{Room, Reader}
-use Rattle.tera_grammar.specs.expressions.Reading.Loop.{Growth, grow, step, go_on, loop_by, expr, loop_with, loop}
+use Rattle.tera_grammar.specs.expressions.Reading.Front.{Place}
+use Rattle.tera_grammar.proofs.plain.expressions.Reading.Front.{Reads, front}
+use Rattle.tera_grammar.specs.expressions.Reading.Rooms.{Room}
+use Rattle.tera_grammar.proofs.plain.expressions.Reading.Bracketed.{Reader}
+use Rattle.tera_grammar.specs.expressions.Reading.Loop.{Growth, grow}
+use Rattle.tera_grammar.proofs.plain.expressions.Reading.Loop.{step, go_on, loop_by, expr, loop_with, loop}
 use Rattle.tera_grammar.proofs.expressions.FoundParts.{SoundTree}
 use Rattle.tera_grammar.proofs.expressions.FoundLoop.{step_found, expr_sound}
 

@@ -11,10 +11,13 @@ use Rattle.tera_grammar.specs.Limits.{Limits}
 use Rattle.tera_grammar.specs.expressions.Measures.{deep, row_deep, element_deep, subscripts, arrays, height, links, Within, EachElement, EachRow, EachAttribute}
 use Rattle.tera_grammar.specs.expressions.Companions.{Opened, kwargs_yield, AreKwargs, Filtering, filter_yield, EachArgs, Path, path_yield, array_yield, array_value, IsArray, ArrayWithin, map_yield, map_value, IsMap}
 use Rattle.tera_grammar.specs.Options.{◌>>=◌}
-use Rattle.tera_grammar.specs.expressions.Reading.Front.{Place, at, Reads, takes, skip, link_of}
-use Rattle.tera_grammar.specs.expressions.Reading.Bracketed.{Room, room, inside_array, row_of, arguments_of, args_at, args_of, attributes_of}
-use Rattle.tera_grammar.specs.expressions.Reading.Loop.{expr, fresh}
-use Rattle.tera_grammar.specs.expressions.Reading.Whole.{widest, outermost, left_over, expression_of, kwargs_of, filter_of, all_attributes, path_of, with_array, with_map, literal_array_of, literal_map_of}
+use Rattle.tera_grammar.specs.expressions.Reading.Front.{Place, at, link_of}
+use Rattle.tera_grammar.proofs.plain.expressions.Reading.Front.{Reads, takes, skip}
+use Rattle.tera_grammar.specs.expressions.Reading.Rooms.{Room, room, inside_array}
+use Rattle.tera_grammar.proofs.plain.expressions.Reading.Bracketed.{row_of, arguments_of, args_at, args_of, attributes_of}
+use Rattle.tera_grammar.proofs.plain.expressions.Reading.Loop.{expr, fresh}
+use Rattle.tera_grammar.specs.expressions.Reading.Whole.{widest}
+use Rattle.tera_grammar.proofs.plain.expressions.Reading.Whole.{outermost, left_over, expression_of, kwargs_of, filter_of, all_attributes, path_of, with_array, with_map, literal_array_of, literal_map_of}
 use Rattle.tera_grammar.proofs.Options.{bound}
 use Rattle.tera_grammar.proofs.expressions.Fronts.{skip_ok, skip_mark, name_of_ok, name_read, Ends}
 use Rattle.tera_grammar.proofs.expressions.FoundRows.{Sound, row_toll, attributes_toll, FoundRow, row_found, arguments_found, attributes_found}

@@ -6,7 +6,8 @@ use Rattle.tera_lexer.specs.code.Cursors.{size}
 use Rattle.tera_lexer.specs.grammar.Tokens as toks
 use Rattle.tera_lexer.specs.grammar.Tokens.{Tok, Items, Token, Ident, Integer, Symbol}
 use Rattle.tera_grammar.proofs.expressions.Fronts.{takes_ok, taken_name_ok, among_is}
-use Rattle.tera_grammar.specs.expressions.Reading.Front.{takes, begins, Takes, among}
+use Rattle.tera_grammar.specs.expressions.Reading.Front.{begins, among}
+use Rattle.tera_grammar.proofs.plain.expressions.Reading.Front.{takes, Takes}
 use Rattle.tera_grammar.specs.expressions.Operators.{Minus}
 use Rattle.tera_grammar.specs.expressions.Marks.{mark, Mark, LeftParen, RightParen, LeftBracket, LeftBrace, Comma, Colon, Spread, Assign, At, Operation}
 use Rattle.tera_grammar.specs.Options.{◌>>=◌}
@@ -14,9 +15,10 @@ use Rattle.tera_grammar.specs.expressions.Concrete.{Number, Quoted, Truth, Simpl
 use Rattle.tera_grammar.specs.statements.Names.{agrees}
 use Rattle.tera_grammar.specs.statements.TagParts.{Edge, Name, name_yield, OpensComponent, opener_token, AtEndComponent, closer_token, start_yield, finish_yield}
 use Rattle.tera_grammar.specs.statements.Expressions.{Limits, ComponentName, component_yield, component_text, LiteralMap, map_yield}
-use Rattle.tera_grammar.specs.statements.Reading.Expressions.{array_of, map_of}
+use Rattle.tera_grammar.proofs.plain.statements.Reading.Expressions.{array_of, map_of}
 use Rattle.tera_grammar.specs.statements.Components.{Default, LiteralDefault, MinusDefault, NothingDefault, ArrayDefault, MapDefault, FitsDefault, default_yield, Annotation, Assigned, Parameter, at_yield, annotation_yield, assigned_yield, parameter_yield, is_known, is_body, FitsAssigned, FitsParameter, Parameters, Closed, Rest, Final, More, parameters_yield, parameter_names, FitEach, FitParameters, Head, head_yield, ending_yield, metadata_yield, component_if_any_yield, component_texts, FitsMetadata, FitsHead}
-use Rattle.tera_grammar.specs.statements.Reading.Components.{minus_of, default_marks, default_by, default_at, default_of, at_in, annotation_in, assigned_in, parameter, fresh_name, parameter_after, parameter_of, parameters_after, parameters_at, parameters_in, parameters_by, parameters_of, metadata_in, Opened, opened_of, is_name, end_name_in, head, ending_of}
+use Rattle.tera_grammar.specs.statements.Reading.Components.{default_marks, parameter, Opened, is_name, head}
+use Rattle.tera_grammar.proofs.plain.statements.Reading.Components.{minus_of, default_by, default_at, default_of, at_in, annotation_in, assigned_in, fresh_name, parameter_after, parameter_of, parameters_after, parameters_at, parameters_in, parameters_by, parameters_of, metadata_in, opened_of, end_name_in, ending_of}
 use Rattle.tera_grammar.specs.statements.Reading.Meeting.{Met, meet, nothing_met}
 use Rattle.tera_grammar.proofs.Options.{bound, bind_both, guard_ok, guard_not}
 use Rattle.tera_grammar.proofs.statements.Names.{AreNew, all_new, new_distinct}

@@ -9,7 +9,8 @@ use Rattle.tera_lexer.specs.grammar.Tokens.{Tok, Items, Token, Ident, Finish, Sy
 use Rattle.tera_grammar.specs.expressions.Operators.{GreaterThan, Div}
 use Rattle.tera_grammar.specs.expressions.Marks.{LeftParen, Dot, mark, LeftBracket, LeftBrace, Bar, Operation}
 use Rattle.tera_grammar.specs.expressions.Concrete.{no_attributes, bare, quoted, valued, spreading, dotted_yield, row_yield, of_items, of_entries}
-use Rattle.tera_grammar.specs.expressions.Reading.Front.{takes, begins}
+use Rattle.tera_grammar.specs.expressions.Reading.Front.{begins}
+use Rattle.tera_grammar.proofs.plain.expressions.Reading.Front.{takes}
 use Rattle.tera_grammar.proofs.expressions.Fronts.{ends_stop}
 use Rattle.tera_grammar.proofs.expressions.ReadRows.{NoAttribute}
 use Rattle.tera_grammar.proofs.expressions.Only.{attributes_end}
@@ -17,7 +18,7 @@ use Rattle.tera_grammar.proofs.expressions.Later.{IsInside, yield_later, args_la
 use Rattle.tera_grammar.proofs.expressions.Bodiless.{has_body, output_bodiless}
 use Rattle.tera_grammar.proofs.expressions.Wholes as wholes
 use Rattle.tera_grammar.specs.statements.Expressions.{Limits, Expression, IsExpression, expression_yield, expression_output, Filtering, IsFilter, filter_yield, Attributes, AreAttributes, attributes_yield, ComponentName, component_yield, LiteralArray, IsLiteralArray, array_yield, LiteralMap, IsLiteralMap, map_yield}
-use Rattle.tera_grammar.specs.statements.Reading.Expressions.{expression_of, filter_of, attributes_of, component_of, array_of, map_of}
+use Rattle.tera_grammar.proofs.plain.statements.Reading.Expressions.{expression_of, filter_of, attributes_of, component_of, array_of, map_of}
 use Rattle.tera_grammar.specs.expressions.Ends.{IsStop}
 use Rattle.tera_grammar.proofs.statements.Inside.{IsClosed}
 use Rattle.tera_grammar.proofs.Options.{bytes_same}

@@ -8,7 +8,7 @@ use Rattle.tera_lexer.specs.grammar.Tokens as toks
 use Rattle.tera_lexer.specs.grammar.Tokens.{Items, Token}
 use Rattle.tera_lexer.specs.declared.lexer.delimiters.Kind.TheVariants as kind
 use Rattle.tera_grammar.proofs.expressions.Fronts.{takes_ok, taken_name_ok}
-use Rattle.tera_grammar.specs.expressions.Reading.Front.{takes}
+use Rattle.tera_grammar.proofs.plain.expressions.Reading.Front.{takes}
 use Rattle.tera_grammar.specs.expressions.Operators.{GreaterThan}
 use Rattle.tera_grammar.specs.expressions.Concrete.{quote_token}
 use Rattle.tera_grammar.specs.expressions.Marks.{mark, Assign, Operation}
@@ -21,8 +21,10 @@ use Rattle.tera_grammar.specs.statements.TagParts.{Edge, Name, name_yield, name_
 use Rattle.tera_grammar.specs.statements.Expressions.{Limits, expression_yield, filter_yield, attributes_yield, ComponentName, component_yield, component_text}
 use Rattle.tera_grammar.specs.statements.Heads.{loop_yield, filters_yield, Capture, SetBody, Section, CallBody, capture_yield, capture_end, FitsCapture}
 use Rattle.tera_grammar.specs.statements.Grammar.{Plain, Text, Shown, Set, Include, Extends, Break, Continue, plain_yield, FitsPlain, Body, Then, Item, Single, Block, Define, Capturing, For, If, Branches, Elif, Last, Else, NoElse, Otherwise, yield, item_yield, branches_yield, else_yield, InFor, InForElse, InBlock, InIf, InComponent, InCapture, Path, may_break, in_loop, text_if_any, Fits, FitsItem, FitsBranches, FitsElse, height, item_height, branch_height, else_height}
-use Rattle.tera_grammar.specs.statements.Reading.{Place, at, Reads, Reader, else_in, branch_in, branches_by, branches, set_after, set_of, include_of, extends_of, break_of, block_end, block_of, component_def_of, section_of, call_end, call_of, for_of, if_of, tag_of, shown_of, step, go_on, items_by, items, body}
-use Rattle.tera_grammar.specs.statements.Reading.TagParts.{Front, Ends, Closes, Holds, Shows, Opens, Wrong, front, name_if_any, tag}
+use Rattle.tera_grammar.specs.statements.Reading.{Place, at}
+use Rattle.tera_grammar.proofs.plain.statements.Reading.{Reads, Reader, else_in, branch_in, branches_by, branches, set_after, set_of, include_of, extends_of, break_of, block_end, block_of, component_def_of, section_of, call_end, call_of, for_of, if_of, tag_of, shown_of, step, go_on, items_by, items, body}
+use Rattle.tera_grammar.specs.statements.Reading.TagParts.{Front, Ends, Closes, Holds, Shows, Opens, Wrong, front, tag}
+use Rattle.tera_grammar.proofs.plain.statements.Reading.TagParts.{name_if_any}
 use Rattle.tera_grammar.proofs.Options.{bound, guard_ok, guard_not}
 use Rattle.tera_grammar.proofs.statements.Names.{Named, named_nothing, named_both, named_block, named_component}
 use Rattle.tera_grammar.proofs.statements.Expressions.{expression_sound, filter_sound, attributes_sound, component_sound}

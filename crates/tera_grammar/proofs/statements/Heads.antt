@@ -5,22 +5,21 @@ use Rattle.tera_base.specs.declared.utils.Span.{Span}
 use Rattle.tera_lexer.specs.code.Cursors.{size}
 use Rattle.tera_lexer.specs.grammar.Tokens.{Items}
 use Rattle.tera_grammar.proofs.expressions.Fronts.{takes_ok, taken_name_ok}
-use Rattle.tera_grammar.specs.expressions.Reading.Front.{takes, Takes}
+use Rattle.tera_grammar.proofs.plain.expressions.Reading.Front.{takes, Takes}
 use Rattle.tera_grammar.specs.expressions.Operators.{In}
 use Rattle.tera_grammar.specs.expressions.Marks.{mark, Bar, Operation}
 use Rattle.tera_grammar.specs.Options.{◌>>=◌}
 use Rattle.tera_grammar.specs.Words.{is_reserved}
 use Rattle.tera_grammar.specs.statements.TagParts.{Name, name_yield}
-use Rattle.tera_grammar.specs.statements.Expressions.{Limits, filter_yield}
+use Rattle.tera_grammar.specs.statements.Expressions.{Limits, filter_yield, expression_yield}
 use Rattle.tera_grammar.specs.statements.Heads.{Loop, loop_yield, FitsLoop, Filters, NoFilters, Piped, filters_yield, AreFilters}
-use Rattle.tera_grammar.specs.statements.Reading.Heads.{free_name, loop_of, filters_in, filters_by, filters_of}
+use Rattle.tera_grammar.proofs.plain.statements.Reading.Heads.{free_name, loop_of, filters_in, filters_by, filters_of}
 use Rattle.tera_grammar.proofs.Options.{bound, bind_both, guard_not}
 use Rattle.tera_grammar.specs.expressions.Concrete.{Second, second_yield}
 use Rattle.tera_grammar.specs.expressions.Conditions.{AreVariables}
 use Rattle.tera_grammar.specs.expressions.Reading.Front.{at}
-use Rattle.tera_grammar.specs.expressions.Reading.Atoms.{variables_of}
-use Rattle.tera_grammar.specs.expressions.Reading.Loop.{expr}
-use Rattle.tera_grammar.specs.statements.Expressions.{expression_yield}
+use Rattle.tera_grammar.proofs.plain.expressions.Reading.Atoms.{variables_of}
+use Rattle.tera_grammar.proofs.plain.expressions.Reading.Loop.{expr}
 use Rattle.tera_grammar.proofs.expressions.Complete.{expr_bars}
 use Rattle.tera_grammar.proofs.expressions.FoundAtoms.{variables_found}
 use Rattle.tera_grammar.proofs.expressions.Longer.{longer_second}

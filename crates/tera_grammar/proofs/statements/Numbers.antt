@@ -17,7 +17,7 @@ use Rattle.tera_lexer.proofs.Tilings.{tokens_tile}
 use Rattle.tera_lexer.specs.declared.lexer.delimiters.Kind.TheVariants as kind
 use Rattle.tera_ast.specs.Tree as tree
 use Rattle.tera_ast.specs.Tree.{Expr, Stmt}
-use Rattle.tera_tree.specs.Tree.{Argument, Definition, Output}
+use Rattle.tera_tree.specs.Tree.{Argument, Output}
 use Rattle.tera_ast.specs.View.{nodes_of, filters_of}
 use Rattle.tera_grammar.specs.expressions.Operators.{GreaterThan}
 use Rattle.tera_grammar.specs.expressions.Marks.{mark, RightParen, Comma, Operation}

@@ -12,7 +12,9 @@ use Rattle.tera_grammar.specs.statements.Expressions.{Limits}
 use Rattle.tera_grammar.specs.statements.Names.{NamesAreDistinct}
 use Rattle.tera_grammar.specs.statements.Places.{places}
 use Rattle.tera_grammar.specs.statements.Grammar.{Text, Shown, Set, Include, Extends, Break, Continue, Body, Done, Then, Item, Single, Block, Define, Capturing, For, If, yield}
-use Rattle.tera_grammar.specs.statements.Reading.{at, body, Phase, Starting, Standalone, Extending, after_text, from_start, next_phase, phases, template}
+use Rattle.tera_grammar.specs.statements.Reading.{at}
+use Rattle.tera_grammar.specs.statements.Reading.Phases.{Phase, Starting, Standalone, Extending, after_text, from_start, next_phase}
+use Rattle.tera_grammar.proofs.plain.statements.Reading.{body, phases, template}
 use Rattle.tera_grammar.proofs.statements.Names.{names_distinct, names_new, same_names}
 use Rattle.tera_grammar.specs.statements.Top.{is_blank, is_silent, is_kept, IsExtends, Each, join, Child, TopLevel, IsTemplate}
 use Rattle.tera_grammar.proofs.Options.{bound, guard_ok}

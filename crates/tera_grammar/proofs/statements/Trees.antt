@@ -5,7 +5,7 @@ use Rattle.std.proofs.lemmas.List.{map-append}
 use Rattle.tera_lexer.specs.grammar.Tokens.{Items}
 use Rattle.tera_ast.specs.Tree as tree
 use Rattle.tera_ast.specs.Tree.{Expr, Stmt}
-use Rattle.tera_tree.specs.Tree.{Definition, Output}
+use Rattle.tera_tree.specs.Tree.{Definition}
 use Rattle.tera_ast.specs.View.{nodes_of}
 use Rattle.tera_grammar.proofs.Options.{none_some}
 use Rattle.tera_grammar.proofs.expressions.Bodiless.{has_body}
@@ -17,7 +17,7 @@ use Rattle.tera_grammar.specs.statements.Output.{text_adds, added_nodes, added_b
 use Rattle.tera_grammar.specs.statements.Top.{is_blank, is_silent, is_kept, IsExtends, Each, Child, TopLevel, IsTemplate}
 use Rattle.tera_grammar.specs.statements.Trees.{blocks, stmt_blocks, BreaksAreInside, BreakIsInside, IsKeptNode, IsRight}
 use Rattle.tera_grammar.proofs.statements.Expressions.{expression_plain}
-use Rattle.tera_grammar.proofs.statements.Loops.{output-join}
+use Rattle.tera_grammar.proofs.statements.Joins.{output-join}
 
 pub both_empty : {A : Type 0} (xs ys : List A) → xs ≡ [] → ys ≡ [] → xs ++ ys ≡ []
 both_empty xs ys a b = ap (λ v. v ++ ys) a ∙ b

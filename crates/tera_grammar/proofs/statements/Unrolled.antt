@@ -12,7 +12,8 @@ use Rattle.tera_grammar.specs.statements.Expressions.{Limits, expression_yield, 
 use Rattle.tera_grammar.specs.statements.Components.{ending_yield}
 use Rattle.tera_grammar.specs.statements.Heads.{filters_yield, Capture, SetBody, Section, CallBody, capture_yield, capture_end}
 use Rattle.tera_grammar.specs.statements.Grammar.{Plain, Text, Shown, Set, Include, Extends, Break, Continue, plain_yield, Body, Done, Then, Item, Single, Block, Define, Capturing, For, If, Branches, Elif, Last, Else, NoElse, Otherwise, yield, item_yield, branches_yield, else_yield, Path, in_loop}
-use Rattle.tera_grammar.specs.statements.Reading.{Place, at, Reads, Reader, branch_in, branches_by, branches, step, go_on, items_by, items, body}
+use Rattle.tera_grammar.specs.statements.Reading.{Place, at}
+use Rattle.tera_grammar.proofs.plain.statements.Reading.{Reads, Reader, branch_in, branches_by, branches, step, go_on, items_by, items, body}
 use Rattle.tera_grammar.specs.statements.Reading.TagParts.{Front, Closes, front, tag}
 use Rattle.tera_grammar.specs.statements.Reading.Meeting.{Seen}
 use Rattle.tera_grammar.proofs.Options.{bind_both}

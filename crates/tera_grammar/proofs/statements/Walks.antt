@@ -1,18 +1,24 @@
 -- The top level is a body whose phases follow: that an item may not be where it does is seen at it, and the template as
 -- a whole is none.
+use Rattle.std.proofs.lemmas.Option.{same_Some}
 use Rattle.std.proofs.Common.{◌≡◌, ℕ, zero, suc, Bool, true, false, [], Option, Some, None, refl, sym, ap, ◌∙◌}
 use Rattle.tera_base.specs.declared.utils.Span.{Span}
 use Rattle.tera_lexer.specs.code.Cursors.{size, is_end}
 use Rattle.tera_lexer.specs.grammar.Tokens.{Items}
 use Rattle.tera_grammar.specs.Options.{◌>>=◌, guard}
 use Rattle.tera_grammar.specs.expressions.Concrete.{Quote}
-use Rattle.tera_grammar.specs.expressions.Reading.Front.{Takes, taken_quote}
+use Rattle.tera_grammar.proofs.plain.expressions.Reading.Front.{Takes, taken_quote}
 use Rattle.tera_grammar.specs.statements.TagParts.{Edge, Tag, OpensExtends}
 use Rattle.tera_grammar.specs.statements.Expressions.{Limits}
-use Rattle.tera_grammar.specs.statements.Grammar.{Extends, Body, Done, Then, Item, Single, is_outermost}
-use Rattle.tera_grammar.specs.statements.Reading.{Place, at, Reads, Reader, extends_of, step, go_on, items_by, items, body, Phase, Starting, Standalone, Extending, next_phase, phases, extends_at, top_step, top_on, top_by, top, template}
-use Rattle.tera_grammar.specs.statements.Reading.TagParts.{Front, Opens, front, finish_of, tag}
-use Rattle.tera_grammar.specs.statements.Reading.Meeting.{nothing_seen}
+use Rattle.tera_grammar.specs.statements.Grammar.{Extends, Body, Then, Item, Single, is_outermost}
+use Rattle.tera_grammar.specs.statements.Reading.{Place, at}
+use Rattle.tera_grammar.specs.statements.Reading.Phases.{Phase, Starting, Standalone, Extending, next_phase}
+use Rattle.tera_grammar.proofs.plain.statements.Reading.{Reads, Reader, extends_of, step, go_on, items_by, items, body, phases, extends_at, top_step, top_on, top_by, top, template}
+use Rattle.tera_grammar.specs.statements.Reading.TagParts.{Front, Opens, front, tag}
+use Rattle.tera_grammar.proofs.plain.statements.Reading.TagParts.{finish_of}
+use Rattle.tera_grammar.specs.statements.Reading.Meeting.{nothing_seen, ◌having◌}
+use Rattle.tera_grammar.specs.statements.Places.{places}
+use Rattle.tera_grammar.proofs.statements.Found.{body_sound}
 use Rattle.tera_grammar.proofs.Options.{bind_both}
 
 -- a body whose phases follow from this one
@@ -123,3 +129,19 @@ template_reads l ts = by l.bodies
     by (suc d) =
         ap left_none (top_by_are (suc (size ts)) l (body d l) Starting (at nothing_seen ts))
         ∙ both_ends (items_by (suc (size ts)) l (body d l) [] (at nothing_seen ts))
+
+-- the top level has met the names of its body
+kept_ok : (b : Body × Place) (o : Option Phase) (x : Body × Place) → kept b o ≡ Some x → b ≡ x
+kept_ok b None x h = cc
+kept_ok b (Some q) x h = same_Some _ _ h
+
+phased_ok : (ph : Phase) (o : Reads Body) (x : Body × Place) → phased ph o ≡ Some x → o ≡ Some x
+phased_ok ph None x h = cc
+phased_ok ph (Some b) x h = ap Some (kept_ok b (phases ph b.0) x h)
+
+pub top_named : (l : Limits) (d : ℕ) (ts : Items) (x : Body × Place) → top d l (at nothing_seen ts) ≡ Some x → x.1.seen ≡ nothing_seen having places x.0
+unfolding top body items
+top_named l zero ts x h = cc
+top_named l (suc d) ts x h =
+    (body_sound l (suc d) [] (at nothing_seen ts) x
+    (phased_ok Starting (items_by (suc (size ts)) l (body d l) [] (at nothing_seen ts)) x (sym (top_by_are (suc (size ts)) l (body d l) Starting (at nothing_seen ts)) ∙ h))).named.grown

@@ -11,7 +11,7 @@ use Rattle.tera_grammar.specs.statements.Grammar.{Body}
 use Rattle.tera_grammar.specs.statements.Names.{Names}
 use Rattle.tera_grammar.specs.statements.Output.{output_of}
 use Rattle.tera_grammar.specs.statements.Places.{Places, places, texts}
-use Rattle.tera_grammar.specs.statements.Reading.{template}
+use Rattle.tera_grammar.proofs.plain.statements.Reading.{template}
 use Rattle.tera_grammar.specs.statements.Top.{IsTemplate, Derives, DerivesNames}
 use Rattle.tera_grammar.specs.statements.Trees.{blocks}
 use Rattle.tera_grammar.proofs.statements.Closed.{ends_in_nothing}

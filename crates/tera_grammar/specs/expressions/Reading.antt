@@ -1,3 +1,4 @@
+pub mod Rooms
 pub mod Front
 pub mod Bracketed
 pub mod Atoms

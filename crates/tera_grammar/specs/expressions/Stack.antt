@@ -1,9 +1,9 @@
 -- Reading over a stack of frames: what the whole comes to, from each state.
-use Rattle.std.specs.Prelude.{◌≡◌, ◌⊎◌, ℕ, ◌+◌, ◌*◌, ◌<◌, Bool, true, false, cond, ltb, List, [], ◌∷◌, length, Option, Some, None, Result, Ok, Err}
-use Rattle.tera_base.specs.Errors.{IsMemory}
+use Rattle.std.specs.Prelude.{◌≡◌, ℕ, ◌+◌, ◌*◌, ◌<◌, Bool, true, false, cond, ltb, List, [], ◌∷◌, length, Result, Ok, Err}
 use Rattle.tera_base.specs.declared.errors.Error.{Error}
 use Rattle.tera_base.specs.declared.utils.Span.{Span}
 use Rattle.tera_lexer.specs.code.Cursors.{size}
+use Rattle.tera_lexer.specs.grammar.Tokens.{Items}
 use Rattle.tera_ast.specs.declared.ast.UnaryOperator.TheVariants as unary
 use Rattle.tera_ast.specs.Tree as tree
 use Rattle.tera_ast.specs.Tree.{Expr}
@@ -13,9 +13,10 @@ use Rattle.tera_grammar.specs.expressions.Concrete.{Sign, Op, Single, NotIn, Tre
 use Rattle.tera_grammar.specs.expressions.Powers.{right_of, sign_power}
 use Rattle.tera_grammar.specs.expressions.Spans.{spanning, sign_span, suffix_end, first, last}
 use Rattle.tera_grammar.specs.expressions.Output.{prefixed, is_unary, output, suffix_output, operator_output}
-use Rattle.tera_grammar.specs.Options.{◌>>=◌}
-use Rattle.tera_grammar.specs.expressions.Reading.Front.{Place, Reads, skip, bump, Ending, Front, nothing, joins, closes, misplaced, lead_power, keeps_out}
-use Rattle.tera_grammar.specs.expressions.Reading.Bracketed.{Room}
+use Rattle.tera_grammar.specs.Reads.{Read, found, stopped, ◌>>=◌, Fails}
+use Rattle.tera_grammar.specs.expressions.Reading.Front.{Place, Reads, skip, Ending, Front, nothing, joins, closes, misplaced, lead_power, keeps_out}
+use Rattle.tera_grammar.specs.expressions.Reading.Rooms.{Room}
+use Rattle.tera_grammar.specs.expressions.Reading.Bracketed.{linked}
 use Rattle.tera_grammar.specs.expressions.Reading.Atoms.{head_of}
 use Rattle.tera_grammar.specs.expressions.Reading.Loop.{Growth, by_operator, by_suffix, suffix_in, loop_with, expr}
 
@@ -28,11 +29,11 @@ shown l t = (output l t, spanning (first t) (last t))
 
 -- what is read, as an operand
 abbrev pub Shows : Type 0
-Shows = Option (Operand × Place)
+Shows = Read (Operand × Place)
 
 abbrev pub outcome : Bool → Reads Tree → Shows
-outcome l None = None
-outcome l (Some x) = Some (shown l x.0, x.1)
+outcome l (stopped z) = stopped z
+outcome l (found x) = found (shown l x.0, x.1)
 
 -- what becomes of an operand: after a prefix, before a suffix, between parentheses, in a ternary
 abbrev pub signed : Sign → Operand → Operand
@@ -112,7 +113,7 @@ coming d w m p = outcome w.in_loop (expr d w m p)
 abbrev pub resume : Room → Frame → Operand × Place → Shows
 resume w (in_paren v s) x = skip RightParen x.1 >>= λ c. going w v (enclosed s x.0 c.0) c.1
 resume w (in_prefix v s) x = going w v (signed s x.0) x.1
-resume w (in_binary v o n a) x = cond (refuses o x.0.0) None (going w v (joined o n a x.0) x.1)
+resume w (in_binary v o n a) x = cond (refuses o x.0.0) (stopped x.1.tokens) (going w v (joined o n a x.0) x.1)
 resume w (in_condition v a) x =
     skip Else x.1 >>= λ t. coming v.depth w 0 t.1 >>= λ r. going w v (chosen x.0.0 a r.0) r.1
 resume w (in_last v a c) x = going w v (chosen c a x.0) x.1
@@ -122,28 +123,29 @@ abbrev pub stops : ℕ → Front → Bool
 stops m nothing = true
 stops m (joins e us) = ltb (lead_power e) m
 stops m (closes e us) = keeps_out m e
-stops m misplaced = ltb 5 m
+stops m (misplaced us) = ltb 5 m
 
 -- what an open expression comes to at its first token
 abbrev pub heading : Room → Level → Place → Shows
 heading w v p = outcome w.in_loop (head_of (expr v.depth) w p) >>= λ h. going w v h.0 h.1
 
--- what it comes to after a prefix, a binary operator, and the `if` of a ternary
+-- What it comes to after a prefix, a binary operator, and the `if` of a ternary. Where no link may come reading stops
+-- at the items before.
 abbrev pub prefixing : Room → Level → Sign → Place → Shows
 prefixing w v s p = coming v.depth w (sign_power s) p >>= resume w (in_prefix v s)
 
-abbrev pub joining : Room → Level → BinaryOperator → Bool → Operand → Place → Shows
-joining w v o n a p = bump p >>= λ q. coming v.depth w (right_of o) q >>= resume w (in_binary v o n a)
+abbrev pub joining : Room → Level → BinaryOperator → Bool → Operand → Items → Place → Shows
+joining w v o n a before p = linked before p.links p.tokens >>= λ q. coming v.depth w (right_of o) q >>= resume w (in_binary v o n a)
 
 abbrev pub choosing : Room → Level → Operand → Place → Shows
 choosing w v a p = coming v.depth w 0 p >>= resume w (in_condition v a)
 
 -- a suffix with its link, and what an operand comes to after it
-abbrev pub suffix_of : Room → Level → Ending → Place → Reads Suffix
-suffix_of w v e p = bump p >>= λ q. suffix_in (expr v.depth) w e q
+abbrev pub suffix_of : Room → Level → Ending → Items → Place → Reads Suffix
+suffix_of w v e before p = linked before p.links p.tokens >>= λ q. suffix_in (expr v.depth) w e q
 
-abbrev pub closing : Room → Level → Ending → Operand → Place → Shows
-closing w v e a p = suffix_of w v e p >>= λ s. going w v (suffixed w.in_loop a s.0) s.1
+abbrev pub closing : Room → Level → Ending → Operand → Items → Place → Shows
+closing w v e a before p = suffix_of w v e before p >>= λ s. going w v (suffixed w.in_loop a s.0) s.1
 
 -- What the whole comes to from what is read inside of the frames; the last frame is the innermost. The frames may
 -- be values of another kind that stand for frames.
@@ -155,12 +157,12 @@ unwind frame w (f ∷ fs) read = unwind frame w fs read >>= resume w (frame f)
 abbrev pub comes_to : {F : Type 0} → (F → Frame) → Room → State → List F → Place → Shows
 comes_to frame w (needs d m) fs p = unwind frame w fs (coming d w m p)
 comes_to frame w (holds v a) fs p = unwind frame w fs (going w v a p)
-comes_to frame w (done a) fs p = Some (a, p)
+comes_to frame w (done a) fs p = found (a, p)
 
--- The next state comes to the same. An allocation failure says nothing, and otherwise nothing is read.
+-- The next state comes to the same. An allocation failure says nothing, and otherwise reading stops.
 abbrev pub Keeps : {F S : Type 0} → (F → Frame) → (S → State) → Room → Result S Error → List F → Place → Shows → Type 0
 Keeps frame state w (Ok s) fs p read = comes_to frame w (state s) fs p ≡ read
-Keeps frame state w (Err e) fs p read = IsMemory e ⊎ (read ≡ None)
+Keeps frame state w (Err e) fs p read = Fails read p.tokens e
 
 -- How much is left to do: a token may bring a frame, and a frame that is taken off may leave an operand.
 abbrev pub work : {F : Type 0} → List F → Place → ℕ
@@ -179,14 +181,14 @@ Falls state (Err e) fs p n = Unit {0}
 -- What functions of their own read, over values that stand for outputs: an expression; what an operand begins with,
 -- and a suffix, each with the span of its last token.
 abbrev pub Gives : {E : Type 0} → (E → Expr) → Bool → Result E Error → Place → Reads Tree → Type 0
-Gives view l (Ok e) q read = (t : Tree) × (read ≡ Some (t, q)) × (view e ≡ output l t)
-Gives view l (Err e) q read = IsMemory e ⊎ (read ≡ None)
+Gives view l (Ok e) q read = (t : Tree) × (read ≡ found (t, q)) × (view e ≡ output l t)
+Gives view l (Err e) q read = Fails read q.tokens e
 
 abbrev pub HeadGives : {E : Type 0} → (E → Expr) → Bool → Result E Error → Span → Place → Reads Tree → Type 0
-HeadGives view l (Ok e) here q read = (t : Tree) × (read ≡ Some (t, q)) × (view e ≡ output l t) × (here ≡ last t)
-HeadGives view l (Err e) here q read = IsMemory e ⊎ (read ≡ None)
+HeadGives view l (Ok e) here q read = (t : Tree) × (read ≡ found (t, q)) × (view e ≡ output l t) × (here ≡ last t)
+HeadGives view l (Err e) here q read = Fails read q.tokens e
 
 abbrev pub SuffixGives : {E : Type 0} → (E → Expr) → Bool → Operand → Result E Error → Span → Place → Reads Suffix → Type 0
 SuffixGives view l a (Ok e) here q read =
-    (s : Suffix) × (read ≡ Some (s, q)) × (view e ≡ suffix_output l a.1 a.0 s) × (here ≡ suffix_end s)
-SuffixGives view l a (Err e) here q read = IsMemory e ⊎ (read ≡ None)
+    (s : Suffix) × (read ≡ found (s, q)) × (view e ≡ suffix_output l a.1 a.0 s) × (here ≡ suffix_end s)
+SuffixGives view l a (Err e) here q read = Fails read q.tokens e

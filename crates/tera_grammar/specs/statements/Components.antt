@@ -15,8 +15,7 @@ use Rattle.tera_grammar.specs.expressions.Operators.{Minus}
 use Rattle.tera_grammar.specs.expressions.Concrete.{Lit, literal_token}
 use Rattle.tera_grammar.specs.expressions.Marks.{mark, LeftParen, RightParen, Comma, Colon, Spread, Assign, At, Operation}
 use Rattle.tera_grammar.specs.statements.Types.{type_of, type_named, has_type, Sorted, put_name}
-use Rattle.tera_grammar.specs.Words.{is_none}
-use Rattle.tera_grammar.specs.Words.{AreDistinct}
+use Rattle.tera_grammar.specs.Words.{is_none, AreDistinct}
 use Rattle.tera_grammar.specs.statements.Names.{agrees}
 use Rattle.tera_grammar.specs.statements.TagParts.{Name, name_yield, Tag, OpensComponent, AtEndComponent, opening, closing, finish}
 use Rattle.tera_grammar.specs.statements.Expressions.{Limits, ComponentName, component_yield, component_text, LiteralArray, IsLiteralArray, array_yield, array_output, LiteralMap, IsLiteralMap, map_yield, map_output}

@@ -1,25 +1,27 @@
--- Reading a template, as a function on tokens. A law says that it reads the templates and no others.
-use Rattle.std.specs.Prelude.{ℕ, zero, suc, Bool, true, false, not, List, [], ◌∷◌, codes, Option, Some, None}
+-- Reading a template, as a function on tokens.
+use Rattle.std.specs.Prelude.{ℕ, zero, suc, Bool, not, [], ◌∷◌, Option, Some, None}
 use Rattle.std.specs.Str.{bytes_eq}
 use Rattle.tera_base.specs.declared.utils.Span.{Span}
-use Rattle.tera_lexer.specs.code.Cursors.{size, is_end}
-use Rattle.tera_lexer.specs.grammar.Tokens.{Items}
-use Rattle.tera_grammar.specs.expressions.Reading.Front.{takes, taken_name, Takes, taken_quote}
+use Rattle.tera_lexer.specs.code.Cursors.{size}
+use Rattle.tera_lexer.specs.grammar.Tokens.{Items, Ended}
 use Rattle.tera_grammar.specs.expressions.Operators.{GreaterThan}
 use Rattle.tera_grammar.specs.expressions.Marks.{Assign, Operation}
-use Rattle.tera_grammar.specs.Options.{◌>>=◌, guard}
 use Rattle.tera_grammar.specs.statements.Names.{agrees}
 use Rattle.tera_grammar.specs.statements.Places.{block_placed, component_placed}
 use Rattle.tera_grammar.specs.statements.TagParts.{Edge, Name, Tag, Opener, OpensSet, OpensInclude, OpensExtends, OpensBlock, OpensFor, OpensIf, OpensFilter, OpensComponent, OpensBreak, OpensContinue, OpensCall, AtElif, AtElse, AtEndSet, AtEndBlock, AtEndFor, AtEndIf, AtEndFilter, AtEndCall}
-use Rattle.tera_grammar.specs.statements.Expressions.{Limits, Filtering, Attributes, ComponentName, component_text}
+use Rattle.tera_grammar.specs.statements.Expressions.{Limits, ComponentName, component_text}
 use Rattle.tera_grammar.specs.statements.Reading.Expressions.{expression_of, filter_of, attributes_of, component_of}
-use Rattle.tera_grammar.specs.statements.Heads.{Filters, Capture, SetBody, Section, CallBody}
+use Rattle.tera_grammar.specs.statements.Heads.{SetBody, Section, CallBody}
 use Rattle.tera_grammar.specs.statements.Grammar.{Plain, Text, Shown, Set, Include, Extends, Break, Continue, Body, Done, Then, Item, Single, Block, Define, Capturing, For, If, Branches, Elif, Last, Else, NoElse, Otherwise, InFor, InForElse, InBlock, InIf, InComponent, InCapture, Path, may_block, may_break, in_loop, is_outermost, text_if_any}
-use Rattle.tera_grammar.specs.statements.Top.{is_blank, is_kept}
-use Rattle.tera_grammar.specs.statements.Reading.TagParts.{Front, Ends, Closes, Holds, Shows, Opens, Wrong, front, name_if_any, finish_of, variable_end_of, tag, closed, closed_tag}
 use Rattle.tera_grammar.specs.statements.Reading.Meeting.{Seen, met, nothing_seen, ◌having◌}
+use Rattle.tera_grammar.specs.expressions.Reading.Front.{takes, taken_name, taken_quote}
+use Rattle.tera_grammar.specs.statements.Reading.TagParts.{Front, Ends, Closes, Holds, Shows, Opens, Wrong, front, tag, name_if_any, finish_of, variable_end_of, closed, closed_tag, wrong_at}
 use Rattle.tera_grammar.specs.statements.Reading.Heads.{free_name, loop_of, filters_of}
 use Rattle.tera_grammar.specs.statements.Reading.Components.{opened_of, ending_of}
+use Rattle.tera_grammar.specs.Reads.{Read, found, stopped, ◌>>=◌, holds, given, Takes}
+use Rattle.tera_grammar.specs.expressions.Reading.Whole.{expression_of, filter_of, all_attributes as attributes_of, path_of as component_of}
+use Rattle.tera_grammar.specs.statements.Reading.Phases.{Phase, Starting, next_phase}
+pub mod Phases
 pub mod Expressions
 pub mod TagParts
 pub mod Meeting
@@ -37,7 +39,7 @@ at seen items = record { seen = seen; tokens = items }
 
 -- what is read, and the place after it
 abbrev pub Reads : Type 0 → Type 0
-Reads A = Option (A × Place)
+Reads A = Read (A × Place)
 
 -- a reader of whole bodies
 abbrev pub Reader : Type 0
@@ -45,8 +47,8 @@ Reader = Path → Place → Reads Body
 
 unfoldable pub else_in : Reader → Path → Seen → Items → Front → Reads Else
 else_in self path seen items (Closes AtElse start first us) =
-    finish_of us >>= λ f. self path (at seen f.1) >>= λ b. Some (Otherwise (tag start first f.0) b.0, b.1)
-else_in self path seen items front = Some (NoElse, at seen items)
+    finish_of us >>= λ f. self path (at seen f.1) >>= λ b. found (Otherwise (tag start first f.0) b.0, b.1)
+else_in self path seen items front = found (NoElse, at seen items)
 
 -- an `else` with its body, where one is there
 abbrev pub else_of : Reader → Path → Place → Reads Else
@@ -55,26 +57,26 @@ else_of self path p = else_in self path p.seen p.tokens (front p.tokens)
 unfoldable pub branch_in : Limits → Reader → Path → (Place → Reads Branches) → Seen → Items → Front → Reads Branches
 branch_in l self path again seen items (Closes AtElif start first us) =
     expression_of l (in_loop path) us >>= λ c. finish_of c.1 >>= λ f. self path (at seen f.1) >>= λ b. again b.1 >>= λ bs.
-    Some (Elif (tag start first f.0) c.0 b.0 bs.0, bs.1)
-branch_in l self path again seen items front = else_in self path seen items front >>= λ o. Some (Last o.0, o.1)
+    found (Elif (tag start first f.0) c.0 b.0 bs.0, bs.1)
+branch_in l self path again seen items front = else_in self path seen items front >>= λ o. found (Last o.0, o.1)
 
 -- The number bounds the branches. One more than the tokens is enough.
 unfoldable pub branches_by : ℕ → Limits → Reader → Path → Place → Reads Branches
-branches_by zero l self path p = None
+branches_by zero l self path p = stopped p.tokens
 branches_by (suc n) l self path p = branch_in l self path (branches_by n l self path) p.seen p.tokens (front p.tokens)
 
 unfoldable pub branches : Limits → Reader → Path → Place → Reads Branches
 branches l self path p = branches_by (suc (size p.tokens)) l self path p
 
 -- the rest of a `set`, after its name: a value, or filters and a body
-unfoldable pub set_after : Limits → Reader → Path → Bool → Edge → Span → Seen → Name → Items → Option (Span × Items) → Reads Item
-set_after l self path global start first seen name items (Some sign) =
+unfoldable pub set_after : Limits → Reader → Path → Bool → Edge → Span → Seen → Name → Items → Takes Span → Reads Item
+set_after l self path global start first seen name items (found sign) =
     expression_of l (in_loop path) sign.1 >>= λ e. finish_of e.1 >>= λ f.
-    Some (Single (Set global (tag start first f.0) name sign.0 e.0), at seen f.1)
-set_after l self path global start first seen name items None =
+    found (Single (Set global (tag start first f.0) name sign.0 e.0), at seen f.1)
+set_after l self path global start first seen name items (stopped z) =
     filters_of l (in_loop path) items >>= λ fs. finish_of fs.1 >>= λ f.
     self (InCapture ∷ path) (at seen f.1) >>= λ b. closed_tag AtEndSet b.1.tokens >>= λ e.
-    Some (Capturing (SetBody global (tag start first f.0) name fs.0 e.0) b.0, at b.1.seen e.1)
+    found (Capturing (SetBody global (tag start first f.0) name fs.0 e.0) b.0, at b.1.seen e.1)
 
 -- The statements, after the first token of their tag.
 unfoldable pub set_of : Limits → Reader → Path → Bool → Edge → Span → Seen → Items → Reads Item
@@ -83,66 +85,66 @@ set_of l self path global start first seen items =
 
 unfoldable pub include_of : Edge → Span → Seen → Items → Reads Item
 include_of start first seen items =
-    taken_quote items >>= λ q. finish_of q.1 >>= λ f. Some (Single (Include (tag start first f.0) q.0.0 q.0.1), at seen f.1)
+    taken_quote items >>= λ q. finish_of q.1 >>= λ f. found (Single (Include (tag start first f.0) q.0.0 q.0.1), at seen f.1)
 
 unfoldable pub extends_of : Path → Edge → Span → Seen → Items → Reads Item
 extends_of path start first seen items =
-    taken_quote items >>= λ q. guard (is_outermost path) >>= λ u. finish_of q.1 >>= λ f.
-    Some (Single (Extends (tag start first f.0) q.0.0 q.0.1), at seen f.1)
+    taken_quote items >>= λ q. holds q.1 (is_outermost path) >>= λ u. finish_of q.1 >>= λ f.
+    found (Single (Extends (tag start first f.0) q.0.0 q.0.1), at seen f.1)
 
 unfoldable pub break_of : Path → (Tag → Plain) → Edge → Span → Seen → Items → Reads Item
 break_of path make start first seen items =
-    guard (may_break path) >>= λ u. finish_of items >>= λ f. Some (Single (make (tag start first f.0)), at seen f.1)
+    holds items (may_break path) >>= λ u. finish_of items >>= λ f. found (Single (make (tag start first f.0)), at seen f.1)
 
 -- the closing tag of a block
 unfoldable pub block_end : Name → Items → Takes (Tag × Option Name)
 block_end n items =
-    closed AtEndBlock items >>= λ x. guard (agrees n.text (text_if_any (name_if_any x.1).0)) >>= λ u.
-    finish_of (name_if_any x.1).1 >>= λ f. Some ((tag x.0.0 x.0.1 f.0, (name_if_any x.1).0), f.1)
+    closed AtEndBlock items >>= λ x. name_if_any x.1 >>= λ m. holds m.1 (agrees n.text (text_if_any m.0)) >>= λ u.
+    finish_of m.1 >>= λ f. found ((tag x.0.0 x.0.1 f.0, m.0), f.1)
 
 unfoldable pub block_of : Reader → Path → Edge → Span → Seen → Items → Reads Item
 block_of self path start first seen items =
-    guard (may_block path) >>= λ u. taken_name items >>= λ n. guard (not (met seen.blocks n.0.text)) >>= λ v.
+    holds items (may_block path) >>= λ u. taken_name items >>= λ n. holds n.1 (not (met seen.blocks n.0.text)) >>= λ v.
     finish_of n.1 >>= λ f. self (InBlock ∷ path) (at (seen having block_placed n.0) f.1) >>= λ b.
     block_end n.0 b.1.tokens >>= λ e.
-    Some (Block (tag start first f.0) n.0 b.0 e.0.0 e.0.1, at b.1.seen e.1)
+    found (Block (tag start first f.0) n.0 b.0 e.0.0 e.0.1, at b.1.seen e.1)
 
 unfoldable pub component_def_of : Limits → Reader → Path → Edge → Span → Seen → Items → Reads Item
 component_def_of l self path start first seen items =
-    guard (is_outermost path) >>= λ u. opened_of l (met seen.components) items >>= λ o.
+    holds items (is_outermost path) >>= λ u. opened_of l (met seen.components) items >>= λ o.
     self (InComponent ∷ path) (at (seen having component_placed o.0.name o.0.parameters) o.1) >>= λ b.
     ending_of start first o.0 b.1.tokens >>= λ h.
-    Some (Define h.0 b.0, at b.1.seen h.1)
+    found (Define h.0 b.0, at b.1.seen h.1)
 
 unfoldable pub section_of : Limits → Reader → Path → Edge → Span → Seen → Items → Reads Item
 section_of l self path start first seen items =
     filter_of l (in_loop path) items >>= λ g. filters_of l (in_loop path) g.1 >>= λ fs. finish_of fs.1 >>= λ f.
     self (InCapture ∷ path) (at seen f.1) >>= λ b. closed_tag AtEndFilter b.1.tokens >>= λ e.
-    Some (Capturing (Section (tag start first f.0) g.0 fs.0 e.0) b.0, at b.1.seen e.1)
+    found (Capturing (Section (tag start first f.0) g.0 fs.0 e.0) b.0, at b.1.seen e.1)
 
 -- the closing tag of a component's call: its name, which has to be that of the opening tag
 unfoldable pub call_end : ComponentName → Items → Takes (Tag × ComponentName × Span)
 call_end n items =
-    closed AtEndCall items >>= λ x. component_of x.1 >>= λ m. guard (bytes_eq (component_text m.0) (component_text n)) >>= λ u.
-    takes (Operation GreaterThan) m.1 >>= λ end. finish_of end.1 >>= λ f. Some ((tag x.0.0 x.0.1 f.0, m.0, end.0), f.1)
+    closed AtEndCall items >>= λ x. component_of x.1 >>= λ m. holds m.1 (bytes_eq (component_text m.0) (component_text n)) >>= λ u.
+    takes (Operation GreaterThan) m.1 >>= λ end. finish_of end.1 >>= λ f. found ((tag x.0.0 x.0.1 f.0, m.0, end.0), f.1)
 
 unfoldable pub call_of : Limits → Reader → Path → Edge → Span → Seen → Items → Reads Item
 call_of l self path start first seen items =
     component_of items >>= λ n. attributes_of l (in_loop path) n.1 >>= λ a. takes (Operation GreaterThan) a.1 >>= λ last. finish_of last.1 >>= λ f.
     self (InCapture ∷ path) (at seen f.1) >>= λ b. call_end n.0 b.1.tokens >>= λ e.
-    Some (Capturing (CallBody (tag start first f.0) n.0 a.0 last.0 e.0.0 e.0.1 e.0.2) b.0, at b.1.seen e.1)
+    found (Capturing (CallBody (tag start first f.0) n.0 a.0 last.0 e.0.0 e.0.1 e.0.2) b.0, at b.1.seen e.1)
 
 unfoldable pub for_of : Limits → Reader → Path → Edge → Span → Seen → Items → Reads Item
 for_of l self path start first seen items =
     loop_of l items >>= λ lp. finish_of lp.1 >>= λ f. self (InFor ∷ path) (at seen f.1) >>= λ b.
     else_of self (InForElse ∷ path) b.1 >>= λ o. closed_tag AtEndFor o.1.tokens >>= λ e.
-    Some (For (tag start first f.0) lp.0 b.0 o.0 e.0, at o.1.seen e.1)
+    found (For (tag start first f.0) lp.0 b.0 o.0 e.0, at o.1.seen e.1)
 
 unfoldable pub if_of : Limits → Reader → Path → Edge → Span → Seen → Items → Reads Item
 if_of l self path start first seen items =
     expression_of l (in_loop path) items >>= λ c. finish_of c.1 >>= λ f. self (InIf ∷ path) (at seen f.1) >>= λ b.
     branches l self (InIf ∷ path) b.1 >>= λ bs. closed_tag AtEndIf bs.1.tokens >>= λ e.
-    Some (If (tag start first f.0) c.0 b.0 bs.0 e.0, at bs.1.seen e.1)
+    found (If (tag start first f.0) c.0 b.0 bs.0 e.0, at bs.1.seen e.1)
 
 abbrev pub tag_of : Limits → Reader → Path → Opener → Edge → Span → Seen → Items → Reads Item
 tag_of l self path (OpensSet global) start first seen items = set_of l self path global start first seen items
@@ -159,86 +161,64 @@ tag_of l self path OpensCall start first seen items = call_of l self path start 
 
 unfoldable pub shown_of : Limits → Path → Edge → Seen → Items → Reads Item
 shown_of l path start seen items =
-    expression_of l (in_loop path) items >>= λ e. variable_end_of e.1 >>= λ f. Some (Single (Shown start e.0 f.0), at seen f.1)
+    expression_of l (in_loop path) items >>= λ e. variable_end_of e.1 >>= λ f. found (Single (Shown start e.0 f.0), at seen f.1)
 
 -- what comes next in a body: nothing more, or an item
-unfoldable pub step : Limits → Reader → Path → Seen → Front → Option (Option (Item × Place))
-step l self path seen Ends = Some None
-step l self path seen (Closes c start first items) = Some None
-step l self path seen (Holds text span items) = Some (Some (Single (Text text span), at seen items))
-step l self path seen (Shows start items) = shown_of l path start seen items >>= λ x. Some (Some x)
-step l self path seen (Opens o start first items) = tag_of l self path o start first seen items >>= λ x. Some (Some x)
-step l self path seen Wrong = None
+unfoldable pub step : Limits → Reader → Path → Seen → Items → Front → Reads (Option Item)
+step l self path seen ts Ends = found (None, at seen ts)
+step l self path seen ts (Closes c start first items) = found (None, at seen ts)
+step l self path seen ts (Holds text span items) = found (Some (Single (Text text span)), at seen items)
+step l self path seen ts (Shows start items) = shown_of l path start seen items >>= λ x. found (Some x.0, x.1)
+step l self path seen ts (Opens o start first items) = tag_of l self path o start first seen items >>= λ x. found (Some x.0, x.1)
+step l self path seen ts Wrong = stopped (wrong_at ts)
 
-abbrev pub go_on : (Place → Reads Body) → Place → Option (Item × Place) → Reads Body
-go_on again p None = Some (Done, p)
-go_on again p (Some x) = again x.1 >>= λ b. Some (Then x.0 b.0, b.1)
+abbrev pub go_on : (Place → Reads Body) → Option Item → Place → Reads Body
+go_on again None p = found (Done, p)
+go_on again (Some i) p = again p >>= λ b. found (Then i b.0, b.1)
 
 -- The first number bounds the items. One more than the tokens is enough.
 unfoldable pub items_by : ℕ → Limits → Reader → Path → Place → Reads Body
-items_by zero l self path p = None
-items_by (suc n) l self path p = step l self path p.seen (front p.tokens) >>= go_on (items_by n l self path) p
+items_by zero l self path p = stopped p.tokens
+items_by (suc n) l self path p = step l self path p.seen p.tokens (front p.tokens) >>= λ x. go_on (items_by n l self path) x.0 x.1
 
 unfoldable pub items : Limits → Reader → Path → Place → Reads Body
 items l self path p = items_by (suc (size p.tokens)) l self path p
 
 -- The first number is how many bodies may still open.
 unfoldable pub body : ℕ → Limits → Reader
-body zero l path p = None
+body zero l path p = stopped p.tokens
 body (suc d) l path p = items l (body d l) path p
-
--- The top level: from the start, in a template that extends no other, or in one that does.
-pub data Phase : Type 0 where
-  Starting : Phase
-  Standalone : Phase
-  Extending : Phase
-
--- the phase after a text at the start
-abbrev pub after_text : Bool → Phase
-after_text true = Starting
-after_text false = Standalone
-
-abbrev pub from_start : Item → Phase
-from_start (Single (Extends t q span)) = Extending
-from_start (Single (Text text span)) = after_text (is_blank text)
-from_start (Define h b) = Starting
-from_start i = Standalone
-
-abbrev pub next_phase : Phase → Item → Option Phase
-next_phase Starting i = Some (from_start i)
-next_phase Standalone (Single (Extends t q span)) = None
-next_phase Standalone i = Some Standalone
-next_phase Extending i = guard (is_kept i) >>= λ u. Some Extending
-
-abbrev pub phases : Phase → Body → Option Phase
-phases ph Done = Some ph
-phases ph (Then i b) = next_phase ph i >>= λ q. phases q b
 
 -- an `extends` of the top level: where a template may no longer extend another, it is refused at its string
 abbrev pub extends_at : Phase → Edge → Span → Seen → Items → Reads Item
 extends_at Starting start first seen items = extends_of [] start first seen items
-extends_at phase start first seen items = taken_quote items >>= λ q. None
+extends_at phase start first seen items = taken_quote items >>= λ q. stopped q.1
 
 -- what comes next on the top level
-unfoldable pub top_step : Limits → Reader → Phase → Seen → Front → Option (Option (Item × Place))
-top_step l self phase seen (Opens OpensExtends start first items) = extends_at phase start first seen items >>= λ x. Some (Some x)
-top_step l self phase seen front = step l self [] seen front
+unfoldable pub top_step : Limits → Reader → Phase → Seen → Items → Front → Reads (Option Item)
+top_step l self phase seen ts (Opens OpensExtends start first items) = extends_at phase start first seen items >>= λ x. found (Some x.0, x.1)
+top_step l self phase seen ts front = step l self [] seen ts front
 
 -- an item that the phase lets in, and what comes after it
-abbrev pub top_on : (Phase → Place → Reads Body) → Phase → Place → Option (Item × Place) → Reads Body
-top_on again phase p None = Some (Done, p)
-top_on again phase p (Some x) = next_phase phase x.0 >>= λ q. again q x.1 >>= λ b. Some (Then x.0 b.0, b.1)
+abbrev pub top_on : (Phase → Place → Reads Body) → Phase → Option Item → Place → Reads Body
+top_on again phase None p = found (Done, p)
+top_on again phase (Some i) p = given p.tokens (next_phase phase i) >>= λ q. again q p >>= λ b. found (Then i b.0, b.1)
 
 -- The first number bounds the items. One more than the tokens is enough.
 unfoldable pub top_by : ℕ → Limits → Reader → Phase → Place → Reads Body
-top_by zero l self phase p = None
-top_by (suc n) l self phase p = top_step l self phase p.seen (front p.tokens) >>= top_on (top_by n l self) phase p
+top_by zero l self phase p = stopped p.tokens
+top_by (suc n) l self phase p = top_step l self phase p.seen p.tokens (front p.tokens) >>= λ x. top_on (top_by n l self) phase x.0 x.1
 
 -- The first number is how many bodies may open, of which the top level is one.
 unfoldable pub top : ℕ → Limits → Place → Reads Body
-top zero l p = None
+top zero l p = stopped p.tokens
 top (suc d) l p = top_by (suc (size p.tokens)) l (body d l) Starting p
 
+-- the end of a template: a tag that ends a body is refused at its first token
+abbrev pub ended : Items → Takes (Unit {0})
+ended Ended = found (tt, Ended)
+ended ts = stopped (wrong_at ts)
+
 -- a whole template
-unfoldable pub template : Limits → Items → Option Body
-template l ts = top l.bodies l (at nothing_seen ts) >>= λ b. guard (is_end b.1.tokens) >>= λ u. Some b.0
+unfoldable pub template : Limits → Items → Read Body
+template l ts = top l.bodies l (at nothing_seen ts) >>= λ b. ended b.1.tokens >>= λ u. found b.0

@@ -1,10 +1,10 @@
-use Rattle.std.proofs.Common.{◌≡◌, subst, ◌∙◌, inr}
+use Rattle.std.proofs.Common.{◌≡◌, subst, ◌∙◌}
 use Rattle.tera_lexer.specs.code.Cursors.{Position}
 use Rattle.tera_grammar.specs.expressions.Operators.{Div}
 use Rattle.tera_grammar.specs.expressions.Marks.{Operation}
 use Rattle.tera_grammar.specs.expressions.Reading.Front.{takes}
 use Rattle.tera_expect.specs.Taking.{GivesAs, place_at}
-use Rattle.tera_expr_parts.proofs.AttributesLemmas.{closed_gives, not_closed, nothing_closes}
+use Rattle.tera_expr_parts.proofs.AttributesLemmas.{closed_gives, looked_at, body_begins, nothing_closes}
 use Rattle.tera_expr_parts.proofs.attributes.close_component.Goals as goal
 
 pub returns-then-eat-clause-gives : goal.returns-then-eat-clause-gives
@@ -15,12 +15,14 @@ returns-then-eat-clause-gives c =
 pub returns-then-eat-2-clause-gives : goal.returns-then-eat-2-clause-gives
 returns-then-eat-2-clause-gives c =
     let slash = rw c.if-eat.false at c.eat.ensures in
-    inr (not_closed c.args.cursor.now.left slash.0)
+    let greater = rw c.if-eat-2.true at c.eat-2.ensures in
+    body_begins c.args.cursor.now c.eat.new.cursor c.eat-2.new.cursor _ slash greater.0
 
 pub returns-in-Some-clause-gives : goal.returns-in-Some-clause-gives
 returns-in-Some-clause-gives c =
     let slash = rw c.if-eat.false at c.eat.ensures in
-    inr (not_closed c.args.cursor.now.left slash.0)
+    let greater = rw c.if-eat-2.false at c.eat-2.ensures in
+    looked_at c.args.cursor.now c.eat.new.cursor c.eat-2.new.cursor _ slash greater
 
 pub returns-in-None-clause-gives : goal.returns-in-None-clause-gives
 returns-in-None-clause-gives c =

@@ -8,7 +8,7 @@ use Rattle.tera_expr_parts.proofs.components.dotted_name.Goals as goal
 pub returns-in_err-first-clause-gives : goal.returns-in_err-first-clause-gives
 returns-in_err-first-clause-gives c =
     let p = err_from_is_err_and c.from_residual.result c.from_residual.ensures.1 in
-    rw (p.1, p.2) (start_failed c.args.cursor.now.left _ c.in_err-first.ensures.gives)
+    rw (p.1, p.2) (start_failed c.args.cursor.now.left _ _ c.in_err-first.ensures.gives)
 
 pub names-init : goal.names-init
 names-init c = record {
@@ -21,7 +21,7 @@ pub returns-in_err-part-clause-gives : goal.returns-in_err-part-clause-gives
 returns-in_err-part-clause-gives c =
     let dot = rw c.names-test.true at c.eat.ensures in
     let p = err_from_is_err_and c.from_residual-in_err-part.result c.from_residual-in_err-part.ensures.1 in
-    rw (p.1, p.2) (failed c.args.cursor.now.left c.names.cursor.left c.eat.new.cursor.left _ _ c.names.invariant.joining dot.0 _ c.in_err-part.ensures.gives)
+    rw (p.1, p.2) (failed c.args.cursor.now.left c.names.cursor.left c.eat.new.cursor.left _ _ c.names.invariant.joining dot.0 _ _ c.in_err-part.ensures.gives)
 
 pub names-preserved : goal.names-preserved
 names-preserved c =

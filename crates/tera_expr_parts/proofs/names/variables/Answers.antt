@@ -13,7 +13,7 @@ pub returns-in_err-first-clause-gives : goal.returns-in_err-first-clause-gives
 returns-in_err-first-clause-gives c = λ i.
     let ts = c.args.cursor.now.left in
     let p = err_from_is_err_and c.from_residual.result c.from_residual.ensures.1 in
-    rw (p.1, p.2) (failed_as (free_name ts) (variables_of (at i ts)) _ (no_variable i ts) c.in_err-first.ensures.gives)
+    rw (p.1, p.2) (failed_as (free_name ts) (variables_of (at i ts)) _ _ (no_variable i ts) c.in_err-first.ensures.gives)
 
 pub returns-in_err-second-clause-gives : goal.returns-in_err-second-clause-gives
 returns-in_err-second-clause-gives c = λ i.
@@ -22,7 +22,7 @@ returns-in_err-second-clause-gives c = λ i.
     let vs = c.eat.new.cursor.left in
     let comma = rw c.if-eat.true at c.eat.ensures in
     let p = err_from_is_err_and c.from_residual-in_err-second.result c.from_residual-in_err-second.ensures.1 in
-    rw (p.1, p.2) (failed_as (free_name vs) (variables_of (at i ts)) _
+    rw (p.1, p.2) (failed_as (free_name vs) (variables_of (at i ts)) _ _
     (no_second_variable i ts us vs c.eat.new.cursor.span (name_at c.free_name.new.cursor.span c.in_ok-first.first) c.in_ok-first.ensures.gives comma.0)
     c.in_err-second.ensures.gives)
 

@@ -1,5 +1,5 @@
 -- Of calls of components and their attributes.
-use Rattle.std.proofs.Common.{inr, refl, sym, ap, ◌∙◌, subst}
+use Rattle.std.proofs.Common.{inr, refl, sym, ap, ◌∙◌, subst, inl}
 use Rattle.std.proofs.lemmas.Result.{err_from_is_err_and}
 use Rattle.tera_base.specs.Values.{TextKey}
 use Rattle.tera_base.specs.declared.values.Key.TheVariants.{String}
@@ -22,18 +22,18 @@ use Rattle.tera_expr_reader.proofs.+reader.Goals as goal
 
 pub component_calls::component-returns-then-not-begins_name-clause-gives : goal.component_calls::component-returns-then-not-begins_name-clause-gives
 component_calls::component-returns-then-not-begins_name-clause-gives t c =
-    inr (unnamed_component (expr c.args.depth) (room_of c.args.room) c.args.first.now c.args.links.now c.args.cursor.now.left (sym c.begins_name.ensures ∙ c.if-not-begins_name.true))
+    inr (inl (unnamed_component (expr c.args.depth) (room_of c.args.room) c.args.first.now c.args.links.now c.args.cursor.now.left (sym c.begins_name.ensures ∙ c.if-not-begins_name.true)))
 
 pub component_calls::component-returns-in_err-name-clause-gives : goal.component_calls::component-returns-in_err-name-clause-gives
 component_calls::component-returns-in_err-name-clause-gives t c =
     let p = err_from_is_err_and c.from_residual.result c.from_residual.ensures.1 in
-    rw (p.1, p.2) (component_no_path (expr c.args.depth) (room_of c.args.room) c.args.first.now c.args.links.now c.args.cursor.now.left _ c.in_err-name.ensures.gives)
+    rw (p.1, p.2) (component_no_path (expr c.args.depth) (room_of c.args.room) c.args.first.now c.args.links.now c.args.cursor.now.left _ _ c.in_err-name.ensures.gives)
 
 pub component_calls::component-returns-in_err-kwargs-clause-gives : goal.component_calls::component-returns-in_err-kwargs-clause-gives
 component_calls::component-returns-in_err-kwargs-clause-gives t c =
     let p = err_from_is_err_and c.from_residual-in_err-kwargs.result c.from_residual-in_err-kwargs.ensures.1 in
     let (x, path, named) = c.in_ok-name.ensures.gives in
-    rw (p.1, p.2) (component_no_attributes (expr c.args.depth) (room_of c.args.room) c.args.first.now c.args.links.now c.args.cursor.now.left c.dotted_name.new.cursor.left x _
+    rw (p.1, p.2) (component_no_attributes (expr c.args.depth) (room_of c.args.room) c.args.first.now c.args.links.now c.args.cursor.now.left c.dotted_name.new.cursor.left x _ _
     path c.in_err-kwargs.ensures.gives)
 
 pub component_calls::component-returns-in_err-close_component-clause-gives : goal.component_calls::component-returns-in_err-close_component-clause-gives
@@ -42,7 +42,7 @@ component_calls::component-returns-in_err-close_component-clause-gives t c =
     let (x, path, named) = c.in_ok-name.ensures.gives in
     let (r, read, lists) = c.in_ok-kwargs.ensures.gives in
     rw (p.1, p.2) (component_unclosed (expr c.args.depth) (room_of c.args.room) c.args.first.now c.args.links.now c.args.cursor.now.left c.dotted_name.new.cursor.left
-    c.attributes.new.cursor.left c.attributes.new.links x r _ path read c.in_err-close_component.ensures.gives)
+    c.attributes.new.cursor.left c.attributes.new.links x r _ _ path read c.in_err-close_component.ensures.gives)
 
 pub component_calls::component-returns-clause-gives : goal.component_calls::component-returns-clause-gives
 component_calls::component-returns-clause-gives t c =
@@ -75,7 +75,7 @@ pub component_calls::attributes-returns-in_err-next-clause-gives : goal.componen
 component_calls::attributes-returns-in_err-next-clause-gives t c =
     let w = room_of c.args.values.room in
     let p = err_from_is_err_and c.from_residual.result c.from_residual.ensures.1 in
-    rw (p.1, p.2) (attributing_fails c.args.values.room.scope.in_loop c.args.values w _ c.reading.attributes.items (at c.reading.links c.reading.cursor.left) _
+    rw (p.1, p.2) (attributing_fails c.args.values.room.scope.in_loop c.args.values w _ c.reading.attributes.items (at c.reading.links c.reading.cursor.left) _ _
     c.reading.invariant.read c.in_err-next.ensures.gives)
 
 pub component_calls::attributes-reading-preserved : goal.component_calls::attributes-reading-preserved
@@ -109,7 +109,7 @@ component_calls::attribute-returns-in_err-named-clause-gives t c =
     let p = err_from_is_err_and c.from_residual.result c.from_residual.ensures.1 in
     let name = rw c.in-Some.is at c.eat_name.ensures in
     rw (p.1, p.2) (named_lacks (reader_of c.args.values) (room_of c.args.values.room) c.args.links.now (name_at c.eat_name.new.cursor.span c.in-Some.name) c.args.cursor.now.left
-    c.eat_name.new.cursor.left _ name.0 c.in_err-named.ensures.gives)
+    c.eat_name.new.cursor.left _ _ name.0 c.in_err-named.ensures.gives)
 
 pub component_calls::attribute-returns-in-Some-clause-gives : goal.component_calls::attribute-returns-in-Some-clause-gives
 component_calls::attribute-returns-in-Some-clause-gives t c =
@@ -129,7 +129,7 @@ component_calls::attribute-returns-in_err-expect-clause-gives t c =
     let none = rw c.in_default.is at c.eat_name.ensures in
     let brace = rw c.if-not-eat.false at c.eat.ensures in
     let p = err_from_is_err_and c.from_residual-in_err-expect.result c.from_residual-in_err-expect.ensures.1 in
-    rw (p.1, p.2) (spread_missing (reader_of c.args.values) (room_of c.args.values.room) c.args.links.now c.eat.new.cursor.span c.args.cursor.now.left c.eat.new.cursor.left _ none.0
+    rw (p.1, p.2) (spread_missing (reader_of c.args.values) (room_of c.args.values.room) c.args.links.now c.eat.new.cursor.span c.args.cursor.now.left c.eat.new.cursor.left _ _ none.0
     (brace_at c.args.cursor.now c.eat_name.new.cursor c.eat.new.cursor none.1 brace.0) c.in_err-expect.ensures.gives)
 
 pub component_calls::attribute-returns-in_err-spread-clause-gives : goal.component_calls::attribute-returns-in_err-spread-clause-gives
@@ -138,7 +138,7 @@ component_calls::attribute-returns-in_err-spread-clause-gives t c =
     let brace = rw c.if-not-eat.false at c.eat.ensures in
     let p = err_from_is_err_and c.from_residual-in_err-spread.result c.from_residual-in_err-spread.ensures.1 in
     rw (p.1, p.2) (spread_lacks (reader_of c.args.values) (room_of c.args.values.room) c.args.links.now c.eat.new.cursor.span c.expect.new.cursor.span c.args.cursor.now.left
-    c.eat.new.cursor.left c.expect.new.cursor.left _ none.0 (brace_at c.args.cursor.now c.eat_name.new.cursor c.eat.new.cursor none.1 brace.0) c.in_ok-expect.ensures.gives
+    c.eat.new.cursor.left c.expect.new.cursor.left _ _ none.0 (brace_at c.args.cursor.now c.eat_name.new.cursor c.eat.new.cursor none.1 brace.0) c.in_ok-expect.ensures.gives
     c.in_err-spread.ensures.gives)
 
 pub component_calls::attribute-returns-clause-gives : goal.component_calls::attribute-returns-clause-gives
@@ -161,7 +161,7 @@ component_calls::named_attribute-returns-in_err-value-clause-gives t c =
     let n = name_in c.args.name.now c.args.cursor.now.span in
     let s = c.eat.new.cursor.span in
     let p = err_from_is_err_and c.from_residual-in_err-value.result c.from_residual-in_err-value.ensures.1 in
-    rw (p.1, p.2) (assigned_lacks (reader_of c.args.values) (room_of c.args.values.room) c.args.links.now n s c.args.cursor.now.left c.eat.new.cursor.left _ assign.0 (c.in_err-value.ensures.gives n s))
+    rw (p.1, p.2) (assigned_lacks (reader_of c.args.values) (room_of c.args.values.room) c.args.links.now n s c.args.cursor.now.left c.eat.new.cursor.left _ _ assign.0 (c.in_err-value.ensures.gives n s))
 
 pub component_calls::named_attribute-returns-clause-gives : goal.component_calls::named_attribute-returns-clause-gives
 component_calls::named_attribute-returns-clause-gives t c =
@@ -185,13 +185,13 @@ component_calls::attribute_value-returns-clause-gives t c =
 pub component_calls::braced-returns-in_err-inside-clause-gives : goal.component_calls::braced-returns-in_err-inside-clause-gives
 component_calls::braced-returns-in_err-inside-clause-gives t c =
     let p = err_from_is_err_and c.from_residual.result c.from_residual.ensures.1 in
-    rw (p.1, p.2) (braced_fails (reader_of c.args.values) (room_of c.args.values.room) c.args.links.now c.args.cursor.now.left _ c.in_err-inside.ensures.gives)
+    rw (p.1, p.2) (braced_fails (reader_of c.args.values) (room_of c.args.values.room) c.args.links.now c.args.cursor.now.left _ _ c.in_err-inside.ensures.gives)
 
 pub component_calls::braced-returns-in_err-expect-clause-gives : goal.component_calls::braced-returns-in_err-expect-clause-gives
 component_calls::braced-returns-in_err-expect-clause-gives t c =
     let p = err_from_is_err_and c.from_residual-in_err-expect.result c.from_residual-in_err-expect.ensures.1 in
     let (t, read, shows) = c.in_ok-inside.ensures.gives in
-    rw (p.1, p.2) (braced_unclosed (reader_of c.args.values) (room_of c.args.values.room) c.args.links.now c.args.cursor.now.left c.value.new.cursor.left c.value.new.links t _
+    rw (p.1, p.2) (braced_unclosed (reader_of c.args.values) (room_of c.args.values.room) c.args.links.now c.args.cursor.now.left c.value.new.cursor.left c.value.new.links t _ _
     read c.in_err-expect.ensures.gives)
 
 pub component_calls::braced-returns-clause-gives : goal.component_calls::braced-returns-clause-gives

@@ -13,7 +13,7 @@ use Rattle.tera_expr_reader.specs.Chains.{subscripted}
 use Rattle.tera_expr_parts.specs.Rooms.{room_of}
 use Rattle.tera_expect.specs.Taking.{name_in}
 use Rattle.tera_expect.proofs.TakingLemmas.{stays, eats_size, goes_further, took_goes}
-use Rattle.tera_expr_reader.proofs.ChainsLemmas.{Chaining, chaining_begins, chain_whole, chain_longer, chaining_fails, shrinks, joint_of, bracket_of, joint_there, bracket_there, joint_optional, bracket_optional, field_adds, field_lacks, field_uncounted, item_adds, item_lacks, item_uncounted, ends_alike}
+use Rattle.tera_expr_reader.proofs.ChainsLemmas.{chain_negatable, Chaining, chaining_begins, chain_whole, chain_longer, chaining_fails, shrinks, joint_of, bracket_of, joint_there, bracket_there, joint_optional, bracket_optional, field_adds, field_lacks, field_uncounted, item_adds, item_lacks, item_uncounted, ends_alike}
 use Rattle.tera_expr_reader.proofs.+reader.Goals as goal
 
 pub chains::with_links-growing-init : goal.chains::with_links-growing-init
@@ -35,7 +35,7 @@ chains::with_links-growing-init t c =
 pub chains::with_links-returns-in_err-whole-clause-gives : goal.chains::with_links-returns-in_err-whole-clause-gives
 chains::with_links-returns-in_err-whole-clause-gives t c =
     let p = err_from_is_err_and c.from_residual-in_err-whole.result c.from_residual-in_err-whole.ensures.1 in
-    rw (p.1, p.2) (chaining_fails _ _ _ c.args.depth (room_of c.args.room) _ (expression_view c.growing.chain) c.growing.cursor.span (at c.growing.links c.growing.cursor.left) _ c.growing.invariant.chaining c.in_err-whole.ensures.gives)
+    rw (p.1, p.2) (chaining_fails _ _ _ c.args.depth (room_of c.args.room) _ (expression_view c.growing.chain) c.growing.cursor.span (at c.growing.links c.growing.cursor.left) _ _ c.growing.invariant.chaining c.in_err-whole.ensures.gives)
 
 pub chains::with_links-returns-in-Whole-clause-gives : goal.chains::with_links-returns-in-Whole-clause-gives
 chains::with_links-returns-in-Whole-clause-gives t c =
@@ -70,7 +70,7 @@ chains::with_link-returns-in_err-longer-in-Field-clause-gives t c =
     let s = c.take_link.new.cursor.span in
     let us = c.take_link.new.cursor.left in
     let o = c.in-Field.optional in
-    rw (p.1, p.2) (field_lacks (expr c.args.depth) (room_of c.args.room) c.args.fields_of_loop c.args.links.now c.args.cursor.now.left x (joint_of o s) _ us _
+    rw (p.1, p.2) (field_lacks (expr c.args.depth) (room_of c.args.room) c.args.fields_of_loop c.args.links.now c.args.cursor.now.left x (joint_of o s) _ us _ _
     (joint_there x o s us (sym c.at.ensures ∙ c.in-Field.is) c.take_link.ensures.past) c.in_ok-count_link-in-Field.ensures.counts c.in_err-longer-in-Field.ensures.gives)
 
 pub chains::with_link-returns-in_err-count_link-in-Item-clause-gives : goal.chains::with_link-returns-in_err-count_link-in-Item-clause-gives
@@ -86,7 +86,7 @@ chains::with_link-returns-in_err-item-in-Item-clause-gives t c =
     let s = c.take_link-in-Item.new.cursor.span in
     let us = c.take_link-in-Item.new.cursor.left in
     let o = c.in-Item.optional in
-    rw (p.1, p.2) (item_lacks (expr c.args.depth) (room_of c.args.room) c.args.fields_of_loop c.args.links.now c.args.cursor.now.left x (bracket_of o s) _ us _
+    rw (p.1, p.2) (item_lacks (expr c.args.depth) (room_of c.args.room) c.args.fields_of_loop c.args.links.now c.args.cursor.now.left x (bracket_of o s) _ us _ _
     (bracket_there x o s us (sym c.at.ensures ∙ c.in-Item.is) c.take_link-in-Item.ensures.past) c.in_ok-count_link-in-Item.ensures.counts c.in_err-item-in-Item.ensures.gives)
 
 pub chains::with_link-returns-in_ok-longer-in-Field-clause-gives : goal.chains::with_link-returns-in_ok-longer-in-Field-clause-gives
@@ -125,3 +125,8 @@ chains::chain-with_links-requires t c =
     let here : c.args.cursor.now.span ≡ c.args.first.now = search rules in
     let none = rw c.if-eat.false at c.eat.ensures in
     (omega (arith, eats_size _ _ _ _ c.eat.ensures), ap (λ (q : Position). q.span) none.1 ∙ here)
+
+pub chains::chain-returns-else-eat-clause-negatable : goal.chains::chain-returns-else-eat-clause-negatable
+chains::chain-returns-else-eat-clause-negatable t c =
+    chain_negatable c.args.room.scope.in_loop (name_in c.args.name.now c.args.first.now) c.with_links.new.cursor.span c.with_links.result
+    (at c.with_links.new.links c.with_links.new.cursor.left) _ c.with_links.ensures.gives

@@ -23,7 +23,7 @@ stack::operand-returns-clause-keeps t c =
 pub stack::head-returns-in_err-token-clause-keeps : goal.stack::head-returns-in_err-token-clause-keeps
 stack::head-returns-in_err-token-clause-keeps t c =
     let p = err_from_is_err_and c.from_residual.result c.from_residual.ensures.1 in
-    rw (p.1, p.2) (refuses_all frame_view _ _ _ _
+    rw (p.1, p.2) (refuses_all frame_view _ _ _ _ _
     (heads_untaken (room_of c.args.room) (level_view c.args.level) (at c.args.links.now c.args.cursor.now.left) c.args.cursor.now _ _ refl c.in_err-token.ensures.takes))
 
 pub stack::head-returns-in-Minus-clause-keeps : goal.stack::head-returns-in-Minus-clause-keeps
@@ -43,7 +43,7 @@ pub stack::head-returns-in_err-expr-in-LeftBracket-clause-keeps : goal.stack::he
 stack::head-returns-in_err-expr-in-LeftBracket-clause-keeps t c =
     let took = c.in_ok-token.ensures.takes.1 ∙ ap (λ x. Token (seen x) c.in_ok-token.span c.take.new.cursor.left) c.in-LeftBracket.is in
     let p = err_from_is_err_and c.from_residual-in_err-expr-in-LeftBracket.result c.from_residual-in_err-expr-in-LeftBracket.ensures.1 in
-    rw (p.1, p.2) (refuses_all frame_view _ _ _ _
+    rw (p.1, p.2) (refuses_all frame_view _ _ _ _ _
     (missed_as (room_of c.args.room) (level_view c.args.level) (at c.args.links.now c.args.cursor.now.left) _ _ _ took expression_view c.array.new.cursor.span (at c.array.new.links c.array.new.cursor.left) _
     (heads_array (room_of c.args.room) (level_view c.args.level) (at c.args.links.now c.args.cursor.now.left) _ _ took) _ c.in_err-expr-in-LeftBracket.ensures.gives))
 
@@ -58,7 +58,7 @@ pub stack::head-returns-in_err-expr-in-LeftBrace-clause-keeps : goal.stack::head
 stack::head-returns-in_err-expr-in-LeftBrace-clause-keeps t c =
     let took = c.in_ok-token.ensures.takes.1 ∙ ap (λ x. Token (seen x) c.in_ok-token.span c.take.new.cursor.left) c.in-LeftBrace.is in
     let p = err_from_is_err_and c.from_residual-in_err-expr-in-LeftBrace.result c.from_residual-in_err-expr-in-LeftBrace.ensures.1 in
-    rw (p.1, p.2) (refuses_all frame_view _ _ _ _
+    rw (p.1, p.2) (refuses_all frame_view _ _ _ _ _
     (missed_as (room_of c.args.room) (level_view c.args.level) (at c.args.links.now c.args.cursor.now.left) _ _ _ took expression_view c.map.new.cursor.span (at c.map.new.links c.map.new.cursor.left) _
     (heads_map (room_of c.args.room) (level_view c.args.level) (at c.args.links.now c.args.cursor.now.left) _ _ took) _ c.in_err-expr-in-LeftBrace.ensures.gives))
 
@@ -73,7 +73,7 @@ pub stack::head-returns-in_err-expr-in-LessThan-clause-keeps : goal.stack::head-
 stack::head-returns-in_err-expr-in-LessThan-clause-keeps t c =
     let took = c.in_ok-token.ensures.takes.1 ∙ ap (λ x. Token (seen x) c.in_ok-token.span c.take.new.cursor.left) c.in-LessThan.is in
     let p = err_from_is_err_and c.from_residual-in_err-expr-in-LessThan.result c.from_residual-in_err-expr-in-LessThan.ensures.1 in
-    rw (p.1, p.2) (refuses_all frame_view _ _ _ _
+    rw (p.1, p.2) (refuses_all frame_view _ _ _ _ _
     (missed_as (room_of c.args.room) (level_view c.args.level) (at c.args.links.now c.args.cursor.now.left) _ _ _ took expression_view c.component.new.cursor.span (at c.component.new.links c.component.new.cursor.left) _
     (heads_component (room_of c.args.room) (level_view c.args.level) (at c.args.links.now c.args.cursor.now.left) _ _ took) _ c.in_err-expr-in-LessThan.ensures.gives))
 
@@ -88,13 +88,13 @@ pub stack::head-returns-in_err-expr-in_default : goal.stack::head-returns-in_err
 stack::head-returns-in_err-expr-in_default t c =
     let p = err_from_is_err_and c.from_residual-in_err-expr-in_default.result c.from_residual-in_err-expr-in_default.ensures.1 in
     rw (p.1, p.2) (record {
-      keeps = refuses_all frame_view _ _ _ _
+      keeps = refuses_all frame_view _ _ _ _ _
           (literal_missed (room_of c.args.room) (level_view c.args.level) (at c.args.links.now c.args.cursor.now.left) _ _ _ c.in_ok-token.ensures.takes.1 _
           (begins_none _ c.in_default.not-Ident c.in_default.not-Minus c.in_default.not-LessThan c.in_default.not-LeftBracket c.in_default.not-LeftParen c.in_default.not-LeftBrace)
           c.in_err-expr-in_default.ensures.gives);
       falls = tt;
       negatable = tt;
-      refusal = refused_after _ _ _ c.in_ok-token.ensures.later c.in_err-expr-in_default.ensures.refusal;
+      refusal = refused_after _ _ _ _ c.in_ok-token.ensures.later c.in_err-expr-in_default.ensures.refusal;
       later = tt;
     })
 
@@ -115,7 +115,7 @@ stack::word-returns-then-is_not-clause-keeps t c =
 pub stack::word-returns-in_err-expr-2-clause-keeps : goal.stack::word-returns-in_err-expr-2-clause-keeps
 stack::word-returns-in_err-expr-2-clause-keeps t c =
     let p = err_from_is_err_and c.from_residual-in_err-expr-2.result c.from_residual-in_err-expr-2.ensures.1 in
-    rw (p.1, p.2) (refuses_all frame_view _ _ _ _
+    rw (p.1, p.2) (refuses_all frame_view _ _ _ _ _
     (word_missed (room_of c.args.room) (level_view c.args.level) c.args.links.now c.args.name.now c.args.span c.args.cursor.now.left expression_view c.chain.new.cursor.span (at c.chain.new.links c.chain.new.cursor.left)
     (sym c.is_none.ensures ∙ c.if-is_none.false) (sym c.is_not.ensures ∙ c.if-is_not.false) _ c.in_err-expr-2.ensures.gives))
 

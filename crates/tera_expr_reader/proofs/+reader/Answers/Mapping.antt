@@ -1,6 +1,7 @@
 -- Of maps.
-use Rattle.std.proofs.Common.{rules, ◌≡◌, [], ◌∙◌, ap, sym, subst, Some, None}
+use Rattle.std.proofs.Common.{rules, ◌≡◌, [], ◌∙◌, ap, sym, subst}
 use Rattle.std.proofs.lemmas.Result.{err_from_is_err_and}
+use Rattle.tera_grammar.specs.Reads.{found, stopped}
 use Rattle.tera_lexer.specs.code.Cursors.{Position}
 use Rattle.tera_ast.specs.View.{entries_view}
 use Rattle.tera_grammar.specs.expressions.Concrete.{of_entries, ended, pair, spread}
@@ -36,9 +37,9 @@ maps::map-returns-in_err-entry-clause-gives t c =
     let place = at c.args.links.now c.args.cursor.now.left in
     let o = rw c.elements-test.true at c.elements.invariant.rows in
     let p = err_from_is_err_and c.from_residual.result c.from_residual.ensures.1 in
-    rw (p.1, p.2) (map_missed f w c.args.first.now place _
+    rw (p.1, p.2) (map_missed f w c.args.first.now place _ _
     (lacks_entry c.args.values.room.scope.in_loop c.elements.entries.items c.args.values w (row_of f w of_entries place)
-    c.elements.links c.elements.cursor.left o _ c.in_err-entry.ensures.gives))
+    c.elements.links c.elements.cursor.left o _ _ c.in_err-entry.ensures.gives))
 
 pub maps::map-returns-in_err-open-clause-gives : goal.maps::map-returns-in_err-open-clause-gives
 maps::map-returns-in_err-open-clause-gives t c =
@@ -48,7 +49,7 @@ maps::map-returns-in_err-open-clause-gives t c =
     let o = rw c.elements-test.true at c.elements.invariant.rows in
     let (x, read, shown) = c.in_ok-entry.ensures.gives in
     let p = err_from_is_err_and c.from_residual-in_err-open.result c.from_residual-in_err-open.ensures.1 in
-    rw (p.1, p.2) (map_missed f w c.args.first.now place _
+    rw (p.1, p.2) (map_missed f w c.args.first.now place _ _
     (lacks_end c.args.values.room.scope.in_loop c.elements.entries.items c.args.values w (row_of f w of_entries place)
     c.elements.links c.elements.cursor.left o x c.entry.new.links c.entry.new.cursor.left read c.more.new.cursor _ c.in_err-open.ensures.gives))
 
@@ -89,8 +90,8 @@ maps::entry-returns-in_err-spread-clause-gives t c =
     let w = room_of c.args.values.room in
     let mark = rw c.if-eat.true at c.eat.ensures in
     let p = err_from_is_err_and c.from_residual.result c.from_residual.ensures.1 in
-    rw (p.1, p.2) (fails_by (element_of f w of_entries (at c.args.links.now c.args.cursor.now.left)) (f w 0 (at c.args.links.now c.eat.new.cursor.left)) _
-    (λ none. spread_read f w c.args.links.now c.args.cursor.now.left c.eat.new.cursor.span c.eat.new.cursor.left None mark.0 none) c.in_err-spread.ensures.gives)
+    rw (p.1, p.2) (fails_by (element_of f w of_entries (at c.args.links.now c.args.cursor.now.left)) (f w 0 (at c.args.links.now c.eat.new.cursor.left)) _ _
+    (λ z none. spread_read f w c.args.links.now c.args.cursor.now.left c.eat.new.cursor.span c.eat.new.cursor.left (stopped z) mark.0 none) c.in_err-spread.ensures.gives)
 
 pub maps::entry-returns-then-eat-clause-gives : goal.maps::entry-returns-then-eat-clause-gives
 maps::entry-returns-then-eat-clause-gives t c =
@@ -98,7 +99,7 @@ maps::entry-returns-then-eat-clause-gives t c =
     let (t, read, shown) = c.in_ok-spread.ensures.gives in (
       spread c.eat.new.cursor.span t,
       spread_read (reader_of c.args.values) (room_of c.args.values.room) c.args.links.now c.args.cursor.now.left c.eat.new.cursor.span c.eat.new.cursor.left
-          (Some (t, at c.value.new.links c.value.new.cursor.left)) mark.0 read,
+          (found (t, at c.value.new.links c.value.new.cursor.left)) mark.0 read,
       shown,
     )
 
@@ -109,8 +110,8 @@ maps::entry-returns-in_err-key-clause-gives t c =
     let none = rw c.if-eat.false at c.eat.ensures in
     let back = ap (λ (q : Position). taken_literal q.left) (sym none.1) in
     let p = err_from_is_err_and c.from_residual-in_err-key.result c.from_residual-in_err-key.ensures.1 in
-    rw (p.1, p.2) (fails_by (element_of f w of_entries (at c.args.links.now c.args.cursor.now.left)) (taken_literal c.eat.new.cursor.left) _
-    (λ h. no_key f w c.args.links.now c.args.cursor.now.left none.0 (back ∙ h)) c.in_err-key.ensures.gives)
+    rw (p.1, p.2) (fails_by (element_of f w of_entries (at c.args.links.now c.args.cursor.now.left)) (taken_literal c.eat.new.cursor.left) _ _
+    (λ z h. no_key f w c.args.links.now c.args.cursor.now.left none.0 z (back ∙ h)) c.in_err-key.ensures.gives)
 
 pub maps::entry-returns-in_err-expect-clause-gives : goal.maps::entry-returns-in_err-expect-clause-gives
 maps::entry-returns-in_err-expect-clause-gives t c =
@@ -120,7 +121,7 @@ maps::entry-returns-in_err-expect-clause-gives t c =
     let back = ap (λ (q : Position). taken_literal q.left) (sym none.1) in
     let (x, read, same) = c.in_ok-key.ensures.gives in
     let p = err_from_is_err_and c.from_residual-in_err-expect.result c.from_residual-in_err-expect.ensures.1 in
-    rw (p.1, p.2) (fails_by (element_of f w of_entries (at c.args.links.now c.args.cursor.now.left)) (takes Colon c.key.new.cursor.left) _
+    rw (p.1, p.2) (fails_by (element_of f w of_entries (at c.args.links.now c.args.cursor.now.left)) (takes Colon c.key.new.cursor.left) _ _
     (no_colon f w c.args.links.now c.args.cursor.now.left none.0 (x, c.key.new.cursor.span) c.key.new.cursor.left (back ∙ read)) c.in_err-expect.ensures.gives)
 
 pub maps::entry-returns-in_err-value-clause-gives : goal.maps::entry-returns-in_err-value-clause-gives
@@ -131,9 +132,9 @@ maps::entry-returns-in_err-value-clause-gives t c =
     let back = ap (λ (q : Position). taken_literal q.left) (sym none.1) in
     let (x, read, same) = c.in_ok-key.ensures.gives in
     let p = err_from_is_err_and c.from_residual-in_err-value.result c.from_residual-in_err-value.ensures.1 in
-    rw (p.1, p.2) (fails_by (element_of f w of_entries (at c.args.links.now c.args.cursor.now.left)) (f w 0 (at c.args.links.now c.expect.new.cursor.left)) _
-    (λ h. pair_read f w c.args.links.now c.args.cursor.now.left none.0 (x, c.key.new.cursor.span) c.key.new.cursor.left (back ∙ read)
-    c.expect.new.cursor.span c.expect.new.cursor.left None c.in_ok-expect.ensures.gives h) c.in_err-value.ensures.gives)
+    rw (p.1, p.2) (fails_by (element_of f w of_entries (at c.args.links.now c.args.cursor.now.left)) (f w 0 (at c.args.links.now c.expect.new.cursor.left)) _ _
+    (λ z h. pair_read f w c.args.links.now c.args.cursor.now.left none.0 (x, c.key.new.cursor.span) c.key.new.cursor.left (back ∙ read)
+    c.expect.new.cursor.span c.expect.new.cursor.left (stopped z) c.in_ok-expect.ensures.gives h) c.in_err-value.ensures.gives)
 
 pub maps::entry-returns-clause-gives : goal.maps::entry-returns-clause-gives
 maps::entry-returns-clause-gives t c =
@@ -145,6 +146,6 @@ maps::entry-returns-clause-gives t c =
     let (t, valued, shown) = c.in_ok-value.ensures.gives in (
       pair x c.key.new.cursor.span c.expect.new.cursor.span t,
       pair_read f w c.args.links.now c.args.cursor.now.left none.0 (x, c.key.new.cursor.span) c.key.new.cursor.left (back ∙ read)
-          c.expect.new.cursor.span c.expect.new.cursor.left (Some (t, at c.value-2.new.links c.value-2.new.cursor.left)) c.in_ok-expect.ensures.gives valued,
+          c.expect.new.cursor.span c.expect.new.cursor.left (found (t, at c.value-2.new.links c.value-2.new.cursor.left)) c.in_ok-expect.ensures.gives valued,
       (same, shown),
     )

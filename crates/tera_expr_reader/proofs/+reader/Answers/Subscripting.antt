@@ -1,6 +1,7 @@
 -- Of subscripts.
-use Rattle.std.proofs.Common.{◌≡◌, ap, sym, subst, ◌∙◌, Some, refl}
+use Rattle.std.proofs.Common.{◌≡◌, ap, sym, subst, ◌∙◌, refl}
 use Rattle.std.proofs.lemmas.Result.{err_from_is_err_and}
+use Rattle.tera_grammar.specs.Reads.{found}
 use Rattle.tera_ast.specs.Tree.{OneExpr}
 use Rattle.tera_grammar.specs.expressions.Concrete.{absent, present, index, slice, no_extra, extra}
 use Rattle.tera_grammar.specs.expressions.Marks.{RightBracket}
@@ -24,8 +25,8 @@ subscripts::read_subscript-returns-in_err-first-clause-gives t c =
     let room = c.in_ok-inside.ensures.opens in
     let none = rw c.if-eat.false at c.eat.ensures in
     let p = err_from_is_err_and c.from_residual-in_err-first.result c.from_residual-in_err-first.ensures.1 in
-    rw (p.1, p.2) (sub_fails (expr c.args.depth) (room_of c.args.room) (room_of c.in_ok-inside.inside) _ c.args.cursor.now.left _ room.0 none.0
-    (untaken (λ z. expr c.args.depth (room_of c.in_ok-inside.inside) 0 (at c.args.links.now z.left)) c.args.cursor.now c.eat.new.cursor _ none.1 c.in_err-first.ensures.gives))
+    rw (p.1, p.2) (sub_fails (expr c.args.depth) (room_of c.args.room) (room_of c.in_ok-inside.inside) _ c.args.cursor.now.left _ _ room.0 none.0
+    (untaken (λ z. expr c.args.depth (room_of c.in_ok-inside.inside) 0 (at c.args.links.now z.left)) c.args.cursor.now c.eat.new.cursor _ _ none.1 c.in_err-first.ensures.gives))
 
 pub subscripts::read_subscript-returns-then-eat-2-clause-gives : goal.subscripts::read_subscript-returns-then-eat-2-clause-gives
 subscripts::read_subscript-returns-then-eat-2-clause-gives t c =
@@ -33,7 +34,7 @@ subscripts::read_subscript-returns-then-eat-2-clause-gives t c =
     let none = rw c.if-eat.false at c.eat.ensures in
     let (t, read, is) = c.in_ok-first.ensures.gives in
     let colon = rw c.if-eat-2.true at c.eat-2.ensures in
-    let first = subst (λ z. expr c.args.depth (room_of c.in_ok-inside.inside) 0 (at c.args.links.now z.left) ≡ Some (t, at c.expression.new.links c.expression.new.cursor.left)) none.1 read in
+    let first = subst (λ z. expr c.args.depth (room_of c.in_ok-inside.inside) 0 (at c.args.links.now z.left) ≡ found (t, at c.expression.new.links c.expression.new.cursor.left)) none.1 read in
     read_alike c.args.room.scope.in_loop c.in_ok-inside.inside.scope.in_loop c.slice-then-eat-2.new.cursor.span c.slice-then-eat-2.result _ _ _ (ap (λ s. s.in_loop) room.1)
     (sub_sliced (expr c.args.depth) (room_of c.args.room) (room_of c.in_ok-inside.inside) _ _ c.args.cursor.now.left c.expression.new.cursor.left c.eat-2.new.cursor.left t c.eat-2.new.cursor.span room.0 none.0 first colon.0)
     (c.slice-then-eat-2.ensures.gives (present t) c.eat-2.new.cursor.span (ap OneExpr is))
@@ -44,10 +45,10 @@ subscripts::read_subscript-returns-in_err-expect-clause-gives t c =
     let none = rw c.if-eat.false at c.eat.ensures in
     let (t, read, is) = c.in_ok-first.ensures.gives in
     let alone = rw c.if-eat-2.false at c.eat-2.ensures in
-    let first = subst (λ z. expr c.args.depth (room_of c.in_ok-inside.inside) 0 (at c.args.links.now z.left) ≡ Some (t, at c.expression.new.links c.expression.new.cursor.left)) none.1 read in
+    let first = subst (λ z. expr c.args.depth (room_of c.in_ok-inside.inside) 0 (at c.args.links.now z.left) ≡ found (t, at c.expression.new.links c.expression.new.cursor.left)) none.1 read in
     let p = err_from_is_err_and c.from_residual-in_err-expect.result c.from_residual-in_err-expect.ensures.1 in
-    rw (p.1, p.2) (index_unclosed (expr c.args.depth) (room_of c.args.room) (room_of c.in_ok-inside.inside) _ _ c.args.cursor.now.left c.expression.new.cursor.left t _ room.0 none.0 first alone.0
-    (untaken (λ z. takes RightBracket z.left) c.expression.new.cursor c.eat-2.new.cursor _ alone.1 c.in_err-expect.ensures.gives))
+    rw (p.1, p.2) (index_unclosed (expr c.args.depth) (room_of c.args.room) (room_of c.in_ok-inside.inside) _ _ c.args.cursor.now.left c.expression.new.cursor.left t _ _ room.0 none.0 first alone.0
+    (untaken (λ z. takes RightBracket z.left) c.expression.new.cursor c.eat-2.new.cursor _ _ alone.1 c.in_err-expect.ensures.gives))
 
 pub subscripts::read_subscript-returns-clause-gives : goal.subscripts::read_subscript-returns-clause-gives
 subscripts::read_subscript-returns-clause-gives t c =
@@ -55,8 +56,8 @@ subscripts::read_subscript-returns-clause-gives t c =
     let none = rw c.if-eat.false at c.eat.ensures in
     let (t, read, is) = c.in_ok-first.ensures.gives in
     let alone = rw c.if-eat-2.false at c.eat-2.ensures in
-    let first = subst (λ z. expr c.args.depth (room_of c.in_ok-inside.inside) 0 (at c.args.links.now z.left) ≡ Some (t, at c.expression.new.links c.expression.new.cursor.left)) none.1 read in
-    let closed = subst (λ z. takes RightBracket z.left ≡ Some (c.expect.new.cursor.span, c.expect.new.cursor.left)) alone.1 c.in_ok-expect.ensures.gives in (
+    let first = subst (λ z. expr c.args.depth (room_of c.in_ok-inside.inside) 0 (at c.args.links.now z.left) ≡ found (t, at c.expression.new.links c.expression.new.cursor.left)) none.1 read in
+    let closed = subst (λ z. takes RightBracket z.left ≡ found (c.expect.new.cursor.span, c.expect.new.cursor.left)) alone.1 c.in_ok-expect.ensures.gives in (
       index t c.expect.new.cursor.span,
       index_given (expr c.args.depth) (room_of c.args.room) (room_of c.in_ok-inside.inside) _ _ c.args.cursor.now.left c.expression.new.cursor.left c.expect.new.cursor.left t c.expect.new.cursor.span room.0 none.0 first alone.0 closed,
       (indexed_alike c.args.room.scope.in_loop c.in_ok-inside.inside.scope.in_loop c.in_ok-first.first t c.expect.new.cursor.span (ap (λ s. s.in_loop) room.1) is, refl),
@@ -65,20 +66,20 @@ subscripts::read_subscript-returns-clause-gives t c =
 pub subscripts::slice-returns-in_err-end-clause-gives : goal.subscripts::slice-returns-in_err-end-clause-gives
 subscripts::slice-returns-in_err-end-clause-gives t c = λ a s is.
     let p = err_from_is_err_and c.from_residual.result c.from_residual.ensures.1 in
-    rw (p.1, p.2) (slice_without_end (expr c.args.depth) (room_of c.args.room) a s _ _ c.in_err-end.ensures.gives)
+    rw (p.1, p.2) (slice_without_end (expr c.args.depth) (room_of c.args.room) a s _ _ _ c.in_err-end.ensures.gives)
 
 pub subscripts::slice-returns-in_err-step-clause-gives : goal.subscripts::slice-returns-in_err-step-clause-gives
 subscripts::slice-returns-in_err-step-clause-gives t c = λ a s is.
     let p = err_from_is_err_and c.from_residual-in_err-step.result c.from_residual-in_err-step.ensures.1 in
     let (b, ends, shows) = c.in_ok-end.ensures.gives in
-    rw (p.1, p.2) (slice_without_step (expr c.args.depth) (room_of c.args.room) a s _ _ b _ ends c.in_err-step.ensures.gives)
+    rw (p.1, p.2) (slice_without_step (expr c.args.depth) (room_of c.args.room) a s _ _ b _ _ ends c.in_err-step.ensures.gives)
 
 pub subscripts::slice-returns-in_err-expect-clause-gives : goal.subscripts::slice-returns-in_err-expect-clause-gives
 subscripts::slice-returns-in_err-expect-clause-gives t c = λ a s is.
     let p = err_from_is_err_and c.from_residual-in_err-expect.result c.from_residual-in_err-expect.ensures.1 in
     let (b, ends, shows) = c.in_ok-end.ensures.gives in
     let (x, stepped, steps) = c.in_ok-step.ensures.gives in
-    rw (p.1, p.2) (slice_unclosed (expr c.args.depth) (room_of c.args.room) a s _ _ _ _ b x _ ends stepped c.in_err-expect.ensures.gives)
+    rw (p.1, p.2) (slice_unclosed (expr c.args.depth) (room_of c.args.room) a s _ _ _ _ b x _ _ ends stepped c.in_err-expect.ensures.gives)
 
 pub subscripts::slice-returns-clause-gives : goal.subscripts::slice-returns-clause-gives
 subscripts::slice-returns-clause-gives t c = λ a s is.

@@ -1,11 +1,13 @@
 -- Of suffixes and their arguments.
-use Rattle.std.proofs.Common.{◌≡◌, ap, sym, subst, ◌∙◌, arith, false, Some, ap₂, refl, rules, []}
+use Rattle.tera_grammar.specs.expressions.Reading.Bracketed.{arguments_of}
+use Rattle.std.proofs.Common.{◌≡◌, ap, sym, subst, ◌∙◌, arith, false, ap₂, refl, rules, []}
 use Rattle.std.proofs.lemmas.Result.{err_from_is_err_and}
+use Rattle.tera_grammar.specs.Reads.{found}
 use Rattle.tera_ast.specs.Tree as tree
 use Rattle.tera_ast.specs.View.{expression_view, args_view}
 use Rattle.tera_ast.specs.declared.ast.UnaryOperator.TheVariants as unary
-use Rattle.tera_grammar.specs.Options.{◌>>=◌}
-use Rattle.tera_grammar.specs.expressions.Concrete.{Subscript, Test, plainly, negated, no_args, of_arguments, ended}
+use Rattle.tera_grammar.specs.Reads.{◌>>=◌}
+use Rattle.tera_grammar.specs.expressions.Concrete.{Subscript, Test, plainly, negated, no_args}
 use Rattle.tera_grammar.specs.expressions.Reading.Front.{at}
 use Rattle.tera_grammar.specs.expressions.Reading.Loop.{expr, suffix_in}
 use Rattle.tera_grammar.specs.expressions.Spans.{spanning}
@@ -16,11 +18,10 @@ use Rattle.tera_expr_parts.specs.Fronts.{ending_of}
 use Rattle.tera_expr_parts.specs.Rooms.{room_of}
 use Rattle.tera_expr_parts.specs.CommaLists.{reader_of, reader_by}
 use Rattle.tera_expect.specs.Taking.{name_at}
-use Rattle.tera_expr_reader.proofs.ArgumentsLemmas.{Arguing, Argued, none_yet, none_at_all}
-use Rattle.tera_expr_reader.proofs.ArgumentRows.{no_new_name, lacks_assign, lacks_value, lacks_end, one_argument, arguments_given}
+use Rattle.tera_expr_reader.proofs.ArgumentRows.{arguments_begun, no_new_name, lacks_assign, lacks_value, lacks_end, one_argument}
 use Rattle.tera_expr_reader.proofs.CallsLemmas.{subscript_is, test_is, negated_is, test_fails, test_made, call_given, call_unnamed, call_fails, no_arguments, arguments_after}
 use Rattle.tera_expect.proofs.TakingLemmas.{took_size, took_all, goes_size, refused_after, refused_further}
-use Rattle.tera_expr_reader.proofs.RowsLemmas.{begun, gone_begun, gone_on, fresh_given}
+use Rattle.tera_expr_reader.proofs.RowsLemmas.{gone_begun, gone_on, fresh_given}
 use Rattle.tera_expr_reader.proofs.+reader.Goals as goal
 
 pub calls::suffix-returns-in_ok-with_subscript-in-Subscript-clause-gives : goal.calls::suffix-returns-in_ok-with_subscript-in-Subscript-clause-gives
@@ -32,7 +33,7 @@ calls::suffix-returns-in_ok-with_subscript-in-Subscript-clause-gives t c =
     let left = expression_view c.args.left in
     let (b, read, shows) = c.in_ok-item-in-Subscript.ensures.gives in (
       Subscript s b,
-      ap (λ g. suffix_in f w (ending_of g s) p) c.in-Subscript.is ∙ subscript_is f w s p ∙ ap (λ o. o >>= λ b. Some (Subscript s b.0, b.1)) read,
+      ap (λ g. suffix_in f w (ending_of g s) p) c.in-Subscript.is ∙ subscript_is f w s p ∙ ap (λ o. o >>= λ b. found (Subscript s b.0, b.1)) read,
       c.in_ok-with_subscript-in-Subscript.ensures ∙ ap (λ z. subscripted c.in_ok-item-in-Subscript.item false left z) c.current_span-last.ensures.span ∙ shows.0 false left,
       shows.1,
     )
@@ -40,7 +41,7 @@ calls::suffix-returns-in_ok-with_subscript-in-Subscript-clause-gives t c =
 pub calls::test-returns-in_err-call-clause-gives : goal.calls::test-returns-in_err-call-clause-gives
 calls::test-returns-in_err-call-clause-gives t c =
     let p = err_from_is_err_and c.from_residual.result c.from_residual.ensures.1 in
-    rw (p.1, p.2) (test_fails (reader_of c.args.values) (room_of c.args.values.room) c.args.cursor.now.span _ c.eat-negated.result c.args.cursor.now c.eat-negated.new.cursor _ c.eat-negated.ensures c.in_err-call.ensures.gives)
+    rw (p.1, p.2) (test_fails (reader_of c.args.values) (room_of c.args.values.room) c.args.cursor.now.span _ c.eat-negated.result c.args.cursor.now c.eat-negated.new.cursor _ _ c.eat-negated.ensures c.in_err-call.ensures.gives)
 
 pub calls::test-returns-then-not-negated-clause-gives : goal.calls::test-returns-then-not-negated-clause-gives
 calls::test-returns-then-not-negated-clause-gives t c =
@@ -50,7 +51,7 @@ calls::test-returns-then-not-negated-clause-gives t c =
     let (x, read, shows) = c.in_ok-call.ensures.gives in
     let s = c.args.cursor.now.span in (
       Test s plainly x.name x.args,
-      test_is f w s _ c.args.cursor.now.left not.0 ∙ ap (λ o. o >>= λ x. Some (Test s plainly x.0.name x.0.args, x.1)) (ap (λ p. call_of f w (at c.args.links.now p.left)) (sym not.1) ∙ read),
+      test_is f w s _ c.args.cursor.now.left not.0 ∙ ap (λ o. o >>= λ x. found (Test s plainly x.0.name x.0.args, x.1)) (ap (λ p. call_of f w (at c.args.links.now p.left)) (sym not.1) ∙ read),
       c.in_ok-test.ensures ∙ test_made _ _ c.in_ok-call.call x (expression_view c.args.left) shows,
       shows.3,
     )
@@ -64,7 +65,7 @@ calls::test-returns-clause-gives t c =
     let s = c.args.cursor.now.span in
     let t = c.eat-negated.new.cursor.span in (
       Test s (negated t) x.name x.args,
-      negated_is f w s t _ c.args.cursor.now.left c.eat-negated.new.cursor.left not.0 ∙ ap (λ o. o >>= λ x. Some (Test s (negated t) x.0.name x.0.args, x.1)) read,
+      negated_is f w s t _ c.args.cursor.now.left c.eat-negated.new.cursor.left not.0 ∙ ap (λ o. o >>= λ x. found (Test s (negated t) x.0.name x.0.args, x.1)) read,
       c.in_ok-negation.ensures ∙ ap₂ (λ a b. tree.UnaryOperation unary.Not a b) (c.in_ok-test.ensures ∙ test_made _ _ c.in_ok-call.call x (expression_view c.args.left) shows)
           (ap (λ b. spanning c.args.start.now b) (c.current_span.ensures.span ∙ shows.3)),
       shows.3,
@@ -73,12 +74,12 @@ calls::test-returns-clause-gives t c =
 pub calls::read_call-returns-in_err-name-clause-gives : goal.calls::read_call-returns-in_err-name-clause-gives
 calls::read_call-returns-in_err-name-clause-gives t c =
     let p = err_from_is_err_and c.from_residual.result c.from_residual.ensures.1 in
-    rw (p.1, p.2) (call_unnamed (reader_of c.args.values) (room_of c.args.values.room) _ c.args.cursor.now.left _ c.in_err-name.ensures.gives)
+    rw (p.1, p.2) (call_unnamed (reader_of c.args.values) (room_of c.args.values.room) _ c.args.cursor.now.left _ _ c.in_err-name.ensures.gives)
 
 pub calls::read_call-returns-in_err-kwargs-clause-gives : goal.calls::read_call-returns-in_err-kwargs-clause-gives
 calls::read_call-returns-in_err-kwargs-clause-gives t c =
     let p = err_from_is_err_and c.from_residual-in_err-kwargs.result c.from_residual-in_err-kwargs.ensures.1 in
-    rw (p.1, p.2) (call_fails (reader_of c.args.values) (room_of c.args.values.room) _ c.args.cursor.now.left c.name.new.cursor.left (name_at c.name.new.cursor.span c.in_ok-name.name) _ c.in_ok-name.ensures.gives c.in_err-kwargs.ensures.gives)
+    rw (p.1, p.2) (call_fails (reader_of c.args.values) (room_of c.args.values.room) _ c.args.cursor.now.left c.name.new.cursor.left (name_at c.name.new.cursor.span c.in_ok-name.name) _ _ c.in_ok-name.ensures.gives c.in_err-kwargs.ensures.gives)
 
 pub calls::read_call-returns-clause-gives : goal.calls::read_call-returns-clause-gives
 calls::read_call-returns-clause-gives t c =
@@ -109,10 +110,7 @@ arguments::arguments-elements-init t c =
     let l = c.args.values.room.scope.in_loop in
     let none : c.new-arguments.result.entries ≡ [] = search rules in
     record {
-      rows = begun c.args.values (room_of c.args.values.room) of_arguments c.args.links.now c.args.cursor.now c.eat-open.new.cursor c.eat-open.result
-          (Arguing l (args_view c.new-arguments.result.entries)) (Argued l (args_view c.new-arguments.result.entries) c.eat-open.new.cursor.span) c.eat-open.ensures
-          (subst (λ es. Arguing l (args_view es) (λ r. r)) (sym none) (none_yet l))
-          (subst (λ es. Argued l (args_view es) c.eat-open.new.cursor.span (ended c.eat-open.new.cursor.span)) (sym none) (none_at_all l c.eat-open.new.cursor.span));
+      rows = arguments_begun l c.args.values (room_of c.args.values.room) c.args.links.now c.args.cursor.now c.eat-open.new.cursor c.eat-open.result (args_view c.new-arguments.result.entries) (ap args_view none) c.eat-open.ensures;
       gone = gone_begun c.eat-open.result c.args.cursor.now c.eat-open.new.cursor _ c.eat-open.ensures;
     }
 
@@ -120,30 +118,30 @@ pub arguments::arguments-returns-in_err-name-clause-gives : goal.arguments::argu
 arguments::arguments-returns-in_err-name-clause-gives t c =
     let o = rw c.elements-test.true at c.elements.invariant.rows in
     let p = err_from_is_err_and c.from_residual.result c.from_residual.ensures.1 in
-    rw (p.1, p.2) (no_new_name c.args.values.room.scope.in_loop (args_view c.elements.arguments.entries) (reader_of c.args.values) (room_of c.args.values.room) (at c.args.links.now c.args.cursor.now.left)
-    c.elements.links c.elements.cursor.left _ o c.in_err-name.ensures.gives)
+    rw (p.1, p.2) (no_new_name c.args.values.room.scope.in_loop (args_view c.elements.arguments.entries) c.args.values (room_of c.args.values.room) (arguments_of (reader_of c.args.values) (room_of c.args.values.room) (at c.args.links.now c.args.cursor.now.left))
+    c.elements.links c.elements.cursor.left o _ _ c.in_err-name.ensures.gives)
 
 pub arguments::arguments-returns-in_err-expect-clause-gives : goal.arguments::arguments-returns-in_err-expect-clause-gives
 arguments::arguments-returns-in_err-expect-clause-gives t c =
     let o = rw c.elements-test.true at c.elements.invariant.rows in
     let p = err_from_is_err_and c.from_residual-in_err-expect.result c.from_residual-in_err-expect.ensures.1 in
-    rw (p.1, p.2) (lacks_assign c.args.values.room.scope.in_loop (args_view c.elements.arguments.entries) c.args.values (room_of c.args.values.room) (at c.args.links.now c.args.cursor.now.left)
-    c.elements.links c.elements.cursor.left o c.argument_name.new.cursor.left (name_at c.argument_name.new.cursor.span c.in_ok-name.name) c.in_ok-name.ensures.gives _ c.in_err-expect.ensures.gives)
+    rw (p.1, p.2) (lacks_assign c.args.values.room.scope.in_loop (args_view c.elements.arguments.entries) c.args.values (room_of c.args.values.room) (arguments_of (reader_of c.args.values) (room_of c.args.values.room) (at c.args.links.now c.args.cursor.now.left))
+    c.elements.links c.elements.cursor.left o c.argument_name.new.cursor.left (name_at c.argument_name.new.cursor.span c.in_ok-name.name) c.in_ok-name.ensures.gives _ _ c.in_err-expect.ensures.gives)
 
 pub arguments::arguments-returns-in_err-value-clause-gives : goal.arguments::arguments-returns-in_err-value-clause-gives
 arguments::arguments-returns-in_err-value-clause-gives t c =
     let o = rw c.elements-test.true at c.elements.invariant.rows in
     let p = err_from_is_err_and c.from_residual-in_err-value.result c.from_residual-in_err-value.ensures.1 in
-    rw (p.1, p.2) (lacks_value c.args.values.room.scope.in_loop (args_view c.elements.arguments.entries) c.args.values (room_of c.args.values.room) (at c.args.links.now c.args.cursor.now.left)
+    rw (p.1, p.2) (lacks_value c.args.values.room.scope.in_loop (args_view c.elements.arguments.entries) c.args.values (room_of c.args.values.room) (arguments_of (reader_of c.args.values) (room_of c.args.values.room) (at c.args.links.now c.args.cursor.now.left))
     c.elements.links c.elements.cursor.left o c.argument_name.new.cursor.left (name_at c.argument_name.new.cursor.span c.in_ok-name.name) c.in_ok-name.ensures.gives
-    c.expect.new.cursor.left c.expect.new.cursor.span c.in_ok-expect.ensures.gives _ c.in_err-value.ensures.gives)
+    c.expect.new.cursor.left c.expect.new.cursor.span c.in_ok-expect.ensures.gives _ _ c.in_err-value.ensures.gives)
 
 pub arguments::arguments-returns-in_err-open-clause-gives : goal.arguments::arguments-returns-in_err-open-clause-gives
 arguments::arguments-returns-in_err-open-clause-gives t c =
     let o = rw c.elements-test.true at c.elements.invariant.rows in
     let (t, read, shown) = c.in_ok-value.ensures.gives in
     let p = err_from_is_err_and c.from_residual-in_err-open.result c.from_residual-in_err-open.ensures.1 in
-    rw (p.1, p.2) (lacks_end c.args.values.room.scope.in_loop (args_view c.elements.arguments.entries) c.args.values (room_of c.args.values.room) (at c.args.links.now c.args.cursor.now.left)
+    rw (p.1, p.2) (lacks_end c.args.values.room.scope.in_loop (args_view c.elements.arguments.entries) c.args.values (room_of c.args.values.room) (arguments_of (reader_of c.args.values) (room_of c.args.values.room) (at c.args.links.now c.args.cursor.now.left))
     c.elements.links c.elements.cursor.left o c.argument_name.new.cursor.left (name_at c.argument_name.new.cursor.span c.in_ok-name.name) c.in_ok-name.ensures.gives
     c.expect.new.cursor.left c.expect.new.cursor.span c.in_ok-expect.ensures.gives t c.value.new.links c.value.new.cursor.left read c.more.new.cursor _ c.in_err-open.ensures.gives)
 
@@ -151,8 +149,8 @@ pub arguments::arguments-returns-in_err-open-clause-refusal : goal.arguments::ar
 arguments::arguments-returns-in_err-open-clause-refusal t c =
     let before = rw c.elements-test.true at c.elements.invariant.gone in
     let p = err_from_is_err_and c.from_residual-in_err-open.result c.from_residual-in_err-open.ensures.1 in
-    rw (p.1, p.2) (refused_further _ c.elements.cursor _ before
-    (refused_after _ _ _ (took_all _ _ _ c.in_ok-name.ensures.later (took_all _ _ _ c.in_ok-expect.ensures.later c.in_ok-value.ensures.later)) c.in_err-open.ensures.refusal))
+    rw (p.1, p.2) (refused_further _ c.elements.cursor _ _ before
+    (refused_after _ _ _ _ (took_all _ _ _ c.in_ok-name.ensures.later (took_all _ _ _ c.in_ok-expect.ensures.later c.in_ok-value.ensures.later)) c.in_err-open.ensures.refusal))
 
 pub arguments::arguments-elements-preserved : goal.arguments::arguments-elements-preserved
 arguments::arguments-elements-preserved t c =
@@ -160,7 +158,7 @@ arguments::arguments-elements-preserved t c =
     let before = rw c.elements-test.true at c.elements.invariant.gone in
     let (t, read, shown) = c.in_ok-value.ensures.gives in
     record {
-      rows = one_argument c.args.values.room.scope.in_loop (args_view c.elements.arguments.entries) c.args.values (room_of c.args.values.room) (at c.args.links.now c.args.cursor.now.left)
+      rows = one_argument c.args.values.room.scope.in_loop (args_view c.elements.arguments.entries) c.args.values (room_of c.args.values.room) (arguments_of (reader_of c.args.values) (room_of c.args.values.room) (at c.args.links.now c.args.cursor.now.left))
           c.elements.links c.elements.cursor.left o c.argument_name.new.cursor.left (name_at c.argument_name.new.cursor.span c.in_ok-name.name) c.in_ok-name.ensures.gives
           c.expect.new.cursor.left c.expect.new.cursor.span c.in_ok-expect.ensures.gives t c.value.new.links c.value.new.cursor.left read c.more.new.cursor c.in_ok-open.open c.in_ok-open.ensures.gives
           (expression_view c.in_ok-value.value) shown (args_view c.put_argument.new.arguments.entries) c.in_ok-put_argument.ensures.puts;
@@ -177,7 +175,7 @@ pub arguments::arguments-returns-clause-gives : goal.arguments::arguments-return
 arguments::arguments-returns-clause-gives t c =
     let z = rw c.elements-test.false at c.elements.invariant.rows in (
       z.row,
-      arguments_given (reader_of c.args.values) (room_of c.args.values.room) (at c.args.links.now c.args.cursor.now.left) (at c.elements.links c.elements.cursor.left) z.row z.reads z.is.distinct,
+      z.reads,
       (z.is.shows, z.is.ends),
     )
 

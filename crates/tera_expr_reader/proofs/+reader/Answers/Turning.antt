@@ -1,9 +1,9 @@
 -- Of expressions that are taken turn by turn.
-use Rattle.std.proofs.Common.{◌≡◌, length, ap, sym, subst, ◌∙◌, inr, arith}
+use Rattle.std.proofs.Common.{◌≡◌, length, ap, sym, subst, ◌∙◌, arith}
 use Rattle.std.proofs.lemmas.Result.{err_from_is_err_and}
 use Rattle.tera_lexer.specs.code.Cursors.{Position}
 use Rattle.tera_ast.specs.View.{expression_view}
-use Rattle.tera_grammar.proofs.expressions.Stack.{unframed, pushed, unwind_none, keeps_as, refuses_all}
+use Rattle.tera_grammar.proofs.expressions.Stack.{unframed, pushed, keeps_as, refuses_all}
 use Rattle.tera_grammar.specs.expressions.Reading.Front.{at, front}
 use Rattle.tera_grammar.specs.expressions.Stack.{comes_to, coming, unwind}
 use Rattle.tera_expr_reader.specs.Frames.{frame_view, state_view, Went, level_view, operand_view, HoldsNegatable}
@@ -12,7 +12,7 @@ use Rattle.tera_expr_parts.specs.Rooms.{room_of}
 use Rattle.tera_expect.specs.Taking.{GoesOn}
 use Rattle.tera_expect.proofs.TakingLemmas.{stays, goes_took, took_further, refused_further, goes_size}
 use Rattle.tera_expr_reader.proofs.LoneLemmas.{lone_read}
-use Rattle.tera_expr_reader.proofs.StackLemmas.{went_goes, took_went, closes_up, joins_more, no_link_joins, no_link_closes, chooses_more, grows_by, grows_not, goes_no_further}
+use Rattle.tera_expr_reader.proofs.StackLemmas.{went_goes, took_went, closes_up, joins_more, no_link_joins, no_link_closes, chooses_more, grows_by, grows_not, astray}
 use Rattle.tera_expr_reader.proofs.+reader.Goals as goal
 
 pub stack::expression-turn-requires : goal.stack::expression-turn-requires
@@ -40,12 +40,12 @@ stack::expression-returns-in-Some-clause-gives t c =
 pub stack::expression-returns-in_err-next-in-Needs-clause-refusal : goal.stack::expression-returns-in_err-next-in-Needs-clause-refusal
 stack::expression-returns-in_err-next-in-Needs-clause-refusal t c =
     let p = err_from_is_err_and c.from_residual-in_err-next-in-Needs.result c.from_residual-in_err-next-in-Needs.ensures.1 in
-    rw (p.1, p.2) (refused_further _ c.steps.cursor _ (went_goes c.steps.state _ _ c.steps.invariant.went) c.in_err-next-in-Needs.ensures.refusal)
+    rw (p.1, p.2) (refused_further _ c.steps.cursor _ _ (went_goes c.steps.state _ _ c.steps.invariant.went) c.in_err-next-in-Needs.ensures.refusal)
 
 pub stack::expression-returns-in_err-next-in-Holds-clause-refusal : goal.stack::expression-returns-in_err-next-in-Holds-clause-refusal
 stack::expression-returns-in_err-next-in-Holds-clause-refusal t c =
     let p = err_from_is_err_and c.from_residual-in_err-next-in-Holds.result c.from_residual-in_err-next-in-Holds.ensures.1 in
-    rw (p.1, p.2) (refused_further _ c.steps.cursor _ (went_goes c.steps.state _ _ c.steps.invariant.went) c.in_err-next-in-Holds.ensures.refusal)
+    rw (p.1, p.2) (refused_further _ c.steps.cursor _ _ (went_goes c.steps.state _ _ c.steps.invariant.went) c.in_err-next-in-Holds.ensures.refusal)
 
 pub stack::expression-steps-preserved-in_ok-next-in-Needs : goal.stack::expression-steps-preserved-in_ok-next-in-Needs
 stack::expression-steps-preserved-in_ok-next-in-Needs t c = record {
@@ -73,15 +73,16 @@ stack::turn-returns-then-stops-clause-keeps t c =
 pub stack::turn-returns-in_err-count_operator-in-Joins-clause-keeps : goal.stack::turn-returns-in_err-count_operator-in-Joins-clause-keeps
 stack::turn-returns-in_err-count_operator-in-Joins-clause-keeps t c =
     let p = err_from_is_err_and c.from_residual.result c.from_residual.ensures.1 in
-    rw (p.1, p.2) (refuses_all frame_view _ _ _ _
+    rw (p.1, p.2) (refuses_all frame_view _ _ _ _ _
     (no_link_joins (room_of c.args.room) (level_view c.args.level) (operand_view c.args.left) (at c.args.links.now c.args.cursor.now.left) _ (operator_of c.in-Joins.operator) c.in-Joins.negated
     (ap front_kind (sym c.in-Joins.is) ∙ c.at-front.ensures) (sym c.if-stops.false ∙ c.stops.ensures ∙ ap (keeps_off c.args.level.least) c.at-front.ensures)
+    c.count_operator.new.cursor.left (λ single. ap (λ (p : Position). p.left) (c.in_err-count_operator-in-Joins.ensures.single single)) c.in_err-count_operator-in-Joins.ensures.takes
     c.in_err-count_operator-in-Joins.ensures.fails))
 
 pub stack::turn-returns-in_err-count_link-in-Closes-clause-keeps : goal.stack::turn-returns-in_err-count_link-in-Closes-clause-keeps
 stack::turn-returns-in_err-count_link-in-Closes-clause-keeps t c =
     let p = err_from_is_err_and c.from_residual-in_err-count_link-in-Closes.result c.from_residual-in_err-count_link-in-Closes.ensures.1 in
-    rw (p.1, p.2) (refuses_all frame_view _ _ _ _
+    rw (p.1, p.2) (refuses_all frame_view _ _ _ _ _
     (no_link_closes (room_of c.args.room) (level_view c.args.level) (operand_view c.args.left) (at c.args.links.now c.args.cursor.now.left) _ c.in-Closes.ending
     (ap front_kind (sym c.in-Closes.is) ∙ c.at-front.ensures) (sym c.if-stops.false ∙ c.stops.ensures ∙ ap (keeps_off c.args.level.least) c.at-front.ensures)
     c.in_err-count_link-in-Closes.ensures.fails))
@@ -89,7 +90,7 @@ stack::turn-returns-in_err-count_link-in-Closes-clause-keeps t c =
 pub stack::turn-returns-in_err-expr-in-Closes-clause-keeps : goal.stack::turn-returns-in_err-expr-in-Closes-clause-keeps
 stack::turn-returns-in_err-expr-in-Closes-clause-keeps t c =
     let p = err_from_is_err_and c.from_residual-in_err-expr-in-Closes.result c.from_residual-in_err-expr-in-Closes.ensures.1 in
-    rw (p.1, p.2) (refuses_all frame_view _ _ _ _
+    rw (p.1, p.2) (refuses_all frame_view _ _ _ _ _
     (grows_not (room_of c.args.room) (level_view c.args.level) (operand_view c.args.left) (at c.args.links.now c.args.cursor.now.left) _ _ c.take_ending.ensures.past
     (sym c.if-stops.false ∙ c.stops.ensures ∙ ap (keeps_off c.args.level.least) c.at-front.ensures)
     expression_view _ c.suffix.new.cursor.span _ (at c.suffix.new.links c.suffix.new.cursor.left) c.in_ok-count_link-in-Closes.ensures.counts c.in_err-expr-in-Closes.ensures.gives))
@@ -118,6 +119,6 @@ stack::turn-returns-in_ok-expr-in-Closes-clause-keeps t c =
 
 pub stack::turn-returns-in-Nothing-clause-keeps : goal.stack::turn-returns-in-Nothing-clause-keeps
 stack::turn-returns-in-Nothing-clause-keeps t c =
-    inr (ap (unwind frame_view _ _) (goes_no_further (room_of c.args.room) (level_view c.args.level) (operand_view c.args.left) (at c.args.links.now c.args.cursor.now.left) c.at-front.result
-    c.in-Nothing.is c.at-front.ensures (sym c.if-stops.false ∙ c.stops.ensures ∙ ap (keeps_off c.args.level.least) c.at-front.ensures))
-    ∙ unwind_none frame_view _ _)
+    refuses_all frame_view _ _ _ _ _
+    (astray (room_of c.args.room) (level_view c.args.level) (operand_view c.args.left) (at c.args.links.now c.args.cursor.now.left) c.at-front.result c.misplaced_not.new.cursor.left _
+    c.in-Nothing.is c.at-front.ensures (sym c.if-stops.false ∙ c.stops.ensures ∙ ap (keeps_off c.args.level.least) c.at-front.ensures) c.misplaced_not.ensures.takes)

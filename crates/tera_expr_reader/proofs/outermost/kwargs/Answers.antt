@@ -5,9 +5,8 @@ use Rattle.tera_expr_reader.proofs.outermost.kwargs.Goals as goal
 
 pub returns-in_err-expect-clause-gives : goal.returns-in_err-expect-clause-gives
 returns-in_err-expect-clause-gives c =
-    let old = c.args.cursor.now.left in
     let p = err_from_is_err_and c.from_residual.result c.from_residual.ensures.1 in
-    rw (p.1, p.2) (no_paren (limits_of c.args.scope.limits) c.args.scope.in_loop old old 0 _ c.in_err-expect.ensures.gives)
+    rw (p.1, p.2) (no_paren (limits_of c.args.scope.limits) c.args.scope.in_loop c.args.cursor.now.left c.expect.new.cursor.left 0 _ c.in_err-expect.ensures.gives)
 
 pub returns-clause-gives : goal.returns-clause-gives
 returns-clause-gives c =

@@ -1,10 +1,13 @@
-use Rattle.std.proofs.Common.{◌≡◌, ◌∙◌, inr, ap, sym, subst}
+use Rattle.std.proofs.Common.{◌≡◌, ◌∙◌, inl, inr, false, ap, sym, subst}
 use Rattle.std.specs.Option.{option_map}
 use Rattle.std.proofs.lemmas.Result.{err_from_is_err_and}
 use Rattle.tera_base.specs.Errors.{ReportsBy}
 use Rattle.tera_base.specs.ValueView.{value_view}
 use Rattle.tera_lexer.specs.grammar.Place.{IsWithin}
+use Rattle.tera_grammar.specs.Reads.{found}
 use Rattle.tera_grammar.specs.expressions.Marks.{LeftBracket}
+use Rattle.tera_grammar.specs.expressions.Reading.Atoms.{array_of}
+use Rattle.tera_grammar.specs.expressions.Reading.Whole.{outermost, widest}
 use Rattle.tera_grammar.specs.expressions.Reading.Front.{at}
 use Rattle.tera_expr_parts.specs.Folding.{constant_of}
 use Rattle.tera_expr_parts.specs.Ranges.{RunsFrom}
@@ -17,34 +20,39 @@ use Rattle.tera_expr_reader.proofs.outermost.literal_array.Goals as goal
 pub returns-in_err-expect-clause-gives : goal.returns-in_err-expect-clause-gives
 returns-in_err-expect-clause-gives c =
     let p = err_from_is_err_and c.from_residual.result c.from_residual.ensures.1 in
-    rw (p.1, p.2) (no_bracket (limits_of c.args.limits) c.args.cursor.now.left _ c.in_err-expect.ensures.gives)
+    rw (p.1, p.2) (no_bracket (limits_of c.args.limits) c.args.cursor.now.left _ _ c.in_err-expect.ensures.gives)
 
 pub returns-in_err-array-clause-gives : goal.returns-in_err-array-clause-gives
 returns-in_err-array-clause-gives c =
     let mid = c.expect.new.cursor in
     let gives = rw (c.outermost-values.ensures.reader, c.outermost-values.ensures.room) at c.in_err-array.ensures.gives in
     let p = err_from_is_err_and c.from_residual-in_err-array.result c.from_residual-in_err-array.ensures.1 in
-    rw (p.1, p.2) (array_fails (limits_of c.args.limits) c.args.cursor.now.left mid.left mid.span c.in_ok-expect.ensures.gives c.copied-first.result _ gives)
+    let same : c.copied-first.result ≡ mid.span = c.copied-first.ensures ∙ c.current_span.ensures.span in
+    rw (p.1, p.2) (array_fails (limits_of c.args.limits) c.args.cursor.now.left mid.left mid.span c.in_ok-expect.ensures.gives c.copied-first.result _ _ same gives)
 
 pub returns-in-Some-clause-gives : goal.returns-in-Some-clause-gives
 returns-in-Some-clause-gives c =
     let mid = c.expect.new.cursor in
     let new = c.array.new.cursor.left in
     let gives = rw (c.outermost-values.ensures.reader, c.outermost-values.ensures.room, c.outermost-values.ensures.scope) at c.in_ok-array.ensures.gives in
-    let (t, read, shown, ends) = gives in
+    let (t, reads, shown, ends) = gives in
+    let same : c.copied-first.result ≡ mid.span = c.copied-first.ensures ∙ c.current_span.ensures.span in
+    let read = subst (λ s. array_of (outermost (limits_of c.args.limits)) (widest (limits_of c.args.limits) false) s (at 0 mid.left) ≡ found (t, at c.array.new.links c.array.new.cursor.left)) same reads in
     let is = sym (ap (option_map value_view) c.in-Some.is) ∙ c.constant.ensures ∙ ap constant_of shown in
     array_given (limits_of c.args.limits) c.args.cursor.now.left new c.in-Some.value
-    (array_comes (limits_of c.args.limits) c.args.cursor.now.left mid.left mid.span c.in_ok-expect.ensures.gives c.copied-first.result
+    (array_comes (limits_of c.args.limits) c.args.cursor.now.left mid.left mid.span c.in_ok-expect.ensures.gives
     t (at c.array.new.links new) read (value_view c.in-Some.value) is)
 
 pub returns-in-None-clause-gives : goal.returns-in-None-clause-gives
 returns-in-None-clause-gives c =
     let mid = c.expect.new.cursor in
     let gives = rw (c.outermost-values.ensures.reader, c.outermost-values.ensures.room, c.outermost-values.ensures.scope) at c.in_ok-array.ensures.gives in
-    let (t, read, shown, ends) = gives in
+    let (t, reads, shown, ends) = gives in
+    let same : c.copied-first.result ≡ mid.span = c.copied-first.ensures ∙ c.current_span.ensures.span in
+    let read = subst (λ s. array_of (outermost (limits_of c.args.limits)) (widest (limits_of c.args.limits) false) s (at 0 mid.left) ≡ found (t, at c.array.new.links c.array.new.cursor.left)) same reads in
     let is = sym (ap (option_map value_view) c.in-None.is) ∙ c.constant.ensures ∙ ap constant_of shown in
-    inr (no_array_comes (limits_of c.args.limits) c.args.cursor.now.left mid.left mid.span c.in_ok-expect.ensures.gives c.copied-first.result
-    t (at c.array.new.links c.array.new.cursor.left) read is)
+    inr (inl (no_array_comes (limits_of c.args.limits) c.args.cursor.now.left mid.left mid.span c.in_ok-expect.ensures.gives
+    t (at c.array.new.links c.array.new.cursor.left) read is))
 
 pub array_not_constant-requires : goal.array_not_constant-requires
 array_not_constant-requires c =

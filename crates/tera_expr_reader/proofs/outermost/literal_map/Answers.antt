@@ -1,4 +1,4 @@
-use Rattle.std.proofs.Common.{◌≡◌, ◌∙◌, inr, ap, sym, subst}
+use Rattle.std.proofs.Common.{◌≡◌, ◌∙◌, inl, inr, ap, sym, subst}
 use Rattle.std.specs.Option.{option_map}
 use Rattle.std.proofs.lemmas.Result.{err_from_is_err_and}
 use Rattle.tera_base.specs.Errors.{ReportsBy}
@@ -17,14 +17,14 @@ use Rattle.tera_expr_reader.proofs.outermost.literal_map.Goals as goal
 pub returns-in_err-expect-clause-gives : goal.returns-in_err-expect-clause-gives
 returns-in_err-expect-clause-gives c =
     let p = err_from_is_err_and c.from_residual.result c.from_residual.ensures.1 in
-    rw (p.1, p.2) (no_brace (limits_of c.args.limits) c.args.cursor.now.left _ c.in_err-expect.ensures.gives)
+    rw (p.1, p.2) (no_brace (limits_of c.args.limits) c.args.cursor.now.left _ _ c.in_err-expect.ensures.gives)
 
 pub returns-in_err-map-clause-gives : goal.returns-in_err-map-clause-gives
 returns-in_err-map-clause-gives c =
     let mid = c.expect.new.cursor in
     let gives = rw (c.outermost-values.ensures.reader, c.outermost-values.ensures.room) at c.in_err-map.ensures.gives in
     let p = err_from_is_err_and c.from_residual-in_err-map.result c.from_residual-in_err-map.ensures.1 in
-    rw (p.1, p.2) (map_fails (limits_of c.args.limits) c.args.cursor.now.left mid.left mid.span c.in_ok-expect.ensures.gives c.copied-first.result _ gives)
+    rw (p.1, p.2) (map_fails (limits_of c.args.limits) c.args.cursor.now.left mid.left mid.span c.in_ok-expect.ensures.gives c.copied-first.result _ _ gives)
 
 pub returns-in-Some-clause-gives : goal.returns-in-Some-clause-gives
 returns-in-Some-clause-gives c =
@@ -43,8 +43,8 @@ returns-in-None-clause-gives c =
     let gives = rw (c.outermost-values.ensures.reader, c.outermost-values.ensures.room, c.outermost-values.ensures.scope) at c.in_ok-map.ensures.gives in
     let (t, read, shown, ends) = gives in
     let is = sym (ap (option_map value_view) c.in-None.is) ∙ c.constant.ensures ∙ ap constant_of shown in
-    inr (no_map_comes (limits_of c.args.limits) c.args.cursor.now.left mid.left mid.span c.in_ok-expect.ensures.gives c.copied-first.result
-    t (at c.map.new.links c.map.new.cursor.left) read is)
+    inr (inl (no_map_comes (limits_of c.args.limits) c.args.cursor.now.left mid.left mid.span c.in_ok-expect.ensures.gives c.copied-first.result
+    t (at c.map.new.links c.map.new.cursor.left) read is))
 
 pub map_not_constant-requires : goal.map_not_constant-requires
 map_not_constant-requires c =

@@ -1,4 +1,4 @@
-use Rattle.tera_grammar.proofs.expressions.Wholes.{kwargs_found, kwargs_read}
+use Rattle.tera_grammar.proofs.Readings.{kwargs_found, kwargs_read}
 use Rattle.tera_grammar.proofs.expressions.Only.{kwargs_one}
 use Rattle.tera_grammar.proofs.laws.arguments.Goals as goal
 

@@ -1,4 +1,4 @@
-use Rattle.tera_grammar.proofs.expressions.Wholes.{attributes_found_whole, attributes_read_whole}
+use Rattle.tera_grammar.proofs.Readings.{attributes_found_whole, attributes_read_whole}
 use Rattle.tera_grammar.proofs.expressions.Only.{attributes_one, attributes_end}
 use Rattle.tera_grammar.proofs.laws.attributes.Goals as goal
 

@@ -1,4 +1,4 @@
-use Rattle.tera_grammar.proofs.expressions.Wholes.{path_found, path_read}
+use Rattle.tera_grammar.proofs.Readings.{path_found, path_read}
 use Rattle.tera_grammar.proofs.expressions.Only.{path_one, path_end}
 use Rattle.tera_grammar.proofs.laws.component_names.Goals as goal
 

@@ -1,4 +1,4 @@
-use Rattle.tera_grammar.proofs.statements.Tops.{template_sound, template_complete}
+use Rattle.tera_grammar.proofs.Readings.{template_sound, template_complete}
 use Rattle.tera_grammar.proofs.laws.each_is_read.Goals as goal
 
 pub returns : goal.returns

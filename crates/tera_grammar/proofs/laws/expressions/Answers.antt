@@ -1,6 +1,7 @@
 use Rattle.tera_lexer.specs.grammar.Tokens.{Ended}
 use Rattle.tera_grammar.proofs.expressions.Fronts.{ends_stop}
-use Rattle.tera_grammar.proofs.expressions.Wholes.{expression_found, expression_read, expression_one, ends_ended}
+use Rattle.tera_grammar.proofs.expressions.Wholes.{expression_one, ends_ended}
+use Rattle.tera_grammar.proofs.Readings.{expression_found, expression_read}
 use Rattle.tera_grammar.proofs.laws.expressions.Goals as goal
 
 pub returns : goal.returns

@@ -1,4 +1,4 @@
-use Rattle.tera_grammar.proofs.expressions.Wholes.{filter_found, filter_read_whole}
+use Rattle.tera_grammar.proofs.Readings.{filter_found, filter_read_whole}
 use Rattle.tera_grammar.proofs.expressions.Only.{filter_one, filter_end}
 use Rattle.tera_grammar.proofs.laws.filters.Goals as goal
 

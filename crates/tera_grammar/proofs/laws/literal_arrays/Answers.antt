@@ -1,4 +1,4 @@
-use Rattle.tera_grammar.proofs.expressions.Wholes.{literal_array_found, literal_array_read}
+use Rattle.tera_grammar.proofs.Readings.{literal_array_found, literal_array_read}
 use Rattle.tera_grammar.proofs.expressions.Only.{literal_array_one}
 use Rattle.tera_grammar.proofs.laws.literal_arrays.Goals as goal
 

@@ -1,4 +1,4 @@
-use Rattle.tera_grammar.proofs.expressions.Wholes.{literal_map_found, literal_map_read}
+use Rattle.tera_grammar.proofs.Readings.{literal_map_found, literal_map_read}
 use Rattle.tera_grammar.proofs.expressions.Only.{literal_map_one}
 use Rattle.tera_grammar.proofs.laws.literal_maps.Goals as goal
 

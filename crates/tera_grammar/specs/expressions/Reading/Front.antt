@@ -7,8 +7,8 @@ use Rattle.tera_lexer.specs.grammar.Tokens.{Tok, Items, Token, Ident, Symbol}
 use Rattle.tera_grammar.specs.expressions.Operators.{Mul, Div, Mod, Plus, Minus, FloorDiv, Power, LessThan, GreaterThan, LessThanOrEqual, GreaterThanOrEqual, Equal, NotEqual, And, Or, StrConcat, In}
 use Rattle.tera_grammar.specs.expressions.Marks.{Mark, mark_token, LeftParen, LeftBracket, QuestionBracket, LeftBrace, Dot, QuestionDot, Bar, Not, Is, If, Operation, Other}
 use Rattle.tera_grammar.specs.expressions.Concrete.{Name, Quote, Simple, Escaped, Lit, Number, Quoted, Truth, Op, Single, NotIn, Joint, plain_dot, optional_dot, Bracket, plain_bracket, optional_bracket}
-use Rattle.tera_grammar.specs.Options.{◌>>=◌}
 use Rattle.tera_grammar.specs.expressions.Powers.{op_left, test_power, filter_power}
+use Rattle.tera_grammar.specs.Reads.{Read, found, stopped, Takes, first_as}
 
 -- Where the reading is: how many links may still come, and the tokens that are not yet taken.
 pub record Place : Type 0 where
@@ -17,10 +17,6 @@ pub record Place : Type 0 where
 
 abbrev pub at : ℕ → Items → Place
 at k ts = record { links = k; tokens = ts }
-
--- what is read, and the place after it
-abbrev pub Reads : Type 0 → Type 0
-Reads A = Option (A × Place)
 
 abbrev pub same_token : Tok → Tok → Bool
 same_token (Ident a) (Ident b) = bytes_eq a b
@@ -32,42 +28,14 @@ abbrev pub among : List Mark → Tok → Mark
 among [] t = Other
 among (m ∷ ms) t = cond (same_token t (mark_token m)) m (among ms t)
 
--- what the tokens begin with, and the tokens after it
-abbrev pub Takes : Type 0 → Type 0
-Takes A = Option (A × Items)
-
 -- a mark
 abbrev pub begins : Mark → Items → Bool
 begins m (Token t s us) = same_token t (mark_token m)
 begins m _ = false
 
-abbrev pub takes : Mark → Items → Takes Span
-takes m (Token t s us) = cond (same_token t (mark_token m)) (Some (s, us)) None
-takes m _ = None
-
-abbrev pub moved : {A : Type 0} → ℕ → Takes A → Reads A
-moved k None = None
-moved k (Some x) = Some (x.0, at k x.1)
-
--- a mark that has to be there
-unfoldable pub skip : Mark → Place → Reads Span
-skip m p = moved p.links (takes m p.tokens)
-
 abbrev pub lowered : ℕ → Option ℕ
 lowered zero = None
 lowered (suc n) = Some n
-
--- one link more, where one may still come
-unfoldable pub bump : Place → Option Place
-bump p = lowered p.links >>= λ k. Some (at k p.tokens)
-
--- a name
-abbrev pub taken_name : Items → Takes Name
-taken_name (Token (Ident w) s us) = Some (record { text = w; span = s }, us)
-taken_name _ = None
-
-unfoldable pub name_of : Place → Reads Name
-name_of p = moved p.links (taken_name p.tokens)
 
 -- what a token is: a literal, a string
 abbrev pub literal_of : Tok → Option Lit
@@ -81,20 +49,6 @@ abbrev pub quote_of : Tok → Option Quote
 quote_of (toks.Str text) = Some (Simple text)
 quote_of (toks.Escaped text) = Some (Escaped text)
 quote_of _ = None
-
--- what the first token is, with its span
-abbrev pub taken_as : {A : Type 0} → (Tok → Option A) → Items → Takes (A × Span)
-taken_as kind (Token t s us) = kind t >>= λ x. Some ((x, s), us)
-taken_as kind _ = None
-
-abbrev pub taken_quote : Items → Takes (Quote × Span)
-taken_quote items = taken_as quote_of items
-
-unfoldable pub literal_at : Place → Reads (Lit × Span)
-literal_at p = moved p.links (taken_as literal_of p.tokens)
-
-unfoldable pub quote_at : Place → Reads (Quote × Span)
-quote_at p = moved p.links (taken_quote p.tokens)
 
 -- how a link begins, with the tokens after it; a call is none
 pub data Link : Type 0 where
@@ -126,13 +80,6 @@ pub data Lead : Type 0 where
 pub data Ending : Type 0 where
   ends_test ends_filter ends_subscript : Span → Ending
 
--- what the tokens after an operand begin with; a `not` that is not a `not in` is misplaced
-pub data Front : Type 0 where
-  nothing : Front
-  joins : Lead → Items → Front
-  closes : Ending → Items → Front
-  misplaced : Front
-
 abbrev pub lead_power : Lead → ℕ
 lead_power (leads_binary o) = op_left o
 lead_power (leads_condition s) = 0
@@ -151,9 +98,76 @@ front_marks =
     ∷ Operation Mul
     ∷ Operation Div ∷ Operation Mod ∷ Operation StrConcat ∷ Operation FloorDiv ∷ Operation Power ∷ []
 
-abbrev pub front_not : Span → Option (Span × Items) → Front
-front_not s None = misplaced
-front_not s (Some x) = joins (leads_binary (NotIn s x.0)) x.1
+-- how an operand begins, where it is not a name and no literal
+abbrev pub head_marks : List Mark
+head_marks = Operation Minus ∷ LeftParen ∷ LeftBracket ∷ LeftBrace ∷ Operation LessThan ∷ []
+
+unfoldable pub head_mark : Tok → Mark
+head_mark t = among head_marks t
+
+-- the tokens begin with a prefix
+unfoldable pub begins_sign : Items → Bool
+begins_sign (Token t s us) = cond (same_token t (mark_token Not)) true (same_token t (mark_token (Operation Minus)))
+begins_sign _ = false
+
+-- what is read, and the place after it
+abbrev pub Reads : Type 0 → Type 0
+Reads A = Read (A × Place)
+
+abbrev pub moved : {A : Type 0} → ℕ → Takes A → Reads A
+moved k (stopped z) = stopped z
+moved k (found x) = found (x.0, at k x.1)
+
+-- which kinds of tokens there are: a mark, a name, a literal, a string
+abbrev pub mark_kind : Mark → Tok → Span → Option Span
+mark_kind m t s = cond (same_token t (mark_token m)) (Some s) None
+
+abbrev pub name_kind : Tok → Span → Option Name
+name_kind (Ident w) s = Some (record { text = w; span = s })
+name_kind _ s = None
+
+abbrev pub placed : {A : Type 0} → Span → Option A → Option (A × Span)
+placed s None = None
+placed s (Some x) = Some (x, s)
+
+abbrev pub literal_kind : Tok → Span → Option (Lit × Span)
+literal_kind t s = placed s (literal_of t)
+
+abbrev pub quote_kind : Tok → Span → Option (Quote × Span)
+quote_kind t s = placed s (quote_of t)
+
+abbrev pub takes : Mark → Items → Takes Span
+takes m ts = first_as (mark_kind m) ts
+
+abbrev pub taken_name : Items → Takes Name
+taken_name ts = first_as name_kind ts
+
+abbrev pub taken_quote : Items → Takes (Quote × Span)
+taken_quote ts = first_as quote_kind ts
+
+unfoldable pub skip : Mark → Place → Reads Span
+skip m p = moved p.links (takes m p.tokens)
+
+unfoldable pub name_of : Place → Reads Name
+name_of p = moved p.links (taken_name p.tokens)
+
+unfoldable pub literal_at : Place → Reads (Lit × Span)
+literal_at p = moved p.links (first_as literal_kind p.tokens)
+
+unfoldable pub quote_at : Place → Reads (Quote × Span)
+quote_at p = moved p.links (taken_quote p.tokens)
+
+-- What the tokens after an operand begin with; a `not` that is not a `not in` is misplaced, which the token after it
+-- shows.
+pub data Front : Type 0 where
+  nothing : Front
+  joins : Lead → Items → Front
+  closes : Ending → Items → Front
+  misplaced : Items → Front
+
+abbrev pub front_not : Span → Takes Span → Front
+front_not s (stopped z) = misplaced z
+front_not s (found x) = joins (leads_binary (NotIn s x.0)) x.1
 
 abbrev pub marked_front : Mark → Span → Items → Front
 marked_front (Operation o) s us = joins (leads_binary (Single o s)) us
@@ -170,15 +184,3 @@ front_of_token t s us = marked_front (among front_marks t) s us
 abbrev pub front : Items → Front
 front (Token t s us) = front_of_token t s us
 front _ = nothing
-
--- how an operand begins, where it is not a name and no literal
-abbrev pub head_marks : List Mark
-head_marks = Operation Minus ∷ LeftParen ∷ LeftBracket ∷ LeftBrace ∷ Operation LessThan ∷ []
-
-unfoldable pub head_mark : Tok → Mark
-head_mark t = among head_marks t
-
--- the tokens begin with a prefix
-unfoldable pub begins_sign : Items → Bool
-begins_sign (Token t s us) = cond (same_token t (mark_token Not)) true (same_token t (mark_token (Operation Minus)))
-begins_sign _ = false

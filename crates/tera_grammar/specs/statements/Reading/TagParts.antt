@@ -1,11 +1,11 @@
 -- Reading the parts of tags.
-use Rattle.std.specs.Prelude.{ℕ, true, false, if◌then◌else◌, List, [], ◌∷◌, Option, Some, None}
+use Rattle.std.specs.Prelude.{ℕ, true, false, if◌then◌else◌, List, [], ◌∷◌, Option, Some, None, cond}
 use Rattle.tera_base.specs.declared.utils.Span.{Span}
 use Rattle.tera_lexer.specs.grammar.Tokens.{Tok, Items, Ended, Failed, Token, Content, Start, Finish}
 use Rattle.tera_lexer.specs.declared.lexer.delimiters.Kind.TheVariants as kind
-use Rattle.tera_grammar.specs.Options.{◌>>=◌, guard}
 use Rattle.tera_grammar.specs.statements.TagParts.{Edge, Name, Tag, Opener, OpensSet, OpensInclude, OpensExtends, OpensBlock, OpensFor, OpensIf, OpensFilter, OpensComponent, OpensBreak, OpensContinue, OpensCall, opener_token, Closer, AtElif, AtElse, AtEndSet, AtEndBlock, AtEndFor, AtEndIf, AtEndFilter, AtEndComponent, AtEndCall, closer_token}
-use Rattle.tera_grammar.specs.expressions.Reading.Front.{same_token, taken_name, Takes}
+use Rattle.tera_grammar.specs.expressions.Reading.Front.{same_token, taken_name}
+use Rattle.tera_grammar.specs.Reads.{found, stopped, ◌>>=◌, Takes, first_as}
 
 abbrev pub openers : List Opener
 openers =
@@ -67,42 +67,50 @@ front Ended = Ends
 front (Failed text span) = Wrong
 front (Token t span items) = front_at t span items
 
--- a name, where one is there
-abbrev pub name_if_found : Items → Option (Name × Items) → Option Name × Items
-name_if_found items None = (None, items)
-name_if_found items (Some n) = (Some n.0, n.1)
-
-abbrev pub name_if_any : Items → Option Name × Items
-name_if_any items = name_if_found items (taken_name items)
-
--- the end of a tag, and of a variable tag
-abbrev pub finish_at : Tok → Span → Items → Takes Edge
-finish_at (Finish kind.Block dash) span items = Some (record { dash = dash; span = span }, items)
-finish_at t span items = None
-
-abbrev pub finish_of : Items → Takes Edge
-finish_of (Token t span items) = finish_at t span items
-finish_of items = None
-
-abbrev pub variable_end_at : Tok → Span → Items → Takes Edge
-variable_end_at (Finish kind.Variable dash) span items = Some (record { dash = dash; span = span }, items)
-variable_end_at t span items = None
-
-abbrev pub variable_end_of : Items → Takes Edge
-variable_end_of (Token t span items) = variable_end_at t span items
-variable_end_of items = None
-
 abbrev pub tag : Edge → Span → Edge → Tag
 tag start first finish = record { start = start; first = first; finish = finish }
 
+-- Where reading stops that knows nothing of what is there: after the start of a tag, before its first token; and else
+-- before the token.
+abbrev pub wrong_after : Tok → Span → Items → Items
+wrong_after (Start kind.Block dash) s us = us
+wrong_after t s us = Token t s us
+
+abbrev pub wrong_at : Items → Items
+wrong_at (Token t s us) = wrong_after t s us
+wrong_at ts = ts
+
+-- a name, where one is there
+abbrev pub name_if_found : Items → Takes Name → Takes (Option Name)
+name_if_found items (stopped z) = found (None, items)
+name_if_found items (found n) = found (Some n.0, n.1)
+
+abbrev pub name_if_any : Items → Takes (Option Name)
+name_if_any items = name_if_found items (taken_name items)
+
+-- the end of a tag, and of a variable tag
+abbrev pub finish_kind : Tok → Span → Option Edge
+finish_kind (Finish kind.Block dash) span = Some (record { dash = dash; span = span })
+finish_kind t span = None
+
+abbrev pub variable_end_kind : Tok → Span → Option Edge
+variable_end_kind (Finish kind.Variable dash) span = Some (record { dash = dash; span = span })
+variable_end_kind t span = None
+
+abbrev pub finish_of : Items → Takes Edge
+finish_of items = first_as finish_kind items
+
+abbrev pub variable_end_of : Items → Takes Edge
+variable_end_of items = first_as variable_end_kind items
+
 -- the start of a tag, with this closing token
-abbrev pub closed_at : Closer → Front → Takes (Edge × Span)
-closed_at c (Closes x start span items) = guard (same_token (closer_token x) (closer_token c)) >>= λ u. Some ((start, span), items)
-closed_at c front = None
+unfoldable pub closed_at : Closer → Items → Front → Takes (Edge × Span)
+closed_at c ts (Closes x start span items) = cond (same_token (closer_token x) (closer_token c)) (found ((start, span), items)) (stopped (wrong_at ts))
+closed_at c ts front = stopped (wrong_at ts)
 
 abbrev pub closed : Closer → Items → Takes (Edge × Span)
-closed c items = closed_at c (front items)
+closed c items = closed_at c items (front items)
 
 -- a tag that holds this closing token alone
 abbrev pub closed_tag : Closer → Items → Takes Tag
-closed_tag c items = closed c items >>= λ x. finish_of x.1 >>= λ f. Some (tag x.0.0 x.0.1 f.0, f.1)
+closed_tag c items = closed c items >>= λ x. finish_of x.1 >>= λ f. found (tag x.0.0 x.0.1 f.0, f.1)

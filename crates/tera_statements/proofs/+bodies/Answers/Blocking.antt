@@ -1,5 +1,5 @@
 -- Of blocks and definitions.
-use Rattle.std.proofs.Common.{◌∙◌, ap, sym, string_bytes}
+use Rattle.std.proofs.Common.{◌∙◌, ap, sym, string_bytes, inl}
 use Rattle.std.proofs.lemmas.Result.{err_from_is_err_and}
 use Rattle.tera_ast.specs.Tree as tree
 use Rattle.tera_ast.specs.View.{nodes_of}
@@ -17,20 +17,20 @@ use Rattle.tera_statements.proofs.+bodies.Goals as goal
 pub blocks::block-returns-in_err-check_block-clause-gives : goal.blocks::block-returns-in_err-check_block-clause-gives
 blocks::block-returns-in_err-check_block-clause-gives t c = λ path represents start.
     let p = err_from_is_err_and c.from_residual.result c.from_residual.ensures.1 in
-    rw (p.1, p.2) (fails_by _ _ (λ h. barred _ path start _ _ _ (sym represents.block ∙ h)) c.in_err-check_block.ensures.fails)
+    rw (p.1, p.2) (fails_by _ _ _ (λ h. inl (barred _ path start _ _ _ (sym represents.block ∙ h))) c.in_err-check_block.ensures.fails)
 
 pub blocks::block-returns-in_err-name-clause-gives : goal.blocks::block-returns-in_err-name-clause-gives
 blocks::block-returns-in_err-name-clause-gives t c = λ path represents start.
     let p = err_from_is_err_and c.from_residual-in_err-name.result c.from_residual-in_err-name.ensures.1 in
     let may = sym represents.block ∙ c.in_ok-check_block.ensures.represents in
-    rw (p.1, p.2) (failed_as _ _ _ (λ h. block_unnamed _ path start _ (seen_of c.args.names.now) _ may h) c.in_err-name.ensures.gives)
+    rw (p.1, p.2) (failed_as _ _ _ _ (λ z h. block_unnamed _ path start _ (seen_of c.args.names.now) _ may z h) c.in_err-name.ensures.gives)
 
 pub blocks::block-returns-in_err-finish-clause-gives : goal.blocks::block-returns-in_err-finish-clause-gives
 blocks::block-returns-in_err-finish-clause-gives t c = λ path represents start.
     let p = err_from_is_err_and c.from_residual-in_err-finish.result c.from_residual-in_err-finish.ensures.1 in
     let may = sym represents.block ∙ c.in_ok-check_block.ensures.represents in
     let (n, named, is) = c.in_ok-name.ensures.gives in
-    rw (p.1, p.2) (failed_as _ _ _ (λ h. block_unfinished _ path start _ (seen_of c.args.names.now) _ may n _ named h) c.in_err-finish.ensures.gives)
+    rw (p.1, p.2) (failed_as _ _ _ _ (λ z h. block_unfinished _ path start _ (seen_of c.args.names.now) _ may n _ named z h) c.in_err-finish.ensures.gives)
 
 pub blocks::block-returns-in_err-inside-clause-gives : goal.blocks::block-returns-in_err-inside-clause-gives
 blocks::block-returns-in_err-inside-clause-gives t c = λ path represents start.
@@ -40,7 +40,7 @@ blocks::block-returns-in_err-inside-clause-gives t c = λ path represents start.
     let (f, ended) = c.in_ok-finish.ensures.gives in
     let seen = seen_of c.args.names.now in
     let kept = block_kept seen (located_of c.new_block.new.blocks) n (c.in_ok-name.ensures.kept ∙ same_place seen.blocks is.0 is.1) in
-    rw (p.1, p.2) (failed_as _ _ _ (λ h. block_empty _ path start _ seen _ may n _ named f _ ended (rw (sym kept) h)) (c.in_err-inside.ensures.gives path represents))
+    rw (p.1, p.2) (failed_as _ _ _ _ (λ z h. block_empty _ path start _ seen _ may n _ named f _ ended z (rw (sym kept) h)) (c.in_err-inside.ensures.gives path represents))
 
 pub blocks::block-returns-in_err-block_end-clause-gives : goal.blocks::block-returns-in_err-block_end-clause-gives
 blocks::block-returns-in_err-block_end-clause-gives t c = λ path represents start.
@@ -51,7 +51,7 @@ blocks::block-returns-in_err-block_end-clause-gives t c = λ path represents sta
     let seen = seen_of c.args.names.now in
     let kept = block_kept seen (located_of c.new_block.new.blocks) n (c.in_ok-name.ensures.kept ∙ same_place seen.blocks is.0 is.1) in
     let (b, inside, shows) = c.in_ok-inside.ensures.gives path represents in
-    rw (p.1, p.2) (failed_as _ _ _ (λ h. block_unclosed _ path start _ seen _ may n _ named f _ ended b (here c.body.new.names c.body.new.cursor) (rw (sym kept) inside) h) (c.in_err-block_end.ensures.gives n (sym is.0)))
+    rw (p.1, p.2) (failed_as _ _ _ _ (λ z h. block_unclosed _ path start _ seen _ may n _ named f _ ended b (here c.body.new.names c.body.new.cursor) (rw (sym kept) inside) z h) (c.in_err-block_end.ensures.gives n (sym is.0)))
 
 pub blocks::block-returns-clause-gives : goal.blocks::block-returns-clause-gives
 blocks::block-returns-clause-gives t c = λ path represents start.
@@ -72,13 +72,13 @@ blocks::block-returns-clause-gives t c = λ path represents start.
 pub blocks::definition-returns-in_err-check_definition-clause-gives : goal.blocks::definition-returns-in_err-check_definition-clause-gives
 blocks::definition-returns-in_err-check_definition-clause-gives t c = λ path represents start.
     let p = err_from_is_err_and c.from_residual.result c.from_residual.ensures.1 in
-    rw (p.1, p.2) (fails_by _ _ (λ h. nested _ _ path start _ _ _ (sym represents.outermost ∙ h)) c.in_err-check_definition.ensures.fails)
+    rw (p.1, p.2) (fails_by _ _ _ (λ h. inl (nested _ _ path start _ _ _ (sym represents.outermost ∙ h))) c.in_err-check_definition.ensures.fails)
 
 pub blocks::definition-returns-in_err-opened-clause-gives : goal.blocks::definition-returns-in_err-opened-clause-gives
 blocks::definition-returns-in_err-opened-clause-gives t c = λ path represents start.
     let p = err_from_is_err_and c.from_residual-in_err-opened.result c.from_residual-in_err-opened.ensures.1 in
     let may = sym represents.outermost ∙ c.in_ok-check_definition.ensures.represents in
-    rw (p.1, p.2) (failed_as _ _ _ (λ h. unopened _ _ path start _ (seen_of c.args.names.now) _ may h) c.in_err-opened.ensures.gives)
+    rw (p.1, p.2) (failed_as _ _ _ _ (λ z h. unopened _ _ path start _ (seen_of c.args.names.now) _ may z h) c.in_err-opened.ensures.gives)
 
 pub blocks::definition-returns-in_err-inside-clause-gives : goal.blocks::definition-returns-in_err-inside-clause-gives
 blocks::definition-returns-in_err-inside-clause-gives t c = λ path represents start.
@@ -86,7 +86,7 @@ blocks::definition-returns-in_err-inside-clause-gives t c = λ path represents s
     let may = sym represents.outermost ∙ c.in_ok-check_definition.ensures.represents in
     let (o, named, (is, keeps)) = c.in_ok-opened.ensures.gives in
     let seen = seen_of c.args.names.now in
-    rw (p.1, p.2) (failed_as _ _ _ (λ h. definition_empty _ _ path start _ seen _ may o _ named (rw (sym keeps) h)) (c.in_err-inside.ensures.gives path represents))
+    rw (p.1, p.2) (failed_as _ _ _ _ (λ z h. definition_empty _ _ path start _ seen _ may o _ named z (rw (sym keeps) h)) (c.in_err-inside.ensures.gives path represents))
 
 pub blocks::definition-returns-in_err-closing_tag-clause-gives : goal.blocks::definition-returns-in_err-closing_tag-clause-gives
 blocks::definition-returns-in_err-closing_tag-clause-gives t c = λ path represents start.
@@ -95,7 +95,7 @@ blocks::definition-returns-in_err-closing_tag-clause-gives t c = λ path represe
     let (o, named, (is, keeps)) = c.in_ok-opened.ensures.gives in
     let seen = seen_of c.args.names.now in
     let (b, inside, shows) = c.in_ok-inside.ensures.gives path represents in
-    rw (p.1, p.2) (failed_as _ _ _ (λ h. definition_unclosed _ _ path start _ seen _ may o _ named b (here c.body.new.names c.body.new.cursor) (rw (sym keeps) inside) h)
+    rw (p.1, p.2) (failed_as _ _ _ _ (λ z h. definition_unclosed _ _ path start _ seen _ may o _ named b (here c.body.new.names c.body.new.cursor) (rw (sym keeps) inside) z h)
     (c.in_err-closing_tag.ensures.gives start c.args.cursor.now.span o (sym is.0 ∙ sym c.as_str.ensures.value)))
 
 pub blocks::definition-returns-clause-gives : goal.blocks::definition-returns-clause-gives

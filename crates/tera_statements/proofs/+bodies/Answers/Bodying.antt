@@ -1,8 +1,9 @@
 -- Of bodies.
-use Rattle.std.proofs.Common.{◌≡◌, ◌∙◌, ◌∷◌, ◌-◌, suc, Some, inr, map, refl, sym, ap, subst, arith, ◌++◌}
+use Rattle.std.proofs.Common.{◌≡◌, ◌∙◌, ◌∷◌, ◌-◌, suc, inl, inr, map, refl, sym, ap, subst, arith, ◌++◌}
 use Rattle.std.proofs.lemmas.Result.{err_from_is_err_and}
 use Rattle.tera_lexer.specs.code.Cursors.{Position}
 use Rattle.tera_ast.specs.View.{node_view}
+use Rattle.tera_grammar.specs.Reads.{found}
 use Rattle.tera_grammar.specs.statements.Grammar.{Single, Text, in_loop}
 use Rattle.tera_grammar.specs.statements.Output.{added_nodes}
 use Rattle.tera_grammar.specs.statements.Reading.{body}
@@ -19,7 +20,7 @@ use Rattle.tera_expect.proofs.Steps.{failed_as}
 use Rattle.tera_statements.proofs.+bodies.Goals as goal
 
 pub bodies::body-returns-then-depth-eq0-clause-gives : goal.bodies::body-returns-then-depth-eq0-clause-gives
-bodies::body-returns-then-depth-eq0-clause-gives t c = λ path represents. inr (no_depth c.args.depth (limits_of c.args.setting.now.limits) _ _ c.if-depth-eq0.true)
+bodies::body-returns-then-depth-eq0-clause-gives t c = λ path represents. inr (inl (no_depth c.args.depth (limits_of c.args.setting.now.limits) _ _ c.if-depth-eq0.true))
 
 pub bodies::body-items-init : goal.bodies::body-items-init
 bodies::body-items-init t c = record {
@@ -39,8 +40,8 @@ bodies::body-returns-in_err-later-clause-gives t c = λ path represents.
     let p = err_from_is_err_and c.from_residual.result c.from_residual.ensures.1 in
     let deep : c.args.depth ≡ suc (c.args.depth - 1) = omega arith in
     let fact = c.in_err-later.ensures.gives inside (c.inside-inside.ensures.represents path represents) in
-    rw (p.1, p.2) (failed_as _ _ _ (λ h. ap (λ n. body n l inside start) deep
-    ∙ going_refused l (c.args.depth - 1) inside (in_loop inside) start (here c.items.names c.items.cursor) (map node_view c.items.nodes.items) (c.items.invariant.going path represents) h) fact)
+    rw (p.1, p.2) (failed_as _ _ _ _ (λ z h. ap (λ n. body n l inside start) deep
+    ∙ going_refused l (c.args.depth - 1) inside (in_loop inside) start (here c.items.names c.items.cursor) (map node_view c.items.nodes.items) (c.items.invariant.going path represents) z h) fact)
 
 pub bodies::body-items-preserved : goal.bodies::body-items-preserved
 bodies::body-items-preserved t c = record {
@@ -67,7 +68,7 @@ bodies::body-returns-clause-gives t c = λ path represents.
     let gives = rw c.in_default.is at c.in_ok-later.ensures.gives in
     let none = gives inside (c.inside-inside.ensures.represents path represents) in
     let (b, read, shows) = going_ends l (c.args.depth - 1) inside (in_loop inside) start (here c.items.names c.items.cursor) (map node_view c.items.nodes.items) (c.items.invariant.going path represents) none.0 in
-    (b, ap (λ n. body n l inside start) deep ∙ read ∙ ap (λ p. Some (b, p)) (sym none.1), none.2 ∙ shows)
+    (b, ap (λ n. body n l inside start) deep ∙ read ∙ ap (λ p. found (b, p)) (sym none.1), none.2 ∙ shows)
 
 pub bodies::body-returns-clause-later : goal.bodies::body-returns-clause-later
 bodies::body-returns-clause-later t c =
@@ -80,7 +81,7 @@ bodies::next_node-returns-in_ok-push_text-in-Some-clause-gives t c = λ path rep
     let text = c.in-Some.text.now in
     let following = c.eat_text.new.cursor in (
       Single (Text text following.span),
-      step_holds l (body c.args.depth l) path (seen_of c.args.names.now) (front c.args.cursor.now.left) text following.span following.left c.in-Some.ensures.0,
+      step_holds l (body c.args.depth l) path (seen_of c.args.names.now) c.args.cursor.now.left (front c.args.cursor.now.left) text following.span following.left c.in-Some.ensures.0,
       c.in_ok-push_text-in-Some.ensures.pushed,
     )
 

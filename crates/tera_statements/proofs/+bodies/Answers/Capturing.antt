@@ -1,5 +1,5 @@
 -- Of statements that take their body as a value.
-use Rattle.std.proofs.Common.{◌∙◌, refl, sym, ap, inr, false}
+use Rattle.std.proofs.Common.{◌∙◌, refl, sym, ap, inl, inr, false}
 use Rattle.std.proofs.lemmas.Result.{err_from_is_err_and}
 use Rattle.tera_statements.specs.Adding.{seen_of}
 use Rattle.tera_expect.specs.Taking.{name_at}
@@ -17,7 +17,7 @@ use Rattle.tera_statements.proofs.+bodies.Goals as goal
 pub captures::set-returns-in_err-name-clause-gives : goal.captures::set-returns-in_err-name-clause-gives
 captures::set-returns-in_err-name-clause-gives t c = λ path represents start.
     let p = err_from_is_err_and c.from_residual.result c.from_residual.ensures.1 in
-    rw (p.1, p.2) (failed_as _ _ _ (λ h. set_unnamed _ _ path _ start _ _ _ h) c.in_err-name.ensures.gives)
+    rw (p.1, p.2) (failed_as _ _ _ _ (λ z h. set_unnamed _ _ path _ start _ _ _ z h) c.in_err-name.ensures.gives)
 
 pub captures::set-returns-then-eat-clause-gives : goal.captures::set-returns-then-eat-clause-gives
 captures::set-returns-then-eat-clause-gives t c = λ path represents start.
@@ -36,27 +36,27 @@ captures::set-returns-clause-gives t c = λ path represents start.
 pub captures::set_body-returns-in_err-check_set-clause-gives : goal.captures::set_body-returns-in_err-check_set-clause-gives
 captures::set_body-returns-in_err-check_set-clause-gives t c = λ path represents is start first n named.
     let p = err_from_is_err_and c.from_residual.result c.from_residual.ensures.1 in
-    rw (p.1, p.2) (inr (set_without _ _ path _ start first _ n _ c.in_err-check_set.ensures.fails))
+    rw (p.1, p.2) (inr (inl (set_without _ _ path _ start first _ n _ c.in_err-check_set.ensures.fails)))
 
 pub captures::set_body-returns-in_err-filters-clause-gives : goal.captures::set_body-returns-in_err-filters-clause-gives
 captures::set_body-returns-in_err-filters-clause-gives t c = λ path represents is start first n named.
     let p = err_from_is_err_and c.from_residual-in_err-filters.result c.from_residual-in_err-filters.ensures.1 in
     let fact = rw represents.loop at c.in_err-filters.ensures.gives in
-    rw (p.1, p.2) (failed_as _ _ _ (λ h. set_unended _ _ path _ start first _ n _ h) fact)
+    rw (p.1, p.2) (failed_as _ _ _ _ (λ z h. set_unended _ _ path _ start first _ n _ z h) fact)
 
 pub captures::set_body-returns-in_err-inside-clause-gives : goal.captures::set_body-returns-in_err-inside-clause-gives
 captures::set_body-returns-in_err-inside-clause-gives t c = λ path represents is start first n named.
     let p = err_from_is_err_and c.from_residual-in_err-inside.result c.from_residual-in_err-inside.ensures.1 in
     let (x, read, are) = rw represents.loop at c.in_ok-filters.ensures.gives in
     let fact = rw is at (c.in_err-inside.ensures.gives path represents) in
-    rw (p.1, p.2) (failed_as _ _ _ (λ h. set_empty _ _ path _ start first (seen_of c.args.names.now) n _ x _ read h) fact)
+    rw (p.1, p.2) (failed_as _ _ _ _ (λ z h. set_empty _ _ path _ start first (seen_of c.args.names.now) n _ x _ read z h) fact)
 
 pub captures::set_body-returns-in_err-closed_tag-clause-gives : goal.captures::set_body-returns-in_err-closed_tag-clause-gives
 captures::set_body-returns-in_err-closed_tag-clause-gives t c = λ path represents is start first n named.
     let p = err_from_is_err_and c.from_residual-in_err-closed_tag.result c.from_residual-in_err-closed_tag.ensures.1 in
     let (x, read, are) = rw represents.loop at c.in_ok-filters.ensures.gives in
     let (b, inside, shows) = rw is at (c.in_ok-inside.ensures.gives path represents) in
-    rw (p.1, p.2) (failed_as _ _ _ (λ h. set_unclosed _ _ path _ start first (seen_of c.args.names.now) n _ x _ read b _ inside h) c.in_err-closed_tag.ensures.gives)
+    rw (p.1, p.2) (failed_as _ _ _ _ (λ z h. set_unclosed _ _ path _ start first (seen_of c.args.names.now) n _ x _ read b _ inside z h) c.in_err-closed_tag.ensures.gives)
 
 pub captures::set_body-returns-clause-gives : goal.captures::set_body-returns-clause-gives
 captures::set_body-returns-clause-gives t c = λ path represents is start first n named.
@@ -74,20 +74,20 @@ pub captures::section-returns-in_err-filters-clause-gives : goal.captures::secti
 captures::section-returns-in_err-filters-clause-gives t c = λ path represents start.
     let p = err_from_is_err_and c.from_residual.result c.from_residual.ensures.1 in
     let fact = rw represents.loop at c.in_err-filters.ensures.gives in
-    rw (p.1, p.2) (failed_as _ _ _ (λ h. section_unended _ _ path start _ _ _ h) fact)
+    rw (p.1, p.2) (failed_as _ _ _ _ (λ z h. section_unended _ _ path start _ _ _ z h) fact)
 
 pub captures::section-returns-in_err-inside-clause-gives : goal.captures::section-returns-in_err-inside-clause-gives
 captures::section-returns-in_err-inside-clause-gives t c = λ path represents start.
     let p = err_from_is_err_and c.from_residual-in_err-inside.result c.from_residual-in_err-inside.ensures.1 in
     let (x, read, are) = rw represents.loop at c.in_ok-filters.ensures.gives in
-    rw (p.1, p.2) (failed_as _ _ _ (λ h. section_empty _ _ path start _ (seen_of c.args.names.now) _ x _ read h) (c.in_err-inside.ensures.gives path represents))
+    rw (p.1, p.2) (failed_as _ _ _ _ (λ z h. section_empty _ _ path start _ (seen_of c.args.names.now) _ x _ read z h) (c.in_err-inside.ensures.gives path represents))
 
 pub captures::section-returns-in_err-closed_tag-clause-gives : goal.captures::section-returns-in_err-closed_tag-clause-gives
 captures::section-returns-in_err-closed_tag-clause-gives t c = λ path represents start.
     let p = err_from_is_err_and c.from_residual-in_err-closed_tag.result c.from_residual-in_err-closed_tag.ensures.1 in
     let (x, read, are) = rw represents.loop at c.in_ok-filters.ensures.gives in
     let (b, inside, shows) = c.in_ok-inside.ensures.gives path represents in
-    rw (p.1, p.2) (failed_as _ _ _ (λ h. section_unclosed _ _ path start _ (seen_of c.args.names.now) _ x _ read b _ inside h) c.in_err-closed_tag.ensures.gives)
+    rw (p.1, p.2) (failed_as _ _ _ _ (λ z h. section_unclosed _ _ path start _ (seen_of c.args.names.now) _ x _ read b _ inside z h) c.in_err-closed_tag.ensures.gives)
 
 pub captures::section-returns-clause-gives : goal.captures::section-returns-clause-gives
 captures::section-returns-clause-gives t c = λ path represents start.
@@ -102,21 +102,21 @@ captures::section-returns-clause-gives t c = λ path represents start.
 pub captures::call-returns-in_err-name-clause-gives : goal.captures::call-returns-in_err-name-clause-gives
 captures::call-returns-in_err-name-clause-gives t c = λ path represents start.
     let p = err_from_is_err_and c.from_residual.result c.from_residual.ensures.1 in
-    rw (p.1, p.2) (failed_as _ _ _ (λ h. uncalled _ _ path start _ _ _ h) c.in_err-name.ensures.gives)
+    rw (p.1, p.2) (failed_as _ _ _ _ (λ z h. uncalled _ _ path start _ _ _ z h) c.in_err-name.ensures.gives)
 
 pub captures::call-returns-in_err-attributes-clause-gives : goal.captures::call-returns-in_err-attributes-clause-gives
 captures::call-returns-in_err-attributes-clause-gives t c = λ path represents start.
     let p = err_from_is_err_and c.from_residual-in_err-attributes.result c.from_residual-in_err-attributes.ensures.1 in
     let (n, called, is) = c.in_ok-name.ensures.gives in
     let fact = rw represents.loop at c.in_err-attributes.ensures.gives in
-    rw (p.1, p.2) (failed_as _ _ _ (λ h. call_unended _ _ path start _ _ _ n _ called h) fact)
+    rw (p.1, p.2) (failed_as _ _ _ _ (λ z h. call_unended _ _ path start _ _ _ n _ called z h) fact)
 
 pub captures::call-returns-in_err-inside-clause-gives : goal.captures::call-returns-in_err-inside-clause-gives
 captures::call-returns-in_err-inside-clause-gives t c = λ path represents start.
     let p = err_from_is_err_and c.from_residual-in_err-inside.result c.from_residual-in_err-inside.ensures.1 in
     let (n, called, is) = c.in_ok-name.ensures.gives in
     let (x, given, are) = rw represents.loop at c.in_ok-attributes.ensures.gives in
-    rw (p.1, p.2) (failed_as _ _ _ (λ h. call_empty _ _ path start _ (seen_of c.args.names.now) _ n _ called x _ given h) (c.in_err-inside.ensures.gives path represents))
+    rw (p.1, p.2) (failed_as _ _ _ _ (λ z h. call_empty _ _ path start _ (seen_of c.args.names.now) _ n _ called x _ given z h) (c.in_err-inside.ensures.gives path represents))
 
 pub captures::call-returns-in_err-last-clause-gives : goal.captures::call-returns-in_err-last-clause-gives
 captures::call-returns-in_err-last-clause-gives t c = λ path represents start.
@@ -124,7 +124,7 @@ captures::call-returns-in_err-last-clause-gives t c = λ path represents start.
     let (n, called, is) = c.in_ok-name.ensures.gives in
     let (x, given, are) = rw represents.loop at c.in_ok-attributes.ensures.gives in
     let (b, inside, shows) = c.in_ok-inside.ensures.gives path represents in
-    rw (p.1, p.2) (failed_as _ _ _ (λ h. call_unclosed _ _ path start _ (seen_of c.args.names.now) _ n _ called x _ given b _ inside h)
+    rw (p.1, p.2) (failed_as _ _ _ _ (λ z h. call_unclosed _ _ path start _ (seen_of c.args.names.now) _ n _ called x _ given b _ inside z h)
     (c.in_err-last.ensures.gives n (sym is ∙ sym c.as_str.ensures.value)))
 
 pub captures::call-returns-clause-gives : goal.captures::call-returns-clause-gives

@@ -22,20 +22,20 @@ use Rattle.tera_statements.proofs.+bodies.Goals as goal
 pub conditions::condition-returns-in_err-first-clause-gives : goal.conditions::condition-returns-in_err-first-clause-gives
 conditions::condition-returns-in_err-first-clause-gives t c = λ path represents start.
     let p = err_from_is_err_and c.from_residual.result c.from_residual.ensures.1 in
-    rw (p.1, p.2) (failed_as _ _ _ (λ h. no_first _ _ path start _ (seen_of c.args.names.now) _ h) (c.in_err-first.ensures.gives path represents))
+    rw (p.1, p.2) (failed_as _ _ _ _ (λ z h. no_first _ _ path start _ (seen_of c.args.names.now) _ z h) (c.in_err-first.ensures.gives path represents))
 
 pub conditions::condition-returns-in_err-others-clause-gives : goal.conditions::condition-returns-in_err-others-clause-gives
 conditions::condition-returns-in_err-others-clause-gives t c = λ path represents start.
     let p = err_from_is_err_and c.from_residual-in_err-others.result c.from_residual-in_err-others.ensures.1 in
     let (x, one, is) = c.in_ok-first.ensures.gives path represents in
-    rw (p.1, p.2) (failed_as _ _ _ (λ h. no_branches _ _ path start _ (seen_of c.args.names.now) _ x _ one h) (c.in_err-others.ensures.gives path represents))
+    rw (p.1, p.2) (failed_as _ _ _ _ (λ z h. no_branches _ _ path start _ (seen_of c.args.names.now) _ x _ one z h) (c.in_err-others.ensures.gives path represents))
 
 pub conditions::condition-returns-in_err-closed_tag-clause-gives : goal.conditions::condition-returns-in_err-closed_tag-clause-gives
 conditions::condition-returns-in_err-closed_tag-clause-gives t c = λ path represents start.
     let p = err_from_is_err_and c.from_residual-in_err-closed_tag.result c.from_residual-in_err-closed_tag.ensures.1 in
     let (x, one, is) = c.in_ok-first.ensures.gives path represents in
     let (bs, more, are) = c.in_ok-others.ensures.gives path represents in
-    rw (p.1, p.2) (failed_as _ _ _ (λ h. if_unclosed _ _ path start _ (seen_of c.args.names.now) _ x _ one bs _ more h) c.in_err-closed_tag.ensures.gives)
+    rw (p.1, p.2) (failed_as _ _ _ _ (λ z h. if_unclosed _ _ path start _ (seen_of c.args.names.now) _ x _ one bs _ more z h) c.in_err-closed_tag.ensures.gives)
 
 pub conditions::condition-returns-clause-gives : goal.conditions::condition-returns-clause-gives
 conditions::condition-returns-clause-gives t c = λ path represents start.
@@ -51,14 +51,14 @@ pub conditions::read_branch-returns-in_err-condition-clause-gives : goal.conditi
 conditions::read_branch-returns-in_err-condition-clause-gives t c = λ path represents.
     let p = err_from_is_err_and c.from_residual.result c.from_residual.ensures.1 in
     let fact = rw represents.loop at c.in_err-condition.ensures.gives in
-    rw (p.1, p.2) (failed_as _ _ _ (λ h. no_condition (limits_of c.args.setting.now.limits) c.args.depth (InIf ∷ path) (seen_of c.args.names.now) c.args.cursor.now.left h) fact)
+    rw (p.1, p.2) (failed_as _ _ _ _ (λ z h. no_condition (limits_of c.args.setting.now.limits) c.args.depth (InIf ∷ path) (seen_of c.args.names.now) c.args.cursor.now.left z h) fact)
 
 pub conditions::read_branch-returns-in_err-body-clause-gives : goal.conditions::read_branch-returns-in_err-body-clause-gives
 conditions::read_branch-returns-in_err-body-clause-gives t c = λ path represents.
     let p = err_from_is_err_and c.from_residual-in_err-body.result c.from_residual-in_err-body.ensures.1 in
     let (x, read, is) = rw represents.loop at c.in_ok-condition.ensures.gives in
-    rw (p.1, p.2) (failed_as _ _ _ (λ h. condition_empty (limits_of c.args.setting.now.limits) c.args.depth (InIf ∷ path) (seen_of c.args.names.now) c.args.cursor.now.left
-    x c.expression_to_end.new.cursor.left read h) (c.in_err-body.ensures.gives path represents))
+    rw (p.1, p.2) (failed_as _ _ _ _ (λ z h. condition_empty (limits_of c.args.setting.now.limits) c.args.depth (InIf ∷ path) (seen_of c.args.names.now) c.args.cursor.now.left
+    x c.expression_to_end.new.cursor.left read z h) (c.in_err-body.ensures.gives path represents))
 
 pub conditions::read_branch-returns-clause-gives : goal.conditions::read_branch-returns-clause-gives
 conditions::read_branch-returns-clause-gives t c = λ path represents.
@@ -81,7 +81,7 @@ conditions::other_branches-branches-init t c = record {
 pub conditions::other_branches-returns-in_err-take_closer-clause-gives : goal.conditions::other_branches-returns-in_err-take_closer-clause-gives
 conditions::other_branches-returns-in_err-take_closer-clause-gives t c = λ path represents.
     let p = err_from_is_err_and c.from_residual.result c.from_residual.ensures.1 in
-    rw (p.1, p.2) (inl (closed_memory closers.Elif c.branches.cursor.left _ (sym c.closes.ensures ∙ c.branches-test.true) c.in_err-take_closer.ensures.gives))
+    rw (p.1, p.2) (inl (closed_memory closers.Elif c.branches.cursor.left _ _ (sym c.closes.ensures ∙ c.branches-test.true) c.in_err-take_closer.ensures.gives))
 
 pub conditions::other_branches-returns-in_err-branch-clause-gives : goal.conditions::other_branches-returns-in_err-branch-clause-gives
 conditions::other_branches-returns-in_err-branch-clause-gives t c = λ path represents.
@@ -90,8 +90,8 @@ conditions::other_branches-returns-in_err-branch-clause-gives t c = λ path repr
     let p = err_from_is_err_and c.from_residual-in_err-branch.result c.from_residual-in_err-branch.ensures.1 in
     let (x, there) = c.in_ok-take_closer.ensures.gives in
     let so_far = c.branches.invariant.branching path represents in
-    rw (p.1, p.2) (failed_as _ _ _ (λ h. branching_refused l c.args.depth (InIf ∷ path) (in_loop path) (here c.args.names.now c.args.cursor.now) (here c.branches.names c.branches.cursor) _ so_far
-    (no_elif_branch l c.args.depth (InIf ∷ path) seen c.branches.cursor.left c.take_closer.new.cursor.left x there h)) (c.in_err-branch.ensures.gives path represents))
+    rw (p.1, p.2) (failed_as _ _ _ _ (λ z h. branching_refused l c.args.depth (InIf ∷ path) (in_loop path) (here c.args.names.now c.args.cursor.now) (here c.branches.names c.branches.cursor) _ so_far z
+    (no_elif_branch l c.args.depth (InIf ∷ path) seen c.branches.cursor.left c.take_closer.new.cursor.left x there z h)) (c.in_err-branch.ensures.gives path represents))
 
 pub conditions::other_branches-branches-preserved : goal.conditions::other_branches-branches-preserved
 conditions::other_branches-branches-preserved t c = record {
@@ -119,7 +119,7 @@ conditions::other_branches-returns-in_err-otherwise-clause-gives t c = λ path r
     let p = err_from_is_err_and c.from_residual-in_err-otherwise.result c.from_residual-in_err-otherwise.ensures.1 in
     let so_far = c.branches.invariant.branching path represents in
     let none = no_elif_there c.branches.cursor.left (sym c.closes.ensures ∙ c.branches-test.false) in
-    rw (p.1, p.2) (failed_as _ _ _ (λ h. branching_end_refused l c.args.depth (InIf ∷ path) (in_loop path) (here c.args.names.now c.args.cursor.now) (here c.branches.names c.branches.cursor) _ so_far none h)
+    rw (p.1, p.2) (failed_as _ _ _ _ (λ z h. branching_end_refused l c.args.depth (InIf ∷ path) (in_loop path) (here c.args.names.now c.args.cursor.now) (here c.branches.names c.branches.cursor) _ so_far none z h)
     (c.in_err-otherwise.ensures.gives path represents))
 
 pub conditions::other_branches-returns-clause-gives : goal.conditions::other_branches-returns-clause-gives

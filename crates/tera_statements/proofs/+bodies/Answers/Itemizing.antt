@@ -1,5 +1,5 @@
 -- Of items.
-use Rattle.std.proofs.Common.{inr, refl}
+use Rattle.std.proofs.Common.{refl}
 use Rattle.std.proofs.lemmas.Result.{err_from_is_err_and}
 use Rattle.tera_grammar.specs.statements.Reading.{body}
 use Rattle.tera_grammar.specs.statements.Reading.TagParts.{front}
@@ -8,6 +8,7 @@ use Rattle.tera_statements.specs.Kinds.{opener_of}
 use Rattle.tera_expr_parts.specs.Allowed.{limits_of}
 use Rattle.tera_statements.proofs.ItemsLemmas.{opens_item, opens_nothing, step_closed, step_ended, step_wrong}
 use Rattle.tera_statements.proofs.RefusalLemmas.{quiet, wrong_left}
+use Rattle.tera_statements.proofs.Tags.{stops_there}
 use Rattle.tera_expect.proofs.Steps.{failed_as}
 use Rattle.tera_statements.proofs.+bodies.Goals as goal
 
@@ -19,15 +20,15 @@ items::item-returns-in-Ends-clause-gives t c = λ path represents.
 pub items::item-returns-in-Closes-clause-gives : goal.items::item-returns-in-Closes-clause-gives
 items::item-returns-in-Closes-clause-gives t c = λ path represents.
     let l = limits_of c.args.setting.now.limits in
-    (step_closed l (body c.args.depth l) path (seen_of c.args.names.now) _ c.args.cursor.now.left c.in-Closes.ensures, refl)
+    (step_closed l (body c.args.depth l) path (seen_of c.args.names.now) c.args.cursor.now.left _ c.in-Closes.ensures, refl)
 
 pub items::item-returns-in_err-added-in-Opens-clause-gives : goal.items::item-returns-in_err-added-in-Opens-clause-gives
 items::item-returns-in_err-added-in-Opens-clause-gives t c = λ path represents.
     let l = limits_of c.args.setting.now.limits in
     let p = err_from_is_err_and c.from_residual-in_err-added-in-Opens.result c.from_residual-in_err-added-in-Opens.ensures.1 in
     let (start, is) = c.in_ok-enter-in-Opens.ensures.enters in
-    rw (p.1, p.2) (failed_as _ _ _ (λ h. opens_nothing l (body c.args.depth l) path (seen_of c.args.names.now) (front c.args.cursor.now.left) (opener_of c.in-Opens.opener) start
-    c.enter.new.cursor.span c.enter.new.cursor.left is h) (c.in_err-added-in-Opens.ensures.gives path represents start))
+    rw (p.1, p.2) (failed_as _ _ _ _ (λ z h. opens_nothing l (body c.args.depth l) path (seen_of c.args.names.now) c.args.cursor.now.left (front c.args.cursor.now.left) (opener_of c.in-Opens.opener) start
+    c.enter.new.cursor.span c.enter.new.cursor.left is z h) (c.in_err-added-in-Opens.ensures.gives path represents start))
 
 pub items::item-returns-in_ok-added-in-Opens-clause-gives : goal.items::item-returns-in_ok-added-in-Opens-clause-gives
 items::item-returns-in_ok-added-in-Opens-clause-gives t c = λ path represents.
@@ -35,7 +36,7 @@ items::item-returns-in_ok-added-in-Opens-clause-gives t c = λ path represents.
     let (start, is) = c.in_ok-enter-in-Opens.ensures.enters in
     let (i, read, shows) = c.in_ok-added-in-Opens.ensures.gives path represents start in (
       i,
-      opens_item l (body c.args.depth l) path (seen_of c.args.names.now) (front c.args.cursor.now.left) (opener_of c.in-Opens.opener) start
+      opens_item l (body c.args.depth l) path (seen_of c.args.names.now) c.args.cursor.now.left (front c.args.cursor.now.left) (opener_of c.in-Opens.opener) start
           c.enter.new.cursor.span c.enter.new.cursor.left is i _ read,
       shows,
     )
@@ -43,7 +44,7 @@ items::item-returns-in_ok-added-in-Opens-clause-gives t c = λ path represents.
 pub items::item-returns-in-Wrong-clause-gives : goal.items::item-returns-in-Wrong-clause-gives
 items::item-returns-in-Wrong-clause-gives t c = λ path represents.
     let l = limits_of c.args.setting.now.limits in
-    inr (step_wrong l (body c.args.depth l) path (seen_of c.args.names.now) c.args.cursor.now.left c.in-Wrong.ensures)
+    stops_there _ _ _ _ (step_wrong l (body c.args.depth l) path (seen_of c.args.names.now) c.args.cursor.now.left c.in-Wrong.ensures) c.unknown_tag.ensures.stops
 
 pub items::item-returns-in-Wrong-clause-refusal : goal.items::item-returns-in-Wrong-clause-refusal
 items::item-returns-in-Wrong-clause-refusal t c = c.unknown_tag.ensures.inside (wrong_left c.args.cursor.now.left c.in-Wrong.ensures)

@@ -20,20 +20,20 @@ use Rattle.tera_statements.proofs.+bodies.Goals as goal
 pub loops::for_loop-returns-in_err-head-clause-gives : goal.loops::for_loop-returns-in_err-head-clause-gives
 loops::for_loop-returns-in_err-head-clause-gives t c = λ path represents start.
     let p = err_from_is_err_and c.from_residual.result c.from_residual.ensures.1 in
-    rw (p.1, p.2) (failed_as _ _ _ (λ h. loop_unended _ _ path start _ _ _ h) c.in_err-head.ensures.gives)
+    rw (p.1, p.2) (failed_as _ _ _ _ (λ z h. loop_unended _ _ path start _ _ _ z h) c.in_err-head.ensures.gives)
 
 pub loops::for_loop-returns-in_err-inside-clause-gives : goal.loops::for_loop-returns-in_err-inside-clause-gives
 loops::for_loop-returns-in_err-inside-clause-gives t c = λ path represents start.
     let p = err_from_is_err_and c.from_residual-in_err-inside.result c.from_residual-in_err-inside.ensures.1 in
     let (x, head, is) = c.in_ok-head.ensures.gives in
-    rw (p.1, p.2) (failed_as _ _ _ (λ h. loop_empty _ _ path start _ (seen_of c.args.names.now) _ x _ head h) (c.in_err-inside.ensures.gives path represents))
+    rw (p.1, p.2) (failed_as _ _ _ _ (λ z h. loop_empty _ _ path start _ (seen_of c.args.names.now) _ x _ head z h) (c.in_err-inside.ensures.gives path represents))
 
 pub loops::for_loop-returns-in_err-otherwise-clause-gives : goal.loops::for_loop-returns-in_err-otherwise-clause-gives
 loops::for_loop-returns-in_err-otherwise-clause-gives t c = λ path represents start.
     let p = err_from_is_err_and c.from_residual-in_err-otherwise.result c.from_residual-in_err-otherwise.ensures.1 in
     let (x, head, is) = c.in_ok-head.ensures.gives in
     let (b, inside, shows) = c.in_ok-inside.ensures.gives path represents in
-    rw (p.1, p.2) (failed_as _ _ _ (λ h. no_else _ _ path start _ (seen_of c.args.names.now) _ x _ head b _ inside h) (c.in_err-otherwise.ensures.gives path represents))
+    rw (p.1, p.2) (failed_as _ _ _ _ (λ z h. no_else _ _ path start _ (seen_of c.args.names.now) _ x _ head b _ inside z h) (c.in_err-otherwise.ensures.gives path represents))
 
 pub loops::for_loop-returns-in_err-closed_tag-clause-gives : goal.loops::for_loop-returns-in_err-closed_tag-clause-gives
 loops::for_loop-returns-in_err-closed_tag-clause-gives t c = λ path represents start.
@@ -41,7 +41,7 @@ loops::for_loop-returns-in_err-closed_tag-clause-gives t c = λ path represents 
     let (x, head, is) = c.in_ok-head.ensures.gives in
     let (b, inside, shows) = c.in_ok-inside.ensures.gives path represents in
     let (o, other, otherwise) = c.in_ok-otherwise.ensures.gives path represents in
-    rw (p.1, p.2) (failed_as _ _ _ (λ h. loop_unclosed _ _ path start _ (seen_of c.args.names.now) _ x _ head b _ inside o _ other h) c.in_err-closed_tag.ensures.gives)
+    rw (p.1, p.2) (failed_as _ _ _ _ (λ z h. loop_unclosed _ _ path start _ (seen_of c.args.names.now) _ x _ head b _ inside o _ other z h) c.in_err-closed_tag.ensures.gives)
 
 pub loops::for_loop-returns-clause-gives : goal.loops::for_loop-returns-clause-gives
 loops::for_loop-returns-clause-gives t c = λ path represents start.
@@ -57,18 +57,18 @@ loops::for_loop-returns-clause-gives t c = λ path represents start.
 pub loops::else_body-returns-then-not-closes-clause-gives : goal.loops::else_body-returns-then-not-closes-clause-gives
 loops::else_body-returns-then-not-closes-clause-gives t c = λ path represents.
     let none = unclosed closers.Else c.args.cursor.now.left (sym c.closes.ensures ∙ c.if-not-closes.true) in
-    (NoElse, without_else _ _ (seen_of c.args.names.now) c.args.cursor.now.left none, ap (map node_view) c.new.ensures.items)
+    (NoElse, without_else _ _ (seen_of c.args.names.now) c.args.cursor.now.left _ none, ap (map node_view) c.new.ensures.items)
 
 pub loops::else_body-returns-in_err-take_closer-clause-gives : goal.loops::else_body-returns-in_err-take_closer-clause-gives
 loops::else_body-returns-in_err-take_closer-clause-gives t c = λ path represents.
     let p = err_from_is_err_and c.from_residual.result c.from_residual.ensures.1 in
-    rw (p.1, p.2) (inl (closed_memory closers.Else c.args.cursor.now.left _ (sym c.closes.ensures ∙ c.if-not-closes.false) c.in_err-take_closer.ensures.gives))
+    rw (p.1, p.2) (inl (closed_memory closers.Else c.args.cursor.now.left _ _ (sym c.closes.ensures ∙ c.if-not-closes.false) c.in_err-take_closer.ensures.gives))
 
 pub loops::else_body-returns-in_err-finish-clause-gives : goal.loops::else_body-returns-in_err-finish-clause-gives
 loops::else_body-returns-in_err-finish-clause-gives t c = λ path represents.
     let p = err_from_is_err_and c.from_residual-in_err-finish.result c.from_residual-in_err-finish.ensures.1 in
     let (x, there) = c.in_ok-take_closer.ensures.gives in
-    rw (p.1, p.2) (failed_as _ _ _ (λ h. else_unfinished _ _ (seen_of c.args.names.now) c.args.cursor.now.left x _ there h) c.in_err-finish.ensures.gives)
+    rw (p.1, p.2) (failed_as _ _ _ _ (λ z h. else_unfinished _ _ (seen_of c.args.names.now) c.args.cursor.now.left x _ there z h) c.in_err-finish.ensures.gives)
 
 pub loops::else_body-returns-clause-gives : goal.loops::else_body-returns-clause-gives
 loops::else_body-returns-clause-gives t c = λ path represents.

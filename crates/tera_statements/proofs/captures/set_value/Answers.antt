@@ -12,7 +12,7 @@ pub returns-in_err-value-clause-gives : goal.returns-in_err-value-clause-gives
 returns-in_err-value-clause-gives c = λ path represents self start first seen n items named.
     let p = err_from_is_err_and c.from_residual.result c.from_residual.ensures.1 in
     let fact = rw represents.loop at c.in_err-value.ensures.gives in
-    rw (p.1, p.2) (failed_as _ _ _ (λ h. no_value _ self path _ start first seen n items _ _ h) fact)
+    rw (p.1, p.2) (failed_as _ _ _ _ (λ z h. no_value _ self path _ start first seen n items _ _ z h) fact)
 
 pub returns-clause-gives : goal.returns-clause-gives
 returns-clause-gives c = λ path represents self start first seen n items named.

@@ -8,14 +8,14 @@ use Rattle.tera_statements.proofs.components.closing_tag.Goals as goal
 pub returns-in_err-closed-clause-gives : goal.returns-in_err-closed-clause-gives
 returns-in_err-closed-clause-gives c = λ start first o named.
     let p = err_from_is_err_and c.from_residual.result c.from_residual.ensures.1 in
-    rw (p.1, p.2) (failed_as _ _ _ (λ h. no_ending start first o _ h) c.in_err-closed.ensures.gives)
+    rw (p.1, p.2) (failed_as _ _ _ _ (λ z h. no_ending start first o _ z h) c.in_err-closed.ensures.gives)
 
 pub returns-in_err-end_name-clause-gives : goal.returns-in_err-end_name-clause-gives
 returns-in_err-end_name-clause-gives c = λ start first o named.
     let p = err_from_is_err_and c.from_residual-in_err-end_name.result c.from_residual-in_err-end_name.ensures.1 in
     let (x, there) = c.in_ok-closed.ensures.gives in
     let fact = rw (sym named) at c.in_err-end_name.ensures.gives in
-    rw (p.1, p.2) (failed_as _ _ _ (λ h. other_name start first o _ x _ there h) fact)
+    rw (p.1, p.2) (failed_as _ _ _ _ (λ z h. other_name start first o _ x _ there z h) fact)
 
 pub returns-clause-gives : goal.returns-clause-gives
 returns-clause-gives c = λ start first o named.

@@ -1,4 +1,4 @@
-use Rattle.std.proofs.Common.{Some, None, inr, refl, sym, ap, ◌∙◌}
+use Rattle.std.proofs.Common.{Some, None, inr, refl, sym, ap, ◌∙◌, inl}
 use Rattle.std.specs.Str.{bytes_eq}
 use Rattle.tera_grammar.specs.statements.Reading.Components.{end_name_in}
 use Rattle.std.proofs.lemmas.Result.{err_from_is_err_and}
@@ -17,7 +17,7 @@ unfolding end_name_in
 returns-in_err-end-clause-gives c =
     let some = sym c.begins_name.ensures ∙ c.if-not-begins_name.false in
     let p = err_from_is_err_and c.from_residual.result c.from_residual.ensures.1 in
-    rw (p.1, p.2, some) (failed _ _ _ (failed _ _ _ c.in_err-end.ensures.gives))
+    rw (p.1, p.2, some) (failed _ _ _ _ (failed _ _ _ _ c.in_err-end.ensures.gives))
 
 pub returns-then-eq-clause-gives : goal.returns-then-eq-clause-gives
 returns-then-eq-clause-gives c =
@@ -33,4 +33,4 @@ returns-clause-gives c =
     let (m, read, is) = c.in_ok-end.ensures.gives in
     let name = c.args.name.now in
     let other = ap (λ t. bytes_eq t name) (sym is ∙ sym c.as_str.ensures.value) ∙ sym c.eq.ensures ∙ c.if-eq.false in
-    inr (end_differs name c.args.cursor.now.left c.component_name.new.cursor.left m there read other)
+    inr (inl (end_differs name c.args.cursor.now.left c.component_name.new.cursor.left m there read other))

@@ -18,7 +18,7 @@ pub returns-in_err-value-clause-gives : goal.returns-in_err-value-clause-gives
 returns-in_err-value-clause-gives c =
     let there = sym c.begins.ensures ∙ c.if-not-begins.false in
     let p = err_from_is_err_and c.from_residual.result c.from_residual.ensures.1 in
-    rw (p.1, p.2) (failed_as _ _ _ (λ h. metadata_refused (limits_of c.args.setting.now.limits) c.args.cursor.now.left there h) c.in_err-value.ensures.gives)
+    rw (p.1, p.2) (failed_as _ _ _ _ (λ z h. metadata_refused (limits_of c.args.setting.now.limits) c.args.cursor.now.left there z h) c.in_err-value.ensures.gives)
 
 pub returns-in-Some-clause-gives : goal.returns-in-Some-clause-gives
 returns-in-Some-clause-gives c =

@@ -10,26 +10,26 @@ use Rattle.tera_statements.proofs.components.opening_tag.Goals as goal
 pub returns-in_err-name-clause-gives : goal.returns-in_err-name-clause-gives
 returns-in_err-name-clause-gives c =
     let p = err_from_is_err_and c.from_residual.result c.from_residual.ensures.1 in
-    rw (p.1, p.2) (failed_as _ _ _ (λ h. no_new_name _ _ _ h) c.in_err-name.ensures.gives)
+    rw (p.1, p.2) (failed_as _ _ _ _ (λ z h. no_new_name _ _ _ z h) c.in_err-name.ensures.gives)
 
 pub returns-in_err-expect-clause-gives : goal.returns-in_err-expect-clause-gives
 returns-in_err-expect-clause-gives c =
     let p = err_from_is_err_and c.from_residual-in_err-expect.result c.from_residual-in_err-expect.ensures.1 in
     let (n, named, is) = c.in_ok-name.ensures.gives in
-    rw (p.1, p.2) (failed_as _ _ _ (λ h. no_paren _ _ _ n _ named h) c.in_err-expect.ensures.gives)
+    rw (p.1, p.2) (failed_as _ _ _ _ (λ z h. no_paren _ _ _ n _ named z h) c.in_err-expect.ensures.gives)
 
 pub returns-in_err-parameters-clause-gives : goal.returns-in_err-parameters-clause-gives
 returns-in_err-parameters-clause-gives c =
     let p = err_from_is_err_and c.from_residual-in_err-parameters.result c.from_residual-in_err-parameters.ensures.1 in
     let (n, named, is) = c.in_ok-name.ensures.gives in
-    rw (p.1, p.2) (failed_as _ _ _ (λ h. no_parameters _ _ _ n _ named _ _ c.in_ok-expect.ensures.gives h) c.in_err-parameters.ensures.gives)
+    rw (p.1, p.2) (failed_as _ _ _ _ (λ z h. no_parameters _ _ _ n _ named _ _ c.in_ok-expect.ensures.gives z h) c.in_err-parameters.ensures.gives)
 
 pub returns-in_err-metadata-clause-gives : goal.returns-in_err-metadata-clause-gives
 returns-in_err-metadata-clause-gives c =
     let p = err_from_is_err_and c.from_residual-in_err-metadata.result c.from_residual-in_err-metadata.ensures.1 in
     let (n, named, is) = c.in_ok-name.ensures.gives in
     let (ps, listed, are) = c.in_ok-parameters.ensures.gives in
-    rw (p.1, p.2) (failed_as _ _ _ (λ h. no_metadata _ _ _ n _ named _ _ c.in_ok-expect.ensures.gives ps _ listed h) c.in_err-metadata.ensures.gives)
+    rw (p.1, p.2) (failed_as _ _ _ _ (λ z h. no_metadata _ _ _ n _ named _ _ c.in_ok-expect.ensures.gives ps _ listed z h) c.in_err-metadata.ensures.gives)
 
 pub returns-in_err-finish-clause-gives : goal.returns-in_err-finish-clause-gives
 returns-in_err-finish-clause-gives c =
@@ -37,7 +37,7 @@ returns-in_err-finish-clause-gives c =
     let (n, named, is) = c.in_ok-name.ensures.gives in
     let (ps, listed, are) = c.in_ok-parameters.ensures.gives in
     let (m, given, holds) = c.in_ok-metadata.ensures.gives in
-    rw (p.1, p.2) (failed_as _ _ _ (λ h. head_unfinished _ _ _ n _ named _ _ c.in_ok-expect.ensures.gives ps _ listed m _ given h) c.in_err-finish.ensures.gives)
+    rw (p.1, p.2) (failed_as _ _ _ _ (λ z h. head_unfinished _ _ _ n _ named _ _ c.in_ok-expect.ensures.gives ps _ listed m _ given z h) c.in_err-finish.ensures.gives)
 
 pub returns-clause-gives : goal.returns-clause-gives
 returns-clause-gives c =

@@ -17,7 +17,7 @@ returns-in_err-filter-clause-gives c =
     let p = err_from_is_err_and c.from_residual.result c.from_residual.ensures.1 in
     let fact = rw (c.scope.ensures.in_loop, c.scope.ensures.limits) at c.in_err-filter.ensures.gives in
     rw (p.1, p.2) (pipes_fail (limits_of c.args.setting.now.limits) c.args.in_loop c.args.cursor.now.left c.filters.cursor.left c.args.before.items c.filters.filters.items
-    c.eat.new.cursor.span c.eat.new.cursor.left _ c.filters.invariant.piping bar.0 fact)
+    c.eat.new.cursor.span c.eat.new.cursor.left c.filter.new.cursor.left _ c.filters.invariant.piping bar.0 fact)
 
 pub filters-preserved : goal.filters-preserved
 filters-preserved c =
@@ -39,7 +39,7 @@ pub returns-clause-gives : goal.returns-clause-gives
 returns-clause-gives c =
     let none = rw c.filters-test.false at c.eat.ensures in
     rw none.1 (pipes_end (limits_of c.args.setting.now.limits) c.args.in_loop c.args.cursor.now.left c.filters.cursor.left c.args.before.items c.filters.filters.items
-    c.filters.invariant.piping none.0)
+    c.filters.invariant.piping _ none.0)
 
 pub returns-clause-later : goal.returns-clause-later
 returns-clause-later c =

@@ -11,7 +11,7 @@ returns-in_err-one-clause-gives c =
     let l = limits_of c.args.setting.now.limits in
     let p = err_from_is_err_and c.from_residual.result c.from_residual.ensures.1 in
     let fact = rw (c.scope.ensures.in_loop, c.scope.ensures.limits) at c.in_err-one.ensures.gives in
-    rw (p.1, p.2) (failed_as _ _ _ (λ h. no_filter l c.args.in_loop c.args.cursor.now.left h) fact)
+    rw (p.1, p.2) (failed_as _ _ _ _ (λ z h. no_filter l c.args.in_loop c.args.cursor.now.left z h) fact)
 
 pub returns-clause-gives : goal.returns-clause-gives
 returns-clause-gives c =
@@ -23,7 +23,7 @@ returns-clause-gives c =
 
 pub returns-clause-refusal : goal.returns-clause-refusal
 returns-clause-refusal c =
-    refused_further_err c.filters_to_end.result c.args.cursor.now c.filter.new.cursor (took_goes _ _ c.in_ok-one.ensures.later) c.filters_to_end.ensures.refusal
+    refused_further_err c.filters_to_end.result c.args.cursor.now c.filter.new.cursor _ (took_goes _ _ c.in_ok-one.ensures.later) c.filters_to_end.ensures.refusal
 
 pub returns-clause-later : goal.returns-clause-later
 returns-clause-later c =

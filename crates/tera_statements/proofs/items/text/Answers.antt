@@ -11,6 +11,6 @@ returns-clause-gives c = λ l self path seen.
     let ts = c.args.cursor.now.left in
     let (text, span, same, is) = text_taken ts c.take.new.cursor.left _ _ (holds_text ts c.requires) c.in_ok-token.ensures.takes.1 in (
       Single (Text text span),
-      step_holds l self path seen (front ts) text span c.take.new.cursor.left is,
+      step_holds l self path seen ts (front ts) text span c.take.new.cursor.left is,
       c.in_ok-text_added.ensures.adds ∙ ap (λ t. text_adds (text_in t)) same,
     )

@@ -16,7 +16,7 @@ pub returns-in_err-default_value-clause-gives : goal.returns-in_err-default_valu
 returns-in_err-default_value-clause-gives c =
     let sign = rw c.if-not-eat.false at c.eat.ensures in
     let p = err_from_is_err_and c.from_residual.result c.from_residual.ensures.1 in
-    rw (p.1, p.2, sign.0) (failed_as _ _ _ (λ h. no_default (limits_of c.args.setting.now.limits) c.args.cursor.now.left c.eat.new.cursor.left c.eat.new.cursor.span h) c.in_err-default_value.ensures.gives)
+    rw (p.1, p.2, sign.0) (failed_as _ _ _ _ (λ z h. no_default (limits_of c.args.setting.now.limits) c.args.cursor.now.left c.eat.new.cursor.left c.eat.new.cursor.span z h) c.in_err-default_value.ensures.gives)
 
 pub returns-clause-gives : goal.returns-clause-gives
 returns-clause-gives c =

@@ -1,19 +1,21 @@
-use Rattle.std.proofs.Common.{rules, ◌≡◌, false, None, inr, refl, string_bytes, sym, ap, subst, ◌∙◌}
+use Rattle.std.proofs.Common.{rules, ◌≡◌, false, None, inr, refl, string_bytes, sym, ap, subst, ◌∙◌, inl}
 use Rattle.std.proofs.lemmas.Result.{err_from_is_err_and}
 use Rattle.tera_base.specs.Values as values
 use Rattle.tera_lexer.specs.code.Seen.{seen}
 use Rattle.tera_lexer.specs.grammar.Tokens as toks
 use Rattle.tera_lexer.specs.grammar.Tokens.{Token}
+use Rattle.tera_grammar.specs.Reads.{first_as}
 use Rattle.tera_grammar.specs.expressions.Concrete.{Escaped, Number, Quoted, Simple, Truth}
 use Rattle.tera_grammar.specs.expressions.Marks.{Operation, mark_token}
 use Rattle.tera_grammar.specs.expressions.Operators.{Minus}
 use Rattle.tera_grammar.specs.expressions.Reading.Front.{literal_of, same_token}
 use Rattle.tera_grammar.specs.statements.Components.{LiteralDefault}
-use Rattle.tera_grammar.specs.statements.Reading.Components.{default_of, minus_of}
+use Rattle.tera_grammar.specs.statements.Reading.Components.{default_of, minus_kind}
 use Rattle.tera_statements.specs.Parameters.{IsDefault}
 use Rattle.tera_expr_parts.specs.Allowed.{limits_of}
 use Rattle.tera_expect.specs.Taking.{GivesBy, IsCounted}
-use Rattle.tera_statements.proofs.ParametersLemmas.{array_default, counted_fits, literal_default, map_default, minus_default, none_word, other_default, untaken, view_number, view_text, view_truth, word_default}
+use Rattle.tera_expect.proofs.Steps.{untaken}
+use Rattle.tera_statements.proofs.ParametersLemmas.{array_default, counted_fits, literal_default, map_default, minus_default, none_word, other_default, view_number, view_text, view_truth, word_default}
 use Rattle.tera_statements.proofs.parameters.default_value.Goals as goal
 
 pub returns-then-begins-clause-gives : goal.returns-then-begins-clause-gives
@@ -87,7 +89,7 @@ returns-in-Minus-clause-gives c =
     let us = c.take.new.cursor.left in
     let s = c.in_ok-token.field-0-1 in
     let is = c.in_ok-token.ensures.takes.1 ∙ ap (λ t. Token (seen t) s us) c.in-Minus.is in
-    rw (minus_default l ts us s is) (subst (λ v. GivesBy IsDefault c.negative.result c.negative.new.cursor.left (minus_of v us)) c.in_ok-token.ensures.takes.5 c.negative.ensures.gives)
+    rw (minus_default l ts us s is) (subst (λ v. GivesBy IsDefault c.negative.result c.negative.new.cursor.left (first_as (minus_kind v) us)) c.in_ok-token.ensures.takes.5 c.negative.ensures.gives)
 
 pub returns-in_default-clause-gives : goal.returns-in_default-clause-gives
 returns-in_default-clause-gives c =
@@ -98,4 +100,4 @@ returns-in_default-clause-gives c =
     let plain : literal_of t ≡ None = search rules in
     let word : none_word t ≡ false = search rules in
     let minus : same_token t (mark_token (Operation Minus)) ≡ false = search rules in
-    inr (other_default l ts us c.in_ok-token.field-0-1 t plain word minus (sym c.begins.ensures ∙ c.if-begins.false) (sym c.begins-2.ensures ∙ c.if-begins-2.false) c.in_ok-token.ensures.takes.1)
+    inr (inl (other_default l ts us c.in_ok-token.field-0-1 t plain word minus (sym c.begins.ensures ∙ c.if-begins.false) (sym c.begins-2.ensures ∙ c.if-begins-2.false) c.in_ok-token.ensures.takes.1))

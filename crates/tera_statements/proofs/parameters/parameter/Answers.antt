@@ -1,4 +1,4 @@
-use Rattle.std.proofs.Common.{refl, sym, ap, ◌∙◌}
+use Rattle.std.proofs.Common.{refl, sym, ap, ◌∙◌, inl}
 use Rattle.std.proofs.lemmas.Result.{err_from_is_err_and}
 use Rattle.tera_grammar.specs.statements.Reading.Components as reading
 use Rattle.tera_statements.specs.Known.{located_of, met_of}
@@ -17,7 +17,7 @@ returns-in_err-name-clause-gives c =
     let ts = c.args.cursor.now.left in
     let (at, is, opens) = at_read c.eat-implicit.result c.args.cursor.now c.eat-implicit.new.cursor c.eat-implicit.ensures in
     let p = err_from_is_err_and c.from_residual.result c.from_residual.ensures.1 in
-    rw (p.1, p.2) (failed_as _ _ _ (λ h. at_after l seen ts _ at opens ∙ no_fresh_name l seen at _ h) c.in_err-name.ensures.gives)
+    rw (p.1, p.2) (failed_as _ _ _ _ (λ z h. at_after l seen ts _ at opens ∙ no_fresh_name l seen at _ z h) c.in_err-name.ensures.gives)
 
 pub returns-in_err-typ-clause-gives : goal.returns-in_err-typ-clause-gives
 returns-in_err-typ-clause-gives c =
@@ -27,7 +27,7 @@ returns-in_err-typ-clause-gives c =
     let (at, is, opens) = at_read c.eat-implicit.result c.args.cursor.now c.eat-implicit.new.cursor c.eat-implicit.ensures in
     let p = err_from_is_err_and c.from_residual-in_err-typ.result c.from_residual-in_err-typ.ensures.1 in
     let n = name_at c.fresh_name.new.cursor.span c.in_ok-name.name in
-    rw (p.1, p.2) (failed_as _ _ _ (λ h. at_after l seen ts _ at opens ∙ no_annotation l seen at _ n _ c.in_ok-name.ensures.gives h) c.in_err-typ.ensures.gives)
+    rw (p.1, p.2) (failed_as _ _ _ _ (λ z h. at_after l seen ts _ at opens ∙ no_annotation l seen at _ n _ c.in_ok-name.ensures.gives z h) c.in_err-typ.ensures.gives)
 
 pub returns-in_err-default-clause-gives : goal.returns-in_err-default-clause-gives
 returns-in_err-default-clause-gives c =
@@ -38,7 +38,7 @@ returns-in_err-default-clause-gives c =
     let p = err_from_is_err_and c.from_residual-in_err-default.result c.from_residual-in_err-default.ensures.1 in
     let n = name_at c.fresh_name.new.cursor.span c.in_ok-name.name in
     let (t, typed, written) = c.in_ok-typ.ensures.gives in
-    rw (p.1, p.2) (failed_as _ _ _ (λ h. at_after l seen ts _ at opens ∙ no_assigned l seen at _ n _ c.in_ok-name.ensures.gives t _ typed h) c.in_err-default.ensures.gives)
+    rw (p.1, p.2) (failed_as _ _ _ _ (λ z h. at_after l seen ts _ at opens ∙ no_assigned l seen at _ n _ c.in_ok-name.ensures.gives t _ typed z h) c.in_err-default.ensures.gives)
 
 pub returns-in_err-check_default-clause-gives : goal.returns-in_err-check_default-clause-gives
 returns-in_err-check_default-clause-gives c =
@@ -51,7 +51,7 @@ returns-in_err-check_default-clause-gives c =
     let (t, typed, written) = c.in_ok-typ.ensures.gives in
     let (d, assigned, value) = c.in_ok-default.ensures.gives in
     let same = c.argument-argument.ensures ∙ argument_is at n t d _ _ _ is written (annotation_known _ _ _ typed) value in
-    rw (p.1, p.2) (fails_by _ _ (λ h. at_after l seen ts _ at opens ∙ mistyped l seen at _ n _ c.in_ok-name.ensures.gives t _ typed d _ assigned (sym (ap has_default same) ∙ h)) c.in_err-check_default.ensures.fails)
+    rw (p.1, p.2) (fails_by _ _ _ (λ h. inl (at_after l seen ts _ at opens ∙ mistyped l seen at _ n _ c.in_ok-name.ensures.gives t _ typed d _ assigned (sym (ap has_default same) ∙ h))) c.in_err-check_default.ensures.fails)
 
 pub returns-clause-gives : goal.returns-clause-gives
 returns-clause-gives c =

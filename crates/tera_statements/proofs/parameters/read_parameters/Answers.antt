@@ -1,5 +1,6 @@
-use Rattle.std.proofs.Common.{None, Some, refl, sym, ap, ◌∙◌}
+use Rattle.std.proofs.Common.{Some, refl, sym, ap, ◌∙◌}
 use Rattle.std.proofs.lemmas.Result.{err_from_is_err_and}
+use Rattle.tera_grammar.specs.Reads.{stopped}
 use Rattle.tera_grammar.specs.expressions.Marks.{Comma, RightParen, Spread}
 use Rattle.tera_grammar.specs.expressions.Reading.Front.{takes}
 use Rattle.tera_grammar.specs.statements.Components.{Closed, Final, Rest}
@@ -42,7 +43,7 @@ returns-in_err-rest_parameter-clause-gives c =
     let dots = rw c.if-eat-2.true at c.eat-in-parameters.ensures in
     let there = same_place (takes Spread) c.parameters.cursor c.eat.new.cursor _ no_end.1 dots.0 in
     let p = err_from_is_err_and c.from_residual.result c.from_residual.ensures.1 in
-    rw (p.1, p.2) (failed_as _ _ _ (λ h. listing_refused l c.args.cursor.now.left here seen _ c.parameters.invariant.listing (no_rest l (met seen) here no_end.0 _ _ there h)) c.in_err-rest_parameter.ensures.gives)
+    rw (p.1, p.2) (failed_as _ _ _ _ (λ z h. listing_refused l c.args.cursor.now.left here seen _ c.parameters.invariant.listing z (no_rest l (met seen) here _ no_end.0 _ _ there z h)) c.in_err-rest_parameter.ensures.gives)
 
 pub returns-then-eat-2-clause-gives : goal.returns-then-eat-2-clause-gives
 returns-then-eat-2-clause-gives c =
@@ -53,7 +54,7 @@ returns-then-eat-2-clause-gives c =
     let dots = rw c.if-eat-2.true at c.eat-in-parameters.ensures in
     let there = same_place (takes Spread) c.parameters.cursor c.eat.new.cursor _ no_end.1 dots.0 in
     let (n, named, is) = c.in_ok-rest_parameter.ensures.gives in
-    let (end, whole) = rest_given l (met seen) here no_end.0 _ _ there n _ named in
+    let (end, whole) = rest_given l (met seen) here _ no_end.0 _ _ there n _ named in
     let (ps, read, puts, rest, stand) = listing_ends l c.args.cursor.now.left here seen _ (Rest c.eat-in-parameters.new.cursor.span n end, c.rest_parameter.new.cursor.left) c.parameters.invariant.listing whole in
     (ps, read, ((puts, ap Some is.0 ∙ sym rest), is.1 ∙ stand))
 
@@ -64,10 +65,10 @@ returns-in_err-name-clause-gives c =
     let seen = located_of c.parameters.seen in
     let no_end = rw c.if-eat.false at c.eat.ensures in
     let no_dots = rw c.if-eat-2.false at c.eat-in-parameters.ensures in
-    let other = same_place (takes Spread) c.parameters.cursor c.eat.new.cursor None no_end.1 no_dots.0 in
+    let other = same_place (takes Spread) c.parameters.cursor c.eat.new.cursor (stopped _) no_end.1 no_dots.0 in
     let p = err_from_is_err_and c.from_residual-in_err-name.result c.from_residual-in_err-name.ensures.1 in
-    rw (p.1, p.2) (failed_as _ _ _ (λ h. listing_refused l c.args.cursor.now.left here seen _ c.parameters.invariant.listing
-    (no_parameter l (met seen) here no_end.0 other (same_place (parameter_of l (met seen)) c.parameters.cursor c.eat-in-parameters.new.cursor None (no_dots.1 ∙ no_end.1) h))) c.in_err-name.ensures.gives)
+    rw (p.1, p.2) (failed_as _ _ _ _ (λ z h. listing_refused l c.args.cursor.now.left here seen _ c.parameters.invariant.listing z
+    (no_parameter l (met seen) here _ no_end.0 _ other z (same_place (parameter_of l (met seen)) c.parameters.cursor c.eat-in-parameters.new.cursor (stopped z) (no_dots.1 ∙ no_end.1) h))) c.in_err-name.ensures.gives)
 
 pub returns-then-eat-3-clause-gives : goal.returns-then-eat-3-clause-gives
 returns-then-eat-3-clause-gives c =
@@ -76,12 +77,12 @@ returns-then-eat-3-clause-gives c =
     let seen = located_of c.parameters.seen in
     let no_end = rw c.if-eat.false at c.eat.ensures in
     let no_dots = rw c.if-eat-2.false at c.eat-in-parameters.ensures in
-    let other = same_place (takes Spread) c.parameters.cursor c.eat.new.cursor None no_end.1 no_dots.0 in
+    let other = same_place (takes Spread) c.parameters.cursor c.eat.new.cursor (stopped _) no_end.1 no_dots.0 in
     let (q, one, is) = c.in_ok-name.ensures.gives in
     let there = same_place (parameter_of l (met seen)) c.parameters.cursor c.eat-in-parameters.new.cursor _ (no_dots.1 ∙ no_end.1) one in
     let end = rw c.if-eat-3.true at c.eat-in-parameters-2.ensures in
     let (ps, read, puts, rest, stand) = listing_ends l c.args.cursor.now.left here seen _ (Final q c.eat-in-parameters-2.new.cursor.span, c.eat-in-parameters-2.new.cursor.left) c.parameters.invariant.listing
-    (last_given l (met seen) here no_end.0 other q _ there _ _ end.0) in
+    (last_given l (met seen) here _ no_end.0 _ other q _ there _ _ end.0) in
     (ps, read, ((c.in_ok-put_argument.ensures.puts ∙ (λ i. put_name (is.0.0 i) (is.0.1 i) (arguments_view c.parameters.arguments.entries)) ∙ puts, sym rest), is.1 ∙ stand))
 
 pub returns-in_err-expect-clause-gives : goal.returns-in_err-expect-clause-gives
@@ -91,13 +92,13 @@ returns-in_err-expect-clause-gives c =
     let seen = located_of c.parameters.seen in
     let no_end = rw c.if-eat.false at c.eat.ensures in
     let no_dots = rw c.if-eat-2.false at c.eat-in-parameters.ensures in
-    let other = same_place (takes Spread) c.parameters.cursor c.eat.new.cursor None no_end.1 no_dots.0 in
+    let other = same_place (takes Spread) c.parameters.cursor c.eat.new.cursor (stopped _) no_end.1 no_dots.0 in
     let (q, one, is) = c.in_ok-name.ensures.gives in
     let there = same_place (parameter_of l (met seen)) c.parameters.cursor c.eat-in-parameters.new.cursor _ (no_dots.1 ∙ no_end.1) one in
     let no_last = rw c.if-eat-3.false at c.eat-in-parameters-2.ensures in
     let p = err_from_is_err_and c.from_residual-in_err-expect.result c.from_residual-in_err-expect.ensures.1 in
-    rw (p.1, p.2) (failed_as _ _ _ (λ h. listing_refused l c.args.cursor.now.left here seen _ c.parameters.invariant.listing
-    (no_comma l (met seen) here no_end.0 other q _ there no_last.0 (same_place (takes Comma) c.parameter.new.cursor c.eat-in-parameters-2.new.cursor None no_last.1 h))) c.in_err-expect.ensures.gives)
+    rw (p.1, p.2) (failed_as _ _ _ _ (λ z h. listing_refused l c.args.cursor.now.left here seen _ c.parameters.invariant.listing z
+    (no_comma l (met seen) here _ no_end.0 _ other q _ there _ no_last.0 z (same_place (takes Comma) c.parameter.new.cursor c.eat-in-parameters-2.new.cursor (stopped z) no_last.1 h))) c.in_err-expect.ensures.gives)
 
 pub parameters-preserved : goal.parameters-preserved
 parameters-preserved c =
@@ -106,7 +107,7 @@ parameters-preserved c =
     let seen = located_of c.parameters.seen in
     let no_end = rw c.if-eat.false at c.eat.ensures in
     let no_dots = rw c.if-eat-2.false at c.eat-in-parameters.ensures in
-    let other = same_place (takes Spread) c.parameters.cursor c.eat.new.cursor None no_end.1 no_dots.0 in
+    let other = same_place (takes Spread) c.parameters.cursor c.eat.new.cursor (stopped _) no_end.1 no_dots.0 in
     let (q, one, is) = c.in_ok-name.ensures.gives in
     let there = same_place (parameter_of l (met seen)) c.parameters.cursor c.eat-in-parameters.new.cursor _ (no_dots.1 ∙ no_end.1) one in
     let no_last = rw c.if-eat-3.false at c.eat-in-parameters-2.ensures in
@@ -117,7 +118,7 @@ parameters-preserved c =
     let ahead = goes_further _ _ _ first second in
     let following = took_all _ _ _ (took_further _ _ _ c.in_ok-name.ensures.later third) c.in_ok-expect.ensures.later in
     record {
-      listing = listing_more l c.args.cursor.now.left here seen _ _ _ c.parameters.invariant.listing no_end.0 other q _ there no_last.0 _ _ comma
+      listing = listing_more l c.args.cursor.now.left here seen _ _ _ c.parameters.invariant.listing _ no_end.0 _ other q _ there _ no_last.0 _ _ comma
           is.1
           (c.in_ok-put_argument.ensures.puts ∙ (λ i. put_name (is.0.0 i) (is.0.1 i) (arguments_view c.parameters.arguments.entries)));
       later = goes_further _ _ _ c.parameters.invariant.later (took_goes _ _ (goes_took _ _ _ ahead following));
@@ -142,7 +143,7 @@ returns-in_err-rest_parameter-clause-refusal c =
     let dots = rw c.if-eat-2.true at c.eat-in-parameters.ensures in
     let ahead = eaten_goes c.eat.result c.parameters.cursor c.eat.new.cursor (takes RightParen c.parameters.cursor.left) c.eat.ensures in
     let p = err_from_is_err_and c.from_residual.result c.from_residual.ensures.1 in
-    rw (p.1, p.2) (refused_further _ _ _ (goes_further _ _ _ c.parameters.invariant.later ahead) (refused_after _ _ _ dots.1 c.in_err-rest_parameter.ensures.refusal))
+    rw (p.1, p.2) (refused_further _ _ _ _ (goes_further _ _ _ c.parameters.invariant.later ahead) (refused_after _ _ _ _ dots.1 c.in_err-rest_parameter.ensures.refusal))
 
 pub returns-then-eat-2-clause-later : goal.returns-then-eat-2-clause-later
 returns-then-eat-2-clause-later c =
@@ -155,7 +156,7 @@ returns-in_err-name-clause-refusal c =
     let first = eaten_goes c.eat.result c.parameters.cursor c.eat.new.cursor (takes RightParen c.parameters.cursor.left) c.eat.ensures in
     let second = eaten_goes c.eat-in-parameters.result c.eat.new.cursor c.eat-in-parameters.new.cursor (takes Spread c.eat.new.cursor.left) c.eat-in-parameters.ensures in
     let p = err_from_is_err_and c.from_residual-in_err-name.result c.from_residual-in_err-name.ensures.1 in
-    rw (p.1, p.2) (refused_further _ _ _ (goes_further _ _ _ c.parameters.invariant.later (goes_further _ _ _ first second)) c.in_err-name.ensures.refusal)
+    rw (p.1, p.2) (refused_further _ _ _ _ (goes_further _ _ _ c.parameters.invariant.later (goes_further _ _ _ first second)) c.in_err-name.ensures.refusal)
 
 pub returns-then-eat-3-clause-later : goal.returns-then-eat-3-clause-later
 returns-then-eat-3-clause-later c =
@@ -170,5 +171,5 @@ returns-in_err-expect-clause-refusal c =
     let second = eaten_goes c.eat-in-parameters.result c.eat.new.cursor c.eat-in-parameters.new.cursor (takes Spread c.eat.new.cursor.left) c.eat-in-parameters.ensures in
     let third = eaten_goes c.eat-in-parameters-2.result c.parameter.new.cursor c.eat-in-parameters-2.new.cursor (takes RightParen c.parameter.new.cursor.left) c.eat-in-parameters-2.ensures in
     let p = err_from_is_err_and c.from_residual-in_err-expect.result c.from_residual-in_err-expect.ensures.1 in
-    rw (p.1, p.2) (refused_further _ _ _ (goes_further _ _ _ c.parameters.invariant.later (goes_further _ _ _ first second))
-    (refused_after _ _ _ (took_further _ _ _ c.in_ok-name.ensures.later third) c.in_err-expect.ensures.refusal))
+    rw (p.1, p.2) (refused_further _ _ _ _ (goes_further _ _ _ c.parameters.invariant.later (goes_further _ _ _ first second))
+    (refused_after _ _ _ _ (took_further _ _ _ c.in_ok-name.ensures.later third) c.in_err-expect.ensures.refusal))

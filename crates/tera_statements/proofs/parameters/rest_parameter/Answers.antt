@@ -1,4 +1,4 @@
-use Rattle.std.proofs.Common.{inr, refl, ◌∙◌}
+use Rattle.std.proofs.Common.{inl, inr, refl, ◌∙◌}
 use Rattle.tera_expect.specs.Taking.{name_at}
 use Rattle.tera_statements.specs.Known.{located_of}
 use Rattle.tera_statements.proofs.KnownLemmas.{same_place}
@@ -7,7 +7,7 @@ use Rattle.tera_statements.proofs.parameters.rest_parameter.Goals as goal
 pub returns-then-not-eat-clause-gives : goal.returns-then-not-eat-clause-gives
 returns-then-not-eat-clause-gives c =
     let none = rw c.if-not-eat.true at c.eat.ensures in
-    inr (rw (c.in_ok-name.ensures.gives, none.0) refl)
+    inr (inl (rw (c.in_ok-name.ensures.gives, none.0, none.1) refl))
 
 pub returns-clause-gives : goal.returns-clause-gives
 returns-clause-gives c =

@@ -1,4 +1,4 @@
-use Rattle.std.proofs.Common.{◌≡◌, ◌∙◌, false, refl, ap, sym}
+use Rattle.std.proofs.Common.{◌≡◌, ◌∙◌, false, refl, ap, sym, inl}
 use Rattle.std.proofs.lemmas.Result.{err_from_is_err_and}
 use Rattle.tera_grammar.specs.statements.Grammar.{Extends, Single, is_outermost}
 use Rattle.tera_grammar.specs.statements.Output.{AddsParent}
@@ -11,14 +11,14 @@ pub returns-in_err-parent-clause-gives : goal.returns-in_err-parent-clause-gives
 unfolding extends_of
 returns-in_err-parent-clause-gives c = λ path represents start seen.
     let p = err_from_is_err_and c.from_residual.result c.from_residual.ensures.1 in
-    rw (p.1, p.2) (failed _ _ _ c.in_err-parent.ensures.gives)
+    rw (p.1, p.2) (failed _ _ _ _ c.in_err-parent.ensures.gives)
 
 pub returns-in_err-check_extension-clause-gives : goal.returns-in_err-check_extension-clause-gives
 unfolding extends_of
 returns-in_err-check_extension-clause-gives c = λ path represents start seen.
     let p = err_from_is_err_and c.from_residual-in_err-check_extension.result c.from_residual-in_err-check_extension.ensures.1 in
     let (q, read, is) = c.in_ok-parent.ensures.gives in
-    rw (p.1, p.2, read) (fails_by _ _ (λ h. let none : is_outermost path ≡ false = sym represents.outermost ∙ h in rw none refl) c.in_err-check_extension.ensures.fails)
+    rw (p.1, p.2, read) (fails_by _ _ _ (λ h. let none : is_outermost path ≡ false = sym represents.outermost ∙ h in inl (rw none refl)) c.in_err-check_extension.ensures.fails)
 
 pub returns-in_err-finish-clause-gives : goal.returns-in_err-finish-clause-gives
 unfolding extends_of
@@ -26,7 +26,7 @@ returns-in_err-finish-clause-gives c = λ path represents start seen.
     let p = err_from_is_err_and c.from_residual-in_err-finish.result c.from_residual-in_err-finish.ensures.1 in
     let (q, read, is) = c.in_ok-parent.ensures.gives in
     let may = sym represents.outermost ∙ c.in_ok-check_extension.ensures.represents in
-    rw (p.1, p.2, read, may) (failed _ _ _ c.in_err-finish.ensures.gives)
+    rw (p.1, p.2, read, may) (failed _ _ _ _ c.in_err-finish.ensures.gives)
 
 pub returns-clause-gives : goal.returns-clause-gives
 unfolding extends_of

@@ -12,14 +12,14 @@ pub returns-in_err-name-clause-gives : goal.returns-in_err-name-clause-gives
 unfolding include_of
 returns-in_err-name-clause-gives c = λ path represents start seen.
     let p = err_from_is_err_and c.from_residual.result c.from_residual.ensures.1 in
-    rw (p.1, p.2) (failed _ _ _ c.in_err-name.ensures.gives)
+    rw (p.1, p.2) (failed _ _ _ _ c.in_err-name.ensures.gives)
 
 pub returns-in_err-finish-clause-gives : goal.returns-in_err-finish-clause-gives
 unfolding include_of
 returns-in_err-finish-clause-gives c = λ path represents start seen.
     let p = err_from_is_err_and c.from_residual-in_err-finish.result c.from_residual-in_err-finish.ensures.1 in
     let (q, read, is) = c.in_ok-name.ensures.gives in
-    rw (p.1, p.2, read) (failed _ _ _ c.in_err-finish.ensures.gives)
+    rw (p.1, p.2, read) (failed _ _ _ _ c.in_err-finish.ensures.gives)
 
 pub returns-clause-gives : goal.returns-clause-gives
 unfolding include_of

@@ -1,12 +1,13 @@
-use Rattle.std.proofs.Common.{◌∙◌, [], false, ap, refl}
+use Rattle.std.proofs.Common.{◌∙◌, [], false, ap, refl, sym}
 use Rattle.std.proofs.lemmas.Result.{err_from_is_err_and}
 use Rattle.tera_grammar.specs.statements.Reading.{body}
 use Rattle.tera_grammar.specs.statements.Reading.Loops.{with_added}
 use Rattle.tera_expr_parts.specs.Allowed.{limits_of}
-use Rattle.tera_statements.specs.Adding.{seen_of}
+use Rattle.tera_statements.specs.Adding.{here, seen_of}
 use Rattle.tera_tree.specs.Outputs.{output_view}
-use Rattle.tera_statements.specs.Templates.{top_depth}
+use Rattle.tera_statements.specs.Templates.{phase_of, top_depth}
 use Rattle.tera_statements.proofs.RefusalLemmas.{empty_adds}
+use Rattle.tera_statements.proofs.TemplatesLemmas.{empty_steps}
 use Rattle.tera_statements.proofs.templates.item_phase.Goals as goal
 
 pub returns-in_err-added-clause-gives : goal.returns-in_err-added-clause-gives
@@ -29,4 +30,5 @@ returns-in_err-add-clause-empty c =
     let p = err_from_is_err_and c.from_residual-in_err-add.result c.from_residual-in_err-add.ensures.1 in
     let l = limits_of c.args.setting.now.limits in
     let (i, read, shows, turned) = rw c.in-Some.is at c.in_ok-added.ensures.gives in
-    rw p.1 (λ empty. c.in_err-add.ensures.nothing (shows ∙ empty_adds l (body (top_depth l) l) [] (seen_of c.args.names.now) false c.args.cursor.now.left i _ empty read))
+    rw p.1 (λ empty. c.in_err-add.ensures.nothing (shows ∙ empty_adds l (body (top_depth l) l) [] (seen_of c.args.names.now) false c.args.cursor.now.left i _ empty
+    (sym (empty_steps l (phase_of c.args.phase) (here c.args.names.now c.args.cursor.now) empty) ∙ read)))

@@ -1,4 +1,4 @@
-use Rattle.std.proofs.Common.{◌∙◌, [], false, ap, inr, sym}
+use Rattle.std.proofs.Common.{◌∙◌, ⊎_elim, [], false, ap, inl, inr, sym}
 use Rattle.std.proofs.lemmas.Result.{err_from_is_err_and}
 use Rattle.tera_grammar.specs.statements.Reading.{body}
 use Rattle.tera_grammar.specs.statements.Reading.Loops.{turn, weight}
@@ -6,35 +6,38 @@ use Rattle.tera_statements.specs.Adding.{here, seen_of}
 use Rattle.tera_expr_parts.specs.Allowed.{limits_of}
 use Rattle.tera_statements.specs.Templates.{top_depth, phase_if_any, phase_of}
 use Rattle.tera_statements.proofs.RefusalLemmas.{empty_adds, silent_turns}
-use Rattle.tera_statements.proofs.TemplatesLemmas.{fails_excluded, turn_excluded}
+use Rattle.tera_statements.proofs.TemplatesLemmas.{fails_excluded, step_fails, turn_excluded}
 use Rattle.tera_statements.proofs.templates.next_item.Goals as goal
 
 pub returns-in_err-refuse_extends-clause-gives : goal.returns-in_err-refuse_extends-clause-gives
 returns-in_err-refuse_extends-clause-gives c =
     let p = err_from_is_err_and c.from_residual.result c.from_residual.ensures.1 in
-    rw (p.1, p.2) (inr (c.in_err-refuse_extends.ensures.excludes (seen_of c.args.names.now)))
+    rw (p.1, p.2) (⊎_elim (λ memory. inl memory) (λ excludes. inr (excludes (seen_of c.args.names.now))) c.in_err-refuse_extends.ensures.excludes)
 
 pub returns-in_err-added-clause-gives : goal.returns-in_err-added-clause-gives
 returns-in_err-added-clause-gives c =
     let p = err_from_is_err_and c.from_residual-in_err-added.result c.from_residual-in_err-added.ensures.1 in
     let fact = rw c.in_ok-refuse_extends.ensures.stays at c.in_err-added.ensures.gives in
-    rw (p.1, p.2) (fails_excluded (limits_of c.args.setting.now.limits) (here c.args.names.now c.args.cursor.now) (phase_of c.args.phase) _ c.args.setting.now.valid fact)
+    rw (p.1, p.2) (fails_excluded (limits_of c.args.setting.now.limits) (here c.args.names.now c.args.cursor.now) (phase_of c.args.phase) _ _ c.args.setting.now.valid
+    (step_fails (limits_of c.args.setting.now.limits) (phase_of c.args.phase) (here c.args.names.now c.args.cursor.now) _ _ (c.in_ok-refuse_extends.ensures.step (seen_of c.args.names.now)) fact))
 
 pub returns-in_default-clause-gives : goal.returns-in_default-clause-gives
 returns-in_default-clause-gives c =
-    rw c.in_ok-refuse_extends.ensures.stays at (rw c.in_default.is at c.in_ok-added.ensures.gives)
+    let none = rw c.in_ok-refuse_extends.ensures.stays at (rw c.in_default.is at c.in_ok-added.ensures.gives) in
+    (c.in_ok-refuse_extends.ensures.step (seen_of c.args.names.now) ∙ none.0, none.1)
 
 pub returns-clause-gives : goal.returns-clause-gives
 returns-clause-gives c =
     let (i, read, shows) = rw c.in_ok-refuse_extends.ensures.stays at (rw c.in-Some.is at c.in_ok-added.ensures.gives) in
     let turned = ap (turn (phase_of c.args.phase)) (sym (c.weigh.ensures ∙ ap weight shows)) ∙ sym c.following.ensures ∙ ap phase_if_any c.in-Some-following.is in
-    (i, read, shows, turned)
+    (i, c.in_ok-refuse_extends.ensures.step (seen_of c.args.names.now) ∙ read, shows, turned)
 
 pub returns-in_default-following-clause-gives : goal.returns-in_default-following-clause-gives
 returns-in_default-following-clause-gives c =
     let (i, read, shows) = rw c.in_ok-refuse_extends.ensures.stays at (rw c.in-Some.is at c.in_ok-added.ensures.gives) in
     let turned = ap (turn (phase_of c.args.phase)) (sym (c.weigh.ensures ∙ ap weight shows)) ∙ sym c.following.ensures ∙ ap phase_if_any c.in_default-following.is in
-    inr (turn_excluded (limits_of c.args.setting.now.limits) c.args.setting.now.valid (here c.args.names.now c.args.cursor.now) (phase_of c.args.phase) i _ read turned)
+    inr (turn_excluded (limits_of c.args.setting.now.limits) c.args.setting.now.valid (here c.args.names.now c.args.cursor.now) (phase_of c.args.phase) i _
+    (c.in_ok-refuse_extends.ensures.step (seen_of c.args.names.now) ∙ read) turned)
 
 pub returns-in_default-following-clause-refusal : goal.returns-in_default-following-clause-refusal
 returns-in_default-following-clause-refusal c =

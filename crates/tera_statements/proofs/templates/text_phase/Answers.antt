@@ -19,7 +19,7 @@ returns-in_default-clause-empty c = λ none.
 pub returns-in_err-add_text-clause-refusal : goal.returns-in_err-add_text-clause-refusal
 returns-in_err-add_text-clause-refusal c = λ old took.
     let p = err_from_is_err_and c.from_residual.result c.from_residual.ensures.1 in
-    rw (p.1, p.2) (memory_inside old _ c.in_err-add_text.ensures.refusal)
+    rw (p.1, p.2) (memory_inside old _ _ c.in_err-add_text.ensures.refusal)
 
 pub returns-in_err-add_text-clause-empty : goal.returns-in_err-add_text-clause-empty
 returns-in_err-add_text-clause-empty c =

@@ -1,7 +1,8 @@
-use Rattle.std.proofs.Common.{◌∙◌, [], false, ap, inr, refl, subst, sym}
+use Rattle.std.proofs.Common.{◌∙◌, [], false, ap, refl, subst, sym}
 use Rattle.std.proofs.lemmas.Result.{err_from_is_err_and}
 use Rattle.tera_lexer.specs.code.Cursors.{Position, is_end}
-use Rattle.tera_grammar.specs.statements.Reading.{Place, Starting, at, body}
+use Rattle.tera_grammar.specs.statements.Reading.{Place, at, body}
+use Rattle.tera_grammar.specs.statements.Reading.Phases.{Starting}
 use Rattle.tera_grammar.proofs.statements.Loops.{topping_ends, topping_left, topping_on, topping_starts}
 use Rattle.tera_statements.specs.Adding.{here, seen_of}
 use Rattle.tera_expr_parts.specs.Allowed.{limits_of}
@@ -10,7 +11,8 @@ use Rattle.tera_statements.specs.Templates.{top_depth, phase_of}
 use Rattle.tera_tree.specs.Outputs.{output_view}
 use Rattle.tera_expect.proofs.TakingLemmas.{took_size, goes_further, stays, took_goes}
 use Rattle.tera_statements.proofs.RefusalLemmas.{empty_ends, goes_empty, goes_inside, not_both}
-use Rattle.tera_statements.proofs.TemplatesLemmas.{excluded_fails, opens}
+use Rattle.tera_statements.proofs.TemplatesLemmas.{empty_steps, excluded_fails, opens}
+use Rattle.tera_statements.proofs.Tags.{stops_there}
 use Rattle.tera_statements.proofs.templates.whole.Goals as goal
 
 pub items-init : goal.items-init
@@ -26,7 +28,7 @@ items-init c =
 pub returns-in_err-next-clause-gives : goal.returns-in_err-next-clause-gives
 returns-in_err-next-clause-gives c =
     let p = err_from_is_err_and c.from_residual.result c.from_residual.ensures.1 in
-    rw (p.1, p.2) (excluded_fails (limits_of c.args.setting.now.limits) c.args.cursor.now.left (here c.items.names c.items.cursor) (output_view c.items.output) (phase_of c.items.phase) _
+    rw (p.1, p.2) (excluded_fails (limits_of c.args.setting.now.limits) c.args.cursor.now.left _ (here c.items.names c.items.cursor) (output_view c.items.output) (phase_of c.items.phase) _
     c.items.invariant.top c.in_err-next.ensures.gives)
 
 pub items-preserved : goal.items-preserved
@@ -59,14 +61,14 @@ returns-then-not-at_end-clause-gives c =
     let l = limits_of c.args.setting.now.limits in
     let none = rw c.in_default.is at c.in_ok-next.ensures.gives in
     let left = ap (λ (p : Place). is_end p.tokens) (sym none.1) ∙ sym c.at_end.ensures ∙ c.if-not-at_end.true in
-    inr (topping_left l (top_depth l) (opens l c.args.setting.now.valid) c.args.cursor.now.left (here c.items.names c.items.cursor) (output_view c.items.output) (phase_of c.items.phase)
-    c.items.invariant.top none.0 left)
+    stops_there _ _ _ _ (topping_left l (top_depth l) (opens l c.args.setting.now.valid) c.args.cursor.now.left (here c.items.names c.items.cursor) (output_view c.items.output) (phase_of c.items.phase)
+    c.items.invariant.top none.0 left) (rw (ap (λ (p : Place). p.tokens) none.1) at c.unknown_tag.ensures.stops)
 
 pub returns-then-not-at_end-clause-refusal : goal.returns-then-not-at_end-clause-refusal
 returns-then-not-at_end-clause-refusal c =
     let stayed = rw c.in_default.is at c.in_ok-next.ensures.later in
     let left = sym c.at_end.ensures ∙ c.if-not-at_end.true in
-    goes_inside _ _ _ (subst (λ (q : Position). GoesOn c.args.cursor.now q) (sym stayed) c.items.invariant.later) (c.unknown_tag.ensures.inside left)
+    goes_inside _ _ _ _ (subst (λ (q : Position). GoesOn c.args.cursor.now q) (sym stayed) c.items.invariant.later) (c.unknown_tag.ensures.inside left)
 
 pub returns-in_err-next-clause-empty : goal.returns-in_err-next-clause-empty
 returns-in_err-next-clause-empty c =
@@ -77,6 +79,8 @@ pub returns-then-not-at_end-clause-empty : goal.returns-then-not-at_end-clause-e
 returns-then-not-at_end-clause-empty c = λ empty.
     let l = limits_of c.args.setting.now.limits in
     let none = rw c.in_default.is at c.in_ok-next.ensures.gives in
-    let ended = empty_ends l (body (top_depth l) l) [] (seen_of c.items.names) c.items.cursor.left (goes_empty _ _ c.items.invariant.later empty) none.0 in
+    let quiet = goes_empty _ _ c.items.invariant.later empty in
+    let ended = empty_ends l (body (top_depth l) l) [] (seen_of c.items.names) c.items.cursor.left _ quiet
+    (sym (empty_steps l (phase_of c.items.phase) (here c.items.names c.items.cursor) quiet) ∙ none.0) in
     let left = ap (λ (p : Place). is_end p.tokens) (sym none.1) ∙ sym c.at_end.ensures ∙ c.if-not-at_end.true in
     not_both (sym ended ∙ left)

@@ -12,12 +12,12 @@ use Rattle.tera_lexer.specs.grammar.Marks.{IsValid}
 use Rattle.tera_lexer.specs.grammar.Tokens.{AreTokensOf}
 use Rattle.tera_statements.specs.Known.{AreNames}
 use Rattle.tera_tree.specs.Outputs.{output_view}
-use Rattle.tera_statements.specs.Templates.{GivesTemplate}
+use Rattle.tera_statements.specs.Templates.{GivesTemplate, RefusesTemplate}
 use Rattle.tera_parser.specs.Job.{Job}
 use Rattle.tera_parser.specs.Notes.{error_about}
 use Rattle.tera_parser.specs.Refusal.{Refuses}
 use Rattle.tera_parser.proofs.About.{memory_about, notes_name}
-use Rattle.tera_parser.proofs.Wholes.{comments_tokens, derives, refused, refuses, refuses_about}
+use Rattle.tera_parser.proofs.Wholes.{comments_tokens, derives, loses, loses_about, refused, refuses, refuses_about}
 use Rattle.tera_parser.proofs.parsing.Parser.parse_with_names.Goals as goal
 use Rattle.tera_parser.proofs.parsing.Parser.parse_with_names.Goals.{After-in_file, After-new-cursor, In-Ok}
 
@@ -67,7 +67,15 @@ returns-in-Err-clause-refusal c =
     let at = (goal.at.returns-in-Err-clause-refusal c).After-new-cursor in
     let whole = c.new-cursor.ensures.source ∙ c.tokenize-tokens.ensures.source ∙ ap (λ (j : Job). j.source) c.self.view_is in
     refuses_about _ _ c.args.self.filename c.in-Err.error c.in_file.result (named (goal.at.returns-in-Err-clause-refusal c).After-in_file)
-    (refuses c.args.self.marks (valid at) c.args.self.source c.new-cursor.result.left (are at) c.new-cursor.result refl whole c.in-Err.error c.in-Err.ensures.refusal)
+    (refuses c.args.self.marks (valid at) c.args.self.source c.new-cursor.result.left (are at) c.args.self.limits c.new-cursor.result refl whole c.in-Err.error
+    (subst (λ (j : Job). RefusesTemplate j.limits c.new-cursor.result c.in-Err.error) c.self.view_is c.in-Err.ensures.refusal))
+
+pub returns-in-Err-clause-lost : goal.returns-in-Err-clause-lost
+returns-in-Err-clause-lost c =
+    let at = (goal.at.returns-in-Err-clause-lost c).After-new-cursor in
+    loses_about c.args.self.limits _ _ c.args.self.filename c.in-Err.error c.in_file.result (named (goal.at.returns-in-Err-clause-lost c).After-in_file)
+    (loses c.args.self.marks (valid at) c.args.self.source c.new-cursor.result.left (are at) c.args.self.limits c.new-cursor.result refl c.in-Err.error
+    (subst (λ (j : Job). RefusesTemplate j.limits c.new-cursor.result c.in-Err.error) c.self.view_is c.in-Err.ensures.refusal))
 
 pub returns-in-Err-clause-notes : goal.returns-in-Err-clause-notes
 returns-in-Err-clause-notes c =

@@ -1,0 +1,2 @@
+pub mod expressions
+pub mod statements

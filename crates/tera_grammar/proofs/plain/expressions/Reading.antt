@@ -1,0 +1,5 @@
+pub mod Front
+pub mod Bracketed
+pub mod Atoms
+pub mod Loop
+pub mod Whole

@@ -1,0 +1,16 @@
+pub mod Local
+pub mod Lowest
+pub mod Bracketed
+pub mod Links
+pub mod Atoms
+pub mod Loop
+pub mod Whole
+pub mod Parts
+pub mod Statements
+pub mod Bodies
+pub mod Lost
+pub mod Forget
+pub mod Fronts
+pub mod ForgetParts
+pub mod ForgetTags
+pub mod Final
