@@ -27,17 +27,6 @@ pub(crate) fn read<U: Use>(
     made: &U,
 ) -> Result<U::Made, AllocError> {
     let delimiters = setting.delimiters.clone()?;
-    read_between(alloc, setting, delimiters, source, made)
-}
-
-/// The same between these markers.
-pub(crate) fn read_between<U: Use>(
-    alloc: Global,
-    setting: &Setting<'_>,
-    delimiters: Delimiters,
-    source: &str,
-    made: &U,
-) -> Result<U::Made, AllocError> {
     match parsed(alloc, setting, delimiters, source) {
         Ok(output) => made.of_tree(alloc, &output),
         Err(error) => made.of_fault(alloc, &error),

@@ -2,12 +2,9 @@
 
 use crate::faults::{Detail, error_text};
 use crate::settings::Setting;
-use crate::trees::{Use, read_between};
 use std::alloc::{AllocError, Global};
-use tera_base::Error;
-use tera_lexer::Delimiters;
 use tera_parser::ParserOutput;
-use tera_source::source_of;
+use tera_parser::expr::{reread, source_of};
 use tera_tree::{Expression, Node};
 
 /// The source text of the expression that is all of the template, where it is read as this expression.
@@ -16,12 +13,15 @@ pub(crate) fn written_back(
     setting: &Setting<'_>,
     output: &ParserOutput,
 ) -> Result<String, AllocError> {
-    let first = match written_alone(alloc, setting, output)? {
+    let [Node::Expression(expression)] = output.nodes.as_slice() else {
+        return String::from_str(alloc, "not one expression");
+    };
+    let first = match written_of(alloc, setting, expression)? {
         Ok(written) => written,
         Err(reported) => return Ok(reported),
     };
     let text = first.source.as_str();
-    match written_again(alloc, setting, text)? {
+    match written_again(alloc, setting, expression)? {
         Ok(second) if second == first => String::from_str(alloc, text),
         Ok(second) => format!(in alloc; "{text}, and then {}", second.source),
         Err(reported) => format!(in alloc; "{text}, and then {reported}"),
@@ -37,7 +37,7 @@ pub(crate) fn is_kept(
     let Ok(first) = written_of(alloc, setting, expression)? else {
         return Ok(false);
     };
-    match written_again(alloc, setting, first.source.as_str())? {
+    match written_again(alloc, setting, expression)? {
         Ok(second) => Ok(second == first),
         Err(_) => Ok(false),
     }
@@ -67,42 +67,18 @@ fn written_of(
     }
 }
 
-// The same of the expression that the output holds alone.
-fn written_alone(
-    alloc: Global,
-    setting: &Setting<'_>,
-    output: &ParserOutput,
-) -> Result<WrittenOr, AllocError> {
-    match output.nodes.as_slice() {
-        [Node::Expression(expression)] => written_of(alloc, setting, expression),
-        _ => Ok(Err(String::from_str(alloc, "not one expression")?)),
-    }
-}
-
-#[derive(Drop)]
-struct Writing<'a> {
-    setting: &'a Setting<'a>,
-}
-
-impl Use for Writing<'_> {
-    type Made = WrittenOr;
-
-    fn of_tree(&self, alloc: Global, output: &ParserOutput) -> Result<WrittenOr, AllocError> {
-        written_alone(alloc, self.setting, output)
-    }
-
-    fn of_fault(&self, alloc: Global, error: &Error) -> Result<WrittenOr, AllocError> {
-        Ok(Err(error_text(alloc, self.setting.file, Detail::Start, error)?))
-    }
-}
-
-// The same of what is read of the text, between the markers that are usual.
+// The same of the expression that is read again from its source text.
 fn written_again(
     alloc: Global,
     setting: &Setting<'_>,
-    text: &str,
+    expression: &Expression,
 ) -> Result<WrittenOr, AllocError> {
-    let source = format!(in alloc; "{{{{ {text} }}}}")?;
-    let marks = Delimiters::default();
-    read_between(alloc, setting, marks, source.as_str(), &Writing { setting })
+    let limits = setting.limits;
+    if !limits.valid() {
+        return Ok(Err(String::from_str(alloc, "no limits")?));
+    }
+    match reread(alloc, expression, limits) {
+        Ok(again) => written_of(alloc, setting, &again),
+        Err(error) => Ok(Err(error_text(alloc, setting.file, Detail::Start, &error)?)),
+    }
 }

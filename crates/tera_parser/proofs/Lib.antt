@@ -5,3 +5,4 @@ pub mod About
 pub mod Lost
 pub mod Wholes
 pub mod Meanings
+pub mod AgainLemmas

@@ -52,9 +52,8 @@ pub fn constants()
 /// shows the expression. So it is for each expression in a derivation of a source, at any depth (`of_sources`), and for
 /// each that a node of its tree shows, sets, goes over or asks (`of_trees`).
 ///
-/// What [`crate::Parser::parse`] answers is the output of a derivation, by its clause `sound`; what
-/// [`crate::expr::source_of`] answers is the source text, or `Memory`, by `text` and `memory`; and that text is parsed,
-/// or `Memory` is answered, by `complete`.
+/// What [`crate::Parser::parse`] answers is the output of a derivation, by its clause `sound`. Of each expression of
+/// this output [`crate::expr::reread`] answers that expression, apart from places, or `Memory`.
 pub fn printed_back()
     ensures of_sources { (l : Limits) (m : Marks) (source : List ℕ) (read : Output)
         (d : Derives l m source read) → EachOfBody

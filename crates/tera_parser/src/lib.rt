@@ -10,7 +10,7 @@
 //!
 //! In the order of reading: `parsing`, the parser; the modules below, its names; `notes`; specs `Job`, `Refusal`,
 //! `Notes` and `Comments`; specs `Promises`; `whole`, an expression; `outermost`, what else tags hold; `components`,
-//! their names. Then `laws`.
+//! their names; `rereading`, an expression that is written back and parsed again. Then `laws`.
 #![tactic(auto)]
 
 mod components;
@@ -18,6 +18,7 @@ pub mod laws;
 mod notes;
 mod outermost;
 mod parsing;
+mod rereading;
 mod whole;
 
 pub use parsing::Parser;
@@ -61,6 +62,7 @@ pub mod lexer {
 pub mod expr {
     pub use crate::components::component_name;
     pub use crate::outermost::{attributes, filter, kwargs, literal_array, literal_map};
+    pub use crate::rereading::reread;
     pub use crate::whole::expression;
     pub use tera_expr_parts::{Limits, Scope};
     pub use tera_source::source_of;

@@ -1,9 +1,11 @@
-//! Calls of components with a body, and trees that no parser made.
+//! Calls of components with a body, and trees that no parser made: their source texts, and what these are read as.
 
 use std::alloc::{AllocError, Global};
 use std::test::Fail;
-use tera_base::{Error, Key, Span, Value};
+use tera_base::{Error, ErrorKind, Key, Span, Value};
 use tera_lexer::words;
+use tera_parser::Limits;
+use tera_parser::expr::reread;
 use tera_source::source_of;
 use tera_tree::{BinaryOperator, Expression, MapEntry, Node, UnaryOperator, build};
 
@@ -139,5 +141,60 @@ fn each_operator_that_is_a_word_is_listed(rt: HostRuntime) -> Result<(), Fail> {
     for operator in &OPERATORS {
         assert!(rt; is_listed(rt.alloc(), *operator)?, "{operator:?}");
     }
+    Ok(())
+}
+
+// What is read again of what was made.
+fn again_of(alloc: Global, made: Made) -> Result<Expression, Error> {
+    match made {
+        Ok(e) => reread(alloc, &e, Limits::default()),
+        Err(error) => Err(error.into()),
+    }
+}
+
+// The text of what is read again.
+fn text_again(alloc: Global, made: Made) -> Result<String, Error> {
+    match again_of(alloc, made) {
+        Ok(e) => source_of(alloc, &e),
+        Err(error) => Err(error),
+    }
+}
+
+#[test]
+fn what_is_made_is_read_again(rt: HostRuntime) -> Result<(), Fail> {
+    let alloc = rt.alloc();
+    for operator in &OPERATORS {
+        let text = text_of(alloc, operation(alloc, *operator))?;
+        assert!(rt;
+            text_again(alloc, operation(alloc, *operator))? == text,
+            "{operator:?}"
+        );
+    }
+    Ok(())
+}
+
+// Whether reading it again ends with a fault in its text.
+fn is_faulty(alloc: Global, made: Made) -> bool {
+    match again_of(alloc, made) {
+        Ok(_) => false,
+        Err(error) => matches!(error.kind, ErrorKind::SyntaxError(_)),
+    }
+}
+
+#[test]
+fn what_has_no_text_that_is_read_is_refused(rt: HostRuntime) -> Result<(), Fail> {
+    let alloc = rt.alloc();
+    for name in &["", "a b", "not"] {
+        assert!(rt; is_faulty(alloc, variable(alloc, name)), "{name}");
+    }
+    let text = text_again(alloc, call_with_body(alloc));
+    let refusal = Error::message(alloc, "A component call with a body has no expression text");
+    assert!(rt; text == Err(refusal));
+    let text = text_again(alloc, variable(alloc, "a }} and {{ b"));
+    let refusal = Error::message(
+        alloc,
+        "The text of the expression is not read as one expression",
+    );
+    assert!(rt; text == Err(refusal));
     Ok(())
 }
