@@ -334,6 +334,19 @@ literal_array_read limits x vs r is fits =
     (array_read_in limits.bodies limits.depth limits.links limits.subscripts limits.arrays x r is.0 fits.0 fits.1)
     ∙ ap (with_array x (at 0 r)) is.1)
 
+-- of the row that is read
+map_taken : (limits : Limits) (items rest : Items) (x : Opened) (ps us : values.Pairs) (s : Span × Place) (r : Row × Place)
+    → skip LeftBrace (at 0 items) ≡ Some s → row_of (outermost limits) (widest limits false) of_entries s.1 ≡ Some r
+    → map_value (record { mark = s.0; row = r.0 }) ≡ Some us → ◌≡◌ {A = (Opened × values.Pairs) × Items} ((record { mark = s.0; row = r.0 }, us), r.1.tokens) ((x, ps), rest)
+    → (items ≡ map_yield x rest) × IsMap x ps × EachRow (Within limits) x.row
+map_taken limits items rest x ps us s r begun row value same =
+    let at_open = skip_ok LeftBrace (at 0 items) s begun in
+    let found = row_found no_toll (Fitting limits.bodies limits.depth limits.links) limits.depth (outermost limits) (outer_sound limits)
+    (widest limits false) of_entries s.1 r row in
+    subst (λ (z : (Opened × values.Pairs) × Items). (items ≡ map_yield z.0.0 z.1) × IsMap z.0.0 z.0.1
+    × EachRow (Within limits) z.0.0.row) same
+    (at_open.0 ∙ ap (mark LeftBrace s.0) found.spelled, (found.is, value), found.each)
+
 pub literal_map_found : (limits : Limits) (items rest : Items) (x : Opened) (ps : values.Pairs)
     → literal_map_of limits items ≡ Some ((x, ps), rest)
     → (items ≡ map_yield x rest) × IsMap x ps × EachRow (Within limits) x.row
@@ -343,14 +356,7 @@ literal_map_found limits items rest x ps h =
     bound _ _ _ read (λ s begun one. bound _ _ _ one (λ r row two.
     let (us, value, made) = with_map_ok (record { mark = s.0; row = r.0 }) r.1 (map_value (record { mark = s.0; row = r.0 })) y
     two in
-    let at_open = skip_ok LeftBrace (at 0 items) s begun in
-    let found = row_found no_toll (Fitting limits.bodies limits.depth limits.links) limits.depth (outermost limits) (outer_sound limits)
-    (widest limits false) of_entries s.1 r row in
-    let same : ((record { mark = s.0; row = r.0 }, us), r.1.tokens) ≡ ((x, ps), rest) = ap
-    (λ (z : (Opened × values.Pairs) × Place). (z.0, z.1.tokens)) made ∙ is in
-    subst (λ (z : (Opened × values.Pairs) × Items). (items ≡ map_yield z.0.0 z.1) × IsMap z.0.0 z.0.1
-    × EachRow (Within limits) z.0.0.row) same
-    (at_open.0 ∙ ap (mark LeftBrace s.0) found.spelled, (found.is, value), found.each)))
+    map_taken limits items rest x ps us s r begun row value (ap (λ (z : (Opened × values.Pairs) × Place). (z.0, z.1.tokens)) made ∙ is)))
 
 pub literal_map_read : (limits : Limits) (x : Opened) (ps : values.Pairs) (r : Items) → IsMap x ps → EachRow (Within limits) x.row
     → literal_map_of limits (map_yield x r) ≡ Some ((x, ps), r)

@@ -20,11 +20,11 @@ use Rattle.tera_ast.specs.Tree.{Expr, Stmt}
 use Rattle.tera_tree.specs.Tree.{Argument, Output}
 use Rattle.tera_ast.specs.View.{nodes_of, filters_of}
 use Rattle.tera_grammar.specs.expressions.Operators.{GreaterThan}
-use Rattle.tera_grammar.specs.expressions.Marks.{mark, RightParen, Comma, Operation}
+use Rattle.tera_grammar.specs.expressions.Marks.{mark, RightParen, Comma, Assign, Operation}
 use Rattle.tera_grammar.specs.expressions.Concrete.{quote_token, literal_token, of_items, of_entries}
 use Rattle.tera_grammar.specs.expressions.Output.{items_output, entries_output}
 use Rattle.tera_grammar.specs.expressions.Constants.{IsLiteralNumber, EachNumber, EachOfValue, EachOfValues, EachOfPairs, EachConstant, EachOfEntries}
-use Rattle.tera_grammar.specs.statements.TagParts.{Name, name_yield, name_if_any_yield, Tag, OpensSet, AtEndBlock, AtEndFor, AtEndIf, opening, closing, finish}
+use Rattle.tera_grammar.specs.statements.TagParts.{Name, name_yield, name_if_any_yield, Tag, OpensSet, AtEndSet, AtEndBlock, AtEndFor, AtEndIf, opening, closing, finish}
 use Rattle.tera_grammar.specs.statements.Types.{Sorted, put_name}
 use Rattle.tera_grammar.specs.statements.Expressions.{Limits, Expression, expression_yield, expression_output, Filtering, filter_yield, filter_output, Attributes, attributes_yield, attributes_output, ComponentName, component_yield, LiteralArray, IsLiteralArray, array_yield, array_output, LiteralMap, IsLiteralMap, map_yield, map_output}
 use Rattle.tera_grammar.specs.statements.Components.{Default, LiteralDefault, MinusDefault, NothingDefault, ArrayDefault, MapDefault, FitsDefault, default_yield, default_output, Annotation, Assigned, Parameter, at_yield, annotation_yield, assigned_yield, parameter_yield, default_of, argument_of, FitsAssigned, FitsParameter, Parameters, Closed, Rest, Final, More, parameters_yield, FitEach, put_arguments, metadata_yield, component_if_any_yield, FitsMetadata, ending_yield, put_pairs, metadata_output}
@@ -188,7 +188,8 @@ module _ (P : ℤ → Type 0) (negates : (n : ℤ) → P n → P (neg_ℤ n)) wh
         let x = expression_holds f e (Token (toks.Finish kind.Variable b.dash) b.span r) h in
         record { nodes = (shown_holds (expression_output f e) (expression_plain f e) x.0, tt); definitions = tt; later = x.1 }
     item_holds l path f (Single (Set g t n s e)) r is h =
-        let x = expression_holds f e (finish t r) (after_opener g t _ h) in record { nodes = (x.0, tt); definitions = tt; later = x.1 }
+        let value = mark Assign s (expression_yield e (finish t r)) in
+        let x = expression_holds f e (finish t r) (after_opener g t (name_yield n value) h) in record { nodes = (x.0, tt); definitions = tt; later = x.1 }
     item_holds l path f (Single (Include t q span)) r is h = record { nodes = (tt, tt); definitions = tt; later = following P (quote_token q) span (finish t r) h }
     item_holds l path f (Single (Extends t q span)) r is h = record { nodes = tt; definitions = tt; later = following P (quote_token q) span (finish t r) h }
     item_holds l path f (Single (Break t)) r is h = record { nodes = (tt, tt); definitions = tt; later = h }
@@ -203,8 +204,10 @@ module _ (P : ℤ → Type 0) (negates : (n : ℤ) → P n → P (neg_ℤ n)) wh
         let z = body_holds l (InComponent ∷ path) f b (ending_yield d r) is.2 y.1 in
         record { nodes = tt; definitions = ((x.0, y.0, z.0), tt); later = after_component_if_any d.end_name (finish d.ending r) z.1 }
     item_holds l path f (Capturing (SetBody g t n fs e) b) r is h =
-        let x = filters_hold f fs (finish t (yield b _)) (after_opener g t _ h) in
-        let y = body_holds l (InCapture ∷ path) f b _ is.1 x.1 in
+        let end = closing AtEndSet e (finish e r) in
+        let inside = finish t (yield b end) in
+        let x = filters_hold f fs inside (after_opener g t (name_yield n (filters_yield fs inside)) h) in
+        let y = body_holds l (InCapture ∷ path) f b end is.1 x.1 in
         record { nodes = ((x.0, y.0), tt); definitions = tt; later = y.1 }
     item_holds l path f (Capturing (Section t g fs e) b) r is h =
         let w = filter_holds f t.first g (filters_yield fs (finish t (yield b _))) h in
