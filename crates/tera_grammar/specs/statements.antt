@@ -1,4 +1,5 @@
 pub mod Names
+pub mod Tags
 pub mod TagParts
 pub mod Expressions
 pub mod Types

@@ -17,7 +17,7 @@ use Rattle.tera_grammar.specs.expressions.Marks.{mark, LeftParen, RightParen, Co
 use Rattle.tera_grammar.specs.statements.Types.{type_of, type_named, has_type, Sorted, put_name}
 use Rattle.tera_grammar.specs.Words.{is_none, AreDistinct}
 use Rattle.tera_grammar.specs.statements.Names.{agrees}
-use Rattle.tera_grammar.specs.statements.TagParts.{Name, name_yield, Tag, OpensComponent, AtEndComponent, opening, closing, finish}
+use Rattle.tera_grammar.specs.statements.Tags.{Name, name_yield, Tag, keyword, finish}
 use Rattle.tera_grammar.specs.statements.Expressions.{Limits, ComponentName, component_yield, component_text, LiteralArray, IsLiteralArray, array_yield, array_output, LiteralMap, IsLiteralMap, map_yield, map_output}
 
 -- the default of a parameter: a literal; a minus and a number; a word for no value; a constant array; a constant
@@ -186,10 +186,10 @@ component_if_any_yield (Some n) items = component_yield n items
 
 abbrev pub head_yield : Head → Items → Items
 head_yield h items =
-    opening OpensComponent h.tag (component_yield h.name (mark LeftParen h.paren (parameters_yield h.parameters (metadata_yield h.metadata (finish h.tag items)))))
+    keyword (codes "component") h.tag (component_yield h.name (mark LeftParen h.paren (parameters_yield h.parameters (metadata_yield h.metadata (finish h.tag items)))))
 
 abbrev pub ending_yield : Head → Items → Items
-ending_yield h items = closing AtEndComponent h.ending (component_if_any_yield h.end_name (finish h.ending items))
+ending_yield h items = keyword (codes "endcomponent") h.ending (component_if_any_yield h.end_name (finish h.ending items))
 
 abbrev pub FitsMetadata : Limits → Option LiteralMap → Type 0
 FitsMetadata l None = Unit {0}

@@ -1,6 +1,6 @@
 -- Templates as they are written, their tokens, what may be where, the names that they define and how deep their bodies
 -- are. Variable letters: t, e tags at the start and the end, b a body, n a name, l the limits.
-use Rattle.std.specs.Prelude.{◌≡◌, ℕ, suc, max, Bool, true, false, ◌&&◌, List, [], ◌∷◌, Option, Some, None}
+use Rattle.std.specs.Prelude.{◌≡◌, ℕ, suc, max, Bool, true, false, ◌&&◌, List, [], ◌∷◌, codes, Option, Some, None}
 use Rattle.tera_base.specs.declared.utils.Span.{Span}
 use Rattle.tera_lexer.specs.grammar.Tokens as toks
 use Rattle.tera_lexer.specs.grammar.Tokens.{Items, Token}
@@ -9,7 +9,7 @@ use Rattle.tera_grammar.specs.expressions.Concrete.{Quote, quote_token}
 use Rattle.tera_grammar.specs.expressions.Marks.{mark, Assign}
 use Rattle.tera_grammar.specs.Words.{is_reserved}
 use Rattle.tera_grammar.specs.statements.Names.{agrees, Names, no_names, block_named, component_named, ◌and_then◌}
-use Rattle.tera_grammar.specs.statements.TagParts.{Edge, Name, name_yield, name_if_any_yield, Tag, OpensSet, OpensInclude, OpensExtends, OpensBlock, OpensFor, OpensIf, OpensBreak, OpensContinue, AtElif, AtElse, AtEndBlock, AtEndFor, AtEndIf, opening, closing, finish}
+use Rattle.tera_grammar.specs.statements.Tags.{Edge, Name, name_yield, name_if_any_yield, Tag, keyword, set_word, finish}
 use Rattle.tera_grammar.specs.statements.Expressions.{Limits, Expression, IsExpression, expression_yield, component_text}
 use Rattle.tera_grammar.specs.statements.Components.{Head, head_yield, ending_yield, FitsHead}
 use Rattle.tera_grammar.specs.statements.Heads.{Loop, loop_yield, FitsLoop, Capture, capture_yield, capture_end, FitsCapture}
@@ -55,11 +55,11 @@ plain_yield (Text text span) items = Token (toks.Content text) span items
 plain_yield (Shown a e b) items =
     Token (toks.Start kind.Variable a.dash) a.span (expression_yield e (Token (toks.Finish kind.Variable b.dash) b.span items))
 plain_yield (Set global t n sign e) items =
-    opening (OpensSet global) t (name_yield n (mark Assign sign (expression_yield e (finish t items))))
-plain_yield (Include t q span) items = opening OpensInclude t (Token (quote_token q) span (finish t items))
-plain_yield (Extends t q span) items = opening OpensExtends t (Token (quote_token q) span (finish t items))
-plain_yield (Break t) items = opening OpensBreak t (finish t items)
-plain_yield (Continue t) items = opening OpensContinue t (finish t items)
+    keyword (set_word global) t (name_yield n (mark Assign sign (expression_yield e (finish t items))))
+plain_yield (Include t q span) items = keyword (codes "include") t (Token (quote_token q) span (finish t items))
+plain_yield (Extends t q span) items = keyword (codes "extends") t (Token (quote_token q) span (finish t items))
+plain_yield (Break t) items = keyword (codes "break") t (finish t items)
+plain_yield (Continue t) items = keyword (codes "continue") t (finish t items)
 
 -- The tokens of a template, in front of others.
 abbrev mutual
@@ -70,21 +70,21 @@ abbrev mutual
   pub item_yield : Item → Items → Items
   item_yield (Single p) items = plain_yield p items
   item_yield (Block t n b e m) items =
-      opening OpensBlock t (name_yield n (finish t (yield b (closing AtEndBlock e (name_if_any_yield m (finish e items))))))
+      keyword (codes "block") t (name_yield n (finish t (yield b (keyword (codes "endblock") e (name_if_any_yield m (finish e items))))))
   item_yield (Define h b) items = head_yield h (yield b (ending_yield h items))
   item_yield (Capturing c b) items = capture_yield c (yield b (capture_end c items))
   item_yield (For t lp b o e) items =
-      opening OpensFor t (loop_yield lp (finish t (yield b (else_yield o (closing AtEndFor e (finish e items))))))
+      keyword (codes "for") t (loop_yield lp (finish t (yield b (else_yield o (keyword (codes "endfor") e (finish e items))))))
   item_yield (If t c b bs e) items =
-      opening OpensIf t (expression_yield c (finish t (yield b (branches_yield bs (closing AtEndIf e (finish e items))))))
+      keyword (codes "if") t (expression_yield c (finish t (yield b (branches_yield bs (keyword (codes "endif") e (finish e items))))))
 
   pub branches_yield : Branches → Items → Items
-  branches_yield (Elif t c b bs) items = closing AtElif t (expression_yield c (finish t (yield b (branches_yield bs items))))
+  branches_yield (Elif t c b bs) items = keyword (codes "elif") t (expression_yield c (finish t (yield b (branches_yield bs items))))
   branches_yield (Last o) items = else_yield o items
 
   pub else_yield : Else → Items → Items
   else_yield NoElse items = items
-  else_yield (Otherwise t b) items = closing AtElse t (finish t (yield b items))
+  else_yield (Otherwise t b) items = keyword (codes "else") t (finish t (yield b items))
 
 -- what is around a statement: the body of a loop, and its `else`; a block; a branch of an `if`; a component's
 -- definition; a body that is taken as a value

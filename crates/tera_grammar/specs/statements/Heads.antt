@@ -1,8 +1,8 @@
 -- What is in the tags of a loop, filters, and the tags around a body that is taken as a value.
-use Rattle.std.specs.Prelude.{◌≡◌, Bool, true, false, List, [], ◌∷◌}
+use Rattle.std.specs.Prelude.{◌≡◌, Bool, true, false, List, [], ◌∷◌, codes}
 use Rattle.std.specs.Str.{bytes_eq}
 use Rattle.tera_base.specs.declared.utils.Span.{Span}
-use Rattle.tera_lexer.specs.grammar.Tokens.{Items}
+use Rattle.tera_lexer.specs.grammar.Tokens.{Items, Symbol}
 use Rattle.tera_ast.specs.Tree as tree
 use Rattle.tera_ast.specs.Tree.{Expr, Stmt, Nodes}
 use Rattle.tera_ast.specs.View.{filters_of}
@@ -13,7 +13,7 @@ use Rattle.tera_grammar.specs.expressions.Spans.{spanning}
 use Rattle.tera_grammar.specs.expressions.Concrete.{Second, second_yield}
 use Rattle.tera_grammar.specs.expressions.Conditions.{AreVariables}
 use Rattle.tera_grammar.specs.expressions.Output.{key_variable, value_variable}
-use Rattle.tera_grammar.specs.statements.TagParts.{Name, name_yield, Tag, OpensSet, OpensFilter, OpensCall, AtEndSet, AtEndFilter, AtEndCall, opening, closing, finish}
+use Rattle.tera_grammar.specs.statements.Tags.{Name, name_yield, Tag, keyword, set_word, start_with, finish}
 use Rattle.tera_grammar.specs.statements.Expressions.{Limits, Expression, IsExpression, expression_yield, expression_output, Filtering, IsFilter, filter_yield, filter_output, Attributes, AreAttributes, attributes_yield, attributes_output, ComponentName, component_yield, component_text}
 
 -- the head of a loop: its variables, which are those of a comprehension; the word `in`; and its target
@@ -59,15 +59,15 @@ pub data Capture : Type 0 where
   CallBody : Tag → ComponentName → Attributes → Span → Tag → ComponentName → Span → Capture
 
 abbrev pub capture_yield : Capture → Items → Items
-capture_yield (SetBody global t n fs e) items = opening (OpensSet global) t (name_yield n (filters_yield fs (finish t items)))
-capture_yield (Section t f fs e) items = opening OpensFilter t (filter_yield f (filters_yield fs (finish t items)))
+capture_yield (SetBody global t n fs e) items = keyword (set_word global) t (name_yield n (filters_yield fs (finish t items)))
+capture_yield (Section t f fs e) items = keyword (codes "filter") t (filter_yield f (filters_yield fs (finish t items)))
 capture_yield (CallBody t n a last e m end) items =
-    opening OpensCall t (component_yield n (attributes_yield a (mark (Operation GreaterThan) last (finish t items))))
+    start_with (Symbol (codes "<")) t (component_yield n (attributes_yield a (mark (Operation GreaterThan) last (finish t items))))
 
 abbrev pub capture_end : Capture → Items → Items
-capture_end (SetBody global t n fs e) items = closing AtEndSet e (finish e items)
-capture_end (Section t f fs e) items = closing AtEndFilter e (finish e items)
-capture_end (CallBody t n a last e m end) items = closing AtEndCall e (component_yield m (mark (Operation GreaterThan) end (finish e items)))
+capture_end (SetBody global t n fs e) items = keyword (codes "endset") e (finish e items)
+capture_end (Section t f fs e) items = keyword (codes "endfilter") e (finish e items)
+capture_end (CallBody t n a last e m end) items = start_with (Symbol (codes "</")) e (component_yield m (mark (Operation GreaterThan) end (finish e items)))
 
 abbrev pub FitsCapture : Limits → Bool → Capture → Type 0
 FitsCapture l in_loop (SetBody global t n fs e) = (is_reserved n.text ≡ false) × AreFilters l in_loop fs

@@ -1,20 +1,8 @@
--- The parts that all tags have: their markers, and the token that says what they do.
-use Rattle.std.specs.Prelude.{Bool, true, false, codes, Option, Some, None}
-use Rattle.tera_base.specs.declared.utils.Span.{Span}
-use Rattle.tera_lexer.specs.grammar.Tokens.{Tok, Items, Token, Start, Finish, Ident, Symbol}
-use Rattle.tera_lexer.specs.declared.lexer.delimiters.Kind.TheVariants as kind
-pub use Rattle.tera_grammar.specs.expressions.Concrete.{Name, name_yield}
-
--- the marker at the start or the end of a tag: whether it has a dash, and where it is
-pub record Edge : Type 0 where
-  pub dash : Bool
-  pub span : Span
-
--- a tag of a statement: its start, where its first token is, and its end
-pub record Tag : Type 0 where
-  pub start : Edge
-  pub first : Span
-  pub finish : Edge
+-- The tags by what they begin with, as the reading distinguishes them.
+use Rattle.std.specs.Prelude.{Bool, codes}
+use Rattle.tera_lexer.specs.grammar.Tokens.{Tok, Items, Ident, Symbol}
+use Rattle.tera_grammar.specs.statements.Tags.{start_with, set_word}
+pub use Rattle.tera_grammar.specs.statements.Tags.{Name, name_yield, Edge, Tag, start_yield, finish_yield, finish, name_if_any_yield}
 
 -- what a tag begins with, where it opens a statement: `set` and `set_global`; the other words; `<`
 pub data Opener : Type 0 where
@@ -43,8 +31,7 @@ pub data Closer : Type 0 where
   AtEndCall : Closer
 
 abbrev pub opener_token : Opener → Tok
-opener_token (OpensSet false) = Ident (codes "set")
-opener_token (OpensSet true) = Ident (codes "set_global")
+opener_token (OpensSet global) = Ident (set_word global)
 opener_token OpensInclude = Ident (codes "include")
 opener_token OpensExtends = Ident (codes "extends")
 opener_token OpensBlock = Ident (codes "block")
@@ -67,25 +54,9 @@ closer_token AtEndFilter = Ident (codes "endfilter")
 closer_token AtEndComponent = Ident (codes "endcomponent")
 closer_token AtEndCall = Symbol (codes "</")
 
--- the tokens of the parts, each in front of others
-abbrev pub start_yield : Edge → Items → Items
-start_yield e items = Token (Start kind.Block e.dash) e.span items
-
-abbrev pub finish_yield : Edge → Items → Items
-finish_yield e items = Token (Finish kind.Block e.dash) e.span items
-
 -- the start of a tag, with its first token
 abbrev pub opening : Opener → Tag → Items → Items
-opening o t items = start_yield t.start (Token (opener_token o) t.first items)
+opening o t items = start_with (opener_token o) t items
 
 abbrev pub closing : Closer → Tag → Items → Items
-closing c t items = start_yield t.start (Token (closer_token c) t.first items)
-
--- the end of a tag
-abbrev pub finish : Tag → Items → Items
-finish t items = finish_yield t.finish items
-
--- a name, where there is one
-abbrev pub name_if_any_yield : Option Name → Items → Items
-name_if_any_yield None items = items
-name_if_any_yield (Some n) items = name_yield n items
+closing c t items = start_with (closer_token c) t items
