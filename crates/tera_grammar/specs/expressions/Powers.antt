@@ -1,11 +1,12 @@
 -- The powers of the operators, what is on the spines of an expression, and what the powers ask of operands. The left
 -- spine is reached by left operands, the right spine by right operands, neither enters parentheses.
-use Rattle.std.specs.Prelude.{◌≡◌, ℕ, ◌<◌, ◌≤◌, List, [], ◌∷◌}
+use Rattle.std.specs.Prelude.{◌≡◌, ℕ, suc, ◌<◌, ◌≤◌, List, [], ◌∷◌}
 use Rattle.std.specs.List.{AllByRecursion}
 use Rattle.tera_grammar.specs.expressions.Operators.{BinaryOperator, Mul, Div, Mod, Plus, Minus, FloorDiv, Power, LessThan, GreaterThan, LessThanOrEqual, GreaterThanOrEqual, Equal, NotEqual, And, Or, StrConcat, In}
 use Rattle.tera_grammar.specs.expressions.Concrete.{Sign, Negative, Negates, Op, Single, NotIn, Tree, Atomic, Prefix, Suffixed, Infix, Chain, Suffix, Test, Filter, Subscript, Operator, Binary, Condition}
 
--- how strongly a binary operator holds its left operand, and its right one
+-- How strongly a binary operator holds its left operand, and its right one. A chain of one operator goes to the left,
+-- and one of powers to the right.
 abbrev pub left_of : BinaryOperator → ℕ
 left_of Or = 1
 left_of And = 3
@@ -26,23 +27,8 @@ left_of FloorDiv = 13
 left_of Power = 16
 
 abbrev pub right_of : BinaryOperator → ℕ
-right_of Or = 2
-right_of And = 4
-right_of In = 6
-right_of Equal = 8
-right_of NotEqual = 8
-right_of LessThan = 8
-right_of LessThanOrEqual = 8
-right_of GreaterThan = 8
-right_of GreaterThanOrEqual = 8
-right_of Plus = 12
-right_of Minus = 12
-right_of Mul = 14
-right_of Div = 14
-right_of Mod = 14
-right_of StrConcat = 14
-right_of FloorDiv = 14
 right_of Power = 15
+right_of o = suc (left_of o)
 
 abbrev pub op_left : Op → ℕ
 op_left (Single o s) = left_of o
