@@ -188,9 +188,7 @@ abbrev mutual
 
   pub argument_output : Bool → Element → tree.Args → tree.Args
   argument_output in_loop (argument n s e) rest = put_arg n.text (output in_loop e) rest
-  argument_output in_loop (plain e) rest = rest
-  argument_output in_loop (spread s e) rest = rest
-  argument_output in_loop (pair x s t e) rest = rest
+  argument_output in_loop _ rest = rest
 
   pub items_output : Bool → Row → tree.Items
   items_output in_loop (ended s) = tree.NoItems
@@ -200,8 +198,7 @@ abbrev mutual
   pub item_output : Bool → Element → tree.Items → tree.Items
   item_output in_loop (plain e) is = tree.Item (output in_loop e) is
   item_output in_loop (spread s e) is = tree.SpreadItem (output in_loop e) is
-  item_output in_loop (pair x s t e) is = is
-  item_output in_loop (argument n s e) is = is
+  item_output in_loop _ is = is
 
   pub entries_output : Bool → Row → tree.Entries
   entries_output in_loop (ended s) = tree.NoEntries
@@ -211,8 +208,7 @@ abbrev mutual
   pub entry_output : Bool → Element → tree.Entries → tree.Entries
   entry_output in_loop (pair x s t e) es = tree.Entry (key_of x) (output in_loop e) es
   entry_output in_loop (spread s e) es = tree.SpreadEntry (output in_loop e) es
-  entry_output in_loop (plain e) es = es
-  entry_output in_loop (argument n s e) es = es
+  entry_output in_loop _ es = es
 
   pub attributes_output : Bool → Attributes → tree.Entries
   attributes_output in_loop no_attributes = tree.NoEntries

@@ -155,16 +155,14 @@ FitParameters l ps = FitEach l ps × AreDistinct (parameter_names ps)
 
 -- the arguments, put among others
 abbrev pub put_arguments : Parameters → Sorted Argument → Sorted Argument
-put_arguments (Closed end) args = args
-put_arguments (Rest dots n end) args = args
 put_arguments (Final p end) args = put_name p.name.text (argument_of p) args
 put_arguments (More p comma ps) args = put_arguments ps (put_name p.name.text (argument_of p) args)
+put_arguments ps args = args
 
 abbrev pub rest_of : Parameters → Option (List ℕ)
-rest_of (Closed end) = None
 rest_of (Rest dots n end) = Some n.text
-rest_of (Final p end) = None
 rest_of (More p comma ps) = rest_of ps
+rest_of ps = None
 
 -- The tags of a component's definition.
 pub record Head : Type 0 where

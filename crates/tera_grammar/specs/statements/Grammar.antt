@@ -134,13 +134,12 @@ text_if_any None = None
 text_if_any (Some n) = Some n.text
 
 abbrev pub FitsPlain : Limits → Path → Plain → Type 0
-FitsPlain l path (Text text span) = Unit {0}
 FitsPlain l path (Shown a e b) = IsExpression l (in_loop path) e
 FitsPlain l path (Set global t n sign e) = (is_reserved n.text ≡ false) × IsExpression l (in_loop path) e
-FitsPlain l path (Include t q span) = Unit {0}
 FitsPlain l path (Extends t q span) = is_outermost path ≡ true
 FitsPlain l path (Break t) = may_break path ≡ true
 FitsPlain l path (Continue t) = may_break path ≡ true
+FitsPlain l path p = Unit {0}
 
 -- Each statement is where its path allows it, its parts are what they have to be, and closing names agree.
 abbrev mutual

@@ -24,8 +24,6 @@ type_named name =
 
 -- the type of a value; a whole number of any kind is an integer
 abbrev pub type_of : Val → Option ArgType
-type_of values.Undefined = None
-type_of values.Nothing = None
 type_of (values.Truth b) = Some types.Bool
 type_of (values.I64 n) = Some types.Integer
 type_of (values.U64 n) = Some types.Integer
@@ -35,6 +33,7 @@ type_of (values.Text s) = Some types.String
 type_of (values.Bytes s) = Some types.Bytes
 type_of (values.Array vs) = Some types.Array
 type_of (values.Map ps) = Some types.Map
+type_of v = None
 
 -- whether a value of one type is of another: an integer is a number
 abbrev pub is_of_type : ArgType → Option ArgType → Bool
