@@ -61,7 +61,6 @@ shown_plain _ h = refl
 
 module _ (place : Items → Span) where
   expression_same : (f : Bool) (e : Expression) (r : Items) → placeless (expression_output f (tree_at place e r)) ≡ placeless (expression_output f e)
-  unfolding expression_output
   expression_same f e r = whole.output_same place f e r
 
   shown_same : (f : Bool) (e : Expression) (r : Items) →
@@ -71,15 +70,12 @@ module _ (place : Items → Span) where
       ∙ sym (shown_plain (expression_output f e) (expression_plain f e))
 
   filter_same : (f : Bool) (here there : Span) (x : Filtering) (r : Items) → placeless (filter_output f here (filter_at place x r)) ≡ placeless (filter_output f there x)
-  unfolding filter_output
   filter_same f here there x r = ap (λ g. tree.Filter (tree.Const values.Nothing nowhere) x.name.text g nowhere) (parts.args_same place f x.args r)
 
   attributes_same : (f : Bool) (a : Attributes) (r : Items) → placeless_entries (attributes_output f (attributes_at place a r)) ≡ placeless_entries (attributes_output f a)
-  unfolding attributes_output
   attributes_same f a r = parts.attributes_same place f a r
 
   pub component_same : (n : ComponentName) (r : Items) → component_text (component_at place n r) ≡ component_text n
-  unfolding component_text
   component_same n r = ap (λ x. n.name.text ++ x) (parts.dotted_same place n.further r)
 
   filters_same : (f : Bool) (fs : Filters) (r : Items) →

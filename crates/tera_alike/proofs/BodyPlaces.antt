@@ -202,19 +202,15 @@ module _ (place : Items → Span) (end : Items) where
   Moves tokens moved r = tokens_at place end (tokens r) ≡ moved (tokens_at place end r)
 
   expression_tokens : (e : Expression) (r : Items) → Moves (expression_yield e) (expression_yield (tree_at place e r)) r
-  unfolding expression_yield
   expression_tokens e r = tree_tokens place end e r
 
   filter_tokens : (f : Filtering) (r : Items) → Moves (filter_yield f) (filter_yield (filter_at place f r)) r
-  unfolding filter_yield
   filter_tokens f r = rw (args_tokens place end f.args r)
 
   attributes_moved : (a : Attributes) (r : Items) → Moves (attributes_yield a) (attributes_yield (attributes_at place a r)) r
-  unfolding attributes_yield
   attributes_moved a r = attributes_tokens place end a r
 
   component_tokens : (n : ComponentName) (r : Items) → Moves (component_yield n) (component_yield (component_at place n r)) r
-  unfolding component_yield
   component_tokens n r = rw (dotted_tokens place end n.further r)
 
   array_tokens : (a : LiteralArray) (r : Items) → Moves (array_yield a) (array_yield (array_at place a r)) r

@@ -49,7 +49,7 @@ module _ (limits : Limits) (l : Bool) (old new : Items) (k : ℕ) where
   tree_read = expr limits.depth (widest limits l) 0 (at limits.links old)
 
   pub expression_alone : (r : Result Expression Error) → Gives expression_view l r (at k new) tree_read → GivesBy (IsExpression l) r new (readings.expression_of limits l old)
-  unfolding readings.expression_of parts.expression_output
+  unfolding readings.expression_of
   expression_alone (Ok e) gives = alone (IsExpression l) (Ok e) k new tree_read gives
   expression_alone (Err e) gives = alone (IsExpression l) (Err e) k new tree_read gives
 
@@ -57,7 +57,7 @@ module _ (limits : Limits) (l : Bool) (old new : Items) (k : ℕ) where
   pub attributes_alone : (r : Result (Vec (MapEntryOf Expression) Global) Error)
       → GivesAt (ListsAttributes l) r (at k new) (attributes_of (outermost limits) (widest limits l) (at 0 old))
       → GivesBy (λ (es : Vec (MapEntryOf Expression) Global) a. AreAttributes l es.items a) r new (readings.attributes_of limits l old)
-  unfolding readings.attributes_of parts.attributes_output
+  unfolding readings.attributes_of
   attributes_alone r gives = alone (ListsAttributes l) r k new (attributes_of (outermost limits) (widest limits l) (at 0 old)) gives
 
   -- arguments with their parentheses
@@ -94,7 +94,6 @@ module _ (limits : Limits) (l : Bool) (old new : Items) (k : ℕ) where
 
   filter_by : (span : Span) (input : Expr) (here : Span) (r : Result Expression Error) → input ≡ tree.Const values.Nothing span
       → GivesAt (calls.IsFilter l input here) r (at k new) filter_read → GivesAt (IsFilter l span) r (at k new) filter_read
-  unfolding parts.filter_output
   filter_by span input here (Ok e) is (x, read, shows) =
       (x, read, shows.0 ∙ ap (λ i. tree.Filter i x.name.text (args_output l x.args) (spanning x.name.span (args_end x.name x.args))) is)
   filter_by span input here (Err e) is h = h
@@ -106,7 +105,6 @@ module _ (limits : Limits) (l : Bool) (old new : Items) (k : ℕ) where
 
 -- the name of a component
 pub component_alone : (old new : Items) (r : Result (String Global) Error) → GivesPath old r new → GivesBy IsComponent r new (readings.component_of old)
-unfolding parts.component_text
 component_alone old new (Ok s) gives = gives
 component_alone old new (Err e) gives = gives
 

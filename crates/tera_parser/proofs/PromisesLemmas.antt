@@ -49,7 +49,6 @@ module _ (limits : Limits) (l : Bool) (old new : Position) where
   -- expressions
   pub found : (r : Result Expression Error) → GivesBy (outermost.IsExpression l) r new.left (expression_of limits l old.left) → IfOk r (λ _. Took old new)
       → IfOk r (λ e. TookExpression limits l old e new)
-  unfolding parts.expression_output
   found (Ok e) (t, read, shows) took =
       let (tokens, is, within) = expression_found limits l old.left new.left t read in
       (t, took_tokens (yield t) (yield_puts t) old new tokens (later old new took), is, within, shows)
@@ -58,7 +57,6 @@ module _ (limits : Limits) (l : Bool) (old new : Position) where
   pub complete : (r : Result Expression Error) → GivesBy (outermost.IsExpression l) r new.left (expression_of limits l old.left)
       → (t : Tree) (rest : Items) → IsExpression l t → Within limits t → IsStop rest → old.left ≡ yield t rest
       → TakesOnly (λ e. expression_view e ≡ output l t) rest r new
-  unfolding parts.expression_output
   complete r gives t rest is within stop tokens =
       only_by (λ e t. expression_view e ≡ output l t) r new t rest (expression_of limits l old.left) gives
       (ap (expression_of limits l) tokens ∙ expression_read limits l t rest is within (ends_stop rest stop))
@@ -69,7 +67,6 @@ module _ (limits : Limits) (l : Bool) (old new : Position) where
 
   pub attributes_found : (r : Result (Vec (MapEntryOf Expression) Global) Error) → GivesBy ShowAttributes r new.left (all_attributes limits l old.left)
       → IfOk r (λ _. GoesOn old new) → IfOk r (λ v. TookAttributes limits l old v new)
-  unfolding parts.attributes_output
   attributes_found (Ok v) (x, read, shows) gone =
       let (tokens, are, each) = attributes_found_whole limits l old.left new.left x read in
       (x, took_tokens (attributes_yield x) (attributes_puts x) old new tokens (later_on old new gone), are, each, shows)
@@ -78,7 +75,6 @@ module _ (limits : Limits) (l : Bool) (old new : Position) where
   pub attributes_complete : (r : Result (Vec (MapEntryOf Expression) Global) Error) → GivesBy ShowAttributes r new.left (all_attributes limits l old.left)
       → (x : Attributes) (rest : Items) → AreAttributes l x → EachAttribute (Within limits) x → EndsAttributes rest → old.left ≡ attributes_yield x rest
       → TakesOnly (λ v. entries_view v.items ≡ attributes_output l x) rest r new
-  unfolding parts.attributes_output
   attributes_complete r gives x rest are each ends tokens =
       only_by ShowAttributes r new x rest (all_attributes limits l old.left) gives
       (ap (all_attributes limits l) tokens ∙ attributes_read_whole limits l x rest are each (attributes_end rest ends))
@@ -103,7 +99,6 @@ module _ (limits : Limits) (l : Bool) (old new : Position) where
   -- filters
   pub filter_was_found : (r : Result Expression Error) → GivesBy (outermost.IsFilter l old.span) r new.left (filter_of limits l old.left) → IfOk r (λ _. Took old new)
       → IfOk r (λ e. TookFilter limits l old e new)
-  unfolding parts.filter_output
   filter_was_found (Ok e) (x, read, shows) took =
       let (tokens, are, each) = filter_found limits l old.left new.left x read in
       (x, took_tokens (filter_yield x) (filter_puts x) old new tokens (later old new took), are, each, shows)
@@ -112,7 +107,6 @@ module _ (limits : Limits) (l : Bool) (old new : Position) where
   pub filter_complete : (r : Result Expression Error) → GivesBy (outermost.IsFilter l old.span) r new.left (filter_of limits l old.left)
       → (x : Filtering) (rest : Items) → AreArgs l x.args → EachArgs (Within limits) x.args → EndsFilter rest → old.left ≡ filter_yield x rest
       → TakesOnly (λ e. expression_view e ≡ filter_output l old.span x) rest r new
-  unfolding parts.filter_output
   filter_complete r gives x rest are each ends tokens =
       only_by (λ e x. expression_view e ≡ filter_output l old.span x) r new x rest (filter_of limits l old.left) gives
       (ap (filter_of limits l) tokens ∙ filter_read_whole limits l x rest are each (filter_end rest ends))
@@ -120,14 +114,12 @@ module _ (limits : Limits) (l : Bool) (old new : Position) where
 -- names of components
 module _ (old new : Position) where
   pub path_was_found : (r : Result (String Global) Error) → GivesBy outermost.IsComponent r new.left (path_of old.left) → IfOk r (λ _. Took old new) → IfOk r (λ s. TookPath old s new)
-  unfolding parts.component_text
   path_was_found (Ok s) (x, read, shows) took =
       (x, took_tokens (path_yield x) (path_puts x) old new (path_found old.left new.left x read) (later old new took), shows)
   path_was_found (Err e) gives took = tt
 
   pub path_complete : (r : Result (String Global) Error) → GivesBy outermost.IsComponent r new.left (path_of old.left) → (x : Path) (rest : Items) → EndsPath rest
       → old.left ≡ path_yield x rest → TakesOnly (λ s. string_bytes s ≡ path_output x) rest r new
-  unfolding parts.component_text
   path_complete r gives x rest ends tokens =
       only_by (λ s x. string_bytes s ≡ path_output x) r new x rest (path_of old.left) gives (ap path_of tokens ∙ path_read x rest (path_end rest ends))
 

@@ -15,7 +15,7 @@ use Rattle.tera_grammar.specs.expressions.Concrete.{Tree}
 use Rattle.tera_grammar.specs.expressions.Conditions as conditions
 use Rattle.tera_grammar.specs.expressions.Measures.{Within}
 use Rattle.tera_grammar.specs.expressions.Output.{output}
-use Rattle.tera_grammar.specs.statements.Expressions.{IsExpression, expression_yield, expression_output}
+use Rattle.tera_grammar.specs.statements.Expressions.{IsExpression}
 use Rattle.tera_grammar.specs.statements.Grammar.{Shown, Body, Done, Then, Single, yield}
 use Rattle.tera_grammar.specs.statements.Output.{output_of}
 use Rattle.tera_grammar.specs.statements.Top.{IsTemplate, Derives}
@@ -57,11 +57,9 @@ alone start t end = Then (Single (Shown (record { dash = false; span = start }) 
 
 alone_yield : (start end : Span) (t : Tree) →
     yield (alone start t end) Ended ≡ Token (Start Variable false) start (concrete.yield t (Token (Finish Variable false) end Ended))
-unfolding expression_yield
 alone_yield start end t = refl
 
 alone_output : (start end : Span) (t : Tree) → output_of (alone start t end) ≡ shown_alone (output false t)
-unfolding expression_output
 alone_output start end t = refl
 
 expression_fits : (limits : Limits) (t : Tree) → conditions.IsExpression false t → Within limits t → IsExpression limits false t

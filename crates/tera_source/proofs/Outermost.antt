@@ -104,20 +104,19 @@ module _ (l : Limits) (whole : Items) (P : Bool → Tree → Type 0) (from : (f 
   -- What is in tags
 
   expression_sound : (f : Bool) (e : Tree) (r : Items) → Left whole (expression_yield e r) → stated.IsExpression l f e → P f e × Left whole r
-  unfolding expression_yield stated.IsExpression
+  unfolding stated.IsExpression
   expression_sound f e r h is = (tree_sound f e r h is.0 is.1, after_tree e r h)
 
   filter_sound : (f : Bool) (x : Filtering) (r : Items) → Left whole (filter_yield x r) → IsFilter l f x → EachArgs (P f) x.args × Left whole r
-  unfolding filter_yield IsFilter
+  unfolding IsFilter
   filter_sound f x r h is = args_sound f x.args r (skip whole _ x.name.span _ h) is.0 is.1
 
   attributes_stand_too : (f : Bool) (ats : Attributes) (r : Items) → Left whole (stated.attributes_yield ats r) → stated.AreAttributes l f ats →
       EachAttribute (P f) ats × Left whole r
-  unfolding stated.attributes_yield stated.AreAttributes
+  unfolding stated.AreAttributes
   attributes_stand_too f ats r h is = attributes_sound f ats r h is.0 is.1
 
   after_component : (n : ComponentName) (r : Items) → Left whole (component_yield n r) → Left whole r
-  unfolding component_yield
   after_component n r h = after_dotted n.further r (skip whole _ n.name.span _ h)
 
   array_sound : (a : LiteralArray) (r : Items) → Left whole (array_yield a r) → IsLiteralArray l a → EachRow (P false) a.0.row × Left whole r

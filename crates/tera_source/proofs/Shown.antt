@@ -26,7 +26,6 @@ of_whole P (Infix a o b) h = h.0
 
 module _ (P : Bool → Tree → Type 0) (Q : Expr → Type 0) (from : (f : Bool) (e : Tree) → P f e → Q (outputs.output f e)) where
   expression_holds : (f : Bool) (e : Tree) → P f e → Q (expression_output f e)
-  unfolding expression_output
   expression_holds f e h = from f e h
 
   node_holds : (e : Expr) → has_body e ≡ false → Q e → EachOfNode Q (tree.Shown e)

@@ -43,5 +43,4 @@ alone_read l in_loop ts us name span valid is names (kind, dash, (first, here, t
 
 -- what it is output as
 pub alone_shown : (in_loop : Bool) (name : List ℕ) (span : Span) → tree.Var name span ≡ expression_output in_loop (alone name span)
-unfolding expression_output
 alone_shown in_loop name span = refl

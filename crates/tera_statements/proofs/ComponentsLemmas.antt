@@ -158,13 +158,13 @@ dotted_ends (suc zero) (dots s n ds) last r here p = absurd (omega (arith, ap si
 dotted_ends (suc (suc k)) (dots s n ds) last r here p = dotted_ends k ds n.span r here p
 
 name_ends : (k : ℕ) (n : ComponentName) (last : Span) (r : Items) (here : Span) → Passes k (component_yield n r) last r here → here ≡ component_span n
-unfolding component_span component_yield
+unfolding component_span
 name_ends zero n last r here p = absurd (omega (arith, ap size p.0, dotted_size n.further r))
 name_ends (suc k) n last r here p = dotted_ends k n.further n.name.span r here p
 
 -- after the name of a component the token taken last is its last part
 pub component_ends : (old new : Position) (n : ComponentName) → component_of old.left ≡ found (n, new.left) → Took old new → new.span ≡ component_span n
-unfolding Took component_yield
+unfolding Took
 component_ends old new n read took =
     name_ends took.0.count n old.span new.left new.span
     (subst (λ ts. Passes took.0.count ts old.span new.left new.span) (path_found old.left new.left n read) took.0.passes)

@@ -22,7 +22,7 @@ use Rattle.tera_grammar.proofs.plain.expressions.Reading.Atoms.{prefix_of, paren
 use Rattle.tera_grammar.proofs.plain.expressions.Reading.Loop.{operator_of, suffix_in, join_of, close_of, step as inner_step, loop_by, expr, fresh}
 use Rattle.tera_grammar.proofs.plain.expressions.Reading.Whole.{expression_of, filter_of, all_attributes, path_of, literal_array_of, literal_map_of}
 use Rattle.tera_grammar.specs.Options.{◌>>=◌}
-use Rattle.tera_grammar.specs.statements.Expressions.{expression_output, filter_output, attributes_output, component_text, array_output, map_output}
+use Rattle.tera_grammar.specs.statements.Expressions.{array_output, map_output}
 use Rattle.tera_grammar.specs.statements.Output.{output_of}
 use Rattle.tera_grammar.specs.statements.Types.{Sorted}
 use Rattle.tera_grammar.specs.statements.Top.{is_blank}
@@ -32,7 +32,7 @@ use Rattle.tera_grammar.proofs.plain.statements.Reading.Components.{default_by, 
 
 -- what the tokens are read as, with room for three bodies
 read : Items → Option Output
-unfolding expression_output filter_output attributes_output component_text array_output map_output else_in branch_in branches_by branches set_after set_of include_of extends_of break_of block_end block_of component_def_of section_of call_end call_of for_of if_of shown_of step items_by items body top_step top_by top template loop_of filters_in filters_by filters_of default_by default_at default_of annotation_in assigned_in parameter_after parameters_after parameters_at parameters_in parameters_by parameters_of metadata_in opened_of end_name_in ending_of is_none is_reserved is_loop_field skip bump name_of literal_at quote_at link_of front_of_token head_mark begins_sign inside_subscript inside_array extra_of part_of slice_of sub_of element_of after_element row_by row_of arguments_by arguments_of args_of links_by links_of dotted_by dotted_of attributes_by attributes_of prefix_of paren_of variables_of comprehension_of items_from array_of map_of component_of chain_of word_head operator_of suffix_in join_of close_of inner_step loop_by expr fresh expression_of filter_of all_attributes path_of literal_array_of literal_map_of
+unfolding array_output map_output else_in branch_in branches_by branches set_after set_of include_of extends_of break_of block_end block_of component_def_of section_of call_end call_of for_of if_of shown_of step items_by items body top_step top_by top template loop_of filters_in filters_by filters_of default_by default_at default_of annotation_in assigned_in parameter_after parameters_after parameters_at parameters_in parameters_by parameters_of metadata_in opened_of end_name_in ending_of is_none is_reserved is_loop_field skip bump name_of literal_at quote_at link_of front_of_token head_mark begins_sign inside_subscript inside_array extra_of part_of slice_of sub_of element_of after_element row_by row_of arguments_by arguments_of args_of links_by links_of dotted_by dotted_of attributes_by attributes_of prefix_of paren_of variables_of comprehension_of items_from array_of map_of component_of chain_of word_head operator_of suffix_in join_of close_of inner_step loop_by expr fresh expression_of filter_of all_attributes path_of literal_array_of literal_map_of
 read ts = template (record { depth = 3; links = 3; subscripts = 1; arrays = 1; bodies = 3 }) ts >>= λ b. Some (output_of b)
 
 module _ (s : Span) where

@@ -72,62 +72,54 @@ no_dot _ h = refl
 
 -- expressions, before the end of a tag
 pub expression_sound : (l : Limits) (in_loop : Bool) (items : Items) (x : Expression × Items) → expression_of l in_loop items ≡ Some x → IsExpression l in_loop x.0 × (items ≡ expression_yield x.0 x.1)
-unfolding IsExpression expression_yield
+unfolding IsExpression
 expression_sound l in_loop items x h = let (is, condition, within) = wholes.expression_found l in_loop items x.1 x.0 h in ((condition, within), is)
 
 pub expression_found : (l : Limits) (in_loop : Bool) (e : Expression) (rest : Items) → IsExpression l in_loop e → ends_expression rest ≡ true → expression_of l in_loop (expression_yield e rest) ≡ Some (e, rest)
-unfolding IsExpression expression_yield
+unfolding IsExpression
 expression_found l in_loop e rest is ends = wholes.expression_read l in_loop e rest is.0 is.1 (ends_stop rest (finish_stop rest ends))
 
 pub expression_size : (e : Expression) (rest : Items) → size rest ≤ size (expression_yield e rest)
-unfolding expression_yield
 expression_size e rest = yield_later (IsLonger rest) (longer rest) e rest (le_refl _)
 
 pub expression_closed : (e : Expression) (rest : Items) → IsClosed true rest → IsClosed true (expression_yield e rest)
-unfolding expression_yield
 expression_closed e rest is = yield_later (IsClosed true) closed_later e rest is
 
 -- it is read as no call of a component with a body
 pub expression_plain : (in_loop : Bool) (e : Expression) → has_body (expression_output in_loop e) ≡ false
-unfolding expression_output
 expression_plain in_loop e = output_bodiless in_loop e
 
 -- filters of a tag, before a bar or the end of the tag
 pub filter_sound : (l : Limits) (in_loop : Bool) (items : Items) (x : Filtering × Items) → filter_of l in_loop items ≡ Some x → IsFilter l in_loop x.0 × (items ≡ filter_yield x.0 x.1)
-unfolding IsFilter filter_yield
+unfolding IsFilter
 filter_sound l in_loop items x h = let (is, condition, within) = wholes.filter_found l in_loop items x.1 x.0 h in ((condition, within), is)
 
 pub filter_found : (l : Limits) (in_loop : Bool) (f : Filtering) (rest : Items) → IsFilter l in_loop f → ends_filter rest ≡ true → filter_of l in_loop (filter_yield f rest) ≡ Some (f, rest)
-unfolding IsFilter filter_yield
+unfolding IsFilter
 filter_found l in_loop f rest is ends = wholes.filter_read_whole l in_loop f rest is.0 is.1 (no_arguments rest ends)
 
 pub filter_size : (f : Filtering) (rest : Items) → size rest ≤ size (filter_yield f rest)
-unfolding filter_yield
 filter_size f rest = omega (arith, args_later (IsLonger rest) (longer rest) f.args rest (le_refl _))
 
 pub filter_closed : (f : Filtering) (rest : Items) → IsClosed true rest → IsClosed true (filter_yield f rest)
-unfolding filter_yield
 filter_closed f rest is = args_later (IsClosed true) closed_later f.args rest is
 
 -- attributes, before a slash or `>`
 pub attributes_sound : (l : Limits) (in_loop : Bool) (items : Items) (x : Attributes × Items) → attributes_of l in_loop items ≡ Some x → AreAttributes l in_loop x.0 × (items ≡ attributes_yield x.0 x.1)
-unfolding AreAttributes attributes_yield
+unfolding AreAttributes
 attributes_sound l in_loop items x h = let (is, condition, within) = wholes.attributes_found_whole l in_loop items x.1 x.0 h in ((condition, within), is)
 
 pub attributes_found : (l : Limits) (in_loop : Bool) (a : Attributes) (rest : Items) → AreAttributes l in_loop a → ends_attributes rest ≡ true → attributes_of l in_loop (attributes_yield a rest) ≡ Some (a, rest)
-unfolding AreAttributes attributes_yield
+unfolding AreAttributes
 attributes_found l in_loop a rest is ends = wholes.attributes_read_whole l in_loop a rest is.0 is.1 (no_attribute rest ends)
 
 pub attributes_size : (a : Attributes) (rest : Items) → size rest ≤ size (attributes_yield a rest)
-unfolding attributes_yield
 attributes_size a rest = attributes_later (IsLonger rest) (longer rest) a rest (le_refl _)
 
 pub attributes_closed : (a : Attributes) (rest : Items) → IsClosed true rest → IsClosed true (attributes_yield a rest)
-unfolding attributes_yield
 attributes_closed a rest is = attributes_later (IsClosed true) closed_later a rest is
 
 pub attributes_begin : (a : Attributes) (rest : Items) → begins Dot rest ≡ false → begins Dot (attributes_yield a rest) ≡ false
-unfolding attributes_yield
 attributes_begin no_attributes rest h = h
 attributes_begin (bare n a) rest h = refl
 attributes_begin (quoted n s x t a) rest h = refl
@@ -136,23 +128,18 @@ attributes_begin (spreading b s e c a) rest h = refl
 
 -- the name of a component, before any token but a dot
 pub component_sound : (items : Items) (x : ComponentName × Items) → component_of items ≡ Some x → items ≡ component_yield x.0 x.1
-unfolding component_yield
 component_sound items x h = wholes.path_found items x.1 x.0 h
 
 pub component_found : (n : ComponentName) (rest : Items) → begins Dot rest ≡ false → component_of (component_yield n rest) ≡ Some (n, rest)
-unfolding component_yield
 component_found n rest ends = wholes.path_read n rest (no_dot rest ends)
 
 pub component_size : (n : ComponentName) (rest : Items) → size rest ≤ size (component_yield n rest)
-unfolding component_yield
 component_size n rest = omega (arith, dotted_later (IsLonger rest) (longer rest) n.further rest (le_refl _))
 
 pub component_closed : (n : ComponentName) (rest : Items) → IsClosed true rest → IsClosed true (component_yield n rest)
-unfolding component_yield
 component_closed n rest is = dotted_later (IsClosed true) closed_later n.further rest is
 
 pub component_begins : (n : ComponentName) (rest : Items) → (text : List ℕ) × (span : Span) × (items : Items) × (component_yield n rest ≡ Token (Ident text) span items)
-unfolding component_yield
 component_begins n rest = (n.name.text, n.name.span, dotted_yield n.further rest, refl)
 
 -- constant arrays and maps, whatever follows

@@ -55,19 +55,15 @@ put_all {X} Q k v (e ∷ es) h hs =
 module _ (P : ℤ → Type 0) (negates : (n : ℤ) → P n → P (neg_ℤ n)) where
   -- what is in tags
   expression_holds : (f : Bool) (e : Expression) (r : Items) → EachNumber P (expression_yield e r) → EachConstant P (expression_output f e) × EachNumber P r
-  unfolding expression_yield expression_output
   expression_holds f e r h = constants_hold P negates f e r h
 
   filter_holds : (f : Bool) (span : Span) (x : Filtering) (r : Items) → EachNumber P (filter_yield x r) → EachConstant P (filter_output f span x) × EachNumber P r
-  unfolding filter_yield filter_output
   filter_holds f span x r h = let y = args_hold P negates f x.args r h in ((tt, y.0), y.1)
 
   attributes_hold_too : (f : Bool) (a : Attributes) (r : Items) → EachNumber P (attributes_yield a r) → EachOfEntries P (attributes_output f a) × EachNumber P r
-  unfolding attributes_yield attributes_output
   attributes_hold_too f a r h = attributes_hold P negates f a r h
 
   after_component : (n : ComponentName) (r : Items) → EachNumber P (component_yield n r) → EachNumber P r
-  unfolding component_yield
   after_component n r h = after_dotted P n.further r h
 
   array_holds : (l : Limits) (a : LiteralArray) (r : Items) → IsLiteralArray l a → EachNumber P (array_yield a r) → EachOfValues P (array_output a) × EachNumber P r
