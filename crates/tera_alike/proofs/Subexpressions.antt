@@ -10,11 +10,11 @@ use Rattle.tera_ast.specs.Tree.{Expr}
 use Rattle.tera_grammar.specs.expressions.Marks.{mark, Comma, RightBrace}
 use Rattle.tera_grammar.specs.expressions.Concrete.{Name, Truth, Second, no_second, second, Dotted, no_dots, dots, Kind, of_arguments, of_items, of_entries, closing, Tree, Atomic, Suffixed, Literal, Call, Array, Map, Row, ended, only, then, Element, plain, spread, pair, argument, Attributes, no_attributes, bare, quoted, valued, spreading, Filter, Args, no_args, args, second_yield, dotted_yield, row_yield, attributes_yield, args_yield}
 use Rattle.tera_grammar.specs.expressions.Conditions.{AreVariables, IsRow, AreAttributes, AreArgs}
-use Rattle.tera_grammar.specs.expressions.Measures.{row_deep, arrays}
+use Rattle.tera_grammar.specs.expressions.Measures.{row_measure, arrays}
 use Rattle.tera_grammar.specs.expressions.Output.{quote_text, key_of, dotted_text, key_variable, value_variable, with_value, constant_items, constant_entries, put_pair, items_output, item_output, entries_output, entry_output, attributes_output, args_output}
 use Rattle.tera_source.specs.Placeless.{placeless_args, placeless_items, placeless_entries}
 use Rattle.tera_source.proofs.Places.{name_at, second_at, dotted_at, row_at, element_at, args_at, attributes_at, tokens_at, tree_tokens}
-use Rattle.tera_source.proofs.SameMeasures.{deep_same}
+use Rattle.tera_source.proofs.SameMeasures.{measure_same}
 use Rattle.tera_source.proofs.SameOutput.{output_same}
 use Rattle.tera_source.proofs.SameConditions.{bound_same}
 
@@ -146,8 +146,8 @@ module _ (at : Items → Span) where
   variables_bound n no_second r more h = h
   variables_bound n (second s m) r more h = h
 
-  pub items_deep : (row : Row) (r : Items) → row_deep arrays (row_at at of_items row r) ≡ row_deep arrays row
-  items_deep row r = let same = deep_same at arrays (Atomic (Array nowhere row)) r in omega arith
+  pub items_deep : (row : Row) (r : Items) → row_measure arrays (row_at at of_items row r) ≡ row_measure arrays row
+  items_deep row r = let same = measure_same at arrays (Atomic (Array nowhere row)) r in omega arith
 
   module _ (l : Bool) where
     pub items_bound : (row : Row) (r : Items) → IsRow l of_items row → IsRow l of_items (row_at at of_items row r)

@@ -13,7 +13,7 @@ use Rattle.tera_ast.specs.Tree.{Expr}
 use Rattle.tera_grammar.specs.expressions.Concrete.{Name, Lit, Number, Quoted, Truth, Sign, Negative, Negates, Joint, plainly, negated, Single, NotIn, Tree, Atomic, Prefix, Suffixed, Infix, Atom, Literal, Null, Chain, Call, Paren, Array, Comprehension, Map, Component, Links, no_links, field, item, Sub, index, slice, Part, absent, present, Extra, no_extra, extra, Row, ended, only, then, Element, plain, spread, pair, argument, Attributes, no_attributes, bare, quoted, valued, spreading, Suffix, Test, Filter, Subscript, Args, no_args, args, Operator, Binary, Condition}
 use Rattle.tera_grammar.specs.expressions.Spans.{spanning, sign_span, last, row_end}
 use Rattle.tera_grammar.specs.expressions.Powers.{sign_power, left_power, right_power}
-use Rattle.tera_grammar.specs.expressions.Measures.{links, atom_links, links_links, sub_links, part_links, extra_links, row_links, element_links, attributes_links, suffix_links, args_links, operator_links, Within, openings, subscripts, arrays}
+use Rattle.tera_grammar.specs.expressions.Measures.{Measure, measure, links, linking, atom_measure, links_measure, sub_measure, part_measure, extra_measure, row_measure, element_measure, attributes_measure, suffix_measure, args_measure, operator_measure, Within, openings, subscripts, arrays}
 use Rattle.tera_grammar.specs.Limits.{Limits}
 use Rattle.tera_grammar.specs.expressions.Conditions.{IsExpression}
 use Rattle.tera_grammar.specs.expressions.Output.{literal_value, same_key, put_pair, put_arg, constant_entries, map_made, prefixed, is_optional_joint, is_optional_bracket, of_loop, field_output, output, links_output, sub_output, part_output, extra_output, arguments_output, argument_output, items_output, item_output, entries_output, entry_output, attributes_output, args_output}
@@ -21,6 +21,7 @@ use Rattle.tera_source.specs.Source.{word, key_literal, number_tree, in_front, v
 use Rattle.tera_source.proofs.Signs.{array_tree}
 use Rattle.tera_spelling.specs.Given.{IsGiven}
 use Rattle.tera_source.proofs.Holds.{Holds}
+use Rattle.tera_source.proofs.Depths.{Weight, weighing, by_opening, by_subscript, by_array, openings_by, subscripts_by, arrays_by}
 use Rattle.tera_source.proofs.Lower.{source_low}
 use Rattle.tera_source.proofs.Sorted.{by_ordering}
 
@@ -46,7 +47,7 @@ mutual
       let five = paren_same (right_power o) q false b in
       links_cond (ltb (left_power o) m || ltb (right_power o) q) _ _ _ (omega arith) (omega arith)
 
-  atom_same : (a : Atom) → atom_links (paren_atom a) ≡ atom_links a
+  atom_same : (a : Atom) → atom_measure linking (paren_atom a) ≡ atom_measure linking a
   atom_same (Literal x s) = refl
   atom_same (Null n) = refl
   atom_same (Chain n ls) = links_same ls
@@ -60,57 +61,57 @@ mutual
   atom_same (Map s row) = row_same row
   atom_same (Component s n ds ats t u) = attributes_same ats
 
-  links_same : (ls : Links) → links_links (paren_links ls) ≡ links_links ls
+  links_same : (ls : Links) → links_measure linking (paren_links ls) ≡ links_measure linking ls
   links_same no_links = refl
   links_same (field d n ls) = let one = links_same ls in omega arith
   links_same (item b s ls) = let one = sub_same s in let two = links_same ls in omega arith
 
-  sub_same : (s : Sub) → sub_links (paren_sub s) ≡ sub_links s
+  sub_same : (s : Sub) → sub_measure linking (paren_sub s) ≡ sub_measure linking s
   sub_same (index e c) = paren_same 0 0 false e
   sub_same (slice a s b x c) = let one = part_same a in let two = part_same b in let three = extra_same 0 x in omega arith
 
-  part_same : (a : Part) → part_links (paren_part a) ≡ part_links a
+  part_same : (a : Part) → part_measure linking (paren_part a) ≡ part_measure linking a
   part_same absent = refl
   part_same (present e) = paren_same 0 0 false e
 
-  extra_same : (m : ℕ) (x : Extra) → extra_links (paren_extra m x) ≡ extra_links x
+  extra_same : (m : ℕ) (x : Extra) → extra_measure linking (paren_extra m x) ≡ extra_measure linking x
   extra_same m no_extra = refl
   extra_same m (extra s e) = paren_same m 0 false e
 
-  row_same : (row : Row) → row_links (paren_row row) ≡ row_links row
+  row_same : (row : Row) → row_measure linking (paren_row row) ≡ row_measure linking row
   row_same (ended s) = refl
   row_same (only x s) = element_same x
   row_same (then x s xs) = let one = element_same x in let two = row_same xs in omega arith
 
-  element_same : (x : Element) → element_links (paren_element x) ≡ element_links x
+  element_same : (x : Element) → element_measure linking (paren_element x) ≡ element_measure linking x
   element_same (plain e) = paren_same 0 0 false e
   element_same (spread s e) = paren_same 0 0 false e
   element_same (pair x s t e) = paren_same 0 0 false e
   element_same (argument n s e) = paren_same 0 0 false e
 
-  attributes_same : (ats : Attributes) → attributes_links (paren_attributes ats) ≡ attributes_links ats
+  attributes_same : (ats : Attributes) → attributes_measure linking (paren_attributes ats) ≡ attributes_measure linking ats
   attributes_same no_attributes = refl
   attributes_same (bare n ats) = attributes_same ats
   attributes_same (quoted n s x t ats) = attributes_same ats
   attributes_same (valued n s b e c ats) = let one = paren_same 0 0 false e in let two = attributes_same ats in omega arith
   attributes_same (spreading b s e c ats) = let one = paren_same 0 0 false e in let two = attributes_same ats in omega arith
 
-  suffix_same : (s : Suffix) → suffix_links (paren_suffix s) ≡ suffix_links s
+  suffix_same : (s : Suffix) → suffix_measure linking (paren_suffix s) ≡ suffix_measure linking s
   suffix_same (Test s n w g) = let one = args_same g in omega arith
   suffix_same (Filter s w g) = let one = args_same g in omega arith
   suffix_same (Subscript s b) = let one = sub_same b in omega arith
 
-  args_same : (g : Args) → args_links (paren_args g) ≡ args_links g
+  args_same : (g : Args) → args_measure linking (paren_args g) ≡ args_measure linking g
   args_same no_args = refl
   args_same (args s row) = row_same row
 
-  operator_same : (o : Operator) → operator_links (paren_operator o) ≡ operator_links o
+  operator_same : (o : Operator) → operator_measure linking (paren_operator o) ≡ operator_measure linking o
   operator_same (Binary o) = refl
   operator_same (Condition s c t) = paren_same 0 0 false c
 
 -- Rows
 
-in_front_few : (x : Element) (row : Row) → row_links (in_front x row) ≤ element_links x + row_links row
+in_front_few : (x : Element) (row : Row) → row_measure linking (in_front x row) ≤ element_measure linking x + row_measure linking row
 in_front_few x (ended s) = omega arith
 in_front_few x (only y s) = omega arith
 in_front_few x (then y s ys) = omega arith
@@ -119,13 +120,13 @@ abbrev arguments_links : tree.Args → ℕ
 arguments_links tree.NoArgs = 0
 arguments_links (tree.Arg n e g) = links (tree_of e) + arguments_links g
 
-arguments_row_few : (g : tree.Args) → row_links (arguments_row g) ≤ arguments_links g
+arguments_row_few : (g : tree.Args) → row_measure linking (arguments_row g) ≤ arguments_links g
 arguments_row_few tree.NoArgs = zero-le
 arguments_row_few (tree.Arg n e g) =
     let one = in_front_few (argument (word n) nowhere (tree_of e)) (arguments_row g) in
     let two = arguments_row_few g in omega arith
 
-args_of_few : (g : tree.Args) → args_links (args_of g) ≤ arguments_links g
+args_of_few : (g : tree.Args) → args_measure linking (args_of g) ≤ arguments_links g
 args_of_few tree.NoArgs = zero-le
 args_of_few (tree.Arg n e g) = arguments_row_few (tree.Arg n e g)
 
@@ -145,7 +146,7 @@ abbrev pairs_links : Pairs → ℕ
 pairs_links values.NoPairs = 0
 pairs_links (values.OnePair k v ps) = links (value_tree v) + pairs_links ps
 
-entries_row_few : (es : tree.Entries) → row_links (entries_row es) ≤ entries_links es
+entries_row_few : (es : tree.Entries) → row_measure linking (entries_row es) ≤ entries_links es
 entries_row_few tree.NoEntries = zero-le
 entries_row_few (tree.Entry k e es) =
     let one = in_front_few (pair (key_literal k) nowhere nowhere (tree_of e)) (entries_row es) in
@@ -154,7 +155,7 @@ entries_row_few (tree.SpreadEntry e es) =
     let one = in_front_few (spread nowhere (tree_of e)) (entries_row es) in
     let two = entries_row_few es in omega arith
 
-pairs_row_few : (ps : Pairs) → row_links (pairs_row ps) ≤ pairs_links ps
+pairs_row_few : (ps : Pairs) → row_measure linking (pairs_row ps) ≤ pairs_links ps
 pairs_row_few values.NoPairs = zero-le
 pairs_row_few (values.OnePair k v ps) =
     let one = in_front_few (pair (key_literal k) nowhere nowhere (value_tree v)) (pairs_row ps) in
@@ -186,7 +187,7 @@ map_few k es span (Some ps) h p = let low = pairs_row_few ps in omega arith
 
 -- Links, subscripts, negations and attributes
 
-after_few : (ls more : Links) → links_links (following ls more) ≡ links_links ls + links_links more
+after_few : (ls more : Links) → links_measure linking (following ls more) ≡ links_measure linking ls + links_measure linking more
 after_few no_links more = omega arith
 after_few (field d n ls) more = let low = after_few ls more in omega arith
 after_few (item b s ls) more = let low = after_few ls more in omega arith
@@ -195,7 +196,7 @@ with_field_few : (t : Tree) (o : Bool) (n : List ℕ) → links (with_field t o 
 with_field_few (Atomic (Chain v ls)) o n = let one = after_few ls (field (joint_for o) (word n) no_links) in omega arith
 with_field_few _ o n = omega arith
 
-with_sub_few : (t : Tree) (o : Bool) (s : Sub) → links (with_sub t o s) ≤ links t + suc (sub_links s)
+with_sub_few : (t : Tree) (o : Bool) (s : Sub) → links (with_sub t o s) ≤ links t + suc (sub_measure linking s)
 with_sub_few (Atomic (Chain v ls)) o s = let low = after_few ls (item (bracket_for o) s no_links) in omega arith
 with_sub_few _ o s = omega arith
 
@@ -217,11 +218,11 @@ prefix_few (Negative s) (tree.Const (values.I64 n) t) span = let low = number_fe
 prefix_few (Negative s) _ span = le_refl _
 prefix_few (Negates s) e span = let same = negation_few (tree_of e) in omega arith
 
-attributes_cond : (b : Bool) (x y : Attributes) (k : ℕ) → attributes_links x ≤ k → attributes_links y ≤ k → attributes_links (cond b x y) ≤ k
+attributes_cond : (b : Bool) (x y : Attributes) (k : ℕ) → attributes_measure linking x ≤ k → attributes_measure linking y ≤ k → attributes_measure linking (cond b x y) ≤ k
 attributes_cond true x y k h g = h
 attributes_cond false x y k h g = g
 
-attribute_few : (n : List ℕ) (e : Expr) (t : Tree) (ats : Attributes) → attributes_links (attribute n e t ats) ≤ links t + attributes_links ats
+attribute_few : (n : List ℕ) (e : Expr) (t : Tree) (ats : Attributes) → attributes_measure linking (attribute n e t ats) ≤ links t + attributes_measure linking ats
 attribute_few n (tree.Var v s) t ats =
     attributes_cond (bytes_eq n v) (bare (word n) ats) (valued (word n) nowhere nowhere t nowhere ats) _ (omega arith) (omega arith)
 attribute_few n (tree.Const (values.Text text) s) t ats = omega arith
@@ -246,7 +247,7 @@ mutual
   written_few l (Infix a (Condition s c t) b) =
       let one = written_few l a in let two = written_few l b in let three = written_few l c in omega arith
 
-  atom_few : (l : Bool) (a : Atom) → links (tree_of (output l (Atomic a))) ≤ atom_links a
+  atom_few : (l : Bool) (a : Atom) → links (tree_of (output l (Atomic a))) ≤ atom_measure linking a
   atom_few l (Literal x s) = value_few x s
   atom_few l (Null v) = zero-le
   atom_few l (Chain v ls) = let low = links_few l (of_loop l v) (tree.Var v.text v.span) ls in omega arith
@@ -255,16 +256,16 @@ mutual
       let two = arguments_few l row tree.NoArgs in omega arith
   atom_few l (Paren s e t) = written_few l e
   atom_few l (Array s row) =
-      subst (λ t. links t ≤ atom_links (Array s row)) (sym (array_tree (items_output l row) (spanning s (row_end row)))) (items_few l row)
+      subst (λ t. links t ≤ atom_measure linking (Array s row)) (sym (array_tree (items_output l row) (spanning s (row_end row)))) (items_few l row)
   atom_few l (Comprehension s e f v u i t g c) =
       let one = written_few l e in let two = written_few l t in let three = extra_few l g in omega arith
   atom_few l (Map s row) =
       let es = entries_few l row in
-      map_few (row_links row) (entries_output l row) (spanning s (row_end row)) (constant_entries (entries_output l row) values.NoPairs) es
-      (constants_few (row_links row) (entries_output l row) values.NoPairs (omega arith))
+      map_few (row_measure linking row) (entries_output l row) (spanning s (row_end row)) (constant_entries (entries_output l row) values.NoPairs) es
+      (constants_few (row_measure linking row) (entries_output l row) values.NoPairs (omega arith))
   atom_few l (Component s v ds ats t u) = attributes_few l ats
 
-  links_few : (l c : Bool) (e : Expr) (ls : Links) → links (tree_of (links_output l c e ls)) ≤ links (tree_of e) + links_links ls
+  links_few : (l c : Bool) (e : Expr) (ls : Links) → links (tree_of (links_output l c e ls)) ≤ links (tree_of e) + links_measure linking ls
   links_few l c e no_links = omega arith
   links_few l c e (field d v ls) =
       let one = field_few c e d v in let two = links_few l c (field_output c e d v) ls in omega arith
@@ -272,7 +273,7 @@ mutual
       let one = sub_few l (is_optional_bracket b) e s in
       let two = links_few l c (sub_output l (is_optional_bracket b) e s) ls in omega arith
 
-  sub_few : (l o : Bool) (e : Expr) (s : Sub) → links (tree_of (sub_output l o e s)) ≤ links (tree_of e) + suc (sub_links s)
+  sub_few : (l o : Bool) (e : Expr) (s : Sub) → links (tree_of (sub_output l o e s)) ≤ links (tree_of e) + suc (sub_measure linking s)
   sub_few l o e (index i c) =
       let one = written_few l i in let two = with_sub_few (tree_of e) o (index (tree_of (output l i)) nowhere) in omega arith
   sub_few l o e (slice a s b x c) =
@@ -282,49 +283,49 @@ mutual
       let four = with_sub_few (tree_of e) o (slice (part_of (part_output l a)) nowhere (part_of (part_output l b)) (extra_of (extra_output l x)) nowhere) in
       omega arith
 
-  part_few : (l : Bool) (a : Part) → part_links (part_of (part_output l a)) ≤ part_links a
+  part_few : (l : Bool) (a : Part) → part_measure linking (part_of (part_output l a)) ≤ part_measure linking a
   part_few l absent = zero-le
   part_few l (present e) = written_few l e
 
-  extra_few : (l : Bool) (x : Extra) → extra_links (extra_of (extra_output l x)) ≤ extra_links x
+  extra_few : (l : Bool) (x : Extra) → extra_measure linking (extra_of (extra_output l x)) ≤ extra_measure linking x
   extra_few l no_extra = zero-le
   extra_few l (extra s e) = written_few l e
 
-  arguments_few : (l : Bool) (row : Row) (g : tree.Args) → arguments_links (arguments_output l row g) ≤ row_links row + arguments_links g
+  arguments_few : (l : Bool) (row : Row) (g : tree.Args) → arguments_links (arguments_output l row g) ≤ row_measure linking row + arguments_links g
   arguments_few l (ended s) g = omega arith
   arguments_few l (only x s) g = argument_few l x g
   arguments_few l (then x s xs) g =
       let one = argument_few l x g in let two = arguments_few l xs (argument_output l x g) in omega arith
 
-  argument_few : (l : Bool) (x : Element) (g : tree.Args) → arguments_links (argument_output l x g) ≤ element_links x + arguments_links g
+  argument_few : (l : Bool) (x : Element) (g : tree.Args) → arguments_links (argument_output l x g) ≤ element_measure linking x + arguments_links g
   argument_few l (argument v s e) g = let one = written_few l e in let two = put_few v.text (output l e) g in omega arith
   argument_few l (plain e) g = omega arith
   argument_few l (spread s e) g = omega arith
   argument_few l (pair x s t e) g = omega arith
 
-  items_few : (l : Bool) (row : Row) → row_links (items_row (items_output l row)) ≤ row_links row
+  items_few : (l : Bool) (row : Row) → row_measure linking (items_row (items_output l row)) ≤ row_measure linking row
   items_few l (ended s) = zero-le
   items_few l (only x s) = let one = item_few l x tree.NoItems in omega arith
   items_few l (then x s xs) = let one = item_few l x (items_output l xs) in let two = items_few l xs in omega arith
 
-  item_few : (l : Bool) (x : Element) (is : tree.Items) → row_links (items_row (item_output l x is)) ≤ element_links x + row_links (items_row is)
+  item_few : (l : Bool) (x : Element) (is : tree.Items) → row_measure linking (items_row (item_output l x is)) ≤ element_measure linking x + row_measure linking (items_row is)
   item_few l (plain e) is = let one = written_few l e in let two = in_front_few (plain (tree_of (output l e))) (items_row is) in omega arith
   item_few l (spread s e) is = let one = written_few l e in let two = in_front_few (spread nowhere (tree_of (output l e))) (items_row is) in omega arith
   item_few l (pair x s t e) is = omega arith
   item_few l (argument v s e) is = omega arith
 
-  entries_few : (l : Bool) (row : Row) → entries_links (entries_output l row) ≤ row_links row
+  entries_few : (l : Bool) (row : Row) → entries_links (entries_output l row) ≤ row_measure linking row
   entries_few l (ended s) = zero-le
   entries_few l (only x s) = let one = entry_few l x tree.NoEntries in omega arith
   entries_few l (then x s xs) = let one = entry_few l x (entries_output l xs) in let two = entries_few l xs in omega arith
 
-  entry_few : (l : Bool) (x : Element) (es : tree.Entries) → entries_links (entry_output l x es) ≤ element_links x + entries_links es
+  entry_few : (l : Bool) (x : Element) (es : tree.Entries) → entries_links (entry_output l x es) ≤ element_measure linking x + entries_links es
   entry_few l (pair x s t e) es = let one = written_few l e in omega arith
   entry_few l (spread s e) es = let one = written_few l e in omega arith
   entry_few l (plain e) es = omega arith
   entry_few l (argument v s e) es = omega arith
 
-  attributes_few : (l : Bool) (ats : Attributes) → attributes_links (attributes_of (attributes_output l ats)) ≤ attributes_links ats
+  attributes_few : (l : Bool) (ats : Attributes) → attributes_measure linking (attributes_of (attributes_output l ats)) ≤ attributes_measure linking ats
   attributes_few l no_attributes = zero-le
   attributes_few l (bare v ats) =
       let one = attribute_few v.text (tree.Var v.text v.span) (tree_of (tree.Var v.text v.span)) (attributes_of (attributes_output l ats)) in
@@ -336,7 +337,7 @@ mutual
       let three = attributes_few l ats in omega arith
   attributes_few l (spreading b s e c ats) = let two = written_few l e in let three = attributes_few l ats in omega arith
 
-  args_few : (l : Bool) (g : Args) → args_links (args_of (args_output l g)) ≤ args_links g
+  args_few : (l : Bool) (g : Args) → args_measure linking (args_of (args_output l g)) ≤ args_measure linking g
   args_few l no_args = zero-le
   args_few l (args s row) =
       let one = args_of_few (arguments_output l row tree.NoArgs) in let two = arguments_few l row tree.NoArgs in omega arith
@@ -347,12 +348,15 @@ source_few l t = let one = paren_same 0 0 false (tree_of (output l t)) in let tw
 -- what is written for the output of an expression is within the limits of the expression
 pub source_within : (limits : Limits) (l : Bool) (t : Tree) → Holds IsGiven t → IsExpression l t → Within limits t → Within limits (source_tree (output l t))
 source_within limits l t n h w =
-    let high = source_low openings l t n h in
     let few = source_few l t in
-    let nested = source_low subscripts l t n h in
-    let arrayed = source_low arrays l t n h in
+    let high = low openings by_opening openings_by in
+    let nested = low subscripts by_subscript subscripts_by in
+    let arrayed = low arrays by_array arrays_by in
     let one = w.depth in
     let two = w.few_links in
     let three = w.few_subscripts in
     let four = w.few_arrays in
     record { depth = omega arith; few_links = omega arith; few_subscripts = omega arith; few_arrays = omega arith }
+  where
+    low : (m : Measure) (w : Weight) → weighing w ≡ m → measure m (source_tree (output l t)) ≤ measure m t
+    low m w same = subst (λ m. measure m (source_tree (output l t)) ≤ measure m t) same (source_low w l t n h)

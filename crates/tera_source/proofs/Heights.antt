@@ -10,7 +10,7 @@ use Rattle.tera_grammar.specs.expressions.Operators.{In}
 use Rattle.tera_ast.specs.Tree.{Expr}
 use Rattle.tera_grammar.specs.expressions.Concrete.{Sign, Negative, Negates, plainly, negated, Single, NotIn, Tree, Atomic, Prefix, Suffixed, Infix, Suffix, Test, Filter, Subscript, Operator, Binary}
 use Rattle.tera_grammar.specs.expressions.Powers.{sign_power, left_power, right_power}
-use Rattle.tera_grammar.specs.expressions.Measures.{Weight, deep}
+use Rattle.tera_source.proofs.Depths.{Weight, deep}
 use Rattle.tera_grammar.specs.expressions.Output.{prefixed}
 use Rattle.tera_source.specs.Source.{number_tree, negation_of, tree_of, asked, kept_out, in_parens, paren, paren_suffix, paren_operator}
 

@@ -2,6 +2,7 @@ pub mod Signs
 pub mod Sorted
 pub mod Loose
 pub mod WrittenOutputs
+pub mod Depths
 pub mod Heights
 pub mod Lower
 pub mod Fewer

@@ -13,7 +13,7 @@ use Rattle.tera_ast.specs.Tree.{Expr}
 use Rattle.tera_grammar.specs.expressions.Concrete.{Name, Lit, Number, Quoted, Truth, Joint, plainly, negated, Single, NotIn, Kind, of_arguments, of_items, of_entries, Tree, Atomic, Prefix, Suffixed, Infix, Atom, Literal, Null, Chain, Call, Paren, Array, Comprehension, Map, Component, Links, no_links, field, item, Sub, index, slice, Part, absent, present, Extra, no_extra, extra, Row, ended, only, then, Element, plain, spread, pair, argument, Attributes, no_attributes, bare, quoted, valued, spreading, Test, Filter, Subscript, Args, no_args, args, Binary, Condition, literal_token}
 use Rattle.tera_grammar.specs.expressions.Spans.{spanning, sign_span, first, last, row_end}
 use Rattle.tera_grammar.specs.expressions.Powers.{sign_power, left_power, right_power, AtLeast, BeginsPlain}
-use Rattle.tera_grammar.specs.expressions.Measures.{Weight, deep, atom_deep, links_deep, sub_deep, part_deep, extra_deep, row_deep, element_deep, attributes_deep, args_deep}
+use Rattle.tera_source.proofs.Depths.{Weight, deep, atom_deep, links_deep, sub_deep, part_deep, extra_deep, row_deep, element_deep, attributes_deep, args_deep}
 use Rattle.tera_grammar.specs.expressions.Conditions.{IsExpression, IsAtom, AreLinks, IsSub, IsPart, IsExtra, IsRow, IsElement, AreAttributes, AreArgs}
 use Rattle.tera_grammar.specs.expressions.Output.{literal_value, same_key, put_pair, put_arg, constant_entries, map_made, is_optional_joint, is_optional_bracket, of_loop, field_output, output, links_output, sub_output, part_output, extra_output, arguments_output, argument_output, items_output, item_output, entries_output, entry_output, attributes_output, args_output}
 use Rattle.tera_source.specs.Source.{word, key_literal, in_front, value_tree, pairs_row, following, joint_for, bracket_for, with_field, with_sub, attribute, tree_of, part_of, extra_of, arguments_row, args_of, items_row, entries_row, attributes_of, source_tree, paren, paren_links, paren_sub, paren_part, paren_extra, paren_row, paren_element, paren_attributes, paren_args}

@@ -10,7 +10,7 @@ use Rattle.tera_grammar.specs.expressions.Concrete.{Name, Sign, Negative, Negate
 use Rattle.tera_grammar.specs.expressions.Powers.{right_of, op_right, left_power, right_power, sign_power, AtLeast, Above, Carries}
 use Rattle.tera_grammar.specs.Words.{is_not, AreDistinct}
 use Rattle.tera_grammar.specs.expressions.Conditions.{AreVariables, argument_names, is_refused, IsExpression, IsAtom, AreLinks, IsSub, IsPart, IsExtra, IsRow, IsElement, AreAttributes, IsSuffix, AreArgs, IsOperator}
-use Rattle.tera_grammar.specs.expressions.Measures.{deep, atom_deep, links_deep, sub_deep, part_deep, extra_deep, row_deep, element_deep, attributes_deep, suffix_deep, args_deep, operator_deep, openings, subscripts, arrays, links, atom_links, links_links, sub_links, part_links, extra_links, row_links, attributes_links, suffix_links, args_links, operator_links, EachElement, EachRow, EachAttribute}
+use Rattle.tera_grammar.specs.expressions.Measures.{measure, atom_measure, links_measure, sub_measure, part_measure, extra_measure, row_measure, element_measure, attributes_measure, suffix_measure, args_measure, operator_measure, openings, subscripts, arrays, links, linking, EachElement, EachRow, EachAttribute}
 use Rattle.tera_grammar.specs.expressions.Output.{of_loop}
 use Rattle.tera_grammar.specs.Options.{◌>>=◌}
 use Rattle.tera_grammar.specs.expressions.Reading.Front.{Place, at, same_token, no_link, link_of, Lead, leads_binary, leads_condition, ends_test, ends_filter, ends_subscript, lead_power, keeps_out, head_mark}
@@ -34,7 +34,7 @@ abbrev pub Fits : ℕ → Room → ℕ → ℕ → ℕ → Type 0
 Fits d w high nested inner = (high ≤ d) × (nested ≤ w.subscripts) × (inner ≤ w.arrays)
 
 abbrev pub FitsTree : ℕ → Room → Tree → Type 0
-FitsTree d w t = Fits d w (deep openings t) (deep subscripts t) (deep arrays t)
+FitsTree d w t = Fits d w (measure openings t) (measure subscripts t) (measure arrays t)
 
 pub expr_bars : (d : ℕ) → Bars (expr d)
 unfolding expr head_mark
@@ -83,9 +83,9 @@ suffix_rest (Filter s x g) r = name_yield x (args_yield g r)
 suffix_rest (Subscript s b) r = sub_yield b r
 
 suffix_cost : Suffix → ℕ
-suffix_cost (Test s n x g) = args_links g
-suffix_cost (Filter s x g) = args_links g
-suffix_cost (Subscript s b) = sub_links b
+suffix_cost (Test s n x g) = args_measure linking g
+suffix_cost (Filter s x g) = args_measure linking g
+suffix_cost (Subscript s b) = sub_measure linking b
 
 front_suffix : (s : Suffix) (r : Items) → front (suffix_yield s r) ≡ closes (ending_of s) (suffix_rest s r)
 unfolding suffix_rest
@@ -240,15 +240,15 @@ Reaches t = (d : ℕ) (w : Room) (m k : ℕ) (r : Items) → IsExpression w.in_l
 -- an operand at a power of its own
 pub operand : (e : Tree) → Reaches e → (d : ℕ) (w : Room) (m k : ℕ) (r : Items) → IsExpression w.in_loop e → AtLeast m e
     → Quiet e r → Stops m r
-    → Fits d w (deep openings e + 1) (deep subscripts e) (deep arrays e)
+    → Fits d w (measure openings e + 1) (measure subscripts e) (measure arrays e)
     → expr d w m (at (links e + k) (yield e r)) ≡ Some (e, at k r)
 operand e reach d w m k r is left quiet stops fits =
-    within (λ c. expr c w m (at (links e + k) (yield e r)) ≡ Some (e, at k r)) d (deep openings e) (omega (arith, fits.0)) (λ c le.
+    within (λ c. expr c w m (at (links e + k) (yield e r)) ≡ Some (e, at k r)) d (measure openings e) (omega (arith, fits.0)) (λ c le.
     reach c w m k r is left quiet (le, fits.1, fits.2) ∙ loop_stops c w m e (at k r) stops)
 
 -- an expression before a stop
 inside : (e : Tree) → Reaches e → (d : ℕ) (w : Room) → IsExpression w.in_loop e
-    → Fits d w (deep openings e + 1) (deep subscripts e) (deep arrays e) → Whole (expr d) links w e
+    → Fits d w (measure openings e + 1) (measure subscripts e) (measure arrays e) → Whole (expr d) links w e
 inside e reach d w is fits m stop s k r =
     let ends = ends_mark m stop s r in
     operand e reach d w 0 k (mark m s r) is (at_zero _) (Quiet-ends e (mark m s r) ends) (ends_stops (mark m s r) ends 0) fits
@@ -272,79 +272,79 @@ no_dot (spreading b s e c ats) t r = refl
 no_attribute : (t : Span) (r : Items) → NoAttribute (mark (Operation Div) t r)
 no_attribute t r = record { name = refl; brace = refl; assign = refl }
 
-suffix_sum : (a : Tree) (s : Suffix) (k : ℕ) → (links a + suffix_links s) + k ≡ links a + suc (suffix_cost s + k)
+suffix_sum : (a : Tree) (s : Suffix) (k : ℕ) → (links a + suffix_measure linking s) + k ≡ links a + suc (suffix_cost s + k)
 unfolding suffix_cost
 suffix_sum a (Test s n x g) k = omega arith
 suffix_sum a (Filter s x g) k = omega arith
 suffix_sum a (Subscript s b) k = omega arith
 
 links_all : (ls : Links) (d : ℕ) (w : Room) (c : Bool) (k : ℕ) (r : Items)
-    → links_by (suc (size (links_yield ls r))) (expr d) w c (at (links_links ls + k) (links_yield ls r)) ≡ Some (ls, at k r)
-    → links_of (expr d) w c (at (links_links ls + k) (links_yield ls r)) ≡ Some (ls, at k r)
+    → links_by (suc (size (links_yield ls r))) (expr d) w c (at (links_measure linking ls + k) (links_yield ls r)) ≡ Some (ls, at k r)
+    → links_of (expr d) w c (at (links_measure linking ls + k) (links_yield ls r)) ≡ Some (ls, at k r)
 unfolding links_of
 links_all ls d w c k r h = h
 
 arguments_are_read : (row : Row) (d : ℕ) (w : Room) (k : ℕ) (r : Items) → IsRow w.in_loop of_arguments row
     → AreDistinct (argument_names row) → EachRow (Whole (expr d) links w) row
-    → arguments_of (expr d) w (at (row_links row + k) (row_yield of_arguments row r)) ≡ Some (row, at k r)
+    → arguments_of (expr d) w (at (row_measure linking row + k) (row_yield of_arguments row r)) ≡ Some (row, at k r)
 arguments_are_read row d w k r is distinct each =
     ap (λ i. arguments_of (expr d) w (at (i + k) (row_yield of_arguments row r))) (sym (row_toll_links row))
     ∙ arguments_read (expr d) links (expr_bars d) w row k r is distinct each
 
 -- an array opens in a smaller room
 array_in : (s : Span) (row : Row) (d : ℕ) (l : Bool) (n a : ℕ) (k : ℕ) (r : Items) → IsRow l of_items row
-    → ((b : ℕ) → Fits d (room l n b) (row_deep openings row) (row_deep subscripts row) (row_deep arrays row)
+    → ((b : ℕ) → Fits d (room l n b) (row_measure openings row) (row_measure subscripts row) (row_measure arrays row)
     → EachRow (Whole (expr d) links (room l n b)) row)
-    → Fits d (room l n a) (row_deep openings row) (row_deep subscripts row) (row_deep arrays row + 1)
-    → head_of (expr d) (room l n a) (at (row_links row + k) (mark LeftBracket s (row_yield of_items row r))) ≡ Some
+    → Fits d (room l n a) (row_measure openings row) (row_measure subscripts row) (row_measure arrays row + 1)
+    → head_of (expr d) (room l n a) (at (row_measure linking row + k) (mark LeftBracket s (row_yield of_items row r))) ≡ Some
     (Atomic (Array s row), at k r)
 array_in s row d l n zero k r is each fits = absurd (omega (arith, fits.2))
 array_in s row d l n (suc a) k r is each fits =
-    array_head (expr d) (expr_bars d) l n a s (at 0 r) (row_links row + k) (row_yield of_items row r)
+    array_head (expr d) (expr_bars d) l n a s (at 0 r) (row_measure linking row + k) (row_yield of_items row r)
     ∙ ap (λ i. array_at (expr d) (room l n (suc a)) (room l n a) s (at (i + k) (row_yield of_items row r))
     (skip RightBracket (at (i + k) (row_yield of_items row r)))) (sym (row_toll_links row))
     ∙ array_row (expr d) (expr_bars d) (room l n (suc a)) (room l n a) s row k r is (each a (fits.0, fits.1, omega (arith, fits.2)))
 
 comprehension_in : (s : Span) (e : Tree) (g : Span) (n : Name) (m : Second) (i : Span) (t : Tree) (x : Extra) (c : Span) (d : ℕ)
     (l : Bool) (b a : ℕ) (k : ℕ) (r : Items) → AreVariables n m
-    → ((v : ℕ) → Fits d (room l b v) (deep openings e + 1) (deep subscripts e) (deep arrays e)
+    → ((v : ℕ) → Fits d (room l b v) (measure openings e + 1) (measure subscripts e) (measure arrays e)
     → Whole (expr d) links (room l b v) e)
     → ((j : ℕ) → expr d (room l b a) 1 (at (links t + j) (yield t (extra_yield If x (mark RightBracket c r)))) ≡ Some
     (t, at j (extra_yield If x (mark RightBracket c r))))
-    → extra_of (expr d) (room l b a) If 1 (at (extra_links x + k) (extra_yield If x (mark RightBracket c r))) ≡ Some
+    → extra_of (expr d) (room l b a) If 1 (at (extra_measure linking x + k) (extra_yield If x (mark RightBracket c r))) ≡ Some
     (x, at k (mark RightBracket c r))
-    → Fits d (room l b a) (deep openings e + 1) (deep subscripts e) (deep arrays e + 1)
-    → head_of (expr d) (room l b a) (at ((links e + (links t + extra_links x)) + k)
+    → Fits d (room l b a) (measure openings e + 1) (measure subscripts e) (measure arrays e + 1)
+    → head_of (expr d) (room l b a) (at ((links e + (links t + extra_measure linking x)) + k)
     (atom_yield (Comprehension s e g n m i t x c) r)) ≡ Some (Atomic (Comprehension s e g n m i t x c), at k r)
 comprehension_in s e g n m i t x c d l b zero k r vars element target guard fits = absurd (omega (arith, fits.2))
 comprehension_in s e g n m i t x c d l b (suc a) k r vars element target guard fits =
     let us = name_yield n (second_yield m (mark (Operation In) i (yield t (extra_yield If x (mark RightBracket c r))))) in
-    let whole = element a (fits.0, fits.1, omega (arith, fits.2)) For tt g (links t + (extra_links x + k)) us in
+    let whole = element a (fits.0, fits.1, omega (arith, fits.2)) For tt g (links t + (extra_measure linking x + k)) us in
     ap (λ j. head_of (expr d) (room l b (suc a)) (at j (atom_yield (Comprehension s e g n m i t x c) r))) (omega arith)
-    ∙ array_head (expr d) (expr_bars d) l b a s (at 0 r) (links e + (links t + (extra_links x + k))) (yield e (mark For g us))
+    ∙ array_head (expr d) (expr_bars d) l b a s (at 0 r) (links e + (links t + (extra_measure linking x + k))) (yield e (mark For g us))
     ∙ comprehension_read (expr d) (expr_bars d) (room l b (suc a)) (room l b a) s e g n m i t x c
-    (links e + (links t + (extra_links x + k))) (links t + (extra_links x + k)) k r
-    whole vars (target (extra_links x + k)) guard
+    (links e + (links t + (extra_measure linking x + k))) (links t + (extra_measure linking x + k)) k r
+    whole vars (target (extra_measure linking x + k)) guard
 
 -- what a subscript reads first, and what it reads then
 abbrev ReadsSub : ℕ → Room → Sub → ℕ → Items → Type 0
-ReadsSub d w b k r = (o : Reads Span) × (skip Colon (at (sub_links b + k) (sub_yield b r)) ≡ o)
-    × (sub_at (expr d) w (at (sub_links b + k) (sub_yield b r)) o ≡ Some (b, at k r))
+ReadsSub d w b k r = (o : Reads Span) × (skip Colon (at (sub_measure linking b + k) (sub_yield b r)) ≡ o)
+    × (sub_at (expr d) w (at (sub_measure linking b + k) (sub_yield b r)) o ≡ Some (b, at k r))
 
 sub_in : (b : Sub) (d : ℕ) (l : Bool) (n a : ℕ) (k : ℕ) (r : Items)
-    → ((s : ℕ) → Fits d (room l s a) (sub_deep openings b) (sub_deep subscripts b) (sub_deep arrays b)
+    → ((s : ℕ) → Fits d (room l s a) (sub_measure openings b) (sub_measure subscripts b) (sub_measure arrays b)
     → ReadsSub d (room l s a) b k r)
-    → Fits d (room l n a) (sub_deep openings b) (sub_deep subscripts b + 1) (sub_deep arrays b)
-    → sub_of (expr d) (room l n a) (at (sub_links b + k) (sub_yield b r)) ≡ Some (b, at k r)
+    → Fits d (room l n a) (sub_measure openings b) (sub_measure subscripts b + 1) (sub_measure arrays b)
+    → sub_of (expr d) (room l n a) (at (sub_measure linking b + k) (sub_yield b r)) ≡ Some (b, at k r)
 sub_in b d l zero a k r reads fits = absurd (omega (arith, fits.1))
 sub_in b d l (suc s) a k r reads fits =
     let (o, is, read) = reads s (fits.0, omega (arith, fits.1), fits.2) in
-    sub_read (expr d) (expr_bars d) l s a (at (sub_links b + k) (sub_yield b r)) o (b, at k r) is read
+    sub_read (expr d) (expr_bars d) l s a (at (sub_measure linking b + k) (sub_yield b r)) o (b, at k r) is read
 
 -- before the step of a slice, or its end
 part_before : (b : Part) (x : Extra) (d : ℕ) (w : Room) (k : ℕ) (c : Span) (r : Items) → EachPart (Whole (expr d) links w) b
-    → part_of (expr d) w (at (part_links b + (extra_links x + k)) (part_yield b (extra_yield Colon x (mark RightBracket c r))))
-    ≡ Some (b, at (extra_links x + k) (extra_yield Colon x (mark RightBracket c r)))
+    → part_of (expr d) w (at (part_measure linking b + (extra_measure linking x + k)) (part_yield b (extra_yield Colon x (mark RightBracket c r))))
+    ≡ Some (b, at (extra_measure linking x + k) (extra_yield Colon x (mark RightBracket c r)))
 part_before b no_extra d w k c r each = part_read (expr d) (expr_bars d) w b RightBracket (inr refl) tt c (0 + k) r each
 part_before b (extra s e) d w k c r each = part_read (expr d) (expr_bars d) w b Colon (inl refl) tt s (links e + k)
     (yield e (mark RightBracket c r)) each
@@ -368,27 +368,27 @@ mutual
       (suffix_read s d w k r is.2 quiet (omega (arith, fits.0), omega (arith, fits.1), omega (arith, fits.2)))
   reached (Infix a o e) d w m k r is left quiet fits =
       ap (λ j. expr (suc d) w m (at j (yield a (operator_yield o (yield e r))))) (omega arith)
-      ∙ reached a d w m (operator_links o + (links e + k)) (operator_yield o (yield e r)) is.3 left.1 (before_operator a o _ is.0)
+      ∙ reached a d w m (operator_measure linking o + (links e + k)) (operator_yield o (yield e r)) is.3 left.1 (before_operator a o _ is.0)
       (omega (arith, fits.0), omega (arith, fits.1), omega (arith, fits.2))
-      ∙ goes_on_operator d w m a o e (operator_links o + (links e + k)) (links e + k) k r left.0
+      ∙ goes_on_operator d w m a o e (operator_measure linking o + (links e + k)) (links e + k) k r left.0
       (operator_read o d w (links e + k) (yield e r) is.4 (omega (arith, fits.0), omega (arith, fits.1), omega (arith, fits.2)))
       (operand e (reached e) d w (right_power o) k r is.5 is.1 quiet.1 quiet.0
       (omega (arith, fits.0), omega (arith, fits.1), omega (arith, fits.2)))
       is.2
 
   atom_read : (a : Atom) (d : ℕ) (w : Room) (k : ℕ) (r : Items) → IsAtom w.in_loop a → QuietAtom a r
-      → Fits d w (atom_deep openings a) (atom_deep subscripts a) (atom_deep arrays a)
-      → head_of (expr d) w (at (atom_links a + k) (atom_yield a r)) ≡ Some (Atomic a, at k r)
+      → Fits d w (atom_measure openings a) (atom_measure subscripts a) (atom_measure arrays a)
+      → head_of (expr d) w (at (atom_measure linking a + k) (atom_yield a r)) ≡ Some (Atomic a, at k r)
   atom_read (Literal l s) d w k r is quiet fits = ap (λ i. head_of (expr d) w (at i (Token (literal_token l) s r))) (omega arith)
       ∙ literal_head_read (expr d) (expr_bars d) w l s k r
   atom_read (Null n) d w k r is quiet fits = ap (λ i. head_of (expr d) w (at i (name_yield n r))) (omega arith)
       ∙ nothing_read (expr d) (expr_bars d) w n k r is
   atom_read (Chain n ls) d w k r is quiet fits =
-      chain_read (expr d) (expr_bars d) w n ls (links_links ls + k) k (links_yield ls r) r is.0 (chain_open ls _ r quiet)
+      chain_read (expr d) (expr_bars d) w n ls (links_measure linking ls + k) k (links_yield ls r) r is.0 (chain_open ls _ r quiet)
       (links_all ls d w (of_loop w.in_loop n) k r
       (links_are_read ls d w (of_loop w.in_loop n) (suc (size (links_yield ls r))) k r (omega arith) is.1 quiet fits))
   atom_read (Call n s row) d w k r is quiet fits =
-      call_read (expr d) (expr_bars d) w n s row (row_links row + k) k (row_yield of_arguments row r) r is.0
+      call_read (expr d) (expr_bars d) w n s row (row_measure linking row + k) k (row_yield of_arguments row r) r is.0
       (arguments_are_read row d w k r is.1 is.2 (each_row row of_arguments d w is.1
       (omega (arith, fits.0), omega (arith, fits.1), omega (arith, fits.2))))
   atom_read (Paren s e t) d w k r is quiet fits = paren_read (expr d) (expr_bars d) w s e t k r
@@ -405,18 +405,18 @@ mutual
       (extra_is_read g If refl refl d w 1 k c r is.4 (omega (arith, fits.0), omega (arith, fits.1), omega (arith, fits.2)))
       (omega (arith, fits.0), omega (arith, fits.1), omega (arith, fits.2))
   atom_read (Map s row) d w k r is quiet fits =
-      map_read (expr d) (expr_bars d) w s row (row_links row + k) k (row_yield of_entries row r) r
+      map_read (expr d) (expr_bars d) w s row (row_measure linking row + k) k (row_yield of_entries row r) r
       (ap (λ i. row_of (expr d) w of_entries (at (i + k) (row_yield of_entries row r))) (sym (row_toll_links row))
       ∙ row_read (expr d) links (expr_bars d) w row of_entries k r is (each_row row of_entries d w is fits))
   atom_read (Component s n ds ats t u) d w k r is quiet fits =
-      component_read (expr d) (expr_bars d) w s n ds ats t u (attributes_links ats + k) k r
+      component_read (expr d) (expr_bars d) w s n ds ats t u (attributes_measure linking ats + k) k r
       (dotted_read ds _ _ (no_dot ats t _))
       (ap (λ i. attributes_of (expr d) w (at (i + k) (attributes_yield ats
       (mark (Operation Div) t (mark (Operation GreaterThan) u r))))) (sym (attributes_toll_links ats))
       ∙ attributes_read (expr d) links (expr_bars d) w ats k _ is (each_attribute ats d w is fits) (no_attribute t _))
 
   each_row : (row : Row) (k : Kind) (d : ℕ) (w : Room) → IsRow w.in_loop k row
-      → Fits d w (row_deep openings row) (row_deep subscripts row) (row_deep arrays row) → EachRow (Whole (expr d) links w) row
+      → Fits d w (row_measure openings row) (row_measure subscripts row) (row_measure arrays row) → EachRow (Whole (expr d) links w) row
   each_row (ended s) k d w is fits = tt
   each_row (only x s) k d w is fits = each_element x k d w is fits
   each_row (then x s xs) k d w is fits = (
@@ -426,7 +426,7 @@ mutual
   )
 
   each_element : (x : Element) (k : Kind) (d : ℕ) (w : Room) → IsElement w.in_loop k x
-      → Fits d w (element_deep openings x) (element_deep subscripts x) (element_deep arrays x)
+      → Fits d w (element_measure openings x) (element_measure subscripts x) (element_measure arrays x)
       → EachElement (Whole (expr d) links w) x
   each_element (plain e) k d w is fits = inside e (reached e) d w is.1 (fits.0, omega (arith, fits.1), omega (arith, fits.2))
   each_element (spread s e) k d w is fits = inside e (reached e) d w is.1 (fits.0, omega (arith, fits.1), omega (arith, fits.2))
@@ -434,7 +434,7 @@ mutual
   each_element (argument n s e) k d w is fits = inside e (reached e) d w is.1 (fits.0, omega (arith, fits.1), omega (arith, fits.2))
 
   each_attribute : (x : Attributes) (d : ℕ) (w : Room) → AreAttributes w.in_loop x
-      → Fits d w (attributes_deep openings x) (attributes_deep subscripts x) (attributes_deep arrays x)
+      → Fits d w (attributes_measure openings x) (attributes_measure subscripts x) (attributes_measure arrays x)
       → EachAttribute (Whole (expr d) links w) x
   each_attribute no_attributes d w is fits = tt
   each_attribute (bare n ats) d w is fits = each_attribute ats d w is fits
@@ -452,29 +452,29 @@ mutual
 
   links_are_read : (ls : Links) (d : ℕ) (w : Room) (c : Bool) (n k : ℕ) (r : Items) → size (links_yield ls r) < n
       → AreLinks w.in_loop c ls → link_of r ≡ no_link
-      → Fits d w (links_deep openings ls) (links_deep subscripts ls) (links_deep arrays ls)
-      → links_by n (expr d) w c (at (links_links ls + k) (links_yield ls r)) ≡ Some (ls, at k r)
+      → Fits d w (links_measure openings ls) (links_measure subscripts ls) (links_measure arrays ls)
+      → links_by n (expr d) w c (at (links_measure linking ls + k) (links_yield ls r)) ≡ Some (ls, at k r)
   links_are_read ls d w c zero k r enough is quiet fits = absurd (omega arith)
   links_are_read no_links d w c (suc n) k r enough is quiet fits = ap (λ i. links_by (suc n) (expr d) w c (at i r)) (omega arith)
       ∙ no_links_read (expr d) (expr_bars d) n w c k r quiet
   links_are_read (field j m ls) d w c (suc n) k r enough is quiet fits =
       let less = longer_joint j (name_yield m (links_yield ls r)) in
       ap (λ i. links_by (suc n) (expr d) w c (at i (joint_yield j (name_yield m (links_yield ls r))))) (omega arith)
-      ∙ field_read (expr d) (expr_bars d) n w c j m ls (links_links ls + k) (links_yield ls r) (at k r) is.0
+      ∙ field_read (expr d) (expr_bars d) n w c j m ls (links_measure linking ls + k) (links_yield ls r) (at k r) is.0
       (links_are_read ls d w c n k r (omega arith) is.1 quiet fits)
   links_are_read (item b s ls) d w c (suc n) k r enough is quiet fits =
       let less = longer_bracket b (sub_yield s (links_yield ls r)) in
       let less_too = longer_sub s (links_yield ls r) in
       ap (λ i. links_by (suc n) (expr d) w c (at i (bracket_yield b (sub_yield s (links_yield ls r))))) (omega arith)
-      ∙ item_link_read (expr d) (expr_bars d) n w c b s ls (sub_links s + (links_links ls + k)) (links_links ls + k)
+      ∙ item_link_read (expr d) (expr_bars d) n w c b s ls (sub_measure linking s + (links_measure linking ls + k)) (links_measure linking ls + k)
       (sub_yield s (links_yield ls r)) (links_yield ls r) (at k r)
-      (sub_in s d w.in_loop w.subscripts w.arrays (links_links ls + k) (links_yield ls r)
-      (λ n h. sub_reads s d (room w.in_loop n w.arrays) (links_links ls + k) (links_yield ls r) is.0 h)
+      (sub_in s d w.in_loop w.subscripts w.arrays (links_measure linking ls + k) (links_yield ls r)
+      (λ n h. sub_reads s d (room w.in_loop n w.arrays) (links_measure linking ls + k) (links_yield ls r) is.0 h)
       (omega (arith, fits.0), omega (arith, fits.1), omega (arith, fits.2)))
       (links_are_read ls d w c n k r (omega arith) is.1 quiet (omega (arith, fits.0), omega (arith, fits.1), omega (arith, fits.2)))
 
   sub_reads : (b : Sub) (d : ℕ) (w : Room) (k : ℕ) (r : Items) → IsSub w.in_loop b
-      → Fits d w (sub_deep openings b) (sub_deep subscripts b) (sub_deep arrays b) → ReadsSub d w b k r
+      → Fits d w (sub_measure openings b) (sub_measure subscripts b) (sub_measure arrays b) → ReadsSub d w b k r
   sub_reads (index e c) d w k r is fits =
       let whole = inside e (reached e) d w is (omega (arith, fits.0), omega (arith, fits.1), omega (arith, fits.2)) in (
         None,
@@ -483,10 +483,10 @@ mutual
             k r whole,
       )
   sub_reads (slice absent s b x c) d w k r is fits = (
-    Some (s, at ((0 + (part_links b + extra_links x)) + k) (part_yield b (extra_yield Colon x (mark RightBracket c r)))),
+    Some (s, at ((0 + (part_measure linking b + extra_measure linking x)) + k) (part_yield b (extra_yield Colon x (mark RightBracket c r)))),
     skip_mark Colon refl _ s _,
     ap (λ i. slice_of (expr d) w absent s (at i (part_yield b (extra_yield Colon x (mark RightBracket c r))))) (omega arith)
-        ∙ slice_read (expr d) (expr_bars d) w absent b x s c (part_links b + (extra_links x + k)) k r
+        ∙ slice_read (expr d) (expr_bars d) w absent b x s c (part_measure linking b + (extra_measure linking x + k)) k r
         (part_before b x d w k c r (each_part b d w is.1 (omega (arith, fits.0), omega (arith, fits.1), omega (arith, fits.2))))
         (extra_is_read x Colon refl refl d w 0 k c r is.2
         (omega (arith, fits.0), omega (arith, fits.1), omega (arith, fits.2))),
@@ -494,14 +494,14 @@ mutual
   sub_reads (slice (present e) s b x c) d w k r is fits =
       let us = part_yield b (extra_yield Colon x (mark RightBracket c r)) in
       let whole = inside e (reached e) d w is.0 (omega (arith, fits.0), omega (arith, fits.1), omega (arith, fits.2)) in
-      let read : expr d w 0 (at ((links e + (part_links b + extra_links x)) + k) (yield e (mark Colon s us))) ≡ Some
-      (e, at (part_links b + (extra_links x + k)) (mark Colon s us)) =
+      let read : expr d w 0 (at ((links e + (part_measure linking b + extra_measure linking x)) + k) (yield e (mark Colon s us))) ≡ Some
+      (e, at (part_measure linking b + (extra_measure linking x + k)) (mark Colon s us)) =
       ap (λ i. expr d w 0 (at i (yield e (mark Colon s us)))) (omega arith)
-      ∙ whole Colon tt s (part_links b + (extra_links x + k)) us in (
+      ∙ whole Colon tt s (part_measure linking b + (extra_measure linking x + k)) us in (
         None,
         free (expr d) (expr_bars d) Colon tt w 0 _ _ _ read,
-        start_read (expr d) (expr_bars d) w e s _ (part_links b + (extra_links x + k)) us (slice (present e) s b x c, at k r) read
-            (slice_read (expr d) (expr_bars d) w (present e) b x s c (part_links b + (extra_links x + k)) k r
+        start_read (expr d) (expr_bars d) w e s _ (part_measure linking b + (extra_measure linking x + k)) us (slice (present e) s b x c, at k r) read
+            (slice_read (expr d) (expr_bars d) w (present e) b x s c (part_measure linking b + (extra_measure linking x + k)) k r
             (part_before b x d w k c r (each_part b d w is.1 (
               omega (arith, fits.0),
               omega (arith, fits.1),
@@ -512,15 +512,15 @@ mutual
       )
 
   each_part : (b : Part) (d : ℕ) (w : Room) → IsPart w.in_loop b
-      → Fits d w (part_deep openings b) (part_deep subscripts b) (part_deep arrays b) → EachPart (Whole (expr d) links w) b
+      → Fits d w (part_measure openings b) (part_measure subscripts b) (part_measure arrays b) → EachPart (Whole (expr d) links w) b
   each_part absent d w is fits = tt
   each_part (present e) d w is fits = inside e (reached e) d w is
       (omega (arith, fits.0), omega (arith, fits.1), omega (arith, fits.2))
 
   extra_is_read : (x : Extra) (m : Mark) → same_token (mark_token m) (mark_token m) ≡ true
       → same_token (mark_token RightBracket) (mark_token m) ≡ false → (d : ℕ) (w : Room) (p k : ℕ) (c : Span) (r : Items)
-      → IsExtra w.in_loop p x → Fits d w (extra_deep openings x) (extra_deep subscripts x) (extra_deep arrays x)
-      → extra_of (expr d) w m p (at (extra_links x + k) (extra_yield m x (mark RightBracket c r))) ≡ Some
+      → IsExtra w.in_loop p x → Fits d w (extra_measure openings x) (extra_measure subscripts x) (extra_measure arrays x)
+      → extra_of (expr d) w m p (at (extra_measure linking x + k) (extra_yield m x (mark RightBracket c r))) ≡ Some
       (x, at k (mark RightBracket c r))
   extra_is_read no_extra m own other d w p k c r is fits =
       ap (λ i. extra_of (expr d) w m p (at i (mark RightBracket c r))) (omega arith)
@@ -532,30 +532,30 @@ mutual
       (omega (arith, fits.0), omega (arith, fits.1), omega (arith, fits.2)))
 
   suffix_read : (s : Suffix) (d : ℕ) (w : Room) (k : ℕ) (r : Items) → IsSuffix w.in_loop s → QuietSuffix s r
-      → Fits d w (suffix_deep openings s) (suffix_deep subscripts s) (suffix_deep arrays s)
+      → Fits d w (suffix_measure openings s) (suffix_measure subscripts s) (suffix_measure arrays s)
       → suffix_in (expr d) w (ending_of s) (at (suffix_cost s + k) (suffix_rest s r)) ≡ Some (s, at k r)
-  suffix_read (Test s plainly x g) d w k r is quiet fits = test_plain d w s x g (args_links g + k) k (args_yield g r) r is.0
+  suffix_read (Test s plainly x g) d w k r is quiet fits = test_plain d w s x g (args_measure linking g + k) k (args_yield g r) r is.0
       (args_are_read g d w k r is.1 quiet fits)
-  suffix_read (Test s (negated t) x g) d w k r is quiet fits = test_negated d w s t x g (args_links g + k) k (args_yield g r) r
+  suffix_read (Test s (negated t) x g) d w k r is quiet fits = test_negated d w s t x g (args_measure linking g + k) k (args_yield g r) r
       (args_are_read g d w k r is.1 quiet fits)
-  suffix_read (Filter s x g) d w k r is quiet fits = filter_read d w s x g (args_links g + k) k (args_yield g r) r
+  suffix_read (Filter s x g) d w k r is quiet fits = filter_read d w s x g (args_measure linking g + k) k (args_yield g r) r
       (args_are_read g d w k r is quiet fits)
-  suffix_read (Subscript s b) d w k r is quiet fits = subscript_read d w s b (sub_links b + k) k (sub_yield b r) r
+  suffix_read (Subscript s b) d w k r is quiet fits = subscript_read d w s b (sub_measure linking b + k) k (sub_yield b r) r
       (sub_in b d w.in_loop w.subscripts w.arrays k r (λ n h. sub_reads b d (room w.in_loop n w.arrays) k r is h)
       (omega (arith, fits.0), omega (arith, fits.1), omega (arith, fits.2)))
 
   args_are_read : (g : Args) (d : ℕ) (w : Room) (k : ℕ) (r : Items) → AreArgs w.in_loop g → QuietArgs g r
-      → Fits d w (args_deep openings g) (args_deep subscripts g) (args_deep arrays g)
-      → args_of (expr d) w (at (args_links g + k) (args_yield g r)) ≡ Some (g, at k r)
+      → Fits d w (args_measure openings g) (args_measure subscripts g) (args_measure arrays g)
+      → args_of (expr d) w (at (args_measure linking g + k) (args_yield g r)) ≡ Some (g, at k r)
   args_are_read no_args d w k r is quiet fits = ap (λ i. args_of (expr d) w (at i r)) (omega arith)
       ∙ no_args_read (expr d) (expr_bars d) w k r quiet
   args_are_read (args s row) d w k r is quiet fits =
-      args_read (expr d) (expr_bars d) w s row (row_links row + k) k (row_yield of_arguments row r) r
+      args_read (expr d) (expr_bars d) w s row (row_measure linking row + k) k (row_yield of_arguments row r) r
       (arguments_are_read row d w k r is.0 is.1 (each_row row of_arguments d w is.0 fits))
 
   operator_read : (o : Operator) (d : ℕ) (w : Room) (k : ℕ) (r : Items) → IsOperator w.in_loop o
-      → Fits d w (operator_deep openings o) (operator_deep subscripts o) (operator_deep arrays o)
-      → operator_of (expr d) w (lead_of o) (at (operator_links o + k) (operator_rest o r)) ≡ Some (o, at k r)
+      → Fits d w (operator_measure openings o) (operator_measure subscripts o) (operator_measure arrays o)
+      → operator_of (expr d) w (lead_of o) (at (operator_measure linking o + k) (operator_rest o r)) ≡ Some (o, at k r)
   operator_read (Binary o) d w k r is fits = ap (λ i. operator_of (expr d) w (leads_binary o) (at i r)) (omega arith)
       ∙ binary_read d w o k r
   operator_read (Condition s c t) d w k r is fits = condition_read d w s c t k r

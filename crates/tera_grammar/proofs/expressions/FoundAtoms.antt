@@ -11,7 +11,7 @@ use Rattle.tera_grammar.specs.expressions.Concrete.{Name, Simple, Escaped, Lit, 
 use Rattle.tera_grammar.specs.expressions.Powers.{sign_power, left_spine, BeginsPlain}
 use Rattle.tera_grammar.specs.Words.{is_none, is_not, is_reserved}
 use Rattle.tera_grammar.specs.expressions.Conditions.{IsFirst, AreVariables, IsExpression}
-use Rattle.tera_grammar.specs.expressions.Measures.{deep, subscripts, arrays, height, links}
+use Rattle.tera_grammar.specs.expressions.Measures.{measure, subscripts, arrays, height, links}
 use Rattle.tera_grammar.specs.expressions.Output.{of_loop}
 use Rattle.tera_grammar.specs.Options.{◌>>=◌}
 use Rattle.tera_grammar.specs.expressions.Reading.Front.{Place, at, among, head_marks, head_mark, begins_sign}
@@ -32,8 +32,8 @@ pub record FoundHead (d : ℕ) (w : Room) (p : Place) (t : Tree) (q : Place) : T
   pub left : left_spine t ≡ []
   pub quiet : Quiet t q.tokens
   pub high : height t ≤ suc d
-  pub nested : deep subscripts t ≤ w.subscripts
-  pub inner : deep arrays t ≤ w.arrays
+  pub nested : measure subscripts t ≤ w.subscripts
+  pub inner : measure arrays t ≤ w.arrays
 
 plain_from : (t : Tree) (r : Items) → begins_sign (yield t r) ≡ false → BeginsPlain t
 unfolding begins_sign

@@ -10,7 +10,7 @@ use Rattle.tera_grammar.specs.expressions.Concrete.{Name, Negation, plainly, neg
 use Rattle.tera_grammar.specs.expressions.Powers.{left_power, right_power, AtLeast, Above, Carries}
 use Rattle.tera_grammar.specs.Words.{is_not}
 use Rattle.tera_grammar.specs.expressions.Conditions.{NamesTest, argument_names, is_refused, IsExpression, IsSuffix, IsOperator}
-use Rattle.tera_grammar.specs.expressions.Measures.{deep, suffix_deep, operator_deep, openings, subscripts, arrays, height, links, suffix_links, operator_links}
+use Rattle.tera_grammar.specs.expressions.Measures.{measure, suffix_measure, operator_measure, openings, subscripts, arrays, height, links, linking}
 use Rattle.tera_grammar.specs.expressions.Reading.Front.{Place, at, Lead, leads_binary, leads_condition, Ending, ends_test, ends_filter, ends_subscript, lead_power, keeps_out}
 use Rattle.tera_grammar.proofs.plain.expressions.Reading.Front.{Reads, takes, skip, Front, nothing, joins, closes, misplaced, front}
 use Rattle.tera_grammar.specs.expressions.Reading.Rooms.{Room}
@@ -27,12 +27,12 @@ use Rattle.tera_grammar.proofs.expressions.FoundAtoms.{head_found}
 
 pub record FoundOperator (d : ℕ) (w : Room) (e : Lead) (p : Place) (o : Operator) (q : Place) : Type 0 where
   pub spelled : lead_tokens e p.tokens ≡ operator_yield o q.tokens
-  pub counted : p.links ≡ operator_links o + q.links
+  pub counted : p.links ≡ operator_measure linking o + q.links
   pub power : left_power o ≡ lead_power e
   pub is : IsOperator w.in_loop o
-  pub high : operator_deep openings o ≤ d
-  pub nested : operator_deep subscripts o ≤ w.subscripts
-  pub inner : operator_deep arrays o ≤ w.arrays
+  pub high : operator_measure openings o ≤ d
+  pub nested : operator_measure subscripts o ≤ w.subscripts
+  pub inner : operator_measure arrays o ≤ w.arrays
 
 abbrev pub ending_of : Suffix → Ending
 ending_of (Test s n m g) = ends_test s
@@ -41,13 +41,13 @@ ending_of (Subscript s b) = ends_subscript s
 
 pub record FoundSuffix (d : ℕ) (w : Room) (e : Ending) (p : Place) (x : Suffix) (q : Place) : Type 0 where
   pub spelled : ending_tokens e p.tokens ≡ suffix_yield x q.tokens
-  pub counted : suc p.links ≡ suffix_links x + q.links
+  pub counted : suc p.links ≡ suffix_measure linking x + q.links
   pub kind : ending_of x ≡ e
   pub is : IsSuffix w.in_loop x
   pub quiet : QuietSuffix x q.tokens
-  pub high : suffix_deep openings x ≤ d
-  pub nested : suffix_deep subscripts x ≤ w.subscripts
-  pub inner : suffix_deep arrays x ≤ w.arrays
+  pub high : suffix_measure openings x ≤ d
+  pub nested : suffix_measure subscripts x ≤ w.subscripts
+  pub inner : suffix_measure arrays x ≤ w.arrays
 
 -- what is known of the operand that the loop goes on with
 pub record Operand (d : ℕ) (w : Room) (m : ℕ) (l : Tree) (ts : Items) : Type 0 where
@@ -55,8 +55,8 @@ pub record Operand (d : ℕ) (w : Room) (m : ℕ) (l : Tree) (ts : Items) : Type
   pub left : AtLeast m l
   pub quiet : Quiet l ts
   pub high : height l ≤ suc d
-  pub nested : deep subscripts l ≤ w.subscripts
-  pub inner : deep arrays l ≤ w.arrays
+  pub nested : measure subscripts l ≤ w.subscripts
+  pub inner : measure arrays l ≤ w.arrays
 
 -- the place where the operand began
 abbrev pub before : Tree → Place → Place
@@ -223,7 +223,7 @@ module _ (d : ℕ) (f : Reader) (sound : SoundTree d f) (w : Room) where
             nested = omega (arith, known.nested, first.nested, found.nested);
             inner = omega (arith, known.inner, first.inner, found.inner);
           };
-          begun = λ l. (ap (λ v. at ((links l + (operator_links o.0 + links r.0)) + r.1.links) (yield l v)) (sym all)
+          begun = λ l. (ap (λ v. at ((links l + (operator_measure linking o.0 + links r.0)) + r.1.links) (yield l v)) (sym all)
               ∙ ap (λ k. at k (yield l p.tokens)) (omega (arith, first.counted, found.counted)));
           shorter = subst (λ v. size r.1.tokens < size v) (sym all) (lt_trans longer_r longer_o);
         })))
@@ -251,7 +251,7 @@ module _ (d : ℕ) (f : Reader) (sound : SoundTree d f) (w : Room) where
             nested = omega (arith, known.nested, found.nested);
             inner = omega (arith, known.inner, found.inner);
           };
-          begun = λ l. (ap (λ v. at ((links l + suffix_links s.0) + s.1.links) (yield l v)) (sym all)
+          begun = λ l. (ap (λ v. at ((links l + suffix_measure linking s.0) + s.1.links) (yield l v)) (sym all)
               ∙ ap (λ k. at k (yield l p.tokens)) (omega (arith, low.0, found.counted)));
           shorter = subst (λ v. size s.1.tokens < size v) (sym all) (longer_suffix s.0 s.1.tokens);
         })))

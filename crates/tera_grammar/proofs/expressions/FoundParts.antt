@@ -6,7 +6,7 @@ use Rattle.tera_lexer.specs.code.Cursors.{size}
 use Rattle.tera_grammar.specs.expressions.Marks.{Mark, LeftParen, RightBracket, Colon, Dot, mark}
 use Rattle.tera_grammar.specs.expressions.Concrete.{Dotted, no_dots, dots, Tree, Links, no_links, field, item, Sub, index, slice, Part, absent, present, Extra, no_extra, extra, Args, no_args, args, name_yield, joint_yield, bracket_yield, dotted_yield, yield, links_yield, sub_yield, part_yield, extra_yield, args_yield}
 use Rattle.tera_grammar.specs.expressions.Conditions.{is_field_of, AreLinks, IsSub, IsPart, IsExtra, AreArgs}
-use Rattle.tera_grammar.specs.expressions.Measures.{links_deep, sub_deep, part_deep, extra_deep, args_deep, openings, subscripts, arrays, links, links_links, sub_links, part_links, extra_links, args_links}
+use Rattle.tera_grammar.specs.expressions.Measures.{links_measure, sub_measure, part_measure, extra_measure, args_measure, openings, subscripts, arrays, links, linking}
 use Rattle.tera_grammar.specs.Options.{◌>>=◌}
 use Rattle.tera_grammar.specs.expressions.Reading.Front.{Place, at, lowered, Link, no_link, jointed, bracketed, called, link_of}
 use Rattle.tera_grammar.proofs.plain.expressions.Reading.Front.{Reads, skip}
@@ -26,45 +26,45 @@ SoundTree d f = Sound links Any d f
 
 pub record FoundExtra (d : ℕ) (w : Room) (c : Mark) (m : ℕ) (p : Place) (x : Extra) (q : Place) : Type 0 where
   pub spelled : p.tokens ≡ extra_yield c x q.tokens
-  pub counted : p.links ≡ extra_links x + q.links
+  pub counted : p.links ≡ extra_measure linking x + q.links
   pub is : IsExtra w.in_loop m x
-  pub high : extra_deep openings x ≤ d
-  pub nested : extra_deep subscripts x ≤ w.subscripts
-  pub inner : extra_deep arrays x ≤ w.arrays
+  pub high : extra_measure openings x ≤ d
+  pub nested : extra_measure subscripts x ≤ w.subscripts
+  pub inner : extra_measure arrays x ≤ w.arrays
 
 pub record FoundPart (d : ℕ) (w : Room) (p : Place) (x : Part) (q : Place) : Type 0 where
   pub spelled : p.tokens ≡ part_yield x q.tokens
-  pub counted : p.links ≡ part_links x + q.links
+  pub counted : p.links ≡ part_measure linking x + q.links
   pub is : IsPart w.in_loop x
-  pub high : part_deep openings x ≤ d
-  pub nested : part_deep subscripts x ≤ w.subscripts
-  pub inner : part_deep arrays x ≤ w.arrays
+  pub high : part_measure openings x ≤ d
+  pub nested : part_measure subscripts x ≤ w.subscripts
+  pub inner : part_measure arrays x ≤ w.arrays
 
 pub record FoundSub (d : ℕ) (w : Room) (p : Place) (x : Sub) (q : Place) : Type 0 where
   pub spelled : p.tokens ≡ sub_yield x q.tokens
-  pub counted : p.links ≡ sub_links x + q.links
+  pub counted : p.links ≡ sub_measure linking x + q.links
   pub is : IsSub w.in_loop x
-  pub high : sub_deep openings x ≤ d
-  pub nested : sub_deep subscripts x ≤ w.subscripts
-  pub inner : sub_deep arrays x ≤ w.arrays
+  pub high : sub_measure openings x ≤ d
+  pub nested : sub_measure subscripts x ≤ w.subscripts
+  pub inner : sub_measure arrays x ≤ w.arrays
 
 pub record FoundArgs (d : ℕ) (w : Room) (p : Place) (x : Args) (q : Place) : Type 0 where
   pub spelled : p.tokens ≡ args_yield x q.tokens
-  pub counted : p.links ≡ args_links x + q.links
+  pub counted : p.links ≡ args_measure linking x + q.links
   pub is : AreArgs w.in_loop x
   pub quiet : QuietArgs x q.tokens
-  pub high : args_deep openings x ≤ d
-  pub nested : args_deep subscripts x ≤ w.subscripts
-  pub inner : args_deep arrays x ≤ w.arrays
+  pub high : args_measure openings x ≤ d
+  pub nested : args_measure subscripts x ≤ w.subscripts
+  pub inner : args_measure arrays x ≤ w.arrays
 
 pub record FoundLinks (d : ℕ) (w : Room) (c : Bool) (p : Place) (x : Links) (q : Place) : Type 0 where
   pub spelled : p.tokens ≡ links_yield x q.tokens
-  pub counted : p.links ≡ links_links x + q.links
+  pub counted : p.links ≡ links_measure linking x + q.links
   pub is : AreLinks w.in_loop c x
   pub quiet : link_of q.tokens ≡ no_link
-  pub high : links_deep openings x ≤ d
-  pub nested : links_deep subscripts x ≤ w.subscripts
-  pub inner : links_deep arrays x ≤ w.arrays
+  pub high : links_measure openings x ≤ d
+  pub nested : links_measure subscripts x ≤ w.subscripts
+  pub inner : links_measure arrays x ≤ w.arrays
 
 pub inside_subscript_ok : (w v : Room) → inside_subscript w ≡ Some v → (s : ℕ) × (w.subscripts ≡ suc s)
     × (room w.in_loop s w.arrays ≡ v)

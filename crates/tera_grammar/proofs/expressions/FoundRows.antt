@@ -10,7 +10,7 @@ use Rattle.tera_grammar.specs.expressions.Concrete.{Name, Quote, Kind, of_argume
 use Rattle.tera_grammar.specs.expressions.Powers.{AtLeast}
 use Rattle.tera_grammar.specs.Words.{are_distinct, AreDistinct}
 use Rattle.tera_grammar.specs.expressions.Conditions.{is_element_of, argument_names, IsExpression, IsRow, IsElement, AreAttributes}
-use Rattle.tera_grammar.specs.expressions.Measures.{deep, row_deep, element_deep, attributes_deep, openings, subscripts, arrays, height, links, row_links, element_links, attributes_links, EachElement, EachRow, EachAttribute}
+use Rattle.tera_grammar.specs.expressions.Measures.{measure, row_measure, element_measure, attributes_measure, openings, subscripts, arrays, height, links, linking, EachElement, EachRow, EachAttribute}
 use Rattle.tera_grammar.specs.expressions.Reading.Front.{Place}
 use Rattle.tera_grammar.proofs.plain.expressions.Reading.Front.{Reads, skip, name_of, quote_at}
 use Rattle.tera_grammar.specs.expressions.Reading.Rooms.{Room}
@@ -33,8 +33,8 @@ pub record Found (toll : Tree → ℕ) (fits : Room → Tree → Type 0) (d : �
   pub quiet : Quiet t q.tokens
   pub stops : Stops m q.tokens
   pub high : height t ≤ d
-  pub nested : deep subscripts t ≤ w.subscripts
-  pub inner : deep arrays t ≤ w.arrays
+  pub nested : measure subscripts t ≤ w.subscripts
+  pub inner : measure arrays t ≤ w.arrays
 
 abbrev pub Sound : (Tree → ℕ) → (Room → Tree → Type 0) → ℕ → Reader → Type 0
 Sound toll fits d f = (w : Room) (m : ℕ) (p : Place) (x : Tree × Place) → f w m p ≡ Some x → Found toll fits d w m p x.0 x.1
@@ -58,18 +58,18 @@ attributes_toll toll (quoted n s l t ats) = attributes_toll toll ats
 attributes_toll toll (valued n s b e c ats) = toll e + attributes_toll toll ats
 attributes_toll toll (spreading b s e c ats) = toll e + attributes_toll toll ats
 
-element_toll_links : (x : Element) → element_toll links x ≡ element_links x
+element_toll_links : (x : Element) → element_toll links x ≡ element_measure linking x
 element_toll_links (plain e) = refl
 element_toll_links (spread s e) = refl
 element_toll_links (pair l s t e) = refl
 element_toll_links (argument n s e) = refl
 
-pub row_toll_links : (row : Row) → row_toll links row ≡ row_links row
+pub row_toll_links : (row : Row) → row_toll links row ≡ row_measure linking row
 row_toll_links (ended s) = refl
 row_toll_links (only x s) = element_toll_links x
 row_toll_links (then x s xs) = rw (element_toll_links x, row_toll_links xs)
 
-pub attributes_toll_links : (x : Attributes) → attributes_toll links x ≡ attributes_links x
+pub attributes_toll_links : (x : Attributes) → attributes_toll links x ≡ attributes_measure linking x
 attributes_toll_links no_attributes = refl
 attributes_toll_links (bare n ats) = attributes_toll_links ats
 attributes_toll_links (quoted n s l t ats) = attributes_toll_links ats
@@ -82,9 +82,9 @@ pub record FoundElement (toll : Tree → ℕ) (fits : Room → Tree → Type 0) 
   pub counted : p.links ≡ element_toll toll x + q.links
   pub each : EachElement (fits w) x
   pub is : IsElement w.in_loop k x
-  pub high : element_deep openings x ≤ d
-  pub nested : element_deep subscripts x ≤ w.subscripts
-  pub inner : element_deep arrays x ≤ w.arrays
+  pub high : element_measure openings x ≤ d
+  pub nested : element_measure subscripts x ≤ w.subscripts
+  pub inner : element_measure arrays x ≤ w.arrays
 
 pub record FoundRow (toll : Tree → ℕ) (fits : Room → Tree → Type 0) (d : ℕ) (w : Room) (k : Kind) (p : Place) (row : Row)
     (q : Place) : Type 0 where
@@ -92,9 +92,9 @@ pub record FoundRow (toll : Tree → ℕ) (fits : Room → Tree → Type 0) (d :
   pub counted : p.links ≡ row_toll toll row + q.links
   pub each : EachRow (fits w) row
   pub is : IsRow w.in_loop k row
-  pub high : row_deep openings row ≤ d
-  pub nested : row_deep subscripts row ≤ w.subscripts
-  pub inner : row_deep arrays row ≤ w.arrays
+  pub high : row_measure openings row ≤ d
+  pub nested : row_measure subscripts row ≤ w.subscripts
+  pub inner : row_measure arrays row ≤ w.arrays
 
 pub record FoundAttributes (toll : Tree → ℕ) (fits : Room → Tree → Type 0) (d : ℕ) (w : Room) (p : Place) (x : Attributes)
     (q : Place) : Type 0 where
@@ -102,9 +102,9 @@ pub record FoundAttributes (toll : Tree → ℕ) (fits : Room → Tree → Type 
   pub counted : p.links ≡ attributes_toll toll x + q.links
   pub each : EachAttribute (fits w) x
   pub is : AreAttributes w.in_loop x
-  pub high : attributes_deep openings x ≤ d
-  pub nested : attributes_deep subscripts x ≤ w.subscripts
-  pub inner : attributes_deep arrays x ≤ w.arrays
+  pub high : attributes_measure openings x ≤ d
+  pub nested : attributes_measure subscripts x ≤ w.subscripts
+  pub inner : attributes_measure arrays x ≤ w.arrays
 
 abbrev pub SoundRow : (Tree → ℕ) → (Room → Tree → Type 0) → ℕ → Room → Kind → (Place → Reads Row) → Type 0
 SoundRow toll fits d w k more = (p : Place) (x : Row × Place) → more p ≡ Some x → FoundRow toll fits d w k p x.0 x.1

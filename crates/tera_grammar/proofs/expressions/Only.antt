@@ -9,7 +9,7 @@ use Rattle.tera_grammar.specs.expressions.Marks.{LeftParen, Dot}
 use Rattle.tera_grammar.specs.expressions.Concrete.{Row, ended, Attributes, Args, no_args, args, attributes_yield}
 use Rattle.tera_grammar.specs.expressions.Conditions.{AreAttributes, AreArgs}
 use Rattle.tera_grammar.specs.Limits.{Limits}
-use Rattle.tera_grammar.specs.expressions.Measures.{row_deep, attributes_deep, openings, subscripts, arrays, row_links, attributes_links, Within, EachRow}
+use Rattle.tera_grammar.specs.expressions.Measures.{row_measure, attributes_measure, openings, subscripts, arrays, Within, EachRow, linking}
 use Rattle.tera_grammar.specs.expressions.Companions.{Opened, kwargs_yield, AreKwargs, Filtering, filter_yield, EachArgs, Path, path_yield, array_yield, IsArray, ArrayWithin, map_yield, IsMap}
 use Rattle.tera_grammar.proofs.plain.expressions.Reading.Front.{takes}
 use Rattle.tera_grammar.proofs.plain.expressions.Reading.Whole.{kwargs_of, filter_of, all_attributes, path_of, literal_array_of, literal_map_of}
@@ -40,8 +40,8 @@ abbrev for_two : (h k n m s t a b : ℕ) → Limits
 for_two h k n m s t a b = record { depth = h + k; links = n + m; subscripts = s + t; arrays = a + b; bodies = 0 }
 
 abbrev rows_limits : Row → Row → Limits
-rows_limits a b = for_two (row_deep openings a) (row_deep openings b) (row_links a) (row_links b) (row_deep subscripts a)
-    (row_deep subscripts b) (row_deep arrays a) (row_deep arrays b)
+rows_limits a b = for_two (row_measure openings a) (row_measure openings b) (row_measure linking a) (row_measure linking b) (row_measure subscripts a)
+    (row_measure subscripts b) (row_measure arrays a) (row_measure arrays b)
 
 first_within : (a b : Row) → EachRow (Within (rows_limits a b)) a
 first_within a b = row_within a (rows_limits a b) (omega arith) (omega arith) (omega arith) (omega arith)
@@ -80,8 +80,8 @@ filter_one l x y r v x_is y_is r_ends v_ends e =
 pub attributes_one : (l : Bool) (x y : Attributes) (r v : Items) → AreAttributes l x → AreAttributes l y → NoAttribute r
     → NoAttribute v → attributes_yield x r ≡ attributes_yield y v → (x ≡ y) × (r ≡ v)
 attributes_one l x y r v x_is y_is r_ends v_ends e =
-    let limits = for_two (attributes_deep openings x) (attributes_deep openings y) (attributes_links x) (attributes_links y)
-    (attributes_deep subscripts x) (attributes_deep subscripts y) (attributes_deep arrays x) (attributes_deep arrays y) in
+    let limits = for_two (attributes_measure openings x) (attributes_measure openings y) (attributes_measure linking x) (attributes_measure linking y)
+    (attributes_measure subscripts x) (attributes_measure subscripts y) (attributes_measure arrays x) (attributes_measure arrays y) in
     let first = attributes_read_whole limits l x r x_is (attributes_within x limits (omega arith) (omega arith) (omega arith)
     (omega arith)) r_ends in
     let other = attributes_read_whole limits l y v y_is (attributes_within y limits (omega arith) (omega arith) (omega arith)
@@ -110,8 +110,8 @@ literal_map_one x y ps qs r v x_is y_is e =
 
 abbrev arrays_limits : Row → Row → Limits
 arrays_limits a b =
-    for_two (row_deep openings a) (row_deep openings b) (row_links a) (row_links b) (row_deep subscripts a) (row_deep subscripts b)
-    (row_deep arrays a + 1) (row_deep arrays b + 1)
+    for_two (row_measure openings a) (row_measure openings b) (row_measure linking a) (row_measure linking b) (row_measure subscripts a) (row_measure subscripts b)
+    (row_measure arrays a + 1) (row_measure arrays b + 1)
 
 pub literal_array_one : (x y : Opened) (vs us : values.Vals) (r v : Items) → IsArray x vs → IsArray y us
     → array_yield x r ≡ array_yield y v → (x ≡ y) × (vs ≡ us) × (r ≡ v)

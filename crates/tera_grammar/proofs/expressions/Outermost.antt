@@ -6,7 +6,7 @@ use Rattle.tera_grammar.specs.expressions.Marks.{mark}
 use Rattle.tera_grammar.specs.expressions.Concrete.{Kind, Tree, Row, ended, only, then, Element, plain, spread, pair, argument, Attributes, no_attributes, bare, quoted, valued, spreading, yield}
 use Rattle.tera_grammar.specs.expressions.Conditions.{IsExpression, IsRow, IsElement, AreAttributes}
 use Rattle.tera_grammar.specs.Limits.{Limits}
-use Rattle.tera_grammar.specs.expressions.Measures.{row_deep, element_deep, attributes_deep, openings, subscripts, arrays, links, row_links, element_links, attributes_links, Within, EachElement, EachRow, EachAttribute}
+use Rattle.tera_grammar.specs.expressions.Measures.{row_measure, element_measure, attributes_measure, openings, subscripts, arrays, links, linking, Within, EachElement, EachRow, EachAttribute}
 use Rattle.tera_grammar.specs.expressions.Reading.Front.{Place, at}
 use Rattle.tera_grammar.specs.expressions.Reading.Rooms.{Room}
 use Rattle.tera_grammar.proofs.plain.expressions.Reading.Bracketed.{Reader}
@@ -137,9 +137,9 @@ attributes_free_toll (valued n s b e c ats) = rw (attributes_free_toll ats)
 attributes_free_toll (spreading b s e c ats) = rw (attributes_free_toll ats)
 
 -- limits that are great enough for each value of a row
-element_within : (x : Element) (limits : Limits) → element_deep openings x ≤ limits.depth → element_links x ≤ limits.links
-    → element_deep subscripts x ≤ limits.subscripts
-    → element_deep arrays x ≤ limits.arrays → EachElement (Within limits) x
+element_within : (x : Element) (limits : Limits) → element_measure openings x ≤ limits.depth → element_measure linking x ≤ limits.links
+    → element_measure subscripts x ≤ limits.subscripts
+    → element_measure arrays x ≤ limits.arrays → EachElement (Within limits) x
 element_within (plain e) limits a b c d = record {
   depth = omega (arith, a);
   few_links = b;
@@ -166,9 +166,9 @@ element_within (argument n s e) limits a b c d = record {
   few_arrays = omega (arith, d);
 }
 
-pub row_within : (row : Row) (limits : Limits) → row_deep openings row ≤ limits.depth → row_links row ≤ limits.links
-    → row_deep subscripts row ≤ limits.subscripts
-    → row_deep arrays row ≤ limits.arrays → EachRow (Within limits) row
+pub row_within : (row : Row) (limits : Limits) → row_measure openings row ≤ limits.depth → row_measure linking row ≤ limits.links
+    → row_measure subscripts row ≤ limits.subscripts
+    → row_measure arrays row ≤ limits.arrays → EachRow (Within limits) row
 row_within (ended s) limits a b c d = tt
 row_within (only x s) limits a b c d = element_within x limits a b c d
 row_within (then x s xs) limits a b c d = (
@@ -177,9 +177,9 @@ row_within (then x s xs) limits a b c d = (
       (omega (arith, a)) (omega (arith, b)) (omega (arith, c)) (omega (arith, d)),
 )
 
-pub attributes_within : (x : Attributes) (limits : Limits) → attributes_deep openings x ≤ limits.depth
-    → attributes_links x ≤ limits.links → attributes_deep subscripts x ≤ limits.subscripts
-    → attributes_deep arrays x ≤ limits.arrays → EachAttribute (Within limits) x
+pub attributes_within : (x : Attributes) (limits : Limits) → attributes_measure openings x ≤ limits.depth
+    → attributes_measure linking x ≤ limits.links → attributes_measure subscripts x ≤ limits.subscripts
+    → attributes_measure arrays x ≤ limits.arrays → EachAttribute (Within limits) x
 attributes_within no_attributes limits a b c d = tt
 attributes_within (bare n ats) limits a b c d = attributes_within ats limits a b c d
 attributes_within (quoted n s l t ats) limits a b c d = attributes_within ats limits a b c d

@@ -10,7 +10,7 @@ use Rattle.tera_grammar.specs.expressions.Concrete.{Name, Simple, Escaped, Lit, 
 use Rattle.tera_grammar.specs.expressions.Powers.{sign_power, BeginsPlain}
 use Rattle.tera_grammar.specs.Words.{is_none, is_not}
 use Rattle.tera_grammar.specs.expressions.Conditions.{IsFirst, is_field_of, AreVariables, IsExpression, IsAtom, IsRow}
-use Rattle.tera_grammar.specs.expressions.Measures.{links, part_links, extra_links, EachRow}
+use Rattle.tera_grammar.specs.expressions.Measures.{links, linking, part_measure, extra_measure, EachRow}
 use Rattle.tera_grammar.specs.expressions.Output.{of_loop}
 use Rattle.tera_grammar.specs.expressions.Reading.Front.{Place, at, same_token, no_link, jointed, bracketed, link_of, head_mark, begins_sign}
 use Rattle.tera_grammar.proofs.plain.expressions.Reading.Front.{Reads, takes, moved, skip, name_of}
@@ -74,7 +74,7 @@ module _ (f : Reader) (bars : Bars f) where
 
   pub part_read : (w : Room) (b : Part) (m : Mark) → (m ≡ Colon) ⊎ (m ≡ RightBracket) → IsStopMark m
       → (s : Span) (k : ℕ) (r : Items) → EachPart (Whole f links w) b
-      → part_of f w (at (part_links b + k) (part_yield b (mark m s r))) ≡ Some (b, at k (mark m s r))
+      → part_of f w (at (part_measure linking b + k) (part_yield b (mark m s r))) ≡ Some (b, at k (mark m s r))
   part_read w absent m which stop s k r whole = ap (λ i. part_of f w (at i (mark m s r))) (omega arith)
       ∙ part_absent w m s k r which
   part_read w (present e) m which stop s k r whole =
@@ -84,8 +84,8 @@ module _ (f : Reader) (bars : Bars f) where
   -- the rest of a slice
   pub slice_read : (w : Room) (a b : Part) (x : Extra) (s c : Span) (j k : ℕ) (r : Items)
       → part_of f w (at j (part_yield b (extra_yield Colon x (mark RightBracket c r)))) ≡ Some
-      (b, at (extra_links x + k) (extra_yield Colon x (mark RightBracket c r)))
-      → extra_of f w Colon 0 (at (extra_links x + k) (extra_yield Colon x (mark RightBracket c r))) ≡ Some
+      (b, at (extra_measure linking x + k) (extra_yield Colon x (mark RightBracket c r)))
+      → extra_of f w Colon 0 (at (extra_measure linking x + k) (extra_yield Colon x (mark RightBracket c r))) ≡ Some
       (x, at k (mark RightBracket c r))
       → slice_of f w a s (at j (part_yield b (extra_yield Colon x (mark RightBracket c r)))) ≡ Some (slice a s b x c, at k r)
   unfolding slice_of
@@ -251,8 +251,8 @@ module _ (f : Reader) (bars : Bars f) where
             (yield t (extra_yield If x (mark RightBracket c r))))))),
       )
       → AreVariables n m → f w 1 (at j (yield t (extra_yield If x (mark RightBracket c r)))) ≡ Some
-      (t, at (extra_links x + k) (extra_yield If x (mark RightBracket c r)))
-      → extra_of f w If 1 (at (extra_links x + k) (extra_yield If x (mark RightBracket c r))) ≡ Some
+      (t, at (extra_measure linking x + k) (extra_yield If x (mark RightBracket c r)))
+      → extra_of f w If 1 (at (extra_measure linking x + k) (extra_yield If x (mark RightBracket c r))) ≡ Some
       (x, at k (mark RightBracket c r))
       → array_at f w v s (at h (yield e (mark For g (name_yield n (second_yield m
       (mark (Operation In) i (yield t (extra_yield If x (mark RightBracket c r)))))))))

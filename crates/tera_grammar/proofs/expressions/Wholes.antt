@@ -8,7 +8,7 @@ use Rattle.tera_grammar.specs.expressions.Marks.{LeftParen, LeftBracket, LeftBra
 use Rattle.tera_grammar.specs.expressions.Concrete.{of_arguments, of_items, of_entries, Tree, Row, ended, only, then, Element, plain, spread, pair, argument, Attributes, Args, no_args, args, name_yield, dotted_yield, yield, row_yield, attributes_yield, args_yield}
 use Rattle.tera_grammar.specs.expressions.Conditions.{IsExpression, IsRow, AreAttributes, AreArgs}
 use Rattle.tera_grammar.specs.Limits.{Limits}
-use Rattle.tera_grammar.specs.expressions.Measures.{deep, row_deep, element_deep, subscripts, arrays, height, links, Within, EachElement, EachRow, EachAttribute}
+use Rattle.tera_grammar.specs.expressions.Measures.{measure, row_measure, element_measure, subscripts, arrays, height, links, Within, EachElement, EachRow, EachAttribute}
 use Rattle.tera_grammar.specs.expressions.Companions.{Opened, kwargs_yield, AreKwargs, Filtering, filter_yield, EachArgs, Path, path_yield, array_yield, array_value, IsArray, ArrayWithin, map_yield, map_value, IsMap}
 use Rattle.tera_grammar.specs.Options.{◌>>=◌}
 use Rattle.tera_grammar.specs.expressions.Reading.Front.{Place, at, link_of}
@@ -63,9 +63,9 @@ expression_one l t u r v t_is u_is r_ends v_ends e =
     let limits : Limits = record {
       depth = height t + height u;
       links = links t + links u;
-      subscripts = deep subscripts t + deep
+      subscripts = measure subscripts t + measure
           subscripts u;
-      arrays = deep arrays t + deep arrays u;
+      arrays = measure arrays t + measure arrays u;
       bodies = 0;
     } in
     let first = expression_read limits l t r t_is (record {
@@ -267,7 +267,7 @@ literal_array_found limits items rest x vs h =
     array_taken limits items rest x vs us s v r begun inside row value (ap (λ (z : (Opened × values.Vals) × Place). (z.0, z.1.tokens)) made ∙ is))))
 
 -- each item fits into the room inside of the array
-element_inside : (x : Element) (limits : Limits) (a : ℕ) → element_deep arrays x ≤ a → EachElement (Within limits) x
+element_inside : (x : Element) (limits : Limits) (a : ℕ) → element_measure arrays x ≤ a → EachElement (Within limits) x
     → EachElement (Fitting limits.bodies limits.depth limits.links (room false limits.subscripts a)) x
 element_inside (plain e) limits a le h = record {
   depth = h.depth;
@@ -294,7 +294,7 @@ element_inside (argument n s e) limits a le h = record {
   few_arrays = omega (arith, le);
 }
 
-row_inside : (row : Row) (limits : Limits) (a : ℕ) → row_deep arrays row ≤ a → EachRow (Within limits) row
+row_inside : (row : Row) (limits : Limits) (a : ℕ) → row_measure arrays row ≤ a → EachRow (Within limits) row
     → EachRow (Fitting limits.bodies limits.depth limits.links (room false limits.subscripts a)) row
 row_inside (ended s) limits a le h = tt
 row_inside (only x s) limits a le h = element_inside x limits a le h
@@ -304,7 +304,7 @@ row_inside (then x s xs) limits a le h = (
       (omega (arith, le)) h.1,
 )
 
-array_read_in : (c d n b a : ℕ) (x : Opened) (r : Items) → IsRow false of_items x.row → row_deep arrays x.row + 1 ≤ a
+array_read_in : (c d n b a : ℕ) (x : Opened) (r : Items) → IsRow false of_items x.row → row_measure arrays x.row + 1 ≤ a
     → EachRow (Within (record { depth = d; links = n; subscripts = b; arrays = a; bodies = c })) x.row
     → (inside_array (room false b a) >>= λ v. row_of (fresh n (expr d)) v of_items (at 0 (row_yield of_items x.row r))) ≡ Some
     (x.row, at 0 r)

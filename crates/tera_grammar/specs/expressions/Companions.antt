@@ -12,7 +12,7 @@ use Rattle.tera_grammar.specs.expressions.Concrete.{Name, Dotted, Tree, Row, Arg
 use Rattle.tera_grammar.specs.Words.{AreDistinct}
 use Rattle.tera_grammar.specs.expressions.Conditions.{IsRow, argument_names}
 use Rattle.tera_grammar.specs.Limits.{Limits}
-use Rattle.tera_grammar.specs.expressions.Measures.{Within, EachRow, arrays, row_deep}
+use Rattle.tera_grammar.specs.expressions.Measures.{Within, EachRow, arrays, row_measure}
 use Rattle.tera_grammar.specs.expressions.Spans.{spanning, args_end}
 use Rattle.tera_grammar.specs.expressions.Output.{arguments_output, args_output, items_output, entries_output, component_text, constant_items, constant_entries}
 
@@ -71,7 +71,7 @@ IsArray x vs = IsRow false of_items x.row × (array_value x ≡ Some vs)
 
 -- each item within the limits, and the arrays of the whole
 abbrev pub ArrayWithin : Limits → Opened → Type 0
-ArrayWithin limits x = (row_deep arrays x.row + 1 ≤ limits.arrays) × EachRow (Within limits) x.row
+ArrayWithin limits x = (row_measure arrays x.row + 1 ≤ limits.arrays) × EachRow (Within limits) x.row
 
 -- a map of constants
 abbrev pub map_yield : Opened → Items → Items

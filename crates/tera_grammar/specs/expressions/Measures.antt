@@ -1,173 +1,116 @@
--- How large an expression is, and the limits. Three of the four measures are depths, for which one definition serves:
--- each thing that is inside another adds its weight.
+-- How large an expression is, and the limits. There are four numbers, and one definition serves for all: what is inside
+-- is measured first, something is added for what it is in, and the parts of one expression are joined.
 use Rattle.std.specs.Prelude.{ℕ, suc, ◌+◌, max, ◌≤◌}
 use Rattle.tera_grammar.specs.Limits.{Limits}
 use Rattle.tera_grammar.specs.expressions.Concrete.{Tree, Atomic, Prefix, Suffixed, Infix, Atom, Literal, Null, Chain, Call, Paren, Array, Comprehension, Map, Component, Links, no_links, field, item, Sub, index, slice, Part, absent, present, Extra, no_extra, extra, Row, ended, only, then, Element, plain, spread, pair, argument, Attributes, no_attributes, bare, quoted, valued, spreading, Suffix, Test, Filter, Subscript, Args, no_args, args, Operator, Binary, Condition}
 
--- what an expression that is opened adds to a depth, what a subscript, what an array
-pub record Weight : Type 0 where
-  pub opening : ℕ
-  pub subscript : ℕ
-  pub array : ℕ
+-- how the parts of an expression are joined; and what is made of a part that is an expression of its own, of what is in
+-- a subscript, in an array, and of what a link holds
+pub record Measure : Type 0 where
+  pub join : ℕ → ℕ → ℕ
+  pub opening : ℕ → ℕ
+  pub subscript : ℕ → ℕ
+  pub array : ℕ → ℕ
+  pub link : ℕ → ℕ
 
--- The greatest weight of things that are one inside the other. A left operand, a test and a filter open no expression;
--- all other parts do. A comprehension is an array around its element alone.
+-- A left operand, and what a test and a filter are of, open no expression; all other parts do. A comprehension is an
+-- array around its element alone. The links are the binary operators, tests, filters, dots of chains and subscripts;
+-- `not in` and `is not` are one; ternaries, prefixes, calls and the dots of a component's name are none.
 abbrev mutual
-  pub deep : Weight → Tree → ℕ
-  deep w (Atomic a) = atom_deep w a
-  deep w (Prefix s e) = deep w e + w.opening
-  deep w (Suffixed a s) = max (deep w a) (suffix_deep w s)
-  deep w (Infix a o b) = max (deep w a) (max (operator_deep w o) (deep w b + w.opening))
+  pub measure : Measure → Tree → ℕ
+  measure w (Atomic a) = atom_measure w a
+  measure w (Prefix s e) = w.opening (measure w e)
+  measure w (Suffixed a s) = w.join (measure w a) (suffix_measure w s)
+  measure w (Infix a o b) = w.join (measure w a) (w.join (operator_measure w o) (w.opening (measure w b)))
 
-  pub atom_deep : Weight → Atom → ℕ
-  atom_deep w (Literal l s) = 0
-  atom_deep w (Null n) = 0
-  atom_deep w (Chain n ls) = links_deep w ls
-  atom_deep w (Call n s row) = row_deep w row
-  atom_deep w (Paren s e t) = deep w e + w.opening
-  atom_deep w (Array s row) = row_deep w row + w.array
-  atom_deep w (Comprehension s element f n m i target guard c) =
-      max ((deep w element + w.opening) + w.array) (max (deep w target + w.opening) (extra_deep w guard))
-  atom_deep w (Map s row) = row_deep w row
-  atom_deep w (Component s n ds ats t u) = attributes_deep w ats
+  pub atom_measure : Measure → Atom → ℕ
+  atom_measure w (Literal l s) = 0
+  atom_measure w (Null n) = 0
+  atom_measure w (Chain n ls) = links_measure w ls
+  atom_measure w (Call n s row) = row_measure w row
+  atom_measure w (Paren s e t) = w.opening (measure w e)
+  atom_measure w (Array s row) = w.array (row_measure w row)
+  atom_measure w (Comprehension s element f n m i target guard c) =
+      w.join (w.array (w.opening (measure w element))) (w.join (w.opening (measure w target)) (extra_measure w guard))
+  atom_measure w (Map s row) = row_measure w row
+  atom_measure w (Component s n ds ats t u) = attributes_measure w ats
 
-  pub links_deep : Weight → Links → ℕ
-  links_deep w no_links = 0
-  links_deep w (field d n ls) = links_deep w ls
-  links_deep w (item b s ls) = max (sub_deep w s + w.subscript) (links_deep w ls)
+  pub links_measure : Measure → Links → ℕ
+  links_measure w no_links = 0
+  links_measure w (field d n ls) = w.link (links_measure w ls)
+  links_measure w (item b s ls) = w.link (w.join (w.subscript (sub_measure w s)) (links_measure w ls))
 
-  pub sub_deep : Weight → Sub → ℕ
-  sub_deep w (index e c) = deep w e + w.opening
-  sub_deep w (slice start s stop step c) = max (part_deep w start) (max (part_deep w stop) (extra_deep w step))
+  pub sub_measure : Measure → Sub → ℕ
+  sub_measure w (index e c) = w.opening (measure w e)
+  sub_measure w (slice start s stop step c) = w.join (part_measure w start) (w.join (part_measure w stop) (extra_measure w step))
 
-  pub part_deep : Weight → Part → ℕ
-  part_deep w absent = 0
-  part_deep w (present e) = deep w e + w.opening
+  pub part_measure : Measure → Part → ℕ
+  part_measure w absent = 0
+  part_measure w (present e) = w.opening (measure w e)
 
-  pub extra_deep : Weight → Extra → ℕ
-  extra_deep w no_extra = 0
-  extra_deep w (extra s e) = deep w e + w.opening
+  pub extra_measure : Measure → Extra → ℕ
+  extra_measure w no_extra = 0
+  extra_measure w (extra s e) = w.opening (measure w e)
 
-  pub row_deep : Weight → Row → ℕ
-  row_deep w (ended s) = 0
-  row_deep w (only x s) = element_deep w x
-  row_deep w (then x s xs) = max (element_deep w x) (row_deep w xs)
+  pub row_measure : Measure → Row → ℕ
+  row_measure w (ended s) = 0
+  row_measure w (only x s) = element_measure w x
+  row_measure w (then x s xs) = w.join (element_measure w x) (row_measure w xs)
 
-  pub element_deep : Weight → Element → ℕ
-  element_deep w (plain e) = deep w e + w.opening
-  element_deep w (spread s e) = deep w e + w.opening
-  element_deep w (pair l s t e) = deep w e + w.opening
-  element_deep w (argument n s e) = deep w e + w.opening
+  pub element_measure : Measure → Element → ℕ
+  element_measure w (plain e) = w.opening (measure w e)
+  element_measure w (spread s e) = w.opening (measure w e)
+  element_measure w (pair l s t e) = w.opening (measure w e)
+  element_measure w (argument n s e) = w.opening (measure w e)
 
-  pub attributes_deep : Weight → Attributes → ℕ
-  attributes_deep w no_attributes = 0
-  attributes_deep w (bare n ats) = attributes_deep w ats
-  attributes_deep w (quoted n s q t ats) = attributes_deep w ats
-  attributes_deep w (valued n s b e c ats) = max (deep w e + w.opening) (attributes_deep w ats)
-  attributes_deep w (spreading b s e c ats) = max (deep w e + w.opening) (attributes_deep w ats)
+  pub attributes_measure : Measure → Attributes → ℕ
+  attributes_measure w no_attributes = 0
+  attributes_measure w (bare n ats) = attributes_measure w ats
+  attributes_measure w (quoted n s q t ats) = attributes_measure w ats
+  attributes_measure w (valued n s b e c ats) = w.join (w.opening (measure w e)) (attributes_measure w ats)
+  attributes_measure w (spreading b s e c ats) = w.join (w.opening (measure w e)) (attributes_measure w ats)
 
-  pub suffix_deep : Weight → Suffix → ℕ
-  suffix_deep w (Test s n x g) = args_deep w g
-  suffix_deep w (Filter s x g) = args_deep w g
-  suffix_deep w (Subscript s b) = sub_deep w b + w.subscript
+  pub suffix_measure : Measure → Suffix → ℕ
+  suffix_measure w (Test s n x g) = w.link (args_measure w g)
+  suffix_measure w (Filter s x g) = w.link (args_measure w g)
+  suffix_measure w (Subscript s b) = w.link (w.subscript (sub_measure w b))
 
-  pub args_deep : Weight → Args → ℕ
-  args_deep w no_args = 0
-  args_deep w (args s row) = row_deep w row
+  pub args_measure : Measure → Args → ℕ
+  args_measure w no_args = 0
+  args_measure w (args s row) = row_measure w row
 
-  pub operator_deep : Weight → Operator → ℕ
-  operator_deep w (Binary o) = 0
-  operator_deep w (Condition s c t) = deep w c + w.opening
+  pub operator_measure : Measure → Operator → ℕ
+  operator_measure w (Binary o) = w.link 0
+  operator_measure w (Condition s c t) = w.opening (measure w c)
 
--- how many expressions are open one in another, the whole among them; how many subscripts; how many arrays
-abbrev pub openings : Weight
-openings = record { opening = 1; subscript = 0; array = 0 }
+-- how many expressions are opened one in another; how many subscripts, and how many arrays, are one in another
+abbrev pub openings : Measure
+openings = record { join = max; opening = λ n. n + 1; subscript = λ n. n; array = λ n. n; link = λ n. n }
 
-abbrev pub subscripts : Weight
-subscripts = record { opening = 0; subscript = 1; array = 0 }
+abbrev pub subscripts : Measure
+subscripts = record { join = max; opening = λ n. n; subscript = λ n. n + 1; array = λ n. n; link = λ n. n }
 
-abbrev pub arrays : Weight
-arrays = record { opening = 0; subscript = 0; array = 1 }
+abbrev pub arrays : Measure
+arrays = record { join = max; opening = λ n. n; subscript = λ n. n; array = λ n. n + 1; link = λ n. n }
+
+-- how many links there are, at any depth
+abbrev pub linking : Measure
+linking = record { join = λ m n. m + n; opening = λ n. n; subscript = λ n. n; array = λ n. n; link = suc }
 
 -- The height of an expression: one for itself, and one for each expression that is opened in it, along the deepest way
 -- inside. So an expression that opens none has the height 1.
 abbrev pub height : Tree → ℕ
-height t = suc (deep openings t)
+height t = suc (measure openings t)
 
--- How many binary operators, tests, filters, dots of chains and subscripts are in it, at any depth. `not in` and
--- `is not` count once; ternaries, prefixes, calls and the dots of a component's name do not count.
-abbrev mutual
-  pub links : Tree → ℕ
-  links (Atomic a) = atom_links a
-  links (Prefix s e) = links e
-  links (Suffixed a s) = links a + suffix_links s
-  links (Infix a o b) = links a + (operator_links o + links b)
-
-  pub atom_links : Atom → ℕ
-  atom_links (Literal l s) = 0
-  atom_links (Null n) = 0
-  atom_links (Chain n ls) = links_links ls
-  atom_links (Call n s row) = row_links row
-  atom_links (Paren s e t) = links e
-  atom_links (Array s row) = row_links row
-  atom_links (Comprehension s element f n m i target guard c) = links element + (links target + extra_links guard)
-  atom_links (Map s row) = row_links row
-  atom_links (Component s n ds ats t u) = attributes_links ats
-
-  pub links_links : Links → ℕ
-  links_links no_links = 0
-  links_links (field d n ls) = suc (links_links ls)
-  links_links (item b s ls) = suc (sub_links s + links_links ls)
-
-  pub sub_links : Sub → ℕ
-  sub_links (index e c) = links e
-  sub_links (slice start s stop step c) = part_links start + (part_links stop + extra_links step)
-
-  pub part_links : Part → ℕ
-  part_links absent = 0
-  part_links (present e) = links e
-
-  pub extra_links : Extra → ℕ
-  extra_links no_extra = 0
-  extra_links (extra s e) = links e
-
-  pub row_links : Row → ℕ
-  row_links (ended s) = 0
-  row_links (only x s) = element_links x
-  row_links (then x s xs) = element_links x + row_links xs
-
-  pub element_links : Element → ℕ
-  element_links (plain e) = links e
-  element_links (spread s e) = links e
-  element_links (pair l s t e) = links e
-  element_links (argument n s e) = links e
-
-  pub attributes_links : Attributes → ℕ
-  attributes_links no_attributes = 0
-  attributes_links (bare n ats) = attributes_links ats
-  attributes_links (quoted n s q t ats) = attributes_links ats
-  attributes_links (valued n s b e c ats) = links e + attributes_links ats
-  attributes_links (spreading b s e c ats) = links e + attributes_links ats
-
-  pub suffix_links : Suffix → ℕ
-  suffix_links (Test s n x g) = suc (args_links g)
-  suffix_links (Filter s x g) = suc (args_links g)
-  suffix_links (Subscript s b) = suc (sub_links b)
-
-  pub args_links : Args → ℕ
-  args_links no_args = 0
-  args_links (args s row) = row_links row
-
-  pub operator_links : Operator → ℕ
-  operator_links (Binary o) = 1
-  operator_links (Condition s c t) = links c
+abbrev pub links : Tree → ℕ
+links t = measure linking t
 
 -- one outermost expression within the limits
 pub record Within (limits : Limits) (t : Tree) : Type 0 where
   pub depth : height t ≤ limits.depth
   pub few_links : links t ≤ limits.links
-  pub few_subscripts : deep subscripts t ≤ limits.subscripts
-  pub few_arrays : deep arrays t ≤ limits.arrays
+  pub few_subscripts : measure subscripts t ≤ limits.subscripts
+  pub few_arrays : measure arrays t ≤ limits.arrays
 
 -- something holds of each value of a row
 abbrev pub EachElement : (Tree → Type 0) → Element → Type 0
