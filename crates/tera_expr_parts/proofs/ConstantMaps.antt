@@ -1,15 +1,12 @@
 -- Maps of constants alone.
-use Rattle.std.proofs.Common.{◌≡◌, Bool, true, false, cond, if◌then◌else◌, ℤ, pos, negsuc, nat_eq, List, [], ◌∷◌, map, Option, Some, None, Result, Ok, Err, refl, sym, ap, subst, ◌∙◌}
+use Rattle.std.proofs.Common.{◌≡◌, Bool, true, false, cond, if◌then◌else◌, List, [], ◌∷◌, map, Option, Some, None, Result, Ok, Err, refl, sym, ap, subst, ◌∙◌}
 use Rattle.std.specs.Prelude.{IfOk}
-use Rattle.std.specs.Bool.{Decides, one_answer, beq}
 use Rattle.std.specs.List.{list_all, fold}
-use Rattle.std.specs.Ordering.{int_eq}
-use Rattle.std.proofs.lemmas.Bool.Decides.{Decides-eqb, Decides-int_eq, Decides-like}
 use Rattle.tera_base.specs.Pairs as base
 use Rattle.tera_base.specs.Pairs.{put}
 use Rattle.tera_base.specs.Same.{key_eq}
 use Rattle.tera_base.specs.Values as values
-use Rattle.tera_base.specs.Values.{KeyVal, TextKey, I64Key, TruthKey, Val, Pairs, NoPairs, OnePair}
+use Rattle.tera_base.specs.Values.{Val, Pairs, NoPairs, OnePair}
 use Rattle.tera_base.specs.ValueView.{key_view, value_view, pairs_view}
 use Rattle.tera_base.specs.declared.utils.Span.{Span}
 use Rattle.tera_base.specs.declared.errors.Error.{Error}
@@ -21,34 +18,10 @@ use Rattle.tera_ast.specs.View.{entries_of, entry_view, entries_view, expression
 use Rattle.tera_ast.specs.declared.ast.MapEntryOf.{MapEntryOf}
 use Rattle.tera_ast.specs.declared.ast.MapEntryOf.TheVariants.{KeyValue, Spread}
 use Rattle.tera_ast.specs.declared.ast.Expression.{Expression}
-use Rattle.tera_grammar.specs.expressions.Output.{same_number, same_truth, same_key, put_pair, constant_entries, map_made, map_of}
+use Rattle.tera_grammar.specs.expressions.Output.{put_pair, constant_entries, map_made, map_of}
 use Rattle.tera_expr_parts.specs.Folding.{constant_of, put_entry, is_constant_entry}
 use Rattle.tera_expr_parts.specs.Literals.{MayBeNegated}
 use Rattle.tera_expr_parts.proofs.Constants.{mapped_all}
-
--- keys are the same where their values are
-number_decides : (m n : ℤ) → Decides (same_number m n) (m ≡ n)
-number_decides (pos a) (pos b) = Decides-like (nat_eq a b) (λ (e : a ≡ b). ap pos e) (λ (e : pos a ≡ pos b). cc) (Decides-eqb a b)
-number_decides (negsuc a) (negsuc b) = Decides-like (nat_eq a b) (λ (e : a ≡ b). ap negsuc e) (λ (e : negsuc a ≡ negsuc b). cc) (Decides-eqb a b)
-number_decides (pos a) (negsuc b) = (λ (h : false ≡ true). cc, λ (e : pos a ≡ negsuc b). cc)
-number_decides (negsuc a) (pos b) = (λ (h : false ≡ true). cc, λ (e : negsuc a ≡ pos b). cc)
-
-truths_same : (a b : Bool) → beq a b ≡ same_truth a b
-truths_same true true = refl
-truths_same true false = refl
-truths_same false true = refl
-truths_same false false = refl
-
-pub keys_same : (k l : KeyVal) → key_eq k l ≡ same_key k l
-keys_same (TextKey s) (TextKey t) = refl
-keys_same (TextKey s) (I64Key n) = refl
-keys_same (TextKey s) (TruthKey b) = refl
-keys_same (I64Key m) (TextKey t) = refl
-keys_same (I64Key m) (I64Key n) = one_answer (int_eq m n) (same_number m n) (Decides-int_eq m n) (number_decides m n)
-keys_same (I64Key m) (TruthKey b) = refl
-keys_same (TruthKey a) (TextKey t) = refl
-keys_same (TruthKey a) (I64Key n) = refl
-keys_same (TruthKey a) (TruthKey b) = truths_same a b
 
 -- a pair that is put into a map
 view_if : (b : Bool) (x y : List (Key × Value)) → pairs_view (if b then x else y) ≡ cond b (pairs_view x) (pairs_view y)
@@ -59,8 +32,7 @@ pub put_view : (k : Key) (v : Value) (ps : List (Key × Value)) → pairs_view (
 put_view k v [] = refl
 put_view k v (p ∷ ps) =
     view_if (base.same_key k p.0) ((p.0, v) ∷ ps) (p ∷ put k v ps)
-    ∙ ap (λ b. cond b (OnePair (key_view p.0) (value_view v) (pairs_view ps)) (OnePair (key_view p.0) (value_view p.1) (pairs_view (put k v ps)))) (keys_same (key_view k) (key_view p.0))
-    ∙ ap (λ more. cond (same_key (key_view k) (key_view p.0)) (OnePair (key_view p.0) (value_view v) (pairs_view ps)) (OnePair (key_view p.0) (value_view p.1) more)) (put_view k v ps)
+    ∙ ap (λ more. cond (key_eq (key_view k) (key_view p.0)) (OnePair (key_view p.0) (value_view v) (pairs_view ps)) (OnePair (key_view p.0) (value_view p.1) more)) (put_view k v ps)
 
 pub pair_put : (k : Key) (e : Expr) (v : Val) (ps : Pairs) → Some v ≡ constant_of e → put_pair (key_view k) v ps ≡ put_entry ps (KeyValue k e)
 pair_put k (tree.Const x s) v ps h = let same : v ≡ x = cc in ap (λ y. put_pair (key_view k) y ps) same

@@ -1,5 +1,5 @@
 -- What two crates define, each in its own terms, agrees.
-use Rattle.std.proofs.Common.{◌≡◌, cond, refl, sym, ap, ◌∙◌}
+use Rattle.std.proofs.Common.{◌≡◌, cond, refl, ap}
 use Rattle.tera_base.specs.Kinds.{kind_of}
 use Rattle.tera_base.specs.Same.{key_eq}
 use Rattle.tera_base.specs.Values as values
@@ -9,16 +9,14 @@ use Rattle.tera_tree.specs.Infos.{shown_type, shown_type_name}
 use Rattle.tera_tree.specs.Types.{type_name, type_of_kind, is_of_type}
 use Rattle.tera_tree.specs.declared.ast.ArgType.{ArgType}
 use Rattle.tera_tree.specs.declared.ast.ArgType.TheVariants as types
-use Rattle.tera_grammar.specs.expressions.Output.{same_key, put_pair}
+use Rattle.tera_grammar.specs.expressions.Output.{put_pair}
 use Rattle.tera_grammar.specs.statements.Types.{type_of, has_type}
-use Rattle.tera_expr_parts.proofs.ConstantMaps.{keys_same}
 
 -- a pair that is put into a map
 pub pairs_same : (k : KeyVal) (v : Val) (ps : Pairs) → put_pair k v ps ≡ calls.put_pair k v ps
 pairs_same k v NoPairs = refl
 pairs_same k v (OnePair l w ps) =
-    ap (λ b. cond b (OnePair l v ps) (OnePair l w (put_pair k v ps))) (sym (keys_same k l))
-    ∙ ap (λ more. cond (key_eq k l) (OnePair l v ps) (OnePair l w more)) (pairs_same k v ps)
+    ap (λ more. cond (key_eq k l) (OnePair l v ps) (OnePair l w more)) (pairs_same k v ps)
 
 -- the type of a value, by its form and by its kind
 pub types_same : (v : Val) → type_of v ≡ type_of_kind (kind_of v)

@@ -2,7 +2,6 @@
 
 ghost use Rattle.std.specs.Prelude.{◌≡◌, ◌↔◌, IsTrue, ℕ, List, false};
 ghost use Rattle.tera_base.specs.Kinds.{kind_of};
-ghost use Rattle.tera_base.specs.Same.{key_eq};
 ghost use Rattle.tera_base.specs.Values.{KeyVal, Val, Pairs};
 ghost use Rattle.tera_lexer.specs.code.Cursors as cursors;
 ghost use Rattle.tera_lexer.specs.grammar.Marks.{Marks, IsValid};
@@ -14,7 +13,7 @@ ghost use Rattle.tera_tree.specs.Types.{type_name, type_of_kind, is_of_type};
 ghost use Rattle.tera_tree.specs.declared.ast.ArgType.{ArgType};
 ghost use Rattle.tera_grammar.specs.Limits.{Limits};
 ghost use Rattle.tera_grammar.specs.expressions.Constants.{IsLiteralNumber};
-ghost use Rattle.tera_grammar.specs.expressions.Output.{output, same_key, put_pair};
+ghost use Rattle.tera_grammar.specs.expressions.Output.{output, put_pair};
 ghost use Rattle.tera_grammar.specs.statements.Constants.{EachOfOutput};
 ghost use Rattle.tera_grammar.specs.statements.Top.{Derives};
 ghost use Rattle.tera_grammar.specs.statements.Trees.{IsRight};
@@ -62,12 +61,10 @@ pub fn printed_back()
         Derives l m source read → trees.EachOfOutput (PrintsBack l) read }
 {}
 
-/// What two crates define, each in its own terms, agrees: which keys of maps are the same (`keys`), and so what a map
-/// is after a pair was put into it, in a source and by a call (`pairs`); which type a value has, and whether it is of a
-/// type, by its form and by its kind (`types`, `of_types`); the names of types, declared and shown (`names`); and the
-/// span of what is nowhere (`nowhere`).
+/// What two crates define, each in its own terms, agrees: what a map is after a pair was put into it, in a source and
+/// by a call (`pairs`); which type a value has, and whether it is of a type, by its form and by its kind (`types`,
+/// `of_types`); the names of types, declared and shown (`names`); and the span of what is nowhere (`nowhere`).
 pub fn one_meaning()
-    ensures keys { (k l : KeyVal) → same_key k l ≡ key_eq k l }
     ensures pairs { (k : KeyVal) (v : Val) (ps : Pairs) → put_pair k v ps ≡ calls.put_pair k v ps }
     ensures types { (v : Val) → type_of v ≡ type_of_kind (kind_of v) }
     ensures of_types { (t : ArgType) (v : Val) → has_type t v ≡ is_of_type t (kind_of v) }

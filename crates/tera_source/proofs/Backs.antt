@@ -6,6 +6,7 @@ use Rattle.std.specs.Ordering.{nat_cmp, match_ordering}
 use Rattle.std.specs.Cmp.Lexicographic.{slice_cmp}
 use Rattle.tera_base.specs.declared.utils.Span.{Span}
 use Rattle.tera_lexer.specs.code.Cursors.{nowhere}
+use Rattle.tera_base.specs.Same.{key_eq}
 use Rattle.tera_base.specs.Values as values
 use Rattle.tera_ast.specs.declared.ast.UnaryOperator.TheVariants as unary
 use Rattle.tera_ast.specs.declared.ast.BinaryOperator.TheVariants as binary
@@ -16,7 +17,7 @@ use Rattle.tera_ast.specs.Tree.{Expr}
 use Rattle.tera_grammar.specs.expressions.Concrete.{Name, Joint, Kind, of_arguments, of_items, of_entries, Simple, Escaped, Lit, Number, Quoted, Truth, Sign, Negative, Negates, plainly, negated, Second, no_second, second, dots, Single, NotIn, Tree, Atomic, Prefix, Suffixed, Infix, Atom, Literal, Null, Chain, Call, Paren, Array, Comprehension, Map, Component, Links, no_links, field, item, Sub, index, slice, Part, absent, present, Extra, no_extra, extra, Row, ended, only, then, Element, plain, spread, pair, argument, Attributes, no_attributes, bare, quoted, valued, spreading, Test, Filter, Subscript, Args, no_args, args, Binary, Condition}
 use Rattle.tera_grammar.specs.expressions.Spans.{spanning, sign_span, first, last, row_end}
 use Rattle.tera_grammar.specs.expressions.Conditions.{IsExpression, IsAtom, AreLinks, IsSub, IsPart, IsExtra, IsRow, IsElement, AreAttributes, AreArgs}
-use Rattle.tera_grammar.specs.expressions.Output.{quote_text, literal_value, same_key, put_pair, put_arg, constant_entries, array_of, map_made, map_of, field_output, key_of, prefixed, is_optional_bracket, of_loop, component_text, key_variable, value_variable, is_optional_joint, output, links_output, sub_output, part_output, extra_output, arguments_output, argument_output, items_output, item_output, entries_output, entry_output, attributes_output, args_output}
+use Rattle.tera_grammar.specs.expressions.Output.{quote_text, literal_value, put_pair, put_arg, constant_entries, array_of, map_made, map_of, field_output, key_of, prefixed, is_optional_bracket, of_loop, component_text, key_variable, value_variable, is_optional_joint, output, links_output, sub_output, part_output, extra_output, arguments_output, argument_output, items_output, item_output, entries_output, entry_output, attributes_output, args_output}
 use Rattle.tera_spelling.specs.Spelling.{is_special}
 use Rattle.tera_source.specs.Source.{longer, path_from, first_variable, second_variable, word, quote, key_literal, number_tree, in_front, value_tree, pairs_row, following, joint_for, bracket_for, with_field, with_sub, negation_of, tree_of, part_of, extra_of, arguments_row, args_of, items_row, entries_row, attributes_of, source_tree}
 use Rattle.std.proofs.lemmas.Slice.Eq.{bytes_eq-Decides}
@@ -269,12 +270,12 @@ entries_back (tree.SpreadEntry e es) h =
 -- the key is none of these
 abbrev Apart : KeyVal → Pairs → Type 0
 Apart k values.NoPairs = Unit {0}
-Apart k (values.OnePair m v ps) = (same_key k m ≡ false) × Apart k ps
+Apart k (values.OnePair m v ps) = (key_eq k m ≡ false) × Apart k ps
 
 -- the key of none of these is the given one, as they are put one after another
 abbrev NoneIs : KeyVal → Pairs → Type 0
 NoneIs m values.NoPairs = Unit {0}
-NoneIs m (values.OnePair k v ps) = (same_key k m ≡ false) × NoneIs m ps
+NoneIs m (values.OnePair k v ps) = (key_eq k m ≡ false) × NoneIs m ps
 
 abbrev Distinct : Pairs → Type 0
 Distinct values.NoPairs = Unit {0}
@@ -288,20 +289,20 @@ by_key : (P : Pairs → Type 0) (b : Bool) (x y : Pairs) → (b ≡ true → P x
 by_key P true x y f g = f refl
 by_key P false x y f g = g refl
 
-none_put : (m k : KeyVal) (v : Val) (ps : Pairs) → same_key k m ≡ false → NoneIs m ps → NoneIs m (put_pair k v ps)
+none_put : (m k : KeyVal) (v : Val) (ps : Pairs) → key_eq k m ≡ false → NoneIs m ps → NoneIs m (put_pair k v ps)
 none_put m k v values.NoPairs h n = (h, tt)
 none_put m k v (values.OnePair l u ps) h n =
-    by_key (NoneIs m) (same_key k l) (values.OnePair l v ps) (values.OnePair l u (put_pair k v ps)) (λ b. n) (λ b. (n.0, none_put m k v ps h n.1))
+    by_key (NoneIs m) (key_eq k l) (values.OnePair l v ps) (values.OnePair l u (put_pair k v ps)) (λ b. n) (λ b. (n.0, none_put m k v ps h n.1))
 
 distinct_put : (k : KeyVal) (v : Val) (ps : Pairs) → Distinct ps → Distinct (put_pair k v ps)
 distinct_put k v values.NoPairs d = (tt, tt)
 distinct_put k v (values.OnePair l u ps) d =
-    by_key Distinct (same_key k l) (values.OnePair l v ps) (values.OnePair l u (put_pair k v ps)) (λ b. d) (λ b. (none_put l k v ps b d.0, distinct_put k v ps d.1))
+    by_key Distinct (key_eq k l) (values.OnePair l v ps) (values.OnePair l u (put_pair k v ps)) (λ b. d) (λ b. (none_put l k v ps b d.0, distinct_put k v ps d.1))
 
 back_put : (k : KeyVal) (v : Val) (ps : Pairs) → Back (tree.Const v nowhere) → BackPairs ps → BackPairs (put_pair k v ps)
 back_put k v values.NoPairs h b = (h, tt)
 back_put k v (values.OnePair l u ps) h b =
-    by_key BackPairs (same_key k l) (values.OnePair l v ps) (values.OnePair l u (put_pair k v ps)) (λ c. (h, b.1)) (λ c. (b.0, back_put k v ps h b.1))
+    by_key BackPairs (key_eq k l) (values.OnePair l v ps) (values.OnePair l u (put_pair k v ps)) (λ c. (h, b.1)) (λ c. (b.0, back_put k v ps h b.1))
 
 record Kept (ps : Pairs) : Type 0 where
   distinct : Distinct ps
@@ -341,7 +342,7 @@ put_apart k v values.NoPairs h = refl
 put_apart k v (values.OnePair l u ps) h =
     ap (λ b. cond b (values.OnePair l v ps) (values.OnePair l u (put_pair k v ps))) h.0 ∙ ap (values.OnePair l u) (put_apart k v ps h.1)
 
-apart_more : (j k : KeyVal) (v : Val) (done : Pairs) → same_key j k ≡ false → Apart j done → Apart j (joined done (values.OnePair k v values.NoPairs))
+apart_more : (j k : KeyVal) (v : Val) (done : Pairs) → key_eq j k ≡ false → Apart j done → Apart j (joined done (values.OnePair k v values.NoPairs))
 apart_more j k v values.NoPairs h a = (h, tt)
 apart_more j k v (values.OnePair l u ps) h a = (a.0, apart_more j k v ps h a.1)
 

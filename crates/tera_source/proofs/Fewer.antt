@@ -5,6 +5,7 @@ use Rattle.std.specs.Ordering.{nat_cmp}
 use Rattle.std.specs.Cmp.Lexicographic.{slice_cmp}
 use Rattle.tera_base.specs.declared.utils.Span.{Span}
 use Rattle.tera_lexer.specs.code.Cursors.{nowhere}
+use Rattle.tera_base.specs.Same.{key_eq}
 use Rattle.tera_base.specs.Values as values
 use Rattle.tera_ast.specs.Tree as tree
 use Rattle.tera_base.specs.Values.{KeyVal, Val, Vals, Pairs}
@@ -16,7 +17,7 @@ use Rattle.tera_grammar.specs.expressions.Powers.{sign_power, left_power, right_
 use Rattle.tera_grammar.specs.expressions.Measures.{Measure, measure, links, linking, atom_measure, links_measure, sub_measure, part_measure, extra_measure, row_measure, element_measure, attributes_measure, suffix_measure, args_measure, operator_measure, Within, openings, subscripts, arrays}
 use Rattle.tera_grammar.specs.Limits.{Limits}
 use Rattle.tera_grammar.specs.expressions.Conditions.{IsExpression}
-use Rattle.tera_grammar.specs.expressions.Output.{literal_value, same_key, put_pair, put_arg, constant_entries, map_made, prefixed, is_optional_joint, is_optional_bracket, of_loop, field_output, output, links_output, sub_output, part_output, extra_output, arguments_output, argument_output, items_output, item_output, entries_output, entry_output, attributes_output, args_output}
+use Rattle.tera_grammar.specs.expressions.Output.{literal_value, put_pair, put_arg, constant_entries, map_made, prefixed, is_optional_joint, is_optional_bracket, of_loop, field_output, output, links_output, sub_output, part_output, extra_output, arguments_output, argument_output, items_output, item_output, entries_output, entry_output, attributes_output, args_output}
 use Rattle.tera_source.specs.Source.{word, key_literal, number_tree, in_front, value_tree, pairs_row, following, joint_for, bracket_for, with_field, with_sub, negation_of, attribute, tree_of, part_of, extra_of, arguments_row, args_of, items_row, entries_row, attributes_of, source_tree, asked, kept_out, paren, paren_atom, paren_links, paren_sub, paren_part, paren_extra, paren_row, paren_element, paren_attributes, paren_suffix, paren_args, paren_operator}
 use Rattle.tera_source.proofs.Signs.{array_tree}
 use Rattle.tera_spelling.specs.Given.{IsGiven}
@@ -169,7 +170,7 @@ put_pair_few : (k : KeyVal) (v : Val) (ps : Pairs) → pairs_links (put_pair k v
 put_pair_few k v values.NoPairs = omega arith
 put_pair_few k v (values.OnePair j u ps) =
     let more = put_pair_few k v ps in
-    pairs_cond_few (same_key k j) (values.OnePair j v ps) (values.OnePair j u (put_pair k v ps)) _ (omega arith) (omega arith)
+    pairs_cond_few (key_eq k j) (values.OnePair j v ps) (values.OnePair j u (put_pair k v ps)) _ (omega arith) (omega arith)
 
 abbrev ConstantsFew : ℕ → Option Pairs → Type 0
 ConstantsFew k None = Unit {0}

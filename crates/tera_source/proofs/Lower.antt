@@ -6,6 +6,7 @@ use Rattle.std.specs.Ordering.{nat_cmp}
 use Rattle.std.specs.Cmp.Lexicographic.{slice_cmp}
 use Rattle.tera_base.specs.declared.utils.Span.{Span}
 use Rattle.tera_lexer.specs.code.Cursors.{nowhere}
+use Rattle.tera_base.specs.Same.{key_eq}
 use Rattle.tera_base.specs.Values as values
 use Rattle.tera_ast.specs.Tree as tree
 use Rattle.tera_base.specs.Values.{KeyVal, Val, Vals, Pairs}
@@ -15,7 +16,7 @@ use Rattle.tera_grammar.specs.expressions.Spans.{spanning, sign_span, first, las
 use Rattle.tera_grammar.specs.expressions.Powers.{sign_power, left_power, right_power, AtLeast, BeginsPlain}
 use Rattle.tera_source.proofs.Depths.{Weight, deep, atom_deep, links_deep, sub_deep, part_deep, extra_deep, row_deep, element_deep, attributes_deep, args_deep}
 use Rattle.tera_grammar.specs.expressions.Conditions.{IsExpression, IsAtom, AreLinks, IsSub, IsPart, IsExtra, IsRow, IsElement, AreAttributes, AreArgs}
-use Rattle.tera_grammar.specs.expressions.Output.{literal_value, same_key, put_pair, put_arg, constant_entries, map_made, is_optional_joint, is_optional_bracket, of_loop, field_output, output, links_output, sub_output, part_output, extra_output, arguments_output, argument_output, items_output, item_output, entries_output, entry_output, attributes_output, args_output}
+use Rattle.tera_grammar.specs.expressions.Output.{literal_value, put_pair, put_arg, constant_entries, map_made, is_optional_joint, is_optional_bracket, of_loop, field_output, output, links_output, sub_output, part_output, extra_output, arguments_output, argument_output, items_output, item_output, entries_output, entry_output, attributes_output, args_output}
 use Rattle.tera_source.specs.Source.{word, key_literal, in_front, value_tree, pairs_row, following, joint_for, bracket_for, with_field, with_sub, attribute, tree_of, part_of, extra_of, arguments_row, args_of, items_row, entries_row, attributes_of, source_tree, paren, paren_links, paren_sub, paren_part, paren_extra, paren_row, paren_element, paren_attributes, paren_args}
 use Rattle.std.proofs.lemmas.Slice.Eq.{bytes_eq-Decides}
 use Rattle.tera_source.proofs.Signs.{array_tree, infix_tree}
@@ -97,7 +98,7 @@ put_pair_low : (w : Weight) (k : KeyVal) (v : Val) (ps : Pairs) → pairs_deep w
 put_pair_low w k v values.NoPairs = omega arith
 put_pair_low w k v (values.OnePair j u ps) =
     let more = put_pair_low w k v ps in
-    pairs_cond_low w (same_key k j) (values.OnePair j v ps) (values.OnePair j u (put_pair k v ps)) _ (omega arith) (omega arith)
+    pairs_cond_low w (key_eq k j) (values.OnePair j v ps) (values.OnePair j u (put_pair k v ps)) _ (omega arith) (omega arith)
 
 abbrev ConstantsLow : Weight → ℕ → Option Pairs → Type 0
 ConstantsLow w k None = Unit {0}

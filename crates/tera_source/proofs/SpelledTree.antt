@@ -8,6 +8,7 @@ use Rattle.std.specs.Cmp.Lexicographic.{slice_cmp}
 use Rattle.std.proofs.lemmas.Bool.Decides.{nat_tests}
 use Rattle.std.proofs.lemmas.List.{append-nil}
 use Rattle.std.proofs.lemmas.Bool.{eqb-true, false_from_ne_true}
+use Rattle.tera_base.specs.Same.{key_eq}
 use Rattle.tera_base.specs.Values as values
 use Rattle.tera_base.specs.Values.{KeyVal, Val, Pairs}
 use Rattle.tera_base.specs.declared.utils.Span.{Span}
@@ -20,7 +21,7 @@ use Rattle.tera_grammar.specs.expressions.Operators.{In}
 use Rattle.tera_grammar.specs.expressions.Concrete.{Name, Simple, Escaped, Lit, Number, Quoted, Truth, Sign, Negative, Negates, Joint, plainly, negated, Second, no_second, second, Single, NotIn, Tree, Atomic, Prefix, Suffixed, Infix, Atom, Literal, Null, Chain, Call, Paren, Array, Comprehension, Map, Component, Links, no_links, field, item, Sub, index, slice, Part, absent, present, Extra, no_extra, extra, Row, ended, only, then, Element, plain, spread, pair, argument, Attributes, no_attributes, bare, quoted, valued, spreading, Suffix, Test, Filter, Subscript, Args, no_args, args, Binary, Condition, Dotted, no_dots, dots, quote_token, literal_token}
 use Rattle.tera_grammar.specs.expressions.Companions.{Path}
 use Rattle.tera_grammar.specs.expressions.Spans.{spanning, sign_span, first, last, row_end}
-use Rattle.tera_grammar.specs.expressions.Output.{quote_text, literal_value, key_of, same_key, put_pair, put_arg, constant_entries, map_made, prefixed, is_optional_joint, is_optional_bracket, of_loop, field_output, dotted_text, key_variable, value_variable, output, links_output, sub_output, part_output, extra_output, arguments_output, argument_output, items_output, item_output, entries_output, entry_output, attributes_output, suffix_output, args_output}
+use Rattle.tera_grammar.specs.expressions.Output.{quote_text, literal_value, key_of, put_pair, put_arg, constant_entries, map_made, prefixed, is_optional_joint, is_optional_bracket, of_loop, field_output, dotted_text, key_variable, value_variable, output, links_output, sub_output, part_output, extra_output, arguments_output, argument_output, items_output, item_output, entries_output, entry_output, attributes_output, suffix_output, args_output}
 use Rattle.tera_spelling.specs.Spelling.{IsName, IsSpelled}
 use Rattle.tera_spelling.specs.Given.{IsGiven}
 use Rattle.tera_spelling.specs.Spelling.{is_special}
@@ -116,7 +117,7 @@ put_pair_spelled : (k : KeyVal) (v : Val) (ps : Pairs) → IsSpelled (literal_to
     SpelledPairs (put_pair k v ps)
 put_pair_spelled k v values.NoPairs is h p = (is, h, tt)
 put_pair_spelled k v (values.OnePair j u ps) is h p =
-    pairs_cond (same_key k j) (values.OnePair j v ps) (values.OnePair j u (put_pair k v ps)) (p.0, h, p.2)
+    pairs_cond (key_eq k j) (values.OnePair j v ps) (values.OnePair j u (put_pair k v ps)) (p.0, h, p.2)
     (p.0, p.1, put_pair_spelled k v ps is h p.2)
 
 abbrev SpelledConstants : Option Pairs → Type 0

@@ -2,6 +2,7 @@
 use Rattle.std.proofs.Common.{ℕ, Bool, true, false, cond, List, Option, Some, None, refl}
 use Rattle.std.specs.Ordering.{nat_cmp}
 use Rattle.std.specs.Cmp.Lexicographic.{slice_cmp}
+use Rattle.tera_base.specs.Same.{key_eq}
 use Rattle.tera_base.specs.Values as values
 use Rattle.tera_base.specs.Values.{KeyVal, Val, Vals, Pairs}
 use Rattle.tera_base.specs.declared.utils.Span.{Span}
@@ -10,7 +11,7 @@ use Rattle.tera_ast.specs.Tree.{Expr}
 use Rattle.tera_grammar.specs.expressions.Operators.{BinaryOperator, Mul, Div, Mod, Plus, Minus, FloorDiv, Power, LessThan, GreaterThan, LessThanOrEqual, GreaterThanOrEqual, Equal, NotEqual, And, Or, StrConcat, In, operator_made}
 use Rattle.tera_grammar.specs.expressions.Concrete.{Name, Lit, Number, Quoted, Truth, Sign, Negative, Negates, Joint, plainly, negated, Single, NotIn, Tree, Atomic, Prefix, Suffixed, Infix, Atom, Literal, Null, Chain, Call, Paren, Array, Comprehension, Map, Component, Links, no_links, field, item, Sub, index, slice, Part, absent, present, Extra, no_extra, extra, Row, ended, only, then, Element, plain, spread, pair, argument, Attributes, no_attributes, bare, quoted, valued, spreading, Suffix, Test, Filter, Subscript, Args, no_args, args, Operator, Binary, Condition}
 use Rattle.tera_grammar.specs.expressions.Spans.{spanning, sign_span, first, last}
-use Rattle.tera_grammar.specs.expressions.Output.{literal_value, same_key, put_pair, put_arg, with_value, constant_items, constant_entries, array_made, map_made, prefixed, is_optional_bracket, of_loop, field_output, output, links_output, sub_output, part_output, extra_output, arguments_output, argument_output, items_output, item_output, entries_output, entry_output, attributes_output, suffix_output, args_output, operator_output}
+use Rattle.tera_grammar.specs.expressions.Output.{literal_value, put_pair, put_arg, with_value, constant_items, constant_entries, array_made, map_made, prefixed, is_optional_bracket, of_loop, field_output, output, links_output, sub_output, part_output, extra_output, arguments_output, argument_output, items_output, item_output, entries_output, entry_output, attributes_output, suffix_output, args_output, operator_output}
 use Rattle.tera_source.specs.Writable.{IsChain, MayLink, IsOperator, IsConstant, AreConstants, AreConstantPairs, IsWritable, MaybeWritable, AreWritableArgs, AreWritableItems, AreWritableEntries, AreWritableAttributes}
 use Rattle.tera_source.proofs.Sorted.{by_ordering}
 
@@ -72,7 +73,7 @@ pairs_cond false ps qs h g = g
 put_constant : (k : KeyVal) (v : Val) (ps : Pairs) → IsConstant v → AreConstantPairs ps → AreConstantPairs (put_pair k v ps)
 put_constant k v values.NoPairs h g = (h, tt)
 put_constant k v (values.OnePair j u ps) h g =
-    pairs_cond (same_key k j) (values.OnePair j v ps) (values.OnePair j u (put_pair k v ps)) (h, g.1) (g.0, put_constant k v ps h g.1)
+    pairs_cond (key_eq k j) (values.OnePair j v ps) (values.OnePair j u (put_pair k v ps)) (h, g.1) (g.0, put_constant k v ps h g.1)
 
 entries_constant : (es : tree.Entries) (ps : Pairs) → AreWritableEntries es → AreConstantPairs ps → ConstantEntries (constant_entries es ps)
 entries_constant tree.NoEntries ps h g = g

@@ -6,6 +6,7 @@ use Rattle.std.specs.Cmp.Lexicographic.{slice_cmp}
 use Rattle.std.proofs.lemmas.Slice.Eq.{bytes_eq-Decides}
 use Rattle.tera_base.specs.declared.utils.Span.{Span}
 use Rattle.tera_lexer.specs.code.Cursors.{nowhere}
+use Rattle.tera_base.specs.Same.{key_eq}
 use Rattle.tera_base.specs.Values as values
 use Rattle.tera_ast.specs.Tree as tree
 use Rattle.tera_base.specs.Values.{KeyVal, TextKey, I64Key, TruthKey, Val, Vals, Pairs}
@@ -15,7 +16,7 @@ use Rattle.tera_grammar.specs.expressions.Concrete.{Name, Lit, Number, Quoted, T
 use Rattle.tera_grammar.specs.Words.{is_none, AreDistinct}
 use Rattle.tera_grammar.specs.expressions.Spans.{spanning, sign_span, first, last, row_end}
 use Rattle.tera_grammar.specs.expressions.Conditions.{AreVariables, is_element_of, argument_names, is_refused, IsExpression, IsAtom, AreLinks, IsSub, IsPart, IsExtra, IsRow, IsElement, AreAttributes, IsSuffix, AreArgs}
-use Rattle.tera_grammar.specs.expressions.Output.{literal_value, same_key, put_pair, put_arg, constant_entries, map_made, prefixed, is_optional_joint, is_optional_bracket, of_loop, field_output, key_variable, value_variable, output, links_output, sub_output, part_output, extra_output, arguments_output, argument_output, items_output, item_output, entries_output, entry_output, attributes_output, suffix_output, args_output}
+use Rattle.tera_grammar.specs.expressions.Output.{literal_value, put_pair, put_arg, constant_entries, map_made, prefixed, is_optional_joint, is_optional_bracket, of_loop, field_output, key_variable, value_variable, output, links_output, sub_output, part_output, extra_output, arguments_output, argument_output, items_output, item_output, entries_output, entry_output, attributes_output, suffix_output, args_output}
 use Rattle.tera_source.specs.Source.{word, key_literal, number_tree, in_front, value_tree, pairs_row, following, joint_for, bracket_for, with_field, with_sub, negation_of, first_variable, second_variable, attribute, tree_of, part_of, extra_of, arguments_row, args_of, items_row, entries_row, attributes_of, source_tree}
 use Rattle.tera_source.proofs.Signs.{kind_of, refuses, refused_kind, written_kind, array_tree, infix_tree}
 use Rattle.tera_source.proofs.Loose.{IsLoose, AreLooseLinks, IsLooseSub, IsLoosePart, IsLooseExtra, IsLooseRow, IsLooseElement, AreLooseAttributes, AreLooseArgs, paren_fits}
@@ -116,7 +117,7 @@ pairs_cond false ps qs h g = g
 put_pair_loose : (k : KeyVal) (v : Val) (ps : Pairs) → IsLoose (value_tree v) → LoosePairs ps → LoosePairs (put_pair k v ps)
 put_pair_loose k v values.NoPairs h p = (h, tt)
 put_pair_loose k v (values.OnePair j u ps) h p =
-    pairs_cond (same_key k j) (values.OnePair j v ps) (values.OnePair j u (put_pair k v ps)) (h, p.1) (p.0, put_pair_loose k v ps h p.1)
+    pairs_cond (key_eq k j) (values.OnePair j v ps) (values.OnePair j u (put_pair k v ps)) (h, p.1) (p.0, put_pair_loose k v ps h p.1)
 
 abbrev LooseConstants : Option Pairs → Type 0
 LooseConstants None = Unit {0}

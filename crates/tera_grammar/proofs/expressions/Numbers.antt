@@ -3,6 +3,7 @@ use Rattle.std.proofs.Common.{ℕ, zero, suc, List, Bool, true, false, cond, Opt
 use Rattle.std.specs.Prelude.{ℤ, pos, negsuc, neg_ℤ}
 use Rattle.std.specs.Ordering.{nat_cmp, match_ordering}
 use Rattle.std.specs.Cmp.Lexicographic.{slice_cmp}
+use Rattle.tera_base.specs.Same.{key_eq}
 use Rattle.tera_base.specs.Values as values
 use Rattle.tera_base.specs.Values.{KeyVal, Val, Vals, Pairs}
 use Rattle.tera_base.specs.declared.utils.Span.{Span}
@@ -14,7 +15,7 @@ use Rattle.tera_grammar.specs.expressions.Marks.{Mark, mark, mark_token, RightPa
 use Rattle.tera_grammar.specs.expressions.Operators.{Div, GreaterThan}
 use Rattle.tera_grammar.specs.expressions.Concrete.{Name, Sign, Negative, Negates, Joint, plain_dot, optional_dot, Bracket, plain_bracket, optional_bracket, Negation, plainly, negated, Second, no_second, second, Dotted, no_dots, dots, Op, Single, NotIn, Lit, Number, Quoted, Truth, Kind, of_arguments, of_items, of_entries, closing, Tree, Atomic, Prefix, Suffixed, Infix, Atom, Literal, Null, Chain, Call, Paren, Array, Comprehension, Map, Component, Links, no_links, field, item, Sub, index, slice, Part, absent, present, Extra, no_extra, extra, Row, ended, only, then, Element, plain, spread, pair, argument, Attributes, no_attributes, bare, quoted, valued, spreading, Suffix, Test, Filter, Subscript, Args, no_args, args, Operator, Binary, Condition, quote_token, literal_token, sign_yield, joint_yield, bracket_yield, negation_yield, second_yield, dotted_yield, op_yield, yield, atom_yield, links_yield, sub_yield, part_yield, extra_yield, row_yield, element_yield, attributes_yield, suffix_yield, args_yield, operator_yield}
 use Rattle.tera_grammar.specs.expressions.Spans.{first}
-use Rattle.tera_grammar.specs.expressions.Output.{output, atom_output, links_output, sub_output, part_output, extra_output, field_output, arguments_output, argument_output, items_output, item_output, entries_output, entry_output, attributes_output, args_output, suffix_output, operator_output, op_output, negation_output, prefixed, array_made, map_made, is_optional_bracket, with_value, constant_items, constant_entries, same_key, put_pair, put_arg, literal_value, of_loop}
+use Rattle.tera_grammar.specs.expressions.Output.{output, atom_output, links_output, sub_output, part_output, extra_output, field_output, arguments_output, argument_output, items_output, item_output, entries_output, entry_output, attributes_output, args_output, suffix_output, operator_output, op_output, negation_output, prefixed, array_made, map_made, is_optional_bracket, with_value, constant_items, constant_entries, put_pair, put_arg, literal_value, of_loop}
 use Rattle.tera_grammar.specs.expressions.Constants.{IsLiteralNumber, EachNumber, EachOfValue, EachOfValues, EachOfPairs, EachConstant, EachOfMaybe, EachOfArgs, EachOfItems, EachOfEntries}
 
 module _ (P : ℤ → Type 0) where
@@ -81,7 +82,7 @@ module _ (P : ℤ → Type 0) where
   put_pair_holds : (k : KeyVal) (v : Val) (ps : Pairs) → EachOfValue P v → EachOfPairs P ps → EachOfPairs P (put_pair k v ps)
   put_pair_holds k v values.NoPairs h hs = (h, tt)
   put_pair_holds k v (values.OnePair l u ps) h hs =
-      put_by (same_key k l) (values.OnePair l v ps) (values.OnePair l u (put_pair k v ps)) (h, hs.1)
+      put_by (key_eq k l) (values.OnePair l v ps) (values.OnePair l u (put_pair k v ps)) (h, hs.1)
       (hs.0, put_pair_holds k v ps h hs.1)
 
   pub constant_entries_hold : (es : tree.Entries) (ps : Pairs) → EachOfEntries P es → EachOfPairs P ps → OfPairs (constant_entries es ps)

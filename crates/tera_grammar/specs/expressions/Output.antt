@@ -1,8 +1,8 @@
 -- What an expression is read as. `in_loop` says whether it is in a loop. Parentheses have no node.
-use Rattle.std.specs.Prelude.{ℕ, ℤ, Bool, true, false, ◌&&◌, cond, nat_eq, pos, negsuc, neg_ℤ, List, [], ◌++◌, Option, Some, None, codes}
-use Rattle.std.specs.Str.{bytes_eq}
+use Rattle.std.specs.Prelude.{ℕ, Bool, true, false, ◌&&◌, cond, neg_ℤ, List, [], ◌++◌, Option, Some, None, codes}
 use Rattle.std.specs.Ordering.{nat_cmp, match_ordering}
 use Rattle.std.specs.Cmp.Lexicographic.{slice_cmp}
+use Rattle.tera_base.specs.Same.{key_eq}
 use Rattle.tera_base.specs.Values as values
 use Rattle.tera_base.specs.declared.utils.Span.{Span}
 use Rattle.tera_ast.specs.declared.ast.BinaryOperator.TheVariants as binary
@@ -32,26 +32,10 @@ key_of (Number n) = I64Key n
 key_of (Quoted q) = TextKey (quote_text q)
 key_of (Truth b) = TruthKey b
 
-abbrev pub same_number : ℤ → ℤ → Bool
-same_number (pos a) (pos b) = nat_eq a b
-same_number (negsuc a) (negsuc b) = nat_eq a b
-same_number _ _ = false
-
-abbrev pub same_truth : Bool → Bool → Bool
-same_truth true true = true
-same_truth false false = true
-same_truth _ _ = false
-
-abbrev pub same_key : KeyVal → KeyVal → Bool
-same_key (TextKey a) (TextKey b) = bytes_eq a b
-same_key (I64Key a) (I64Key b) = same_number a b
-same_key (TruthKey a) (TruthKey b) = same_truth a b
-same_key _ _ = false
-
 -- a new key goes last; a key that is there keeps its place and takes the later value
 abbrev pub put_pair : KeyVal → Val → Pairs → Pairs
 put_pair k v NoPairs = values.OnePair k v NoPairs
-put_pair k v (values.OnePair l u ps) = cond (same_key k l) (values.OnePair l v ps) (values.OnePair l u (put_pair k v ps))
+put_pair k v (values.OnePair l u ps) = cond (key_eq k l) (values.OnePair l v ps) (values.OnePair l u (put_pair k v ps))
 
 -- the argument is where the byte order of the argument_names puts it
 abbrev pub put_arg : List ℕ → Expr → tree.Args → tree.Args
