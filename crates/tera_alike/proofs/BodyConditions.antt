@@ -16,9 +16,9 @@ use Rattle.tera_grammar.specs.expressions.Concrete.{Kind, of_items, of_entries, 
 use Rattle.tera_grammar.specs.expressions.Measures.{Within, EachElement, EachRow, EachAttribute}
 use Rattle.tera_grammar.specs.expressions.Companions.{EachArgs}
 use Rattle.tera_grammar.specs.statements.Names.{agrees, NamesAreDistinct, block_named, component_named, ◌and_then◌}
-use Rattle.tera_grammar.specs.statements.TagParts.{Name, name_if_any_yield, AtEndBlock, AtEndFor, AtEndIf, closing, finish}
-use Rattle.tera_grammar.specs.statements.Expressions.{Expression, IsExpression, Filtering, IsFilter, Attributes, AreAttributes, ComponentName, LiteralArray, IsLiteralArray, LiteralMap, IsLiteralMap, expression_yield, attributes_yield}
-use Rattle.tera_grammar.specs.statements.Components.{Default, LiteralDefault, MinusDefault, NothingDefault, ArrayDefault, MapDefault, FitsDefault, Annotation, Assigned, Parameter, assigned_yield, is_known, default_has_type, FitsAssigned, FitsParameter, Parameters, Closed, Rest, Final, More, parameters_yield, parameter_names, FitEach, Head, metadata_yield, ending_yield, FitsMetadata, component_texts, FitsHead}
+use Rattle.tera_grammar.specs.statements.TagParts.{Name, AtEndBlock, AtEndFor, AtEndIf, closing, finish, if_any, name_yield}
+use Rattle.tera_grammar.specs.statements.Expressions.{Expression, IsExpression, Filtering, IsFilter, Attributes, AreAttributes, ComponentName, LiteralArray, IsLiteralArray, LiteralMap, IsLiteralMap, expression_yield, attributes_yield, map_yield}
+use Rattle.tera_grammar.specs.statements.Components.{Default, LiteralDefault, MinusDefault, NothingDefault, ArrayDefault, MapDefault, FitsDefault, Annotation, Assigned, Parameter, assigned_yield, is_known, default_has_type, FitsAssigned, FitsParameter, Parameters, Closed, Rest, Final, More, parameters_yield, parameter_names, FitEach, Head, ending_yield, FitsMetadata, component_texts, FitsHead}
 use Rattle.tera_grammar.specs.statements.Heads.{Loop, FitsLoop, Filters, NoFilters, Piped, filters_yield, AreFilters, Capture, SetBody, Section, CallBody, capture_end, FitsCapture}
 use Rattle.tera_grammar.specs.statements.Grammar.{Plain, Text, Shown, Set, Include, Extends, Break, Continue, Body, Done, Then, Item, Single, Block, Define, Capturing, For, If, Branches, Elif, Last, Else, NoElse, Otherwise, yield, branches_yield, else_yield, Path, InFor, InForElse, InBlock, InIf, InComponent, InCapture, in_loop, text_if_any, FitsPlain, Fits, FitsItem, FitsBranches, FitsElse, names, item_names, branch_names, else_names, inner, item_height, branch_height, else_height}
 use Rattle.tera_grammar.specs.statements.Top.{is_kept, TopLevel, IsTemplate}
@@ -106,7 +106,7 @@ module _ (place : Items → Span) (l : Limits) where
   parameter_fits : (p : Parameter) (r : Items) → FitsParameter l p → FitsParameter l (parameter_at place p r)
   parameter_fits p r h = (
     h.0,
-    known_same p.type (assigned_yield p.default r) ∙ h.1,
+    known_same p.type (if_any assigned_yield p.default r) ∙ h.1,
     assigned_fits p.default r h.2,
     ap (λ a. default_has_type a.typ a.default) (argument_same place p r) ∙ h.3,
   )
@@ -133,7 +133,7 @@ module _ (place : Items → Span) (l : Limits) where
 
   head_fits : (h : Head) (r q : Items) → FitsHead l h → FitsHead l (head_at place h r q)
   head_fits h r q is =
-      let metadata = metadata_yield h.metadata (finish h.tag r) in
+      let metadata = if_any map_yield h.metadata (finish h.tag r) in
       let parameters = parameters_yield h.parameters metadata in (
         (parameters_fit h.parameters metadata is.0.0, subst AreDistinct (sym (parameter_names_same h.parameters metadata)) is.0.1),
         metadata_fits h.metadata (finish h.tag r) is.1,
@@ -175,7 +175,7 @@ module _ (place : Items → Span) (l : Limits) where
     item_fits : (path : Path) (i : Item) (r : Items) → FitsItem l path i → FitsItem l path (item_at place i r)
     item_fits path (Single p) r h = plain_fits path p r h
     item_fits path (Block t n b e m) r h =
-        (h.0, ap (agrees n.text) (text_same m (finish e r)) ∙ h.1, body_fits (InBlock ∷ path) b (closing AtEndBlock e (name_if_any_yield m (finish e r))) h.2)
+        (h.0, ap (agrees n.text) (text_same m (finish e r)) ∙ h.1, body_fits (InBlock ∷ path) b (closing AtEndBlock e (if_any name_yield m (finish e r))) h.2)
     item_fits path (Define d b) r h =
         let close = ending_yield d r in (h.0, head_fits d (yield b close) r h.1, body_fits (InComponent ∷ path) b close h.2)
     item_fits path (Capturing c b) r h =

@@ -14,10 +14,10 @@ use Rattle.tera_tree.specs.Tree.{Argument, Definition}
 use Rattle.tera_grammar.specs.expressions.Operators.{GreaterThan, In}
 use Rattle.tera_grammar.specs.expressions.Marks.{mark, LeftParen, RightParen, Comma, Operation}
 use Rattle.tera_grammar.specs.expressions.Concrete.{second_yield}
-use Rattle.tera_grammar.specs.statements.TagParts.{name_if_any_yield, AtEndBlock, AtEndFor, AtEndIf, closing, finish}
-use Rattle.tera_grammar.specs.statements.Expressions.{Expression, Filtering, Attributes, ComponentName, expression_yield, attributes_yield, expression_output, filter_output, attributes_output, component_text, array_output, map_output, LiteralMap}
+use Rattle.tera_grammar.specs.statements.TagParts.{AtEndBlock, AtEndFor, AtEndIf, closing, finish, if_any, name_yield}
+use Rattle.tera_grammar.specs.statements.Expressions.{Expression, Filtering, Attributes, ComponentName, expression_yield, attributes_yield, expression_output, filter_output, attributes_output, component_text, array_output, map_output, LiteralMap, map_yield}
 use Rattle.tera_grammar.specs.statements.Types.{Sorted, put_name}
-use Rattle.tera_grammar.specs.statements.Components.{Default, LiteralDefault, MinusDefault, NothingDefault, ArrayDefault, MapDefault, default_output, Annotation, Assigned, Parameter, assigned_yield, default_of, type_of_argument, argument_of, Parameters, Closed, Rest, Final, More, parameters_yield, put_arguments, rest_of, Head, metadata_yield, ending_yield, metadata_output, definition_of}
+use Rattle.tera_grammar.specs.statements.Components.{Default, LiteralDefault, MinusDefault, NothingDefault, ArrayDefault, MapDefault, default_output, Annotation, Assigned, Parameter, assigned_yield, default_of, type_of_argument, argument_of, Parameters, Closed, Rest, Final, More, parameters_yield, put_arguments, rest_of, Head, ending_yield, metadata_output, definition_of}
 use Rattle.tera_grammar.specs.statements.Heads.{Loop, loop_output, Filters, NoFilters, Piped, filters_yield, filters_output, Capture, SetBody, Section, CallBody, capture_end, capture_output}
 use Rattle.tera_grammar.specs.statements.Grammar.{Plain, Text, Shown, Set, Include, Extends, Break, Continue, Body, Done, Then, Item, Single, Block, Define, Capturing, For, If, Branches, Elif, Last, Else, NoElse, Otherwise, yield, branches_yield, else_yield}
 use Rattle.tera_grammar.specs.statements.Output.{Adds, AddsNode, AddsParent, AddsDefinition, added_nodes, plain_adds, output, added_by, branch_output, else_output, later, parent_by, definitions_by, parent_of, definitions_of, output_of}
@@ -106,7 +106,7 @@ module _ (place : Items → Span) where
 
   pub argument_same : (p : Parameter) (r : Items) → argument_of (parameter_at place p r) ≡ argument_of p
   argument_same p r =
-      let value = assigned_yield p.default r in
+      let value = if_any assigned_yield p.default r in
       rw (assigned_same p.default r, type_same p.type (default_of p.default) value, mark_same p.at _) refl
 
   arguments_same : (ps : Parameters) (r : Items) (args : Sorted Argument) → put_arguments (parameters_at place ps r) args ≡ put_arguments ps args
@@ -130,7 +130,7 @@ module _ (place : Items → Span) where
   definition_same : (h : Head) (r q : Items) (ss others : List Stmt) → placeless_list ss ≡ placeless_list others →
       placeless_definition (definition_of (head_at place h r q) ss) ≡ placeless_definition (definition_of h others)
   definition_same h r q ss others h' =
-      let metadata = metadata_yield h.metadata (finish h.tag r) in
+      let metadata = if_any map_yield h.metadata (finish h.tag r) in
       let parameters = parameters_yield h.parameters metadata in
       rw (component_same h.name (mark LeftParen h.paren parameters), arguments_same h.parameters metadata [], rest_same h.parameters metadata, metadata_same h.metadata (finish h.tag r), h') refl
 
@@ -173,7 +173,7 @@ module _ (place : Items → Span) where
     added_same : (f : Bool) (i : Item) (r : Items) → placeless_adds (added_by f (item_at place i r)) ≡ placeless_adds (added_by f i)
     added_same f (Single p) r = plain_same f p r
     added_same f (Block t n b e m) r =
-        let close = closing AtEndBlock e (name_if_any_yield m (finish e r)) in
+        let close = closing AtEndBlock e (if_any name_yield m (finish e r)) in
         ap (λ ns. AddsNode (tree.Block n.text nowhere ns)) (nodes_same (output f (body_at place b close)) (output f b) (output_same f b close))
     added_same f (Define h b) r =
         let close = ending_yield h r in ap AddsDefinition (definition_same h (yield b close) r _ (output f b) (output_same f b close))

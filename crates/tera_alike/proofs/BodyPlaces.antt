@@ -5,12 +5,12 @@ use Rattle.tera_lexer.specs.grammar.Tokens as toks
 use Rattle.tera_lexer.specs.grammar.Tokens.{Tok, Items, Token}
 use Rattle.tera_lexer.specs.declared.lexer.delimiters.Kind.TheVariants as kind
 use Rattle.tera_grammar.specs.expressions.Operators.{GreaterThan, In}
-use Rattle.tera_grammar.specs.expressions.Marks.{mark, LeftParen, RightParen, Comma, Assign, Operation}
+use Rattle.tera_grammar.specs.expressions.Marks.{mark, LeftParen, RightParen, Comma, Assign, Operation, At}
 use Rattle.tera_grammar.specs.expressions.Concrete.{Kind, of_items, of_entries, quote_token, second_yield, dotted_yield, row_yield, args_yield}
 use Rattle.tera_grammar.specs.expressions.Companions.{Opened}
-use Rattle.tera_grammar.specs.statements.TagParts.{Edge, Name, name_yield, name_if_any_yield, Tag, OpensSet, OpensInclude, OpensExtends, OpensBlock, OpensFor, OpensIf, OpensFilter, OpensComponent, OpensBreak, OpensContinue, OpensCall, AtElif, AtElse, AtEndSet, AtEndBlock, AtEndFor, AtEndIf, AtEndFilter, AtEndComponent, AtEndCall, opener_token, closer_token, closing, finish}
+use Rattle.tera_grammar.specs.statements.TagParts.{Edge, Name, name_yield, Tag, OpensSet, OpensInclude, OpensExtends, OpensBlock, OpensFor, OpensIf, OpensFilter, OpensComponent, OpensBreak, OpensContinue, OpensCall, AtElif, AtElse, AtEndSet, AtEndBlock, AtEndFor, AtEndIf, AtEndFilter, AtEndComponent, AtEndCall, opener_token, closer_token, closing, finish, if_any}
 use Rattle.tera_grammar.specs.statements.Expressions.{Expression, Filtering, Attributes, ComponentName, LiteralArray, LiteralMap, expression_yield, filter_yield, attributes_yield, component_yield, array_yield, map_yield}
-use Rattle.tera_grammar.specs.statements.Components.{Default, LiteralDefault, MinusDefault, NothingDefault, ArrayDefault, MapDefault, default_yield, Annotation, Assigned, Parameter, at_yield, annotation_yield, assigned_yield, parameter_yield, Parameters, Closed, Rest, Final, More, parameters_yield, Head, metadata_yield, component_if_any_yield, head_yield, ending_yield}
+use Rattle.tera_grammar.specs.statements.Components.{Default, LiteralDefault, MinusDefault, NothingDefault, ArrayDefault, MapDefault, default_yield, Annotation, Assigned, Parameter, annotation_yield, assigned_yield, parameter_yield, Parameters, Closed, Rest, Final, More, parameters_yield, Head, head_yield, ending_yield}
 use Rattle.tera_grammar.specs.statements.Heads.{Loop, loop_yield, Filters, NoFilters, Piped, filters_yield, Capture, SetBody, Section, CallBody, capture_yield, capture_end}
 use Rattle.tera_grammar.specs.statements.Grammar.{Plain, Text, Shown, Set, Include, Extends, Break, Continue, Body, Done, Then, Item, Single, Block, Define, Capturing, For, If, Branches, Elif, Last, Else, NoElse, Otherwise, plain_yield, yield, item_yield, branches_yield, else_yield}
 use Rattle.tera_source.proofs.Places.{name_at, second_at, dotted_at, tree_at, row_at, args_at, attributes_at, tokens_at, tree_tokens}
@@ -75,8 +75,8 @@ module _ (place : Items → Span) where
 
   abbrev pub parameter_at : Parameter → Items → Parameter
   parameter_at p r =
-      let value = assigned_yield p.default r in
-      let type = annotation_yield p.type value in
+      let value = if_any assigned_yield p.default r in
+      let type = if_any annotation_yield p.type value in
       record {
         at = mark_at p.at (name_yield p.name type);
         name = name_at place p.name type;
@@ -95,7 +95,7 @@ module _ (place : Items → Span) where
   -- The tags around a body: what comes after the opening one, and after the closing one.
   abbrev pub head_at : Head → Items → Items → Head
   head_at h r q =
-      let metadata = metadata_yield h.metadata (finish h.tag r) in
+      let metadata = if_any map_yield h.metadata (finish h.tag r) in
       let parameters = parameters_yield h.parameters metadata in
       let paren = mark LeftParen h.paren parameters in
       let end = finish h.ending q in
@@ -105,7 +105,7 @@ module _ (place : Items → Span) where
         paren = place parameters;
         parameters = parameters_at h.parameters metadata;
         metadata = metadata_at h.metadata (finish h.tag r);
-        ending = tag_at (closer_token AtEndComponent) h.ending (component_if_any_yield h.end_name end) q;
+        ending = tag_at (closer_token AtEndComponent) h.ending (if_any component_yield h.end_name end) q;
         end_name = component_if_any_at h.end_name end;
       }
 
@@ -165,7 +165,7 @@ module _ (place : Items → Span) where
     pub item_at : Item → Items → Item
     item_at (Single p) r = Single (plain_at p r)
     item_at (Block t n b e m) r =
-        let named = name_if_any_yield m (finish e r) in
+        let named = if_any name_yield m (finish e r) in
         let close = closing AtEndBlock e named in
         let body = yield b close in
         Block (tag_at (opener_token OpensBlock) t (name_yield n (finish t body)) body) (name_at place n (finish t body)) (body_at b close)
@@ -221,15 +221,15 @@ module _ (place : Items → Span) (end : Items) where
   unfolding map_yield
   map_tokens m r = rw (row_tokens place end of_entries m.0.row r)
 
-  name_if_any_tokens : (n : Option Name) (r : Items) → Moves (name_if_any_yield n) (name_if_any_yield (name_if_any_at place n r)) r
+  name_if_any_tokens : (n : Option Name) (r : Items) → Moves (if_any name_yield n) (if_any name_yield (name_if_any_at place n r)) r
   name_if_any_tokens None r = refl
   name_if_any_tokens (Some n) r = refl
 
-  component_if_any_tokens : (n : Option ComponentName) (r : Items) → Moves (component_if_any_yield n) (component_if_any_yield (component_if_any_at place n r)) r
+  component_if_any_tokens : (n : Option ComponentName) (r : Items) → Moves (if_any component_yield n) (if_any component_yield (component_if_any_at place n r)) r
   component_if_any_tokens None r = refl
   component_if_any_tokens (Some n) r = component_tokens n r
 
-  metadata_tokens : (m : Option LiteralMap) (r : Items) → Moves (metadata_yield m) (metadata_yield (metadata_at place m r)) r
+  metadata_tokens : (m : Option LiteralMap) (r : Items) → Moves (if_any map_yield m) (if_any map_yield (metadata_at place m r)) r
   metadata_tokens None r = refl
   metadata_tokens (Some m) r = map_tokens m r
 
@@ -240,22 +240,22 @@ module _ (place : Items → Span) (end : Items) where
   default_tokens (ArrayDefault a) r = array_tokens a r
   default_tokens (MapDefault m) r = map_tokens m r
 
-  assigned_tokens : (d : Option Assigned) (r : Items) → Moves (assigned_yield d) (assigned_yield (assigned_at place d r)) r
+  assigned_tokens : (d : Option Assigned) (r : Items) → Moves (if_any assigned_yield d) (if_any assigned_yield (assigned_at place d r)) r
   assigned_tokens None r = refl
   assigned_tokens (Some d) r = rw (default_tokens d.value r)
 
-  annotation_tokens : (a : Option Annotation) (r : Items) → Moves (annotation_yield a) (annotation_yield (annotation_at place a r)) r
+  annotation_tokens : (a : Option Annotation) (r : Items) → Moves (if_any annotation_yield a) (if_any annotation_yield (annotation_at place a r)) r
   annotation_tokens None r = refl
   annotation_tokens (Some a) r = refl
 
-  mark_tokens : (at : Option Span) (r : Items) → Moves (at_yield at) (at_yield (mark_at place at r)) r
+  mark_tokens : (at : Option Span) (r : Items) → Moves (if_any (mark At) at) (if_any (mark At) (mark_at place at r)) r
   mark_tokens None r = refl
   mark_tokens (Some span) r = refl
 
   parameter_tokens : (p : Parameter) (r : Items) → Moves (parameter_yield p) (parameter_yield (parameter_at place p r)) r
   parameter_tokens p r =
-      let value = assigned_yield p.default r in
-      rw (mark_tokens p.at (name_yield p.name (annotation_yield p.type value)), annotation_tokens p.type value, assigned_tokens p.default r)
+      let value = if_any assigned_yield p.default r in
+      rw (mark_tokens p.at (name_yield p.name (if_any annotation_yield p.type value)), annotation_tokens p.type value, assigned_tokens p.default r)
 
   parameters_tokens : (ps : Parameters) (r : Items) → Moves (parameters_yield ps) (parameters_yield (parameters_at place ps r)) r
   parameters_tokens (Closed e) r = refl
@@ -265,7 +265,7 @@ module _ (place : Items → Span) (end : Items) where
 
   head_tokens : (h : Head) (r q : Items) → Moves (head_yield h) (head_yield (head_at place h r q)) r
   head_tokens h r q =
-      let metadata = metadata_yield h.metadata (finish h.tag r) in
+      let metadata = if_any map_yield h.metadata (finish h.tag r) in
       rw (component_tokens h.name (mark LeftParen h.paren (parameters_yield h.parameters metadata)), parameters_tokens h.parameters metadata, metadata_tokens h.metadata (finish h.tag r))
 
   ending_tokens : (h : Head) (r q : Items) → Moves (ending_yield h) (ending_yield (head_at place h r q)) q
@@ -306,7 +306,7 @@ module _ (place : Items → Span) (end : Items) where
     item_tokens : (i : Item) (r : Items) → Moves (item_yield i) (item_yield (item_at place i r)) r
     item_tokens (Single p) r = plain_tokens p r
     item_tokens (Block t n b e m) r =
-        rw (body_tokens b (closing AtEndBlock e (name_if_any_yield m (finish e r))), name_if_any_tokens m (finish e r))
+        rw (body_tokens b (closing AtEndBlock e (if_any name_yield m (finish e r))), name_if_any_tokens m (finish e r))
     item_tokens (Define h b) r =
         let close = ending_yield h r in rw (head_tokens h (yield b close) r, body_tokens b close, ending_tokens h (yield b close) r)
     item_tokens (Capturing c b) r =

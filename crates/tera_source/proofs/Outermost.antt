@@ -9,10 +9,11 @@ use Rattle.tera_grammar.specs.expressions.Conditions as conditions
 use Rattle.tera_grammar.specs.expressions.Conditions.{IsRow, IsElement, AreArgs}
 use Rattle.tera_grammar.specs.expressions.Measures.{Within, EachElement, EachRow, EachAttribute}
 use Rattle.tera_grammar.specs.expressions.Companions.{EachArgs}
-use Rattle.tera_grammar.specs.statements.TagParts.{Name, name_if_any_yield}
+use Rattle.tera_grammar.specs.expressions.Marks.{mark, At}
+use Rattle.tera_grammar.specs.statements.TagParts.{Name, if_any, name_yield}
 use Rattle.tera_grammar.specs.statements.Expressions as stated
 use Rattle.tera_grammar.specs.statements.Expressions.{Filtering, IsFilter, IsLiteralArray, IsLiteralMap, ComponentName, LiteralArray, LiteralMap, expression_yield, filter_yield, component_yield, array_yield, map_yield}
-use Rattle.tera_grammar.specs.statements.Components.{Default, LiteralDefault, MinusDefault, NothingDefault, ArrayDefault, MapDefault, FitsDefault, default_yield, Annotation, Assigned, Parameter, at_yield, annotation_yield, assigned_yield, parameter_yield, FitsAssigned, FitsParameter, Parameters, Closed, Rest, Final, More, parameters_yield, FitEach, metadata_yield, component_if_any_yield, FitsMetadata}
+use Rattle.tera_grammar.specs.statements.Components.{Default, LiteralDefault, MinusDefault, NothingDefault, ArrayDefault, MapDefault, FitsDefault, default_yield, Annotation, Assigned, Parameter, annotation_yield, assigned_yield, parameter_yield, FitsAssigned, FitsParameter, Parameters, Closed, Rest, Final, More, parameters_yield, FitEach, FitsMetadata}
 use Rattle.tera_grammar.specs.statements.Heads.{Filters, NoFilters, Piped, filters_yield, AreFilters, Capture, SetBody, Section, CallBody, capture_yield, capture_end, FitsCapture}
 use Rattle.tera_grammar.specs.statements.Grammar.{Plain, Text, Shown, Set, Include, Extends, Break, Continue, Body, Done, Then, Item, Single, Block, Define, Capturing, For, If, Branches, Elif, Last, Else, NoElse, Otherwise, Path, InFor, InForElse, InBlock, InIf, InComponent, InCapture, plain_yield, yield, item_yield, branches_yield, else_yield, in_loop, FitsPlain, Fits, FitsItem, FitsBranches, FitsElse}
 use Rattle.tera_grammar.proofs.expressions.Later.{IsInside, yield_later}
@@ -142,15 +143,15 @@ module _ (l : Limits) (whole : Items) (P : Bool → Tree → Type 0) (from : (f 
   default_sound (ArrayDefault a) r h is = array_sound a r h is
   default_sound (MapDefault m) r h is = map_sound m r h is
 
-  assigned_sound : (d : Option Assigned) (r : Items) → Left whole (assigned_yield d r) → FitsAssigned l d → EachOfAssigned P d × Left whole r
+  assigned_sound : (d : Option Assigned) (r : Items) → Left whole (if_any assigned_yield d r) → FitsAssigned l d → EachOfAssigned P d × Left whole r
   assigned_sound None r h is = (tt, h)
   assigned_sound (Some d) r h is = default_sound d.value r (skip whole _ d.sign _ h) is
 
-  after_at : (at : Option Span) (r : Items) → Left whole (at_yield at r) → Left whole r
+  after_at : (at : Option Span) (r : Items) → Left whole (if_any (mark At) at r) → Left whole r
   after_at None r h = h
   after_at (Some span) r h = skip whole _ span r h
 
-  after_annotation : (a : Option Annotation) (r : Items) → Left whole (annotation_yield a r) → Left whole r
+  after_annotation : (a : Option Annotation) (r : Items) → Left whole (if_any annotation_yield a r) → Left whole r
   after_annotation None r h = h
   after_annotation (Some a) r h = skip whole _ a.name.span r (skip whole _ a.colon _ h)
 
@@ -166,15 +167,15 @@ module _ (l : Limits) (whole : Items) (P : Bool → Tree → Type 0) (from : (f 
       let one = parameter_sound p _ h is.0 in
       let more = parameters_sound ps r (skip whole _ comma _ one.1) is.1 in ((one.0, more.0), more.1)
 
-  metadata_sound : (m : Option LiteralMap) (r : Items) → Left whole (metadata_yield m r) → FitsMetadata l m → EachOfMap P m × Left whole r
+  metadata_sound : (m : Option LiteralMap) (r : Items) → Left whole (if_any map_yield m r) → FitsMetadata l m → EachOfMap P m × Left whole r
   metadata_sound None r h is = (tt, h)
   metadata_sound (Some m) r h is = map_sound m r h is
 
-  after_name_if_any : (n : Option Name) (r : Items) → Left whole (name_if_any_yield n r) → Left whole r
+  after_name_if_any : (n : Option Name) (r : Items) → Left whole (if_any name_yield n r) → Left whole r
   after_name_if_any None r h = h
   after_name_if_any (Some n) r h = skip whole _ n.span r h
 
-  after_component_if_any : (n : Option ComponentName) (r : Items) → Left whole (component_if_any_yield n r) → Left whole r
+  after_component_if_any : (n : Option ComponentName) (r : Items) → Left whole (if_any component_yield n r) → Left whole r
   after_component_if_any None r h = h
   after_component_if_any (Some n) r h = after_component n r h
 

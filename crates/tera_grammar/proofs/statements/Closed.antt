@@ -9,12 +9,12 @@ use Rattle.tera_lexer.proofs.Closed.{pieces_closed}
 use Rattle.tera_lexer.specs.declared.lexer.delimiters.Kind.TheVariants as kind
 use Rattle.tera_grammar.specs.expressions.Operators.{GreaterThan}
 use Rattle.tera_grammar.specs.expressions.Concrete.{Quote, Simple, Escaped, Lit, quote_token, literal_token}
-use Rattle.tera_grammar.specs.expressions.Marks.{mark, LeftParen, RightParen, Comma, Assign, Operation}
+use Rattle.tera_grammar.specs.expressions.Marks.{mark, LeftParen, RightParen, Comma, Assign, Operation, At}
 use Rattle.tera_grammar.specs.statements.TagParts as parts
 use Rattle.tera_grammar.specs.expressions.Concrete as concrete
-use Rattle.tera_grammar.specs.statements.TagParts.{name_yield, name_if_any_yield, OpensSet, AtElif, AtElse, AtEndBlock, AtEndFor, AtEndIf, opening, closing, finish}
-use Rattle.tera_grammar.specs.statements.Expressions.{expression_yield, attributes_yield, ComponentName, LiteralMap}
-use Rattle.tera_grammar.specs.statements.Components.{Default, LiteralDefault, MinusDefault, NothingDefault, ArrayDefault, MapDefault, default_yield, Annotation, Assigned, Parameter, at_yield, annotation_yield, assigned_yield, parameter_yield, Parameters, Closed, Rest, Final, More, parameters_yield, Head, head_yield, ending_yield, metadata_yield, component_if_any_yield}
+use Rattle.tera_grammar.specs.statements.TagParts.{name_yield, OpensSet, AtElif, AtElse, AtEndBlock, AtEndFor, AtEndIf, opening, closing, finish, if_any}
+use Rattle.tera_grammar.specs.statements.Expressions.{expression_yield, attributes_yield, ComponentName, LiteralMap, component_yield, map_yield}
+use Rattle.tera_grammar.specs.statements.Components.{Default, LiteralDefault, MinusDefault, NothingDefault, ArrayDefault, MapDefault, default_yield, Annotation, Assigned, Parameter, annotation_yield, assigned_yield, parameter_yield, Parameters, Closed, Rest, Final, More, parameters_yield, Head, head_yield, ending_yield}
 use Rattle.tera_grammar.specs.statements.Heads.{Loop, loop_yield, Filters, NoFilters, Piped, filters_yield, Capture, SetBody, Section, CallBody, capture_yield, capture_end}
 use Rattle.tera_grammar.specs.statements.Grammar as grammar
 use Rattle.tera_grammar.specs.statements.Grammar.{Plain, Shown, Set, Include, Extends, Break, Continue, plain_yield, Body, Done, Then, Single, Block, Define, Capturing, For, If, Branches, Elif, Last, Else, NoElse, Otherwise, yield, item_yield, branches_yield, else_yield}
@@ -37,22 +37,22 @@ default_closed (NothingDefault n) r is = is
 default_closed (ArrayDefault a) r is = array_closed a r is
 default_closed (MapDefault m) r is = map_closed m r is
 
-assigned_closed : (d : Option Assigned) (r : Items) → IsClosed true r → IsClosed true (assigned_yield d r)
+assigned_closed : (d : Option Assigned) (r : Items) → IsClosed true r → IsClosed true (if_any assigned_yield d r)
 assigned_closed None r is = is
 assigned_closed (Some d) r is = default_closed d.value r is
 
-annotation_closed : (t : Option Annotation) (r : Items) → IsClosed true r → IsClosed true (annotation_yield t r)
+annotation_closed : (t : Option Annotation) (r : Items) → IsClosed true r → IsClosed true (if_any annotation_yield t r)
 annotation_closed None r is = is
 annotation_closed (Some a) r is = is
 
-at_closed : (at : Option Span) (r : Items) → IsClosed true r → IsClosed true (at_yield at r)
+at_closed : (at : Option Span) (r : Items) → IsClosed true r → IsClosed true (if_any (mark At) at r)
 at_closed None r is = is
 at_closed (Some span) r is = is
 
 parameter_closed : (p : Parameter) (r : Items) → IsClosed true r → IsClosed true (parameter_yield p r)
 parameter_closed p r is =
-    at_closed p.at (name_yield p.name (annotation_yield p.type (assigned_yield p.default r)))
-    (annotation_closed p.type (assigned_yield p.default r) (assigned_closed p.default r is))
+    at_closed p.at (name_yield p.name (if_any annotation_yield p.type (if_any assigned_yield p.default r)))
+    (annotation_closed p.type (if_any assigned_yield p.default r) (assigned_closed p.default r is))
 
 parameters_closed : (ps : Parameters) (r : Items) → IsClosed true r → IsClosed true (parameters_yield ps r)
 parameters_closed (Closed end) r is = is
@@ -60,20 +60,20 @@ parameters_closed (Rest dots n end) r is = is
 parameters_closed (Final p end) r is = parameter_closed p (mark RightParen end r) is
 parameters_closed (More p comma ps) r is = parameter_closed p (mark Comma comma (parameters_yield ps r)) (parameters_closed ps r is)
 
-metadata_closed : (h : Head) (r : Items) → IsClosed true r → IsClosed true (metadata_yield h.metadata r)
+metadata_closed : (h : Head) (r : Items) → IsClosed true r → IsClosed true (if_any map_yield h.metadata r)
 metadata_closed h r is = goes h.metadata
   where
-    goes : (m : Option LiteralMap) → IsClosed true (metadata_yield m r)
+    goes : (m : Option LiteralMap) → IsClosed true (if_any map_yield m r)
     goes None = is
     goes (Some m) = map_closed m r is
 
-component_if_any_closed : (n : Option ComponentName) (r : Items) → IsClosed true r → IsClosed true (component_if_any_yield n r)
+component_if_any_closed : (n : Option ComponentName) (r : Items) → IsClosed true r → IsClosed true (if_any component_yield n r)
 component_if_any_closed None r is = is
 component_if_any_closed (Some n) r is = component_closed n r is
 
 head_closed : (h : Head) (r : Items) → IsClosed false r → IsClosed false (head_yield h r)
 head_closed h r is =
-    let metadata = metadata_yield h.metadata (finish h.tag r) in
+    let metadata = if_any map_yield h.metadata (finish h.tag r) in
     component_closed h.name (mark LeftParen h.paren (parameters_yield h.parameters metadata))
     (parameters_closed h.parameters metadata (metadata_closed h (finish h.tag r) is))
 
@@ -107,7 +107,7 @@ capture_end_closed (SetBody global t n fs e) r is = is
 capture_end_closed (Section t f fs e) r is = is
 capture_end_closed (CallBody t n a last e m end) r is = component_closed m (mark (Operation GreaterThan) end (finish e r)) is
 
-name_if_any_closed : (m : Option parts.Name) (r : Items) → IsClosed true r → IsClosed true (name_if_any_yield m r)
+name_if_any_closed : (m : Option parts.Name) (r : Items) → IsClosed true r → IsClosed true (if_any name_yield m r)
 name_if_any_closed None r is = is
 name_if_any_closed (Some n) r is = is
 
@@ -129,7 +129,7 @@ mutual
   item_closed : (i : grammar.Item) (r : Items) → IsClosed false r → IsClosed false (item_yield i r)
   item_closed (Single p) r is = plain_closed p r is
   item_closed (Block t n b e m) r is =
-      body_closed b (closing AtEndBlock e (name_if_any_yield m (finish e r))) (name_if_any_closed m (finish e r) is)
+      body_closed b (closing AtEndBlock e (if_any name_yield m (finish e r))) (name_if_any_closed m (finish e r) is)
   item_closed (Define h b) r is = head_closed h (yield b (ending_yield h r)) (body_closed b (ending_yield h r) (ending_closed h r is))
   item_closed (Capturing c b) r is = capture_closed c (yield b (capture_end c r)) (body_closed b (capture_end c r) (capture_end_closed c r is))
   item_closed (For t lp b o e) r is =

@@ -11,7 +11,7 @@ use Rattle.tera_grammar.specs.Options.{◌>>=◌}
 use Rattle.tera_grammar.specs.statements.Names.{agrees}
 use Rattle.tera_grammar.specs.statements.Places.{block_placed, component_placed, places, item_places, branch_places, else_places}
 use Rattle.tera_grammar.specs.statements.Reading.Meeting.{Seen, met, ◌having◌}
-use Rattle.tera_grammar.specs.statements.TagParts.{Name, name_yield, name_if_any_yield, Tag, Opener, OpensSet, OpensInclude, OpensExtends, OpensBlock, OpensFor, OpensIf, OpensFilter, OpensComponent, OpensBreak, OpensContinue, OpensCall, AtElif, AtEndBlock, AtEndFor, AtEndIf, opening, closing, finish}
+use Rattle.tera_grammar.specs.statements.TagParts.{Name, name_yield, Tag, Opener, OpensSet, OpensInclude, OpensExtends, OpensBlock, OpensFor, OpensIf, OpensFilter, OpensComponent, OpensBreak, OpensContinue, OpensCall, AtElif, AtEndBlock, AtEndFor, AtEndIf, opening, closing, finish, if_any}
 use Rattle.tera_grammar.specs.statements.Expressions.{Limits, Expression, IsExpression, expression_yield, attributes_yield, component_text}
 use Rattle.tera_grammar.specs.statements.Components.{Head, ending_yield, FitsHead}
 use Rattle.tera_grammar.specs.statements.Heads.{Loop, loop_yield, FitsLoop, Filters, NoFilters, Piped, filters_yield, Capture, SetBody, Section, CallBody, capture_end, FitsCapture}
@@ -76,13 +76,13 @@ module _ (l : Limits) (f : Reader) (path : Path) (seen : Seen) where
   plain_found (Break t) r fits = step_opens OpensBreak t (finish t r) (Single (Break t), at seen r) (rw fits refl)
   plain_found (Continue t) r fits = step_opens OpensContinue t (finish t r) (Single (Continue t), at seen r) (rw fits refl)
 
-  block_end_found : (n : Name) (m : Option Name) (e : Tag) (r : Items) → agrees n.text (text_if_any m) ≡ true → block_end n (closing AtEndBlock e (name_if_any_yield m (finish e r))) ≡ Some ((e, m), r)
+  block_end_found : (n : Name) (m : Option Name) (e : Tag) (r : Items) → agrees n.text (text_if_any m) ≡ true → block_end n (closing AtEndBlock e (if_any name_yield m (finish e r))) ≡ Some ((e, m), r)
   unfolding block_end
   block_end_found n None e r agreed = refl
   block_end_found n (Some m) e r agreed = rw agreed refl
 
   block_found : (new : Seen) (t : Tag) (n : Name) (b : Body) (e : Tag) (m : Option Name) (r : Items) → may_block path ≡ true → met seen.blocks n.text ≡ false → agrees n.text (text_if_any m) ≡ true →
-      f (InBlock ∷ path) (at (seen having block_placed n) (yield b (closing AtEndBlock e (name_if_any_yield m (finish e r))))) ≡ Some (b, at new (closing AtEndBlock e (name_if_any_yield m (finish e r)))) →
+      f (InBlock ∷ path) (at (seen having block_placed n) (yield b (closing AtEndBlock e (if_any name_yield m (finish e r))))) ≡ Some (b, at new (closing AtEndBlock e (if_any name_yield m (finish e r)))) →
       step l f path seen (front (item_yield (Block t n b e m) r)) ≡ Some (Some (Block t n b e m, at new r))
   unfolding block_of
   block_found new t n b e m r may fresh agreed read = step_opens OpensBlock t _ _ (rw (may, fresh, read, block_end_found n m e r agreed) refl)
@@ -189,7 +189,7 @@ mutual
       plain_found l (body d l) path seen p r fits
   item_found (Block t n b e m) l d path seen r fits low apart =
       block_found l (body d l) path seen ((seen having block_placed n) having places b) t n b e m r fits.0 apart.0.0 fits.1
-      (whole b l d (InBlock ∷ path) (seen having block_placed n) (closing AtEndBlock e (name_if_any_yield m (finish e r))) fits.2 low (then_names seen (block_placed n) (places b) apart) tt)
+      (whole b l d (InBlock ∷ path) (seen having block_placed n) (closing AtEndBlock e (if_any name_yield m (finish e r))) fits.2 low (then_names seen (block_placed n) (places b) apart) tt)
       ∙ ap (λ s. Some (Some (Block t n b e m, at s r))) (having_both seen (block_placed n) (places b))
   item_found (Define h b) l d path seen r fits low apart =
       define_found l (body d l) path seen ((seen having component_placed h.name h.parameters) having places b) h b r fits.0 apart.1.0 fits.1

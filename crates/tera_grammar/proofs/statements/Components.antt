@@ -13,10 +13,10 @@ use Rattle.tera_grammar.specs.expressions.Marks.{mark, Mark, LeftParen, RightPar
 use Rattle.tera_grammar.specs.Options.{◌>>=◌}
 use Rattle.tera_grammar.specs.expressions.Concrete.{Number, Quoted, Truth, Simple, Escaped}
 use Rattle.tera_grammar.specs.statements.Names.{agrees}
-use Rattle.tera_grammar.specs.statements.TagParts.{Edge, Name, name_yield, OpensComponent, opener_token, AtEndComponent, closer_token, start_yield, finish_yield}
+use Rattle.tera_grammar.specs.statements.TagParts.{Edge, Name, name_yield, OpensComponent, opener_token, AtEndComponent, closer_token, start_yield, finish_yield, if_any}
 use Rattle.tera_grammar.specs.statements.Expressions.{Limits, ComponentName, component_yield, component_text, LiteralMap, map_yield}
 use Rattle.tera_grammar.proofs.plain.statements.Reading.Expressions.{array_of, map_of}
-use Rattle.tera_grammar.specs.statements.Components.{Default, LiteralDefault, MinusDefault, NothingDefault, ArrayDefault, MapDefault, FitsDefault, default_yield, Annotation, Assigned, Parameter, at_yield, annotation_yield, assigned_yield, parameter_yield, is_known, is_body, FitsAssigned, FitsParameter, Parameters, Closed, Rest, Final, More, parameters_yield, parameter_names, FitEach, FitParameters, Head, head_yield, ending_yield, metadata_yield, component_if_any_yield, component_texts, FitsMetadata, FitsHead}
+use Rattle.tera_grammar.specs.statements.Components.{Default, LiteralDefault, MinusDefault, NothingDefault, ArrayDefault, MapDefault, FitsDefault, default_yield, Annotation, Assigned, Parameter, annotation_yield, assigned_yield, parameter_yield, is_known, is_body, FitsAssigned, FitsParameter, Parameters, Closed, Rest, Final, More, parameters_yield, parameter_names, FitEach, FitParameters, Head, head_yield, ending_yield, component_texts, FitsMetadata, FitsHead}
 use Rattle.tera_grammar.specs.statements.Reading.Components.{default_marks, parameter, Opened, is_name, head}
 use Rattle.tera_grammar.proofs.plain.statements.Reading.Components.{minus_of, default_by, default_at, default_of, at_in, annotation_in, assigned_in, fresh_name, parameter_after, parameter_of, parameters_after, parameters_at, parameters_in, parameters_by, parameters_of, metadata_in, opened_of, end_name_in, ending_of}
 use Rattle.tera_grammar.specs.statements.Reading.Meeting.{Met, meet, nothing_met}
@@ -33,21 +33,21 @@ default_size (NothingDefault n) rest = omega arith
 default_size (ArrayDefault a) rest = array_size a rest
 default_size (MapDefault m) rest = map_size m rest
 
-assigned_size : (d : Option Assigned) (rest : Items) → size rest ≤ size (assigned_yield d rest)
+assigned_size : (d : Option Assigned) (rest : Items) → size rest ≤ size (if_any assigned_yield d rest)
 assigned_size None rest = le_refl _
 assigned_size (Some d) rest = omega (arith, default_size d.value rest)
 
-annotation_size : (t : Option Annotation) (rest : Items) → size rest ≤ size (annotation_yield t rest)
+annotation_size : (t : Option Annotation) (rest : Items) → size rest ≤ size (if_any annotation_yield t rest)
 annotation_size None rest = le_refl _
 annotation_size (Some a) rest = omega arith
 
-at_size : (at : Option Span) (rest : Items) → size rest ≤ size (at_yield at rest)
+at_size : (at : Option Span) (rest : Items) → size rest ≤ size (if_any (mark At) at rest)
 at_size None rest = le_refl _
 at_size (Some span) rest = omega arith
 
 parameter_size : (p : Parameter) (rest : Items) → size rest ≤ size (parameter_yield p rest)
 parameter_size p rest =
-    omega (arith, assigned_size p.default rest, annotation_size p.type (assigned_yield p.default rest), at_size p.at (name_yield p.name (annotation_yield p.type (assigned_yield p.default rest))))
+    omega (arith, assigned_size p.default rest, annotation_size p.type (if_any assigned_yield p.default rest), at_size p.at (name_yield p.name (if_any annotation_yield p.type (if_any assigned_yield p.default rest))))
 
 parameters_size : (ps : Parameters) (rest : Items) → size rest ≤ size (parameters_yield ps rest)
 parameters_size (Closed end) rest = omega arith
@@ -55,18 +55,18 @@ parameters_size (Rest dots n end) rest = omega arith
 parameters_size (Final p end) rest = omega (arith, parameter_size p (mark RightParen end rest))
 parameters_size (More p comma ps) rest = omega (arith, parameters_size ps rest, parameter_size p (mark Comma comma (parameters_yield ps rest)))
 
-metadata_size : (m : Option LiteralMap) (rest : Items) → size rest ≤ size (metadata_yield m rest)
+metadata_size : (m : Option LiteralMap) (rest : Items) → size rest ≤ size (if_any map_yield m rest)
 metadata_size None rest = le_refl _
 metadata_size (Some m) rest = map_size m rest
 
 -- the tokens of an opening tag, after its first word
 abbrev pub opened_yield : Opened → Items → Items
-opened_yield o items = component_yield o.name (mark LeftParen o.paren (parameters_yield o.parameters (metadata_yield o.metadata (finish_yield o.finish items))))
+opened_yield o items = component_yield o.name (mark LeftParen o.paren (parameters_yield o.parameters (if_any map_yield o.metadata (finish_yield o.finish items))))
 
 pub opened_size : (o : Opened) (rest : Items) → size rest ≤ size (opened_yield o rest)
 opened_size o rest =
     let end = finish_yield o.finish rest in
-    let metadata = metadata_yield o.metadata end in
+    let metadata = if_any map_yield o.metadata end in
     let parameters = mark LeftParen o.paren (parameters_yield o.parameters metadata) in
     omega (arith, metadata_size o.metadata end, parameters_size o.parameters metadata, component_size o.name parameters)
 
@@ -77,7 +77,7 @@ opened_part h = record { name = h.name; paren = h.paren; parameters = h.paramete
 pub ending_size : (h : Head) (rest : Items) → size rest ≤ size (ending_yield h rest)
 ending_size h rest = omega (arith, name_size h.end_name (finish_yield h.ending.finish rest))
   where
-    name_size : (n : Option ComponentName) (items : Items) → size items ≤ size (component_if_any_yield n items)
+    name_size : (n : Option ComponentName) (items : Items) → size items ≤ size (if_any component_yield n items)
     name_size None items = le_refl _
     name_size (Some n) items = component_size n items
 
@@ -143,35 +143,35 @@ module _ (l : Limits) where
       begun_map _ span items is ∙ ap (λ o. o >>= λ b. Some (MapDefault b.0, b.1)) (map_found l m rest fits)
 
   -- the parts of a parameter
-  at_sound : (ts : Items) (o : Option (Span × Items)) → takes At ts ≡ o → ts ≡ at_yield (at_in ts o).0 (at_in ts o).1
+  at_sound : (ts : Items) (o : Option (Span × Items)) → takes At ts ≡ o → ts ≡ if_any (mark At) (at_in ts o).0 (at_in ts o).1
   at_sound ts None is = refl
   at_sound ts (Some x) is = takes_ok At ts x is
 
   annotation_sound : (ts : Items) (o : Option (Span × Items)) (x : Option Annotation × Items) → takes Colon ts ≡ o → annotation_in ts o ≡ Some x
-      → (is_known x.0 ≡ true) × (ts ≡ annotation_yield x.0 x.1)
+      → (is_known x.0 ≡ true) × (ts ≡ if_any annotation_yield x.0 x.1)
   unfolding annotation_in
-  annotation_sound ts None x is h = subst (λ (y : Option Annotation × Items). (is_known y.0 ≡ true) × (ts ≡ annotation_yield y.0 y.1)) (same_Some (None, ts) x h) (refl, refl)
+  annotation_sound ts None x is h = subst (λ (y : Option Annotation × Items). (is_known y.0 ≡ true) × (ts ≡ if_any annotation_yield y.0 y.1)) (same_Some (None, ts) x h) (refl, refl)
   annotation_sound ts (Some colon) x is h =
       bound _ _ _ h (λ n read more. bound _ _ _ more (λ u known made.
-      subst (λ (y : Option Annotation × Items). (is_known y.0 ≡ true) × (ts ≡ annotation_yield y.0 y.1)) (same_Some (Some (record { colon = colon.0; name = n.0 }), n.1) x made)
+      subst (λ (y : Option Annotation × Items). (is_known y.0 ≡ true) × (ts ≡ if_any annotation_yield y.0 y.1)) (same_Some (Some (record { colon = colon.0; name = n.0 }), n.1) x made)
       (guard_ok _ u known, takes_ok Colon ts colon is ∙ ap (mark Colon colon.0) (taken_name_ok colon.1 n read))))
 
-  annotation_found : (t : Option Annotation) (rest : Items) → is_known t ≡ true → takes Colon rest ≡ None → annotation_in (annotation_yield t rest) (takes Colon (annotation_yield t rest)) ≡ Some (t, rest)
+  annotation_found : (t : Option Annotation) (rest : Items) → is_known t ≡ true → takes Colon rest ≡ None → annotation_in (if_any annotation_yield t rest) (takes Colon (if_any annotation_yield t rest)) ≡ Some (t, rest)
   unfolding annotation_in
   annotation_found None rest known none = ap (annotation_in rest) none
   annotation_found (Some a) rest known none = rw known refl
 
   assigned_sound : (ts : Items) (o : Option (Span × Items)) (x : Option Assigned × Items) → takes Assign ts ≡ o → assigned_in l ts o ≡ Some x
-      → FitsAssigned l x.0 × (ts ≡ assigned_yield x.0 x.1)
+      → FitsAssigned l x.0 × (ts ≡ if_any assigned_yield x.0 x.1)
   unfolding assigned_in
-  assigned_sound ts None x is h = subst (λ (y : Option Assigned × Items). FitsAssigned l y.0 × (ts ≡ assigned_yield y.0 y.1)) (same_Some (None, ts) x h) (tt, refl)
+  assigned_sound ts None x is h = subst (λ (y : Option Assigned × Items). FitsAssigned l y.0 × (ts ≡ if_any assigned_yield y.0 y.1)) (same_Some (None, ts) x h) (tt, refl)
   assigned_sound ts (Some sign) x is h =
       bound _ _ _ h (λ d read made.
       let found = default_sound sign.1 d read in
-      subst (λ (y : Option Assigned × Items). FitsAssigned l y.0 × (ts ≡ assigned_yield y.0 y.1)) (same_Some (Some (record { sign = sign.0; value = d.0 }), d.1) x made)
+      subst (λ (y : Option Assigned × Items). FitsAssigned l y.0 × (ts ≡ if_any assigned_yield y.0 y.1)) (same_Some (Some (record { sign = sign.0; value = d.0 }), d.1) x made)
       (found.0, takes_ok Assign ts sign is ∙ ap (mark Assign sign.0) found.1))
 
-  assigned_found : (d : Option Assigned) (rest : Items) → FitsAssigned l d → takes Assign rest ≡ None → assigned_in l (assigned_yield d rest) (takes Assign (assigned_yield d rest)) ≡ Some (d, rest)
+  assigned_found : (d : Option Assigned) (rest : Items) → FitsAssigned l d → takes Assign rest ≡ None → assigned_in l (if_any assigned_yield d rest) (takes Assign (if_any assigned_yield d rest)) ≡ Some (d, rest)
   unfolding assigned_in
   assigned_found None rest fits none = ap (assigned_in l rest) none
   assigned_found (Some d) rest fits none = rw (default_found d.value rest fits) refl
@@ -186,26 +186,26 @@ module _ (l : Limits) where
   abbrev ParameterStands : Met → Items → Parameter × Items → Type 0
   ParameterStands seen ts x = FitsParameter l x.0 × (seen x.0.name.text ≡ false) × (ts ≡ parameter_yield x.0 x.1)
 
-  parameter_after_sound : (seen : Met) (at : Option Span) (ts : Items) (x : Parameter × Items) → parameter_after l seen at ts ≡ Some x → ParameterStands seen (at_yield at ts) x
+  parameter_after_sound : (seen : Met) (at : Option Span) (ts : Items) (x : Parameter × Items) → parameter_after l seen at ts ≡ Some x → ParameterStands seen (if_any (mark At) at ts) x
   unfolding parameter_after
   parameter_after_sound seen at ts x h =
       bound _ _ _ h (λ n named rest. bound _ _ _ rest (λ t typed rest'. bound _ _ _ rest' (λ d defaulted more. bound _ _ _ more (λ u fits made.
       let name = fresh_name_sound seen ts n named in
       let type = annotation_sound n.1 (takes Colon n.1) t refl typed in
       let value = assigned_sound t.1 (takes Assign t.1) d refl defaulted in
-      subst (ParameterStands seen (at_yield at ts)) (same_Some (parameter at n.0 t.0 d.0, d.1) x made)
-      ((name.0, type.0, value.0, guard_ok _ u fits), name.1, ap (at_yield at) (name.2 ∙ ap (name_yield n.0) (type.1 ∙ ap (annotation_yield t.0) value.1)))))))
+      subst (ParameterStands seen (if_any (mark At) at ts)) (same_Some (parameter at n.0 t.0 d.0, d.1) x made)
+      ((name.0, type.0, value.0, guard_ok _ u fits), name.1, ap (if_any (mark At) at) (name.2 ∙ ap (name_yield n.0) (type.1 ∙ ap (if_any annotation_yield t.0) value.1)))))))
 
   parameter_sound : (seen : Met) (ts : Items) (x : Parameter × Items) → parameter_of l seen ts ≡ Some x → ParameterStands seen ts x
   parameter_sound seen ts x h =
       let found = parameter_after_sound seen (at_in ts (takes At ts)).0 (at_in ts (takes At ts)).1 x h in
       (found.0, found.1, at_sound ts (takes At ts) refl ∙ found.2)
 
-  at_found : (at : Option Span) (n : Name) (rest : Items) → at_in (at_yield at (name_yield n rest)) (takes At (at_yield at (name_yield n rest))) ≡ (at, name_yield n rest)
+  at_found : (at : Option Span) (n : Name) (rest : Items) → at_in (if_any (mark At) at (name_yield n rest)) (takes At (if_any (mark At) at (name_yield n rest))) ≡ (at, name_yield n rest)
   at_found None n rest = refl
   at_found (Some span) n rest = refl
 
-  no_colon : (d : Option Assigned) (rest : Items) → takes Colon rest ≡ None → takes Colon (assigned_yield d rest) ≡ None
+  no_colon : (d : Option Assigned) (rest : Items) → takes Colon rest ≡ None → takes Colon (if_any assigned_yield d rest) ≡ None
   no_colon None rest none = none
   no_colon (Some d) rest none = refl
 
@@ -213,8 +213,8 @@ module _ (l : Limits) where
       → parameter_of l seen (parameter_yield p rest) ≡ Some (p, rest)
   unfolding parameter_after
   parameter_found seen p rest fits fresh colon sign =
-      ap (λ (y : Option Span × Items). parameter_after l seen y.0 y.1) (at_found p.at p.name (annotation_yield p.type (assigned_yield p.default rest)))
-      ∙ rw (fits.0, fresh, annotation_found p.type (assigned_yield p.default rest) fits.1 (no_colon p.default rest colon), assigned_found p.default rest fits.2 sign, fits.3) refl
+      ap (λ (y : Option Span × Items). parameter_after l seen y.0 y.1) (at_found p.at p.name (if_any annotation_yield p.type (if_any assigned_yield p.default rest)))
+      ∙ rw (fits.0, fresh, annotation_found p.type (if_any assigned_yield p.default rest) fits.1 (no_colon p.default rest colon), assigned_found p.default rest fits.2 sign, fits.3) refl
 
   -- parameters
   abbrev ParametersStand : Met → Items → Parameters × Items → Type 0
@@ -309,11 +309,11 @@ module _ (l : Limits) where
   parameters_steps seen ts =
       in_agree (parameters_by (size ts) l) (parameters_of l) seen ts (λ s us lt. parameters_agree (size ts) (suc (size us)) s us lt (omega arith)) (takes RightParen ts)
 
-  no_end : (at : Option Span) (n : Name) (rest : Items) → takes RightParen (at_yield at (name_yield n rest)) ≡ None
+  no_end : (at : Option Span) (n : Name) (rest : Items) → takes RightParen (if_any (mark At) at (name_yield n rest)) ≡ None
   no_end None n rest = refl
   no_end (Some span) n rest = refl
 
-  no_dots : (at : Option Span) (n : Name) (rest : Items) → takes Spread (at_yield at (name_yield n rest)) ≡ None
+  no_dots : (at : Option Span) (n : Name) (rest : Items) → takes Spread (if_any (mark At) at (name_yield n rest)) ≡ None
   no_dots None n rest = refl
   no_dots (Some span) n rest = refl
 
@@ -322,7 +322,7 @@ module _ (l : Limits) where
       → parameters_of l seen (parameter_yield p us) ≡ parameters_after (parameters_of l) seen p us (takes RightParen us)
   unfolding parameters_in parameters_at
   read_after seen p us fits fresh colon sign =
-      let following = annotation_yield p.type (assigned_yield p.default us) in
+      let following = if_any annotation_yield p.type (if_any assigned_yield p.default us) in
       parameters_steps seen (parameter_yield p us)
       ∙ ap (parameters_in (parameters_of l) l seen (parameter_yield p us)) (no_end p.at p.name following)
       ∙ ap (parameters_at (parameters_of l) l seen (parameter_yield p us)) (no_dots p.at p.name following)
@@ -341,15 +341,15 @@ module _ (l : Limits) where
       (parameters_found ps (meet p.name.text seen) rest fits.1 new.1)
 
   -- metadata
-  metadata_sound : (ts : Items) (b : Bool) (x : Option LiteralMap × Items) → metadata_in l ts b ≡ Some x → FitsMetadata l x.0 × (ts ≡ metadata_yield x.0 x.1)
+  metadata_sound : (ts : Items) (b : Bool) (x : Option LiteralMap × Items) → metadata_in l ts b ≡ Some x → FitsMetadata l x.0 × (ts ≡ if_any map_yield x.0 x.1)
   unfolding metadata_in
-  metadata_sound ts false x h = subst (λ (y : Option LiteralMap × Items). FitsMetadata l y.0 × (ts ≡ metadata_yield y.0 y.1)) (same_Some (None, ts) x h) (tt, refl)
+  metadata_sound ts false x h = subst (λ (y : Option LiteralMap × Items). FitsMetadata l y.0 × (ts ≡ if_any map_yield y.0 y.1)) (same_Some (None, ts) x h) (tt, refl)
   metadata_sound ts true x h =
       bound _ _ _ h (λ m read made.
       let found = map_sound l ts m read in
-      subst (λ (y : Option LiteralMap × Items). FitsMetadata l y.0 × (ts ≡ metadata_yield y.0 y.1)) (same_Some (Some m.0, m.1) x made) (found.0, found.1))
+      subst (λ (y : Option LiteralMap × Items). FitsMetadata l y.0 × (ts ≡ if_any map_yield y.0 y.1)) (same_Some (Some m.0, m.1) x made) (found.0, found.1))
 
-  metadata_found : (m : Option LiteralMap) (rest : Items) → FitsMetadata l m → begins LeftBrace rest ≡ false → metadata_in l (metadata_yield m rest) (begins LeftBrace (metadata_yield m rest)) ≡ Some (m, rest)
+  metadata_found : (m : Option LiteralMap) (rest : Items) → FitsMetadata l m → begins LeftBrace rest ≡ false → metadata_in l (if_any map_yield m rest) (begins LeftBrace (if_any map_yield m rest)) ≡ Some (m, rest)
   unfolding metadata_in
   metadata_found None rest fits none = ap (metadata_in l rest) none
   metadata_found (Some m) rest fits none =
@@ -374,7 +374,7 @@ module _ (l : Limits) where
         parameters = (parameters.0, new_distinct nothing_met (parameter_names ps.0) parameters.1);
         metadata = metadata.0;
         tokens = component_sound ts n named ∙ ap (component_yield n.0) (takes_ok LeftParen n.1 paren opened ∙ ap (mark LeftParen paren.0)
-            (parameters.2 ∙ ap (parameters_yield ps.0) (metadata.1 ∙ ap (metadata_yield m.0) (finish_sound m.1 f ended))));
+            (parameters.2 ∙ ap (parameters_yield ps.0) (metadata.1 ∙ ap (if_any map_yield m.0) (finish_sound m.1 f ended))));
       })))))))
 
   pub opened_found : (seen : Met) (o : Opened) (rest : Items) → seen (component_text o.name) ≡ false → FitParameters l o.parameters → FitsMetadata l o.metadata
@@ -382,22 +382,22 @@ module _ (l : Limits) where
   unfolding opened_of
   opened_found seen o rest fresh parameters metadata =
       rw (
-        component_found o.name (mark LeftParen o.paren (parameters_yield o.parameters (metadata_yield o.metadata (finish_yield o.finish rest)))) refl,
+        component_found o.name (mark LeftParen o.paren (parameters_yield o.parameters (if_any map_yield o.metadata (finish_yield o.finish rest)))) refl,
         fresh,
-        parameters_found o.parameters nothing_met (metadata_yield o.metadata (finish_yield o.finish rest)) parameters.0 (all_new (parameter_names o.parameters) parameters.1),
+        parameters_found o.parameters nothing_met (if_any map_yield o.metadata (finish_yield o.finish rest)) parameters.0 (all_new (parameter_names o.parameters) parameters.1),
         metadata_found o.metadata (finish_yield o.finish rest) metadata refl,
       ) refl
 
   -- the closing tag
-  end_name_sound : (ts : Items) (b : Bool) (x : Option ComponentName × Items) → end_name_in ts b ≡ Some x → ts ≡ component_if_any_yield x.0 x.1
+  end_name_sound : (ts : Items) (b : Bool) (x : Option ComponentName × Items) → end_name_in ts b ≡ Some x → ts ≡ if_any component_yield x.0 x.1
   unfolding end_name_in
-  end_name_sound ts false x h = subst (λ (y : Option ComponentName × Items). ts ≡ component_if_any_yield y.0 y.1) (same_Some (None, ts) x h) refl
+  end_name_sound ts false x h = subst (λ (y : Option ComponentName × Items). ts ≡ if_any component_yield y.0 y.1) (same_Some (None, ts) x h) refl
   end_name_sound ts true x h =
       bound _ _ _ h (λ n read made.
-      subst (λ (y : Option ComponentName × Items). ts ≡ component_if_any_yield y.0 y.1) (same_Some (Some n.0, n.1) x made) (component_sound ts n read))
+      subst (λ (y : Option ComponentName × Items). ts ≡ if_any component_yield y.0 y.1) (same_Some (Some n.0, n.1) x made) (component_sound ts n read))
 
   end_name_found : (n : Option ComponentName) (e : Edge) (rest : Items) →
-      end_name_in (component_if_any_yield n (finish_yield e rest)) (is_name (component_if_any_yield n (finish_yield e rest))) ≡ Some (n, finish_yield e rest)
+      end_name_in (if_any component_yield n (finish_yield e rest)) (is_name (if_any component_yield n (finish_yield e rest))) ≡ Some (n, finish_yield e rest)
   unfolding end_name_in
   end_name_found None e rest = refl
   end_name_found (Some n) e rest =
@@ -418,7 +418,7 @@ module _ (l : Limits) where
       bound _ _ _ h (λ e sound rest1. bound _ _ _ rest1 (λ n named rest2. bound _ _ _ rest2 (λ u agreed more. bound _ _ _ more (λ f ended made.
       subst (EndingStands start first o ts) (same_Some (head start first o e.0.0 e.0.1 n.0 f.0, f.1) x made) (record {
         tokens = closed_sound AtEndComponent ts e sound
-            ∙ ap (λ v. start_yield e.0.0 (Token (closer_token AtEndComponent) e.0.1 v)) (end_name_sound e.1 (is_name e.1) n named ∙ ap (component_if_any_yield n.0) (finish_sound n.1 f ended));
+            ∙ ap (λ v. start_yield e.0.0 (Token (closer_token AtEndComponent) e.0.1 v)) (end_name_sound e.1 (is_name e.1) n named ∙ ap (if_any component_yield n.0) (finish_sound n.1 f ended));
         opened = λ items. refl;
         fits = λ parameters metadata. (parameters, metadata, guard_ok _ u agreed);
         name = refl;

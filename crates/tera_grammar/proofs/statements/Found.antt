@@ -17,7 +17,7 @@ use Rattle.tera_grammar.specs.Words.{is_reserved}
 use Rattle.tera_grammar.specs.statements.Names.{agrees}
 use Rattle.tera_grammar.specs.statements.Places.{block_placed, component_placed, ◌followed_by◌, places, item_places, branch_places, else_places}
 use Rattle.tera_grammar.specs.statements.Reading.Meeting.{Seen, met, ◌having◌}
-use Rattle.tera_grammar.specs.statements.TagParts.{Edge, Name, name_yield, name_if_any_yield, Tag, Opener, OpensSet, OpensInclude, OpensExtends, OpensBlock, OpensFor, OpensIf, OpensFilter, OpensComponent, OpensBreak, OpensContinue, OpensCall, opener_token, AtElif, AtElse, AtEndSet, AtEndBlock, AtEndFor, AtEndIf, AtEndFilter, AtEndCall, closer_token, start_yield, opening, closing, finish}
+use Rattle.tera_grammar.specs.statements.TagParts.{Edge, Name, name_yield, Tag, Opener, OpensSet, OpensInclude, OpensExtends, OpensBlock, OpensFor, OpensIf, OpensFilter, OpensComponent, OpensBreak, OpensContinue, OpensCall, opener_token, AtElif, AtElse, AtEndSet, AtEndBlock, AtEndFor, AtEndIf, AtEndFilter, AtEndCall, closer_token, start_yield, opening, closing, finish, if_any}
 use Rattle.tera_grammar.specs.statements.Expressions.{Limits, expression_yield, filter_yield, attributes_yield, ComponentName, component_yield, component_text}
 use Rattle.tera_grammar.specs.statements.Heads.{loop_yield, filters_yield, Capture, SetBody, Section, CallBody, capture_yield, capture_end, FitsCapture}
 use Rattle.tera_grammar.specs.statements.Grammar.{Plain, Text, Shown, Set, Include, Extends, Break, Continue, plain_yield, FitsPlain, Body, Then, Item, Single, Block, Define, Capturing, For, If, Branches, Elif, Last, Else, NoElse, Otherwise, yield, item_yield, branches_yield, else_yield, InFor, InForElse, InBlock, InIf, InComponent, InCapture, Path, may_break, in_loop, text_if_any, Fits, FitsItem, FitsBranches, FitsElse, height, item_height, branch_height, else_height}
@@ -183,15 +183,15 @@ module _ (l : Limits) (d : ℕ) (f : Reader) (sound : Sound l d f) where
       (is ∙ ap (begun start o first) (finish_sound us g ended) ∙ yields (tag start first g.0) g.1) (fits (tag start first g.0) (guard_ok _ u may)) made))
 
   pub block_end_sound : (n : Name) (ts : Items) (x : (Tag × Option Name) × Items) → block_end n ts ≡ Some x
-      → (agrees n.text (text_if_any x.0.1) ≡ true) × (ts ≡ closing AtEndBlock x.0.0 (name_if_any_yield x.0.1 (finish x.0.0 x.1)))
+      → (agrees n.text (text_if_any x.0.1) ≡ true) × (ts ≡ closing AtEndBlock x.0.0 (if_any name_yield x.0.1 (finish x.0.0 x.1)))
   unfolding block_end
   block_end_sound n ts x h =
       bound _ _ _ h (λ e is_sound rest. bound _ _ _ rest (λ u agreed more. bound _ _ _ more (λ g ended made.
-      subst (λ (y : (Tag × Option Name) × Items). (agrees n.text (text_if_any y.0.1) ≡ true) × (ts ≡ closing AtEndBlock y.0.0 (name_if_any_yield y.0.1 (finish y.0.0 y.1))))
+      subst (λ (y : (Tag × Option Name) × Items). (agrees n.text (text_if_any y.0.1) ≡ true) × (ts ≡ closing AtEndBlock y.0.0 (if_any name_yield y.0.1 (finish y.0.0 y.1))))
       (same_Some ((tag e.0.0 e.0.1 g.0, (name_if_any e.1).0), g.1) x made) (
         guard_ok _ u agreed,
         closed_sound AtEndBlock ts e is_sound
-            ∙ ap (λ v. start_yield e.0.0 (Token (closer_token AtEndBlock) e.0.1 v)) (name_if_any_sound e.1 ∙ ap (name_if_any_yield (name_if_any e.1).0) (finish_sound (name_if_any e.1).1 g ended)),
+            ∙ ap (λ v. start_yield e.0.0 (Token (closer_token AtEndBlock) e.0.1 v)) (name_if_any_sound e.1 ∙ ap (if_any name_yield (name_if_any e.1).0) (finish_sound (name_if_any e.1).1 g ended)),
       ))))
 
   block_found : (path : Path) (start : Edge) (first : Span) (seen : Seen) (ts us : Items) (x : Item × Place)

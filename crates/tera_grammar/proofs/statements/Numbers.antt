@@ -20,14 +20,14 @@ use Rattle.tera_ast.specs.Tree.{Expr, Stmt}
 use Rattle.tera_tree.specs.Tree.{Argument, Output}
 use Rattle.tera_ast.specs.View.{nodes_of, filters_of}
 use Rattle.tera_grammar.specs.expressions.Operators.{GreaterThan}
-use Rattle.tera_grammar.specs.expressions.Marks.{mark, RightParen, Comma, Assign, Operation}
+use Rattle.tera_grammar.specs.expressions.Marks.{mark, RightParen, Comma, Assign, Operation, At}
 use Rattle.tera_grammar.specs.expressions.Concrete.{quote_token, literal_token, of_items, of_entries}
 use Rattle.tera_grammar.specs.expressions.Output.{items_output, entries_output}
 use Rattle.tera_grammar.specs.expressions.Constants.{IsLiteralNumber, EachNumber, EachOfValue, EachOfValues, EachOfPairs, EachConstant, EachOfEntries}
-use Rattle.tera_grammar.specs.statements.TagParts.{Name, name_yield, name_if_any_yield, Tag, OpensSet, AtEndSet, AtEndBlock, AtEndFor, AtEndIf, opening, closing, finish}
+use Rattle.tera_grammar.specs.statements.TagParts.{Name, name_yield, Tag, OpensSet, AtEndSet, AtEndBlock, AtEndFor, AtEndIf, opening, closing, finish, if_any}
 use Rattle.tera_grammar.specs.statements.Types.{Sorted, put_name}
 use Rattle.tera_grammar.specs.statements.Expressions.{Limits, Expression, expression_yield, expression_output, Filtering, filter_yield, filter_output, Attributes, attributes_yield, attributes_output, ComponentName, component_yield, LiteralArray, IsLiteralArray, array_yield, array_output, LiteralMap, IsLiteralMap, map_yield, map_output}
-use Rattle.tera_grammar.specs.statements.Components.{Default, LiteralDefault, MinusDefault, NothingDefault, ArrayDefault, MapDefault, FitsDefault, default_yield, default_output, Annotation, Assigned, Parameter, at_yield, annotation_yield, assigned_yield, parameter_yield, default_of, argument_of, FitsAssigned, FitsParameter, Parameters, Closed, Rest, Final, More, parameters_yield, FitEach, put_arguments, metadata_yield, component_if_any_yield, FitsMetadata, ending_yield, put_pairs, metadata_output}
+use Rattle.tera_grammar.specs.statements.Components.{Default, LiteralDefault, MinusDefault, NothingDefault, ArrayDefault, MapDefault, FitsDefault, default_yield, default_output, Annotation, Assigned, Parameter, annotation_yield, assigned_yield, parameter_yield, default_of, argument_of, FitsAssigned, FitsParameter, Parameters, Closed, Rest, Final, More, parameters_yield, FitEach, put_arguments, FitsMetadata, ending_yield, put_pairs, metadata_output}
 use Rattle.tera_grammar.specs.statements.Heads.{Loop, loop_yield, Filters, NoFilters, Piped, filters_yield, filters_output, SetBody, Section, CallBody}
 use Rattle.tera_grammar.specs.statements.Grammar.{Text, Shown, Set, Include, Extends, Break, Continue, Body, Done, Then, Item, Single, Block, Define, Capturing, For, If, Branches, Elif, Last, Else, NoElse, Otherwise, Path, InFor, InForElse, InBlock, InIf, InComponent, InCapture, yield, item_yield, branches_yield, else_yield, Fits, FitsItem, FitsBranches, FitsElse}
 use Rattle.tera_grammar.specs.statements.Output.{text_adds, added_nodes, added_by, definitions_by, output, branch_output, else_output, definitions_of, output_of}
@@ -96,21 +96,21 @@ module _ (P : ℤ → Type 0) (negates : (n : ℤ) → P n → P (neg_ℤ n)) wh
   default_holds l (ArrayDefault a) r is h = array_holds l a r is h
   default_holds l (MapDefault m) r is h = map_holds l m r is h
 
-  assigned_holds : (l : Limits) (d : Option Assigned) (r : Items) → FitsAssigned l d → EachNumber P (assigned_yield d r) → EachOfDefault P (default_of d) × EachNumber P r
+  assigned_holds : (l : Limits) (d : Option Assigned) (r : Items) → FitsAssigned l d → EachNumber P (if_any assigned_yield d r) → EachOfDefault P (default_of d) × EachNumber P r
   assigned_holds l None r is h = (tt, h)
   assigned_holds l (Some d) r is h = default_holds l d.value r is h
 
-  after_annotation : (t : Option Annotation) (r : Items) → EachNumber P (annotation_yield t r) → EachNumber P r
+  after_annotation : (t : Option Annotation) (r : Items) → EachNumber P (if_any annotation_yield t r) → EachNumber P r
   after_annotation None r h = h
   after_annotation (Some a) r h = h
 
-  after_at : (at : Option Span) (r : Items) → EachNumber P (at_yield at r) → EachNumber P r
+  after_at : (at : Option Span) (r : Items) → EachNumber P (if_any (mark At) at r) → EachNumber P r
   after_at None r h = h
   after_at (Some span) r h = h
 
   parameter_holds : (l : Limits) (p : Parameter) (r : Items) → FitsParameter l p → EachNumber P (parameter_yield p r) → EachOfDefault P (argument_of p).default × EachNumber P r
   parameter_holds l p r is h =
-      assigned_holds l p.default r is.2 (after_annotation p.type (assigned_yield p.default r) (after_at p.at (name_yield p.name (annotation_yield p.type (assigned_yield p.default r))) h))
+      assigned_holds l p.default r is.2 (after_annotation p.type (if_any assigned_yield p.default r) (after_at p.at (name_yield p.name (if_any annotation_yield p.type (if_any assigned_yield p.default r))) h))
 
   abbrev OfArgument : Argument → Type 0
   OfArgument a = EachOfDefault P a.default
@@ -129,16 +129,16 @@ module _ (P : ℤ → Type 0) (negates : (n : ℤ) → P n → P (neg_ℤ n)) wh
   pairs_hold values.NoPairs vs h hs = hs
   pairs_hold (values.OnePair k v ps) vs h hs = pairs_hold ps (put_name (key_text k) v vs) h.1 (put_all (EachOfValue P) (key_text k) v vs h.0 hs)
 
-  metadata_holds : (l : Limits) (m : Option LiteralMap) (r : Items) → FitsMetadata l m → EachNumber P (metadata_yield m r)
+  metadata_holds : (l : Limits) (m : Option LiteralMap) (r : Items) → FitsMetadata l m → EachNumber P (if_any map_yield m r)
       → AllByRecursion (λ m. EachOfValue P m.1) (metadata_output m) × EachNumber P r
   metadata_holds l None r is h = (tt, h)
   metadata_holds l (Some m) r is h = let x = map_holds l m r is h in (pairs_hold (map_output m) [] x.0 tt, x.1)
 
-  after_component_if_any : (n : Option ComponentName) (r : Items) → EachNumber P (component_if_any_yield n r) → EachNumber P r
+  after_component_if_any : (n : Option ComponentName) (r : Items) → EachNumber P (if_any component_yield n r) → EachNumber P r
   after_component_if_any None r h = h
   after_component_if_any (Some n) r h = after_component n r h
 
-  after_name_if_any : (n : Option Name) (r : Items) → EachNumber P (name_if_any_yield n r) → EachNumber P r
+  after_name_if_any : (n : Option Name) (r : Items) → EachNumber P (if_any name_yield n r) → EachNumber P r
   after_name_if_any None r h = h
   after_name_if_any (Some n) r h = h
 
@@ -191,11 +191,11 @@ module _ (P : ℤ → Type 0) (negates : (n : ℤ) → P n → P (neg_ℤ n)) wh
     item_holds l path f (Single (Break t)) r is h = record { nodes = (tt, tt); definitions = tt; later = h }
     item_holds l path f (Single (Continue t)) r is h = record { nodes = (tt, tt); definitions = tt; later = h }
     item_holds l path f (Block t n b e m) r is h =
-        let x = body_holds l (InBlock ∷ path) f b (closing AtEndBlock e (name_if_any_yield m (finish e r))) is.2 h in
+        let x = body_holds l (InBlock ∷ path) f b (closing AtEndBlock e (if_any name_yield m (finish e r))) is.2 h in
         record { nodes = (x.0, tt); definitions = tt; later = after_name_if_any m (finish e r) x.1 }
     item_holds l path f (Define d b) r is h =
         let tail = yield b (ending_yield d r) in
-        let x = parameters_hold l d.parameters [] (metadata_yield d.metadata (finish d.tag tail)) is.1.0.0 tt (after_component d.name _ h) in
+        let x = parameters_hold l d.parameters [] (if_any map_yield d.metadata (finish d.tag tail)) is.1.0.0 tt (after_component d.name _ h) in
         let y = metadata_holds l d.metadata (finish d.tag tail) is.1.1 x.1 in
         let z = body_holds l (InComponent ∷ path) f b (ending_yield d r) is.2 y.1 in
         record { nodes = tt; definitions = ((x.0, y.0, z.0), tt); later = after_component_if_any d.end_name (finish d.ending r) z.1 }

@@ -8,13 +8,13 @@ use Rattle.tera_lexer.specs.declared.lexer.delimiters.Kind.TheVariants as kind
 use Rattle.tera_grammar.specs.expressions.Reading.Front.{same_token, quote_of}
 use Rattle.tera_grammar.proofs.plain.expressions.Reading.Front.{taken_quote}
 use Rattle.tera_grammar.specs.expressions.Concrete.{Quote, quote_token}
-use Rattle.tera_grammar.specs.statements.TagParts.{Edge, name_if_any_yield, Tag, Opener, opener_token, Closer, closer_token, start_yield, finish_yield, closing, finish}
+use Rattle.tera_grammar.specs.statements.TagParts.{Edge, Tag, Opener, opener_token, Closer, closer_token, start_yield, finish_yield, closing, finish, if_any, name_yield}
 use Rattle.tera_grammar.specs.statements.Reading.TagParts.{openers, closers, opener_in, closer_in, role_by, Front, Ends, Closes, Holds, Shows, Opens, Wrong, front_by, front_tag, front, tag}
 use Rattle.tera_grammar.proofs.plain.statements.Reading.TagParts.{name_if_any, finish_of, variable_end_of, closed_at, closed, closed_tag}
 use Rattle.tera_grammar.proofs.expressions.Fronts.{same_token_is, taken_as_ok, quote_of_ok}
 use Rattle.tera_grammar.proofs.Options.{bound, guard_ok}
 
-pub name_if_any_sound : (ts : Items) → ts ≡ name_if_any_yield (name_if_any ts).0 (name_if_any ts).1
+pub name_if_any_sound : (ts : Items) → ts ≡ if_any name_yield (name_if_any ts).0 (name_if_any ts).1
 name_if_any_sound (Token (Ident text) span items) = refl
 name_if_any_sound _ = refl
 

@@ -7,7 +7,7 @@ use Rattle.tera_lexer.specs.declared.lexer.delimiters.Kind.TheVariants as kind
 use Rattle.tera_grammar.specs.expressions.Operators.{GreaterThan}
 use Rattle.tera_grammar.specs.expressions.Marks.{mark, Operation}
 use Rattle.tera_grammar.specs.Options.{◌>>=◌}
-use Rattle.tera_grammar.specs.statements.TagParts.{Name, name_if_any_yield, AtElif, AtEndBlock, AtEndFor, AtEndIf, closer_token, start_yield, closing, finish}
+use Rattle.tera_grammar.specs.statements.TagParts.{Name, AtElif, AtEndBlock, AtEndFor, AtEndIf, closer_token, start_yield, closing, finish, if_any, name_yield}
 use Rattle.tera_grammar.specs.statements.Expressions.{Limits, expression_yield, attributes_yield}
 use Rattle.tera_grammar.specs.statements.Components.{ending_yield}
 use Rattle.tera_grammar.specs.statements.Heads.{filters_yield, Capture, SetBody, Section, CallBody, capture_yield, capture_end}
@@ -44,7 +44,7 @@ capture_end_size (SetBody global t n fs e) r = omega arith
 capture_end_size (Section t f fs e) r = omega arith
 capture_end_size (CallBody t n a last e m end) r = omega (arith, component_size m (mark (Operation GreaterThan) end (finish e r)))
 
-name_if_any_size : (m : Option Name) (r : Items) → size r ≤ size (name_if_any_yield m r)
+name_if_any_size : (m : Option Name) (r : Items) → size r ≤ size (if_any name_yield m r)
 name_if_any_size None r = le_refl _
 name_if_any_size (Some n) r = omega arith
 
@@ -56,7 +56,7 @@ mutual
   pub item_size : (i : Item) (r : Items) → size r < size (item_yield i r)
   item_size (Single p) r = plain_size p r
   item_size (Block t n b e m) r =
-      let end = closing AtEndBlock e (name_if_any_yield m (finish e r)) in omega (arith, body_size b end, name_if_any_size m (finish e r))
+      let end = closing AtEndBlock e (if_any name_yield m (finish e r)) in omega (arith, body_size b end, name_if_any_size m (finish e r))
   item_size (Define h b) r = omega (arith, body_size b (ending_yield h r), ending_size h r, opened_size (opened_part h) (yield b (ending_yield h r)))
   item_size (Capturing c b) r = omega (arith, body_size b (capture_end c r), capture_end_size c r, capture_size c (yield b (capture_end c r)))
   item_size (For t lp b o e) r =

@@ -17,7 +17,7 @@ use Rattle.tera_grammar.specs.expressions.Marks.{mark, LeftParen, RightParen, Co
 use Rattle.tera_grammar.specs.statements.Types.{type_of, type_named, has_type, Sorted, put_name}
 use Rattle.tera_grammar.specs.Words.{is_none, AreDistinct}
 use Rattle.tera_grammar.specs.statements.Names.{agrees}
-use Rattle.tera_grammar.specs.statements.Tags.{Name, name_yield, Tag, keyword, finish}
+use Rattle.tera_grammar.specs.statements.Tags.{Name, name_yield, Tag, keyword, finish, if_any}
 use Rattle.tera_grammar.specs.statements.Expressions.{Limits, ComponentName, component_yield, component_text, LiteralArray, IsLiteralArray, array_yield, array_output, LiteralMap, IsLiteralMap, map_yield, map_output}
 
 -- the default of a parameter: a literal; a minus and a number; a word for no value; a constant array; a constant
@@ -65,20 +65,15 @@ pub record Parameter : Type 0 where
   pub type : Option Annotation
   pub default : Option Assigned
 
-abbrev pub at_yield : Option Span → Items → Items
-at_yield None items = items
-at_yield (Some span) items = mark At span items
+abbrev pub annotation_yield : Annotation → Items → Items
+annotation_yield a items = mark Colon a.colon (name_yield a.name items)
 
-abbrev pub annotation_yield : Option Annotation → Items → Items
-annotation_yield None items = items
-annotation_yield (Some a) items = mark Colon a.colon (name_yield a.name items)
-
-abbrev pub assigned_yield : Option Assigned → Items → Items
-assigned_yield None items = items
-assigned_yield (Some d) items = mark Assign d.sign (default_yield d.value items)
+abbrev pub assigned_yield : Assigned → Items → Items
+assigned_yield d items = mark Assign d.sign (default_yield d.value items)
 
 abbrev pub parameter_yield : Parameter → Items → Items
-parameter_yield p items = at_yield p.at (name_yield p.name (annotation_yield p.type (assigned_yield p.default items)))
+parameter_yield p items =
+    if_any (mark At) p.at (name_yield p.name (if_any annotation_yield p.type (if_any assigned_yield p.default items)))
 
 abbrev pub default_of : Option Assigned → Option Val
 default_of None = None
@@ -174,20 +169,12 @@ pub record Head : Type 0 where
   pub ending : Tag
   pub end_name : Option ComponentName
 
-abbrev pub metadata_yield : Option LiteralMap → Items → Items
-metadata_yield None items = items
-metadata_yield (Some m) items = map_yield m items
-
-abbrev pub component_if_any_yield : Option ComponentName → Items → Items
-component_if_any_yield None items = items
-component_if_any_yield (Some n) items = component_yield n items
-
 abbrev pub head_yield : Head → Items → Items
 head_yield h items =
-    keyword (codes "component") h.tag (component_yield h.name (mark LeftParen h.paren (parameters_yield h.parameters (metadata_yield h.metadata (finish h.tag items)))))
+    keyword (codes "component") h.tag (component_yield h.name (mark LeftParen h.paren (parameters_yield h.parameters (if_any map_yield h.metadata (finish h.tag items)))))
 
 abbrev pub ending_yield : Head → Items → Items
-ending_yield h items = keyword (codes "endcomponent") h.ending (component_if_any_yield h.end_name (finish h.ending items))
+ending_yield h items = keyword (codes "endcomponent") h.ending (if_any component_yield h.end_name (finish h.ending items))
 
 abbrev pub FitsMetadata : Limits → Option LiteralMap → Type 0
 FitsMetadata l None = Unit {0}

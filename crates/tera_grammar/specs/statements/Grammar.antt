@@ -9,7 +9,7 @@ use Rattle.tera_grammar.specs.expressions.Concrete.{Quote, quote_token}
 use Rattle.tera_grammar.specs.expressions.Marks.{mark, Assign}
 use Rattle.tera_grammar.specs.Words.{is_reserved}
 use Rattle.tera_grammar.specs.statements.Names.{agrees, Names, no_names, block_named, component_named, ◌and_then◌}
-use Rattle.tera_grammar.specs.statements.Tags.{Edge, Name, name_yield, name_if_any_yield, Tag, keyword, set_word, finish}
+use Rattle.tera_grammar.specs.statements.Tags.{Edge, Name, name_yield, if_any, Tag, keyword, set_word, finish}
 use Rattle.tera_grammar.specs.statements.Expressions.{Limits, Expression, IsExpression, expression_yield, component_text}
 use Rattle.tera_grammar.specs.statements.Components.{Head, head_yield, ending_yield, FitsHead}
 use Rattle.tera_grammar.specs.statements.Heads.{Loop, loop_yield, FitsLoop, Capture, capture_yield, capture_end, FitsCapture}
@@ -70,7 +70,7 @@ abbrev mutual
   pub item_yield : Item → Items → Items
   item_yield (Single p) items = plain_yield p items
   item_yield (Block t n b e m) items =
-      keyword (codes "block") t (name_yield n (finish t (yield b (keyword (codes "endblock") e (name_if_any_yield m (finish e items))))))
+      keyword (codes "block") t (name_yield n (finish t (yield b (keyword (codes "endblock") e (if_any name_yield m (finish e items))))))
   item_yield (Define h b) items = head_yield h (yield b (ending_yield h items))
   item_yield (Capturing c b) items = capture_yield c (yield b (capture_end c items))
   item_yield (For t lp b o e) items =

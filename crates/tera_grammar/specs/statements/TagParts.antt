@@ -2,7 +2,7 @@
 use Rattle.std.specs.Prelude.{Bool, codes}
 use Rattle.tera_lexer.specs.grammar.Tokens.{Tok, Items, Ident, Symbol}
 use Rattle.tera_grammar.specs.statements.Tags.{start_with, set_word}
-pub use Rattle.tera_grammar.specs.statements.Tags.{Name, name_yield, Edge, Tag, start_yield, finish_yield, finish, name_if_any_yield}
+pub use Rattle.tera_grammar.specs.statements.Tags.{Name, name_yield, Edge, Tag, start_yield, finish_yield, finish, if_any}
 
 -- what a tag begins with, where it opens a statement: `set` and `set_global`; the other words; `<`
 pub data Opener : Type 0 where

@@ -39,7 +39,7 @@ set_word true = codes "set_global"
 abbrev pub finish : Tag → Items → Items
 finish t items = finish_yield t.finish items
 
--- a name, where there is one
-abbrev pub name_if_any_yield : Option Name → Items → Items
-name_if_any_yield None items = items
-name_if_any_yield (Some n) items = name_yield n items
+-- the tokens of a part, where there is one
+abbrev pub if_any : {A : Type 0} → (A → Items → Items) → Option A → Items → Items
+if_any part None items = items
+if_any part (Some x) items = part x items
