@@ -81,7 +81,7 @@ module _ (place : Items → Span) where
   filters_same : (f : Bool) (fs : Filters) (r : Items) →
       placeless_filters (filters_of (filters_output f (filters_at place fs r))) ≡ placeless_filters (filters_of (filters_output f fs))
   filters_same f NoFilters r = refl
-  filters_same f (Piped bar x fs) r = ap₂ tree.OneFilter (filter_same f _ bar x (filters_yield fs r)) (filters_same f fs r)
+  filters_same f (Piped bar x fs) r = ap₂ tree.OneFilter (filter_same f bar bar x (filters_yield fs r)) (filters_same f fs r)
 
   -- Definitions of components
   pub default_same : (d : Default) (r : Items) → default_output (default_at place d r) ≡ default_output d
@@ -145,7 +145,7 @@ module _ (place : Items → Span) where
       placeless_node (capture_output f (capture_at place c r q) a) ≡ placeless_node (capture_output f c b)
   capture_same f (SetBody global t n fs e) r q a b h = ap₂ (λ x y. tree.BlockSet n.text x y global) (filters_same f fs (finish t r)) h
   capture_same f (Section t x fs e) r q a b h =
-      ap₂ tree.FilterSection (ap₂ tree.OneFilter (filter_same f _ t.first x (filters_yield fs (finish t r))) (filters_same f fs (finish t r))) h
+      ap₂ tree.FilterSection (ap₂ tree.OneFilter (filter_same f t.first t.first x (filters_yield fs (finish t r))) (filters_same f fs (finish t r))) h
   capture_same f (CallBody t n ats last e m end) r q a b h =
       let close = mark (Operation GreaterThan) last (finish t r) in
       rw (component_same n (attributes_yield ats close), attributes_same f ats close, h) refl
