@@ -10,7 +10,7 @@ use Rattle.tera_grammar.specs.statements.Reading.Meeting.{group_all, nothing_gro
 use Rattle.tera_grammar.specs.statements.Top.{Derives, DerivesNames}
 use Rattle.tera_lexer.specs.grammar.Marks.{default_marks}
 use Rattle.tera_parser.specs.Notes.{NotesName}
-use Rattle.tera_parser.specs.Refusal.{Refuses}
+use Rattle.tera_parser.specs.Refusal.{LosesSource, Refuses}
 use Rattle.tera_statements.specs.Known.{grouped_of}
 use Rattle.tera_tree.specs.Outputs.{output_view}
 use Rattle.tera_tree.specs.Tree.{Output}
@@ -33,6 +33,7 @@ pub record IsReadFrom (faults : ℕ) (file : AskedFile) (template : Template) : 
   pub complete : (output : Output) → Derives usual default_marks file.source.now output →
       MatchResult template.parsed (λ o. output_view o ≡ output) (λ _. ⊥)
   pub refusal : IfErr template.parsed (Refuses default_marks file.source.now)
+  pub lost : IfErr template.parsed (LosesSource usual default_marks file.source.now)
   pub notes : IfErr template.parsed (NotesName file.name.now)
   pub whole : IfOk template.parsed (λ _. template.mended ≡ None)
   pub mended : IfSome template.mended (IsMended file.name.now file.source.now faults)

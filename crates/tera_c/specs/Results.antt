@@ -8,6 +8,7 @@ use Rattle.tera_lexer.specs.grammar.Tokens.{Items, AreTokensOf}
 use Rattle.tera_lexer.specs.grammar.Faults.{Faults}
 use Rattle.tera_tree.specs.Tree.{Output}
 use Rattle.tera_grammar.specs.Limits.{Limits}
+use Rattle.tera_grammar.specs.statements.Lost.{AreLost}
 use Rattle.tera_grammar.specs.statements.Top.{Derives}
 use Rattle.tera_expr_parts.specs.Allowed.{AreValid}
 use Rattle.tera_tree_json.specs.TreeJson.{json_text}
@@ -50,11 +51,12 @@ note_span (NoteOf label filename span) = span
 abbrev pub fault_of : ReportVal → Fault
 fault_of r = record { place = place_of (span_at r); notes = length (notes_at r) }
 
--- a report says the lexical fault of a source, or a fault that covers tokens of it
-abbrev pub Reports : Marks → List ℕ → ReportVal → Type 0
-Reports m source r =
+-- a report says the lexical fault of a source, or a fault that covers tokens of it; there the source is lost
+abbrev pub Reports : Limits → Marks → List ℕ → ReportVal → Type 0
+Reports l m source r =
     IsWithin source (span_at r)
     × ((items : Items) × AreTokensOf m source items × Faults items (text_at r) (span_at r))
+    × ((items : Items) → AreTokensOf m source items → AreLost l (span_at r).range.end items)
 
 -- a source can be read, and has this tree
 abbrev pub HasTree : Limits → List ℕ → List ℕ → Output → Type 0
@@ -65,7 +67,7 @@ abbrev pub HasFault : Limits → List ℕ → List ℕ → ReportVal → Type 0
 HasFault l markers source report =
     IsReadable l markers source
     × ((output : Output) → Derives l (marks_at markers) source output → ⊥)
-    × Reports (marks_at markers) source report
+    × Reports l (marks_at markers) source report
 
 -- nothing is reported for a source: what is asked cannot be read, or an allocation failed
 abbrev pub HasNoResult : Limits → List ℕ → List ℕ → Status → Type 0

@@ -13,7 +13,7 @@ use Rattle.tera_c.specs.declared.status.Status.TheVariants.{Memory}
 -- a text is refused, between markers that can be read: it has no tree, as a report says, or an allocation failed
 abbrev pub RefusesText : Limits → Marks → List ℕ → Refusal → Type 0
 RefusesText l m source (Fault report) =
-    ((output : Output) → Derives l m source output → ⊥) × Reports m source (report_view report.value)
+    ((output : Output) → Derives l m source output → ⊥) × Reports l m source (report_view report.value)
 RefusesText l m source (NoResult status) = status ≡ Memory
 
 -- what is asked is refused

@@ -7,7 +7,7 @@ ghost use Rattle.tera_grammar.specs.Limits.{usual};
 ghost use Rattle.tera_grammar.specs.statements.Places.{Places};
 ghost use Rattle.tera_grammar.specs.statements.Top.{Derives, DerivesNames};
 ghost use Rattle.tera_parser.specs.Notes.{NotesName};
-ghost use Rattle.tera_parser.specs.Refusal.{Refuses};
+ghost use Rattle.tera_parser.specs.Refusal.{LosesSource, Refuses};
 ghost use Rattle.tera_grammar.specs.statements.Reading.Meeting.{group_all, nothing_grouped};
 ghost use Rattle.tera_statements.specs.Known.{AreNames, grouped_of};
 ghost use Rattle.tera_tree.specs.Outputs.{output_view};
@@ -58,6 +58,7 @@ pub fn read_template(
         IfOk result (λ t. MatchResult t.parsed (λ o. output_view o ≡ output) (λ _. ⊥)) }
     ensures fault { IfOk result (λ t. IfErr t.parsed IsSyntaxError) }
     ensures refusal { IfOk result (λ t. IfErr t.parsed (Refuses default_marks source.now)) }
+    ensures lost { IfOk result (λ t. IfErr t.parsed (LosesSource usual default_marks source.now)) }
     ensures notes { IfOk result (λ t. IfErr t.parsed (NotesName file.now)) }
     ensures whole { IfOk result (λ t. IfOk t.parsed (λ _. t.mended ≡ None)) }
     ensures mended { IfOk result (λ t. IfSome t.mended (IsMended file.now source.now faults)) }
@@ -103,6 +104,8 @@ pub fn read_template_between(
         IfOk result (λ t. MatchResult t.parsed (λ o. output_view o ≡ output) (λ _. ⊥)) }
     ensures fault { IfOk result (λ t. IfErr t.parsed IsSyntaxError) }
     ensures refusal { IfOk result (λ t. IfErr t.parsed (Refuses (marks_of markers) source.now)) }
+    ensures lost { IfOk result (λ t. IfErr t.parsed
+        (LosesSource usual (marks_of markers) source.now)) }
     ensures notes { IfOk result (λ t. IfErr t.parsed (NotesName file.now)) }
     ensures alone { IfOk result (λ t. t.mended ≡ None) }
     ensures places { IfOk result (λ t. MatchOption (tree_of t)
@@ -239,6 +242,7 @@ fn parsed(
         DerivesNames usual (marks_of markers) source.now output names →
         MatchResult result (λ p. (output_view p.0 ≡ output) × AreNames p.1 names) IsMemory }
     ensures refusal { IfErr result (Refuses (marks_of markers) source.now) }
+    ensures lost { IfErr result (LosesSource usual (marks_of markers) source.now) }
     ensures notes { IfErr result (NotesName file.now) }
 {
     let parser = Parser::new(alloc, file, source, markers);

@@ -8,7 +8,7 @@ use Rattle.tera_lexer.specs.grammar.Place.{place_after}
 use Rattle.tera_tree.specs.Tree.{Output}
 use Rattle.tera_grammar.specs.Limits.{Limits}
 use Rattle.tera_grammar.specs.statements.Top.{Derives}
-use Rattle.tera_parser.specs.Refusal.{Refuses}
+use Rattle.tera_parser.specs.Refusal.{LosesSource, Refuses}
 use Rattle.tera_mend.specs.Moved.{BeginsBefore, moved_error}
 use Rattle.tera_mend.specs.Places.{AreInPlace}
 
@@ -36,9 +36,9 @@ Edits (e ∷ es) old new = (next : List ℕ) × Puts e old next × Edits es next
 abbrev pub IsNoTemplate : Limits → Marks → List ℕ → Type 0
 IsNoTemplate l m text = (output : Output) → Derives l m text output → ⊥
 
--- the text is not a template, and this is a fault of it, which is not that an allocation failed
+-- the text is not a template, and this is a fault of it, where it is lost, which is not that an allocation failed
 abbrev pub Fails : Limits → Marks → List ℕ → Error → Type 0
-Fails l m text e = IsNoTemplate l m text × (IsMemory e → ⊥) × Refuses m text e
+Fails l m text e = IsNoTemplate l m text × (IsMemory e → ⊥) × Refuses m text e × LosesSource l m text e
 
 -- A tag after these bytes, read alone with something after it or nothing, is not a template. This is a fault of that,
 -- which begins in the tag; its places are those that it has after the bytes.

@@ -9,7 +9,7 @@ ghost use Rattle.tera_lexer.specs.grammar.Marks.{default_marks};
 ghost use Rattle.tera_mend.specs.Readings.{AreOf, IsReadingOf};
 ghost use Rattle.tera_parser.specs.Comments.{IsCommentsAlone};
 ghost use Rattle.tera_parser.specs.Notes.{NotesName};
-ghost use Rattle.tera_parser.specs.Refusal.{Refuses};
+ghost use Rattle.tera_parser.specs.Refusal.{LosesSource, Refuses};
 ghost use Rattle.tera_statements.specs.Known.{AreNames};
 ghost use Rattle.tera_tree.specs.Outputs.{output_view};
 ghost use Rattle.tera_tree.specs.Tree.{Output};
@@ -68,6 +68,7 @@ fn parsed(alloc: Global, file: &str, text: &str) -> Result<(ParserOutput, Names)
         DerivesNames usual default_marks text.now output names →
         MatchResult result (λ p. (output_view p.0 ≡ output) × AreNames p.1 names) IsMemory }
     ensures refusal { IfErr result (Refuses default_marks text.now) }
+    ensures lost { IfErr result (LosesSource usual default_marks text.now) }
     ensures notes { IfErr result (NotesName file.now) }
     ensures empty { IsCommentsAlone default_marks text.now → IsOk result }
 {

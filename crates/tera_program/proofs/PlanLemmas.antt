@@ -12,6 +12,7 @@ use Rattle.tera_lexer.specs.grammar.Place.{IsWithin}
 use Rattle.tera_lexer.specs.grammar.Tokens.{Items, AreTokensOf}
 use Rattle.tera_tree.specs.Tree.{Output}
 use Rattle.tera_grammar.specs.Limits.{usual}
+use Rattle.tera_grammar.specs.statements.Lost.{AreLost}
 use Rattle.tera_grammar.specs.statements.Top.{Derives}
 use Rattle.tera_layout.specs.Layout.{laid_out}
 use Rattle.tera_layout.specs.Steady.{is_steady}
@@ -19,7 +20,7 @@ use Rattle.tera_layout.proofs.Layouts.{layout_of, laid_out_is, laid_respaced}
 use Rattle.tera_layout.proofs.Respaced.{respaced_alike}
 use Rattle.tera_alike.proofs.Derivations.{derived_both, derived_same}
 use Rattle.tera_parser.specs.Notes.{Names, NotesName}
-use Rattle.tera_parser.specs.Refusal.{Refuses}
+use Rattle.tera_parser.specs.Refusal.{LosesSource, Refuses}
 use Rattle.tera_program.specs.Plans.{IsTemplate, AreOneTemplate}
 
 -- a template has a layout
@@ -45,6 +46,11 @@ kind_reports P (SyntaxError b) h = absurd h
 pub memory_refuses : (m : Marks) (source : List ℕ) (e : Error) → IsMemory e → Refuses m source e
 memory_refuses m source e h =
     kind_reports (λ text span. IsWithin source span × ((items : Items) × AreTokensOf m source items × Faults items text span)) e.kind h
+
+-- .. and loses it
+pub memory_loses : (m : Marks) (source : List ℕ) (e : Error) → IsMemory e → LosesSource usual m source e
+memory_loses m source e h =
+    kind_reports (λ text span. (items : Items) → AreTokensOf m source items → AreLost usual span.range.end items) e.kind h
 
 kind_names : (file : List ℕ) (k : ErrorKind) → IsMemoryKind k → Names file (kind_view k)
 kind_names file Memory h = tt

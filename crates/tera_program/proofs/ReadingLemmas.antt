@@ -7,15 +7,15 @@ use Rattle.tera_check.specs.declared.templates.Template.{Template}
 use Rattle.tera_grammar.specs.Limits.{usual}
 use Rattle.tera_grammar.specs.statements.Top.{Derives}
 use Rattle.tera_lexer.specs.grammar.Marks.{Marks}
-use Rattle.tera_parser.specs.Refusal.{Refuses}
+use Rattle.tera_parser.specs.Refusal.{LosesSource, Refuses}
 use Rattle.tera_tree.specs.Outputs.{output_view}
 use Rattle.tera_program.specs.Sources.{IsReadFrom}
 
 pub is_read : (m : Marks) (file source : List ℕ) (faults : ℕ) (r : Result Template AllocError) → IfOk r (λ t. string_bytes t.file ≡ file)
-    → IfOk r (λ t. IfOk t.parsed (λ o. Derives usual m source (output_view o))) → IfOk r (λ t. IfErr t.parsed (Refuses m source))
+    → IfOk r (λ t. IfOk t.parsed (λ o. Derives usual m source (output_view o))) → IfOk r (λ t. IfErr t.parsed (Refuses m source)) → IfOk r (λ t. IfErr t.parsed (LosesSource usual m source))
     → IfOk r (λ t. IfSome t.mended (IsMended file source faults)) → IfOk r (IsReadFrom m file source faults)
-is_read m file source faults (Ok t) named read refused mended = record { named = named; read = read; refused = refused; mended = mended }
-is_read m file source faults (Err e) named read refused mended = tt
+is_read m file source faults (Ok t) named read refused lost mended = record { named = named; read = read; refused = refused; lost = lost; mended = mended }
+is_read m file source faults (Err e) named read refused lost mended = tt
 
 -- what is not mended
 pub not_mended : (P : Mended → Type 0) (r : Result Template AllocError) → IfOk r (λ t. t.mended ≡ None) → IfOk r (λ t. IfSome t.mended P)

@@ -7,7 +7,7 @@ use Rattle.tera_grammar.specs.Limits.{usual}
 use Rattle.tera_grammar.specs.statements.Top.{Derives}
 use Rattle.tera_lexer.specs.declared.lexer.delimiters.Delimiters.{Delimiters}
 use Rattle.tera_lexer.specs.grammar.Marks.{Marks, default_marks, marks_of}
-use Rattle.tera_parser.specs.Refusal.{Refuses}
+use Rattle.tera_parser.specs.Refusal.{LosesSource, Refuses}
 use Rattle.tera_tree.specs.Outputs.{output_view}
 use Rattle.tera_program.specs.declared.reading.Templates.{Templates}
 use Rattle.tera_program.specs.declared.reading.Unreadable.{Unreadable}
@@ -38,6 +38,7 @@ pub record IsReadFrom (m : Marks) (file source : List ℕ) (faults : ℕ) (templ
   pub named : string_bytes template.file ≡ file
   pub read : IfOk template.parsed (λ output. Derives usual m source (output_view output))
   pub refused : IfErr template.parsed (Refuses m source)
+  pub lost : IfErr template.parsed (LosesSource usual m source)
   pub mended : IfSome template.mended (IsMended file source faults)
 
 -- What is kept of a source: itself, or nothing.

@@ -7,7 +7,7 @@ ghost use Rattle.tera_grammar.specs.statements.Top.{Derives};
 ghost use Rattle.tera_layout.specs.Steady.{is_steady};
 ghost use Rattle.tera_lexer.specs.grammar.Marks.{marks_of, IsValid};
 ghost use Rattle.tera_parser.specs.Notes.{NotesName};
-ghost use Rattle.tera_parser.specs.Refusal.{Refuses};
+ghost use Rattle.tera_parser.specs.Refusal.{LosesSource, Refuses};
 ghost use Rattle.tera_tree.specs.Tree.{Output};
 ghost use Rattle.tera_program.specs.Plans.{IsPlan, IsTemplate};
 ghost use Rattle.tera_program.specs.Actions.{action_of, action_view, plan_text, Replaces};
@@ -38,6 +38,7 @@ pub fn plan_of(alloc: Global, file: &str, source: &str, markers: &Delimiters) ->
     ensures complete { (tree : Output) → Derives usual (marks_of markers.now) source.now tree →
         MatchResult result (IsPlan (marks_of markers.now) source.now) IsMemory }
     ensures refusal { IfErr result (Refuses (marks_of markers.now) source.now) }
+    ensures lost { IfErr result (LosesSource usual (marks_of markers.now) source.now) }
     ensures notes { IfErr result (NotesName file.now) }
 {
     read(alloc, file, source, markers)?;
@@ -56,6 +57,7 @@ fn read(alloc: Global, file: &str, source: &str, markers: &Delimiters) -> Result
     ensures complete { (tree : Output) → Derives usual (marks_of markers.now) source.now tree →
         MatchResult result (λ _. ⊤) IsMemory }
     ensures refusal { IfErr result (Refuses (marks_of markers.now) source.now) }
+    ensures lost { IfErr result (LosesSource usual (marks_of markers.now) source.now) }
     ensures notes { IfErr result (NotesName file.now) }
 {
     let parser = Parser::new(alloc, file, source, markers.clone()?);

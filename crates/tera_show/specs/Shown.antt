@@ -9,6 +9,7 @@ use Rattle.tera_lexer.specs.grammar.Tokens.{Items, AreTokensOf}
 use Rattle.tera_lexer.specs.grammar.Faults.{Faults}
 use Rattle.tera_tree.specs.Tree.{Output}
 use Rattle.tera_grammar.specs.Limits.{Limits}
+use Rattle.tera_grammar.specs.statements.Lost.{AreLost}
 use Rattle.tera_grammar.specs.statements.Top.{Derives}
 use Rattle.tera_base.specs.declared.utils.Span.{Span}
 use Rattle.tera_tree_text.specs.TreeText.{text_of}
@@ -23,13 +24,14 @@ fault_line message span =
     codes "syntax error at " ++ (decimal span.start_line ++ (codes ":" ++ (decimal span.start_col ++ (codes " (" ++ (decimal span.range.start ++ (codes ".." ++ (decimal span.range.end ++ (codes "): " ++ (on_one_line message ++ 10 ∷ [])))))))))
 
 -- the answer to an input: the text of the output of its derivation within the limits; the line of a syntax error of it,
--- where it has no derivation; or that it is not text
+-- where it has no derivation, and where it is lost; or that it is not text
 abbrev pub IsAnswer : Limits → List ℕ → Outcome → List ℕ → Type 0
 IsAnswer l input Tree text = IsUtf8 input × ((output : Output) × Derives l default_marks input output × (text ≡ text_of output))
 IsAnswer l input Syntax text =
     IsUtf8 input × ((output : Output) → Derives l default_marks input output → ⊥)
     × ((message : List ℕ) × (span : Span) × (text ≡ fault_line message span) × IsWithin input span
-    × ((items : Items) × AreTokensOf default_marks input items × Faults items message span))
+    × ((items : Items) × AreTokensOf default_marks input items × Faults items message span)
+    × ((items : Items) → AreTokensOf default_marks input items → AreLost l span.range.end items))
 IsAnswer l input NotUtf8 text = (IsUtf8 input → ⊥) × (text ≡ codes "input is not UTF-8" ++ 10 ∷ [])
 
 -- what a reader gave and a writer took: an answer, whole; nothing; or less than an answer

@@ -6,7 +6,7 @@ use Rattle.tera_grammar.specs.statements.Reading.Meeting.{group_all, nothing_gro
 use Rattle.tera_grammar.specs.statements.Top.{Derives, DerivesNames}
 use Rattle.tera_lexer.specs.grammar.Marks.{default_marks}
 use Rattle.tera_parser.specs.Notes.{NotesName}
-use Rattle.tera_parser.specs.Refusal.{Refuses}
+use Rattle.tera_parser.specs.Refusal.{LosesSource, Refuses}
 use Rattle.tera_statements.specs.Known.{grouped_of}
 use Rattle.tera_tree.specs.Outputs.{output_view}
 use Rattle.tera_tree.specs.Tree.{Output}
@@ -23,15 +23,16 @@ use Rattle.tera_workspace.specs.declared.judged.Judged.{Judged}
 pub is_read : (name text : List ℕ) (t : Template) → string_bytes t.file ≡ name
     → IfOk t.parsed (λ o. Derives usual default_marks text (output_view o))
     → ((output : Output) → Derives usual default_marks text output → MatchResult t.parsed (λ o. output_view o ≡ output) (λ _. ⊥))
-    → IfErr t.parsed IsSyntaxError → IfErr t.parsed (Refuses default_marks text) → IfErr t.parsed (NotesName name)
+    → IfErr t.parsed IsSyntaxError → IfErr t.parsed (Refuses default_marks text) → IfErr t.parsed (LosesSource usual default_marks text)
+    → IfErr t.parsed (NotesName name)
     → IfOk t.parsed (λ _. t.mended ≡ None) → IfSome t.mended (IsMended name text most_faults)
     → MatchOption (tree_of t)
     ((t.defined_at.items ≡ []) × (grouped_of t.parameters_at ≡ nothing_grouped))
     (λ o. (names : Places) × DerivesNames usual default_marks (text_of text t) (output_view o) names × (t.defined_at.items ≡ map (λ n. n.span) names.components)
     × (grouped_of t.parameters_at ≡ group_all names.parameters nothing_grouped))
     → IsRead (record { name = name; text = text }) t
-is_read name text t file sound complete fault refusal notes unmended mended places =
-    record { file = file; sound = sound; complete = complete; fault = fault; refusal = refusal; notes = notes; unmended = unmended; mended = mended; places = places }
+is_read name text t file sound complete fault refusal lost notes unmended mended places =
+    record { file = file; sound = sound; complete = complete; fault = fault; refusal = refusal; lost = lost; notes = notes; unmended = unmended; mended = mended; places = places }
 
 pub is_anew : (name text : List ℕ) (j : Judged) → j.text ≡ text → IsRead (record { name = name; text = text }) j.template
     → HasNames j.names.items j.template → j.stale ≡ true → reported_of j ≡ [] → IsAnew name text j

@@ -7,7 +7,7 @@ use Rattle.tera_grammar.specs.statements.Reading.Meeting.{group_all, nothing_gro
 use Rattle.tera_grammar.specs.statements.Top.{Derives, DerivesNames}
 use Rattle.tera_lexer.specs.grammar.Marks.{default_marks}
 use Rattle.tera_parser.specs.Notes.{NotesName}
-use Rattle.tera_parser.specs.Refusal.{Refuses}
+use Rattle.tera_parser.specs.Refusal.{LosesSource, Refuses}
 use Rattle.tera_statements.specs.Known.{grouped_of}
 use Rattle.tera_tree.specs.Outputs.{output_view}
 use Rattle.tera_tree.specs.Tree.{Output}
@@ -37,6 +37,7 @@ pub record IsRead (s : Source) (t : Template) : Type 0 where
       MatchResult t.parsed (λ o. output_view o ≡ output) (λ _. ⊥)
   pub fault : IfErr t.parsed IsSyntaxError
   pub refusal : IfErr t.parsed (Refuses default_marks s.text)
+  pub lost : IfErr t.parsed (LosesSource usual default_marks s.text)
   pub notes : IfErr t.parsed (NotesName s.name)
   pub unmended : IfOk t.parsed (λ _. t.mended ≡ None)
   pub mended : IfSome t.mended (IsMended s.name s.text most_faults)

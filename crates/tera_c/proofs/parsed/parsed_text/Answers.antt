@@ -6,7 +6,7 @@ use Rattle.tera_grammar.specs.statements.Top.{Derives}
 use Rattle.tera_lexer.specs.grammar.Marks.{Marks, marks_of}
 use Rattle.tera_expr_parts.specs.Allowed.{limits_of}
 use Rattle.tera_parser.specs.Job.{Job}
-use Rattle.tera_parser.specs.Refusal.{Refuses}
+use Rattle.tera_parser.specs.Refusal.{LosesSource, Refuses}
 use Rattle.tera_tree.specs.Tree.{Output}
 use Rattle.tera_c.specs.Results.{Reports}
 use Rattle.tera_c.proofs.parsed.parsed_text.Goals as goal
@@ -29,7 +29,9 @@ returns-in-SyntaxError-clause-err c =
     let none : (output : Output) → Derives l m s output → IsMemoryKind c.in-Err.error.kind
     = λ output d. c.in-Err.ensures.complete output ((same (λ l m s. Derives l m s output)).1 d) in
     let returned : Refuses m s c.in-Err.error = (same (λ l m s. Refuses m s c.in-Err.error)).0 c.in-Err.ensures.refusal in
-    let reports : Reports m s (report_view c.in-SyntaxError.report.value) = rw c.in-SyntaxError.is at returned in (
+    let loses : LosesSource l m s c.in-Err.error = (same (λ l m s. LosesSource l m s c.in-Err.error)).0 c.in-Err.ensures.lost in
+    let (within, faults) = rw c.in-SyntaxError.is at returned in
+    let reports : Reports l m s (report_view c.in-SyntaxError.report.value) = (within, faults, rw c.in-SyntaxError.is at loses) in (
       λ output d. rw c.in-SyntaxError.is at (none output d),
-      subst (λ r. Reports m s (report_view r.value)) (sym c.in-SyntaxError.report-is) reports,
+      subst (λ r. Reports l m s (report_view r.value)) (sym c.in-SyntaxError.report-is) reports,
     )

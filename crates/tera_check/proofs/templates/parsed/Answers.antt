@@ -6,7 +6,7 @@ use Rattle.tera_grammar.specs.statements.Places.{Places}
 use Rattle.tera_grammar.specs.statements.Top.{DerivesNames}
 use Rattle.tera_parser.specs.Job.{Job}
 use Rattle.tera_parser.specs.Notes.{NotesName}
-use Rattle.tera_parser.specs.Refusal.{Refuses}
+use Rattle.tera_parser.specs.Refusal.{LosesSource, Refuses}
 use Rattle.tera_statements.specs.Known.{AreNames}
 use Rattle.tera_tree.specs.Outputs.{output_view}
 use Rattle.tera_tree.specs.Tree.{Output}
@@ -27,6 +27,10 @@ returns-clause-sound c =
 pub returns-clause-refusal : goal.returns-clause-refusal
 returns-clause-refusal c =
     job usual _ (marks_of c.args.markers) c.args.source.now c.new-parser.result c.new-parser.ensures (λ l m s. IfErr c.parse_with_names.result (Refuses m s)) c.parse_with_names.ensures.refusal
+
+pub returns-clause-lost : goal.returns-clause-lost
+returns-clause-lost c =
+    job usual _ (marks_of c.args.markers) c.args.source.now c.new-parser.result c.new-parser.ensures (λ l m s. IfErr c.parse_with_names.result (LosesSource l m s)) c.parse_with_names.ensures.lost
 
 pub returns-clause-complete : goal.returns-clause-complete
 returns-clause-complete c =

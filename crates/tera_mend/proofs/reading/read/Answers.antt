@@ -26,6 +26,7 @@ returns-else-is_memory c = (
         reported c (c.in-Err.ensures.complete output ns read),
     reported c,
     c.in-Err.ensures.refusal,
+    c.in-Err.ensures.lost,
   ),
   c.in-Err.ensures.notes,
 )

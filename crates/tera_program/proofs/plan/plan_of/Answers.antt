@@ -1,6 +1,6 @@
 use Rattle.std.proofs.Common.{◌≡◌, ◌≢◌, ◌∙◌, ap, Some, Err, string_bytes, rules}
 use Rattle.tera_lexer.specs.grammar.Marks.{marks_of}
-use Rattle.tera_program.proofs.PlanLemmas.{has_layout, one_template, memory_refuses, memory_names}
+use Rattle.tera_program.proofs.PlanLemmas.{has_layout, one_template, memory_refuses, memory_loses, memory_names}
 use Rattle.tera_program.proofs.plan.plan_of.Goals as goal
 
 pub returns-in_err-read-clause-complete : goal.returns-in_err-read-clause-complete
@@ -25,6 +25,12 @@ returns-in_err-layout-clause-refusal c =
     let (other, is) = has_layout (marks_of c.args.markers.now) c.requires.valid c.args.source.now c.in_ok-read.ensures.sound in
     let same : c.from_residual-in_err-layout.result ≡ Err c.in_err-layout.field-0.0 = search rules in
     rw same (memory_refuses (marks_of c.args.markers.now) c.args.source.now c.in_err-layout.field-0.0 (c.in_err-layout.ensures.complete other is))
+
+pub returns-in_err-layout-clause-lost : goal.returns-in_err-layout-clause-lost
+returns-in_err-layout-clause-lost c =
+    let (other, is) = has_layout (marks_of c.args.markers.now) c.requires.valid c.args.source.now c.in_ok-read.ensures.sound in
+    let same : c.from_residual-in_err-layout.result ≡ Err c.in_err-layout.field-0.0 = search rules in
+    rw same (memory_loses (marks_of c.args.markers.now) c.args.source.now c.in_err-layout.field-0.0 (c.in_err-layout.ensures.complete other is))
 
 pub returns-then-eq-clause-sound : goal.returns-then-eq-clause-sound
 returns-then-eq-clause-sound c =

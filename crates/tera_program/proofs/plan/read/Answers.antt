@@ -5,7 +5,7 @@ use Rattle.tera_grammar.specs.Limits.{Limits, usual}
 use Rattle.tera_grammar.specs.statements.Top.{Derives}
 use Rattle.tera_parser.specs.Job.{Job}
 use Rattle.tera_parser.specs.Notes.{NotesName}
-use Rattle.tera_parser.specs.Refusal.{Refuses}
+use Rattle.tera_parser.specs.Refusal.{LosesSource, Refuses}
 use Rattle.tera_tree.specs.Outputs.{output_view}
 use Rattle.tera_tree.specs.Tree.{Output}
 use Rattle.tera_program.proofs.plan.read.Goals as goal
@@ -33,6 +33,12 @@ returns-in_err-parse-clause-refusal c =
     let same : c.from_residual-in_err-parse.result ≡ Err c.in_err-parse.field-0.0 = search rules in
     rw same (job usual _ _ (marks_of c.args.markers.now) c.args.source.now c.new-parser.result c.new-parser.ensures c.in_ok-clone.ensures.cases
     (λ l m s. Refuses m s c.in_err-parse.field-0.0) c.in_err-parse.ensures.refusal)
+
+pub returns-in_err-parse-clause-lost : goal.returns-in_err-parse-clause-lost
+returns-in_err-parse-clause-lost c =
+    let same : c.from_residual-in_err-parse.result ≡ Err c.in_err-parse.field-0.0 = search rules in
+    rw same (job usual _ _ (marks_of c.args.markers.now) c.args.source.now c.new-parser.result c.new-parser.ensures c.in_ok-clone.ensures.cases
+    (λ l m s. LosesSource l m s c.in_err-parse.field-0.0) c.in_err-parse.ensures.lost)
 
 pub returns-in_err-parse-clause-notes : goal.returns-in_err-parse-clause-notes
 returns-in_err-parse-clause-notes c =

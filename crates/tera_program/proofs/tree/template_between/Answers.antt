@@ -6,7 +6,7 @@ use Rattle.tera_grammar.specs.Limits.{usual}
 use Rattle.tera_grammar.specs.statements.Places.{Places}
 use Rattle.tera_grammar.specs.statements.Top.{Derives, DerivesNames}
 use Rattle.tera_lexer.specs.grammar.Marks.{marks_of}
-use Rattle.tera_parser.specs.Refusal.{Refuses}
+use Rattle.tera_parser.specs.Refusal.{LosesSource, Refuses}
 use Rattle.tera_tree.specs.Outputs.{output_view}
 use Rattle.tera_program.proofs.TreeLemmas.{if_any}
 use Rattle.tera_program.proofs.tree.template_between.Goals as goal
@@ -23,6 +23,7 @@ returns c =
         named = c.in_ok-template.ensures.file ∙ file;
         read = subst (λ source. IfOk template.parsed (λ output. Derives usual m source (output_view output))) text c.in_ok-template.ensures.sound;
         refused = subst (λ source. IfErr template.parsed (Refuses m source)) text c.in_ok-template.ensures.refusal;
+        lost = subst (λ source. IfErr template.parsed (LosesSource usual m source)) text c.in_ok-template.ensures.lost;
         mended = subst (λ (o : Option Mended). IfSome o (IsMended (string_bytes c.args.source.now.file) (string_bytes c.args.source.now.text) 100)) (sym alone) tt;
       };
       clean = λ output d. c.in_ok-template.ensures.complete output (rw text d);

@@ -5,7 +5,7 @@ use Rattle.tera_grammar.specs.Limits.{usual}
 use Rattle.tera_grammar.specs.statements.Places.{Places}
 use Rattle.tera_grammar.specs.statements.Top.{Derives, DerivesNames}
 use Rattle.tera_lexer.specs.grammar.Marks.{default_marks}
-use Rattle.tera_parser.specs.Refusal.{Refuses}
+use Rattle.tera_parser.specs.Refusal.{LosesSource, Refuses}
 use Rattle.tera_tree.specs.Outputs.{output_view}
 use Rattle.tera_program.proofs.TreeLemmas.{if_any}
 use Rattle.tera_program.proofs.tree.usual_template.Goals as goal
@@ -20,6 +20,7 @@ returns c =
         named = c.in_ok-template.ensures.file ∙ file;
         read = subst (λ source. IfOk template.parsed (λ output. Derives usual default_marks source (output_view output))) text c.in_ok-template.ensures.sound;
         refused = subst (λ source. IfErr template.parsed (Refuses default_marks source)) text c.in_ok-template.ensures.refusal;
+        lost = subst (λ source. IfErr template.parsed (LosesSource usual default_marks source)) text c.in_ok-template.ensures.lost;
         mended = subst (λ name. IfSome template.mended (IsMended name (string_bytes c.args.source.now.text) 100)) file
             (subst (λ source. IfSome template.mended (IsMended c.as_str-file.result.now source 100)) text c.in_ok-template.ensures.mended);
       };

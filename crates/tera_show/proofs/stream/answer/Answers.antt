@@ -7,7 +7,7 @@ use Rattle.tera_grammar.specs.statements.Top.{Derives}
 use Rattle.tera_tree.specs.Outputs.{output_view}
 use Rattle.tera_tree.specs.Tree.{Output}
 use Rattle.tera_base.specs.Errors.{IsMemoryKind}
-use Rattle.tera_parser.specs.Refusal.{Refuses}
+use Rattle.tera_parser.specs.Refusal.{LosesSource, Refuses}
 use Rattle.tera_show.specs.Shown.{fault_line}
 use Rattle.tera_show.proofs.stream.answer.Goals as goal
 
@@ -36,10 +36,12 @@ returns-in-SyntaxError-clause-ok c =
     λ output d. c.in-Err.ensures.complete output ((same (λ l m s. Derives l m s output)).1 d) in
     let reported : Refuses default_marks c.args.input.now c.in-Err.error = (same (λ l m s. Refuses m s c.in-Err.error)).0 c.in-Err.ensures.refusal in
     let reports = rw c.in-SyntaxError.is at reported in
+    let lost : LosesSource (limits_of c.args.limits) default_marks c.args.input.now c.in-Err.error = (same (λ l m s. LosesSource l m s c.in-Err.error)).0 c.in-Err.ensures.lost in
+    let loses = rw c.in-SyntaxError.is at lost in
     let seen : c.deref.result.now ≡ c.in-SyntaxError.report.value = c.deref.ensures ∙ (λ i. (c.in-SyntaxError.report-is i).value) in
     let seen_span : c.deref-in-SyntaxError.result.now ≡ c.in-SyntaxError.report.value = c.deref-in-SyntaxError.ensures ∙ (λ i. (c.in-SyntaxError.report-is i).value) in
     let message : c.as_str.result.now ≡ string_bytes c.in-SyntaxError.report.value.message = c.as_str.ensures.value ∙ (λ i. string_bytes (seen i).message) in (
       text.1,
       (λ output d. rw c.in-SyntaxError.is at (none output d)),
-      (_, c.in-SyntaxError.report.value.span, c.in_ok-line-in-SyntaxError.ensures ∙ (λ i. fault_line (message i) (seen_span i).span), reports.0, reports.1),
+      (_, c.in-SyntaxError.report.value.span, c.in_ok-line-in-SyntaxError.ensures ∙ (λ i. fault_line (message i) (seen_span i).span), reports.0, reports.1, loses),
     )
