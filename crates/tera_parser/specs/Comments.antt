@@ -2,13 +2,11 @@
 use Rattle.std.specs.Prelude.{ℕ, List}
 use Rattle.std.specs.List.{AllByRecursion}
 use Rattle.tera_lexer.specs.grammar.Marks.{Marks}
-use Rattle.tera_lexer.specs.grammar.Division.{Piece, Text, Comment, Raw, Tag, Complete, IsDivision}
+use Rattle.tera_lexer.specs.grammar.Division.{Piece, Comment, Complete, IsDivision}
 
 abbrev pub IsComment : Piece → Type 0
-IsComment (Text text) = ⊥
 IsComment (Comment dash inside) = Unit {0}
-IsComment (Raw dash opening body closing) = ⊥
-IsComment (Tag kind dash items gap end) = ⊥
+IsComment _ = ⊥
 
 -- the source is divided into comments alone, of which it may have none
 abbrev pub IsCommentsAlone : Marks → List ℕ → Type 0
