@@ -1,2 +1,3 @@
+pub mod NotesLemmas
 pub mod TakingLemmas
 pub mod Steps

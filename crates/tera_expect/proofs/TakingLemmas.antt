@@ -1,8 +1,9 @@
 -- How cursors go on, and what is refused on the way.
-use Rattle.std.proofs.Common.{IfErr, IfOk, Result, Ok, Err, ◌≡◌, ℕ, zero, suc, ◌<◌, ◌≤◌, le_refl, Bool, true, false, Option, List, codes, inl, inr, refl, subst, sym, arith}
+use Rattle.std.proofs.Common.{IfErr, IfOk, Result, Ok, Err, ◌≡◌, ◌⊎◌, ℕ, zero, suc, ◌<◌, ◌≤◌, le_refl, Bool, true, false, Option, List, codes, inl, inr, refl, subst, sym, arith}
 use Rattle.tera_base.specs.declared.utils.Span.{Span}
 use Rattle.tera_base.specs.declared.errors.Error.{Error}
-use Rattle.tera_base.specs.Errors.{IsMemory, KindReports, ReportsBy, end_of}
+use Rattle.tera_base.specs.ErrorView.{NoteOf, NoteVal}
+use Rattle.tera_base.specs.Errors.{HasNoNotes, IsMemory, KindReports, ReportsBy, end_of}
 use Rattle.tera_base.specs.declared.errors.ErrorKind.{ErrorKind}
 use Rattle.tera_base.specs.declared.errors.ErrorKind.TheVariants.{Memory, Message, SyntaxError}
 use Rattle.tera_base.proofs.Tellings.{reports_weaker, reports_memory}
@@ -16,7 +17,9 @@ use Rattle.tera_lexer.specs.declared.lexer.tokens.Token.{Token as Lexed}
 use Rattle.tera_lexer.specs.code.Cursors.{Position, ReportsAt, FaultsFrom, IsLater, Passes, RefusesFrom, TakesOne, size}
 use Rattle.tera_lexer.proofs.FaultsOfTokens as refusals
 use Rattle.tera_grammar.specs.Reads.{Takes}
-use Rattle.tera_expect.specs.Taking.{Eats, GoesOn, IsCounted, Took, Reaches, Refuses, Reported, no_memory, says, reports, kind_reported, ReportsAs}
+use Rattle.tera_expect.specs.Notes.{IsFirst, IsOther, AreFirst, Repeats}
+use Rattle.tera_expect.specs.Taking.{Eats, GoesOn, IsCounted, IsNoted, Took, Reaches, Refuses, Reported, no_memory, says, reports, kind_reported, ReportsAs}
+use Rattle.tera_expect.proofs.NotesLemmas.{notes_later, notes_memory, notes_none, notes_noted, notes_other, other_label, reported_first}
 
 pub goes_further : (old mid new : Position) → GoesOn old mid → GoesOn mid new → GoesOn old new
 unfolding GoesOn
@@ -71,16 +74,21 @@ reaches_last old new e later reported =
 
 pub refused_after : (old mid new : Position) (e : Error) → Took old mid → Refuses mid new e → Refuses old new e
 unfolding Took Refuses
-refused_after old mid new e a b = (refusals.refuses_later old mid e a.0 b.0, reaches_later old mid new e a.0 b.1)
+refused_after old mid new e a b =
+    (refusals.refuses_later old mid e a.0 b.0, reaches_later old mid new e a.0 b.1, notes_later old mid e a.0 b.2)
 
 pub refused_further : (old mid new : Position) (e : Error) → GoesOn old mid → Refuses mid new e → Refuses old new e
 unfolding GoesOn Refuses
-refused_further old mid new e a b = (refusals.refuses_later old mid e a.0 b.0, reaches_later old mid new e a.0 b.1)
+refused_further old mid new e a b =
+    (refusals.refuses_later old mid e a.0 b.0, reaches_later old mid new e a.0 b.1, notes_later old mid e a.0 b.2)
 
 pub memory_refused : (old new : Position) (e : Error) → IsMemory e → Refuses old new e
 unfolding Refuses
-memory_refused old new e memory =
-    (reports_memory (λ text span. IsWithin old.source span × FaultsFrom old.span old.left text span) e memory, reaches_memory old new e memory)
+memory_refused old new e memory = (
+  reports_memory (λ text span. IsWithin old.source span × FaultsFrom old.span old.left text span) e memory,
+  reaches_memory old new e memory,
+  notes_memory old.left e memory,
+)
 
 -- after tokens that were taken
 pub ruleset after_tokens = (took_all, refused_after, memory_refused)
@@ -88,23 +96,25 @@ pub ruleset after_tokens = (took_all, refused_after, memory_refused)
 -- after tokens that were taken, or none
 pub ruleset on_the_way = (took_all, took_further, goes_took, goes_further, took_goes, stays, refused_after, refused_further, memory_refused)
 
-pub last_refused : (p : Position) (e : Error) → IsWithin p.source p.span → ReportsAt p.span e → Refuses p p e
+pub last_refused : (p : Position) (e : Error) → IsWithin p.source p.span → ReportsAt p.span e → HasNoNotes e → Refuses p p e
 unfolding Refuses
-last_refused p e within reported = (
+last_refused p e within reported none = (
   reports_weaker (λ text span. span ≡ p.span) (λ text span. IsWithin p.source span × FaultsFrom p.span p.left text span) e
       (λ text span is. let back = sym is in subst (λ s. IsWithin p.source s × FaultsFrom p.span p.left text s) back (within, inl ((refl, refl, refl), (refl, refl, refl)))) reported,
   reaches_last p p e (refusals.stays_later p) reported,
+  notes_none p.left e none,
 )
 
 -- a fault at the token that was taken
 pub token_refused : (old new : Position) (t : Tok) (s : Span) (e : Error) → old.left ≡ Token t s new.left → new.span ≡ s → IsWithin old.source s → IsLater old new
-    → ReportsAt s e → Refuses old new e
+    → ReportsAt s e → HasNoNotes e → Refuses old new e
 unfolding Refuses
-token_refused old new t s e taken last within later reported = (
+token_refused old new t s e taken last within later reported none = (
   reports_weaker (λ text span. span ≡ s) (λ text span. IsWithin old.source span × FaultsFrom old.span old.left text span) e
       (λ text span is. subst (λ r. IsWithin old.source r × FaultsFrom old.span old.left text r) (sym is)
       (within, subst (λ ts. FaultsFrom old.span ts text s) (sym taken) (inr (inr (inr (inr (inl ((refl, refl, refl), inl (refl, refl, refl))))))))) reported,
   reaches_last old new e later (subst (λ r. ReportsAt r e) (sym last) reported),
+  notes_none old.left e none,
 )
 
 -- no token was taken: the end of the input, the fault in which the tokens end, or an allocation that failed
@@ -124,9 +134,18 @@ untaken_reaches old new e (inl (ended, reported, same)) =
     )
 untaken_reaches old new e (inr (unseen, stops, same)) = inr (stopped_fault old.source old.left e stops)
 
+pub untaken_notes : (old new : Position) (e : Error) → TakesOne old (Err e) new → AreFirst old.left e
+untaken_notes old new e (inl (ended, reported, same)) =
+    notes_other old.left e
+    (reports_weaker (λ text span. (text ≡ codes "Unexpected end of input") × (span ≡ end_of old.span)) (λ text span. IsOther old.left text span) e (λ text span at. inr (inl at.0)) reported)
+untaken_notes old new e (inr (unseen, stops, same)) =
+    notes_other old.left e
+    (reports_weaker (λ text span. IsFaultOf old.left text span) (λ text span. IsOther old.left text span) e (λ text span fault. inl fault)
+    (stopped_fault old.source old.left e stops))
+
 pub untaken_refused : (old new : Position) (e : Error) → TakesOne old (Err e) new → RefusesFrom old e → Refuses old new e
 unfolding Refuses
-untaken_refused old new e takes reported = (reported, untaken_reaches old new e takes)
+untaken_refused old new e takes reported = (reported, untaken_reaches old new e takes, untaken_notes old new e takes)
 
 pub untaken_refused_err : (r : Result (Lexed × Span) Error) (old new : Position) → TakesOne old r new → IfErr r (RefusesFrom old) → IfErr r (Refuses old new)
 untaken_refused_err (Ok x) old new takes reported = tt
@@ -161,11 +180,30 @@ same_reaches : (old new : Position) (d e : Error) → kind_reported e.kind ≡ k
 same_reaches old new d e same (inl (later, reported)) = inl (later, by_kind (λ text span. new.span.range.end ≤ span.range.end) d.kind e.kind same reported)
 same_reaches old new d e same (inr fault) = inr (by_kind (λ text span. IsFaultOf old.left text span) d.kind e.kind same fault)
 
-pub same_refused : (old new : Position) (d e : Error) → ReportsAs d e → Refuses old new d → Refuses old new e
+-- with a note more
+pub noted_refused : (old new : Position) (d e : Error) (n : NoteVal) → ReportsBy (λ text span. IsFirst old.left text span n) d → IsNoted d n e → ReportsAs d e
+    → Refuses old new d → Refuses old new e
 unfolding Refuses
-same_refused old new d e (inl memory) h = memory_refused old new e memory
-same_refused old new d e (inr same) h =
-    (by_kind (λ text span. IsWithin old.source span × FaultsFrom old.span old.left text span) d.kind e.kind same h.0, same_reaches old new d e same h.1)
+noted_refused old new d e n first noted (inl memory) h = memory_refused old new e memory
+noted_refused old new d e n first noted (inr same) h = (
+  by_kind (λ text span. IsWithin old.source span × FaultsFrom old.span old.left text span) d.kind e.kind same h.0,
+  same_reaches old new d e same h.1,
+  notes_noted old.left d e n first noted h.2,
+)
+
+-- a note that is not on where a name is defined first
+pub other_noted : (old new : Position) (d e : Error) (label file : List ℕ) (at : Span) → (label ≡ codes "first defined here" → ⊥) → IsNoted d (NoteOf label file at) e → ReportsAs d e
+    → Refuses old new d → Refuses old new e
+unfolding Refuses
+other_noted old new d e label file at other noted same h =
+    noted_refused old new d e (NoteOf label file at)
+    (other_label (λ text span. IsWithin old.source span × FaultsFrom old.span old.left text span) old.left label file at d other h.0) noted same h
+
+-- a name that came before
+pub repeated_refused : (old new : Position) (d e : Error) (label file : List ℕ) (first : Span) → Repeats old.left first new.span → ReportsAt new.span d → IsNoted d (NoteOf label file first) e → ReportsAs d e
+    → Refuses old new d → Refuses old new e
+repeated_refused old new d e label file first again reported noted same h =
+    noted_refused old new d e (NoteOf label file first) (reported_first old.left label file first new.span d reported again) noted same h
 
 -- how many tokens are left
 pub took_size : (old new : Position) → Took old new → size new.left < size old.left

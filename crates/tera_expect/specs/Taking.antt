@@ -20,6 +20,7 @@ use Rattle.tera_grammar.specs.expressions.Concrete.{Name}
 use Rattle.tera_grammar.specs.expressions.Operators as operators
 use Rattle.tera_grammar.specs.expressions.Marks as marks
 use Rattle.tera_grammar.specs.expressions.Marks.{Mark, Operation}
+use Rattle.tera_expect.specs.Notes.{AreFirst}
 use Rattle.tera_expect.specs.declared.fixed.Fixed.{Fixed}
 use Rattle.tera_expect.specs.declared.fixed.Fixed.TheVariants.{Comma, Minus, Assign, Colon, Dot, Spread, Bar, At, Slash, GreaterThan, LeftParen, RightParen, LeftBracket, RightBracket, LeftBrace, RightBrace, For, In, If, Else, Not}
 
@@ -38,11 +39,12 @@ Reaches old new e =
 
 -- a refusal of what a cursor had left, where it is now
 unfoldable pub Refuses : Position → Position → Error → Type 0
-Refuses old new e = RefusesFrom old e × Reaches old new e
+Refuses old new e = RefusesFrom old e × Reaches old new e × AreFirst old.left e
 
 -- a refusal in the tokens that a cursor had left, or of the fault in which they end
 unfoldable pub RefusesIn : Position → Position → Error → Type 0
-RefusesIn old new e = ReportsBy (λ text span. IsWithin old.source span × Faults old.left text span) e × Reaches old new e
+RefusesIn old new e =
+    ReportsBy (λ text span. IsWithin old.source span × Faults old.left text span) e × Reaches old new e × AreFirst old.left e
 
 -- a number of a source is not negative, and is one of 64 bits
 abbrev pub IsCounted : Tok → Type 0

@@ -5,11 +5,11 @@
 //! what was read, `Took` that the cursor went on, and `Refuses` where a fault may be. It depends on `tera_lexer`, and
 //! on `tera_grammar` for what tokens begin with. Expressions and statements depend on it.
 //!
-//! In the order of reading: specs `Taking`; `fixed`, the tokens of fixed places; `faults`.
+//! In the order of reading: specs `Taking`, and `Notes` for the notes of faults; `fixed`, the tokens of fixed places; `faults`.
 #![tactic(auto)]
 
 mod faults;
 mod fixed;
 
-pub use faults::{fault, noted, reported, unexpected};
+pub use faults::{fault, first_defined, noted, reported, unexpected};
 pub use fixed::{Fixed, begins, begins_name, eat, eat_name, expect, name, take};

@@ -8,3 +8,4 @@ pub mod ConstantMaps
 pub mod AttributesLemmas
 pub mod NamesLemmas
 pub mod RefusedLemmas
+pub mod KeptLemmas

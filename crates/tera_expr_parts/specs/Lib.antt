@@ -10,3 +10,4 @@ pub mod Folding
 pub mod Ranges
 pub mod Attributes
 pub mod Names
+pub mod Kept

@@ -5,7 +5,9 @@ ghost use Rattle.tera_base.specs.Errors.{IsMemory};
 ghost use Rattle.tera_ast.specs.View.{args_view, expression_view};
 ghost use Rattle.tera_grammar.specs.expressions.Output.{put_arg};
 ghost use Rattle.tera_expr_parts.specs.CommaLists.{new_name_at};
-ghost use Rattle.tera_expect.specs.Taking.{GivesAs, Refuses, Took, name_at};
+ghost use Rattle.tera_expr_parts.specs.Kept.{AreKept};
+ghost use Rattle.tera_lexer.specs.code.Cursors.{Position};
+ghost use Rattle.tera_expect.specs.Taking.{GivesAs, GoesOn, Refuses, Took, name_at};
 
 use crate::faults::repeated_argument;
 use std::alloc::Global;
@@ -15,7 +17,7 @@ use tera_expect::name;
 use tera_lexer::Cursor;
 use tera_tree::Expression;
 
-/// The name of an argument, which no argument before it has.
+/// The name of an argument, which no argument before it has. It is kept, with where it is.
 #[tactic(auto, using(tera_expect::proofs::TakingLemmas::after_tokens))]
 pub fn argument_name<'a>(
     cursor: &mut Cursor<'a>,
@@ -24,7 +26,12 @@ pub fn argument_name<'a>(
 ) -> Result<&'a str, Error>
     ensures gives { GivesAs (name_at cursor.new.span) result cursor.new.left
         (new_name_at (args_view arguments.now.entries) cursor.old.left) }
-    ensures refusal { IfErr result (Refuses cursor.old cursor.new) }
+    ensures kept { (start : Position) → GoesOn start cursor.old →
+        AreKept names.old.items cursor.old.left start.left →
+        IfOk result (λ _. AreKept names.new.items cursor.new.left start.left) }
+    ensures refusal { (start : Position) → GoesOn start cursor.old →
+        AreKept names.old.items cursor.old.left start.left →
+        IfErr result (Refuses start cursor.new) }
     ensures later { IfOk result (λ _. Took cursor.old cursor.new) }
 {
     let name = name(cursor)?;

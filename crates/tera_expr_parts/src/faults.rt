@@ -1,18 +1,21 @@
 //! The faults of expressions, in the order in which the language's document lists them.
 
 ghost use Rattle.std.specs.Prelude.{◌≡◌, ◌⊎◌, ◌≤◌, true};
-ghost use Rattle.tera_base.specs.Errors.{IsMemory, ReportsBy};
-ghost use Rattle.tera_lexer.specs.code.Cursors.{ReportsAt};
+ghost use Rattle.tera_base.specs.Errors.{HasNoNotes, IsMemory, ReportsBy};
+ghost use Rattle.tera_lexer.specs.code.Cursors.{Position, ReportsAt};
+ghost use Rattle.tera_lexer.specs.grammar.Tokens.{Items};
 ghost use Rattle.tera_lexer.specs.grammar.Faults.{BeginsWith, EndsWith};
 ghost use Rattle.tera_lexer.specs.grammar.Place.{IsWithin};
 ghost use Rattle.tera_grammar.specs.expressions.Marks.{Not};
 ghost use Rattle.tera_grammar.specs.expressions.Reading.Front.{begins, begins_sign};
+ghost use Rattle.tera_expr_parts.specs.Kept.{AreKept};
 ghost use Rattle.tera_expr_parts.specs.Ranges.{RunsFrom};
-ghost use Rattle.tera_expect.specs.Taking.{Refuses, TookFirst};
+ghost use Rattle.tera_expect.specs.Notes.{Comes};
+ghost use Rattle.tera_expect.specs.Taking.{GoesOn, Refuses, TookFirst, name_in};
 
 use std::alloc::{AllocError, Global};
 use tera_base::{Error, Span};
-use tera_expect::{Fixed, expect, fault, noted, reported};
+use tera_expect::{Fixed, expect, fault, first_defined, reported};
 use tera_lexer::{Cursor, Token};
 use tera_tree::UnaryOperator;
 
@@ -104,16 +107,18 @@ pub(crate) fn too_many_arrays(cursor: &Cursor<'_>, most: usize) -> Error
     reported(cursor, message)
 }
 
-/// That an argument of this name was defined before, where the names say.
-#[tactic(auto, using(tera_expect::proofs::TakingLemmas::same_refused))]
+/// That an argument of this name, which was taken last, was defined before, where the names say.
 pub(crate) fn repeated_argument(cursor: &Cursor<'_>, name: &str, names: &[(&str, Span)]) -> Error
-    ensures { Refuses cursor.now cursor.now result }
+    ensures { (start : Position) (before : Items) → GoesOn start cursor.now →
+        AreKept names.now before start.left →
+        Comes (name_in name.now cursor.now.span) cursor.now.left before →
+        Refuses start cursor.now result }
 {
     let message = format!(in cursor.alloc(); "Keyword argument `{name}` is defined more than once");
     let error = reported(cursor, message);
     for (known, span) in names {
         if *known == name {
-            return noted(error, "first defined here", span);
+            return first_defined(error, span);
         }
     }
     error
@@ -121,7 +126,8 @@ pub(crate) fn repeated_argument(cursor: &Cursor<'_>, name: &str, names: &[(&str,
 
 /// That a token, which is at the span, is not a key of a map.
 pub(crate) fn no_key(alloc: Global, token: &Token<'_>, span: &Span) -> Error
-    ensures { ReportsAt span.now result }
+    ensures reports { ReportsAt span.now result }
+    ensures notes { HasNoNotes result }
 {
     let message = format!(in alloc;
         "Found {token} but expected `...`, a string, an integer or a bool."
@@ -184,7 +190,8 @@ pub fn reported_from(
     message: Result<String, AllocError>,
 ) -> Error
     requires { IsWithin cursor.now.source first.now }
-    ensures { ReportsBy (λ text span. RunsFrom first.now cursor.now span) result }
+    ensures reports { ReportsBy (λ text span. RunsFrom first.now cursor.now span) result }
+    ensures notes { HasNoNotes result }
 {
     Error::reported(cursor.alloc(), message, &up_to_last(cursor, first))
 }

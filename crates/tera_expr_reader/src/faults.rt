@@ -1,7 +1,7 @@
 //! The faults of what holds expressions, in the order in which the language's document lists them. Those of the parts
 //! of expressions are in `tera_expr_parts`.
 
-ghost use Rattle.tera_base.specs.Errors.{ReportsBy};
+ghost use Rattle.tera_base.specs.Errors.{HasNoNotes, ReportsBy};
 ghost use Rattle.tera_lexer.specs.grammar.Place.{IsWithin};
 ghost use Rattle.tera_expr_parts.specs.Ranges.{RunsFrom};
 ghost use Rattle.tera_expect.specs.Taking.{Refuses};
@@ -44,7 +44,8 @@ pub(crate) fn second_for(cursor: &Cursor<'_>) -> Error
 /// That an array which has to be a constant is none; its bracket is at the span, and it was taken last.
 pub(crate) fn array_not_constant(cursor: &Cursor<'_>, first: &Span) -> Error
     requires { IsWithin cursor.now.source first.now }
-    ensures { ReportsBy (λ text span. RunsFrom first.now cursor.now span) result }
+    ensures reports { ReportsBy (λ text span. RunsFrom first.now cursor.now span) result }
+    ensures notes { HasNoNotes result }
 {
     let message = String::from_str(
         cursor.alloc(),
@@ -56,7 +57,8 @@ pub(crate) fn array_not_constant(cursor: &Cursor<'_>, first: &Span) -> Error
 /// The same of a map, which is in this context.
 pub(crate) fn map_not_constant(cursor: &Cursor<'_>, first: &Span, context: &str) -> Error
     requires { IsWithin cursor.now.source first.now }
-    ensures { ReportsBy (λ text span. RunsFrom first.now cursor.now span) result }
+    ensures reports { ReportsBy (λ text span. RunsFrom first.now cursor.now span) result }
+    ensures notes { HasNoNotes result }
 {
     let message = format!(in cursor.alloc();
         "Invalid {context}: this map should only contain literal values."

@@ -8,7 +8,8 @@ use Rattle.tera_base.specs.declared.errors.Error.{Error}
 use Rattle.tera_base.specs.declared.errors.ErrorKind.{ErrorKind}
 use Rattle.tera_base.specs.declared.errors.ErrorKind.TheVariants.{Memory, Message, SyntaxError}
 use Rattle.tera_base.specs.declared.utils.Span.{Span}
-use Rattle.tera_parser.specs.Notes.{about, error_about, IsAbout, Names, NotesName}
+use Rattle.tera_parser.specs.Notes.{about, error_about, IsAbout, NotesName}
+use Rattle.tera_expect.specs.Notes.{EachNote}
 
 -- an allocation failed, by what an error means
 abbrev IsNothing : ErrorVal → Type 0
@@ -66,20 +67,42 @@ reports_about P file error result (inl h) t = memory_reports P result.kind h
 reports_about P file error result (inr h) t =
     reports_by P result.kind (subst (ReportsAbout P) (sym h) (reporting_about P file _ (reports_if P error.kind t)))
 
-each_about : (file : List ℕ) (notes : List NoteVal) → AllByRecursion (IsAbout file) (map (about file) notes)
-each_about file [] = tt
-each_about file (NoteOf label before span ∷ notes) = (refl, each_about file notes)
+-- what holds of each note holds where it is about another file
+all_about : (P Q : NoteVal → Type 0) (file : List ℕ) (notes : List NoteVal) → ((n : NoteVal) → P n → Q (about file n)) → AllByRecursion P notes → AllByRecursion Q (map (about file) notes)
+all_about P Q file [] same all = tt
+all_about P Q file (n ∷ notes) same (one, all) = (same n one, all_about P Q file notes same all)
 
-names_about : (file : List ℕ) (v : ErrorVal) → Names file (error_about file v)
-names_about file NoMemory = tt
-names_about file (Saying text) = tt
-names_about file (Reporting (ReportOf text span notes)) = each_about file notes
+each_about : (P Q : List ℕ → Span → NoteVal → Type 0) (file : List ℕ) (v : ErrorVal) → ((text : List ℕ) (span : Span) (n : NoteVal) → P text span n → Q text span (about file n)) → EachNote P v
+    → EachNote Q (error_about file v)
+each_about P Q file NoMemory same all = tt
+each_about P Q file (Saying text) same all = tt
+each_about P Q file (Reporting (ReportOf text span notes)) same all = all_about (P text span) (Q text span) file notes (same text span) all
 
-memory_names : (file : List ℕ) (k : ErrorKind) → IsMemoryKind k → Names file (kind_view k)
-memory_names file Memory h = tt
-memory_names file (Message s) h = absurd h
-memory_names file (SyntaxError b) h = absurd h
+memory_each : (P : List ℕ → Span → NoteVal → Type 0) (k : ErrorKind) → IsMemoryKind k → EachNote P (kind_view k)
+memory_each P Memory h = tt
+memory_each P (Message s) h = absurd h
+memory_each P (SyntaxError b) h = absurd h
+
+pub notes_about : (P : List ℕ → Span → NoteVal → Type 0) (file : List ℕ) (error result : Error) → IsMemory result ⊎ (error_view result ≡ error_about file (error_view error))
+    → ((text : List ℕ) (span : Span) (n : NoteVal) → P text span n → P text span (about file n)) → EachNote P (error_view error) → EachNote P (error_view result)
+notes_about P file error result (inl h) same all = memory_each P result.kind h
+notes_about P file error result (inr h) same all = subst (EachNote P) (sym h) (each_about P P file (error_view error) same all)
+
+-- each note is about the file
+all_of : (notes : List NoteVal) → AllByRecursion (λ n. Unit {0}) notes
+all_of [] = tt
+all_of (n ∷ notes) = (tt, all_of notes)
+
+each_of : (v : ErrorVal) → EachNote (λ text span n. Unit {0}) v
+each_of NoMemory = tt
+each_of (Saying text) = tt
+each_of (Reporting (ReportOf text span notes)) = all_of notes
+
+is_about : (file : List ℕ) (n : NoteVal) → IsAbout file (about file n)
+is_about file (NoteOf label before span) = refl
 
 pub notes_name : (file : List ℕ) (error result : Error) → IsMemory result ⊎ (error_view result ≡ error_about file (error_view error)) → NotesName file result
-notes_name file error result (inl h) = memory_names file result.kind h
-notes_name file error result (inr h) = subst (Names file) (sym h) (names_about file _)
+notes_name file error result (inl h) = memory_each (λ text span n. IsAbout file n) result.kind h
+notes_name file error result (inr h) =
+    subst (EachNote (λ text span n. IsAbout file n)) (sym h)
+    (each_about (λ text span n. Unit {0}) (λ text span n. IsAbout file n) file (error_view error) (λ text span n u. is_about file n) (each_of (error_view error)))

@@ -2,7 +2,8 @@
 use Rattle.std.proofs.Common.{◌≡◌, ℕ, ◌≤◌, false, List, [], ◌∷◌, ◌++◌, ⊎_elim, subst, sym, refl}
 use Rattle.std.specs.Prelude.{◌⊎◌}
 use Rattle.std.specs.List.{AllByRecursion}
-use Rattle.tera_base.specs.ErrorView.{error_view}
+use Rattle.tera_base.specs.ErrorView.{NoteOf, NoteVal, error_view}
+use Rattle.tera_base.specs.declared.utils.Span.{Span}
 use Rattle.tera_base.specs.Errors.{IsMemory, ReportsBy}
 use Rattle.tera_base.specs.declared.errors.Error.{Error}
 use Rattle.tera_base.proofs.Tellings.{reports_weaker}
@@ -26,11 +27,12 @@ use Rattle.tera_grammar.specs.statements.Top.{Derives, DerivesNames, IsTemplate}
 use Rattle.tera_grammar.proofs.statements.Tops.{template_complete, template_sound}
 use Rattle.tera_grammar.proofs.statements.Wholes.{derives_read, read_names}
 use Rattle.tera_statements.specs.Items.{AreEmptyTexts}
+use Rattle.tera_expect.specs.Notes.{AreFirst, IsFirst}
 use Rattle.tera_expect.specs.Taking.{RefusesIn}
 use Rattle.tera_statements.specs.Templates.{RefusesTemplate}
 use Rattle.tera_tree.specs.Tree.{Output}
-use Rattle.tera_parser.specs.Notes.{error_about}
-use Rattle.tera_parser.proofs.About.{reports_about}
+use Rattle.tera_parser.specs.Notes.{NotesFirst, about, error_about}
+use Rattle.tera_parser.proofs.About.{notes_about, reports_about}
 use Rattle.tera_parser.specs.Comments.{IsComment, IsCommentsAlone}
 
 module _ (m : Marks) (valid : IsValid m) (source : List ℕ) (items : Items) (are : AreTokensOf m source items) where
@@ -63,6 +65,12 @@ module _ (m : Marks) (valid : IsValid m) (source : List ℕ) (items : Items) (ar
       (reading_lost l source now new e (subst (Tile false [] source) (sym left) (tokens_tile m valid source items are)) fails
       (reports_weaker (λ text span. IsWithin now.source span × Faults now.left text span) (λ text span. span.range.start ≤ span.range.end) e (λ text span f. f.0.0) refusal.0) refusal.1))
 
+  -- the notes on where names of these tokens are defined first
+  pub notes_first : (l : Limits) (now : Position) → now.left ≡ items → (e : Error) → RefusesTemplate l now e → NotesFirst m source e
+  unfolding RefusesIn
+  notes_first l now left e (new, fails, refusal) = λ others these.
+      subst (λ ts. AreFirst ts e) (left ∙ tokens_one m valid source items others are these) refusal.2
+
   -- the tokens of comments alone are empty texts
   pub comments_tokens : IsCommentsAlone m source → AreEmptyTexts items
   comments_tokens (pieces, division, each) =
@@ -85,3 +93,10 @@ pub loses_about : (l : Limits) (m : Marks) (source file : List ℕ) (error resul
     → LosesSource l m source error → LosesSource l m source result
 loses_about l m source file error result named lost =
     reports_about (λ text span. (items : Items) → AreTokensOf m source items → AreLost l span.range.end items) file error result named lost
+
+pub first_about : (m : Marks) (source file : List ℕ) (error result : Error) → IsMemory result ⊎ (error_view result ≡ error_about file (error_view error))
+    → NotesFirst m source error → NotesFirst m source result
+first_about m source file error result named first = λ items are. notes_about (IsFirst items) file error result named (same_note items file) (first items are)
+  where
+    same_note : (items : Items) (file text : List ℕ) (span : Span) (n : NoteVal) → IsFirst items text span n → IsFirst items text span (about file n)
+    same_note items file text span (NoteOf label before first) h = h

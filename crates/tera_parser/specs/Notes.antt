@@ -1,8 +1,10 @@
--- The file that the notes of a fault are about.
+-- What the notes of a fault are about.
 use Rattle.std.specs.Prelude.{◌≡◌, ℕ, List, map}
-use Rattle.std.specs.List.{AllByRecursion}
 use Rattle.tera_base.specs.ErrorView.{ErrorVal, NoMemory, Saying, Reporting, ReportVal, ReportOf, NoteVal, NoteOf, error_view}
 use Rattle.tera_base.specs.declared.errors.Error.{Error}
+use Rattle.tera_lexer.specs.grammar.Marks.{Marks}
+use Rattle.tera_lexer.specs.grammar.Tokens.{AreTokensOf, Items}
+use Rattle.tera_expect.specs.Notes.{EachNote, IsFirst}
 
 -- a note, about the file of this name
 abbrev pub about : List ℕ → NoteVal → NoteVal
@@ -20,14 +22,13 @@ error_about filename (Reporting r) = Reporting (report_about filename r)
 abbrev pub IsAbout : List ℕ → NoteVal → Type 0
 IsAbout filename (NoteOf label name span) = name ≡ filename
 
-abbrev pub ReportNames : List ℕ → ReportVal → Type 0
-ReportNames filename (ReportOf text span notes) = AllByRecursion (IsAbout filename) notes
-
 abbrev pub Names : List ℕ → ErrorVal → Type 0
-Names filename NoMemory = Unit {0}
-Names filename (Saying text) = Unit {0}
-Names filename (Reporting r) = ReportNames filename r
+Names filename v = EachNote (λ text span n. IsAbout filename n) v
 
 -- each note of an error is about the file of this name
 abbrev pub NotesName : List ℕ → Error → Type 0
 NotesName filename e = Names filename (error_view e)
+
+-- each note of an error on where a name is defined first is at that name, of the tokens of the source
+abbrev pub NotesFirst : Marks → List ℕ → Error → Type 0
+NotesFirst m source e = (items : Items) → AreTokensOf m source items → EachNote (IsFirst items) (error_view e)

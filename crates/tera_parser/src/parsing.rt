@@ -6,7 +6,7 @@ ghost use Rattle.tera_base.specs.Errors.{IsMemory};
 ghost use Rattle.tera_expr_parts.specs.Allowed.{AreValid, limits_of};
 ghost use Rattle.tera_grammar.specs.statements.Top.{Derives, DerivesNames};
 ghost use Rattle.tera_parser.specs.Comments.{IsCommentsAlone};
-ghost use Rattle.tera_parser.specs.Notes.{NotesName};
+ghost use Rattle.tera_parser.specs.Notes.{NotesFirst, NotesName};
 ghost use Rattle.tera_parser.specs.Refusal.{LosesSource, Refuses};
 
 use crate::notes::in_file;
@@ -94,7 +94,8 @@ impl<'a> Parser<'a> {
     /// The tree of the source, within the limits.
     ///
     /// It is read from left to right, and the first fault that is met is reported. The one other refusal is `Memory`.
-    /// The notes of a fault are about the parser's file.
+    /// The notes of a fault are about the parser's file. That on where an argument or a parameter is defined first is at
+    /// that name.
     pub fn parse(self) -> Result<ParserOutput, Error>
         ensures sound { IfOk result (λ o.
             Derives self.entry.limits self.entry.marks self.entry.source (output_view o)) }
@@ -105,6 +106,7 @@ impl<'a> Parser<'a> {
         ensures lost { IfErr result (LosesSource self.entry.limits
             self.entry.marks self.entry.source) }
         ensures notes { IfErr result (NotesName self.entry.filename) }
+        ensures first { IfErr result (NotesFirst self.entry.marks self.entry.source) }
         ensures empty { IsCommentsAlone self.entry.marks self.entry.source → IsOk result }
     {
         let (output, _names) = self.parse_with_names()?;
@@ -123,6 +125,7 @@ impl<'a> Parser<'a> {
         ensures lost { IfErr result (LosesSource self.entry.limits
             self.entry.marks self.entry.source) }
         ensures notes { IfErr result (NotesName self.entry.filename) }
+        ensures first { IfErr result (NotesFirst self.entry.marks self.entry.source) }
         ensures empty { IsCommentsAlone self.entry.marks self.entry.source → IsOk result }
     {
         let tokens = tokenize(self.alloc, self.source, self.delimiters);

@@ -10,6 +10,7 @@ pub mod SimpleLemmas
 pub mod CapturesLemmas
 pub mod ConditionsLemmas
 pub mod KnownLemmas
+pub mod CameLemmas
 pub mod BlocksLemmas
 pub mod ItemsLemmas
 pub mod TypesLemmas

@@ -28,7 +28,8 @@ use Rattle.tera_expect.specs.Taking.{GoesOn, Refuses, RefusesIn, Took}
 use Rattle.tera_statements.specs.declared.fronts.Front.{Front}
 use Rattle.tera_statements.specs.declared.fronts.Front.TheVariants as fronts
 use Rattle.tera_statements.specs.declared.fronts.Front.TheVariants.{Ends, Closes, Holds, Shows, Opens, Wrong}
-use Rattle.tera_expect.proofs.TakingLemmas.{reaches_later, reaches_memory, refused_further, untaken_reaches}
+use Rattle.tera_expect.proofs.NotesLemmas.{notes_later, notes_memory}
+use Rattle.tera_expect.proofs.TakingLemmas.{reaches_later, reaches_memory, refused_further, untaken_notes, untaken_reaches}
 
 -- what is refused in the tokens is refused
 pub inside_refused : (old new : Position) (e : Error) → RefusesIn old new e → Refuses old new e
@@ -37,12 +38,16 @@ inside_refused old new e h = (
   reports_weaker (λ text span. IsWithin old.source span × Faults old.left text span) (λ text span. IsWithin old.source span × FaultsFrom old.span old.left text span) e
       (λ text span f. (f.0, inr (inr f.1))) h.0,
   h.1,
+  h.2,
 )
 
 pub memory_inside : (old new : Position) (e : Error) → IsMemory e → RefusesIn old new e
 unfolding RefusesIn
-memory_inside old new e memory =
-    (reports_memory (λ text span. IsWithin old.source span × Faults old.left text span) e memory, reaches_memory old new e memory)
+memory_inside old new e memory = (
+  reports_memory (λ text span. IsWithin old.source span × Faults old.left text span) e memory,
+  reaches_memory old new e memory,
+  notes_memory old.left e memory,
+)
 
 pub inside_further : (old mid new : Position) (e : Error) → GoesOn old mid → RefusesIn mid new e → Refuses old new e
 inside_further old mid new e goes reported = refused_further old mid new e goes (inside_refused mid new e reported)
@@ -50,7 +55,8 @@ inside_further old mid new e goes reported = refused_further old mid new e goes 
 -- what is refused at tokens that were taken, or after them
 pub took_inside : (old mid new : Position) (e : Error) → Took old mid → Refuses mid new e → RefusesIn old new e
 unfolding Took Refuses RefusesIn
-took_inside old mid new e took h = (by took.0.count old.left refl took.0.taken took.0.passes, reaches_later old mid new e took.0 h.1)
+took_inside old mid new e took h =
+    (by took.0.count old.left refl took.0.taken took.0.passes, reaches_later old mid new e took.0 h.1, notes_later old mid e took.0 h.2)
   where
     by : (n : ℕ) (items : Items) → old.left ≡ items → mid.taken ≡ old.taken + n → Passes n items old.span mid.left mid.span
         → ReportsBy (λ text span. IsWithin old.source span × Faults old.left text span) e
@@ -78,6 +84,7 @@ goes_inside old mid new e goes h = (
         passed_faults goes.0.count old.left old.span mid.left mid.span goes.0.passes text span f.1,
       )) h.0,
   reaches_later old mid new e goes.0 h.1,
+  notes_later old mid e goes.0 h.2,
 )
 
 pub not_both : true ≡ false → ⊥
@@ -86,8 +93,11 @@ not_both h = cc
 -- a token is not taken, where the tokens have not ended
 pub untaken_inside : (old new : Position) (e : Error) → is_end old.left ≡ false → TakesOne old (Err e) new → RefusesIn old new e
 unfolding RefusesIn
-untaken_inside old new e some reported =
-    (⊎_elim (λ end. absurd (not_both (ap is_end (sym end.0) ∙ some))) (λ stops. by old.left refl stops.1) reported, untaken_reaches old new e reported)
+untaken_inside old new e some reported = (
+  ⊎_elim (λ end. absurd (not_both (ap is_end (sym end.0) ∙ some))) (λ stops. by old.left refl stops.1) reported,
+  untaken_reaches old new e reported,
+  untaken_notes old new e reported,
+)
   where
     by : (items : Items) → old.left ≡ items → Stops old.source items e → ReportsBy (λ text span. IsWithin old.source span × Faults old.left text span) e
     by Ended is stops = absurd stops

@@ -3,7 +3,7 @@ use Rattle.std.proofs.Common.{◌≡◌, ◌⊎◌, ℕ, zero, suc, ◌+◌, ◌
 use Rattle.std.proofs.Math.Dec.{eqb-suc-zero}
 use Rattle.std.specs.Str.{chars, trim_start}
 use Rattle.tera_base.proofs.Tellings.{reports_weaker}
-use Rattle.tera_base.specs.Errors.{IsMemory, Reports}
+use Rattle.tera_base.specs.Errors.{HasNoNotes, IsMemory, Reports}
 use Rattle.tera_base.specs.declared.errors.Error.{Error}
 use Rattle.tera_base.specs.declared.utils.Span.{Span}
 use Rattle.tera_lexer.specs.code.Cursors.{Passes, Position, size}
@@ -34,6 +34,7 @@ use Rattle.tera_statements.specs.declared.fronts.Front.TheVariants as kinds
 use Rattle.tera_statements.specs.declared.fronts.Opener.TheVariants as openers
 use Rattle.tera_expr_parts.specs.Allowed.{AreValid}
 use Rattle.tera_expect.specs.Taking.{RefusesIn, Took}
+use Rattle.tera_expect.proofs.NotesLemmas.{notes_none}
 use Rattle.tera_statements.specs.Templates.{Excludes, GivesPhase, GivesTemplate, GivesTextPhase, IsStep, ReadsTemplate, RefusesTemplate, ComesNext, StopsLate, TopOf, late, top_depth, phase_if_any, phase_of}
 use Rattle.tera_statements.specs.declared.templates.Phase.{Phase}
 use Rattle.tera_statements.specs.declared.names.Names.{Names}
@@ -146,9 +147,9 @@ some_passed (suc n) t first items last left here passes fewer span ends = passed
 -- a fault from the next token on
 pub covered : (old new : Position) (first span : Span) (text : List ℕ) (e : Error) → Took old new → ComesNext (Some first) old
     → (IsWithin new.source first → IsWithin new.source span) → BeginsWith first span → EndsWith first span ⊎ EndsWith new.span span → new.span.range.end ≤ span.range.end → Reports text span e
-    → RefusesIn old new e
+    → HasNoNotes e → RefusesIn old new e
 unfolding Took RefusesIn
-covered old new first span text e took ((t, following, is), there) within starts ends reaches reported =
+covered old new first span text e took ((t, following, is), there) within starts ends reaches reported none =
     let inside : IsWithin old.source span = subst (λ source. IsWithin source span) took.0.source (within (subst (λ source. IsWithin source first) (sym took.0.source) there)) in
     let passes = subst (λ ts. Passes took.0.count ts old.span new.left new.span) is took.0.passes in
     let fewer = subst (λ ts. size new.left < size ts) is took.1 in
@@ -160,6 +161,7 @@ covered old new first span text e took ((t, following, is), there) within starts
         reports_weaker (λ words s. (words ≡ text) × (s ≡ span)) (λ words s. new.span.range.end ≤ s.range.end) e
             (λ words s same. subst (λ (v : Span). new.span.range.end ≤ v.range.end) (sym same.1) reaches) reported,
       ),
+      notes_none old.left e none,
     )
 
 -- what is refused of a template of which so much has been read

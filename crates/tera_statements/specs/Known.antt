@@ -1,13 +1,16 @@
 -- Names that were met, each with where it is.
-use Rattle.std.specs.Prelude.{◌≡◌}
+use Rattle.std.specs.Prelude.{◌≡◌, ℕ, List, Some}
 use Rattle.std.specs.Option.{option_map}
 use Rattle.std.specs.BTreeMap.{BTreeMap, get_by_text}
 use Rattle.std.specs.declared.alloc.Global.{Global}
 use Rattle.std.specs.declared.string.String.{String}
 use Rattle.tera_base.specs.declared.utils.Span.{Span}
+use Rattle.tera_lexer.specs.grammar.Tokens.{Items}
 use Rattle.tera_grammar.specs.expressions.Concrete.{Name}
 use Rattle.tera_grammar.specs.statements.Places.{Places}
 use Rattle.tera_grammar.specs.statements.Reading.Meeting.{Grouped, Located, Met, Seen, locate, met, nothing_seen, ◌having◌}
+use Rattle.tera_expect.specs.Notes.{Came}
+use Rattle.tera_expect.specs.Taking.{name_in}
 use Rattle.tera_statements.specs.declared.names.Names.{Names}
 
 -- where a name that is kept is, if it is one of these
@@ -17,6 +20,10 @@ located_of names = λ name. get_by_text names name
 -- whether a name is one of them
 abbrev pub met_of : BTreeMap (String Global) Span → Met
 met_of names = met (located_of names)
+
+-- each of the names came among the tokens, before these are left
+abbrev pub CameBefore : Located → Items → Items → Type 0
+CameBefore located left items = (name : List ℕ) (span : Span) → located name ≡ Some span → Came (name_in name span) left items
 
 -- a name is kept, where it is
 abbrev pub Keeps : BTreeMap (String Global) Span → BTreeMap (String Global) Span → Name → Type 0

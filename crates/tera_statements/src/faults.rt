@@ -2,11 +2,12 @@
 
 ghost use Rattle.tera_lexer.specs.code.Cursors.{Position};
 ghost use Rattle.tera_statements.specs.Templates.{ComesNext};
-ghost use Rattle.tera_expect.specs.Taking.{Refuses, RefusesIn, ReportsAs, Took};
+ghost use Rattle.tera_expect.specs.Notes.{Repeats};
+ghost use Rattle.tera_expect.specs.Taking.{GoesOn, Refuses, RefusesIn, ReportsAs, Took};
 
 use crate::around::Opening;
 use tera_base::{Error, ErrorKind, Span, Value};
-use tera_expect::{fault, noted, reported};
+use tera_expect::{fault, first_defined, noted, reported};
 use tera_expr_parts::up_to_last;
 use tera_lexer::{Cursor, Token};
 use tera_tree::ArgType;
@@ -167,7 +168,7 @@ pub(crate) fn repeated_component(cursor: &Cursor<'_>, name: &str, first: &Span) 
         "Template already contains a component named `{name}`"
     );
     let error = reported(cursor, message);
-    first_defined(cursor, error, first)
+    first_defined(error, first)
 }
 
 /// That a parameter, whose name was taken last, is called `body`.
@@ -182,13 +183,14 @@ pub(crate) fn parameter_named_body(cursor: &Cursor<'_>) -> Error
 
 /// That the name, which was taken last, is that of the parameter whose name is at the span.
 pub(crate) fn repeated_parameter(cursor: &Cursor<'_>, name: &str, first: &Span) -> Error
-    ensures { Refuses cursor.now cursor.now result }
+    ensures { (start : Position) → GoesOn start cursor.now →
+        Repeats start.left first.now cursor.now.span → Refuses start cursor.now result }
 {
     let message = format!(in cursor.alloc();
         "Component argument `{name}` is defined more than once"
     );
     let error = reported(cursor, message);
-    first_defined(cursor, error, first)
+    first_defined(error, first)
 }
 
 /// That the name of the rest parameter, which was taken last, is that of another one.
@@ -281,13 +283,4 @@ fn inside_of(cursor: &Cursor<'_>, error: Error, opening: &Opening) -> Error
         Ok(label) => noted(error, label.as_str(), &opening.at),
         Err(refused) => Error::from(refused),
     }
-}
-
-// The error with a note on where the first of two of a name is defined.
-fn first_defined(cursor: &Cursor<'_>, error: Error, first: &Span) -> Error
-    requires { Refuses cursor.now cursor.now error }
-    ensures reports { ReportsAs error result }
-    ensures refusal { Refuses cursor.now cursor.now result }
-{
-    noted(error, "first defined here", first)
 }

@@ -213,11 +213,17 @@ arguments::arguments-elements-init t c = suffixes.arguments::arguments-elements-
 pub arguments::arguments-returns-in_err-name-clause-gives : goal.arguments::arguments-returns-in_err-name-clause-gives
 arguments::arguments-returns-in_err-name-clause-gives t c = suffixes.arguments::arguments-returns-in_err-name-clause-gives t c
 
+pub arguments::arguments-returns-in_err-name-clause-refusal : goal.arguments::arguments-returns-in_err-name-clause-refusal
+arguments::arguments-returns-in_err-name-clause-refusal t c = suffixes.arguments::arguments-returns-in_err-name-clause-refusal t c
+
 pub arguments::arguments-returns-in_err-expect-clause-gives : goal.arguments::arguments-returns-in_err-expect-clause-gives
 arguments::arguments-returns-in_err-expect-clause-gives t c = suffixes.arguments::arguments-returns-in_err-expect-clause-gives t c
 
 pub arguments::arguments-returns-in_err-value-clause-gives : goal.arguments::arguments-returns-in_err-value-clause-gives
 arguments::arguments-returns-in_err-value-clause-gives t c = suffixes.arguments::arguments-returns-in_err-value-clause-gives t c
+
+pub arguments::arguments-returns-in_err-value-clause-refusal : goal.arguments::arguments-returns-in_err-value-clause-refusal
+arguments::arguments-returns-in_err-value-clause-refusal t c = suffixes.arguments::arguments-returns-in_err-value-clause-refusal t c
 
 pub arguments::arguments-returns-in_err-open-clause-gives : goal.arguments::arguments-returns-in_err-open-clause-gives
 arguments::arguments-returns-in_err-open-clause-gives t c = suffixes.arguments::arguments-returns-in_err-open-clause-gives t c

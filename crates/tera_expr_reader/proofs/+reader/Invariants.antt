@@ -11,6 +11,7 @@ use Rattle.tera_expr_reader.specs.Elements.{IsItem}
 use Rattle.tera_expr_reader.specs.Frames.{frame_view, state_view, HoldsNegatable, Went}
 use Rattle.tera_expr_parts.specs.Rooms.{room_of}
 use Rattle.tera_expr_parts.specs.CommaLists.{reader_of}
+use Rattle.tera_expr_parts.specs.Kept.{AreKept}
 use Rattle.tera_expect.specs.Taking.{GoesOn, name_in, Took}
 use Rattle.tera_expr_reader.proofs.ArgumentRows.{Asks}
 use Rattle.tera_expr_reader.proofs.ChainsLemmas.{Chaining}
@@ -36,6 +37,7 @@ invariant-arguments::arguments-elements l = record {
   rows : Asks l.open l.fn.values.room.scope.in_loop (args_view l.arguments.entries) l.cursor.span (reader_of l.fn.values) (room_of l.fn.values.room)
       (arguments_of (reader_of l.fn.values) (room_of l.fn.values.room) (at l.fn.links l.fn.cursor.left)) (at l.links l.cursor.left);
   gone : Gone l.open l.fn.cursor l.cursor;
+  kept : AreKept l.names.items l.cursor.left l.fn.cursor.left;
 }
 
 abbrev pub decreases-arguments::arguments-elements : goal.decreases-arguments::arguments-elements

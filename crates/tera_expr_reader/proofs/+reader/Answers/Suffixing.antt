@@ -21,6 +21,8 @@ use Rattle.tera_expect.specs.Taking.{name_at}
 use Rattle.tera_expr_reader.proofs.ArgumentRows.{arguments_begun, no_new_name, lacks_assign, lacks_value, lacks_end, one_argument}
 use Rattle.tera_expr_reader.proofs.CallsLemmas.{subscript_is, test_is, negated_is, test_fails, test_made, call_given, call_unnamed, call_fails, no_arguments, arguments_after}
 use Rattle.tera_expect.proofs.TakingLemmas.{took_size, took_all, goes_size, refused_after, refused_further}
+use Rattle.tera_expect.proofs.NotesLemmas.{took_left}
+use Rattle.tera_expr_parts.proofs.KeptLemmas.{kept_further, none_kept}
 use Rattle.tera_expr_reader.proofs.RowsLemmas.{gone_begun, gone_on, fresh_given}
 use Rattle.tera_expr_reader.proofs.+reader.Goals as goal
 
@@ -112,6 +114,7 @@ arguments::arguments-elements-init t c =
     record {
       rows = arguments_begun l c.args.values (room_of c.args.values.room) c.args.links.now c.args.cursor.now c.eat-open.new.cursor c.eat-open.result (args_view c.new-arguments.result.entries) (ap args_view none) c.eat-open.ensures;
       gone = gone_begun c.eat-open.result c.args.cursor.now c.eat-open.new.cursor _ c.eat-open.ensures;
+      kept = let nothing : c.new-names.result.items ≡ [] = search rules in none_kept c.new-names.result.items c.eat-open.new.cursor.left c.args.cursor.now.left nothing;
     }
 
 pub arguments::arguments-returns-in_err-name-clause-gives : goal.arguments::arguments-returns-in_err-name-clause-gives
@@ -120,6 +123,12 @@ arguments::arguments-returns-in_err-name-clause-gives t c =
     let p = err_from_is_err_and c.from_residual.result c.from_residual.ensures.1 in
     rw (p.1, p.2) (no_new_name c.args.values.room.scope.in_loop (args_view c.elements.arguments.entries) c.args.values (room_of c.args.values.room) (arguments_of (reader_of c.args.values) (room_of c.args.values.room) (at c.args.links.now c.args.cursor.now.left))
     c.elements.links c.elements.cursor.left o _ _ c.in_err-name.ensures.gives)
+
+pub arguments::arguments-returns-in_err-name-clause-refusal : goal.arguments::arguments-returns-in_err-name-clause-refusal
+arguments::arguments-returns-in_err-name-clause-refusal t c =
+    let before = rw c.elements-test.true at c.elements.invariant.gone in
+    let p = err_from_is_err_and c.from_residual.result c.from_residual.ensures.1 in
+    rw (p.1, p.2) (c.in_err-name.ensures.refusal c.args.cursor.now before c.elements.invariant.kept)
 
 pub arguments::arguments-returns-in_err-expect-clause-gives : goal.arguments::arguments-returns-in_err-expect-clause-gives
 arguments::arguments-returns-in_err-expect-clause-gives t c =
@@ -135,6 +144,13 @@ arguments::arguments-returns-in_err-value-clause-gives t c =
     rw (p.1, p.2) (lacks_value c.args.values.room.scope.in_loop (args_view c.elements.arguments.entries) c.args.values (room_of c.args.values.room) (arguments_of (reader_of c.args.values) (room_of c.args.values.room) (at c.args.links.now c.args.cursor.now.left))
     c.elements.links c.elements.cursor.left o c.argument_name.new.cursor.left (name_at c.argument_name.new.cursor.span c.in_ok-name.name) c.in_ok-name.ensures.gives
     c.expect.new.cursor.left c.expect.new.cursor.span c.in_ok-expect.ensures.gives _ _ c.in_err-value.ensures.gives)
+
+pub arguments::arguments-returns-in_err-value-clause-refusal : goal.arguments::arguments-returns-in_err-value-clause-refusal
+arguments::arguments-returns-in_err-value-clause-refusal t c =
+    let before = rw c.elements-test.true at c.elements.invariant.gone in
+    let p = err_from_is_err_and c.from_residual-in_err-value.result c.from_residual-in_err-value.ensures.1 in
+    rw (p.1, p.2) (refused_further _ c.elements.cursor _ _ before
+    (refused_after _ _ _ _ (took_all _ _ _ c.in_ok-name.ensures.later c.in_ok-expect.ensures.later) c.in_err-value.ensures.refusal))
 
 pub arguments::arguments-returns-in_err-open-clause-gives : goal.arguments::arguments-returns-in_err-open-clause-gives
 arguments::arguments-returns-in_err-open-clause-gives t c =
@@ -157,13 +173,16 @@ arguments::arguments-elements-preserved t c =
     let o = rw c.elements-test.true at c.elements.invariant.rows in
     let before = rw c.elements-test.true at c.elements.invariant.gone in
     let (t, read, shown) = c.in_ok-value.ensures.gives in
+    let following = took_all _ _ _ c.in_ok-expect.ensures.later (took_all _ _ _ c.in_ok-value.ensures.later c.in_ok-open.ensures.later) in
     record {
       rows = one_argument c.args.values.room.scope.in_loop (args_view c.elements.arguments.entries) c.args.values (room_of c.args.values.room) (arguments_of (reader_of c.args.values) (room_of c.args.values.room) (at c.args.links.now c.args.cursor.now.left))
           c.elements.links c.elements.cursor.left o c.argument_name.new.cursor.left (name_at c.argument_name.new.cursor.span c.in_ok-name.name) c.in_ok-name.ensures.gives
           c.expect.new.cursor.left c.expect.new.cursor.span c.in_ok-expect.ensures.gives t c.value.new.links c.value.new.cursor.left read c.more.new.cursor c.in_ok-open.open c.in_ok-open.ensures.gives
           (expression_view c.in_ok-value.value) shown (args_view c.put_argument.new.arguments.entries) c.in_ok-put_argument.ensures.puts;
       gone = gone_on c.in_ok-open.open c.args.cursor.now c.elements.cursor c.more.new.cursor before
-          (took_all _ _ _ c.in_ok-name.ensures.later (took_all _ _ _ c.in_ok-expect.ensures.later (took_all _ _ _ c.in_ok-value.ensures.later c.in_ok-open.ensures.later)));
+          (took_all _ _ _ c.in_ok-name.ensures.later following);
+      kept = kept_further c.argument_name.new.names.items c.more.new.cursor.left c.argument_name.new.cursor.left c.args.cursor.now.left (took_left _ _ following)
+          (c.in_ok-name.ensures.kept c.args.cursor.now before c.elements.invariant.kept);
     }
 
 pub arguments::arguments-elements-smaller : goal.arguments::arguments-elements-smaller

@@ -63,4 +63,4 @@ pub returns-in-None-clause-refusal : goal.returns-in-None-clause-refusal
 returns-in-None-clause-refusal c =
     let same : c.copied-first.result ≡ c.expect.new.cursor.span = c.copied-first.ensures ∙ c.current_span.ensures.span in
     refused_from LeftBracket c.args.cursor.now c.expect.new.cursor c.array.new.cursor c.array_not_constant.result c.in_ok-expect.ensures.gives c.in_ok-expect.ensures.later c.in_ok-array.ensures.later
-    (subst (λ s. ReportsBy (λ text span. RunsFrom s c.array.new.cursor span) c.array_not_constant.result) same c.array_not_constant.ensures)
+    (subst (λ s. ReportsBy (λ text span. RunsFrom s c.array.new.cursor span) c.array_not_constant.result) same c.array_not_constant.ensures.reports) c.array_not_constant.ensures.notes

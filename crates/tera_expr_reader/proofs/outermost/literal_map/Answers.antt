@@ -55,4 +55,4 @@ pub returns-in-None-clause-refusal : goal.returns-in-None-clause-refusal
 returns-in-None-clause-refusal c =
     let same : c.copied-first.result ≡ c.expect.new.cursor.span = c.copied-first.ensures ∙ c.current_span.ensures.span in
     refused_from LeftBrace c.args.cursor.now c.expect.new.cursor c.map.new.cursor c.map_not_constant.result c.in_ok-expect.ensures.gives c.in_ok-expect.ensures.later c.in_ok-map.ensures.later
-    (subst (λ s. ReportsBy (λ text span. RunsFrom s c.map.new.cursor span) c.map_not_constant.result) same c.map_not_constant.ensures)
+    (subst (λ s. ReportsBy (λ text span. RunsFrom s c.map.new.cursor span) c.map_not_constant.result) same c.map_not_constant.ensures.reports) c.map_not_constant.ensures.notes

@@ -8,6 +8,12 @@ use Rattle.tera_expect.specs.Taking.{name_at}
 use Rattle.tera_statements.proofs.ParametersLemmas.{annotation_known, argument_is, at_after, at_read, mistyped, no_annotation, no_assigned, no_fresh_name, parameter_given}
 use Rattle.tera_expect.proofs.Steps.{failed_as, fails_by}
 use Rattle.tera_statements.proofs.KnownLemmas.{same_place}
+use Rattle.tera_grammar.specs.expressions.Marks.{At}
+use Rattle.tera_grammar.specs.expressions.Reading.Front.{takes}
+use Rattle.tera_expect.proofs.NotesLemmas.{comes_further, goes_left, left_further, took_left}
+use Rattle.tera_expect.proofs.TakingLemmas.{goes_further, memory_refused, refused_further, took_goes}
+use Rattle.tera_statements.proofs.CameLemmas.{came_left, fresh_comes, located_came}
+use Rattle.tera_statements.proofs.ParametersLemmas.{eaten_goes}
 use Rattle.tera_statements.proofs.parameters.parameter.Goals as goal
 
 pub returns-in_err-name-clause-gives : goal.returns-in_err-name-clause-gives
@@ -67,3 +73,47 @@ returns-clause-gives c =
       at_after l seen ts _ at opens ∙ parameter_given l seen at _ n _ c.in_ok-name.ensures.gives t _ typed d _ assigned (sym (ap has_default same) ∙ c.in_ok-check_default.ensures.fits),
       ((c.in_ok-from_str.ensures.ok, same), c.in_ok-keep_name.ensures.kept ∙ same_place (located_of c.args.seen.now) refl c.current_span.ensures.span),
     )
+
+pub returns-in_err-name-clause-refusal : goal.returns-in_err-name-clause-refusal
+returns-in_err-name-clause-refusal c = λ start goes came.
+    let ahead = eaten_goes c.eat-implicit.result c.args.cursor.now c.eat-implicit.new.cursor (takes At c.args.cursor.now.left) c.eat-implicit.ensures in
+    let p = err_from_is_err_and c.from_residual.result c.from_residual.ensures.1 in
+    rw (p.1, p.2) (c.in_err-name.ensures.refusal start (goes_further start _ _ goes ahead) (came_left (located_of c.args.seen.now) _ _ _ (goes_left _ _ ahead) came))
+
+pub returns-in_err-keep_name-clause-refusal : goal.returns-in_err-keep_name-clause-refusal
+returns-in_err-keep_name-clause-refusal c = λ start goes came.
+    let p = err_from_is_err_and c.from_residual-in_err-keep_name.result c.from_residual-in_err-keep_name.ensures.1 in
+    rw (p.1, p.2) (memory_refused start _ _ c.in_err-keep_name.ensures.refusal)
+
+pub returns-in_err-typ-clause-refusal : goal.returns-in_err-typ-clause-refusal
+returns-in_err-typ-clause-refusal c = λ start goes came.
+    let ahead = eaten_goes c.eat-implicit.result c.args.cursor.now c.eat-implicit.new.cursor (takes At c.args.cursor.now.left) c.eat-implicit.ensures in
+    let fresh = goes_further start _ _ goes (goes_further _ _ _ ahead (took_goes _ _ c.in_ok-name.ensures.later)) in
+    let p = err_from_is_err_and c.from_residual-in_err-typ.result c.from_residual-in_err-typ.ensures.1 in
+    rw (p.1, p.2) (refused_further start _ _ _ fresh c.in_err-typ.ensures.refusal)
+
+pub returns-in_err-default-clause-refusal : goal.returns-in_err-default-clause-refusal
+returns-in_err-default-clause-refusal c = λ start goes came.
+    let ahead = eaten_goes c.eat-implicit.result c.args.cursor.now c.eat-implicit.new.cursor (takes At c.args.cursor.now.left) c.eat-implicit.ensures in
+    let fresh = goes_further start _ _ goes (goes_further _ _ _ ahead (took_goes _ _ c.in_ok-name.ensures.later)) in
+    let p = err_from_is_err_and c.from_residual-in_err-default.result c.from_residual-in_err-default.ensures.1 in
+    rw (p.1, p.2) (refused_further start _ _ _ (goes_further start _ _ fresh c.in_ok-typ.ensures.later) c.in_err-default.ensures.refusal)
+
+pub returns-in_err-check_default-clause-refusal : goal.returns-in_err-check_default-clause-refusal
+returns-in_err-check_default-clause-refusal c = λ start goes came.
+    let ahead = eaten_goes c.eat-implicit.result c.args.cursor.now c.eat-implicit.new.cursor (takes At c.args.cursor.now.left) c.eat-implicit.ensures in
+    let fresh = goes_further start _ _ goes (goes_further _ _ _ ahead (took_goes _ _ c.in_ok-name.ensures.later)) in
+    let p = err_from_is_err_and c.from_residual-in_err-check_default.result c.from_residual-in_err-check_default.ensures.1 in
+    rw (p.1, p.2) (refused_further start _ _ _ (goes_further start _ _ fresh (goes_further _ _ _ c.in_ok-typ.ensures.later c.in_ok-default.ensures.later)) c.in_err-check_default.ensures.refusal)
+
+pub returns-clause-kept : goal.returns-clause-kept
+returns-clause-kept c = λ start goes came.
+    let ahead = eaten_goes c.eat-implicit.result c.args.cursor.now c.eat-implicit.new.cursor (takes At c.args.cursor.now.left) c.eat-implicit.ensures in
+    let after = goes_left _ _ (goes_further _ _ _ c.in_ok-typ.ensures.later c.in_ok-default.ensures.later) in
+    let took = took_left _ _ c.in_ok-name.ensures.later in
+    let n = name_at c.fresh_name.new.cursor.span c.in_ok-name.name in
+    let comes = comes_further n _ _ _ (goes_left _ _ (goes_further start _ _ goes ahead)) (fresh_comes (met_of c.args.seen.now) n _ _ c.in_ok-name.ensures.gives) in
+    located_came n (located_of c.args.seen.now) (located_of c.keep_name.new.names) c.assigned.new.cursor.left start.left
+    (c.in_ok-keep_name.ensures.kept ∙ same_place (located_of c.args.seen.now) refl c.current_span.ensures.span)
+    (c.fresh_name.new.cursor.left, comes, after)
+    (came_left (located_of c.args.seen.now) _ _ _ (left_further _ _ _ after (left_further _ _ _ took (goes_left _ _ ahead))) came)

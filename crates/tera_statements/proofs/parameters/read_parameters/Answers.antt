@@ -10,6 +10,8 @@ use Rattle.tera_grammar.proofs.statements.Loops.{listing_ends, listing_refused, 
 use Rattle.tera_grammar.specs.statements.Reading.Meeting.{met}
 use Rattle.tera_statements.specs.Known.{located_of}
 use Rattle.tera_statements.proofs.KnownLemmas.{none_located}
+use Rattle.tera_statements.proofs.CameLemmas.{came_left, none_came}
+use Rattle.tera_expect.proofs.NotesLemmas.{goes_left, left_further, took_left}
 use Rattle.tera_statements.specs.Parameters.{arguments_view}
 use Rattle.tera_expr_parts.specs.Allowed.{limits_of}
 use Rattle.tera_expect.proofs.TakingLemmas.{goes_further, goes_took, refused_after, refused_further, stays, took_all, took_further, took_goes, took_size}
@@ -22,6 +24,7 @@ parameters-init c = record {
   listing = listing_starts (limits_of c.args.setting.now.limits) c.args.cursor.now.left c.args.cursor.now.left (located_of c.new-seen.result) (arguments_view c.new-arguments.result.entries)
       (ap arguments_view c.new-arguments.ensures.empty) (none_located c.new-seen.result c.new-seen.ensures.empty) refl;
   later = stays c.args.cursor.now;
+  kept = none_came (located_of c.new-seen.result) c.args.cursor.now.left c.args.cursor.now.left (none_located c.new-seen.result c.new-seen.ensures.empty);
 }
 
 pub returns-then-eat-clause-gives : goal.returns-then-eat-clause-gives
@@ -122,6 +125,8 @@ parameters-preserved c =
           is.1
           (c.in_ok-put_argument.ensures.puts ∙ (λ i. put_name (is.0.0 i) (is.0.1 i) (arguments_view c.parameters.arguments.entries)));
       later = goes_further _ _ _ c.parameters.invariant.later (took_goes _ _ (goes_took _ _ _ ahead following));
+      kept = came_left (located_of c.parameter.new.seen) _ _ _ (left_further _ _ _ (took_left _ _ c.in_ok-expect.ensures.later) (goes_left _ _ third))
+          (c.in_ok-name.ensures.kept c.args.cursor.now (goes_further _ _ _ c.parameters.invariant.later ahead) (came_left (located_of c.parameters.seen) _ _ _ (goes_left _ _ ahead) c.parameters.invariant.kept));
     }
 
 pub parameters-smaller : goal.parameters-smaller
@@ -142,8 +147,10 @@ pub returns-in_err-rest_parameter-clause-refusal : goal.returns-in_err-rest_para
 returns-in_err-rest_parameter-clause-refusal c =
     let dots = rw c.if-eat-2.true at c.eat-in-parameters.ensures in
     let ahead = eaten_goes c.eat.result c.parameters.cursor c.eat.new.cursor (takes RightParen c.parameters.cursor.left) c.eat.ensures in
+    let here = goes_further _ _ _ ahead (took_goes _ _ dots.1) in
     let p = err_from_is_err_and c.from_residual.result c.from_residual.ensures.1 in
-    rw (p.1, p.2) (refused_further _ _ _ _ (goes_further _ _ _ c.parameters.invariant.later ahead) (refused_after _ _ _ _ dots.1 c.in_err-rest_parameter.ensures.refusal))
+    rw (p.1, p.2) (c.in_err-rest_parameter.ensures.refusal c.args.cursor.now (goes_further _ _ _ c.parameters.invariant.later here)
+    (came_left (located_of c.parameters.seen) _ _ _ (goes_left _ _ here) c.parameters.invariant.kept))
 
 pub returns-then-eat-2-clause-later : goal.returns-then-eat-2-clause-later
 returns-then-eat-2-clause-later c =
@@ -155,8 +162,10 @@ pub returns-in_err-name-clause-refusal : goal.returns-in_err-name-clause-refusal
 returns-in_err-name-clause-refusal c =
     let first = eaten_goes c.eat.result c.parameters.cursor c.eat.new.cursor (takes RightParen c.parameters.cursor.left) c.eat.ensures in
     let second = eaten_goes c.eat-in-parameters.result c.eat.new.cursor c.eat-in-parameters.new.cursor (takes Spread c.eat.new.cursor.left) c.eat-in-parameters.ensures in
+    let here = goes_further _ _ _ first second in
     let p = err_from_is_err_and c.from_residual-in_err-name.result c.from_residual-in_err-name.ensures.1 in
-    rw (p.1, p.2) (refused_further _ _ _ _ (goes_further _ _ _ c.parameters.invariant.later (goes_further _ _ _ first second)) c.in_err-name.ensures.refusal)
+    rw (p.1, p.2) (c.in_err-name.ensures.refusal c.args.cursor.now (goes_further _ _ _ c.parameters.invariant.later here)
+    (came_left (located_of c.parameters.seen) _ _ _ (goes_left _ _ here) c.parameters.invariant.kept))
 
 pub returns-then-eat-3-clause-later : goal.returns-then-eat-3-clause-later
 returns-then-eat-3-clause-later c =

@@ -2,6 +2,11 @@ use Rattle.std.proofs.Common.{inl, inr, refl, ◌∙◌}
 use Rattle.tera_expect.specs.Taking.{name_at}
 use Rattle.tera_statements.specs.Known.{located_of}
 use Rattle.tera_statements.proofs.KnownLemmas.{same_place}
+use Rattle.std.proofs.lemmas.Result.{err_from_is_err_and}
+use Rattle.tera_grammar.specs.expressions.Marks.{RightParen}
+use Rattle.tera_grammar.specs.expressions.Reading.Front.{takes}
+use Rattle.tera_expect.proofs.TakingLemmas.{goes_further, memory_refused, refused_further, took_goes}
+use Rattle.tera_statements.proofs.ParametersLemmas.{eaten_goes}
 use Rattle.tera_statements.proofs.parameters.rest_parameter.Goals as goal
 
 pub returns-then-not-eat-clause-gives : goal.returns-then-not-eat-clause-gives
@@ -16,3 +21,18 @@ returns-clause-gives c =
       rw (c.in_ok-name.ensures.gives, end.0) refl,
       (c.in_ok-from_str.ensures.ok, c.in_ok-keep_name.ensures.kept ∙ same_place (located_of c.args.seen.now) refl c.current_span.ensures.span),
     )
+
+pub returns-in_err-name-clause-refusal : goal.returns-in_err-name-clause-refusal
+returns-in_err-name-clause-refusal c = λ start goes came.
+    let p = err_from_is_err_and c.from_residual.result c.from_residual.ensures.1 in
+    rw (p.1, p.2) (c.in_err-name.ensures.refusal start goes came)
+
+pub returns-in_err-keep_name-clause-refusal : goal.returns-in_err-keep_name-clause-refusal
+returns-in_err-keep_name-clause-refusal c = λ start goes came.
+    let p = err_from_is_err_and c.from_residual-in_err-keep_name.result c.from_residual-in_err-keep_name.ensures.1 in
+    rw (p.1, p.2) (memory_refused start _ _ c.in_err-keep_name.ensures.refusal)
+
+pub returns-then-not-eat-clause-refusal : goal.returns-then-not-eat-clause-refusal
+returns-then-not-eat-clause-refusal c = λ start goes came.
+    let stays = eaten_goes c.eat.result c.fresh_name.new.cursor c.eat.new.cursor (takes RightParen c.fresh_name.new.cursor.left) c.eat.ensures in
+    refused_further start _ _ _ (goes_further start _ _ goes (goes_further _ _ _ (took_goes _ _ c.in_ok-name.ensures.later) stays)) c.rest_is_not_last.ensures

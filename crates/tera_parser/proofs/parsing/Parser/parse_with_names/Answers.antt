@@ -17,7 +17,7 @@ use Rattle.tera_parser.specs.Job.{Job}
 use Rattle.tera_parser.specs.Notes.{error_about}
 use Rattle.tera_parser.specs.Refusal.{Refuses}
 use Rattle.tera_parser.proofs.About.{memory_about, notes_name}
-use Rattle.tera_parser.proofs.Wholes.{comments_tokens, derives, loses, loses_about, refused, refuses, refuses_about}
+use Rattle.tera_parser.proofs.Wholes.{comments_tokens, derives, first_about, loses, loses_about, notes_first, refused, refuses, refuses_about}
 use Rattle.tera_parser.proofs.parsing.Parser.parse_with_names.Goals as goal
 use Rattle.tera_parser.proofs.parsing.Parser.parse_with_names.Goals.{After-in_file, After-new-cursor, In-Ok}
 
@@ -80,6 +80,13 @@ returns-in-Err-clause-lost c =
 pub returns-in-Err-clause-notes : goal.returns-in-Err-clause-notes
 returns-in-Err-clause-notes c =
     notes_name c.args.self.filename c.in-Err.error c.in_file.result (named (goal.at.returns-in-Err-clause-notes c).After-in_file)
+
+pub returns-in-Err-clause-first : goal.returns-in-Err-clause-first
+returns-in-Err-clause-first c =
+    let at = (goal.at.returns-in-Err-clause-first c).After-new-cursor in
+    first_about c.args.self.marks c.args.self.source c.args.self.filename c.in-Err.error c.in_file.result (named (goal.at.returns-in-Err-clause-first c).After-in_file)
+    (notes_first c.args.self.marks (valid at) c.args.self.source c.new-cursor.result.left (are at) c.args.self.limits c.new-cursor.result refl c.in-Err.error
+    (subst (λ (j : Job). RefusesTemplate j.limits c.new-cursor.result c.in-Err.error) c.self.view_is c.in-Err.ensures.refusal))
 
 pub returns-in-Err-clause-empty : goal.returns-in-Err-clause-empty
 returns-in-Err-clause-empty c = λ empty.
