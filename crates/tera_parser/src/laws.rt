@@ -51,8 +51,8 @@ pub fn constants()
 /// shows the expression. So it is for each expression in a derivation of a source, at any depth (`of_sources`), and for
 /// each that a node of its tree shows, sets, goes over or asks (`of_trees`).
 ///
-/// What [`crate::Parser::parse`] answers is the output of a derivation, by its clause `sound`. Of each expression of
-/// this output [`crate::expr::reread`] answers that expression, apart from places, or `Memory`.
+/// What [`crate::Parser::parse`] answers is the output of a derivation, by its clause `sound`. Of each of these
+/// expressions [`crate::expr::reread`] answers that expression, apart from places, or `Memory`.
 pub fn printed_back()
     ensures of_sources { (l : Limits) (m : Marks) (source : List ℕ) (read : Output)
         (d : Derives l m source read) → EachOfBody
