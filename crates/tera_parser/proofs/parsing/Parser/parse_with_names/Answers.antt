@@ -7,15 +7,13 @@ use Rattle.tera_grammar.specs.statements.Output.{output_of}
 use Rattle.tera_grammar.specs.statements.Places.{Places, places}
 use Rattle.tera_grammar.specs.statements.Top.{DerivesNames, IsTemplate}
 use Rattle.tera_grammar.proofs.statements.Wholes.{derived, names_unique}
-use Rattle.tera_lexer.specs.code.Cursors.{RefusesFrom}
 use Rattle.tera_lexer.specs.grammar.Marks.{IsValid}
 use Rattle.tera_lexer.specs.grammar.Tokens.{AreTokensOf}
 use Rattle.tera_statements.specs.Known.{AreNames}
 use Rattle.tera_tree.specs.Outputs.{output_view}
-use Rattle.tera_statements.specs.Templates.{GivesTemplate, RefusesTemplate}
+use Rattle.tera_statements.specs.Templates.{RefusesTemplate}
 use Rattle.tera_parser.specs.Job.{Job}
 use Rattle.tera_parser.specs.Notes.{error_about}
-use Rattle.tera_parser.specs.Refusal.{Refuses}
 use Rattle.tera_parser.proofs.About.{memory_about, notes_name}
 use Rattle.tera_parser.proofs.Wholes.{comments_tokens, derives, first_about, loses, loses_about, notes_first, refused, refuses, refuses_about}
 use Rattle.tera_parser.proofs.parsing.Parser.parse_with_names.Goals as goal
