@@ -5,7 +5,7 @@ use Rattle.std.specs.List.{find}
 use Rattle.std.proofs.lemmas.List.{take_rest, length-map, drop-map}
 use Rattle.tera_outline.specs.declared.pieces.Piece.{Piece}
 use Rattle.tera_outline.specs.declared.completions.Slot.{Slot}
-use Rattle.tera_outline.specs.Pieces.{Part, part_of}
+use Rattle.tera_outline.specs.Pieces.{part_of}
 use Rattle.tera_outline.specs.Dotted.{dotted, end_of}
 use Rattle.tera_outline.specs.Completions.{dot_end, place_end, holds, first_inside, inside, named, called}
 

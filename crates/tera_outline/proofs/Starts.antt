@@ -1,9 +1,9 @@
 -- Where the tokens of a text go on after a fault.
-use Rattle.std.proofs.Common.{◌≡◌, ◌+◌, ◌-◌, ◌<◌, ◌≤◌, ℕ, suc, true, false, Option, Some, None, List, [], ◌∷◌, length, drop, take, get_or, inl, inr, refl, sym, ap, subst, ◌∙◌, arith}
+use Rattle.std.proofs.Common.{◌≡◌, ◌+◌, ◌-◌, ◌<◌, ℕ, suc, true, false, Option, Some, None, List, [], ◌∷◌, length, drop, take, get_or, inl, inr, refl, sym, ap, subst, ◌∙◌, arith}
 use Rattle.std.specs.Prelude.{option_map}
 use Rattle.std.specs.Str.{IsCharBoundary, IsUtf8}
 use Rattle.std.proofs.lemmas.Bool.{cases_Bool}
-use Rattle.std.proofs.lemmas.List.{drop_all, drop_more, length-drop, take_rest}
+use Rattle.std.proofs.lemmas.List.{drop_more, length-drop, take_rest}
 use Rattle.std.proofs.lemmas.Str.{IsCharBoundary-from_rest, IsUtf8-from_ascii}
 use Rattle.std.proofs.lemmas.Str.Ascii.{IsAscii-cons}
 use Rattle.tera_lexer.specs.code.Markers.{AreStartTexts}

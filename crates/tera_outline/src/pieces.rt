@@ -31,8 +31,8 @@ const READINGS: usize = 100;
 ///
 /// After a fault they go on with the first tag, comment or raw piece that begins after the start of the one in which
 /// the fault is. What was read from there on is left out: a string may go over it that is not closed where it should
-/// be. From there on each tag ends at the latest where the next start of a tag is, and the tokens go on there in the
-/// same way, so that a tag without an end is read once. They go on 99 times at most.
+/// be. From there on a tag ends where the next one begins at the latest, and the tokens go on there in the same way, so
+/// that a tag without an end is read once. They go on 99 times at most, after faults and such tags together.
 pub fn pieces_of(alloc: Global, text: &str) -> Result<Vec<Piece<'_>>, AllocError>
     ensures { IfOk result (λ pieces. ArePartsOf text.now (map part_of pieces.items)) }
 {
@@ -49,7 +49,7 @@ pub fn pieces_of(alloc: Global, text: &str) -> Result<Vec<Piece<'_>>, AllocError
     Ok(pieces)
 }
 
-// Adds the pieces of the text from the byte on, up to where they go on. That is the answer.
+// Adds the pieces of the text from the byte on, up to the byte at which they go on, and returns that byte.
 fn push_reading<'a>(
     alloc: Global,
     pieces: &mut Vec<Piece<'a>>,
@@ -63,12 +63,32 @@ fn push_reading<'a>(
         (map part_of pieces.old.items) next (map part_of pieces.new.items)) }
 {
     let (_, rest) = text.split_at(from);
-    let reading = reading_of(alloc, again, rest)?;
+    let reading = reading_of(alloc, Rest { text: rest, again })?;
     let next = next_after(rest, reading.opened);
     push_before(pieces, from, next.unwrap_or(rest.len()), reading.pieces)?;
     match next {
         Some(next) => Ok(Some(from + next)),
         None => Ok(None),
+    }
+}
+
+// What is left of a text. After a fault (`again`) a tag in it ends where the next one begins at the latest.
+#[derive(Clone, Copy)]
+struct Rest<'t> {
+    text: &'t str,
+    again: bool,
+}
+
+impl Rest<'_> {
+    // Where the tag ends at the latest whose start ends with the byte, if that is known.
+    fn stop(self, opened: usize) -> Option<usize>
+        ensures { result ≡ specs.stop_of self.entry.again self.entry.text.now (Some opened) }
+    {
+        if self.again {
+            next_start(self.text, opened)
+        } else {
+            None
+        }
     }
 }
 
@@ -80,54 +100,38 @@ struct Reading<'a> {
     opened: Option<usize>,
 }
 
-fn reading_of(alloc: Global, again: bool, text: &str) -> Result<Reading<'_>, AllocError>
-    ensures { IfOk result (λ r. (items : Items) × AreTokensOf default_marks text.now items
-        × (map part_of r.pieces.items ≡ read_in again text.now None items)
-        × (r.opened ≡ stopped_after again text.now None items)) }
+fn reading_of(alloc: Global, rest: Rest<'_>) -> Result<Reading<'_>, AllocError>
+    ensures { IfOk result (λ r. (items : Items)
+        × AreTokensOf default_marks rest.entry.text.now items
+        × (map part_of r.pieces.items ≡ read_in rest.entry.again rest.entry.text.now None items)
+        × (r.opened ≡ stopped_after rest.entry.again rest.entry.text.now None items)) }
 {
     read(
         alloc,
-        again,
-        text,
-        &mut tokenize(alloc, text, Delimiters::default()),
+        rest,
+        &mut tokenize(alloc, rest.text, Delimiters::default()),
     )
 }
 
 fn read<'a>(
     alloc: Global,
-    again: bool,
-    text: &str,
+    rest: Rest<'_>,
     tokens: &mut Tokens<'a>,
 ) -> Result<Reading<'a>, AllocError>
     ensures pieces { IfOk result (λ r. map part_of r.pieces.items
-        ≡ read_in again text.now None tokens.old.left) }
+        ≡ read_in rest.entry.again rest.entry.text.now None tokens.old.left) }
     ensures opened { IfOk result (λ r. r.opened
-        ≡ stopped_after again text.now None tokens.old.left) }
+        ≡ stopped_after rest.entry.again rest.entry.text.now None tokens.old.left) }
 {
     let mut pieces = Vec::new(alloc);
-    let mut tag = Open {
-        opened: None,
-        stop: None,
-    };
+    let mut tag = Open::none();
     'tokens: while let Some(item) = tokens.next() {
-        match item {
-            Ok((token, span)) => {
-                let end = span.range.end;
-                let ends = is_over(tag.stop, end);
-                let next = tag.after(again, text, &token, end);
-                pieces.push(Piece {
-                    token,
-                    start: span.range.start,
-                    end,
-                })?;
-                if ends {
-                    return Ok(Reading {
-                        pieces,
-                        opened: tag.opened,
-                    });
-                }
-                tag = next;
-            }
+        let piece = match item {
+            Ok((token, span)) => Piece {
+                token,
+                start: span.range.start,
+                end: span.range.end,
+            },
             Err(error) => {
                 return match &error.kind {
                     ErrorKind::SyntaxError(fault) => Ok(Reading {
@@ -137,6 +141,13 @@ fn read<'a>(
                     _ => Err(AllocError),
                 };
             }
+        };
+        let opened = tag.opened;
+        let ends = is_over(tag.stop, piece.end);
+        tag = tag.after(rest, &piece.token, piece.end);
+        pieces.push(piece)?;
+        if ends {
+            return Ok(Reading { pieces, opened });
         }
     }
     Ok(Reading {
@@ -155,33 +166,32 @@ struct Open {
 }
 
 impl Open {
+    // No tag is open.
+    fn none() -> Open
+        ensures opened { result.opened ≡ None }
+        ensures stop { result.stop ≡ None }
+    {
+        Open {
+            opened: None,
+            stop: None,
+        }
+    }
+
     // The one after the token, which ends with the byte.
-    fn after(self, again: bool, text: &str, token: &Token<'_>, end: usize) -> Open
-        requires { self.stop ≡ specs.stop_of again text.now self.opened }
+    fn after(self, rest: Rest<'_>, token: &Token<'_>, end: usize) -> Open
+        requires { self.stop ≡ specs.stop_of rest.again rest.text.now self.opened }
         ensures opened { result.opened ≡ specs.opened_after self.opened (seen token.now) end }
-        ensures stop { result.stop ≡ specs.stop_of again text.now result.opened }
+        ensures stop { result.stop
+            ≡ specs.stop_of rest.entry.again rest.entry.text.now result.opened }
     {
         match token {
             Token::VariableStart(_) | Token::TagStart(_) => Open {
                 opened: Some(end),
-                stop: stop_of(again, text, end),
+                stop: rest.stop(end),
             },
-            Token::VariableEnd(_) | Token::TagEnd(_) => Open {
-                opened: None,
-                stop: None,
-            },
+            Token::VariableEnd(_) | Token::TagEnd(_) => Open::none(),
             _ => self,
         }
-    }
-}
-
-fn stop_of(again: bool, text: &str, opened: usize) -> Option<usize>
-    ensures { result ≡ specs.stop_of again text.now (Some opened) }
-{
-    if again {
-        next_start(text, opened)
-    } else {
-        None
     }
 }
 
@@ -195,7 +205,8 @@ fn is_over(stop: Option<usize>, end: usize) -> bool
     }
 }
 
-// Where the pieces of the text go on that stop in what is opened before the byte.
+// The byte of the text at which the pieces go on, if they stop in a tag, a comment or a raw piece whose start ends with
+// the byte `opened`.
 fn next_after(text: &str, opened: Option<usize>) -> Option<usize>
     ensures next { result ≡ specs.start_after text.now opened }
     ensures cut { IfSome result (IsCharBoundary text.now) }
