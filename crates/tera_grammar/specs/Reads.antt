@@ -43,8 +43,8 @@ forget (stopped z) = None
 abbrev pub bind : {A B : Type 0} → Read A → (A → Read B) → Read B
 bind o f = o >>= f
 
--- Where the tokens are left at which reading stopped: before the token that it refuses, or after it; or the tokens end in
--- a fault there, and none are left.
+-- Reading stopped, and these tokens are left: those from the token that it refuses on, or those after it. Where it
+-- stopped at the lexical fault in which the tokens end, none are left.
 abbrev pub StopsAt : {A : Type 0} → Read A → Items → Type 0
 StopsAt read left =
     (read ≡ stopped left) ⊎ ((t : Tok) × (s : Span) × (read ≡ stopped (Token t s left)))

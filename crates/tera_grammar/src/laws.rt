@@ -200,9 +200,9 @@ pub fn right_trees()
         Derives l m source output → IsRight output }
 {}
 
-/// Where the reading of a template stops, the source is lost: of no template are tokens that agree with its own up to the
-/// end of the token taken last and one step further. The token that reading refuses was not taken, or is the one that
-/// was taken last. Where its tokens end in a fault, it is lost there.
+/// Where the reading of a template stops, the source is lost: no template has the same tokens up to the end of the token
+/// that was taken last and one step further. The token that reading refuses was not taken (`before`), or is the one that
+/// was taken last (`after`). A source with a lexical fault is lost where the fault begins (`lexical`).
 pub fn lost_sources()
     ensures before { (limits : Limits) (source : List ℕ) (items left : Items) →
         Tile false [] source items → template limits items ≡ stopped left →
@@ -212,7 +212,6 @@ pub fn lost_sources()
         Tile false [] source items → template limits items ≡ stopped (Token t s left) →
         (n : ℕ) (first last : Span) → Passes n items first left last →
         AreLost limits last.range.end items }
-    ensures lexical { (limits : Limits) (source : List ℕ) (items left : Items) (text : List ℕ) (span : Span) →
-        Tile false [] source items → template limits items ≡ stopped left →
-        IsFaultOf items text span → AreLost limits span.range.start items }
+    ensures lexical { (limits : Limits) (source : List ℕ) (items : Items) (text : List ℕ) (span : Span) →
+        Tile false [] source items → IsFaultOf items text span → AreLost limits span.range.start items }
 {}

@@ -38,12 +38,6 @@ both_by P Q (Message s) one two = one
 both_by P Q (SyntaxError b) one two = (one, two)
 
 module _ (l : Limits) (source : List ℕ) (old new : Position) (e : Error) (tile : Tile false [] source old.left) where
-  -- where reading stops at all
-  stopping : StopsAt (template l old.left) new.left → (z : Items) × (template l old.left ≡ stopped z)
-  stopping (inl here) = (new.left, here)
-  stopping (inr (inl (t, s, taken))) = (Token t s new.left, taken)
-  stopping (inr (inr (text, s, failed, ended))) = (Failed text s, failed)
-
   -- beyond the token that was taken last
   lost_later : StopsAt (template l old.left) new.left → IsLater old new → (m : ℕ) → new.span.range.end ≤ m → AreLost l m old.left
   lost_later (inl here) later m le =
@@ -62,7 +56,6 @@ module _ (l : Limits) (source : List ℕ) (old new : Position) (e : Error) (tile
       reports_weaker (λ text span. new.span.range.end ≤ span.range.end) (λ text span. AreLost l span.range.end old.left) e
       (λ text span le. lost_later stops later span.range.end le) reported
   reading_lost (inr stops) within (inr fault) =
-      let (z, there) = stopping stops in
       reports_weaker (λ text span. (span.range.start ≤ span.range.end) × IsFaultOf old.left text span) (λ text span. AreLost l span.range.end old.left) e
-      (λ text span (le, f). lost_in l (template_complete l) source old.left z text span tile f there span.range.end le)
+      (λ text span (le, f). lost_in l (template_complete l) source old.left text span tile f span.range.end le)
       (both_by (λ text span. span.range.start ≤ span.range.end) (λ text span. IsFaultOf old.left text span) e.kind within fault)

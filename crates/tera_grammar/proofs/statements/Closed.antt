@@ -12,7 +12,7 @@ use Rattle.tera_grammar.specs.expressions.Concrete.{Quote, Simple, Escaped, Lit,
 use Rattle.tera_grammar.specs.expressions.Marks.{mark, LeftParen, RightParen, Comma, Assign, Operation, At}
 use Rattle.tera_grammar.specs.statements.TagParts as parts
 use Rattle.tera_grammar.specs.expressions.Concrete as concrete
-use Rattle.tera_grammar.specs.statements.TagParts.{name_yield, OpensSet, AtElif, AtElse, AtEndBlock, AtEndFor, AtEndIf, opening, closing, finish, if_any}
+use Rattle.tera_grammar.specs.statements.TagParts.{name_yield, OpensSet, AtEndBlock, AtEndFor, AtEndIf, opening, closing, finish, if_any}
 use Rattle.tera_grammar.specs.statements.Expressions.{expression_yield, attributes_yield, ComponentName, LiteralMap, component_yield, map_yield}
 use Rattle.tera_grammar.specs.statements.Components.{Default, LiteralDefault, MinusDefault, NothingDefault, ArrayDefault, MapDefault, default_yield, Annotation, Assigned, Parameter, annotation_yield, assigned_yield, parameter_yield, Parameters, Closed, Rest, Final, More, parameters_yield, Head, head_yield, ending_yield}
 use Rattle.tera_grammar.specs.statements.Heads.{Loop, loop_yield, Filters, NoFilters, Piped, filters_yield, Capture, SetBody, Section, CallBody, capture_yield, capture_end}

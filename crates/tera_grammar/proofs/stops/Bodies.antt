@@ -1,7 +1,8 @@
 -- Bodies, the top level and whole templates are read locally.
-use Rattle.std.proofs.Common.{◌≡◌, ℕ, zero, suc, ◌<◌, ◌≤◌, arith, Bool, true, false, List, [], Option, Some, None, refl, sym, ap, subst, ◌∙◌}
+use Rattle.std.proofs.Common.{◌≡◌, ℕ, zero, suc, ◌<◌, ◌≤◌, arith, Bool, true, false, List, [], ◌∷◌, Option, Some, None, refl, sym, ap, subst, ◌∙◌}
 use Rattle.tera_base.specs.declared.utils.Span.{Span}
 use Rattle.tera_lexer.specs.code.Cursors.{size}
+use Rattle.tera_lexer.specs.grammar.Faults.{IsFaultOf}
 use Rattle.tera_lexer.specs.grammar.Tokens.{Tok, Content, Start, Items, Ended, Failed, Token}
 use Rattle.tera_lexer.specs.declared.lexer.delimiters.Kind.TheVariants as kind
 use Rattle.tera_grammar.specs.statements.TagParts.{Edge, Opener, OpensSet, OpensInclude, OpensExtends, OpensBlock, OpensFor, OpensIf, OpensFilter, OpensComponent, OpensBreak, OpensContinue, OpensCall}
@@ -15,6 +16,7 @@ use Rattle.tera_grammar.specs.Reads.{Read, found, stopped, ◌>>=◌, given, Tak
 use Rattle.tera_grammar.specs.expressions.Reading.Front.{taken_quote}
 use Rattle.tera_grammar.proofs.stops.Local.{SameHead, SameTag, at_token, at_tag, items_after, in_front, unread, put, Agrees, Local, local_bind, local_here, local_stop, local_as, local_less, local_past, local_size, local_look, local_near, local_wrong, tag_self, bind_both}
 use Rattle.tera_grammar.proofs.stops.Whole.{IsTaken, done, taken_quote_local}
+use Rattle.tera_grammar.proofs.stops.Fronts.{found_same}
 use Rattle.tera_grammar.proofs.stops.Statements.{place, Reading, into, within, Sort, ends, closes, opens, wrong, sort_of, sort_same, edge, extends_local, shown_local, tag_local}
 
 abbrev some_item : Item → Place → Reads (Option Item)
@@ -404,6 +406,40 @@ whole_is l ts = by (top l.bodies l (at nothing_seen ts))
     by : (o : Reads Body) → (o >>= λ b. ended b.1.tokens >>= λ u. found b.0) ≡ alone (o >>= λ b. ended b.1.tokens >>= λ u. found (b.0, u.1))
     by (stopped z) = refl
     by (found b) = at_end b.0 (ended b.1.tokens)
+
+-- The tokens of a template that is read end in no fault.
+no_fault : (xs : List (Tok × Span)) (text : List ℕ) (span : Span) → IsFaultOf (in_front xs Ended) text span → ⊥
+no_fault [] text span h = h
+no_fault (x ∷ xs) text span h = no_fault xs text span h
+
+never : {A : Type 0} (z : Items) (x : A) → stopped z ≡ found x → ⊥
+never z x e = cc
+
+all_ended : (ts : Items) (u : Unit {0} × Items) → ended ts ≡ found u → u.1 ≡ Ended
+all_ended Ended u h = sym (ap (λ (y : Unit {0} × Items). y.1) (found_same (tt, Ended) u h))
+all_ended (Failed text there) u h = absurd (never _ u h)
+all_ended (Token t s us) u h = absurd (never _ u h)
+
+all_read : (l : Limits) (ts : Items) (x : Body × Items) → whole l ts ≡ found x → x.1 ≡ Ended
+all_read l ts x h = by (top l.bodies l (at nothing_seen ts)) h
+  where
+    at_end : (b : Body) (us : Items) (o : Takes (Unit {0})) → ended us ≡ o → (o >>= λ u. found (b, u.1)) ≡ found x → x.1 ≡ Ended
+    at_end b us (stopped z) is e = absurd (never z x e)
+    at_end b us (found u) is e = sym (ap (λ (y : Body × Items). y.1) (found_same (b, u.1) x e)) ∙ all_ended us u is
+
+    by : (o : Reads Body) → (o >>= λ b. ended b.1.tokens >>= λ u. found (b.0, u.1)) ≡ found x → x.1 ≡ Ended
+    by (stopped z) e = absurd (never z x e)
+    by (found b) e = at_end b.0 b.1.tokens (ended b.1.tokens) refl e
+
+pub template_faultless : (l : Limits) (ts : Items) (b : Body) → template l ts ≡ found b → (text : List ℕ) (span : Span) → IsFaultOf ts text span → ⊥
+template_faultless l ts b h text span fault = by (whole l ts) refl (sym (whole_is l ts) ∙ h)
+  where
+    by : (o : Takes Body) → whole l ts ≡ o → alone o ≡ found b → ⊥
+    by (stopped z) is e = never z b e
+    by (found x) is e =
+        let one = whole_local l ts in
+        let spelled : ts ≡ in_front one.taken Ended = one.spelled ∙ ap (λ o. in_front one.taken (unread items_after o)) is ∙ ap (in_front one.taken) (all_read l ts x is) in
+        no_fault one.taken text span (subst (λ us. IsFaultOf us text span) spelled fault)
 
 -- Where the reading of a template stops, it stops whatever follows that begins as what is there.
 pub record Stops (l : Limits) (ts z : Items) : Type 0 where

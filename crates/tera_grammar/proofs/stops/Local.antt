@@ -95,8 +95,8 @@ abbrev pub Agrees : {A P : Type 0} → After P → Look → Read (A × P) → It
 Agrees b l (found x) us = SameBy l (b.tokens x.1) us
 Agrees b l (stopped z) us = SameHead z us
 
--- From tokens that look so far to those that look so far: a reader takes some tokens, and does the same where others follow
--- that begin as these do.
+-- From tokens that look so far to those that look so far: a reader takes some tokens, and does the same where others
+-- follow that begin as these do.
 pub record Local {A P : Type 0} (b : After P) (from to : Look) (f : Items → Read (A × P)) (ts : Items) : Type 0 where
   pub taken : List (Tok × Span)
   pub spelled : ts ≡ in_front taken (unread b (f ts))

@@ -13,7 +13,7 @@ use Rattle.tera_grammar.specs.statements.Lost.{AgreeTo, AreLost}
 use Rattle.tera_grammar.specs.Reads.{Read, found, stopped}
 use Rattle.tera_grammar.proofs.stops.Local.{in_front, front_both, SameHead}
 use Rattle.tera_grammar.specs.statements.Reading.{template}
-use Rattle.tera_grammar.proofs.stops.Bodies.{template_stops}
+use Rattle.tera_grammar.proofs.stops.Bodies.{template_stops, template_faultless}
 
 -- each of these tokens begins before this byte
 abbrev pub EachBefore : ℕ → List (Tok × Span) → Type 0
@@ -126,15 +126,13 @@ fault_agrees n inside front rest (Token t s items) (Token u r others) text span 
     let more = fault_agrees n _ ((front ++ gap) ++ bytes) following items others text span tile h le (agree.2 (omega (arith, from, next, long, wide, le))) in
     ap (λ x. Token x r others) (sym agree.0) ∙ ap (λ x. Token t x others) (sym agree.1) ∙ ap (Token t s) more
 
--- where the tokens end in a fault, and no template is read
-pub fault_lost : (l : Limits) (read : Items → Read Body) → ((ts : Items) (b : Body) → IsTemplate l ts b → read ts ≡ found b)
-    → (source : List ℕ) (items z : Items) (text : List ℕ) (span : Span) → Tile false [] source items → IsFaultOf items text span → read items ≡ stopped z
+-- where the tokens end in a fault
+pub fault_lost : (l : Limits) → ((ts : Items) (b : Body) → IsTemplate l ts b → template l ts ≡ found b)
+    → (source : List ℕ) (items : Items) (text : List ℕ) (span : Span) → Tile false [] source items → IsFaultOf items text span
     → (n : ℕ) → span.range.start ≤ n → AreLost l n items
-fault_lost l read each source items z text span tile fault stops n le =
-    λ others agree b is. apart b (sym stops ∙ ap read (sym (fault_agrees n false [] source items others text span tile fault le agree)) ∙ each others b is)
-  where
-    apart : (b : Body) → stopped z ≡ found b → ⊥
-    apart b e = cc
+fault_lost l each source items text span tile fault n le = λ others agree b is.
+    template_faultless l items b (ap (template l) (sym (fault_agrees n false [] source items others text span tile fault le agree)) ∙ each others b is)
+    text span fault
 
 each_later : (n m : ℕ) (xs : List (Tok × Span)) → n ≤ m → EachBefore n xs → EachBefore m xs
 each_later n m [] le h = tt
@@ -171,18 +169,6 @@ refused_lost l read each source items left t s xs tile spelled same n last span 
     stopped_lost l read each m items (Token t s left) xs spelled same
     (each_later span.range.end m xs le (each_front span.range.end xs ((t, s) ∷ [])
     (taken_before n false [] source ys left last span (subst (Tile false [] source) all tile) (subst (λ ts. Passes n ts last left span) all passes) (omega (arith, long, taken, whole))).0))
-
--- Today already: where all tokens begin before this byte, as they do before the end of the last and before that of the fault
--- in which they end, only these agree so far; so all is lost where these are those of no template.
-pub all_agree : (n : ℕ) (xs : List (Tok × Span)) (z others : Items) → (z ≡ Ended) ⊎ ((text : List ℕ) × (here : Span) × (z ≡ Failed text here))
-    → EachBefore n xs → AgreeTo n (in_front xs z) others → others ≡ in_front xs z
-all_agree n xs z others end before agree =
-    let (us, front, head) = agree_front n xs z others before agree in
-    front ∙ ap (in_front xs) (⊎_elim (λ e. subst (λ y. SameHead y us → us ≡ y) (sym e) (λ h. h) head) (λ (text, here, e). subst (λ y. SameHead y us → us ≡ y) (sym e) (λ h. h) head) end)
-
-pub end_lost : (l : Limits) (n : ℕ) (xs : List (Tok × Span)) (z : Items) → (z ≡ Ended) ⊎ ((text : List ℕ) × (here : Span) × (z ≡ Failed text here))
-    → EachBefore n xs → ((b : Body) → IsTemplate l (in_front xs z) b → ⊥) → AreLost l n (in_front xs z)
-end_lost l n xs z end before none = λ others agree b is. none b (subst (λ ts. IsTemplate l ts b) (all_agree n xs z others end before agree) is)
 
 -- So it is of the reading of templates, once each template is read.
 pub template_lost : (l : Limits) → ((ts : Items) (b : Body) → IsTemplate l ts b → template l ts ≡ found b) → (source : List ℕ) (items z : Items) → Tile false [] source items

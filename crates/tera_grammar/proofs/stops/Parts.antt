@@ -7,7 +7,6 @@ use Rattle.tera_grammar.specs.Words.{is_none, is_reserved}
 use Rattle.tera_grammar.specs.expressions.Operators.{Minus, In}
 use Rattle.tera_grammar.specs.expressions.Marks.{Mark, mark_token, LeftParen, RightParen, LeftBracket, LeftBrace, Comma, Colon, Bar, Spread, Assign, At, Operation}
 use Rattle.tera_grammar.specs.expressions.Reading.Front.{at, same_token, begins, among, literal_of, mark_kind, name_kind, takes, taken_name}
-use Rattle.tera_grammar.specs.statements.TagParts.{Edge}
 use Rattle.tera_grammar.specs.statements.Expressions.{Limits, component_text}
 use Rattle.tera_grammar.specs.statements.Heads.{Filters, NoFilters, Piped}
 use Rattle.tera_grammar.specs.statements.Components.{LiteralDefault, NothingDefault, ArrayDefault, MapDefault, Parameter, is_known, is_body, Parameters, Closed, Rest, Final, More}
@@ -18,15 +17,12 @@ use Rattle.tera_grammar.specs.expressions.Reading.Atoms.{variables_of}
 use Rattle.tera_grammar.specs.expressions.Reading.Whole.{left_over, expression_of, filter_of, path_of, array_after, map_after, literal_map_of}
 use Rattle.tera_grammar.specs.statements.Reading.TagParts.{name_if_found, name_if_any, finish_kind, finish_of}
 use Rattle.tera_grammar.specs.statements.Reading.Heads.{free_name, loop_of, filters_in, filters_by, filters_of}
-use Rattle.tera_grammar.proofs.stops.Local.{SameHead, at_token, items_after, local_stop, local_near, local_past, local_enough, bind_both, first_local, first_less}
+use Rattle.tera_grammar.proofs.stops.Local.{SameHead, at_token, items_after, local_stop, local_near, local_past, local_enough, bind_both, first_local}
 use Rattle.tera_grammar.proofs.stops.Atoms.{variables_local}
 use Rattle.tera_grammar.proofs.stops.Whole.{IsTaken, done, follow, taken_size, local_holds, ask_first, left_local, expression_local, filter_local, path_local, array_after_local, map_after_local, literal_map_local, takes_local, takes_less, taken_name_local}
 
 pub finish_local : (ts : Items) → IsTaken finish_of ts
 finish_local ts = first_local finish_kind ts
-
-pub finish_less : (ts : Items) (x : Edge × Items) → finish_of ts ≡ found x → size x.1 < size ts
-finish_less ts x h = first_less finish_kind ts x h
 
 halt : {A : Type 0} (ts : Items) → IsTaken {A = A} (λ us. stopped us) ts
 halt ts = local_stop items_after at_token ts

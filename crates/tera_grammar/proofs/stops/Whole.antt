@@ -5,7 +5,7 @@ use Rattle.tera_lexer.specs.code.Cursors.{size}
 use Rattle.tera_lexer.specs.grammar.Tokens.{Tok, Items, Ended, Failed, Token}
 use Rattle.tera_grammar.specs.Limits.{Limits}
 use Rattle.tera_grammar.specs.expressions.Marks.{Mark, LeftParen, LeftBracket, LeftBrace}
-use Rattle.tera_grammar.specs.expressions.Concrete.{Name, of_entries}
+use Rattle.tera_grammar.specs.expressions.Concrete.{of_entries}
 use Rattle.tera_grammar.specs.expressions.Reading.Front.{at, Reads, mark_kind, name_kind, quote_kind, takes, taken_name, taken_quote, skip, name_of}
 use Rattle.tera_grammar.specs.expressions.Reading.Bracketed.{Reader, row_of, arguments_of, args_of, attributes_of, dotted_of}
 use Rattle.tera_grammar.specs.expressions.Reading.Rooms.{Room}
@@ -136,9 +136,6 @@ takes_less m ts x h = first_less (mark_kind m) ts x h
 
 pub taken_name_local : (ts : Items) → IsTaken taken_name ts
 taken_name_local ts = first_local name_kind ts
-
-pub taken_name_less : (ts : Items) (x : Name × Items) → taken_name ts ≡ found x → size x.1 < size ts
-taken_name_less ts x h = first_less name_kind ts x h
 
 pub taken_quote_local : (ts : Items) → IsTaken taken_quote ts
 taken_quote_local ts = first_local quote_kind ts

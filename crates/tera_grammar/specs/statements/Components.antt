@@ -3,7 +3,7 @@ use Rattle.std.specs.Prelude.{◌≡◌, ℕ, ℤ, Bool, true, false, ◌||◌, 
 use Rattle.std.specs.Str.{bytes_eq}
 use Rattle.tera_base.specs.declared.utils.Span.{Span}
 use Rattle.tera_lexer.specs.grammar.Tokens as toks
-use Rattle.tera_lexer.specs.grammar.Tokens.{Items, Token, Ident}
+use Rattle.tera_lexer.specs.grammar.Tokens.{Items, Token}
 use Rattle.tera_base.specs.Values as values
 use Rattle.tera_base.specs.Values.{Val, Pairs, NoPairs, OnePair}
 use Rattle.tera_base.specs.Text.{key_text}

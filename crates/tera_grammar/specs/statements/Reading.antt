@@ -1,4 +1,4 @@
--- Reading a template, as a function on tokens.
+-- Reading a template, as a function on tokens. A law (`each_is_read`) says that it reads the templates and no others.
 use Rattle.std.specs.Prelude.{ℕ, zero, suc, Bool, not, [], ◌∷◌, Option, Some, None}
 use Rattle.std.specs.Str.{bytes_eq}
 use Rattle.tera_base.specs.declared.utils.Span.{Span}

@@ -6,7 +6,7 @@ use Rattle.std.specs.Cmp.Lexicographic.{slice_cmp}
 use Rattle.std.specs.Ordering.{nat_cmp}
 use Rattle.std.specs.Str.{bytes_eq}
 use Rattle.tera_base.specs.Values as values
-use Rattle.tera_base.specs.Values.{KeyVal, TextKey, I64Key, TruthKey, Val}
+use Rattle.tera_base.specs.Values.{Val}
 use Rattle.tera_tree.specs.declared.ast.ArgType.{ArgType}
 use Rattle.tera_tree.specs.declared.ast.ArgType.TheVariants as types
 -- the name of a type

@@ -7,5 +7,5 @@ pub returns : goal.returns
 returns c = record {
   before = λ l source items left tile h n first last passes. lost_after l (template_complete l) source items left tile h n first last passes last.range.end (le_refl _);
   after = λ l source items left t s tile h n first last passes. lost_at l (template_complete l) source items left t s tile h n first last passes last.range.end (le_refl _);
-  lexical = λ l source items left text span tile h fault. lost_in l (template_complete l) source items left text span tile fault h span.range.start (le_refl _);
+  lexical = λ l source items text span tile fault. lost_in l (template_complete l) source items text span tile fault span.range.start (le_refl _);
 }

@@ -70,8 +70,8 @@ front (Token t span items) = front_at t span items
 abbrev pub tag : Edge → Span → Edge → Tag
 tag start first finish = record { start = start; first = first; finish = finish }
 
--- Where reading stops that knows nothing of what is there: after the start of a tag, before its first token; and else
--- before the token.
+-- Where reading stops at tokens that begin nothing it knows: after the start of a tag, before the first token in it;
+-- otherwise before the first of these tokens.
 abbrev pub wrong_after : Tok → Span → Items → Items
 wrong_after (Start kind.Block dash) s us = us
 wrong_after t s us = Token t s us
