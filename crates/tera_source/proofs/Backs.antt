@@ -11,7 +11,7 @@ use Rattle.tera_base.specs.Values as values
 use Rattle.tera_ast.specs.declared.ast.UnaryOperator.TheVariants as unary
 use Rattle.tera_ast.specs.declared.ast.BinaryOperator.TheVariants as binary
 use Rattle.tera_ast.specs.Tree as tree
-use Rattle.tera_base.specs.Values.{KeyVal, Val, Vals, Pairs}
+use Rattle.tera_base.specs.Values.{KeyVal, Val, Pairs}
 use Rattle.tera_grammar.specs.expressions.Operators.{In, operator_made}
 use Rattle.tera_ast.specs.Tree.{Expr}
 use Rattle.tera_grammar.specs.expressions.Concrete.{Name, Joint, Kind, of_arguments, of_items, of_entries, Simple, Escaped, Lit, Number, Quoted, Truth, Sign, Negative, Negates, plainly, negated, Second, no_second, second, dots, Single, NotIn, Tree, Atomic, Prefix, Suffixed, Infix, Atom, Literal, Null, Chain, Call, Paren, Array, Comprehension, Map, Component, Links, no_links, field, item, Sub, index, slice, Part, absent, present, Extra, no_extra, extra, Row, ended, only, then, Element, plain, spread, pair, argument, Attributes, no_attributes, bare, quoted, valued, spreading, Test, Filter, Subscript, Args, no_args, args, Binary, Condition}

@@ -5,7 +5,6 @@ use Rattle.tera_base.specs.declared.utils.Span.{Span}
 use Rattle.tera_lexer.specs.code.Cursors.{nowhere}
 use Rattle.tera_base.specs.Values as values
 use Rattle.tera_ast.specs.Tree as tree
-use Rattle.tera_base.specs.Values.{KeyVal, Val, Vals, Pairs}
 use Rattle.tera_grammar.specs.expressions.Operators.{In}
 use Rattle.tera_ast.specs.Tree.{Expr}
 use Rattle.tera_grammar.specs.expressions.Concrete.{Sign, Negative, Negates, plainly, negated, Single, NotIn, Tree, Atomic, Prefix, Suffixed, Infix, Suffix, Test, Filter, Subscript, Operator, Binary}

@@ -4,7 +4,7 @@ use Rattle.tera_base.specs.declared.utils.Span.{Span}
 use Rattle.tera_lexer.specs.grammar.Tokens.{Tok, Items, Ended, Failed, Token}
 use Rattle.tera_grammar.specs.Limits.{Limits}
 use Rattle.tera_grammar.specs.expressions.Concrete as concrete
-use Rattle.tera_grammar.specs.expressions.Concrete.{Tree, Second, no_second, second, Dotted, no_dots, dots, second_yield, dotted_yield, Kind, of_arguments, of_items, of_entries, closing, literal_token, quote_token, Row, ended, only, then, Element, plain, spread, pair, argument, Attributes, no_attributes, bare, quoted, valued, spreading, Args, no_args, args, row_yield, element_yield, attributes_yield, args_yield}
+use Rattle.tera_grammar.specs.expressions.Concrete.{Tree, Second, no_second, second, Dotted, no_dots, dots, second_yield, dotted_yield, Kind, of_arguments, of_items, of_entries, Row, ended, only, then, Element, plain, spread, pair, argument, Attributes, no_attributes, bare, quoted, valued, spreading, Args, no_args, args, row_yield, element_yield, attributes_yield, args_yield}
 use Rattle.tera_grammar.specs.expressions.Conditions as conditions
 use Rattle.tera_grammar.specs.expressions.Conditions.{IsRow, IsElement, AreArgs}
 use Rattle.tera_grammar.specs.expressions.Measures.{Within, EachElement, EachRow, EachAttribute}

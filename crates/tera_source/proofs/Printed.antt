@@ -19,7 +19,7 @@ use Rattle.tera_grammar.specs.expressions.Concrete.{Simple, Escaped, Single, of_
 use Rattle.tera_source.specs.declared.context.Context.{Context}
 use Rattle.tera_source.specs.Contexts.{free, above, before, following, after_prefix, left_of, right_of, takes_negation}
 use Rattle.tera_source.specs.Source as source
-use Rattle.tera_source.specs.Source.{word, quote, key_literal, value_tree, values_row, pairs_row, operator_for, joint_for, bracket_for, with_field, with_sub, negation_of, attribute, tree_of, part_of, extra_of, arguments_row, args_of, items_row, entries_row, attributes_of, paren, paren_links, paren_sub, paren_part, paren_extra, paren_attributes, paren_args, source_tree, source_text}
+use Rattle.tera_source.specs.Source.{word, quote, key_literal, value_tree, values_row, pairs_row, operator_for, joint_for, bracket_for, with_field, with_sub, negation_of, attribute, tree_of, part_of, extra_of, arguments_row, args_of, items_row, entries_row, attributes_of, paren_links, paren_sub, paren_part, paren_extra, paren_attributes, paren_args, source_text}
 use Rattle.tera_source.specs.Writable.{IsOperator, MayLink, IsConstant, AreConstants, AreConstantPairs, IsWritable, MaybeWritable, AreWritableArgs, AreWritableItems, AreWritableEntries, AreWritableAttributes}
 use Rattle.tera_source.specs.Writing.{key_source, constant_text, vals_text, pairs_text, dot_text, bracket_text, names_text, operator_text, optional_args, attribute_text, dotted, text, maybe_text, args_text, items_text, entries_text, attributes_text, written}
 use Rattle.tera_source.proofs.Trails.{from_spaced, after, at, opened, at_is, by_bar, begun, row_more, names_written, path_written, is_barred}

@@ -9,7 +9,7 @@ use Rattle.tera_base.specs.Values as values
 use Rattle.tera_ast.specs.declared.ast.UnaryOperator.TheVariants as unary
 use Rattle.tera_ast.specs.declared.ast.BinaryOperator.TheVariants as binary
 use Rattle.tera_ast.specs.Tree as tree
-use Rattle.tera_base.specs.Values.{KeyVal, Val, Vals, Pairs}
+use Rattle.tera_base.specs.Values.{Vals, Pairs}
 use Rattle.tera_grammar.specs.expressions.Operators.{operator_made}
 use Rattle.tera_ast.specs.Tree.{Expr}
 use Rattle.tera_grammar.specs.expressions.Concrete.{Name, Sign, Negative, Negates, Joint, plainly, negated, Single, NotIn, Tree, Atomic, Prefix, Suffixed, Infix, Atom, Literal, Null, Chain, Call, Paren, Array, Comprehension, Map, Component, Links, no_links, field, item, Sub, index, slice, Part, absent, present, Extra, no_extra, extra, Row, ended, only, then, Element, plain, spread, pair, argument, Attributes, no_attributes, bare, quoted, valued, spreading, Suffix, Test, Filter, Subscript, Args, no_args, args, Operator, Binary, Condition}
