@@ -47,12 +47,12 @@ located_came n located more left items same one came = λ name span h.
 pub place_found : (o : Option (Bor Span)) (located : Option Span) (b : Bor Span) → option_copied o ≡ located → o ≡ Some b → located ≡ Some b.now
 place_found o located b copied is = sym copied ∙ ap option_copied is
 
--- a label that begins otherwise
-another : (n label : List ℕ) → label ≡ codes "the " ++ n → label ≡ codes "first defined here" → ⊥
-another n label is named = let first : 116 ≡ 102 = ap (λ (xs : List ℕ). get_or xs 0 0) (sym is ∙ named) in absurd (omega arith)
+-- a label that begins with another character
+apart : (m n : ℕ) → m ≡ 116 → n ≡ 102 → m ≡ n → ⊥
+apart m n one two same = omega arith
 
 pub another_label : (n label : List ℕ) → label ≡ codes "the " ++ n → label ≡ codes "first defined here" → ⊥
-another_label n label is named = another n label is named
+another_label n label is named = apart 116 102 refl refl (ap (λ (xs : List ℕ). get_or xs 0 0) (sym is ∙ named))
 
 -- the text of the fault of a component that is defined again
 named_by : (span : Span) (name : List ℕ) (r : Result (String Global) AllocError) (e : Error) → IfOk r (λ s. string_bytes s ≡ codes "Template already contains a component named `" ++ name)
