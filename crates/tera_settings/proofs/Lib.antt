@@ -1,0 +1,4 @@
+pub mod MeaningLemmas
+pub mod NearLemmas
+pub mod PlaceLemmas
+pub mod ValueLemmas

@@ -1,0 +1,63 @@
+//! What is said of files that are wrong.
+
+use crate::shown::shown;
+use std::test::Fail;
+
+#[test]
+fn a_key_that_no_setting_has(rt: HostRuntime) -> Result<(), Fail> {
+    let alloc = rt.alloc();
+    let found = shown(alloc, "markers = \"\"\n  rot = \"templates\"\n")?;
+    assert_eq!(rt;
+        found.as_str(),
+        "15: unknown key `rot`: did you mean `root`?"
+    );
+    let found = shown(alloc, "[known]\nfilter = []\n")?;
+    assert_eq!(rt;
+        found.as_str(),
+        "8: unknown key `filter`: did you mean `filters`?"
+    );
+    let found = shown(alloc, "[theme]\nroot = \"a\"\n")?;
+    assert_eq!(rt; found.as_str(), "1: unknown key `theme`");
+    Ok(())
+}
+
+#[test]
+fn a_rule_that_is_not_known(rt: HostRuntime) -> Result<(), Fail> {
+    let alloc = rt.alloc();
+    let expected = "8: unknown rule `unused-paramter`: did you mean `unused-parameter`?";
+    let found = shown(alloc, "[rules]\nunused-paramter = \"off\"\n")?;
+    assert_eq!(rt; found.as_str(), expected);
+    let found = shown(alloc, "rules = { fault = \"off\" }\n")?;
+    assert_eq!(rt; found.as_str(), "0: unknown rule `fault`");
+    Ok(())
+}
+
+#[test]
+fn a_value_of_another_type(rt: HostRuntime) -> Result<(), Fail> {
+    let alloc = rt.alloc();
+    let found = shown(alloc, "root = [\"a\"]\n")?;
+    assert_eq!(rt; found.as_str(), "0: `root`: expected a string");
+    let found = shown(alloc, "exclude = \"a\"\n")?;
+    assert_eq!(rt;
+        found.as_str(),
+        "0: `exclude`: expected an array of strings"
+    );
+    let found = shown(alloc, "extensions = [\"a\", 1]\n")?;
+    assert_eq!(rt;
+        found.as_str(),
+        "0: `extensions`: expected an array of strings"
+    );
+    let found = shown(alloc, "known = 1\n")?;
+    assert_eq!(rt; found.as_str(), "0: `known`: expected a table");
+    let expected = "0: `wrong-type`: expected \"off\", \"warning\" or \"error\"";
+    let found = shown(alloc, "rules.wrong-type = \"on\"\n")?;
+    assert_eq!(rt; found.as_str(), expected);
+    Ok(())
+}
+
+#[test]
+fn a_text_that_is_not_toml(rt: HostRuntime) -> Result<(), Fail> {
+    let found = shown(rt.alloc(), "root \"a\"\n")?;
+    assert_eq!(rt; found.as_str(), "5: key with no value, expected `=`");
+    Ok(())
+}
