@@ -1,0 +1,4 @@
+pub mod CircleLemmas
+pub mod EndLemmas
+pub mod Paths
+pub mod Steps
